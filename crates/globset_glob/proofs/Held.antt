@@ -5,12 +5,12 @@ use Rattle.std.specs.declared.alloc.Global.{Global}
 use Rattle.std.specs.declared.vec.Vec.{Vec}
 use Rattle.globset_glob.specs.declared.token.Token as held
 use Rattle.globset_glob.specs.declared.token.tree.Group.{Group}
-use Rattle.globset_glob.specs.Token.{Token, Tokens, none, end}
+use Rattle.globset_glob.specs.Token.{before, ahead, Token, Tokens, none, end}
 use Rattle.globset_glob.specs.Token as spec
 use Rattle.globset_glob.specs.Marks.{Mark, Open, Comma, Close}
-use Rattle.globset_glob.specs.Reading.{before, ahead, in_level, levels, whole, is_whole_run}
+use Rattle.globset_glob.specs.Reading.{in_level, levels, whole, is_whole_run}
 use Rattle.globset_glob.specs.Views.{token, token_list, tokens_of, branch_list, marks_of, Adds}
-use Rattle.globset_glob.specs.Nesting.{Nests, is_inner}
+use Rattle.globset_glob.specs.Settled.{Nests, is_inner}
 use Rattle.globset_glob.specs.declared.text.mark.Mark as held_mark
 use Rattle.globset_glob.specs.Stars.{piece}
 use Rattle.globset_glob.specs.Building.{Frame, in_frames, frame, frames}

@@ -2,8 +2,8 @@
 use Rattle.std.specs.Prelude.{ℕ, List, [], ◌∷◌, map, length}
 use Rattle.globset_glob.specs.declared.token.tree.Group.{Group}
 use Rattle.globset_glob.specs.declared.token.tree.Building.{Building}
-use Rattle.globset_glob.specs.Token.{Token, Tokens}
-use Rattle.globset_glob.specs.Reading.{Levels, in_level, ahead, open_level}
+use Rattle.globset_glob.specs.Token.{Token, Tokens, ahead}
+use Rattle.globset_glob.specs.Reading.{Levels, in_level, open_level}
 use Rattle.globset_glob.specs.Views.{token_list, branch_list}
 
 -- an open group: the tokens before it in its branch, and its branches that are done

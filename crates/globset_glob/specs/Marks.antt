@@ -1,85 +1,77 @@
--- A glob's text, a list of characters, is cut into marks.
-use Rattle.std.specs.Prelude.{◌≡◌, ℕ, zero, suc, ◌+◌, List, [], ◌∷◌, Bool, true, false, ◌||◌, ◌&&◌, ◌==◌, nat_lt, if◌then◌else◌, take, drop, Option, Some, None}
+-- A glob's text, a list of characters, is cut from the left into marks: plain characters, `?`, runs of `*`, classes,
+-- braces and commas.
+use Rattle.std.specs.Prelude.{◌≡◌, ℕ, zero, suc, ◌+◌, List, [], ◌∷◌, Bool, true, false, ◌||◌, ◌&&◌, ◌==◌, if◌then◌else◌, take, drop, Option, Some, None}
 use Rattle.std.specs.List.{prefix_len, position}
 use Rattle.globset_glob.specs.declared.options.Options.{Options}
 use Rattle.globset_glob.specs.declared.fault.Fault.{Fault}
-use Rattle.globset_glob.specs.declared.fault.Fault.TheVariants.{UnclosedClass, InvalidRange, DanglingEscape}
+use Rattle.globset_glob.specs.declared.fault.Fault.TheVariants.{UnclosedClass, DanglingEscape}
+use Rattle.globset_glob.specs.Ranges.{ranges, bad_range}
 
 pub data Mark : Type 0 where
-  -- a plain character; whether it was escaped
+  -- a plain character: whether it was escaped, and the character
   Char : Bool → ℕ → Mark
   -- `?`
   One : Mark
-  -- a run of unescaped stars, as long as it goes
+  -- a run of unescaped `*`, as long as it goes, by its length
   Stars : ℕ → Mark
-  -- negated or not, and the ranges in order
+  -- a closed class: whether it is negated, and its ranges in order
   Class : Bool → List (ℕ × ℕ) → Mark
+  -- `{`
   Open : Mark
+  -- `,`, in braces or not
   Comma : Mark
+  -- `}`
   Close : Mark
   -- what stands here has no reading
   Bad : Fault → Mark
 
--- ---- the body of a class
+-- ---- classes
 
--- The ranges of a body, from one of its chains on, which goes from c to z so far: a pair `-x` makes the chain longer,
--- a `-` at the end is a member, and any other character begins the next chain.
-abbrev mutual
-  pub chain : ℕ → ℕ → List ℕ → List (ℕ × ℕ)
-  chain c z [] = (c, z) ∷ []
-  chain c z (d ∷ rest) = elim (d == 45) [ true ↦ pair c z rest | false ↦ (c, z) ∷ chain d d rest ]
+-- `]`
+abbrev pub is_closer : ℕ → Bool
+is_closer c = c == 93
 
-  pub pair : ℕ → ℕ → List ℕ → List (ℕ × ℕ)
-  pair c z [] = (c, z) ∷ (45, 45) ∷ []
-  pair c z (x ∷ rest) = chain c x rest
+-- no `]` stands among these characters
+abbrev pub NoCloser : List ℕ → Type 0
+NoCloser cs = position is_closer cs ≡ None
 
--- the first pair that goes below the first character of its chain, here c
-abbrev mutual
-  pub bad_chain : ℕ → List ℕ → Option Fault
-  bad_chain c [] = None
-  bad_chain c (d ∷ rest) = elim (d == 45) [ true ↦ bad_pair c rest | false ↦ bad_chain d rest ]
-
-  pub bad_pair : ℕ → List ℕ → Option Fault
-  bad_pair c [] = None
-  bad_pair c (x ∷ rest) = elim (nat_lt x c) [ true ↦ Some (InvalidRange c x) | false ↦ bad_chain c rest ]
-
-unfoldable pub ranges : List ℕ → List (ℕ × ℕ)
-ranges [] = []
-ranges (c ∷ rest) = chain c c rest
-
-unfoldable pub bad_range : List ℕ → Option Fault
-bad_range [] = None
-bad_range (c ∷ rest) = bad_chain c rest
-
--- ---- marks
-
+-- `!` or `^` stands first
 abbrev pub is_negated : List ℕ → Bool
 is_negated [] = false
 is_negated (c ∷ cs) = c == 33 || c == 94
 
--- how many members the class has whose first member is the first of these characters; None where no `]` closes it
+-- How many members a class has whose first member is the first of these characters. That one is a member whatever it
+-- is; the next `]` closes the class. None where no `]` does.
 abbrev pub members : List ℕ → Option ℕ
-members cs = elim (position (λ c. c == 93) (drop 1 cs)) [ None ↦ None | Some n ↦ Some (n + 1) ]
+members cs = elim (position is_closer (drop 1 cs)) [ None ↦ None | Some n ↦ Some (n + 1) ]
 
+-- a closed class with this body: a bad range has no reading
 abbrev pub class_mark : Bool → List ℕ → Mark
 class_mark negated body = elim (bad_range body) [ None ↦ Class negated (ranges body) | Some f ↦ Bad f ]
 
+-- A `[` that no `]` closes, before this rest: a plain character where the option allows it. Where it does not, the
+-- rest's first bad range comes before the want of a `]`.
 abbrev pub unclosed_mark : Options → List ℕ → Mark
 unclosed_mark o rest = elim o.allow_unclosed_class [ true ↦ Char false 91 | false ↦ elim (bad_range rest) [ None ↦ Bad UnclosedClass | Some f ↦ Bad f ] ]
 
--- A mark and how many characters it takes besides its first. These are the marks at a `[`, behind which stand
--- n characters of negation and then cs, and at a `\`, behind which stands cs.
-abbrev pub class_at : Options → ℕ → Bool → List ℕ → Mark × ℕ
-class_at o n negated cs = elim (members cs) [ None ↦ (unclosed_mark o cs, 0) | Some k ↦ (class_mark negated (take k cs), n + k + 1) ]
+-- ---- the mark at one place
 
+-- In what follows a mark stands beside the number of characters that it takes after its first.
+
+-- the mark at a `[`, after which stand `skipped` characters of negation and then `cs`
+abbrev pub class_at : Options → ℕ → Bool → List ℕ → Mark × ℕ
+class_at o skipped negated cs = elim (members cs) [ None ↦ (unclosed_mark o cs, 0) | Some n ↦ (class_mark negated (take n cs), skipped + n + 1) ]
+
+-- the mark at a `\` that escapes, after which stands `cs`
 abbrev pub escape_at : List ℕ → Mark × ℕ
 escape_at [] = (Bad DanglingEscape, 0)
 escape_at (c ∷ cs) = (Char true c, 1)
 
+-- a run of stars, with so many after the first
 abbrev pub star_run : ℕ → Mark × ℕ
-star_run k = (Stars (suc k), k)
+star_run more = (Stars (suc more), more)
 
--- the mark that begins with c, behind which stands cs
+-- the mark that begins with `c`, after which stands `cs`
 unfoldable pub mark_at : Options → ℕ → List ℕ → Mark × ℕ
 mark_at o c cs =
     if c == 63 then (One, 0)
@@ -91,12 +83,10 @@ mark_at o c cs =
     else (if c == 92 && o.backslash_escape then escape_at cs
     else (Char false c, 0)))))))
 
--- the marks of a text, the first n characters of which belong to the mark before them
+-- ---- the marks of a text
+
+-- the marks of these characters, the first n of which belong to the mark before them
 unfoldable pub marks : Options → ℕ → List ℕ → List Mark
 marks o n [] = []
 marks o (suc n) (c ∷ cs) = marks o n cs
 marks o zero (c ∷ cs) = let m = mark_at o c cs in m.0 ∷ marks o m.1 cs
-
--- no `]` stands among these characters
-abbrev pub NoCloser : List ℕ → Type 0
-NoCloser cs = position (λ c. c == 93) cs ≡ None

@@ -8,10 +8,9 @@ use Rattle.globset_glob.specs.declared.text.mark.Mark.TheVariants as held
 use Rattle.globset_glob.specs.declared.token.Token as tokens
 use Rattle.std.specs.declared.alloc.Global.{Global}
 use Rattle.std.specs.declared.vec.Vec.{Vec}
-use Rattle.globset_glob.specs.Token.{Token, Tokens, Branches, Literal, Any, ZeroOrMore, RecursivePrefix, RecursiveSuffix, RecursiveZeroOrMore, Class, Group, end, and_then, none, branch}
-use Rattle.globset_glob.specs.Reading.{before, ahead}
+use Rattle.globset_glob.specs.Token.{Token, Tokens, Branches, Literal, Any, ZeroOrMore, RecursivePrefix, RecursiveSuffix, RecursiveZeroOrMore, Class, Group, end, and_then, none, branch, before, ahead}
 use Rattle.globset_glob.specs.Marks as marks
-use Rattle.globset_glob.specs.Marks.{ranges}
+use Rattle.globset_glob.specs.Ranges.{ranges}
 
 abbrev pub mark : Mark → marks.Mark
 mark (held.Char escaped c) = marks.Char escaped c
@@ -36,7 +35,7 @@ abbrev mutual
   token tokens.RecursivePrefix = RecursivePrefix
   token tokens.RecursiveSuffix = RecursiveSuffix
   token tokens.RecursiveZeroOrMore = RecursiveZeroOrMore
-  token (tokens.Class class) = Class class.negated class.ranges.items
+  token (tokens.Class class) = Class class.negated class.ranges
   token (tokens.Alternates' shape rows) = Group (row_branches rows)
 
   pub row_branches : {n : _} → tokens.Row_of-Token-Alternates-0-1 n → Branches

@@ -1,5 +1,5 @@
 use Rattle.std.proofs.Common.{◌≡◌, length}
-use Rattle.globset_glob.specs.Marks.{bad_range, bad_chain}
+use Rattle.globset_glob.specs.Ranges.{bad_range, bad_chain}
 use Rattle.globset_glob.proofs.class.bad_range.Given as goal
 
 abbrev pub invariant-loop-rest : goal.invariant-loop-rest

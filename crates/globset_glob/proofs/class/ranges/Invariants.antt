@@ -1,5 +1,5 @@
 use Rattle.std.proofs.Common.{◌≡◌, ◌++◌, length}
-use Rattle.globset_glob.specs.Marks.{ranges, chain}
+use Rattle.globset_glob.specs.Ranges.{ranges, chain}
 use Rattle.globset_glob.proofs.class.ranges.Given as goal
 
 abbrev pub invariant-loop-rest : goal.invariant-loop-rest

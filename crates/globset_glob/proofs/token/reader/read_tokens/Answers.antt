@@ -1,5 +1,5 @@
 use Rattle.std.proofs.Common.{zero, subst, sym}
-use Rattle.globset_glob.specs.Nesting.{Nests}
+use Rattle.globset_glob.specs.Settled.{Nests}
 use Rattle.globset_glob.specs.Views.{marks_of}
 use Rattle.globset_glob.proofs.Nests.{nested_again}
 use Rattle.globset_glob.proofs.token.reader.read_tokens.Goals as goal

@@ -1,7 +1,7 @@
 use Rattle.std.proofs.Common.{◌∷◌, ◌++◌, [], ◌-◌, zero, length, take, drop, sym, ap, subst, ◌∙◌, arith}
 use Rattle.globset_glob.specs.declared.token.Token.TheVariants.{RecursivePrefix}
 use Rattle.globset_glob.specs.Reading.{levels}
-use Rattle.globset_glob.specs.Nesting.{Nests}
+use Rattle.globset_glob.specs.Settled.{Nests}
 use Rattle.globset_glob.specs.Building.{joined, depth}
 use Rattle.globset_glob.specs.Views.{marks_of}
 use Rattle.std.proofs.lemmas.List.{length-map}

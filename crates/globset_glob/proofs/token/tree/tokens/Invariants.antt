@@ -1,6 +1,6 @@
 use Rattle.std.proofs.Common.{◌≡◌, zero, length, true}
 use Rattle.globset_glob.specs.Reading.{levels}
-use Rattle.globset_glob.specs.Nesting.{Nests}
+use Rattle.globset_glob.specs.Settled.{Nests}
 use Rattle.globset_glob.specs.Building.{joined, depth}
 use Rattle.globset_glob.specs.Views.{marks_of}
 use Rattle.globset_glob.proofs.token.tree.tokens.Given as goal

@@ -1,6 +1,6 @@
 use Rattle.std.proofs.Common.{drop, length, subst, sym}
 use Rattle.globset_glob.specs.Building.{frames}
-use Rattle.globset_glob.specs.Nesting.{Nests}
+use Rattle.globset_glob.specs.Settled.{Nests}
 use Rattle.globset_glob.specs.Views.{mark, marks_of}
 use Rattle.globset_glob.proofs.Held.{piece_law}
 use Rattle.globset_glob.proofs.Nests.{nests_piece}

@@ -1,6 +1,6 @@
 use Rattle.std.proofs.Common.{◌≡◌, ◌-◌, ◌∷◌, suc, subst, sym, arith}
 use Rattle.globset_glob.specs.declared.text.mark.Mark.{Mark}
-use Rattle.globset_glob.specs.Nesting.{Nests}
+use Rattle.globset_glob.specs.Settled.{Nests}
 use Rattle.globset_glob.specs.Marks as marks
 use Rattle.globset_glob.specs.Building.{depth}
 use Rattle.globset_glob.specs.Views.{mark, marks_of}

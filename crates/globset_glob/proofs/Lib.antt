@@ -1,0 +1,7 @@
+pub mod Cells
+pub mod Cutting
+pub mod Trees
+pub mod Nests
+pub mod Plugs
+pub mod Held
+pub mod Closers

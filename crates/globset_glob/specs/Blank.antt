@@ -1,0 +1,32 @@
+-- Branches that say nothing.
+use Rattle.std.specs.Prelude.{Bool, true, false, ◌&&◌, ◌||◌, not}
+use Rattle.globset_glob.specs.declared.options.Options.{Options}
+use Rattle.globset_glob.specs.Token.{Token, Literal, Any, ZeroOrMore, RecursivePrefix, RecursiveSuffix, RecursiveZeroOrMore, Class, Group, Tokens, end, and_then, Branches, none, branch}
+
+-- A branch is blank if all its tokens are groups whose branches are all blank. An empty branch is blank.
+abbrev mutual
+  pub is_blank_token : Token → Bool
+  is_blank_token (Group bs) = are_blank bs
+  is_blank_token (Literal c) = false
+  is_blank_token Any = false
+  is_blank_token ZeroOrMore = false
+  is_blank_token RecursivePrefix = false
+  is_blank_token RecursiveSuffix = false
+  is_blank_token RecursiveZeroOrMore = false
+  is_blank_token (Class negated rs) = false
+
+  pub is_blank : Tokens → Bool
+  is_blank end = true
+  is_blank (and_then t ts) = is_blank_token t && is_blank ts
+
+  pub are_blank : Branches → Bool
+  are_blank none = true
+  are_blank (branch ts bs) = is_blank ts && are_blank bs
+
+-- a kept branch is any under `empty_alternates`, else one that is not blank
+abbrev pub is_kept : Options → Tokens → Bool
+is_kept o ts = o.empty_alternates || not (is_blank ts)
+
+abbrev pub any_kept : Options → Branches → Bool
+any_kept o none = false
+any_kept o (branch ts bs) = is_kept o ts || any_kept o bs

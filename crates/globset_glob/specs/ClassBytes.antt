@@ -1,0 +1,43 @@
+-- The bytes that a character class has.
+--
+-- Classes take single bytes. A range with equal ends has the bytes of its character in UTF-8. Any other range has all
+-- bytes of its first character but the last, the bytes from that last one up to the first byte of its second character,
+-- and the other bytes of that. So `[a-z]` has the letters, and `[é-ü]` has C3, the bytes from A9 to C3, and BC.
+use Rattle.std.specs.Prelude.{ℕ, Bool, true, false, not, ◌&&◌, ◌||◌, ◌==◌, nat_le, List, [], ◌∷◌, if◌then◌else◌, encode_utf8}
+use Rattle.std.specs.Char.{to_ascii_lowercase, to_ascii_uppercase}
+use Rattle.globset_glob.specs.declared.options.Options.{Options}
+
+-- A class as contracts see it: whether it is negated, and its ranges in order.
+pub record ClassValue : Type 0 where
+  pub negated : Bool
+  pub ranges : List (ℕ × ℕ)
+
+abbrev pub is_one_of : ℕ → List ℕ → Bool
+is_one_of byte [] = false
+is_one_of byte (b ∷ bs) = (byte == b) || is_one_of byte bs
+
+-- one of the list's bytes but its last, or from its last up to `upper`
+abbrev pub is_from_last : ℕ → List ℕ → ℕ → Bool
+is_from_last byte [] upper = false
+is_from_last byte (b ∷ []) upper = nat_le b byte && nat_le byte upper
+is_from_last byte (b ∷ d ∷ bs) upper = (byte == b) || is_from_last byte (d ∷ bs) upper
+
+-- the bytes of a range between two characters, given as their bytes
+abbrev pub is_spanned : ℕ → List ℕ → List ℕ → Bool
+is_spanned byte first [] = false
+is_spanned byte first (upper ∷ others) = is_from_last byte first upper || is_one_of byte others
+
+abbrev pub range_has : ℕ × ℕ → ℕ → Bool
+range_has (x, y) byte = if (x == y) then is_one_of byte (encode_utf8 x) else is_spanned byte (encode_utf8 x) (encode_utf8 y)
+
+abbrev pub ranges_have : List (ℕ × ℕ) → ℕ → Bool
+ranges_have [] byte = false
+ranges_have (r ∷ rs) byte = range_has r byte || ranges_have rs byte
+
+-- under `case_insensitive` the other case of each ASCII letter is had too
+abbrev pub folded_have : Options → List (ℕ × ℕ) → ℕ → Bool
+folded_have o rs byte = ranges_have rs byte || (o.case_insensitive && (ranges_have rs (to_ascii_lowercase byte) || ranges_have rs (to_ascii_uppercase byte)))
+
+-- and then a negated class has all the other bytes
+abbrev pub class_has : Options → Bool → List (ℕ × ℕ) → ℕ → Bool
+class_has o negated rs byte = if negated then not (folded_have o rs byte) else folded_have o rs byte

@@ -1,0 +1,17 @@
+pub mod Ticks
+pub mod Token
+pub mod Ranges
+pub mod Marks
+pub mod Nesting
+pub mod Settled
+pub mod Stars
+pub mod Reading
+pub mod Blank
+pub mod ClassBytes
+pub mod ClassTable
+pub mod Takes
+pub mod Means
+pub mod Cost
+pub mod Weight
+pub mod Views
+pub mod Building

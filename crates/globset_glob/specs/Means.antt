@@ -1,0 +1,47 @@
+-- What a glob means: which paths, each a list of bytes.
+use Rattle.std.specs.Prelude.{ℕ, Bool, true, false, ◌||◌, List, Result, Ok, Err, IsOk, ◌≡◌}
+use Rattle.std.specs.Str.{chars}
+use Rattle.globset_glob.specs.declared.options.Options.{Options}
+use Rattle.globset_glob.specs.Token.{Token, RecursivePrefix, Literal, Any, ZeroOrMore, RecursiveSuffix, RecursiveZeroOrMore, Class, Group, Tokens, end, and_then}
+use Rattle.globset_glob.specs.Reading.{reading}
+use Rattle.globset_glob.specs.Takes.{takes_all}
+
+-- A glob as contracts see it: its text, in UTF-8, and its options.
+pub record GlobValue : Type 0 where
+  pub text : List ℕ
+  pub options : Options
+
+abbrev pub is_prefix : Token → Bool
+is_prefix RecursivePrefix = true
+is_prefix (Literal c) = false
+is_prefix Any = false
+is_prefix ZeroOrMore = false
+is_prefix RecursiveSuffix = false
+is_prefix RecursiveZeroOrMore = false
+is_prefix (Class negated rs) = false
+is_prefix (Group bs) = false
+
+-- the only token is RecursivePrefix
+abbrev pub is_prefix_alone : Tokens → Bool
+is_prefix_alone end = false
+is_prefix_alone (and_then t end) = is_prefix t
+is_prefix_alone (and_then t (and_then u ts)) = false
+
+-- The tokens of a whole glob mean these bytes: RecursivePrefix alone, as of `**` and `**/`, means everything, and other
+-- tokens mean what they take, one after another.
+abbrev pub means : Options → Tokens → List ℕ → Bool
+means o ts path = is_prefix_alone ts || takes_all o ts path
+
+-- ---- of a glob
+
+-- its text has a reading under its options. Every `Glob` has one.
+abbrev pub IsRead : GlobValue → Type 0
+IsRead g = IsOk (reading g.options (chars g.text))
+
+-- its tokens. A text with a fault has none, but then it is no glob.
+unfoldable pub tokens_of_glob : GlobValue → Tokens
+tokens_of_glob g = elim (reading g.options (chars g.text)) [ Ok ts ↦ ts | Err f ↦ end ]
+
+-- it means the path
+unfoldable pub glob_means : GlobValue → List ℕ → Bool
+glob_means g path = means g.options (tokens_of_glob g) path

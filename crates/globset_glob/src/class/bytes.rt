@@ -1,0 +1,92 @@
+//! The bytes of ranges of characters.
+
+ghost use Rattle.std.specs.Prelude.{◌≡◌, IfOk};
+ghost use Rattle.globset_glob.specs.ClassBytes.{ranges_have, range_has, is_one_of, is_from_last};
+
+use std::alloc::{AllocError, Global};
+
+/// How the ranges of a class have a byte.
+#[derive(Clone, Copy, Debug)]
+pub enum Membership {
+    /// Not at all.
+    Absent,
+    /// As the other case of an ASCII letter that they have.
+    OtherCase,
+    /// As it is.
+    Present,
+}
+
+ghost use Rattle.globset_glob.specs.ClassTable.{IsTableOf};
+
+/// For each byte, how the ranges have it.
+pub fn table_of(alloc: Global, ranges: &[(char, char)]) -> Result<Vec<Membership>, AllocError>
+    ensures { IfOk result (λ v. IsTableOf ranges.now v.items) }
+{
+    let mut plain = Vec::with_capacity(alloc, 256)?;
+    for byte in 0..=255u8 {
+        plain.push(ranges_have_byte(ranges, byte))?;
+    }
+    let mut table = Vec::with_capacity(alloc, 256)?;
+    for byte in 0..=255u8 {
+        let lower = byte.to_ascii_lowercase();
+        let upper = byte.to_ascii_uppercase();
+        let membership = if plain[byte as usize] {
+            Membership::Present
+        } else if plain[lower as usize] || plain[upper as usize] {
+            Membership::OtherCase
+        } else {
+            Membership::Absent
+        };
+        table.push(membership)?;
+    }
+    Ok(table)
+}
+
+fn ranges_have_byte(ranges: &[(char, char)], byte: u8) -> bool
+    ensures { result ≡ ranges_have ranges.now byte }
+{
+    for range in ranges {
+        if range_has_byte(*range, byte) {
+            return true;
+        }
+    }
+    false
+}
+
+fn range_has_byte(range: (char, char), byte: u8) -> bool
+    ensures { result ≡ range_has range byte }
+{
+    let (low, high) = range;
+    let mut low_buffer = [0u8; 4];
+    let mut high_buffer = [0u8; 4];
+    let first = low.encode_utf8(&mut low_buffer).as_bytes();
+    let second = high.encode_utf8(&mut high_buffer).as_bytes();
+    if low == high {
+        return is_byte_of(first, byte);
+    }
+    match second {
+        [] => false,
+        [upper, others @ ..] => is_byte_from_last(first, *upper, byte) || is_byte_of(others, byte),
+    }
+}
+
+fn is_byte_of(bytes: &[u8], byte: u8) -> bool
+    ensures { result ≡ is_one_of byte bytes.now }
+{
+    for b in bytes {
+        if byte == *b {
+            return true;
+        }
+    }
+    false
+}
+
+/// Whether it is one of the bytes but the last, or lies from the last one up to `upper`.
+fn is_byte_from_last(bytes: &[u8], upper: u8, byte: u8) -> bool
+    ensures { result ≡ is_from_last byte bytes.now upper }
+{
+    match bytes {
+        [] => false,
+        [before @ .., last] => is_byte_of(before, byte) || (*last <= byte && byte <= upper),
+    }
+}
