@@ -13,5 +13,6 @@ pub mod Takes
 pub mod Means
 pub mod Cost
 pub mod Weight
+pub mod Errors
 pub mod Views
 pub mod Building

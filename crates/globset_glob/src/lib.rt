@@ -1,15 +1,22 @@
 //! One glob: how it is read, and which paths it means.
 #![tactic(auto)]
 
+mod builder;
 mod class;
+mod error;
 mod fault;
+mod glob;
+mod matcher;
 mod options;
 mod path;
+mod row;
 mod text;
 mod token;
 mod visits;
 
-pub use options::Options;
+pub use builder::GlobBuilder;
+pub use error::{Error, ErrorKind};
+pub use glob::Glob;
+pub use matcher::GlobMatcher;
 pub use path::{AsPath, Candidate};
-pub use token::Token;
 pub use visits::Visits;

@@ -1,5 +1,6 @@
 //! Tokens: what a glob's marks are read as.
 
+pub mod copy;
 pub mod reader;
 mod piece;
 mod star;

@@ -1,0 +1,17 @@
+-- What a glob means, by its tokens.
+use Rattle.std.proofs.Common.{◌≡◌, ℕ, List, Bool, Result, Ok, Err, refl, ap, sym, ◌∙◌}
+use Rattle.std.specs.Str.{chars}
+use Rattle.globset_glob.specs.declared.options.Options.{Options}
+use Rattle.globset_glob.specs.declared.fault.Fault.{Fault}
+use Rattle.globset_glob.specs.Token.{Tokens, end}
+use Rattle.globset_glob.specs.Reading.{reading}
+use Rattle.globset_glob.specs.Means.{GlobValue, means, tokens_of_glob, glob_means}
+
+pub tokens_are : (g : GlobValue) (ts : Tokens) → reading g.options (chars g.text) ≡ Ok ts → tokens_of_glob g ≡ ts
+unfolding tokens_of_glob
+tokens_are g ts h = ap (λ (r : Result Tokens Fault). elim r as (λ _. Tokens) [ Ok us ↦ us | Err f ↦ end ]) h
+
+-- the glob means what the tokens of its text mean
+pub means_is : (g : GlobValue) (ts : Tokens) (path : List ℕ) → reading g.options (chars g.text) ≡ Ok ts → means g.options ts path ≡ glob_means g path
+unfolding glob_means
+means_is g ts path h = ap (λ us. means g.options us path) (sym (tokens_are g ts h))

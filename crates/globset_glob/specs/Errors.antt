@@ -1,0 +1,53 @@
+-- Errors of globs, and their texts.
+use Rattle.std.specs.Prelude.{◌≡◌, ℕ, List, ◌++◌, Option, Some, None, encode_utf8, codes, string_bytes, ◌⊎◌}
+use Rattle.globset_glob.specs.declared.error.ErrorKind.{ErrorKind}
+use Rattle.globset_glob.specs.declared.error.ErrorKind.TheVariants as kinds
+use Rattle.globset_glob.specs.declared.fault.Fault.{Fault}
+use Rattle.globset_glob.specs.declared.fault.Fault.TheVariants as faults
+use Rattle.globset_glob.specs.declared.options.Options.{Options}
+use Rattle.globset_glob.specs.Reading.{HasFault}
+use Rattle.std.specs.Str.{chars}
+
+-- An error as contracts see it: the text that was refused, where one is held, and why.
+pub record ErrorValue : Type 0 where
+  pub glob : Option (List ℕ)
+  pub kind : ErrorKind
+
+-- memory ran out: no text is held
+abbrev pub out_of_memory : ErrorValue
+out_of_memory = record { glob = None; kind = kinds.OutOfMemory }
+
+abbrev pub kind_of : Fault → ErrorKind
+kind_of faults.UnclosedClass = kinds.UnclosedClass
+kind_of (faults.InvalidRange start end) = kinds.InvalidRange start end
+kind_of faults.UnopenedAlternates = kinds.UnopenedAlternates
+kind_of faults.UnclosedAlternates = kinds.UnclosedAlternates
+kind_of faults.DanglingEscape = kinds.DanglingEscape
+
+-- a text was refused for a fault, and is held
+abbrev pub refusal : List ℕ → Fault → ErrorValue
+refusal text f = record { glob = Some text; kind = kind_of f }
+
+-- The error of a text that was not read: its fault under these options, or want of memory.
+abbrev pub IsRefusalOf : Options → List ℕ → ErrorValue → Type 0
+IsRefusalOf o text e = (e ≡ out_of_memory) ⊎ ((f : Fault) × HasFault o (chars text) f × (e ≡ refusal text f))
+
+-- ---- texts
+
+abbrev pub kind_text : ErrorKind → List ℕ
+kind_text kinds.UnclosedClass = codes "unclosed character class; missing ']'"
+kind_text (kinds.InvalidRange start end) = codes "invalid range; '" ++ encode_utf8 start ++ codes "' > '" ++ encode_utf8 end ++ codes "'"
+kind_text kinds.UnopenedAlternates = codes "unopened alternate group; missing '{' (maybe escape '}' with '[}]'?)"
+kind_text kinds.UnclosedAlternates = codes "unclosed alternate group; missing '}' (maybe escape '{' with '[{]'?)"
+kind_text kinds.DanglingEscape = codes "dangling '\\'"
+kind_text kinds.OutOfMemory = codes "out of memory"
+kind_text kinds.InvalidRecursive = codes "invalid use of **; must be one path component"
+kind_text kinds.NestedAlternates = codes "nested alternate groups are not allowed"
+kind_text (kinds.Regex text) = string_bytes text
+
+abbrev pub text_with : Option (List ℕ) → List ℕ → List ℕ
+text_with None kind = kind
+text_with (Some glob) kind = codes "error parsing glob '" ++ glob ++ codes "': " ++ kind
+
+abbrev pub error_text : ErrorValue → List ℕ
+error_text e = text_with e.glob (kind_text e.kind)

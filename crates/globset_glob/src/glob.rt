@@ -1,0 +1,151 @@
+//! A glob, and how it is read.
+
+ghost use Rattle.std.specs.Prelude.{◌≡◌, ◌≤◌, ◌*◌, IfOk, IfErr, length, Ok};
+ghost use Rattle.globset_glob.specs.Errors.{out_of_memory, IsRefusalOf};
+
+use crate::builder::GlobBuilder;
+use crate::error::Error;
+use crate::fault::ReadError;
+use crate::matcher::GlobMatcher;
+use crate::options::Options;
+use crate::token::Token;
+use crate::token::copy::copy_of;
+use crate::token::reader::read_tokens;
+use std::alloc::Global;
+use std::fmt;
+use std::marker::Model;
+
+/// One glob, read.
+///
+/// Contracts see its text and its options. Every glob has a reading: its tokens, which follow from the two.
+#[derive(Drop)]
+pub struct Glob {
+    text: String,
+    options: Options,
+    tokens: Vec<Token>,
+}
+
+impl Model for Glob {
+    ghost use Rattle.std.specs.Prelude.{◌≡◌, ◌≤◌, ◌*◌, Ok, length, string_bytes};
+    ghost use Rattle.std.specs.Str.{chars};
+    ghost use Rattle.globset_glob.specs.Means.{GlobValue};
+    ghost use Rattle.globset_glob.specs.Reading.{reading};
+    ghost use Rattle.globset_glob.specs.Views.{tokens_of};
+    ghost use Rattle.globset_glob.specs.Weight.{weight};
+
+    ghost Value = { GlobValue };
+
+    ghost view = { λ g. record { text = string_bytes g.text; options = g.options } };
+
+    ghost invariant = { λ g. (reading g.options (chars (string_bytes g.text)) ≡ Ok (tokens_of g.tokens.items))
+        × (weight (tokens_of g.tokens.items) ≤ 4 * length (string_bytes g.text)) };
+}
+
+impl Glob {
+    ghost use Rattle.globset_glob.specs.Means.{IsRead};
+
+    /// Reads a glob under the default options: `\` escapes, and the other options are off.
+    ///
+    /// A text that is no glob is refused with its first fault from the left, and the error holds the text.
+    pub fn new(alloc: Global, glob: &str) -> Result<Glob, Error>
+        ensures ok { IfOk result (λ g. g ≡ record { text = glob.now; options = Options.DEFAULT }) }
+        ensures read { IfOk result IsRead }
+        ensures err { IfErr result (IsRefusalOf Options.DEFAULT glob.now) }
+    {
+        GlobBuilder::new(glob).build(alloc)
+    }
+
+    /// The same as [`Glob::new`].
+    pub fn from_str(alloc: Global, glob: &str) -> Result<Glob, Error>
+        ensures ok { IfOk result (λ g. g ≡ record { text = glob.now; options = Options.DEFAULT }) }
+        ensures read { IfOk result IsRead }
+        ensures err { IfErr result (IsRefusalOf Options.DEFAULT glob.now) }
+    {
+        Glob::new(alloc, glob)
+    }
+
+    /// The text that the glob was read from. It takes no memory.
+    pub fn glob(&self) -> &str
+        ensures text { result.now ≡ self.now.text }
+        ensures read { IsRead self.now }
+    {
+        self.text.as_str()
+    }
+
+    /// An equal glob, or want of memory.
+    pub fn clone(&self) -> Result<Glob, Error>
+        ensures ok { IfOk result (λ g. g ≡ self.now) }
+        ensures err { IfErr result (λ e. e ≡ out_of_memory) }
+    {
+        let alloc = self.allocator();
+        let tokens = copy_of(alloc, &self.tokens)?;
+        let text = String::from_str(alloc, self.text.as_str())?;
+        Ok(Glob {
+            text,
+            options: self.options,
+            tokens,
+        })
+    }
+
+    /// A matcher of an equal glob, or want of memory.
+    pub fn compile_matcher(&self) -> Result<GlobMatcher, Error>
+        ensures ok { IfOk result (λ m. m ≡ self.now) }
+        ensures err { IfErr result (λ e. e ≡ out_of_memory) }
+    {
+        Ok(GlobMatcher::new(self.clone()?))
+    }
+}
+
+impl Glob {
+    ghost use Rattle.std.specs.Str.{chars};
+    ghost use Rattle.globset_glob.specs.Means.{IsRead};
+    ghost use Rattle.globset_glob.specs.Reading.{reading};
+    ghost use Rattle.globset_glob.specs.Views.{tokens_of};
+    ghost use Rattle.globset_glob.specs.Weight.{weight};
+
+    /// Reads a text under these options.
+    pub(crate) fn read(alloc: Global, options: Options, text: &str) -> Result<Glob, Error>
+        ensures ok { IfOk result (λ g. g ≡ record { text = text.now; options = options }) }
+        ensures read { IfOk result IsRead }
+        ensures err { IfErr result (IsRefusalOf options text.now) }
+    {
+        let tokens = match read_tokens(alloc, options, text) {
+            Ok(tokens) => tokens,
+            Err(ReadError::Memory) => return Err(Error::out_of_memory()),
+            Err(ReadError::Fault(fault)) => return Err(Error::refusal(alloc, text, fault)),
+        };
+        let text = String::from_str(alloc, text)?;
+        Ok(Glob {
+            text,
+            options,
+            tokens,
+        })
+    }
+
+    /// What the glob is read as. It takes no memory.
+    pub(crate) fn tokens(&self) -> &[Token]
+        ensures read { reading self.now.options (chars self.now.text) ≡ Ok (tokens_of result.now) }
+        ensures weight { weight (tokens_of result.now) ≤ 4 * length self.now.text }
+    {
+        &self.tokens
+    }
+
+    /// The options that the glob was read under.
+    pub(crate) fn options(&self) -> Options
+        ensures { result ≡ self.now.options }
+    {
+        self.options
+    }
+
+    /// The memory that the glob lies in.
+    pub(crate) fn allocator(&self) -> Global {
+        *self.text.allocator()
+    }
+}
+
+/// `Glob("<text>")`
+impl fmt::Debug for Glob {
+    fn fmt<W: fmt::Write>(&self, f: &mut fmt::Formatter<W>) -> fmt::Result {
+        f.debug_tuple("Glob").field(&self.text).finish()
+    }
+}
