@@ -1,0 +1,12 @@
+pub use Rattle.globset_glob.specs.Token
+pub use Rattle.globset_glob.specs.Ranges
+pub use Rattle.globset_glob.specs.Marks
+pub use Rattle.globset_glob.specs.Nesting
+pub use Rattle.globset_glob.specs.Stars
+pub use Rattle.globset_glob.specs.Reading
+pub use Rattle.globset_glob.specs.Blank
+pub use Rattle.globset_glob.specs.ClassBytes
+pub use Rattle.globset_glob.specs.Takes
+pub use Rattle.globset_glob.specs.Means
+pub use Rattle.globset_glob.specs.Cost
+pub use Rattle.globset_glob.specs.Errors

@@ -1,0 +1,7 @@
+//! Globs: which paths match a pattern such as `src/**/*.{c,h}`.
+//!
+//! A [`Glob`] is read from text by [`Glob::new`], or under options by [`GlobBuilder`]; its [`GlobMatcher`] tells which
+//! paths it means.
+#![tactic(auto)]
+
+pub use globset_glob::{AsPath, Candidate, Error, ErrorKind, Glob, GlobBuilder, GlobMatcher, Visits};
