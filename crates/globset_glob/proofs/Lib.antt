@@ -5,3 +5,4 @@ pub mod Nests
 pub mod Plugs
 pub mod Held
 pub mod Closers
+pub mod ClassLemmas

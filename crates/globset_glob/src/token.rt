@@ -1,7 +1,7 @@
 //! Tokens: what a glob's marks are read as.
 
-pub mod reader;
 mod piece;
+pub mod reader;
 mod star;
 mod tree;
 
