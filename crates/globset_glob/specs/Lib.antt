@@ -9,6 +9,7 @@ pub mod Reading
 pub mod Blank
 pub mod ClassBytes
 pub mod ClassTable
+pub mod PlainTable
 pub mod Takes
 pub mod Means
 pub mod Cost

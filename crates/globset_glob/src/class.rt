@@ -101,11 +101,7 @@ impl Class {
     ghost use Rattle.globset_glob.specs.ClassBytes.{class_has};
 
     /// The class of these ranges. It looks at each range once for each of the 256 bytes.
-    pub fn new(
-        alloc: Global,
-        negated: bool,
-        ranges: Vec<(char, char)>,
-    ) -> Result<Class, AllocError>
+    pub fn new(alloc: Global, negated: bool, ranges: Vec<(char, char)>) -> Result<Class, AllocError>
         ensures { IfOk result (λ c. c ≡ record { negated = negated; ranges = ranges.items }) }
     {
         let table = table_of(alloc, &ranges)?;

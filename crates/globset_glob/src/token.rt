@@ -1,8 +1,8 @@
 //! Tokens: what a glob's marks are read as.
 
 pub mod copy;
-pub mod reader;
 mod piece;
+pub mod reader;
 mod star;
 mod tree;
 

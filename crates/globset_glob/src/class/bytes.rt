@@ -1,7 +1,9 @@
 //! The bytes of ranges of characters.
 
-ghost use Rattle.std.specs.Prelude.{◌≡◌, IfOk};
+ghost use Rattle.std.specs.Prelude.{◌≡◌, ℕ, List, IfOk};
 ghost use Rattle.globset_glob.specs.ClassBytes.{ranges_have, range_has, is_one_of, is_from_last};
+ghost use Rattle.globset_glob.specs.ClassTable.{IsTableOf, membership};
+ghost use Rattle.globset_glob.specs.PlainTable.{IsPlainTable};
 
 use std::alloc::{AllocError, Global};
 
@@ -16,43 +18,52 @@ pub enum Membership {
     Present,
 }
 
-ghost use Rattle.globset_glob.specs.ClassTable.{IsTableOf};
-
 /// For each byte, how the ranges have it.
 pub fn table_of(alloc: Global, ranges: &[(char, char)]) -> Result<Vec<Membership>, AllocError>
     ensures { IfOk result (λ v. IsTableOf ranges.now v.items) }
 {
-    let mut plain = Vec::with_capacity(alloc, 256)?;
-    for byte in 0..=255u8 {
-        plain.push(ranges_have_byte(ranges, byte))?;
-    }
+    let plain = plain_table(ranges);
     let mut table = Vec::with_capacity(alloc, 256)?;
     for byte in 0..=255u8 {
-        let lower = byte.to_ascii_lowercase();
-        let upper = byte.to_ascii_uppercase();
-        let membership = if plain[byte as usize] {
-            Membership::Present
-        } else if plain[lower as usize] || plain[upper as usize] {
-            Membership::OtherCase
-        } else {
-            Membership::Absent
-        };
-        table.push(membership)?;
+        table.push(membership_in(&plain, byte))?;
     }
     Ok(table)
 }
 
+/// How ranges have a byte, by the bytes that they have as they are.
+fn membership_in(plain: &[bool; 256], byte: u8) -> Membership
+    ensures { (rs : List (ℕ × ℕ)) → IsPlainTable rs plain.now → result ≡ membership rs byte }
+{
+    let lower = byte.to_ascii_lowercase();
+    let upper = byte.to_ascii_uppercase();
+    if plain[byte as usize] {
+        Membership::Present
+    } else if plain[lower as usize] || plain[upper as usize] {
+        Membership::OtherCase
+    } else {
+        Membership::Absent
+    }
+}
+
+/// For each byte, whether the ranges have it as it is.
+fn plain_table(ranges: &[(char, char)]) -> [bool; 256]
+    ensures { IsPlainTable ranges.now result }
+{
+    let mut plain = [false; 256];
+    for byte in 0..=255u8 {
+        plain[byte as usize] = ranges_have_byte(ranges, byte);
+    }
+    plain
+}
+
+/// Whether one of the ranges has the byte.
 fn ranges_have_byte(ranges: &[(char, char)], byte: u8) -> bool
     ensures { result ≡ ranges_have ranges.now byte }
 {
-    for range in ranges {
-        if range_has_byte(*range, byte) {
-            return true;
-        }
-    }
-    false
+    ranges.iter().any(|range| range_has_byte(*range, byte))
 }
 
+/// Whether the range has the byte.
 fn range_has_byte(range: (char, char), byte: u8) -> bool
     ensures { result ≡ range_has range byte }
 {
@@ -70,15 +81,11 @@ fn range_has_byte(range: (char, char), byte: u8) -> bool
     }
 }
 
+/// Whether it is one of the bytes.
 fn is_byte_of(bytes: &[u8], byte: u8) -> bool
     ensures { result ≡ is_one_of byte bytes.now }
 {
-    for b in bytes {
-        if byte == *b {
-            return true;
-        }
-    }
-    false
+    bytes.iter().any(|b| byte == *b)
 }
 
 /// Whether it is one of the bytes but the last, or lies from the last one up to `upper`.
