@@ -5,3 +5,6 @@
 #![tactic(auto)]
 
 pub use globset_glob::{AsPath, Candidate, Error, ErrorKind, Glob, GlobBuilder, GlobMatcher, Visits};
+
+#[cfg(test)]
+mod tests;

@@ -4,6 +4,8 @@ ghost use Rattle.std.specs.Prelude.{◌≡◌, IfOk};
 ghost use Rattle.globset_glob.specs.Ranges.{ranges, bad_range};
 
 mod bytes;
+#[cfg(test)]
+pub mod tests;
 
 use crate::fault::Fault;
 use crate::options::Options;

@@ -6,6 +6,9 @@ pub mod reader;
 mod star;
 mod tree;
 
+#[cfg(test)]
+mod tests;
+
 use crate::class::Class;
 
 /// A token of a glob.
