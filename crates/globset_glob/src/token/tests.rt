@@ -8,6 +8,7 @@ use crate::token::reader::read_tokens;
 use std::alloc::{AllocError, Global};
 use std::test::Fail;
 
+#[cycle(short)]
 fn push_tokens(out: &mut String, tokens: &[Token]) -> Result<(), AllocError> {
     for (i, token) in tokens.iter().enumerate() {
         if i > 0 {
@@ -18,6 +19,7 @@ fn push_tokens(out: &mut String, tokens: &[Token]) -> Result<(), AllocError> {
     Ok(())
 }
 
+#[cycle(short)]
 fn push_token(out: &mut String, token: &Token) -> Result<(), AllocError> {
     match token {
         Token::Literal(c) => {
