@@ -6,3 +6,4 @@ pub mod Plugs
 pub mod Held
 pub mod Closers
 pub mod ClassLemmas
+pub mod Weights
