@@ -7,3 +7,4 @@ pub mod Held
 pub mod Closers
 pub mod GlobLemmas
 pub mod ClassLemmas
+pub mod Weights

@@ -1,4 +1,4 @@
-use Rattle.std.proofs.Common.{arith, rules, ◌≡◌, ◌∷◌, ◌++◌, [], length-append}
+use Rattle.std.proofs.Common.{arith, ◌≡◌, ◌∷◌, ◌++◌, [], length-append}
 use Rattle.globset_glob.proofs.ClassLemmas.{table_push}
 use Rattle.globset_glob.proofs.class.bytes.table_of.Goals as goal
 use Rattle.globset_glob.proofs.class.bytes.table_of.Goals.{else-loop-byte-test, then-loop-byte-test+in_ok-push+else-byte-lt255}
