@@ -12,18 +12,18 @@ use Rattle.globset_glob.specs.Token.{Token, Tokens, Branches, Literal, Any, Zero
 use Rattle.globset_glob.specs.Marks as marks
 use Rattle.globset_glob.specs.Ranges.{ranges}
 
-abbrev pub mark : Mark → marks.Mark
-mark (held.Char escaped c) = marks.Char escaped c
-mark held.One = marks.One
-mark (held.Stars n) = marks.Stars n
-mark (held.Class negated body) = marks.Class negated (ranges body.now)
-mark held.Open = marks.Open
-mark held.Comma = marks.Comma
-mark held.Close = marks.Close
-mark (held.Bad f) = marks.Bad f
+abbrev pub mark_of : Mark → marks.Mark
+mark_of (held.Char escaped c) = marks.Char escaped c
+mark_of held.One = marks.One
+mark_of (held.Stars n) = marks.Stars n
+mark_of (held.Class negated body) = marks.Class negated (ranges body.now)
+mark_of held.Open = marks.Open
+mark_of held.Comma = marks.Comma
+mark_of held.Close = marks.Close
+mark_of (held.Bad f) = marks.Bad f
 
 abbrev pub marks_of : List Mark → List marks.Mark
-marks_of ms = map mark ms
+marks_of ms = map mark_of ms
 
 -- ---- tokens
 

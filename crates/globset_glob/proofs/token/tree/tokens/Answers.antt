@@ -19,11 +19,11 @@ loop-rest-preserved c =
     let rest = c.loop-rest.rest.now in
     let behind = ap marks_of c.behind-rest.ensures ∙ marks_behind c.in_ok-more.more (take (length rest - 1) (drop 1 rest)) in
     record {
-      read = rw behind (c.in_ok-more.ensures.read ∙ ap (λ l. joined c.loop-rest.all (levels zero c.loop-rest.all.start (marks_of l))) (sym (head_cell rest _ c.in-len1-up.len_at_least)) ∙ c.loop-rest.invariant.read);
+      read = rw behind (c.in_ok-more.ensures.read ∙ ap (λ l. joined c.loop-rest.building (levels zero c.loop-rest.building.start (marks_of l))) (sym (head_cell rest _ c.in-len1-up.len_at_least)) ∙ c.loop-rest.invariant.read);
       nests = subst (Nests (depth c.read.new.self)) (sym behind) c.in_ok-more.ensures.nests;
     }
 
 pub returns : goal.returns
 returns c =
-    finish c.loop-rest.all.groups.items c.loop-rest.all.branch.items c.loop-rest.all.start (marks_of c.loop-rest.rest.now) (marks_of c.args.marks.now) (rw length-map (omega arith)) c.loop-rest.invariant.nests c.loop-rest.invariant.read
+    finish c.loop-rest.building.groups.items c.loop-rest.building.branch.items c.loop-rest.building.start (marks_of c.loop-rest.rest.now) (marks_of c.args.marks.now) (rw length-map (omega arith)) c.loop-rest.invariant.nests c.loop-rest.invariant.read
     (sym c.is_whole_run.ensures ∙ c.if-is_whole_run.false)

@@ -7,8 +7,8 @@ use Rattle.globset_glob.proofs.token.tree.tokens.Given as goal
 
 abbrev pub invariant-loop-rest : goal.invariant-loop-rest
 invariant-loop-rest l = record {
-  read : joined l.all (levels zero l.all.start (marks_of l.rest)) ≡ levels zero true (marks_of l.marks);
-  nests : Nests (depth l.all) (marks_of l.rest);
+  read : joined l.building (levels zero l.building.start (marks_of l.rest)) ≡ levels zero true (marks_of l.marks);
+  nests : Nests (depth l.building) (marks_of l.rest);
 }
 
 abbrev pub decreases-loop-rest : goal.decreases-loop-rest

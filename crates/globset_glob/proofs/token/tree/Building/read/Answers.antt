@@ -3,16 +3,16 @@ use Rattle.globset_glob.specs.declared.text.mark.Mark.{Mark}
 use Rattle.globset_glob.specs.Settled.{Nests}
 use Rattle.globset_glob.specs.Marks as marks
 use Rattle.globset_glob.specs.Building.{depth}
-use Rattle.globset_glob.specs.Views.{mark, marks_of}
+use Rattle.globset_glob.specs.Views.{mark_of, marks_of}
 use Rattle.globset_glob.proofs.Nests.{nests_open, nests_comma, nests_close, nests_bad}
 use Rattle.globset_glob.proofs.token.tree.Building.read.Goals as goal
 use Rattle.globset_glob.proofs.token.tree.Building.read.Goals.{In-Open, In-Comma, In-Close}
 
 comma_here : (c : In-Comma) → Nests (depth c.args.self.now) (marks.Comma ∷ marks_of c.args.after.now)
-comma_here c = subst (λ (m : Mark). Nests (depth c.args.self.now) (mark m ∷ marks_of c.args.after.now)) c.in-Comma.is c.requires.nests
+comma_here c = subst (λ (m : Mark). Nests (depth c.args.self.now) (mark_of m ∷ marks_of c.args.after.now)) c.in-Comma.is c.requires.nests
 
 close_here : (c : In-Close) → Nests (depth c.args.self.now) (marks.Close ∷ marks_of c.args.after.now)
-close_here c = subst (λ (m : Mark). Nests (depth c.args.self.now) (mark m ∷ marks_of c.args.after.now)) c.in-Close.is c.requires.nests
+close_here c = subst (λ (m : Mark). Nests (depth c.args.self.now) (mark_of m ∷ marks_of c.args.after.now)) c.in-Close.is c.requires.nests
 
 pub comma-requires : goal.comma-requires
 comma-requires c = (nests_comma _ _ (comma_here (goal.at.comma-requires c).In-Comma)).0
@@ -21,11 +21,11 @@ pub close-requires : goal.close-requires
 close-requires c = (nests_close _ _ (close_here (goal.at.close-requires c).In-Close)).0
 
 pub unreachable-requires : goal.unreachable-requires
-unreachable-requires c = nests_bad _ _ _ (subst (λ (m : Mark). Nests (depth c.args.self.now) (mark m ∷ marks_of c.args.after.now)) c.in-Bad.is c.requires.nests)
+unreachable-requires c = nests_bad _ _ _ (subst (λ (m : Mark). Nests (depth c.args.self.now) (mark_of m ∷ marks_of c.args.after.now)) c.in-Bad.is c.requires.nests)
 
 pub returns-in_ok-open-in-Open-clause-nests : goal.returns-in_ok-open-in-Open-clause-nests
 returns-in_ok-open-in-Open-clause-nests c =
-    let h = nests_open _ _ (subst (λ (m : Mark). Nests (depth c.args.self.now) (mark m ∷ marks_of c.args.after.now)) c.in-Open.is c.requires.nests) in
+    let h = nests_open _ _ (subst (λ (m : Mark). Nests (depth c.args.self.now) (mark_of m ∷ marks_of c.args.after.now)) c.in-Open.is c.requires.nests) in
     let e : suc (depth c.args.self.now) ≡ depth c.open.new.self = omega (arith, c.in_ok-open-in-Open.ensures.groups) in
     subst (λ n. Nests n (marks_of c.args.after.now)) e h
 
