@@ -1,5 +1,6 @@
 //! Tokens: what a glob's marks are read as.
 
+pub mod copy;
 mod piece;
 pub mod reader;
 mod star;
