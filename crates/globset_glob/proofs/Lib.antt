@@ -5,3 +5,10 @@ pub mod Nests
 pub mod Plugs
 pub mod Held
 pub mod Closers
+pub mod Truth
+pub mod Cuts
+pub mod Steps
+pub mod Passes
+pub mod Rules
+pub mod Groups
+pub mod Heads

@@ -15,3 +15,5 @@ pub mod Cost
 pub mod Weight
 pub mod Views
 pub mod Building
+pub mod Rows
+pub mod Rules

@@ -5,6 +5,7 @@ mod class;
 mod fault;
 mod options;
 mod path;
+mod row;
 mod text;
 mod token;
 mod visits;
