@@ -1,7 +1,7 @@
 -- Rows one after another.
-use Rattle.std.proofs.Common.{◌≡◌, ℕ, zero, suc, ◌<◌, ◌≤◌, Bool, true, false, true≢false, ◌&&◌, List, [], ◌∷◌, ◌++◌, length, take, slice_index_or, IsTrue, refl, ap, sym, ◌∙◌, arith}
+use Rattle.std.proofs.Common.{◌≡◌, ℕ, zero, suc, ◌+◌, ◌<◌, ◌≤◌, Bool, true, false, true≢false, ◌&&◌, List, [], ◌∷◌, ◌++◌, length, take, set, replicate, slice_index_or, get_or-set_same, get_or-set_other, IsTrue, refl, ap, sym, ◌∙◌, arith}
 use Rattle.std.specs.Prelude.{◌↔◌}
-use Rattle.std.proofs.lemmas.List.{append-nil, append_assoc, length-take-le, length-take, length-append, take_at, take-take, take_all}
+use Rattle.std.proofs.lemmas.List.{append-nil, append_assoc, length-take-le, length-take, length-append, take_at, take-take, take_all, length-replicate}
 use Rattle.globset_glob.specs.Takes.{some_cut, is_empty}
 use Rattle.globset_glob.specs.Rows.{Leads, IsNext}
 use Rattle.globset_glob.proofs.Truth.{and_both, and_first, and_second, same_truth}
@@ -80,7 +80,7 @@ pub goes_start : (b : List ℕ) (row : List Bool) (Q : List ℕ → Bool) → Go
 goes_start b row Q k h = (λ l. l, λ l. l)
 
 -- from the first place alone, the whole path is led over by what takes it all
-pub leads_whole : (b : List ℕ) (row : List Bool) (Q : List ℕ → Bool) → slice_index_or row 0 false ≡ true → ((k : ℕ) → 0 < k → slice_index_or row k false ≡ false)
+leads_whole : (b : List ℕ) (row : List Bool) (Q : List ℕ → Bool) → slice_index_or row 0 false ≡ true → ((k : ℕ) → 0 < k → slice_index_or row k false ≡ false)
     → Leads b row Q (length b) ↔ IsTrue (Q b)
 leads_whole b row Q first others =
     let whole : take (length b) b ≡ b = take_all (length b) b (omega arith) in
@@ -90,10 +90,17 @@ leads_whole b row Q first others =
     by_front [] y cut at q = rw cut q
     by_front (c ∷ cs) y cut at q = absurd (true≢false (sym at ∙ others (length (c ∷ cs)) (omega arith)))
 
--- so its last place tells whether the whole path is taken
-pub last_place : (b : List ℕ) (row new : List Bool) (Q : List ℕ → Bool) → slice_index_or row 0 false ≡ true → ((k : ℕ) → 0 < k → slice_index_or row k false ≡ false)
-    → IsNext b row Q new → slice_index_or new (length b) false ≡ Q b
-last_place b row new Q first others next =
+pub replicate_none : (n k : ℕ) → slice_index_or (replicate n false) k false ≡ false
+replicate_none zero k = refl
+replicate_none (suc n) zero = refl
+replicate_none (suc n) (suc k) = replicate_none n k
+
+-- so the last place of the row that comes from it tells whether the whole path is taken
+pub last_place : (b : List ℕ) (row new : List Bool) (Q : List ℕ → Bool) → row ≡ set (replicate (length b + 1) false) 0 true → IsNext b row Q new → slice_index_or new (length b) false ≡ Q b
+last_place b row new Q start next =
+    let some : 0 < length (replicate (length b + 1) false) = rw length-replicate (omega arith) in
+    let first : slice_index_or row 0 false ≡ true = rw start (rw get_or-set_same refl) in
+    let others : (k : ℕ) → 0 < k → slice_index_or row k false ≡ false = λ k h. let ne : k ≡ 0 → ⊥ = λ e. omega arith in rw start (rw get_or-set_other (replicate_none (length b + 1) k)) in
     let at = next (length b) (omega arith) in
     let whole = leads_whole b row Q first others in
     same_truth (slice_index_or new (length b) false) (Q b) (λ h. whole.0 (at.0 h), λ h. at.1 (whole.1 h))

@@ -15,7 +15,7 @@ has_byte Nothing c = false
 has_byte Everything c = true
 has_byte (Only b) c = c == b
 has_byte (AllBut b) c = not (c == b)
-has_byte (Folded b) c = to_ascii_lowercase c == to_ascii_lowercase b
+has_byte (Folded b) c = to_ascii_lowercase c == b
 has_byte (Class class o) c = class_has o class.now.negated class.now.ranges c
 
 -- its first byte and the bytes after it are in the rule's sets

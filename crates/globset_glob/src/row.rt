@@ -1,6 +1,6 @@
 //! Rows: the places of a path that tokens lead to.
 
-ghost use Rattle.std.specs.Prelude.{◌≡◌, ℕ, ◌+◌, ◌<◌, ◌≤◌, ◌&&◌, ◌||◌, List, Bool, length, slice_index_or, set, IfOk, false};
+ghost use Rattle.std.specs.Prelude.{◌≡◌, ℕ, ◌+◌, ◌<◌, ◌≤◌, ◌&&◌, ◌||◌, List, Bool, length, slice_index_or, set, replicate, IfOk, false};
 ghost use Rattle.globset_glob.specs.Rows.{IsNext};
 ghost use Rattle.globset_glob.specs.Rules.{allows, has_byte};
 
@@ -25,18 +25,19 @@ impl Model for Row {
 }
 
 impl Row {
-    /// A row of the path that holds its first place, or no place at all.
-    fn new(alloc: Global, path: &[u8], first: bool) -> Result<Row, AllocError>
-        ensures len { IfOk result (λ new. length new ≡ length path.now + 1) }
-        ensures first { IfOk result (λ new. slice_index_or new 0 false ≡ first) }
-        ensures others { IfOk result (λ new. (k : ℕ) → 0 < k → slice_index_or new k false ≡ false) }
+    /// A row of the path with no place reached.
+    fn new(alloc: Global, path: &[u8]) -> Result<Row, AllocError>
+        ensures { IfOk result (λ new. new ≡ replicate (length path.now + 1) false) }
     {
-        let mut reached = Vec::with_capacity(alloc, path.len() + 1)?;
-        reached.push(first)?;
-        for _byte in path {
-            reached.push(false)?;
-        }
+        let reached = vec![in alloc; false; path.len() + 1]?;
         Ok(Row { reached })
+    }
+
+    /// How many places the row has.
+    fn len(&self) -> usize
+        ensures { result ≡ length self.now }
+    {
+        self.reached.len()
     }
 
     /// Whether a place is reached: one visit. Rows are read in no other way.
@@ -49,34 +50,27 @@ impl Row {
         self.reached[place]
     }
 
-    /// Writes whether a place is reached.
-    fn write(&mut self, place: usize, reached: bool)
+    /// Sets whether a place is reached.
+    fn set(&mut self, place: usize, reached: bool)
         requires { place < length self.old }
         ensures { self.new ≡ set self.old place reached }
     {
         self.reached[place] = reached;
     }
 
-    /// How many places the row has.
-    fn len(&self) -> usize
-        ensures { result ≡ length self.now }
-    {
-        self.reached.len()
-    }
-
-    /// Becomes equal to another row of the path. Each place of the other is read.
-    fn become_copy(&mut self, other: &Row, visits: &mut Visits)
+    /// Makes the row equal to another row of the path, each place of which is read.
+    fn copy_from(&mut self, other: &Row, visits: &mut Visits)
         requires { length self.old ≡ length other.now }
         ensures same { self.new ≡ other.now }
         ensures visits { visits.new ≤ visits.old + length other.now }
     {
         for place in 0..other.len() {
             let reached = other.is_reached(place, visits);
-            self.write(place, reached);
+            self.set(place, reached);
         }
     }
 
-    /// Holds the places of another row of the path too. Each place of the other is read.
+    /// Adds the places of another row of the path, each of which is read.
     fn join(&mut self, other: &Row, visits: &mut Visits)
         requires { length self.old ≡ length other.now }
         ensures len { length self.new ≡ length other.now }
@@ -85,7 +79,7 @@ impl Row {
     {
         for place in 0..other.len() {
             if other.is_reached(place, visits) {
-                self.write(place, true);
+                self.set(place, true);
             }
         }
     }
@@ -122,10 +116,10 @@ fn pass(rule: &Rule<'_>, path: &[u8], row: &mut Row, visits: &mut Visits)
 {
     let mut here = row.is_reached(0, visits);
     let mut going = false;
-    row.write(0, stays(rule, here));
+    row.set(0, stays(rule, here));
     for (i, byte) in path.iter().enumerate() {
         going = goes_on(rule, here, going, *byte);
         here = row.is_reached(i + 1, visits);
-        row.write(i + 1, ends(rule, here, going, *byte));
+        row.set(i + 1, ends(rule, here, going, *byte));
     }
 }

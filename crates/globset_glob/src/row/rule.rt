@@ -20,7 +20,7 @@ pub enum Bytes<'a> {
     Only(u8),
     /// Every byte but one.
     AllBut(u8),
-    /// A byte in both cases, if it is an ASCII letter.
+    /// One byte, given in lower case, and its upper case.
     Folded(u8),
     /// The bytes that a class has under these options.
     Class(&'a Class, Options),
@@ -36,7 +36,7 @@ impl<'a> Bytes<'a> {
             Bytes::Everything => true,
             Bytes::Only(b) => byte == b,
             Bytes::AllBut(b) => byte != b,
-            Bytes::Folded(b) => byte.to_ascii_lowercase() == b.to_ascii_lowercase(),
+            Bytes::Folded(b) => byte.to_ascii_lowercase() == b,
             Bytes::Class(class, options) => class.has(options, byte),
         }
     }
@@ -84,7 +84,7 @@ pub fn literal_byte(options: Options, byte: u8) -> Rule<'static>
     ensures { (y : List ℕ) → allows result y ≡ spells options (byte ∷ []) y }
 {
     if options.case_insensitive {
-        one_byte(Bytes::Folded(byte))
+        one_byte(Bytes::Folded(byte.to_ascii_lowercase()))
     } else {
         one_byte(Bytes::Only(byte))
     }

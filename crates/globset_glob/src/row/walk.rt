@@ -32,8 +32,9 @@ pub fn is_match(
     if is_prefix_alone(tokens, visits) {
         return Ok(true);
     }
-    let mut row = Row::new(alloc, path, true)?;
-    take_all(alloc, options, tokens, path, &mut row, visits)?;
+    let mut row = Row::new(alloc, path)?;
+    row.set(0, true);
+    walk_tokens(alloc, options, tokens, path, &mut row, visits)?;
     Ok(row.is_reached(path.len(), visits))
 }
 
@@ -48,7 +49,7 @@ fn is_prefix_alone(tokens: &[Token], visits: &mut Visits) -> bool
 
 /// Turns the row into that after all of the tokens, one after another. Answers whether they are blank.
 #[cycle(walk)]
-fn take_all(
+fn walk_tokens(
     alloc: Global,
     options: Options,
     tokens: &[Token],
@@ -64,14 +65,14 @@ fn take_all(
 {
     let mut blank = true;
     for token in tokens {
-        blank &= take(alloc, options, token, path, row, visits)?;
+        blank &= walk_token(alloc, options, token, path, row, visits)?;
     }
     Ok(blank)
 }
 
 /// Turns the row into that after one token, which is read once. Answers whether it is blank.
 #[cycle(walk)]
-fn take(
+fn walk_token(
     alloc: Global,
     options: Options,
     token: &Token,
@@ -88,7 +89,7 @@ fn take(
     visits.tick();
     let rule = match token {
         Token::Literal(c) => {
-            take_literal(options, *c, path, row, visits);
+            walk_literal(options, *c, path, row, visits);
             return Ok(false);
         }
         Token::Any => rule::any(options),
@@ -98,7 +99,7 @@ fn take(
         Token::RecursiveZeroOrMore => rule::recursive_zero_or_more(),
         Token::Class(class) => rule::class(options, class),
         Token::Alternates(branches) => {
-            return take_some(alloc, options, branches, path, row, visits);
+            return walk_group(alloc, options, branches, path, row, visits);
         }
     };
     pass(&rule, path, row, visits);
@@ -106,7 +107,7 @@ fn take(
 }
 
 /// Turns the row into that after a literal, one byte after another.
-fn take_literal(options: Options, c: char, path: &[u8], row: &mut Row, visits: &mut Visits)
+fn walk_literal(options: Options, c: char, path: &[u8], row: &mut Row, visits: &mut Visits)
     requires { length row.old ≡ length path.now + 1 }
     ensures len { length row.new ≡ length path.now + 1 }
     ensures next { IsNext path.now row.old (takes options (Literal c)) row.new }
@@ -130,7 +131,7 @@ fn keeps_branch(options: Options, is_blank: bool) -> bool
 /// The kept branches start from the same row, and their last rows together are the group's. If none is kept, the group
 /// takes the empty text alone, so that the row stays.
 #[cycle(walk)]
-fn take_some(
+fn walk_group(
     alloc: Global,
     options: Options,
     branches: &[Vec<Token>],
@@ -144,13 +145,13 @@ fn take_some(
     ensures blank { IfOk result (λ blank. blank ≡ are_blank (branches_of branches.now)) }
     ensures visits { visits.new ≤ visits.old + (length path.now + 1) * branches_weight (branches_of branches.now) }
 {
-    let mut union = Row::new(alloc, path, false)?;
-    let mut last = Row::new(alloc, path, false)?;
+    let mut union = Row::new(alloc, path)?;
+    let mut last = Row::new(alloc, path)?;
     let mut kept = false;
     let mut blank = true;
     for branch in branches {
-        last.become_copy(row, visits);
-        let is_blank = take_all(alloc, options, branch, path, &mut last, visits)?;
+        last.copy_from(row, visits);
+        let is_blank = walk_tokens(alloc, options, branch, path, &mut last, visits)?;
         if keeps_branch(options, is_blank) {
             union.join(&last, visits);
             kept = true;

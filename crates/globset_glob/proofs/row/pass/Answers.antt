@@ -11,8 +11,8 @@ loop-i-init c = record {
   written = λ k h.
       let is : k ≡ 0 = omega arith in
       let some : 0 < length c.args.row.now = omega arith in
-      rw (is, c.write.ensures) (rw get_or-set_same (let s = c.stays.ensures in let t = c.is_reached-here.ensures.value in cc));
-  left = λ k h. let ne : k ≡ 0 → ⊥ = λ e. omega arith in rw c.write.ensures (rw get_or-set_other);
+      rw (is, c.set.ensures) (rw get_or-set_same (let s = c.stays.ensures in let t = c.is_reached-here.ensures.value in cc));
+  left = λ k h. let ne : k ≡ 0 → ⊥ = λ e. omega arith in rw c.set.ensures (rw get_or-set_other);
   visits = search rules;
 }
 
@@ -36,8 +36,8 @@ loop-i-preserved c =
       len = search rules;
       here = here;
       going = going';
-      written = λ k h. rw c.write-in-loop-i.ensures (written_more row c.ends.result (is_passed rule path old) i fits inv.written reached k h);
-      left = λ k h. rw c.write-in-loop-i.ensures (left_more row old c.ends.result i inv.left k h);
+      written = λ k h. rw c.set-in-loop-i.ensures (written_more row c.ends.result (is_passed rule path old) i fits inv.written reached k h);
+      left = λ k h. rw c.set-in-loop-i.ensures (left_more row old c.ends.result i inv.left k h);
       visits = search rules;
     }
 

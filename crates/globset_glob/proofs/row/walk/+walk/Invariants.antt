@@ -9,16 +9,16 @@ use Rattle.globset_glob.proofs.Steps.{Goes}
 use Rattle.globset_glob.proofs.Groups.{IsUnited}
 use Rattle.globset_glob.proofs.row.walk.+walk.Given as goal
 
-abbrev pub invariant-take_all-loop-token : goal.invariant-take_all-loop-token
-invariant-take_all-loop-token l = record {
+abbrev pub invariant-walk_tokens-loop-token : goal.invariant-walk_tokens-loop-token
+invariant-walk_tokens-loop-token l = record {
   len : length l.row ≡ length l.path + 1;
   goes : Goes l.path l.fn.row (takes_all l.options (tokens_of l.tokens)) l.row (takes_all l.options (tokens_of (drop l.token-index l.tokens)));
   blank : (l.blank && is_blank (tokens_of (drop l.token-index l.tokens))) ≡ is_blank (tokens_of l.tokens);
   visits : l.visits + (length l.path + 1) * weight (tokens_of (drop l.token-index l.tokens)) ≤ l.fn.visits + (length l.path + 1) * weight (tokens_of l.tokens);
 }
 
-abbrev pub invariant-take_some-loop-branch : goal.invariant-take_some-loop-branch
-invariant-take_some-loop-branch l = record {
+abbrev pub invariant-walk_group-loop-branch : goal.invariant-walk_group-loop-branch
+invariant-walk_group-loop-branch l = record {
   union_len : length l.union ≡ length l.path + 1;
   last_len : length l.last ≡ length l.path + 1;
   united : (k : ℕ) → k ≤ length l.path → IsUnited l.options l.path l.fn.row l.union (branches_of (drop l.branch-index l.branches)) k ↔ Leads l.path l.fn.row (some_takes l.options (branches_of l.branches)) k;
@@ -29,11 +29,11 @@ invariant-take_some-loop-branch l = record {
 
 -- ---- measures: a call goes to a smaller tree, or to another function on one of the same size
 
-abbrev pub decreases-take : goal.decreases-take
-decreases-take l = 3 * goal.size-take l
+abbrev pub decreases-walk_token : goal.decreases-walk_token
+decreases-walk_token l = 3 * goal.size-walk_token l
 
-abbrev pub decreases-take_all : goal.decreases-take_all
-decreases-take_all l = 3 * goal.size-take_all l + 1
+abbrev pub decreases-walk_tokens : goal.decreases-walk_tokens
+decreases-walk_tokens l = 3 * goal.size-walk_tokens l + 1
 
-abbrev pub decreases-take_some : goal.decreases-take_some
-decreases-take_some l = 3 * goal.size-take_some l + 2
+abbrev pub decreases-walk_group : goal.decreases-walk_group
+decreases-walk_group l = 3 * goal.size-walk_group l + 2

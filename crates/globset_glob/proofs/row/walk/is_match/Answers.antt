@@ -1,4 +1,4 @@
-use Rattle.std.proofs.Common.{◌≡◌, false, sym, ◌∙◌}
+use Rattle.std.proofs.Common.{◌≡◌, false, true, set, sym, ap, ◌∙◌}
 use Rattle.globset_glob.specs.Takes.{takes_all}
 use Rattle.globset_glob.specs.Means.{is_prefix_alone}
 use Rattle.globset_glob.specs.Views.{tokens_of}
@@ -11,4 +11,4 @@ returns-clause-value c =
     let more : is_prefix_alone tokens ≡ false = sym c.is_prefix_alone.ensures.value ∙ c.if-is_prefix_alone.false in
     rw more
     (c.is_reached.ensures.value
-    ∙ last_place c.args.path.now c.in_ok-row.row c.take_all.new.row (takes_all c.args.options tokens) c.in_ok-row.ensures.first c.in_ok-row.ensures.others c.in_ok-take_all.ensures.next)
+    ∙ last_place c.args.path.now c.set.new.self c.walk_tokens.new.row (takes_all c.args.options tokens) (c.set.ensures ∙ ap (λ row. set row 0 true) c.in_ok-row.ensures) c.in_ok-walk_tokens.ensures.next)

@@ -1,5 +1,5 @@
 use Rattle.std.proofs.Common.{◌≡◌, ℕ, ◌+◌, ◌<◌, false, length, slice_index_or}
-use Rattle.globset_glob.proofs.row.Row.become_copy.Given as goal
+use Rattle.globset_glob.proofs.row.Row.copy_from.Given as goal
 
 abbrev pub invariant-loop-place : goal.invariant-loop-place
 invariant-loop-place l = record {

@@ -1,6 +1,6 @@
 use Rattle.std.proofs.Common.{false, arith}
 use Rattle.std.proofs.lemmas.List.{ext_get_or}
-use Rattle.globset_glob.proofs.row.Row.become_copy.Goals as goal
+use Rattle.globset_glob.proofs.row.Row.copy_from.Goals as goal
 
 pub returns-clause-same : goal.returns-clause-same
 returns-clause-same c =

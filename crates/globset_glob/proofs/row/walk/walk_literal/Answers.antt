@@ -6,7 +6,7 @@ use Rattle.globset_glob.specs.Takes.{takes, is_empty}
 use Rattle.globset_glob.specs.Rules.{spells, allows}
 use Rattle.globset_glob.proofs.Steps.{both, goes_on, goes_all, next_same}
 use Rattle.globset_glob.proofs.Rules.{spells_by_rule, spells_none}
-use Rattle.globset_glob.proofs.row.walk.take_literal.Goals as goal
+use Rattle.globset_glob.proofs.row.walk.walk_literal.Goals as goal
 
 pub loop-byte-preserved : goal.loop-byte-preserved
 loop-byte-preserved c =

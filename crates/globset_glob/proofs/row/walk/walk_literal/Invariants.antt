@@ -1,7 +1,7 @@
 use Rattle.std.proofs.Common.{◌≡◌, ◌+◌, ◌*◌, ◌≤◌, drop, length}
 use Rattle.globset_glob.specs.Rules.{spells}
 use Rattle.globset_glob.proofs.Steps.{Goes}
-use Rattle.globset_glob.proofs.row.walk.take_literal.Given as goal
+use Rattle.globset_glob.proofs.row.walk.walk_literal.Given as goal
 
 abbrev pub invariant-loop-byte : goal.invariant-loop-byte
 invariant-loop-byte l = record {
