@@ -8,3 +8,10 @@ pub mod Closers
 pub mod GlobLemmas
 pub mod ClassLemmas
 pub mod Weights
+pub mod Truth
+pub mod Cuts
+pub mod Steps
+pub mod Passes
+pub mod Rules
+pub mod Groups
+pub mod Heads

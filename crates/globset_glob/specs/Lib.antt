@@ -17,3 +17,5 @@ pub mod Weight
 pub mod Errors
 pub mod Views
 pub mod Building
+pub mod Rows
+pub mod Rules
