@@ -1,0 +1,13 @@
+use Rattle.std.proofs.lemmas.Result.{MatchResult-weaker}
+use Rattle.globsift.proofs.MoveLemmas.{rest_empty, rest_filled, rest_put, rest_halts}
+use Rattle.globsift.proofs.sifting.Output.put_rest.Goals as goal
+
+pub returns-then-is_empty : goal.returns-then-is_empty
+returns-then-is_empty g c = rest_empty _ c.args.rest.now _ _ _ _ c.is_empty.ensures c.if-is_empty.true
+
+pub returns : goal.returns
+returns g c =
+    let p = rest_filled c.args.matcher.now c.args.rest.now _ c.requires c.is_empty.ensures c.if-is_empty.false in
+    MatchResult-weaker c.put_line.result c.put_line.ensures
+    (λ u m. rest_put _ c.args.rest.now _ _ _ _ _ _ p m)
+    (λ f m. rest_halts _ c.args.rest.now _ _ _ f p.0 m)

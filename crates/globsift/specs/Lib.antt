@@ -1,0 +1,5 @@
+pub mod Lines
+pub mod Output
+pub mod Moves
+pub mod Command
+pub mod Texts

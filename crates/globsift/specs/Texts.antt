@@ -1,0 +1,23 @@
+-- Texts of faults.
+use Rattle.std.specs.Prelude.{ℕ, List, ◌++◌, codes}
+use Rattle.globset.specs.Errors.{error_text}
+use Rattle.globsift.specs.Command.{fault_value, FaultValue, unknown_option, no_glob, one_glob, glob_error}
+use Rattle.globsift.specs.declared.fault.Fault.{Fault}
+use Rattle.globsift.specs.declared.fault.Fault.TheVariants.{Command, Sift}
+use Rattle.globsift.specs.declared.fault.SiftFault.{SiftFault}
+use Rattle.globsift.specs.declared.fault.SiftFault.TheVariants.{Read, Write, OutOfMemory}
+
+abbrev pub sift_fault_text : SiftFault → List ℕ
+sift_fault_text Read = codes "reading failed"
+sift_fault_text Write = codes "writing failed"
+sift_fault_text OutOfMemory = codes "out of memory"
+
+abbrev pub command_fault_text : FaultValue → List ℕ
+command_fault_text (unknown_option word) = codes "unknown option '" ++ word ++ codes "'"
+command_fault_text no_glob = codes "no glob given"
+command_fault_text one_glob = codes "one glob only"
+command_fault_text (glob_error error) = error_text error
+
+abbrev pub fault_text : Fault → List ℕ
+fault_text (Command fault) = command_fault_text (fault_value fault)
+fault_text (Sift fault) = sift_fault_text fault
