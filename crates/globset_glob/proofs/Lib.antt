@@ -5,3 +5,11 @@ pub mod Nests
 pub mod Plugs
 pub mod Held
 pub mod Closers
+mod OnLiterals
+mod RowWords
+mod StarRows
+mod ClassRows
+mod FaultRows
+mod ClassByteRows
+mod MeaningRows
+mod MeaningMoreRows
