@@ -212,6 +212,14 @@ plain_bracket_then_special : reading unclosed (codes "[z-a*?") ≡ Ok (tokens (l
 unfolding glob_on_literals
 plain_bracket_then_special = refl
 
+range_downwards_without_bracket : reading DEFAULT (codes "[z-a") ≡ Err (InvalidRange (char_of "z") (char_of "a"))
+unfolding glob_on_literals
+range_downwards_without_bracket = refl
+
+plain_bracket_then_hyphen : reading unclosed (codes "[z-a") ≡ Ok (tokens (literals "[z-a"))
+unfolding glob_on_literals
+plain_bracket_then_hyphen = refl
+
 backslash_between_letters_as_plain : reading unescaped (codes "a\\b") ≡ Ok (tokens (literals "a\\b"))
 unfolding glob_on_literals
 backslash_between_letters_as_plain = refl

@@ -1,6 +1,7 @@
 -- The words in which rows of examples are written.
 use Rattle.std.specs.Prelude.{ℕ, zero, suc, ◌+◌, ◌-◌, Bool, true, false, ◌&&◌, not, List, [], ◌∷◌, map, get_or, filter, is_ok, codes, encode_utf8_all, Result, Ok, Err}
 use Rattle.std.specs.List.{list_all}
+use Rattle.std.specs.Str.{chars}
 use Prim.Native.String.{String}
 use Rattle.globset_glob.specs.declared.options.Options.{Options}
 use Rattle.globset_glob.specs.declared.options.TheConstants.Options.{DEFAULT}
@@ -40,20 +41,23 @@ tokens ts = before ts end
 abbrev pub literals : String → List Token
 literals text = map Literal (codes text)
 
+-- a group, by its branches
 abbrev pub group : List (List Token) → Token
 group branches = Group (ahead (map tokens branches) none)
 
--- the ranges whose ends are each two characters of the text
+-- pairs of each two numbers in a row
 abbrev pub paired : List ℕ → List (ℕ × ℕ)
 paired [] = []
 paired (x ∷ []) = []
 paired (x ∷ y ∷ cs) = (x, y) ∷ paired cs
 
+-- the ranges whose ends are each two characters of the text
 abbrev pub spans : String → List (ℕ × ℕ)
 spans text = paired (codes text)
 
 -- ---- bytes of a class
 
+-- so many numbers in a row
 abbrev pub counted : ℕ → ℕ → List ℕ
 counted first zero = []
 counted first (suc n) = first ∷ counted (first + 1) n
@@ -62,6 +66,7 @@ counted first (suc n) = first ∷ counted (first + 1) n
 abbrev pub from_to : ℕ → ℕ → List ℕ
 from_to low high = counted low (high + 1 - low)
 
+-- what the class has that is the only token, ascending
 abbrev pub bytes_of_tokens : Options → Tokens → List ℕ
 bytes_of_tokens o (and_then (Class negated rs) end) = filter (class_has o negated rs) (from_to 0 255)
 bytes_of_tokens o _ = []
@@ -70,7 +75,7 @@ abbrev pub bytes_of_result : {E : Type 0} → Options → Result Tokens E → Li
 bytes_of_result o (Ok ts) = bytes_of_tokens o ts
 bytes_of_result o (Err f) = []
 
--- of the glob that is one class: the bytes that the class has, ascending
+-- the bytes of the class that is the whole glob, ascending
 abbrev pub bytes_had : Options → String → List ℕ
 bytes_had o glob = bytes_of_result o (reading o (codes glob))
 
@@ -85,7 +90,7 @@ glob_of o glob = record { text = utf8 glob; options = o }
 
 -- the text has a reading
 abbrev pub is_glob : Options → String → Bool
-is_glob o glob = is_ok (reading o (codes glob))
+is_glob o glob = is_ok (reading o (chars (utf8 glob)))
 
 -- it is a glob, and means these bytes; it is one, and does not
 abbrev pub takes_bytes : Options → String → List ℕ → Bool
