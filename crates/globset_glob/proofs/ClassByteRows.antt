@@ -58,6 +58,10 @@ bytes_of_both_ends : bytes_had DEFAULT "[☃-😀]" ≡ 0x80 ∷ from_to 0x83 0x
 unfolding glob_on_literals
 bytes_of_both_ends = refl
 
+inner_byte_below_the_range : bytes_had DEFAULT "[‿-☃]" ≡ 0x80 ∷ 0x83 ∷ 0x98 ∷ from_to 0xBF 0xE2
+unfolding glob_on_literals
+inner_byte_below_the_range = refl
+
 range_between_letters : bytes_had insensitive "[x-z]" ≡ from_to 0x58 0x5A ++ from_to 0x78 0x7A
 unfolding glob_on_literals
 range_between_letters = refl
