@@ -1,8 +1,10 @@
--- More examples of what a glob means: groups, single bytes, case, slashes and the recursive tokens. Each row computes.
+-- More examples of what a glob means: groups, single bytes, case, slashes and the recursive tokens; and of the bound on visits.
+-- Each row computes.
 use Rattle.std.specs.Prelude.{◌≡◌, [], ◌∷◌, true, refl}
 use Rattle.globset_glob.specs.declared.options.TheConstants.Options.{DEFAULT}
+use Rattle.globset_glob.specs.Cost.{most_visits}
 use Rattle.globset_glob.proofs.OnLiterals.{glob_on_literals}
-use Rattle.globset_glob.proofs.RowWords.{insensitive, separated, blank_kept, takes_bytes, leaves_bytes, takes_each, leaves_each}
+use Rattle.globset_glob.proofs.RowWords.{insensitive, separated, blank_kept, utf8, glob_of, takes_bytes, leaves_bytes, takes_each, leaves_each}
 
 -- ---- the last component may be `..`
 
@@ -555,3 +557,17 @@ one_component_of_a_folder = refl
 one_component_of_a_folder_not : leaves_each separated "src/*" ("src/nested/module.pyc" ∷ []) ≡ true
 unfolding glob_on_literals
 one_component_of_a_folder_not = refl
+
+-- ---- the bound on visits: four for each byte of the glob, and four, at each place of the path
+
+visits_of_eight_stars : most_visits (glob_of DEFAULT "a*a*a*a*a*a*a*a*a") (utf8 "aaaaaaaaa") ≡ 720
+unfolding glob_on_literals
+visits_of_eight_stars = refl
+
+visits_count_bytes : most_visits (glob_of DEFAULT "é") (utf8 "☃") ≡ 48
+unfolding glob_on_literals
+visits_count_bytes = refl
+
+visits_of_empty_texts : most_visits (glob_of DEFAULT "") (utf8 "") ≡ 4
+unfolding glob_on_literals
+visits_of_empty_texts = refl
