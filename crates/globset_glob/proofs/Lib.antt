@@ -15,3 +15,11 @@ pub mod Passes
 pub mod Rules
 pub mod Groups
 pub mod Heads
+mod OnLiterals
+mod RowWords
+mod StarRows
+mod ClassRows
+mod FaultRows
+mod ClassByteRows
+mod MeaningRows
+mod MeaningMoreRows
