@@ -6,7 +6,7 @@ use Rattle.std.specs.declared.vec.Vec.{Vec}
 use Rattle.globset_glob.specs.declared.token.Token as held
 use Rattle.globset_glob.specs.Token.{and_then, end, branch, none}
 use Rattle.globset_glob.specs.Means.{is_prefix_alone}
-use Rattle.globset_glob.specs.Views.{token, tokens_of, branches_of}
+use Rattle.globset_glob.specs.Views.{token_of, tokens_of, branches_of}
 
 pub more_than_one : (ts : List held.Token) → 2 ≤ length ts → false ≡ is_prefix_alone (tokens_of ts)
 more_than_one [] h = absurd (omega arith)
@@ -14,7 +14,7 @@ more_than_one (t ∷ []) h = absurd (omega arith)
 more_than_one (t ∷ u ∷ us) h = refl
 
 -- the token at i stands before the others
-pub tokens_here : (ts : List held.Token) (i : ℕ) (t : held.Token) → i < length ts → t ≡ get_or ts i t → tokens_of (drop i ts) ≡ and_then (token t) (tokens_of (drop (i + 1) ts))
+pub tokens_here : (ts : List held.Token) (i : ℕ) (t : held.Token) → i < length ts → t ≡ get_or ts i t → tokens_of (drop i ts) ≡ and_then (token_of t) (tokens_of (drop (i + 1) ts))
 tokens_here ts i t lt is = ap tokens_of (drop_more ts i t lt ∙ ap (λ u. u ∷ drop (i + 1) ts) (sym is))
 
 -- and so does the branch at i

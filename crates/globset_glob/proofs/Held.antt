@@ -9,7 +9,7 @@ use Rattle.globset_glob.specs.Token.{before, ahead, Token, Tokens, none, end}
 use Rattle.globset_glob.specs.Token as spec
 use Rattle.globset_glob.specs.Marks.{Mark, Open, Comma, Close}
 use Rattle.globset_glob.specs.Reading.{in_level, levels, whole, is_whole_run}
-use Rattle.globset_glob.specs.Views.{token, token_list, tokens_of, branch_list, marks_of, Adds}
+use Rattle.globset_glob.specs.Views.{token_of, token_list, tokens_of, branch_list, marks_of, Adds}
 use Rattle.globset_glob.specs.Settled.{Nests, is_inner}
 use Rattle.globset_glob.specs.declared.text.mark.Mark as held_mark
 use Rattle.globset_glob.specs.Stars.{piece}
@@ -49,7 +49,7 @@ close_law gs hs g v vs branch branch' start e p n b ms =
     let q = branch_pushed g.branches.items vs.items v branch p n in
     let h = framed gs hs g (frame g) e refl in
     let t : token_list branch' ≡ token_list g.before.items ++ spec.Group (ahead (branch_list g.branches.items ++ before (token_list branch) end ∷ []) none) ∷ [] =
-    ap token_list b ∙ map_push token g.before.items (held.TheVariants.Alternates vs)
+    ap token_list b ∙ map_push token_of g.before.items (held.TheVariants.Alternates vs)
     ∙ ap (λ (x : Token). token_list g.before.items ++ x ∷ []) (group_is vs ∙ ap (λ (l : List Tokens). spec.Group (ahead l none)) q) in
     ap (λ (ts : List Token). in_frames (frames hs) (in_level ts (levels zero false ms))) t
     ∙ close_step (frames hs) (token_list branch) start ms _ (token_list g.before.items) (branch_list g.branches.items) refl

@@ -27,6 +27,7 @@ abbrev mutual
 abbrev pub is_kept : Options → Tokens → Bool
 is_kept o ts = o.empty_alternates || not (is_blank ts)
 
+-- some branch is kept
 abbrev pub any_kept : Options → Branches → Bool
 any_kept o none = false
 any_kept o (branch ts bs) = is_kept o ts || any_kept o bs

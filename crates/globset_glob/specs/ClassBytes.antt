@@ -1,8 +1,10 @@
 -- The bytes that a character class has.
 --
--- Classes take single bytes. A range with equal ends has the bytes of its character in UTF-8. Any other range has all
+-- Classes take single bytes, each a number from 0 to 255. A range with equal ends has the bytes of its character in
+-- UTF-8. Any other range has all
 -- bytes of its first character but the last, the bytes from that last one up to the first byte of its second character,
--- and the other bytes of that. So `[a-z]` has the letters, and `[é-ü]` has C3, the bytes from A9 to C3, and BC.
+-- and the other bytes of that. So `[a-z]` has the small ASCII letters, and `[é-ü]` has C3, the bytes from A9 to C3, and
+-- BC.
 use Rattle.std.specs.Prelude.{ℕ, Bool, true, false, not, ◌&&◌, ◌||◌, ◌==◌, nat_le, List, [], ◌∷◌, if◌then◌else◌, encode_utf8}
 use Rattle.std.specs.Char.{to_ascii_lowercase, to_ascii_uppercase}
 use Rattle.globset_glob.specs.declared.options.Options.{Options}
@@ -38,6 +40,6 @@ ranges_have (r ∷ rs) byte = range_has r byte || ranges_have rs byte
 abbrev pub folded_have : Options → List (ℕ × ℕ) → ℕ → Bool
 folded_have o rs byte = ranges_have rs byte || (o.case_insensitive && (ranges_have rs (to_ascii_lowercase byte) || ranges_have rs (to_ascii_uppercase byte)))
 
--- and then a negated class has all the other bytes
+-- and then a negated class has all the other bytes, `/` among them
 abbrev pub class_has : Options → Bool → List (ℕ × ℕ) → ℕ → Bool
 class_has o negated rs byte = if negated then not (folded_have o rs byte) else folded_have o rs byte

@@ -40,8 +40,8 @@ abbrev pub is_negated : List ℕ → Bool
 is_negated [] = false
 is_negated (c ∷ cs) = c == 33 || c == 94
 
--- How many members a class has whose first member is the first of these characters. That one is a member whatever it
--- is; the next `]` closes the class. None where no `]` does.
+-- How many characters the body of a class has that begins with the first of these. That one is a member whatever it is;
+-- the next `]` closes the class. None where no `]` does.
 abbrev pub members : List ℕ → Option ℕ
 members cs = elim (position is_closer (drop 1 cs)) [ None ↦ None | Some n ↦ Some (n + 1) ]
 
@@ -49,8 +49,9 @@ members cs = elim (position is_closer (drop 1 cs)) [ None ↦ None | Some n ↦ 
 abbrev pub class_mark : Bool → List ℕ → Mark
 class_mark negated body = elim (bad_range body) [ None ↦ Class negated (ranges body) | Some f ↦ Bad f ]
 
--- A `[` that no `]` closes, before this rest: a plain character where the option allows it. Where it does not, the
--- rest's first bad range comes before the want of a `]`.
+-- A `[` that no `]` closes, where `rest` is what follows it past a negation. With the option it is a plain character,
+-- by itself: what follows, the negation too, is cut as usual. Without it, it is a fault: the first bad range of the rest,
+-- read as a body, and else the want of a `]`.
 abbrev pub unclosed_mark : Options → List ℕ → Mark
 unclosed_mark o rest = elim o.allow_unclosed_class [ true ↦ Char false 91 | false ↦ elim (bad_range rest) [ None ↦ Bad UnclosedClass | Some f ↦ Bad f ] ]
 
@@ -71,7 +72,8 @@ escape_at (c ∷ cs) = (Char true c, 1)
 abbrev pub star_run : ℕ → Mark × ℕ
 star_run more = (Stars (suc more), more)
 
--- the mark that begins with `c`, after which stands `cs`
+-- The mark that begins with `c`, after which stands `cs`. Special are `?`, `*`, `[`, `{`, `}`, `,` and, with the option,
+-- `\`. Every other character is plain, `]` and `!` too.
 unfoldable pub mark_at : Options → ℕ → List ℕ → Mark × ℕ
 mark_at o c cs =
     if c == 63 then (One, 0)

@@ -34,14 +34,28 @@ means o ts path = is_prefix_alone ts || takes_all o ts path
 
 -- ---- of a glob
 
+-- the options that a glob has if none is set: `\` escapes, and the others are off
+abbrev pub default_options : Options
+default_options = record {
+  case_insensitive = false;
+  literal_separator = false;
+  backslash_escape = true;
+  empty_alternates = false;
+  allow_unclosed_class = false;
+}
+
+-- the glob of a text under the default options
+abbrev pub default_glob : List ℕ → GlobValue
+default_glob text = record { text = text; options = default_options }
+
 -- its text has a reading under its options. Every `Glob` has one.
 abbrev pub IsRead : GlobValue → Type 0
 IsRead g = IsOk (reading g.options (chars g.text))
 
--- its tokens. A text with a fault has none, but then it is no glob.
+-- Its tokens. A text with a fault has none, but then it is no glob.
 unfoldable pub tokens_of_glob : GlobValue → Tokens
 tokens_of_glob g = elim (reading g.options (chars g.text)) [ Ok ts ↦ ts | Err f ↦ end ]
 
--- it means the path
+-- It means the path. This is asked of a text that has a reading, as that of every `Glob` has.
 unfoldable pub glob_means : GlobValue → List ℕ → Bool
 glob_means g path = means g.options (tokens_of_glob g) path

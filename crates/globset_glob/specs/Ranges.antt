@@ -27,7 +27,8 @@ unfoldable pub ranges : List ℕ → List (ℕ × ℕ)
 ranges [] = []
 ranges (c ∷ rest) = chain c c rest
 
--- The first bad pair of what is left of a body inside a chain that begins with `first`: its character is below `first`.
+-- The first bad pair of what is left of a body inside a chain that begins with `first`: the pair's character is below
+-- `first`.
 abbrev mutual
   pub bad_chain : ℕ → List ℕ → Option Fault
   bad_chain first [] = None

@@ -15,6 +15,7 @@ use Rattle.globset_glob.specs.Stars.{is_run, piece}
 abbrev pub Levels : Type 0
 Levels = Branches × List Branches
 
+-- tokens, and then the first of these branches; a level of marks that nest has one
 abbrev pub in_branch : List Token → Branches → Branches
 in_branch front none = none
 in_branch front (branch ts bs) = branch (before front ts) bs
@@ -23,7 +24,8 @@ in_branch front (branch ts bs) = branch (before front ts) bs
 abbrev pub in_level : List Token → Levels → Levels
 in_level front levels = (in_branch front levels.0, levels.1)
 
--- a `{`, and then these levels: the innermost is a whole group, a token of the branch around it
+-- A `{`, and then these levels: the innermost is a whole group, a token of the branch around it. Where marks nest, there
+-- is one.
 abbrev pub open_level : Levels → Levels
 open_level (bs, []) = (bs, [])
 open_level (bs, outer ∷ more) = (in_branch (Group bs ∷ []) outer, more)
@@ -45,6 +47,7 @@ levels zero start (Comma ∷ ms) = next_branch (levels zero true ms)
 levels zero start (Close ∷ ms) = close_level (levels zero false ms)
 levels zero start (m ∷ ms) = let p = piece start m ms in in_level p.0 (levels p.1 false ms)
 
+-- the whole glob's branch
 abbrev pub first_branch : Branches → Tokens
 first_branch none = end
 first_branch (branch ts bs) = ts

@@ -1,4 +1,4 @@
--- What a token takes: which lists of bytes, a whole path or a piece of it.
+-- What a token takes: which lists of bytes, a whole path or a piece of it. A byte is a number from 0 to 255.
 use Rattle.std.specs.Prelude.{ℕ, Bool, true, false, not, ◌&&◌, ◌||◌, ◌==◌, List, [], ◌∷◌, map, if◌then◌else◌, encode_utf8}
 use Rattle.std.specs.Char.{to_ascii_lowercase}
 use Rattle.std.specs.List.{list_all}
@@ -40,7 +40,7 @@ ends_with_slash [] = false
 ends_with_slash (c ∷ []) = c == slash
 ends_with_slash (c ∷ d ∷ rest) = ends_with_slash (d ∷ rest)
 
--- it can be cut in two, either of which may be empty, so that `test` holds of the two parts
+-- it can be cut into two parts, either of which may be empty, so that `test` holds of them
 abbrev pub some_cut : (List ℕ → List ℕ → Bool) → List ℕ → Bool
 some_cut test [] = test [] []
 some_cut test (c ∷ cs) = test [] (c ∷ cs) || some_cut (λ front back. test (c ∷ front) back) cs
@@ -65,6 +65,7 @@ abbrev mutual
   takes o RecursiveSuffix b = begins_with_slash b
   -- one `/` is both its first and its last byte
   takes o RecursiveZeroOrMore b = begins_with_slash b && ends_with_slash b
+  -- `/` too, also under `literal_separator`
   takes o (Class negated rs) b = is_one_byte (class_has o negated rs) b
   -- what some kept branch takes; nothing but the empty text where none is kept
   takes o (Group bs) b = some_takes o bs b || (not (any_kept o bs) && is_empty b)

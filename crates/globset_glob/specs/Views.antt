@@ -28,15 +28,15 @@ marks_of ms = map mark_of ms
 -- ---- tokens
 
 abbrev mutual
-  pub token : tokens.Token → Token
-  token (tokens.Literal c) = Literal c
-  token tokens.Any = Any
-  token tokens.ZeroOrMore = ZeroOrMore
-  token tokens.RecursivePrefix = RecursivePrefix
-  token tokens.RecursiveSuffix = RecursiveSuffix
-  token tokens.RecursiveZeroOrMore = RecursiveZeroOrMore
-  token (tokens.Class class) = Class class.negated class.ranges
-  token (tokens.Alternates' shape rows) = Group (row_branches rows)
+  pub token_of : tokens.Token → Token
+  token_of (tokens.Literal c) = Literal c
+  token_of tokens.Any = Any
+  token_of tokens.ZeroOrMore = ZeroOrMore
+  token_of tokens.RecursivePrefix = RecursivePrefix
+  token_of tokens.RecursiveSuffix = RecursiveSuffix
+  token_of tokens.RecursiveZeroOrMore = RecursiveZeroOrMore
+  token_of (tokens.Class class) = Class class.negated class.ranges
+  token_of (tokens.Alternates' shape rows) = Group (row_branches rows)
 
   pub row_branches : {n : _} → tokens.Row_of-Token-Alternates-0-1 n → Branches
   row_branches tokens.end_of-Token-Alternates-0-1 = none
@@ -44,11 +44,11 @@ abbrev mutual
 
   pub row_tokens : {n : _} → tokens.Row_of-Token n → Tokens
   row_tokens tokens.end_of-Token = end
-  row_tokens (tokens.more_of-Token t row) = and_then (token t) (row_tokens row)
+  row_tokens (tokens.more_of-Token t row) = and_then (token_of t) (row_tokens row)
 
 -- the tokens of a branch, in a list
 abbrev pub token_list : List tokens.Token → List Token
-token_list ts = map token ts
+token_list ts = map token_of ts
 
 abbrev pub tokens_of : List tokens.Token → Tokens
 tokens_of ts = before (token_list ts) end

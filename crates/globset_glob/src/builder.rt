@@ -29,11 +29,11 @@ impl<'a> Model for GlobBuilder<'a> {
 }
 
 impl<'a> GlobBuilder<'a> {
-    ghost use Rattle.globset_glob.specs.Means.{IsRead};
+    ghost use Rattle.globset_glob.specs.Means.{IsRead, default_glob};
 
     /// The default options: `backslash_escape` is on, the others are off. It takes no memory.
     pub fn new(text: &'a str) -> GlobBuilder<'a>
-        ensures { result ≡ record { text = text.now; options = Options.DEFAULT } }
+        ensures { result ≡ default_glob text.now }
     {
         GlobBuilder {
             text,

@@ -42,24 +42,24 @@ impl Model for Glob {
 }
 
 impl Glob {
-    ghost use Rattle.globset_glob.specs.Means.{IsRead};
+    ghost use Rattle.globset_glob.specs.Means.{IsRead, default_glob, default_options};
 
     /// Reads a glob under the default options: `\` escapes, and the other options are off.
     ///
     /// A text that is no glob is refused with its first fault from the left, and the error holds the text.
     pub fn new(alloc: Global, glob: &str) -> Result<Glob, Error>
-        ensures ok { IfOk result (λ g. g ≡ record { text = glob.now; options = Options.DEFAULT }) }
+        ensures ok { IfOk result (λ g. g ≡ default_glob glob.now) }
         ensures read { IfOk result IsRead }
-        ensures err { IfErr result (IsRefusalOf Options.DEFAULT glob.now) }
+        ensures err { IfErr result (IsRefusalOf default_options glob.now) }
     {
         GlobBuilder::new(glob).build(alloc)
     }
 
     /// The same as [`Glob::new`].
     pub fn from_str(alloc: Global, glob: &str) -> Result<Glob, Error>
-        ensures ok { IfOk result (λ g. g ≡ record { text = glob.now; options = Options.DEFAULT }) }
+        ensures ok { IfOk result (λ g. g ≡ default_glob glob.now) }
         ensures read { IfOk result IsRead }
-        ensures err { IfErr result (IsRefusalOf Options.DEFAULT glob.now) }
+        ensures err { IfErr result (IsRefusalOf default_options glob.now) }
     {
         Glob::new(alloc, glob)
     }

@@ -1,7 +1,7 @@
 -- What the words of a command line ask for. Each word is a text in UTF-8.
 use Rattle.std.specs.Prelude.{ℕ, List, [], ◌∷◌, Bool, true, false, ◌==◌, Result, Ok, Err, string_bytes, if◌then◌else◌}
 use Rattle.std.specs.Str.{chars}
-use Rattle.globset.specs.Means.{GlobValue}
+use Rattle.globset.specs.Means.{GlobValue, default_glob}
 use Rattle.globset.specs.Reading.{reading}
 use Rattle.globset.specs.Errors.{ErrorValue, refusal}
 use Rattle.globsift.specs.declared.fault.CommandFault.{CommandFault}
@@ -28,19 +28,6 @@ fault_value (faults.Glob error) = glob_error error
 abbrev pub is_option : List ℕ → Bool
 is_option [] = false
 is_option (byte ∷ bytes) = byte == 45
-
--- the glob of a text under the default options: `\` escapes, and the other options are off
-abbrev pub default_glob : List ℕ → GlobValue
-default_glob text = record {
-  text = text;
-  options = record {
-    case_insensitive = false;
-    literal_separator = false;
-    backslash_escape = true;
-    empty_alternates = false;
-    allow_unclosed_class = false;
-  };
-}
 
 -- a word read as a glob under the default options: the glob, or its first fault from the left
 abbrev pub glob_or_fault : List ℕ → Result GlobValue FaultValue

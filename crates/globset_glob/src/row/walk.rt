@@ -7,8 +7,7 @@ ghost use Rattle.globset_glob.specs.Blank.{is_blank_token, is_blank, are_blank};
 ghost use Rattle.globset_glob.specs.Means.{means, is_prefix_alone};
 ghost use Rattle.globset_glob.specs.Weight.{weight, token_weight, branches_weight};
 ghost use Rattle.globset_glob.specs.Rows.{IsNext};
-ghost use Rattle.globset_glob.specs.Views as views;
-ghost use Rattle.globset_glob.specs.Views.{tokens_of, branches_of};
+ghost use Rattle.globset_glob.specs.Views.{token_of, tokens_of, branches_of};
 
 use crate::options::Options;
 use crate::row::{Row, pass, rule};
@@ -82,9 +81,9 @@ fn walk_token(
 ) -> Result<bool, AllocError>
     requires { length row.old ≡ length path.now + 1 }
     ensures len { OnOk result (length row.new ≡ length path.now + 1) }
-    ensures next { OnOk result (IsNext path.now row.old (takes options (views.token token.now)) row.new) }
-    ensures blank { IfOk result (λ blank. blank ≡ is_blank_token (views.token token.now)) }
-    ensures visits { visits.new ≤ visits.old + (length path.now + 1) * token_weight (views.token token.now) }
+    ensures next { OnOk result (IsNext path.now row.old (takes options (token_of token.now)) row.new) }
+    ensures blank { IfOk result (λ blank. blank ≡ is_blank_token (token_of token.now)) }
+    ensures visits { visits.new ≤ visits.old + (length path.now + 1) * token_weight (token_of token.now) }
 {
     visits.tick();
     let rule = match token {

@@ -1,7 +1,7 @@
 //! Copies of tokens.
 
 ghost use Rattle.std.specs.Prelude.{◌≡◌, IfOk};
-ghost use Rattle.globset_glob.specs.Views.{token, tokens_of};
+ghost use Rattle.globset_glob.specs.Views.{token_of, tokens_of};
 
 use crate::token::Token;
 use std::alloc::{AllocError, Global};
@@ -12,18 +12,18 @@ pub fn copy_of(alloc: Global, tokens: &[Token]) -> Result<Vec<Token>, AllocError
     ensures { IfOk result (λ v. tokens_of v.items ≡ tokens_of tokens.now) }
 {
     let mut copies = Vec::with_capacity(alloc, tokens.len())?;
-    for original in tokens {
-        copies.push(copy_of_token(alloc, original)?)?;
+    for token in tokens {
+        copies.push(copy_of_token(alloc, token)?)?;
     }
     Ok(copies)
 }
 
 /// An equal token, with memory of its own.
 #[cycle(copies)]
-fn copy_of_token(alloc: Global, original: &Token) -> Result<Token, AllocError>
-    ensures { IfOk result (λ t. token t ≡ token original.now) }
+fn copy_of_token(alloc: Global, token: &Token) -> Result<Token, AllocError>
+    ensures { IfOk result (λ t. token_of t ≡ token_of token.now) }
 {
-    match original {
+    match token {
         Token::Literal(c) => Ok(Token::Literal(*c)),
         Token::Any => Ok(Token::Any),
         Token::ZeroOrMore => Ok(Token::ZeroOrMore),

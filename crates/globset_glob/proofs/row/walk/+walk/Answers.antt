@@ -3,7 +3,7 @@ use Rattle.globset_glob.specs.Token.{Any, ZeroOrMore, RecursivePrefix, Recursive
 use Rattle.globset_glob.specs.Takes.{takes, takes_all}
 use Rattle.globset_glob.specs.Blank.{is_blank_token, is_blank, are_blank, is_kept, any_kept}
 use Rattle.globset_glob.specs.Rows.{IsNext}
-use Rattle.globset_glob.specs.Views.{token, tokens_of, branches_of}
+use Rattle.globset_glob.specs.Views.{token_of, tokens_of, branches_of}
 use Rattle.globset_glob.proofs.Truth.{iff_trans, or_none}
 use Rattle.globset_glob.proofs.Trees.{group_is}
 use Rattle.globset_glob.proofs.Heads.{tokens_here, branches_here, tokens_past, branches_past}
@@ -15,8 +15,8 @@ use Rattle.globset_glob.proofs.row.walk.+walk.Goals.{walk_token-in-Any, walk_tok
 
 -- ---- one token
 
-is_group : (t : ℕ) (c : goal.walk_token-After-walk_group t) → token c.args.token.now ≡ Group (branches_of c.deref.result.now)
-is_group t c = ap token c.in-Alternates.is ∙ group_is c.in-Alternates.branches ∙ ap (λ vs. Group (branches_of vs)) (sym c.deref.ensures.value)
+is_group : (t : ℕ) (c : goal.walk_token-After-walk_group t) → token_of c.args.token.now ≡ Group (branches_of c.deref.result.now)
+is_group t c = ap token_of c.in-Alternates.is ∙ group_is c.in-Alternates.branches ∙ ap (λ vs. Group (branches_of vs)) (sym c.deref.ensures.value)
 
 pub walk_token-returns-in-Alternates-clause-next : goal.walk_token-returns-in-Alternates-clause-next
 walk_token-returns-in-Alternates-clause-next t c = rw (is_group t c) c.walk_group.ensures.next
@@ -30,19 +30,19 @@ walk_token-returns-in-Alternates-clause-visits t c = rw (is_group t c) (omega (a
 pub walk_token-returns-clause-next : goal.walk_token-returns-clause-next
 walk_token-returns-clause-next t c =
     let o = c.args.options in
-    let here = token c.args.token.now in
+    let here = token_of c.args.token.now in
     let rule = c.match-token.rule in
     let b = c.args.path.now in
     let row = c.args.row.now in
     let new = c.pass.new.row in
     let next = c.pass.ensures.next in
     elim c.match-token.branch [
-      | walk_token-in-Any w ↦ next_by_rule o Any here w.any-rule.result rule b row new w.any-rule.ensures w.rule-is (ap token w.in-Any.is) next
-      | walk_token-in-ZeroOrMore w ↦ next_by_rule o ZeroOrMore here w.zero_or_more-rule.result rule b row new w.zero_or_more-rule.ensures w.rule-is (ap token w.in-ZeroOrMore.is) next
-      | walk_token-in-RecursivePrefix w ↦ next_by_rule o RecursivePrefix here w.recursive_prefix-rule.result rule b row new (w.recursive_prefix-rule.ensures o) w.rule-is (ap token w.in-RecursivePrefix.is) next
-      | walk_token-in-RecursiveSuffix w ↦ next_by_rule o RecursiveSuffix here w.recursive_suffix-rule.result rule b row new (w.recursive_suffix-rule.ensures o) w.rule-is (ap token w.in-RecursiveSuffix.is) next
-      | walk_token-in-RecursiveZeroOrMore w ↦ next_by_rule o RecursiveZeroOrMore here w.recursive_zero_or_more-rule.result rule b row new (w.recursive_zero_or_more-rule.ensures o) w.rule-is (ap token w.in-RecursiveZeroOrMore.is) next
-      | walk_token-in-Class w ↦ next_by_rule o (Class w.in-Class.class.negated w.in-Class.class.ranges) here w.class-rule.result rule b row new w.class-rule.ensures w.rule-is (ap token w.in-Class.is) next
+      | walk_token-in-Any w ↦ next_by_rule o Any here w.any-rule.result rule b row new w.any-rule.ensures w.rule-is (ap token_of w.in-Any.is) next
+      | walk_token-in-ZeroOrMore w ↦ next_by_rule o ZeroOrMore here w.zero_or_more-rule.result rule b row new w.zero_or_more-rule.ensures w.rule-is (ap token_of w.in-ZeroOrMore.is) next
+      | walk_token-in-RecursivePrefix w ↦ next_by_rule o RecursivePrefix here w.recursive_prefix-rule.result rule b row new (w.recursive_prefix-rule.ensures o) w.rule-is (ap token_of w.in-RecursivePrefix.is) next
+      | walk_token-in-RecursiveSuffix w ↦ next_by_rule o RecursiveSuffix here w.recursive_suffix-rule.result rule b row new (w.recursive_suffix-rule.ensures o) w.rule-is (ap token_of w.in-RecursiveSuffix.is) next
+      | walk_token-in-RecursiveZeroOrMore w ↦ next_by_rule o RecursiveZeroOrMore here w.recursive_zero_or_more-rule.result rule b row new (w.recursive_zero_or_more-rule.ensures o) w.rule-is (ap token_of w.in-RecursiveZeroOrMore.is) next
+      | walk_token-in-Class w ↦ next_by_rule o (Class w.in-Class.class.negated w.in-Class.class.ranges) here w.class-rule.result rule b row new w.class-rule.ensures w.rule-is (ap token_of w.in-Class.is) next
     ]
 
 -- ---- tokens one after another
@@ -53,7 +53,7 @@ walk_tokens-loop-token-preserved t c =
     let o = c.args.options in
     let tokens = c.args.tokens.now in
     let i = c.loop-token.token-index in
-    let first = token c.token-item.result in
+    let first = token_of c.token-item.result in
     let rest = tokens_of (drop (i + 1) tokens) in
     let here : tokens_of (drop i tokens) ≡ and_then first rest = tokens_here tokens i c.token-item.result (omega arith) c.token-item.is in
     record {

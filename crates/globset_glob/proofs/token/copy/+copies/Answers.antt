@@ -1,7 +1,7 @@
 use Rattle.std.proofs.Common.{◌≡◌, List, arith, ap, sym, ◌∙◌}
 use Rattle.std.proofs.lemmas.List.{take_all}
 use Rattle.globset_glob.specs.Token.{Tokens, Group, none, ahead}
-use Rattle.globset_glob.specs.Views.{token, branch_list}
+use Rattle.globset_glob.specs.Views.{token_of, branch_list}
 use Rattle.globset_glob.proofs.Trees.{group_is}
 use Rattle.globset_glob.proofs.token.copy.+copies.Goals as goal
 
@@ -11,4 +11,4 @@ copy_of_token-returns-after-loop-branch t c =
     let branches = c.in-Alternates.branches in
     let all_read = take_all c.loop-branch.branch-index c.deref-branch-items.result.now (omega arith) in
     let same : branch_list copies.items ≡ branch_list branches.items = c.loop-branch.invariant ∙ ap branch_list (all_read ∙ c.deref-branch-items.ensures.value) in
-    group_is copies ∙ ap (λ (ts : List Tokens). Group (ahead ts none)) same ∙ sym (ap token c.in-Alternates.is ∙ group_is branches)
+    group_is copies ∙ ap (λ (ts : List Tokens). Group (ahead ts none)) same ∙ sym (ap token_of c.in-Alternates.is ∙ group_is branches)
