@@ -142,7 +142,8 @@ module _ (r : Rule) (b : List ℕ) (row : List Bool) where
       (sym (take-suc b k 0 lt) ∙ cut ∙ ap (λ l. x ++ l) more.2 ∙ sym (append_assoc x more.0 (more.1 ∷ []))) in
       let begun' : IsTrue (begins r (more.0 ++ more.1 ∷ [])) = subst (λ l. IsTrue (begins r l)) more.2 begun in
       let last : IsTrue (has_byte r.last more.1) = rw (← same.1) ends.1 in
-      (x, y, cut, at, ap (allows r) more.2 ∙ allows-push r more.0 more.1 ∙ and_both (begins r (more.0 ++ more.1 ∷ [])) (has_byte r.last more.1) begun' last))
+      let allowed : IsTrue (allows r (more.0 ++ more.1 ∷ [])) = rw allows-push (and_both (begins r (more.0 ++ more.1 ∷ [])) (has_byte r.last more.1) begun' last) in
+      (x, y, cut, at, subst (λ l. IsTrue (allows r l)) (sym more.2) allowed))
       (last_of y))
       (two_ways (slice_index_or row (suc k) false) r.empty (is_open r b row (suc k)) (has_byte r.last c) e)
 

@@ -1,4 +1,4 @@
-use Rattle.std.proofs.Common.{rules, ◌≡◌, ◌+◌, ◌<◌, length, set, get_or, get_or-set_same, get_or-set_other, false, arith, ◌∙◌}
+use Rattle.std.proofs.Common.{rules, ◌≡◌, ◌+◌, ◌<◌, length, get_or-set_same, get_or-set_other, arith, ◌∙◌}
 use Rattle.globset_glob.proofs.Passes.{is_open, is_passed, is_open_more, is_passed_more, written_more, left_more, pass_next}
 use Rattle.globset_glob.proofs.row.pass.Goals as goal
 
