@@ -4,7 +4,9 @@
 //! paths it means.
 #![tactic(auto)]
 
-pub use globset_glob::{AsPath, Candidate, Error, ErrorKind, Glob, GlobBuilder, GlobMatcher, Visits};
+pub use globset_glob::{
+    AsPath, Candidate, Error, ErrorKind, Glob, GlobBuilder, GlobMatcher, Visits,
+};
 
 #[cfg(test)]
 mod tests;

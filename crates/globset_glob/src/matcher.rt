@@ -62,11 +62,7 @@ impl GlobMatcher {
 
     /// The same, and counts the visits: at most `(path bytes + 1) * (4 * glob bytes + 4)` more, also where memory ran
     /// out. It takes memory for one row of the path's places, and for two more for each group that is open at once.
-    pub fn is_match_visits(
-        &self,
-        path: &Candidate<'_>,
-        visits: &mut Visits,
-    ) -> Result<bool, Error>
+    pub fn is_match_visits(&self, path: &Candidate<'_>, visits: &mut Visits) -> Result<bool, Error>
         ensures ok { IfOk result (λ yes. yes ≡ glob_means self.now path.now) }
         ensures err { IfErr result (λ e. e ≡ out_of_memory) }
         ensures visits { visits.new ≤ visits.old + most_visits self.now path.now }

@@ -4,10 +4,9 @@ pub mod copy;
 mod piece;
 pub mod reader;
 mod star;
-mod tree;
-
 #[cfg(test)]
 mod tests;
+mod tree;
 
 use crate::class::Class;
 

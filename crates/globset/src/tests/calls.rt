@@ -59,8 +59,14 @@ fn errors(rt: HostRuntime) -> Result<(), Fail> {
     let shown = format!(in alloc; "{error}")?;
     assert_eq!(rt; shown.as_str(), "out of memory");
     for (kind, want) in [
-        (ErrorKind::InvalidRecursive, "invalid use of **; must be one path component"),
-        (ErrorKind::NestedAlternates, "nested alternate groups are not allowed"),
+        (
+            ErrorKind::InvalidRecursive,
+            "invalid use of **; must be one path component",
+        ),
+        (
+            ErrorKind::NestedAlternates,
+            "nested alternate groups are not allowed",
+        ),
     ] {
         let shown = format!(in alloc; "{kind}")?;
         assert_eq!(rt; shown.as_str(), want);
@@ -72,6 +78,9 @@ fn errors(rt: HostRuntime) -> Result<(), Fail> {
         return Err(Fail::from("read"));
     };
     let shown = format!(in alloc; "{refused:?}")?;
-    assert_eq!(rt; shown.as_str(), "Error { glob: Some(\"[\"), kind: UnclosedClass }");
+    assert_eq!(rt;
+        shown.as_str(),
+        "Error { glob: Some(\"[\"), kind: UnclosedClass }"
+    );
     Ok(())
 }

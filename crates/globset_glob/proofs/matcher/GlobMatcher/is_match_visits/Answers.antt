@@ -7,4 +7,4 @@ use Rattle.globset_glob.proofs.matcher.GlobMatcher.is_match_visits.Goals as goal
 pub returns-clause-ok : goal.returns-clause-ok
 returns-clause-ok c =
     rw (c.in_ok-yes.ensures.value, c.options.ensures, c.path.ensures)
-      (means_is c.self.inside.glob (tokens_of c.tokens.result.now) c.args.path.now c.tokens.ensures.read ∙ ap (λ (g : GlobValue). glob_means g c.args.path.now) c.self.view_is)
+    (means_is c.self.inside.glob (tokens_of c.tokens.result.now) c.args.path.now c.tokens.ensures.read ∙ ap (λ (g : GlobValue). glob_means g c.args.path.now) c.self.view_is)
