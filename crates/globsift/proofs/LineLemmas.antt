@@ -8,22 +8,27 @@ use Rattle.memchr.specs.Find.{IsFirstByte, is_byte}
 use Rattle.globsift.specs.Lines.{lines, is_lf, through_last_lf}
 use Rattle.globsift.specs.Moves.{IsCut}
 
+-- neither side is true
 pub or_false : (a b : Bool) → (a || b) ≡ false → (a ≡ false) × (b ≡ false)
 or_false true b e = absurd (true≢false e)
 or_false false b e = (refl, e)
 
+-- the second side is true
 pub or_true : (a b : Bool) → b ≡ true → (a || b) ≡ true
 or_true true b e = refl
 or_true false b e = e
 
+-- `||` of three
 pub or_assoc : (a b c : Bool) → ((a || b) || c) ≡ (a || (b || c))
 or_assoc true b c = refl
 or_assoc false b c = refl
 
+-- `false` on the right changes nothing
 pub or_nothing : (a : Bool) → (a || false) ≡ a
 or_nothing true = refl
 or_nothing false = refl
 
+-- a line with its LF, and then more
 pub lines_line : (line rest : List ℕ) → list_any is_lf line ≡ false → lines (line ++ 10 ∷ rest) ≡ line ∷ lines rest
 lines_line [] rest e = refl
 lines_line (x ∷ xs) rest e =
@@ -31,35 +36,42 @@ lines_line (x ∷ xs) rest e =
     ap (λ b. cond b ([] ∷ lines (xs ++ 10 ∷ rest)) (onto_first x (lines (xs ++ 10 ∷ rest)))) p.0
     ∙ ap (onto_first x) (lines_line xs rest p.1)
 
+-- some bytes with no LF are one line
 pub lines_rest : (x : ℕ) (xs : List ℕ) → list_any is_lf (x ∷ xs) ≡ false → lines (x ∷ xs) ≡ (x ∷ xs) ∷ []
 lines_rest x [] e = ap (λ b. cond b ([] ∷ []) (onto_first x [])) (or_false (is_lf x) false e).0
 lines_rest x (y ∷ ys) e =
     let p = or_false (is_lf x) (list_any is_lf (y ∷ ys)) e in
     ap (λ b. cond b ([] ∷ lines (y ∷ ys)) (onto_first x (lines (y ∷ ys)))) p.0 ∙ ap (onto_first x) (lines_rest y ys p.1)
 
+-- bytes with no LF have no last LF
 pub last_rest : (rest : List ℕ) → list_any is_lf rest ≡ false → through_last_lf rest ≡ []
 last_rest [] e = refl
 last_rest (x ∷ xs) e = ap (λ b. cond b (x ∷ through_last_lf xs) []) e
 
+-- a line with its LF has an LF
 pub has_lf : (line more : List ℕ) → list_any is_lf ((line ++ 10 ∷ []) ++ more) ≡ true
 has_lf [] more = refl
 has_lf (x ∷ xs) more = or_true (is_lf x) _ (has_lf xs more)
 
+-- the last LF of a line with its LF, and then more
 pub last_line : (line more : List ℕ) → through_last_lf ((line ++ 10 ∷ []) ++ more) ≡ (line ++ 10 ∷ []) ++ through_last_lf more
 last_line [] more = refl
 last_line (x ∷ xs) more =
     ap (λ b. cond b (x ∷ through_last_lf ((xs ++ 10 ∷ []) ++ more)) []) (or_true (is_lf x) _ (has_lf xs more))
     ∙ ap (λ (l : List ℕ). x ∷ l) (last_line xs more)
 
+-- no bytes are no lines
 pub IsCut-nil : IsCut []
 IsCut-nil = record { lines_go_on = λ more. refl; last_goes_on = λ more. refl }
 
+-- a line with its LF is a whole line
 pub IsCut-line : (line : List ℕ) → list_any is_lf line ≡ false → IsCut (line ++ 10 ∷ [])
 IsCut-line line e = record {
   lines_go_on = λ more. ap lines (append_assoc line (10 ∷ []) more) ∙ lines_line line more e ∙ ap (λ (l : List (List ℕ)). l ++ lines more) (sym (lines_line line [] e));
   last_goes_on = last_line line;
 }
 
+-- whole lines, and then whole lines
 pub IsCut-append : (a b : List ℕ) → IsCut a → IsCut b → IsCut (a ++ b)
 IsCut-append a b p q = record {
   lines_go_on = λ more. ap lines (append_assoc a b more) ∙ p.lines_go_on (b ++ more) ∙ ap (λ (l : List (List ℕ)). lines a ++ l) (q.lines_go_on more)
@@ -68,7 +80,7 @@ IsCut-append a b p q = record {
       ∙ sym (append_assoc a b (through_last_lf more));
 }
 
--- what a search for LF says
+-- no byte is LF
 pub no_lf_from : (xs : List ℕ) → ((k : ℕ) → k < length xs → is_lf (get_or xs k 0) ≡ true → ⊥) → list_any is_lf xs ≡ false
 no_lf_from [] h = refl
 no_lf_from (x ∷ xs) h =
@@ -77,10 +89,12 @@ no_lf_from (x ∷ xs) h =
       | inr f ↦ ap (λ b. b || list_any is_lf xs) f ∙ no_lf_from xs (λ k lt t. h (suc k) (omega (arith, lt)) t)
     ]
 
+-- a search that found no LF
 pub not_found : (xs : List ℕ) (r : Option ℕ) → r ≡ None → IsFirstByte (is_byte 10) xs r → list_any is_lf xs ≡ false
 not_found xs None e h = no_lf_from xs (λ k lt t. h k (omega arith) lt t)
 not_found xs (Some i) e h = cc
 
+-- a search that found LF: the line before it has none
 pub found_lf : (xs : List ℕ) (i : ℕ) → IsFirstByte (is_byte 10) xs (Some i) → (i < length xs) × (list_any is_lf (take i xs) ≡ false) × (xs ≡ (take i xs ++ 10 ∷ []) ++ drop (i + 1) xs)
 found_lf xs i h =
     let lt : i < length xs = h.0.high in

@@ -1,5 +1,5 @@
 -- How the output goes on.
-use Rattle.std.proofs.Common.{◌≡◌, ℕ, ◌+◌, ◌-◌, take, drop, List, [], ◌∷◌, ◌++◌, length, Bool, true, false, ◌||◌, ◌==◌, cond, ap, ◌∙◌, sym, subst, append_assoc, append-nil, refl, arith, Option, None, Some}
+use Rattle.std.proofs.Common.{◌≡◌, ℕ, ◌+◌, ◌-◌, take, drop, List, [], ◌∷◌, ◌++◌, length, Bool, true, false, ◌||◌, ◌==◌, cond, ap, ◌∙◌, sym, subst, append_assoc, append-nil, refl, arith, Option, None, Some, Result, Ok, Err, MatchResult}
 use Rattle.std.specs.List.{list_any, flat_map}
 use Rattle.std.specs.Io.KnownBytes.{Appends, Consumes, IsAtEnd}
 use Rattle.std.proofs.KnownBytes.{Appends-nil, Appends-trans, Consumes-nil, Consumes-trans}
@@ -16,56 +16,69 @@ use Rattle.globsift.specs.declared.fault.SiftFault.{SiftFault}
 use Rattle.globsift.specs.declared.fault.SiftFault.TheVariants.{Read, Write, OutOfMemory}
 use Rattle.globsift.proofs.LineLemmas.{found_lf, not_found, or_true, or_assoc, or_nothing, lines_line, lines_rest, last_rest, IsCut-nil, IsCut-line, IsCut-append}
 
+-- the output for no bytes
 pub sifted-nil : (glob : GlobValue) → sifted glob [] ≡ []
 unfolding sifted
 sifted-nil glob = refl
 
+-- no bytes have no line that the glob means
 pub has_match-nil : (glob : GlobValue) → has_match glob [] ≡ false
 unfolding has_match
 has_match-nil glob = refl
 
+-- the output for whole lines, and then for more
 pub sifted-append : (glob : GlobValue) (a b : List ℕ) → IsCut a → sifted glob (a ++ b) ≡ sifted glob a ++ sifted glob b
 unfolding sifted
 sifted-append glob a b p = ap (flat_map (row glob)) (p.lines_go_on b) ∙ flat_map-append (row glob) (lines a) (lines b)
 
+-- whole lines, and then more
 pub has_match-append : (glob : GlobValue) (a b : List ℕ) → IsCut a → has_match glob (a ++ b) ≡ (has_match glob a || has_match glob b)
 unfolding has_match
 has_match-append glob a b p = ap (list_any (glob_means glob)) (p.lines_go_on b) ∙ list_any-append (glob_means glob) (lines a) (lines b)
 
+-- the output for a line with its LF
 pub sifted-line : (glob : GlobValue) (line : List ℕ) → list_any is_lf line ≡ false → sifted glob (line ++ 10 ∷ []) ≡ row glob line
 unfolding sifted
 sifted-line glob line e = ap (flat_map (row glob)) (lines_line line [] e) ∙ append-nil (row glob line)
 
+-- a line with its LF
 pub has_match-line : (glob : GlobValue) (line : List ℕ) → list_any is_lf line ≡ false → has_match glob (line ++ 10 ∷ []) ≡ glob_means glob line
 unfolding has_match
 has_match-line glob line e = ap (list_any (glob_means glob)) (lines_line line [] e) ∙ or_nothing (glob_means glob line)
 
+-- the output for a rest with no LF
 pub sifted-rest : (glob : GlobValue) (x : ℕ) (xs : List ℕ) → list_any is_lf (x ∷ xs) ≡ false → sifted glob (x ∷ xs) ≡ row glob (x ∷ xs)
 unfolding sifted
 sifted-rest glob x xs e = ap (flat_map (row glob)) (lines_rest x xs e) ∙ append-nil (row glob (x ∷ xs))
 
+-- a rest with no LF
 pub has_match-rest : (glob : GlobValue) (x : ℕ) (xs : List ℕ) → list_any is_lf (x ∷ xs) ≡ false → has_match glob (x ∷ xs) ≡ glob_means glob (x ∷ xs)
 unfolding has_match
 has_match-rest glob x xs e = ap (list_any (glob_means glob)) (lines_rest x xs e) ∙ or_nothing (glob_means glob (x ∷ xs))
 
--- a row that is not there
+-- a line that the glob does not mean
 pub row_none : (glob : GlobValue) (line : List ℕ) → glob_means glob line ≡ false → row glob line ≡ []
 unfolding row
 row_none glob line e = ap (λ b. cond b (line ++ 10 ∷ []) []) e
 
+-- a line that the glob means
 pub row_some : (glob : GlobValue) (line : List ℕ) → glob_means glob line ≡ true → row glob line ≡ line ++ 10 ∷ []
 unfolding row
 row_some glob line e = ap (λ b. cond b (line ++ 10 ∷ []) []) e
 
+-- nothing was written, and the same is held
 pub Holds-same : (w : Option (List ℕ)) (h : List ℕ) → Holds w w h h
 Holds-same w h = ([], Appends-nil w, refl)
 
+-- nothing was written
 pub GrowsByFront-none : (w : Option (List ℕ)) (bytes : List ℕ) → GrowsByFront w w bytes
 GrowsByFront-none w bytes = ([], bytes, Appends-nil w, refl)
 
+-- a beginning of some bytes is one of those and more
 pub GrowsByFront-more : (w w' : Option (List ℕ)) (a b : List ℕ) → GrowsByFront w w' a → GrowsByFront w w' (a ++ b)
 GrowsByFront-more w w' a b p = (p.0, p.1 ++ b, p.2, sym (append_assoc p.0 p.1 b) ∙ ap (λ l. l ++ b) p.3)
 
+-- some bytes were written, and then a beginning of the others
 pub GrowsByFront-after : (w w1 w2 : Option (List ℕ)) (h1 out a b : List ℕ) → Appends w w1 out → out ++ h1 ≡ a → GrowsByFront w1 w2 (h1 ++ b) → GrowsByFront w w2 (a ++ b)
 GrowsByFront-after w w1 w2 h1 out a b p e q = (
   out ++ q.0,
@@ -74,21 +87,25 @@ GrowsByFront-after w w1 w2 h1 out a b p e q = (
   append_assoc out q.0 q.1 ∙ ap (λ l. out ++ l) q.3 ∙ sym (append_assoc out h1 b) ∙ ap (λ l. l ++ b) e,
 )
 
+-- a fault over some bytes is one over those and more
 pub Halts-more : (w w' : Option (List ℕ)) (a b : List ℕ) (f : SiftFault) → Halts w w' a f → Halts w w' (a ++ b) f
 Halts-more w w' a b Read h = absurd h
 Halts-more w w' a b Write h = GrowsByFront-more w w' a b h
 Halts-more w w' a b OutOfMemory h = GrowsByFront-more w w' a b h
 
+-- some bytes were written, and then came a fault
 pub Halts-after : (w w1 w2 : Option (List ℕ)) (h1 out a b : List ℕ) (f : SiftFault) → Appends w w1 out → out ++ h1 ≡ a → Halts w1 w2 (h1 ++ b) f → Halts w w2 (a ++ b) f
 Halts-after w w1 w2 h1 out a b Read p e h = absurd h
 Halts-after w w1 w2 h1 out a b Write p e h = GrowsByFront-after w w1 w2 h1 out a b p e h
 Halts-after w w1 w2 h1 out a b OutOfMemory p e h = GrowsByFront-after w w1 w2 h1 out a b p e h
 
+-- memory ran out before anything was written
 pub Halts-memory : (w : Option (List ℕ)) (a : List ℕ) (f : SiftFault) → f ≡ OutOfMemory → Halts w w a f
 Halts-memory w a Read e = cc
 Halts-memory w a Write e = cc
 Halts-memory w a OutOfMemory e = GrowsByFront-none w a
 
+-- no whole line yet
 pub Moves-start : (glob : GlobValue) (rest : List ℕ) (w : Option (List ℕ)) (h : List ℕ) (o : Bool) → list_any is_lf rest ≡ false → Moves glob rest rest w w h h o o
 Moves-start glob rest w h o e = record {
   whole = [];
@@ -101,6 +118,7 @@ Moves-start glob rest w h o e = record {
   answer_is = sym (ap (λ b. o || b) (has_match-nil glob) ∙ or_nothing o);
 }
 
+-- one line with its LF
 pub Moves-line : (glob : GlobValue) (line : List ℕ) (w w' : Option (List ℕ)) (h h' : List ℕ) (o o' : Bool) → list_any is_lf line ≡ false →
     Holds w w' h' (h ++ row glob line) → o' ≡ (o || glob_means glob line) → Moves glob (line ++ 10 ∷ []) [] w w' h h' o o'
 Moves-line glob line w w' h h' o o' e p q = record {
@@ -114,6 +132,7 @@ Moves-line glob line w w' h h' o o' e p q = record {
   answer_is = q ∙ ap (λ b. o || b) (sym (has_match-line glob line e));
 }
 
+-- some bytes were handled, and then their rest with more
 pub Moves-trans : (glob : GlobValue) (bytes mid more rest : List ℕ) (w w1 w2 : Option (List ℕ)) (h h1 h2 : List ℕ) (o o1 o2 : Bool) →
     Moves glob bytes mid w w1 h h1 o o1 → Moves glob (mid ++ more) rest w1 w2 h1 h2 o1 o2 → Moves glob (bytes ++ more) rest w w2 h h2 o o2
 Moves-trans glob bytes mid more rest w w1 w2 h h1 h2 o o1 o2 p q = record {
@@ -130,6 +149,7 @@ Moves-trans glob bytes mid more rest w w1 w2 h h1 h2 o o1 o2 p q = record {
       ∙ ap (λ b. o || b) (sym (has_match-append glob p.whole q.whole p.cut));
 }
 
+-- some bytes were handled, and then came a fault over their rest with more
 pub Moves-halts : (glob : GlobValue) (bytes mid more : List ℕ) (w w1 w2 : Option (List ℕ)) (h h1 : List ℕ) (o o1 : Bool) (f : SiftFault) →
     Moves glob bytes mid w w1 h h1 o o1 → Halts w1 w2 (h1 ++ sifted glob (mid ++ more)) f → Halts w w2 (h ++ sifted glob (bytes ++ more)) f
 Moves-halts glob bytes mid more w w1 w2 h h1 o o1 f p q =
@@ -138,7 +158,7 @@ Moves-halts glob bytes mid more w w1 w2 h h1 o o1 f p q =
     ∙ ap (λ l. h ++ l) (sym (sifted-append glob p.whole (mid ++ more) p.cut) ∙ ap (sifted glob) (sym (append_assoc p.whole mid more) ∙ ap (λ l. l ++ more) (sym p.bytes_are))) in
     subst (λ (l : List ℕ). Halts w w2 l f) all (Halts-after w w1 w2 h1 p.out (h ++ sifted glob p.whole) (sifted glob (mid ++ more)) f p.written p.output q)
 
--- a line that could not be written, and what comes after it
+-- a fault at a line, and more bytes after the line
 pub Halts-line : (glob : GlobValue) (line more : List ℕ) (w w' : Option (List ℕ)) (h : List ℕ) (f : SiftFault) → list_any is_lf line ≡ false →
     Halts w w' (h ++ row glob line) f → Halts w w' (h ++ sifted glob ((line ++ 10 ∷ []) ++ more)) f
 Halts-line glob line more w w' h f e q =
@@ -147,6 +167,7 @@ Halts-line glob line more w w' h f e q =
     ∙ ap (λ l. h ++ l) (ap (λ l. l ++ sifted glob more) (sym (sifted-line glob line e)) ∙ sym (sifted-append glob (line ++ 10 ∷ []) more (IsCut-line line e))) in
     subst (λ (l : List ℕ). Halts w w' l f) all (Halts-more w w' (h ++ row glob line) (sifted glob more) f q)
 
+-- nothing was added for a line that the glob does not mean
 pub row_skipped : (glob : GlobValue) (line held held' : List ℕ) (o o' b : Bool) → b ≡ glob_means glob line → o' ≡ o → held' ≡ held → b ≡ false →
     (held' ≡ held ++ row glob line) × (o' ≡ (o || glob_means glob line))
 row_skipped glob line held held' o o' b is p e f = (
@@ -154,6 +175,7 @@ row_skipped glob line held held' o o' b is p e f = (
   p ∙ sym (ap (λ m. o || m) (sym is ∙ f) ∙ or_nothing o),
 )
 
+-- a line that the glob means was added, with LF
 pub row_added : (glob : GlobValue) (line held h1 h2 : List ℕ) (o b : Bool) → b ≡ glob_means glob line → b ≡ true →
     h1 ≡ held ++ line → h2 ≡ h1 ++ 10 ∷ [] → (h2 ≡ held ++ row glob line) × (true ≡ (o || glob_means glob line))
 row_added glob line held h1 h2 o b is f p q = (
@@ -161,7 +183,7 @@ row_added glob line held h1 h2 o b is f p q = (
   sym (or_true o (glob_means glob line) (sym is ∙ f)),
 )
 
--- one more line of a row of lines
+-- the loop over the lines handled one more
 pub lines_step : (glob : GlobValue) (bytes seen rest : List ℕ) (i : ℕ) (w w1 w2 : Option (List ℕ)) (h h1 h2 : List ℕ) (o o1 o2 : Bool) → bytes ≡ seen ++ rest →
     Moves glob seen [] w w1 h h1 o o1 → IsFirstByte (is_byte 10) rest (Some i) → Holds w1 w2 h2 (h1 ++ row glob (take i rest)) → o2 ≡ (o1 || glob_means glob (take i rest)) →
     (x : List ℕ) × (bytes ≡ x ++ take (length rest - (i + 1)) (drop (i + 1) rest)) × Moves glob x [] w w2 h h2 o o2
@@ -173,12 +195,14 @@ lines_step glob bytes seen rest i w w1 w2 h h1 h2 o o1 o2 e m r p q =
       Moves-trans glob seen [] (take i rest ++ 10 ∷ []) [] w w1 w2 h h1 h2 o o1 o2 m (Moves-line glob (take i rest) w1 w2 h1 h2 o1 o2 f.1 p q),
     )
 
+-- no LF is left: the loop over the lines ends
 pub lines_end : (glob : GlobValue) (bytes seen rest : List ℕ) (r : Option ℕ) (w w1 : Option (List ℕ)) (h h1 : List ℕ) (o o1 : Bool) → bytes ≡ seen ++ rest →
     Moves glob seen [] w w1 h h1 o o1 → r ≡ None → IsFirstByte (is_byte 10) rest r → Moves glob bytes rest w w1 h h1 o o1
 lines_end glob bytes seen rest r w w1 h h1 o o1 e m none f =
     subst (λ (l : List ℕ). Moves glob l rest w w1 h h1 o o1) (sym e)
     (Moves-trans glob seen [] rest rest w w1 w1 h h1 h1 o o1 o1 m (Moves-start glob rest w1 h1 o1 (not_found rest r none f)))
 
+-- a fault at one of the lines
 pub lines_halt : (glob : GlobValue) (bytes seen rest : List ℕ) (i : ℕ) (w w1 w2 : Option (List ℕ)) (h h1 : List ℕ) (o o1 : Bool) (f : SiftFault) → bytes ≡ seen ++ rest →
     Moves glob seen [] w w1 h h1 o o1 → IsFirstByte (is_byte 10) rest (Some i) → Halts w1 w2 (h1 ++ row glob (take i rest)) f → Halts w w2 (h ++ sifted glob bytes) f
 lines_halt glob bytes seen rest i w w1 w2 h h1 o o1 f e m r q =
@@ -212,12 +236,14 @@ first_line rest chunk line i e r is =
           ∙ append_assoc rest (take i chunk ++ 10 ∷ []) (drop (i + 1) chunk) ∙ ap (λ (l : List ℕ). rest ++ l) (sym f.2),
     )
 
+-- a fault at the line that ends in a chunk
 pub chunk_halts : (glob : GlobValue) (rest chunk line : List ℕ) (i : ℕ) (w w' : Option (List ℕ)) (h : List ℕ) (f : SiftFault) → list_any is_lf rest ≡ false →
     IsFirstByte (is_byte 10) chunk (Some i) → line ≡ rest ++ take i chunk → Halts w w' (h ++ row glob line) f → Halts w w' (h ++ sifted glob (rest ++ chunk)) f
 chunk_halts glob rest chunk line i w w' h f e r is q =
     let p = first_line rest chunk line i e r is in
     subst (λ (l : List ℕ). Halts w w' (h ++ sifted glob l) f) p.1 (Halts-line glob line (drop (i + 1) chunk) w w' h f p.0 q)
 
+-- the line that ends in a chunk was handled, and then the other bytes of the chunk
 pub chunk_moves : (glob : GlobValue) (rest chunk line rest' : List ℕ) (i : ℕ) (w w1 w2 : Option (List ℕ)) (h h1 h2 : List ℕ) (o o1 o2 : Bool) → list_any is_lf rest ≡ false →
     IsFirstByte (is_byte 10) chunk (Some i) → line ≡ rest ++ take i chunk → Holds w w1 h1 (h ++ row glob line) → o1 ≡ (o || glob_means glob line) →
     Moves glob (take (length chunk - (i + 1)) (drop (i + 1) chunk)) rest' w1 w2 h1 h2 o1 o2 → Moves glob (rest ++ chunk) rest' w w2 h h2 o o2
@@ -227,6 +253,7 @@ chunk_moves glob rest chunk line rest' i w w1 w2 h h1 h2 o o1 o2 e r is p q m =
     (Moves-trans glob (line ++ 10 ∷ []) [] (take (length chunk - (i + 1)) (drop (i + 1) chunk)) rest' w w1 w2 h h1 h2 o o1 o2
     (Moves-line glob line w w1 h h1 o o1 f.0 p q) m)
 
+-- the line that ends in a chunk was handled, and then came a fault
 pub chunk_halts_later : (glob : GlobValue) (rest chunk line : List ℕ) (i : ℕ) (w w1 w2 : Option (List ℕ)) (h h1 : List ℕ) (o o1 : Bool) (f : SiftFault) → list_any is_lf rest ≡ false →
     IsFirstByte (is_byte 10) chunk (Some i) → line ≡ rest ++ take i chunk → Holds w w1 h1 (h ++ row glob line) → o1 ≡ (o || glob_means glob line) →
     Halts w1 w2 (h1 ++ sifted glob (take (length chunk - (i + 1)) (drop (i + 1) chunk))) f → Halts w w2 (h ++ sifted glob (rest ++ chunk)) f
@@ -236,47 +263,63 @@ chunk_halts_later glob rest chunk line i w w1 w2 h h1 o o1 f e r is p q m =
     (Moves-halts glob (line ++ 10 ∷ []) [] (take (length chunk - (i + 1)) (drop (i + 1) chunk)) w w1 w2 h h1 o o1 f
     (Moves-line glob line w w1 h h1 o o1 k.0 p q) m)
 
--- the rest at the end of the input
+-- what came of the bytes after the first LF of a chunk, and so of the chunk
+pub chunk_result : {X : Type 0} (glob : GlobValue) (rest chunk line rest' : List ℕ) (i : ℕ) (w w1 w2 : Option (List ℕ)) (h h1 h2 : List ℕ) (o o1 o2 : Bool) (r : Result X SiftFault) →
+    list_any is_lf rest ≡ false → IsFirstByte (is_byte 10) chunk (Some i) → line ≡ rest ++ take i chunk → Holds w w1 h1 (h ++ row glob line) → o1 ≡ (o || glob_means glob line) →
+    MatchResult r (λ x. Moves glob (take (length chunk - (i + 1)) (drop (i + 1) chunk)) rest' w1 w2 h1 h2 o1 o2) (Halts w1 w2 (h1 ++ sifted glob (take (length chunk - (i + 1)) (drop (i + 1) chunk)))) →
+    MatchResult r (λ x. Moves glob (rest ++ chunk) rest' w w2 h h2 o o2) (Halts w w2 (h ++ sifted glob (rest ++ chunk)))
+chunk_result glob rest chunk line rest' i w w1 w2 h h1 h2 o o1 o2 (Ok x) e first is p q m = chunk_moves glob rest chunk line rest' i w w1 w2 h h1 h2 o o1 o2 e first is p q m
+chunk_result glob rest chunk line rest' i w w1 w2 h h1 h2 o o1 o2 (Err f) e first is p q m = chunk_halts_later glob rest chunk line i w w1 w2 h h1 o o1 f e first is p q m
+
+-- no bytes are left at the end of the input
 pub rest_empty : (glob : GlobValue) (rest : List ℕ) (b : Bool) (w : Option (List ℕ)) (h : List ℕ) (o : Bool) → b ≡ (length rest == 0) → b ≡ true →
     Holds w w h (h ++ sifted glob rest) × (o ≡ (o || has_match glob rest))
 rest_empty glob [] b w h o e t =
     (([], Appends-nil w, sym (ap (λ (l : List ℕ). h ++ l) (sifted-nil glob) ∙ append-nil h)), sym (ap (λ m. o || m) (has_match-nil glob) ∙ or_nothing o))
 rest_empty glob (x ∷ xs) b w h o e t = let none : length (x ∷ xs) ≡ 0 = eqb-true (length (x ∷ xs)) 0 (sym e ∙ t) in absurd (omega arith)
 
+-- a rest that is not empty is a line
 pub rest_filled : (glob : GlobValue) (rest : List ℕ) (b : Bool) → list_any is_lf rest ≡ false → b ≡ (length rest == 0) → b ≡ false →
     (row glob rest ≡ sifted glob rest) × (glob_means glob rest ≡ has_match glob rest)
 rest_filled glob [] b f e t = absurd (true≢false (sym e ∙ t))
 rest_filled glob (x ∷ xs) b f e t = (sym (sifted-rest glob x xs f), sym (has_match-rest glob x xs f))
 
+-- some output is held, and a fault came while it was written
 pub Halts-held : (w w1 w2 : Option (List ℕ)) (h1 a : List ℕ) (f : SiftFault) → Holds w w1 h1 a → Halts w1 w2 h1 f → Halts w w2 a f
 Halts-held w w1 w2 h1 a f p q =
     subst (λ (l : List ℕ). Halts w w2 l f) (append-nil a)
     (Halts-after w w1 w2 h1 p.0 a [] f p.1 p.2 (subst (λ (l : List ℕ). Halts w1 w2 l f) (sym (append-nil h1)) q))
 
+-- all that is held was written
 pub Appends-drained : (w w1 w2 : Option (List ℕ)) (h1 h2 a : List ℕ) → Holds w w1 h1 a → Holds w1 w2 h2 h1 → h2 ≡ [] → Appends w w2 a
 Appends-drained w w1 w2 h1 h2 a p q e =
     subst (λ (l : List ℕ). Appends w w2 l) (sym (append-nil (p.0 ++ q.0)) ∙ append_assoc p.0 q.0 [] ∙ ap (λ (l : List ℕ). p.0 ++ (q.0 ++ l)) (sym e) ∙ ap (λ (l : List ℕ). p.0 ++ l) q.2 ∙ p.2)
     (Appends-trans w w1 w2 p.0 q.0 p.1 q.1)
 
+-- all was written
 pub GrowsByFront-all : (w w' : Option (List ℕ)) (a : List ℕ) → Appends w w' a → GrowsByFront w w' a
 GrowsByFront-all w w' a p = (a, [], p, append-nil a)
 
 -- what is said of the whole call
 
+-- a fault below is a fault of the whole call
 pub Stops-halts : (glob : GlobValue) (bytes : List ℕ) (r r' w w' : Option (List ℕ)) (f : SiftFault) → Consumes r r' bytes → Halts w w' (sifted glob bytes) f → Stops glob r r' w w' f
 Stops-halts glob bytes r r' w w' Read p h = absurd h
 Stops-halts glob bytes r r' w w' Write p h = (bytes, p, h)
 Stops-halts glob bytes r r' w w' OutOfMemory p h = (bytes, p, h)
 
+-- memory ran out before anything was read
 pub Stops-start : (glob : GlobValue) (r w : Option (List ℕ)) (f : SiftFault) → f ≡ OutOfMemory → Stops glob r r w w f
 Stops-start glob r w f e = Stops-halts glob [] r r w w f (Consumes-nil r) (Halts-memory w (sifted glob []) f e)
 
+-- a fault while the held output was written
 pub Moves-held_halts : (glob : GlobValue) (bytes rest : List ℕ) (w w1 w2 : Option (List ℕ)) (h h1 : List ℕ) (o o1 : Bool) (f : SiftFault) →
     Moves glob bytes rest w w1 h h1 o o1 → Halts w1 w2 h1 f → Halts w w2 (h ++ sifted glob bytes) f
 Moves-held_halts glob bytes rest w w1 w2 h h1 o o1 f m q =
     subst (λ (l : List ℕ). Halts w w2 (h ++ sifted glob l) f) (append-nil bytes)
     (Moves-halts glob bytes rest [] w w1 w2 h h1 o o1 f m (Halts-more w1 w2 h1 (sifted glob (rest ++ [])) f q))
 
+-- a fault at the rest after the last LF
 pub Moves-rest_halts : (glob : GlobValue) (bytes rest : List ℕ) (w w1 w2 : Option (List ℕ)) (h h1 : List ℕ) (o o1 : Bool) (f : SiftFault) →
     Moves glob bytes rest w w1 h h1 o o1 → Halts w1 w2 (h1 ++ sifted glob rest) f → Halts w w2 (h ++ sifted glob bytes) f
 Moves-rest_halts glob bytes rest w w1 w2 h h1 o o1 f m q =
@@ -291,6 +334,7 @@ Moves-drained glob bytes rest w w1 w2 h1 h2 o o1 m p e =
     ap through_last_lf m.bytes_are ∙ m.cut.last_goes_on rest ∙ ap (λ (l : List ℕ). m.whole ++ l) (last_rest rest m.no_lf) ∙ append-nil m.whole in
     subst (λ (l : List ℕ). Appends w w2 (sifted glob l)) (sym last) (Appends-drained w w1 w2 h1 h2 (sifted glob m.whole) (m.out, m.written, m.output) p e)
 
+-- the rest after the last LF was handled, and all is written
 pub Sifts-end : (glob : GlobValue) (bytes front rest : List ℕ) (r r1 r2 w w1 w2 : Option (List ℕ)) (h1 : List ℕ) (o1 b : Bool) → Consumes r r1 bytes → Consumes r1 r2 front →
     front ≡ [] → IsAtEnd r2 → Moves glob bytes rest w w1 [] h1 false o1 → Appends w1 w2 (h1 ++ sifted glob rest) → b ≡ (o1 || has_match glob rest) → Sifts glob r r2 w w2 b
 Sifts-end glob bytes front rest r r1 r2 w w1 w2 h1 o1 b p q none end m a is = (
@@ -303,25 +347,42 @@ Sifts-end glob bytes front rest r r1 r2 w w1 w2 h1 o1 b p q none end m a is = (
   is ∙ ap (λ c. c || has_match glob rest) m.answer_is ∙ sym (has_match-append glob m.whole rest m.cut) ∙ ap (has_match glob) (sym m.bytes_are),
 )
 
+-- the rest after the last LF was handled as a line
 pub rest_put : (glob : GlobValue) (rest : List ℕ) (w w' : Option (List ℕ)) (h h' : List ℕ) (o o' : Bool) → (row glob rest ≡ sifted glob rest) × (glob_means glob rest ≡ has_match glob rest) →
     Holds w w' h' (h ++ row glob rest) × (o' ≡ (o || glob_means glob rest)) → Holds w w' h' (h ++ sifted glob rest) × (o' ≡ (o || has_match glob rest))
 rest_put glob rest w w' h h' o o' e p = ((p.0.0, p.0.1, p.0.2 ∙ ap (λ (l : List ℕ). h ++ l) e.0), p.1 ∙ ap (λ b. o || b) e.1)
 
+-- a fault at that line
 pub rest_halts : (glob : GlobValue) (rest : List ℕ) (w w' : Option (List ℕ)) (h : List ℕ) (f : SiftFault) → row glob rest ≡ sifted glob rest →
     Halts w w' (h ++ row glob rest) f → Halts w w' (h ++ sifted glob rest) f
 rest_halts glob rest w w' h f e p = subst (λ (l : List ℕ). Halts w w' (h ++ l) f) e p
 
+-- nothing is read and nothing held
 pub Moves-begin : (glob : GlobValue) (rest h : List ℕ) (w : Option (List ℕ)) → rest ≡ [] → h ≡ [] → Moves glob [] rest w w [] h false false
 Moves-begin glob rest h w e f =
     subst (λ (l : List ℕ). Moves glob [] l w w [] h false false) (sym e)
     (subst (λ (l : List ℕ). Moves glob [] [] w w [] l false false) (sym f) (Moves-start glob [] w [] false refl))
 
+-- the rest by an equal list
 pub Moves-rest_is : (glob : GlobValue) (bytes rest rest' : List ℕ) (w w1 : Option (List ℕ)) (h h1 : List ℕ) (o o1 : Bool) → rest' ≡ rest →
     Moves glob bytes rest w w1 h h1 o o1 → Moves glob bytes rest' w w1 h h1 o o1
 Moves-rest_is glob bytes rest rest' w w1 h h1 o o1 e m = subst (λ (l : List ℕ). Moves glob bytes l w w1 h h1 o o1) (sym e) m
 
+-- the bytes that were read by an equal list
 pub Consumes-is : (a b : Option (List ℕ)) (xs ys : List ℕ) → xs ≡ ys → Consumes a b ys → Consumes a b xs
 Consumes-is a b xs ys e p = subst (λ (l : List ℕ). Consumes a b l) (sym e) p
+
+-- what came of the rest at the end, and so of the whole
+pub end_result : (glob : GlobValue) (bytes front rest rest' : List ℕ) (r r1 r2 w w1 w2 : Option (List ℕ)) (h1 : List ℕ) (o1 : Bool) (result : Result Bool SiftFault) →
+    Consumes r r1 bytes → Consumes r1 r2 front → front ≡ [] → IsAtEnd r2 → Moves glob bytes rest w w1 [] h1 false o1 → rest' ≡ rest →
+    MatchResult result (λ b. Appends w1 w2 (h1 ++ sifted glob rest') × (b ≡ (o1 || has_match glob rest'))) (Halts w1 w2 (h1 ++ sifted glob rest')) →
+    MatchResult result (Sifts glob r r2 w w2) (Stops glob r r2 w w2)
+end_result glob bytes front rest rest' r r1 r2 w w1 w2 h1 o1 (Ok b) p q none end m is a =
+    Sifts-end glob bytes front rest' r r1 r2 w w1 w2 h1 o1 b p q none end (Moves-rest_is glob bytes rest rest' w w1 [] h1 false o1 is m) a.0 a.1
+end_result glob bytes front rest rest' r r1 r2 w w1 w2 h1 o1 (Err f) p q none end m is a =
+    Stops-halts glob bytes r r2 w w2 f
+    (Consumes-is r r2 bytes (bytes ++ front) (sym (ap (λ (l : List ℕ). bytes ++ l) none ∙ append-nil bytes)) (Consumes-trans r r1 r2 bytes front p q))
+    (Moves-rest_halts glob bytes rest' w w1 w2 [] h1 false o1 f (Moves-rest_is glob bytes rest rest' w w1 [] h1 false o1 is m) a)
 
 -- what a read left in the vector that it read into
 pub read_back : (len : ℕ) (buf tail d : List ℕ) → length buf ≡ len → d ≡ take len (buf ++ tail) → d ≡ buf

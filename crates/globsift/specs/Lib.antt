@@ -3,3 +3,4 @@ pub mod Output
 pub mod Moves
 pub mod Command
 pub mod Texts
+pub mod Program

@@ -167,22 +167,32 @@ fn make_matcher(alloc: Global, glob: &str) -> std::result::Result<GlobMatcher, g
     Glob::new(alloc, glob)?.compile_matcher()
 }
 
+/// What comes of a case: the answer and the writer.
+fn outcome(
+    alloc: Global,
+    matcher: &GlobMatcher,
+    case: &Case,
+) -> (std::result::Result<bool, SiftFault>, ByteWriter) {
+    let mut reader = ByteReader {
+        rest: INPUT,
+        reads: case.reads,
+    };
+    let mut writer = ByteWriter {
+        held: Vec::new(alloc),
+        room: case.room,
+        write_fails: case.write_fails,
+        flush_fails: case.flush_fails,
+        flushes: 0,
+    };
+    let answer = sift_one(alloc, matcher, &mut reader, &mut writer);
+    (answer, writer)
+}
+
 #[test]
 fn faults(rt: HostRuntime) -> std::result::Result<(), Fail> {
     let matcher = make_matcher(rt.alloc(), "*.rs")?;
     for case in CASES {
-        let mut reader = ByteReader {
-            rest: INPUT,
-            reads: case.reads,
-        };
-        let mut writer = ByteWriter {
-            held: Vec::new(rt.alloc()),
-            room: case.room,
-            write_fails: case.write_fails,
-            flush_fails: case.flush_fails,
-            flushes: 0,
-        };
-        let answer = sift_one(rt.alloc(), &matcher, &mut reader, &mut writer);
+        let (answer, writer) = outcome(rt.alloc(), &matcher, &case);
         assert_eq!(rt; writer.held.as_slice(), case.output);
         assert_eq!(rt; answer, case.answer);
         assert_eq!(rt; writer.flushes, case.flushes);

@@ -1,9 +1,9 @@
-use Rattle.std.proofs.Common.{[], ◌++◌, ◌≡◌, ◌<◌, ◌∙◌, refl, ap, sym, take, drop, length, List, ℕ, arith, append-nil, subst}
+use Rattle.std.proofs.Common.{[], ◌++◌, ◌≡◌, ◌<◌, ◌∙◌, refl, ap, sym, take, drop, length, List, ℕ, arith, subst}
 use Rattle.std.specs.List.{list_any}
-use Rattle.std.proofs.lemmas.Result.{err_from_is_err_and, MatchResult-weaker}
+use Rattle.std.proofs.lemmas.Result.{err_from_is_err_and}
 use Rattle.std.proofs.KnownBytes.{Consumes-nil, Consumes-trans, Consumes-kept}
 use Rattle.globsift.specs.Lines.{is_lf}
-use Rattle.globsift.proofs.MoveLemmas.{Stops-halts, Stops-start, Moves-held_halts, Moves-rest_halts, Moves-drained, Sifts-end, Moves-trans, Moves-halts, Moves-begin, Moves-rest_is, Consumes-is, read_back}
+use Rattle.globsift.proofs.MoveLemmas.{Stops-halts, Stops-start, Moves-held_halts, Moves-drained, end_result, Moves-trans, Moves-halts, Moves-begin, Consumes-is, read_back}
 use Rattle.globsift.proofs.sifting.sift_one.Goals as goal
 
 pub returns-in_err-chunk : goal.returns-in_err-chunk
@@ -41,13 +41,8 @@ pub returns-then-n-eq0 : goal.returns-then-n-eq0
 returns-then-n-eq0 g c =
     let i = c.loop.invariant in
     let filled : 0 < length c.read.new.buf = omega (arith, c.read.auto.buf, c.as_mut_slice.ensures.len, c.loop.chunk.ok.0) in
-    MatchResult-weaker c.finish.result c.finish.ensures
-    (λ b q. Sifts-end _ i.0 (take c.in-Ok.n c.read.new.buf) c.as_slice.result.now _ _ _ _ _ _ _ _ b i.1 c.in-Ok.ensures.bytes.0
-    (ap (λ k. take k c.read.new.buf) c.if-n-eq0.true) (c.in-Ok.ensures.bytes.1 c.if-n-eq0.true filled)
-    (Moves-rest_is _ _ _ _ _ _ _ _ _ _ c.as_slice.ensures.value i.2) q.0 q.1)
-    (λ f q. Stops-halts _ i.0 _ _ _ _ f
-    (Consumes-is _ _ _ _ (sym (ap (λ (l : List ℕ). i.0 ++ l) (ap (λ k. take k c.read.new.buf) c.if-n-eq0.true) ∙ append-nil i.0)) (Consumes-trans _ _ _ _ _ i.1 c.in-Ok.ensures.bytes.0))
-    (Moves-rest_halts _ _ _ _ _ _ _ _ _ _ f (Moves-rest_is _ _ _ _ _ _ _ _ _ _ c.as_slice.ensures.value i.2) q))
+    end_result _ i.0 (take c.in-Ok.n c.read.new.buf) _ c.as_slice.result.now _ _ _ _ _ _ _ _ c.finish.result i.1 c.in-Ok.ensures.bytes.0
+    (ap (λ k. take k c.read.new.buf) c.if-n-eq0.true) (c.in-Ok.ensures.bytes.1 c.if-n-eq0.true filled) i.2 c.as_slice.ensures.value c.finish.ensures
 
 pub slice_bounds-put_chunk-end : goal.slice_bounds-put_chunk-end
 slice_bounds-put_chunk-end g c =

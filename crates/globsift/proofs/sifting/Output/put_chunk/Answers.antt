@@ -1,6 +1,6 @@
 use Rattle.std.proofs.Common.{◌∙◌}
-use Rattle.std.proofs.lemmas.Result.{err_from_is_err_and, MatchResult-weaker}
-use Rattle.globsift.proofs.MoveLemmas.{chunk_kept, chunk_halts, chunk_moves, chunk_halts_later}
+use Rattle.std.proofs.lemmas.Result.{err_from_is_err_and}
+use Rattle.globsift.proofs.MoveLemmas.{chunk_kept, chunk_halts, chunk_result}
 use Rattle.globsift.proofs.sifting.Output.put_chunk.Goals as goal
 
 pub returns-in_default : goal.returns-in_default
@@ -17,6 +17,4 @@ pub returns : goal.returns
 returns g c =
     let line = c.as_slice.ensures.value ∙ c.in_ok-extend_from_slice-2.ensures.items in
     let put = c.in_ok-put_line.ensures in
-    MatchResult-weaker c.put_and_keep-2.result c.put_and_keep-2.ensures
-    (λ u m. chunk_moves _ c.args.rest.now.items c.args.chunk.now c.as_slice.result.now _ c.in-Some.i _ _ _ _ _ _ _ _ _ c.requires c.in-Some.ensures line put.0 put.1 m)
-    (λ f m. chunk_halts_later _ c.args.rest.now.items c.args.chunk.now c.as_slice.result.now c.in-Some.i _ _ _ _ _ _ _ f c.requires c.in-Some.ensures line put.0 put.1 m)
+    chunk_result _ c.args.rest.now.items c.args.chunk.now c.as_slice.result.now _ c.in-Some.i _ _ _ _ _ _ _ _ _ c.put_and_keep-2.result c.requires c.in-Some.ensures line put.0 put.1 c.put_and_keep-2.ensures
