@@ -56,7 +56,7 @@ impl Row {
     }
 
     /// Notes that no place before this one is reached.
-    fn start_at(&mut self, place: usize)
+    fn set_first(&mut self, place: usize)
         requires within { place ≤ length self.old }
         requires none { IsNoneBefore place self.old }
         ensures { self.new ≡ self.old }
@@ -95,7 +95,7 @@ impl Row {
             let reached = other.is_reached(place, visits);
             self.set(place, reached);
         }
-        self.start_at(other.first());
+        self.set_first(other.first());
     }
 
     /// Adds the places of another row of the path. Each place is read, from the first on.
@@ -114,28 +114,29 @@ impl Row {
 }
 
 /// Whether a piece that begins here, or began earlier, takes this byte and may go on.
-fn goes_on(rule: &Rule<'_>, here: bool, going: bool, byte: u8) -> bool
+fn may_go_on(rule: &Rule<'_>, here: bool, going: bool, byte: u8) -> bool
     ensures { result ≡ ((here && has_byte rule.now.first byte) || (going && has_byte rule.now.rest byte)) }
 {
     (here && rule.first.has(byte)) || (going && rule.rest.has(byte))
 }
 
 /// Whether the empty piece leads to a place, where `here` says that the place was reached.
-fn stays(rule: &Rule<'_>, here: bool) -> bool
+fn may_stay(rule: &Rule<'_>, here: bool) -> bool
     ensures { result ≡ (here && rule.now.empty) }
 {
     here && rule.empty
 }
 
 /// Whether a place is led to, by the empty piece or by one that ends with this byte.
-fn ends(rule: &Rule<'_>, here: bool, going: bool, byte: u8) -> bool
+fn may_end(rule: &Rule<'_>, here: bool, going: bool, byte: u8) -> bool
     ensures { result ≡ ((here && rule.now.empty) || (going && has_byte rule.now.last byte)) }
 {
     (here && rule.empty) || (going && rule.last.has(byte))
 }
 
-/// The first place reached, of a place and of those before it, where `first` is the first of those.
-fn earlier(first: usize, place: usize, reached: bool) -> usize
+/// The first reached place up to this one, where `first` is the first before it. Where there is none, it is the row's
+/// length.
+fn first_reached(first: usize, place: usize, reached: bool) -> usize
     ensures before { result ≤ first }
     ensures here { IsTrue reached → result ≤ place }
 {
@@ -152,19 +153,20 @@ fn pass(rule: &Rule<'_>, path: &[u8], row: &mut Row, visits: &mut Visits)
 {
     let start = row.first();
     if start > path.len() {
+        // No place is reached, and none will be.
         return;
     }
     let mut here = row.is_reached(start, visits);
     let mut going = false;
-    let stays = stays(rule, here);
-    row.set(start, stays);
-    let mut first = earlier(row.len(), start, stays);
+    let reached = may_stay(rule, here);
+    row.set(start, reached);
+    let mut first = first_reached(row.len(), start, reached);
     for i in start..path.len() {
-        going = goes_on(rule, here, going, path[i]);
+        going = may_go_on(rule, here, going, path[i]);
         here = row.is_reached(i + 1, visits);
-        let ends = ends(rule, here, going, path[i]);
-        row.set(i + 1, ends);
-        first = earlier(first, i + 1, ends);
+        let reached = may_end(rule, here, going, path[i]);
+        row.set(i + 1, reached);
+        first = first_reached(first, i + 1, reached);
     }
-    row.start_at(first);
+    row.set_first(first);
 }

@@ -17,14 +17,14 @@ loop-i-init c =
     let start = c.first-start.result in
     let unreached = c.first-start.ensures.none in
     let fits : start < length old = omega arith in
-    let stays : c.stays-stays.result ≡ is_passed rule path old start = c.stays-stays.ensures ∙ ap (λ here. here && rule.empty) c.is_reached-here.ensures.value ∙ sym (passed_at_first rule path old start unreached) in
+    let stays : c.may_stay-reached.result ≡ is_passed rule path old start = c.may_stay-reached.ensures ∙ ap (λ here. here && rule.empty) c.is_reached-here.ensures.value ∙ sym (passed_at_first rule path old start unreached) in
     record {
       len = search rules;
       here = c.is_reached-here.ensures.value;
       going = sym (open_at_first rule path old start unreached);
-      written = λ k h. rw c.set.ensures (written_at old c.stays-stays.result (is_passed rule path old) start fits (λ j g. unreached j g ∙ sym (not_passed rule path old start unreached j g)) stays k h);
-      left = λ k h. rw c.set.ensures (left_at old old c.stays-stays.result start (λ j g. refl) k h);
-      none = λ k h g. rw c.set.ensures (none_at old c.stays-stays.result start c.earlier-first.result c.earlier-first.result fits (omega arith) c.earlier-first.ensures.here (λ j f _. unreached j f) k h g);
+      written = λ k h. rw c.set.ensures (written_at old c.may_stay-reached.result (is_passed rule path old) start fits (λ j g. unreached j g ∙ sym (not_passed rule path old start unreached j g)) stays k h);
+      left = λ k h. rw c.set.ensures (left_at old old c.may_stay-reached.result start (λ j g. refl) k h);
+      none = λ k h g. rw c.set.ensures (none_at old c.may_stay-reached.result start c.first_reached-first.result c.first_reached-first.result fits (omega arith) c.first_reached-first.ensures.here (λ j f _. unreached j f) k h g);
       within = search rules;
       visits = search rules;
     }
@@ -37,13 +37,13 @@ loop-i-preserved c =
     let row = c.loop-i.row in
     let i = c.loop-i.i in
     let inv = c.loop-i.invariant in
-    let ends = c.ends-ends.result in
+    let ends = c.may_end-reached.result in
     let open_more = is_open_more rule path old i in
     let passed_more = is_passed_more rule path old i in
-    let goes_on = c.goes_on-going.ensures in
+    let goes_on = c.may_go_on-going.ensures in
     let here = c.is_reached-here-in-loop-i.ensures.value ∙ inv.left (i + 1) (omega arith) in
-    let ends_here = c.ends-ends.ensures in
-    let going : c.goes_on-going.result ≡ is_open rule path old (i + 1) = cc in
+    let ends_here = c.may_end-reached.ensures in
+    let going : c.may_go_on-going.result ≡ is_open rule path old (i + 1) = cc in
     let passed : ends ≡ is_passed rule path old (i + 1) = cc in
     let fits : i + 1 < length row = omega arith in
     record {
@@ -52,7 +52,7 @@ loop-i-preserved c =
       going = going;
       written = λ k h. rw c.set-in-loop-i.ensures (written_at row ends (is_passed rule path old) (i + 1) fits (λ j g. inv.written j (omega arith)) passed k h);
       left = λ k h. rw c.set-in-loop-i.ensures (left_at row old ends (i + 1) (λ j g. inv.left j (omega arith)) k h);
-      none = λ k h g. rw c.set-in-loop-i.ensures (none_at row ends (i + 1) c.loop-i.first c.earlier-first-in-loop-i.result fits c.earlier-first-in-loop-i.ensures.before c.earlier-first-in-loop-i.ensures.here (λ j f e. inv.none j (omega arith) e) k h g);
+      none = λ k h g. rw c.set-in-loop-i.ensures (none_at row ends (i + 1) c.loop-i.first c.first_reached-first-in-loop-i.result fits c.first_reached-first-in-loop-i.ensures.before c.first_reached-first-in-loop-i.ensures.here (λ j f e. inv.none j (omega arith) e) k h g);
       within = search rules;
       visits = search rules;
     }
@@ -60,4 +60,4 @@ loop-i-preserved c =
 pub returns-clause-next : goal.returns-clause-next
 returns-clause-next c =
     let inv = c.loop-i.invariant in
-    pass_next c.args.rule.now c.args.path.now c.args.row.now c.start_at.new.self (λ k h. rw c.start_at.ensures (inv.written k (omega arith)))
+    pass_next c.args.rule.now c.args.path.now c.args.row.now c.set_first.new.self (λ k h. rw c.set_first.ensures (inv.written k (omega arith)))
