@@ -1,5 +1,5 @@
 -- What one pass makes of a row.
-use Rattle.std.proofs.Common.{◌≡◌, ℕ, zero, suc, ◌+◌, ◌<◌, ◌≤◌, Bool, true, false, true≢false, ◌&&◌, ◌||◌, List, [], ◌∷◌, ◌++◌, length, set, take, get_or, slice_index, slice_index_or, IsTrue, refl, ap, sym, subst, ◌∙◌, add-one, arith, get_or-set_other, get_or-set_same}
+use Rattle.std.proofs.Common.{◌≡◌, ℕ, zero, suc, ◌+◌, ◌<◌, ◌≤◌, ◌⊎◌, inl, inr, Bool, true, false, true≢false, ◌&&◌, ◌||◌, List, [], ◌∷◌, ◌++◌, length, set, take, get_or, slice_index, slice_index_or, IsTrue, refl, ap, sym, subst, ◌∙◌, add-one, arith, get_or-set_other, get_or-set_same}
 use Rattle.std.specs.Prelude.{◌↔◌}
 use Rattle.std.specs.List.{list_all}
 use Rattle.std.proofs.lemmas.List.{append-nil, append_assoc, length-take-le, same_from_push}
@@ -7,7 +7,7 @@ use Rattle.std.proofs.lemmas.List.Folds.{list_all-append}
 use Rattle.std.proofs.lemmas.Bool.{cases_lt}
 use Rattle.std.proofs.Math.Seq.{take-suc}
 use Rattle.std.proofs.Math.Logic.{⊎_elim}
-use Rattle.globset_glob.specs.Rows.{Leads, IsNext}
+use Rattle.globset_glob.specs.Rows.{Leads, IsNext, IsNoneBefore}
 use Rattle.globset_glob.specs.Rules.{has_byte, begins, ends_in, allows}
 use Rattle.globset_glob.specs.Takes.{is_empty}
 use Rattle.globset_glob.specs.declared.row.rule.Rule.{Rule}
@@ -38,19 +38,60 @@ pub is_passed_more : (r : Rule) (b : List ℕ) (row : List Bool) (k : ℕ) →
 unfolding is_passed
 is_passed_more r b row k = rw add-one refl
 
+before_or_at : (k place : ℕ) → k ≤ place → (k < place) ⊎ (k ≡ place)
+before_or_at k place h = ⊎_elim {C = (k < place) ⊎ (k ≡ place)} (λ lt. inl lt) (λ past. inr (omega (arith, past))) (cases_lt k place)
+
 -- one more place is written
-pub written_more : (row : List Bool) (x : Bool) (P : ℕ → Bool) (i : ℕ) → i + 1 < length row → ((k : ℕ) → k ≤ i → get_or row k false ≡ P k) → x ≡ P (i + 1)
-    → (k : ℕ) → k ≤ i + 1 → get_or (set row (i + 1) x) k false ≡ P k
-written_more row x P i fits below here k h =
-    ⊎_elim {C = get_or (set row (i + 1) x) k false ≡ P k}
-    (λ lt. let ne : k ≡ i + 1 → ⊥ = λ e. omega arith in rw get_or-set_other (below k (omega arith)))
-    (λ past. let is : k ≡ i + 1 = omega arith in rw is (rw get_or-set_same here))
-    (cases_lt k (i + 1))
+pub written_at : (row : List Bool) (x : Bool) (P : ℕ → Bool) (place : ℕ) → place < length row → ((k : ℕ) → k < place → get_or row k false ≡ P k) → x ≡ P place
+    → (k : ℕ) → k ≤ place → get_or (set row place x) k false ≡ P k
+written_at row x P place fits before here k h = by_case (before_or_at k place h)
+  where
+    by_case : (k < place) ⊎ (k ≡ place) → get_or (set row place x) k false ≡ P k
+    by_case (inl lt) = let ne : k ≡ place → ⊥ = λ e. omega arith in rw get_or-set_other (before k lt)
+    by_case (inr is) = rw is (rw get_or-set_same here)
 
 -- and the places behind it are left
-pub left_more : (row old : List Bool) (x : Bool) (i : ℕ) → ((k : ℕ) → i < k → get_or row k false ≡ get_or old k false)
-    → (k : ℕ) → i + 1 < k → get_or (set row (i + 1) x) k false ≡ get_or old k false
-left_more row old x i left k h = let ne : k ≡ i + 1 → ⊥ = λ e. omega arith in rw get_or-set_other (left k (omega arith))
+pub left_at : (row old : List Bool) (x : Bool) (place : ℕ) → ((k : ℕ) → place < k → get_or row k false ≡ get_or old k false)
+    → (k : ℕ) → place < k → get_or (set row place x) k false ≡ get_or old k false
+left_at row old x place left k h = let ne : k ≡ place → ⊥ = λ e. omega arith in rw get_or-set_other (left k h)
+
+-- none is reached before the first one
+pub none_at : (row : List Bool) (x : Bool) (place first first' : ℕ) → place < length row → first' ≤ first → (IsTrue x → first' ≤ place) → ((k : ℕ) → k < place → k < first → get_or row k false ≡ false)
+    → (k : ℕ) → k ≤ place → k < first' → get_or (set row place x) k false ≡ false
+none_at row x place first first' fits less here none k h g = by_case (before_or_at k place h)
+  where
+    unreached : (y : Bool) → (IsTrue y → first' ≤ place) → k ≡ place → y ≡ false
+    unreached true here is = let le : first' ≤ place = here refl in absurd (omega arith)
+    unreached false here is = refl
+
+    by_case : (k < place) ⊎ (k ≡ place) → get_or (set row place x) k false ≡ false
+    by_case (inl lt) = let ne : k ≡ place → ⊥ = λ e. omega arith in let old : get_or row k false ≡ false = none k lt (omega arith) in rw get_or-set_other old
+    by_case (inr is) = let no : x ≡ false = unreached x here is in rw is (rw get_or-set_same no)
+
+-- ---- before the first place reached
+
+module _ (r : Rule) (b : List ℕ) (row : List Bool) (first : ℕ) (unreached : IsNoneBefore first row) where
+  not_open : (k : ℕ) → k ≤ first → is_open r b row k ≡ false
+  unfolding is_open
+  not_open zero h = refl
+  not_open (suc k) h = rw (unreached k (omega arith), not_open k (omega arith)) refl
+
+  pub not_passed : (k : ℕ) → k < first → is_passed r b row k ≡ false
+  unfolding is_passed
+  not_passed zero h = rw (unreached 0 h) refl
+  not_passed (suc k) h = rw (unreached (suc k) h, not_open (suc k) (omega arith)) refl
+
+  pub open_at_first : is_open r b row first ≡ false
+  open_at_first = not_open first (omega arith)
+
+  -- the first place has no piece but the empty one
+  pub passed_at_first : is_passed r b row first ≡ (slice_index_or row first false && r.empty)
+  unfolding is_passed
+  passed_at_first = by_case first refl
+    where
+      by_case : (k : ℕ) → first ≡ k → is_passed r b row k ≡ (slice_index_or row k false && r.empty)
+      by_case zero e = refl
+      by_case (suc k) e = rw (not_open (suc k) (omega arith)) (or_none (slice_index_or row (suc k) false && r.empty))
 
 -- ---- one byte more of a piece
 

@@ -42,7 +42,7 @@ leads_both b old new P Q next k h = (there, back)
 abbrev pub Goes : List ℕ → List Bool → (List ℕ → Bool) → List Bool → (List ℕ → Bool) → Type 0
 Goes b old Q new Q' = (k : ℕ) → k ≤ length b → Leads b new Q' k ↔ Leads b old Q k
 
-pub leads_same : (b : List ℕ) (row : List Bool) (P Q : List ℕ → Bool) (k : ℕ) → ((y : List ℕ) → P y ≡ Q y) → Leads b row P k ↔ Leads b row Q k
+leads_same : (b : List ℕ) (row : List Bool) (P Q : List ℕ → Bool) (k : ℕ) → ((y : List ℕ) → P y ≡ Q y) → Leads b row P k ↔ Leads b row Q k
 leads_same b row P Q k same = (λ l. (l.0, l.1, l.2, l.3, sym (same l.1) ∙ l.4), λ l. (l.0, l.1, l.2, l.3, same l.1 ∙ l.4))
 
 -- the next row, by a test that is the same
@@ -75,9 +75,6 @@ goes_all b start new all Q' so_far none k h =
     let two = leads_empty b new k h in
     let three = so_far k h in
     (λ at. three.0 (one.1 (two.0 at)), λ l. two.1 (one.0 (three.1 l)))
-
-pub goes_start : (b : List ℕ) (row : List Bool) (Q : List ℕ → Bool) → Goes b row Q row Q
-goes_start b row Q k h = (λ l. l, λ l. l)
 
 -- from the first place alone, the whole path is led over by what takes it all
 leads_whole : (b : List ℕ) (row : List Bool) (Q : List ℕ → Bool) → slice_index_or row 0 false ≡ true → ((k : ℕ) → 0 < k → slice_index_or row k false ≡ false)

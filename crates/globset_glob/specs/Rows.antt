@@ -1,5 +1,9 @@
 -- Rows of the places of a path, each with whether it is reached.
-use Rattle.std.specs.Prelude.{◌≡◌, ℕ, ◌≤◌, Bool, false, ◌↔◌, List, ◌++◌, length, take, slice_index_or, IsTrue}
+use Rattle.std.specs.Prelude.{◌≡◌, ℕ, ◌<◌, ◌≤◌, Bool, false, ◌↔◌, List, ◌++◌, length, take, slice_index_or, IsTrue}
+
+-- No place before this one is reached.
+abbrev pub IsNoneBefore : ℕ → List Bool → Type 0
+IsNoneBefore first row = (k : ℕ) → k < first → slice_index_or row k false ≡ false
 
 -- The place k is led to from a place of the row, by a piece of the path that passes the test.
 abbrev pub Leads : List ℕ → List Bool → (List ℕ → Bool) → ℕ → Type 0

@@ -9,5 +9,7 @@ invariant-loop-i l = record {
   going : l.going ≡ is_open l.rule l.path l.fn.row l.i;
   written : (k : ℕ) → k ≤ l.i → get_or l.row k false ≡ is_passed l.rule l.path l.fn.row k;
   left : (k : ℕ) → l.i < k → get_or l.row k false ≡ get_or l.fn.row k false;
-  visits : l.visits ≡ l.fn.visits + 1 + l.i;
+  none : (k : ℕ) → k ≤ l.i → k < l.first → get_or l.row k false ≡ false;
+  within : l.first ≤ length l.row;
+  visits : l.visits ≤ l.fn.visits + 1 + l.i;
 }

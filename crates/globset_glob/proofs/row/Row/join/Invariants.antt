@@ -6,5 +6,5 @@ invariant-loop-place l = record {
   len : length l.self ≡ length l.other;
   joined : (k : ℕ) → k < l.place → slice_index_or l.self k false ≡ (slice_index_or l.fn.self k false || slice_index_or l.other k false);
   left : (k : ℕ) → l.place ≤ k → slice_index_or l.self k false ≡ slice_index_or l.fn.self k false;
-  visits : l.visits ≡ l.fn.visits + l.place;
+  visits : l.visits ≤ l.fn.visits + l.place;
 }
