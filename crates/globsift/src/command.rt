@@ -14,7 +14,8 @@ use std::alloc::Global;
 /// fault from the left is answered, or want of memory.
 pub fn command_one(alloc: Global, words: &[String]) -> Result<Glob, CommandFault>
     ensures { MatchResult result (λ glob. asked (map string_bytes words.now) ≡ Ok glob)
-        (λ fault. (fault_value fault ≡ glob_error out_of_memory) ⊎ (asked (map string_bytes words.now) ≡ Err (fault_value fault))) }
+        (λ fault. (fault_value fault ≡ glob_error out_of_memory)
+        ⊎ (asked (map string_bytes words.now) ≡ Err (fault_value fault))) }
 {
     match words {
         [] => Err(CommandFault::NoGlob),
@@ -36,7 +37,8 @@ fn is_option(word: &str) -> bool
 /// Reads the first word as a glob.
 fn glob_of(alloc: Global, word: &str) -> Result<Glob, CommandFault>
     ensures { MatchResult result (λ glob. asked_first word.now ≡ Ok glob)
-        (λ fault. (fault_value fault ≡ glob_error out_of_memory) ⊎ (asked_first word.now ≡ Err (fault_value fault))) }
+        (λ fault. (fault_value fault ≡ glob_error out_of_memory)
+        ⊎ (asked_first word.now ≡ Err (fault_value fault))) }
 {
     if is_option(word) {
         return Err(unknown_option(alloc, word));
@@ -46,7 +48,8 @@ fn glob_of(alloc: Global, word: &str) -> Result<Glob, CommandFault>
 
 /// The fault of a second word.
 fn fault_of_second(alloc: Global, word: &str) -> CommandFault
-    ensures { (fault_value result ≡ glob_error out_of_memory) ⊎ (fault_value result ≡ second_fault word.now) }
+    ensures { (fault_value result ≡ glob_error out_of_memory)
+        ⊎ (fault_value result ≡ second_fault word.now) }
 {
     if is_option(word) {
         return unknown_option(alloc, word);
@@ -56,7 +59,8 @@ fn fault_of_second(alloc: Global, word: &str) -> CommandFault
 
 /// The fault of a word that begins with `-`. Where the word cannot be copied it is want of memory.
 fn unknown_option(alloc: Global, word: &str) -> CommandFault
-    ensures { (fault_value result ≡ glob_error out_of_memory) ⊎ (fault_value result ≡ unknown_option word.now) }
+    ensures { (fault_value result ≡ glob_error out_of_memory)
+        ⊎ (fault_value result ≡ unknown_option word.now) }
 {
     match String::from_str(alloc, word) {
         Ok(word) => CommandFault::UnknownOption(word),

@@ -58,9 +58,11 @@ impl Output {
         writer: &mut W,
     ) -> Result<(), SiftFault>
         ensures { MatchResult result
-            (λ _. Holds (W.contents writer.old) (W.contents writer.new) self.new.held.items (self.old.held.items ++ row matcher.now line.now)
+            (λ _. Holds (W.contents writer.old) (W.contents writer.new)
+            self.new.held.items (self.old.held.items ++ row matcher.now line.now)
             × (self.new.wrote ≡ (self.old.wrote || glob_means matcher.now line.now)))
-            (Halts (W.contents writer.old) (W.contents writer.new) (self.old.held.items ++ row matcher.now line.now)) }
+            (Halts (W.contents writer.old) (W.contents writer.new)
+            (self.old.held.items ++ row matcher.now line.now)) }
     {
         self.put_row(matcher, line)?;
         if self.held.len() >= FULL {
@@ -77,9 +79,11 @@ impl Output {
         writer: &mut W,
     ) -> Result<&'a [u8], SiftFault>
         ensures { MatchResult result
-            (λ rest. Moves matcher.now bytes.now rest.now (W.contents writer.old) (W.contents writer.new)
+            (λ rest. Moves matcher.now bytes.now rest.now
+            (W.contents writer.old) (W.contents writer.new)
             self.old.held.items self.new.held.items self.old.wrote self.new.wrote)
-            (Halts (W.contents writer.old) (W.contents writer.new) (self.old.held.items ++ sifted matcher.now bytes.now)) }
+            (Halts (W.contents writer.old) (W.contents writer.new)
+            (self.old.held.items ++ sifted matcher.now bytes.now)) }
     {
         let mut rest = bytes;
         while let Some(i) = memchr(b'\n', rest) {
@@ -99,9 +103,11 @@ impl Output {
     ) -> Result<(), SiftFault>
         requires { rest.old.items ≡ [] }
         ensures { MatchResult result
-            (λ _. Moves matcher.now bytes.now rest.new.items (W.contents writer.old) (W.contents writer.new)
+            (λ _. Moves matcher.now bytes.now rest.new.items
+            (W.contents writer.old) (W.contents writer.new)
             self.old.held.items self.new.held.items self.old.wrote self.new.wrote)
-            (Halts (W.contents writer.old) (W.contents writer.new) (self.old.held.items ++ sifted matcher.now bytes.now)) }
+            (Halts (W.contents writer.old) (W.contents writer.new)
+            (self.old.held.items ++ sifted matcher.now bytes.now)) }
     {
         let tail = self.put_lines(matcher, bytes, writer)?;
         rest.extend_from_slice(tail)?;
@@ -118,7 +124,8 @@ impl Output {
     ) -> Result<(), SiftFault>
         requires { list_any is_lf rest.old.items ≡ false }
         ensures { MatchResult result
-            (λ _. Moves matcher.now (rest.old.items ++ chunk.now) rest.new.items (W.contents writer.old) (W.contents writer.new)
+            (λ _. Moves matcher.now (rest.old.items ++ chunk.now) rest.new.items
+            (W.contents writer.old) (W.contents writer.new)
             self.old.held.items self.new.held.items self.old.wrote self.new.wrote)
             (Halts (W.contents writer.old) (W.contents writer.new)
             (self.old.held.items ++ sifted matcher.now (rest.old.items ++ chunk.now))) }
@@ -145,9 +152,11 @@ impl Output {
     ) -> Result<(), SiftFault>
         requires { list_any is_lf rest.now ≡ false }
         ensures { MatchResult result
-            (λ _. Holds (W.contents writer.old) (W.contents writer.new) self.new.held.items (self.old.held.items ++ sifted matcher.now rest.now)
+            (λ _. Holds (W.contents writer.old) (W.contents writer.new)
+            self.new.held.items (self.old.held.items ++ sifted matcher.now rest.now)
             × (self.new.wrote ≡ (self.old.wrote || has_match matcher.now rest.now)))
-            (Halts (W.contents writer.old) (W.contents writer.new) (self.old.held.items ++ sifted matcher.now rest.now)) }
+            (Halts (W.contents writer.old) (W.contents writer.new)
+            (self.old.held.items ++ sifted matcher.now rest.now)) }
     {
         if rest.is_empty() {
             return Ok(());
@@ -165,9 +174,11 @@ impl Output {
     ) -> Result<bool, SiftFault>
         requires { list_any is_lf rest.now ≡ false }
         ensures { MatchResult result
-            (λ wrote. Appends (W.contents writer.old) (W.contents writer.new) (self.old.held.items ++ sifted matcher.now rest.now)
+            (λ wrote. Appends (W.contents writer.old) (W.contents writer.new)
+            (self.old.held.items ++ sifted matcher.now rest.now)
             × (wrote ≡ (self.old.wrote || has_match matcher.now rest.now)))
-            (Halts (W.contents writer.old) (W.contents writer.new) (self.old.held.items ++ sifted matcher.now rest.now)) }
+            (Halts (W.contents writer.old) (W.contents writer.new)
+            (self.old.held.items ++ sifted matcher.now rest.now)) }
     {
         self.put_rest(matcher, rest, writer)?;
         write_held(&mut self.held, writer)?;
@@ -194,7 +205,9 @@ fn write_front<W: Write>(bytes: &[u8], writer: &mut W) -> bool
 
 /// Writes all that is held, and holds nothing then. A fault leaves a beginning of it written.
 fn write_held<W: Write>(held: &mut Vec<u8>, writer: &mut W) -> Result<(), SiftFault>
-    ensures { MatchResult result (λ _. Holds (W.contents writer.old) (W.contents writer.new) held.new.items held.old.items × (held.new.items ≡ []))
+    ensures { MatchResult result
+        (λ _. Holds (W.contents writer.old) (W.contents writer.new)
+        held.new.items held.old.items × (held.new.items ≡ []))
         (Halts (W.contents writer.old) (W.contents writer.new) held.old.items) }
 {
     if write_front(held.as_slice(), writer) {
@@ -227,8 +240,10 @@ pub fn sift_one<R: Read, W: Write>(
     writer: &mut W,
 ) -> Result<bool, SiftFault>
     ensures { MatchResult result
-        (Sifts matcher.now (R.remaining reader.old) (R.remaining reader.new) (W.contents writer.old) (W.contents writer.new))
-        (Stops matcher.now (R.remaining reader.old) (R.remaining reader.new) (W.contents writer.old) (W.contents writer.new)) }
+        (Sifts matcher.now (R.remaining reader.old) (R.remaining reader.new)
+        (W.contents writer.old) (W.contents writer.new))
+        (Stops matcher.now (R.remaining reader.old) (R.remaining reader.new)
+        (W.contents writer.old) (W.contents writer.new)) }
 {
     let mut chunk = zeros(alloc, CHUNK)?;
     let mut rest = Vec::new(alloc);
