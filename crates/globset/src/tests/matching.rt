@@ -1,7 +1,8 @@
 //! Which paths a glob means.
 
 use super::read;
-use crate::Candidate;
+use crate::{Candidate, GlobMatcher};
+use std::process::Abort;
 use std::test::Fail;
 
 /// Each line has a glob, perhaps with the letters of its options, `=>`, the paths that it means, and after `not` those
@@ -89,41 +90,65 @@ a?c => abc a/c not ac
 a/**/b => a/b a/x/b not ab
 \* => * not a";
 
-#[test]
-fn paths(rt: HostRuntime) -> Result<(), Fail> {
-    for row in PATHS.lines() {
-        let (glob, paths) = row.split_once(" =>").ok_or("a row")?;
-        let matcher = read(rt.alloc(), glob)?.compile_matcher()?;
-        let mut want = true;
-        for word in paths.split_whitespace() {
-            if word == "not" {
-                want = false;
-            } else {
-                let path = if word == "()" { "" } else { word };
-                assert_eq!(rt; matcher.is_match(path)?, want, "{glob} on {word}");
-            }
+/// Asks whether the glob means the path, `()` being the empty one.
+fn expect(rt: &impl Abort, matcher: &GlobMatcher, path: &str, want: bool) -> Result<(), Fail> {
+    let glob = matcher.glob().glob();
+    if path == "()" {
+        assert_eq!(rt; matcher.is_match("")?, want, "{glob} on the empty path");
+        return Ok(());
+    }
+    assert_eq!(rt; matcher.is_match(path)?, want, "{glob} on {path}");
+    Ok(())
+}
+
+/// Goes through the paths of a row.
+fn expect_row(rt: &impl Abort, matcher: &GlobMatcher, paths: &str) -> Result<(), Fail> {
+    let mut want = true;
+    for word in paths.split_whitespace() {
+        if word == "not" {
+            want = false;
+        } else {
+            expect(rt, matcher, word, want)?;
         }
     }
     Ok(())
 }
 
+#[test]
+fn paths(rt: HostRuntime) -> Result<(), Fail> {
+    for row in PATHS.lines() {
+        let (glob, paths) = row.split_once(" =>").ok_or("a row")?;
+        let matcher = read(rt.alloc(), glob)?.compile_matcher()?;
+        expect_row(&rt, &matcher, paths)?;
+    }
+    Ok(())
+}
+
 /// A class takes single bytes, also where they are no text.
+const BYTES: [(&str, u8, bool); 8] = [
+    ("[é]", 0xC3, true),
+    ("[é]", 0xC2, false),
+    ("[é-ü]", 0xB0, true),
+    ("[é-ü]", 0xC3, true),
+    ("[é-ü]", 0xA8, false),
+    ("?", 0xFF, true),
+    ("*", 0xFF, true),
+    ("a", 0xFF, false),
+];
+
+/// Asks whether the glob means the path of one byte.
+fn expect_byte(rt: &impl Abort, matcher: &GlobMatcher, byte: u8, want: bool) -> Result<(), Fail> {
+    let path = [byte];
+    let have = matcher.is_match_candidate(&Candidate::from_bytes(&path))?;
+    assert_eq!(rt; have, want, "{byte}");
+    Ok(())
+}
+
 #[test]
 fn bytes(rt: HostRuntime) -> Result<(), Fail> {
-    for (glob, byte, want) in [
-        ("[é]", 0xC3, true),
-        ("[é]", 0xC2, false),
-        ("[é-ü]", 0xB0, true),
-        ("[é-ü]", 0xC3, true),
-        ("[é-ü]", 0xA8, false),
-        ("?", 0xFF, true),
-        ("*", 0xFF, true),
-        ("a", 0xFF, false),
-    ] {
+    for (glob, byte, want) in BYTES {
         let matcher = read(rt.alloc(), glob)?.compile_matcher()?;
-        let path = [byte];
-        let have = matcher.is_match_candidate(&Candidate::from_bytes(&path))?;
-        assert_eq!(rt; have, want, "{glob} on {byte}");
+        expect_byte(&rt, &matcher, byte, want)?;
     }
     Ok(())
 }
