@@ -15,6 +15,7 @@ pub mod Passes
 pub mod Rules
 pub mod Groups
 pub mod Heads
+pub mod Kept
 mod OnLiterals
 mod RowWords
 mod StarRows
