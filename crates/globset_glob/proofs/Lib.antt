@@ -16,6 +16,12 @@ pub mod Rules
 pub mod Groups
 pub mod Heads
 pub mod Kept
+pub mod WellFormed
+pub mod Scalars
+pub mod Letters
+pub mod Taken
+pub mod Entries
+pub mod Expressions
 mod OnLiterals
 mod RowWords
 mod StarRows
