@@ -30,3 +30,5 @@ mod FaultRows
 mod ClassByteRows
 mod MeaningRows
 mod MeaningMoreRows
+mod RegexRows
+mod SmallRegexRows

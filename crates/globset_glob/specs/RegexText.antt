@@ -12,15 +12,15 @@ use Rattle.globset_glob.specs.Means.{is_prefix_alone}
 abbrev pub hexadecimal_digit : ℕ → ℕ
 hexadecimal_digit n = if nat_lt n 10 then 48 + n else 87 + n
 
--- the ASCII characters that have a backslash (92) before them: \ . + * ? ( ) | [ ] { } ^ $ # & - ~
+-- the ASCII characters that have a backslash before them: \ . + * ? ( ) | [ ] { } ^ $ # & - ~
 abbrev pub is_escaped : ℕ → Bool
-is_escaped c = is_one_of c (92 ∷ codes ".+*?()|[]{}^$#&-~")
+is_escaped c = is_one_of c (codes "\\.+*?()|[]{}^$#&-~")
 
--- A byte past ASCII is `\x` (92, 120) and two digits. An ASCII character is itself, some behind a backslash.
+-- A byte past ASCII is `\x` and two digits. An ASCII character is itself, some behind a backslash.
 abbrev pub byte_text : ℕ → List ℕ
 byte_text c =
-    if nat_lt c 128 then (if is_escaped c then 92 ∷ c ∷ [] else c ∷ [])
-    else 92 ∷ 120 ∷ hexadecimal_digit (c / 16) ∷ hexadecimal_digit (c % 16) ∷ []
+    if nat_lt c 128 then (if is_escaped c then codes "\\" ++ c ∷ [] else c ∷ [])
+    else codes "\\x" ++ hexadecimal_digit (c / 16) ∷ hexadecimal_digit (c % 16) ∷ []
 
 abbrev pub bytes_text : List ℕ → List ℕ
 bytes_text [] = []

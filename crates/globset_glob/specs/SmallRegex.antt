@@ -49,9 +49,9 @@ abbrev pub is_among : ℕ → List ℕ → Bool
 is_among c [] = false
 is_among c (x ∷ xs) = (c == x) || is_among c xs
 
--- the characters \ . + * ? ( ) | [ ] { } ^ $ # & - ~ stand for themselves only behind a backslash, which is 92
+-- the characters \ . + * ? ( ) | [ ] { } ^ $ # & - ~ stand for themselves only behind a backslash
 abbrev pub is_special : ℕ → Bool
-is_special c = is_among c (92 ∷ codes ".+*?()|[]{}^$#&-~")
+is_special c = is_among c (codes "\\.+*?()|[]{}^$#&-~")
 
 -- a digit from `0` to `9` or from `a` to `f`
 abbrev pub is_hexadecimal : ℕ → Bool
@@ -61,12 +61,12 @@ abbrev pub hexadecimal_value : ℕ → ℕ
 hexadecimal_value c = if nat_le c 57 then c - 48 else c - 87
 
 -- A byte is written as the ASCII character that it is, if that is not special; as a special character behind a
--- backslash; or, whatever byte it is, as `\x` (92, 120) and two digits.
+-- backslash; or, whatever byte it is, as `\x` and two digits.
 abbrev pub SpellsByte : ℕ → List ℕ → Type 0
 SpellsByte c t =
     ((t ≡ c ∷ []) × (c < 128) × IsFalse (is_special c))
-    ⊎ (((t ≡ 92 ∷ c ∷ []) × IsTrue (is_special c))
-    ⊎ ((h : ℕ) × (l : ℕ) × (t ≡ 92 ∷ 120 ∷ h ∷ l ∷ []) × IsTrue (is_hexadecimal h) × IsTrue (is_hexadecimal l) × (c ≡ 16 * hexadecimal_value h + hexadecimal_value l)))
+    ⊎ (((t ≡ codes "\\" ++ c ∷ []) × IsTrue (is_special c))
+    ⊎ ((h : ℕ) × (l : ℕ) × (t ≡ codes "\\x" ++ h ∷ l ∷ []) × IsTrue (is_hexadecimal h) × IsTrue (is_hexadecimal l) × (c ≡ 16 * hexadecimal_value h + hexadecimal_value l)))
 
 -- a byte, or a byte, `-` and a byte
 abbrev pub SpellsEntry : Entry → List ℕ → Type 0
