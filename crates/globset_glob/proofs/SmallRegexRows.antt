@@ -1,7 +1,8 @@
 -- Examples of small regular expressions: texts with their trees, a text that has none, and what trees denote.
 use Rattle.std.specs.Prelude.{◌≡◌, ◌==◌, ℕ, List, [], ◌∷◌, ◌++◌, ◌⊎◌, true, false, codes}
-use Rattle.std.proofs.Common.{refl, inl, inr, true≢false, sym, ◌∙◌, ap, subst, arith}
+use Rattle.std.proofs.Common.{refl, inl, inr, true≢false, sym, ◌∙◌, ap, subst, drop, arith}
 use Rattle.globset_glob.specs.SmallRegex.{single, span, any_byte, byte, class_of, group_of, once, repeated, optional, Atom, Item, no_item, item, Row, no_row, row, Expression, expression, is_special, class_of_has, SpellsByte, SpellsEntry, SpellsAtom, SpellsItem, SpellsRow, SpellsOthers, Spells, no_piece, one_more, DenotesAtom, DenotesItem, DenotesRow, Denotes}
+use Rattle.std.proofs.lemmas.Bool.{eq-eqb}
 use Rattle.std.proofs.lemmas.List.{append_cancel_right}
 use Rattle.globset_glob.proofs.Cuts.{cons_none}
 
@@ -85,11 +86,20 @@ no_atom_of_nothing (byte c) (inr (inr (h, l, is, hh, hl, value))) = cc
 no_atom_of_nothing (class_of negated es) (u, is, entries, some) = cc
 no_atom_of_nothing (group_of r rs) (u, v, is, first, others) = cc
 
+same_heads : {c d : ℕ} {cs ds : List ℕ} → c ∷ cs ≡ d ∷ ds → c ≡ d
+same_heads is = cc
+
+same_tails : {c d : ℕ} {cs ds : List ℕ} → c ∷ cs ≡ d ∷ ds → cs ≡ ds
+same_tails is = cc
+
+other_heads : (c d : ℕ) (cs ds : List ℕ) → (c == d) ≡ false → c ∷ cs ≡ d ∷ ds → ⊥
+other_heads c d cs ds other is = true≢false (sym (eq-eqb c d (same_heads is)) ∙ other)
+
 no_atom_of_a_star : (a : Atom) → SpellsAtom a (codes "*") → ⊥
-no_atom_of_a_star any_byte is = cc
+no_atom_of_a_star any_byte is = other_heads 42 46 [] [] refl is
 no_atom_of_a_star (byte c) h = not_special_as_itself c h
-no_atom_of_a_star (class_of negated es) (u, is, entries, some) = cc
-no_atom_of_a_star (group_of r rs) (u, v, is, first, others) = cc
+no_atom_of_a_star (class_of negated es) (u, is, entries, some) = other_heads 42 91 [] _ refl is
+no_atom_of_a_star (group_of r rs) (u, v, is, first, others) = other_heads 42 40 [] _ refl is
 
 no_item_of_nothing : (i : Item) → SpellsItem i [] → ⊥
 no_item_of_nothing (once a) h = no_atom_of_nothing a h
@@ -99,19 +109,27 @@ no_item_of_nothing (optional a) (u, is, h) = cons_none u 63 [] is
 no_item_of_a_star : (i : Item) → SpellsItem i (codes "*") → ⊥
 no_item_of_a_star (once a) h = no_atom_of_a_star a h
 no_item_of_a_star (repeated a) ([], is, h) = no_atom_of_nothing a h
-no_item_of_a_star (repeated a) (x ∷ xs, is, h) = let e : [] ≡ xs ++ codes "*" = cc in cons_none xs 42 [] e
-no_item_of_a_star (optional a) ([], is, h) = cc
-no_item_of_a_star (optional a) (x ∷ xs, is, h) = let e : [] ≡ xs ++ codes "?" = cc in cons_none xs 63 [] e
+no_item_of_a_star (repeated a) (x ∷ xs, is, h) = cons_none xs 42 [] (same_tails is)
+no_item_of_a_star (optional a) ([], is, h) = other_heads 42 63 [] [] refl is
+no_item_of_a_star (optional a) (x ∷ xs, is, h) = cons_none xs 63 [] (same_tails is)
 
 no_row_of_a_star : (r : Row) → SpellsRow r (codes "*") → ⊥
 no_row_of_a_star no_item is = cc
 no_row_of_a_star (item i r) ([], v, cut, h, rest) = no_item_of_nothing i h
-no_row_of_a_star (item i r) (x ∷ [], v, cut, h, rest) = let e : 42 ≡ x = cc in no_item_of_a_star i (subst (λ c. SpellsItem i (c ∷ [])) (sym e) h)
-no_row_of_a_star (item i r) (x ∷ y ∷ ys, v, cut, h, rest) = cc
+no_row_of_a_star (item i r) (x ∷ xs, v, cut, h, rest) =
+    let nil : xs ≡ [] = front_nil xs v (same_tails cut) in
+    no_item_of_a_star i (subst (λ c. SpellsItem i (c ∷ [])) (sym (same_heads cut)) (subst (λ l. SpellsItem i (x ∷ l)) nil h))
+  where
+    front_nil : (xs v : List ℕ) → [] ≡ xs ++ v → xs ≡ []
+    front_nil [] v e = refl
+    front_nil (y ∷ ys) v e = absurd cc
 
+-- `*` stands behind nothing
 star_of_nothing : (x : Expression) → Spells x (codes "(?-u)^*$") → ⊥
-star_of_nothing (expression true r) (u, is, h) = cc
-star_of_nothing (expression false r) (u, is, h) = let e : codes "*" ++ codes "$" ≡ u ++ codes "$" = cc in no_row_of_a_star r (subst (SpellsRow r) (sym (append_cancel_right (codes "*") u (codes "$") e)) h)
+star_of_nothing (expression true r) (u, is, h) = other_heads 94 40 _ _ refl (ap (drop 5) is)
+star_of_nothing (expression false r) (u, is, h) =
+    let row_is : codes "*" ≡ u = append_cancel_right (codes "*") u (codes "$") (ap (drop 6) is) in
+    no_row_of_a_star r (subst (SpellsRow r) (sym row_is) h)
 
 -- ---- what is denoted
 
