@@ -1,5 +1,5 @@
 -- The text of a glob's tokens has a tree, which denotes what they mean: a lemma for each kind of token, and induction.
-use Rattle.std.proofs.Common.{◌≡◌, ℕ, ◌<◌, ◌≤◌, ◌⊎◌, inl, inr, Bool, true, false, true≢false, ◌&&◌, ◌||◌, not, List, [], ◌∷◌, ◌++◌, length, IsTrue, refl, ap, sym, ◌∙◌, subst, arith}
+use Rattle.std.proofs.Common.{◌≡◌, ℕ, ◌≤◌, ◌⊎◌, inl, inr, Bool, true, false, true≢false, ◌&&◌, ◌||◌, not, List, [], ◌∷◌, ◌++◌, length, IsTrue, refl, ap, sym, ◌∙◌, subst, arith}
 use Rattle.std.specs.Prelude.{◌↔◌, encode_utf8, if◌then◌else◌, codes}
 use Rattle.std.specs.Char.{to_ascii_lowercase, to_ascii_uppercase}
 use Rattle.std.specs.List.{list_all}
@@ -19,7 +19,7 @@ use Rattle.globset_glob.proofs.Groups.{some_any}
 use Rattle.globset_glob.proofs.WellFormed.{AreScalars, IsWellFormed, AreWellFormed, AllWellFormed}
 use Rattle.globset_glob.proofs.Taken.{Takes, TakesAll, Then, OneByte, empty_same, one_byte, equal_bytes, prefix_takes, suffix_takes, between_takes, then_takes}
 use Rattle.globset_glob.proofs.Letters.{Below, IsSpelled, spells_byte, encode_below, slash_byte, byte_slash, slash_alone, spelled_more, spelled_none, spelled_one}
-use Rattle.globset_glob.proofs.Entries.{HasEntries, has_ranges}
+use Rattle.globset_glob.proofs.Entries.{has_ranges}
 
 -- ---- rows
 
@@ -246,8 +246,8 @@ module _ (o : Options) where
       let (es, spelled, same, long) = has_ranges rs scalars in
       has_same (class_text negated rs) (DenotesItem o.case_insensitive (once (class_of negated es))) (Takes o (Class negated rs))
       (λ b. iff_trans
-          (λ (c, is, h). (c, is, sym (class_same negated es rs same c) ∙ h), λ (c, is, h). (c, is, class_same negated es rs same c ∙ h))
-          (one_byte (class_has o negated rs) b))
+      (λ (c, is, h). (c, is, sym (class_same negated es rs same c) ∙ h), λ (c, is, h). (c, is, class_same negated es rs same c ∙ h))
+      (one_byte (class_has o negated rs) b))
       (has_item (once (class_of negated es)) (class_text negated rs) (ranges_text rs, refl, spelled, omega arith))
 
   -- ---- branches

@@ -1,7 +1,6 @@
 -- Branches that are kept.
-use Rattle.std.proofs.Common.{◌≡◌, ℕ, Bool, true, false, true≢false, ◌&&◌, ◌||◌, not, List, IsTrue, refl, ap, sym, ◌∙◌}
-use Rattle.std.proofs.Math.Logic.{⊎_elim}
-use Rattle.globset_glob.specs.Token.{Tokens, end, Branches, none, branch}
+use Rattle.std.proofs.Common.{◌≡◌, Bool, true, false, ◌&&◌, ◌||◌, not, refl}
+use Rattle.globset_glob.specs.Token.{end, Branches, none, branch}
 use Rattle.globset_glob.specs.Blank.{is_blank, are_blank, is_kept, any_kept}
 use Rattle.globset_glob.specs.declared.options.Options.{Options}
 

@@ -87,7 +87,6 @@ slash_alone f c = ⊎_elim {C = folded_entries_have f (single slash ∷ []) c �
 
 -- ---- what is compared
 
-
 abbrev pub IsSpelled : Options → List ℕ → List ℕ → Type 0
 IsSpelled o bytes b = compared o b ≡ compared o bytes
 

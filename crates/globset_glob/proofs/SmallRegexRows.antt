@@ -1,5 +1,5 @@
 -- Examples of small regular expressions: texts with their trees, a text that has none, and what trees denote.
-use Rattle.std.specs.Prelude.{◌≡◌, ◌==◌, ℕ, List, [], ◌∷◌, ◌++◌, ◌⊎◌, true, false, codes}
+use Rattle.std.specs.Prelude.{◌≡◌, ◌==◌, ℕ, List, [], ◌∷◌, ◌++◌, true, false, codes}
 use Rattle.std.proofs.Common.{refl, inl, inr, true≢false, sym, ◌∙◌, ap, subst, drop, arith}
 use Rattle.globset_glob.specs.SmallRegex.{single, span, any_byte, byte, class_of, group_of, once, repeated, optional, Atom, Item, no_item, item, Row, no_row, row, Expression, expression, is_special, class_of_has, SpellsByte, SpellsEntry, SpellsAtom, SpellsItem, SpellsRow, SpellsOthers, Spells, no_piece, one_more, DenotesAtom, DenotesItem, DenotesRow, Denotes}
 use Rattle.std.proofs.lemmas.Bool.{eq-eqb}

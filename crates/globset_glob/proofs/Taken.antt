@@ -1,11 +1,10 @@
 -- What tokens take, by how the bytes are put together.
-use Rattle.std.proofs.Common.{◌≡◌, ℕ, ◌⊎◌, inl, inr, Bool, true, false, true≢false, ◌&&◌, ◌||◌, not, List, [], ◌∷◌, ◌++◌, IsTrue, refl, ap, sym, ◌∙◌, subst}
+use Rattle.std.proofs.Common.{◌≡◌, ℕ, ◌⊎◌, inl, inr, Bool, true≢false, ◌&&◌, List, [], ◌∷◌, ◌++◌, IsTrue, refl, ap, sym, subst}
 use Rattle.std.specs.Prelude.{◌==◌, ◌↔◌}
-use Rattle.std.specs.List.{list_all}
 use Rattle.std.proofs.lemmas.Bool.{eqb-true, eq-eqb}
 use Rattle.std.proofs.Math.Logic.{⊎_elim}
 use Rattle.globset_glob.specs.Token.{Token, RecursivePrefix, RecursiveSuffix, RecursiveZeroOrMore, Tokens, and_then}
-use Rattle.globset_glob.specs.Takes.{takes, takes_all, some_cut, is_empty, same_bytes, is_one_byte, begins_with_slash, ends_with_slash, slash}
+use Rattle.globset_glob.specs.Takes.{takes, takes_all, is_empty, same_bytes, is_one_byte, begins_with_slash, ends_with_slash, slash}
 use Rattle.globset_glob.specs.declared.options.Options.{Options}
 use Rattle.globset_glob.proofs.Truth.{and_both, and_first, and_second, or_first, or_second, or_either}
 use Rattle.globset_glob.proofs.Cuts.{cut_of, some_cut-append, empty_is}

@@ -41,9 +41,9 @@ impl Model for Glob {
     ghost view = { λ g. record { text = string_bytes g.text; options = g.options } };
 
     ghost invariant = { λ g. record {
-        read : reading g.options (chars (string_bytes g.text)) ≡ Ok (tokens_of g.tokens.items);
-        weight : weight (tokens_of g.tokens.items) ≤ 4 * length (string_bytes g.text);
-        regex : string_bytes g.regex ≡ regex_text g.options (tokens_of g.tokens.items);
+      read : reading g.options (chars (string_bytes g.text)) ≡ Ok (tokens_of g.tokens.items);
+      weight : weight (tokens_of g.tokens.items) ≤ 4 * length (string_bytes g.text);
+      regex : string_bytes g.regex ≡ regex_text g.options (tokens_of g.tokens.items);
     } };
 }
 

@@ -1,6 +1,6 @@
 //! The text that a glob has as a regular expression.
 
-ghost use Rattle.std.specs.Prelude.{◌≡◌, ◌<◌, ◌++◌, [], ◌∷◌, ◌||◌, not, List, ℕ, IfOk, OnOk, string_bytes, codes};
+ghost use Rattle.std.specs.Prelude.{◌≡◌, ◌<◌, ◌++◌, [], ◌∷◌, ◌||◌, not, List, ℕ, IfOk, OnOk, string_bytes};
 ghost use Rattle.globset_glob.specs.Token.{Group};
 ghost use Rattle.globset_glob.specs.Blank.{is_kept, is_blank_token};
 ghost use Rattle.globset_glob.specs.Means.{is_prefix_alone};
@@ -91,7 +91,11 @@ fn push_token(text: &mut String, options: Options, token: &Token) -> Result<bool
 
 /// The text of a group. Answers whether a branch of this group alone is kept.
 #[cycle(texts)]
-fn push_group(text: &mut String, options: Options, branches: &[Vec<Token>]) -> Result<bool, AllocError>
+fn push_group(
+    text: &mut String,
+    options: Options,
+    branches: &[Vec<Token>],
+) -> Result<bool, AllocError>
     ensures text { OnOk result (string_bytes text.new ≡ string_bytes text.old ++ token_text options (Group (branches_of branches.now))) }
     ensures kept { IfOk result (λ kept. kept ≡ (options.empty_alternates || not (is_blank_token (Group (branches_of branches.now))))) }
 {
@@ -109,7 +113,12 @@ fn push_group(text: &mut String, options: Options, branches: &[Vec<Token>]) -> R
 ///
 /// Only its tokens tell whether it is kept, so what was written before them is taken back if it is not.
 #[cycle(texts)]
-fn push_branch(text: &mut String, options: Options, branch: &[Token], first: bool) -> Result<bool, AllocError>
+fn push_branch(
+    text: &mut String,
+    options: Options,
+    branch: &[Token],
+    first: bool,
+) -> Result<bool, AllocError>
     ensures text { IfOk result (λ none. (ts : List (List ℕ)) → string_bytes text.new ++ rest_text none ts
         ≡ string_bytes text.old ++ rest_text first (with_text (is_kept options (tokens_of branch.now)) (tokens_text options (tokens_of branch.now)) ts)) }
     ensures none { IfOk result (λ none. not none ≡ (not first || is_kept options (tokens_of branch.now))) }

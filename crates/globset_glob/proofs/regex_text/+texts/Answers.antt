@@ -1,7 +1,7 @@
-use Rattle.std.proofs.Common.{◌≡◌, ℕ, ◌||◌, not, true, false, refl, sym, ap, ◌∙◌, arith}
+use Rattle.std.proofs.Common.{◌≡◌, ℕ, ◌||◌, not, sym, ap, ◌∙◌, arith}
 use Rattle.globset_glob.specs.Token.{Group}
-use Rattle.globset_glob.specs.Blank.{is_kept, any_kept}
-use Rattle.globset_glob.specs.Views.{token_of, tokens_of, branches_of}
+use Rattle.globset_glob.specs.Blank.{any_kept}
+use Rattle.globset_glob.specs.Views.{token_of, branches_of}
 use Rattle.globset_glob.proofs.Truth.{or_none}
 use Rattle.globset_glob.proofs.Trees.{group_is}
 use Rattle.globset_glob.proofs.Heads.{tokens_past, branches_past}

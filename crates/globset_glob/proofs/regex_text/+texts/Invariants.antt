@@ -1,7 +1,7 @@
 use Rattle.std.proofs.Common.{◌≡◌, ◌+◌, ◌*◌, ◌++◌, ◌||◌, not, drop}
 use Rattle.std.specs.Prelude.{string_bytes}
 use Rattle.globset_glob.specs.Token.{Group}
-use Rattle.globset_glob.specs.Blank.{is_blank, is_kept, any_kept}
+use Rattle.globset_glob.specs.Blank.{is_kept, any_kept}
 use Rattle.globset_glob.specs.Views.{tokens_of, branches_of}
 use Rattle.globset_glob.specs.RegexText.{token_text, tokens_text, kept_texts}
 use Rattle.globset_glob.specs.RegexWriting.{rest_text}
