@@ -17,14 +17,17 @@ or_assoc false q r = refl
 abbrev pub HasEntries : ℕ → List ℕ → (ℕ → Bool) → Type 0
 HasEntries n t p = (es : List Entry) × SpellsEntries es t × ((c : ℕ) → entries_have es c ≡ p c) × (n ≤ length es)
 
+-- the entries of two texts, one after the other
 spells_both : (es fs : List Entry) (t u : List ℕ) → SpellsEntries es t → SpellsEntries fs u → SpellsEntries (es ++ fs) (t ++ u)
 spells_both [] fs t u e h = subst (λ l. SpellsEntries fs (l ++ u)) (sym e) h
 spells_both (e ∷ es) fs t u (v, w, cut, first, rest) h = (v, w ++ u, ap (λ l. l ++ u) cut ∙ append_assoc v w u, first, spells_both es fs w u rest h)
 
+-- they have the bytes of both
 both_have : (es fs : List Entry) (c : ℕ) → entries_have (es ++ fs) c ≡ (entries_have es c || entries_have fs c)
 both_have [] fs c = refl
 both_have (e ∷ es) fs c = ap (λ q. entry_has e c || q) (both_have es fs c) ∙ or_assoc (entry_has e c) (entries_have es c) (entries_have fs c)
 
+-- so two texts of entries make one
 has_both : (n m : ℕ) (t u : List ℕ) (p q : ℕ → Bool) → HasEntries n t p → HasEntries m u q → HasEntries (n + m) (t ++ u) (λ c. p c || q c)
 has_both n m t u p q (es, spelled, same, long) (fs, spelled', same', long') = (
   es ++ fs,
@@ -60,6 +63,7 @@ has_span (x ∷ z ∷ zs) y ys hxs hy hys some = let (es, spelled, same, long) =
   omega arith,
 )
 
+-- a range, as its bytes are had
 has_range : (x y : ℕ) → IsScalar x → IsScalar y → HasEntries 1 (range_text (x, y)) (λ c. range_has (x, y) c)
 has_range x y hx hy = by_case (x == y) refl
   where
@@ -73,6 +77,7 @@ has_range x y hx hy = by_case (x == y) refl
     by_case false e = let (es, spelled, same, long) = spanned (encode_utf8 y) (encode_below y hy) (encode_some y) in
         (es, rw e spelled, λ c. rw e (same c), long)
 
+-- all ranges of a class
 pub has_ranges : (rs : List (ℕ × ℕ)) → AreScalars rs → HasEntries (length rs) (ranges_text rs) (ranges_have rs)
 has_ranges [] h = ([], refl, λ c. refl, omega arith)
 has_ranges ((x, y) ∷ rs) (hx, hy, hs) =

@@ -23,6 +23,7 @@ use Rattle.globset_glob.proofs.Entries.{has_ranges}
 
 -- ---- rows
 
+-- the items of two rows, one after the other
 abbrev joined : Row → Row → Row
 joined no_item s = s
 joined (item i r) s = item i (joined r s)
@@ -36,10 +37,12 @@ module _ (o : Options) where
   abbrev HasSome : List (List ℕ) → (List ℕ → Type 0) → Type 0
   HasSome ts P = (rs : Rows) × SpellsOthers rs (others_text ts) × ((b : List ℕ) → DenotesSome o.case_insensitive rs b ↔ P b)
 
+  -- the text of two rows is their texts, one after the other
   spells_joined : (r s : Row) (t u : List ℕ) → SpellsRow r t → SpellsRow s u → SpellsRow (joined r s) (t ++ u)
   spells_joined no_item s t u e h = subst (λ l. SpellsRow s (l ++ u)) (sym e) h
   spells_joined (item i r) s t u (v, w, cut, first, rest) h = (v, w ++ u, ap (λ l. l ++ u) cut ∙ append_assoc v w u, first, spells_joined r s w u rest h)
 
+  -- and it denotes what can be cut in two
   denotes_joined : (r s : Row) (b : List ℕ) → DenotesRow o.case_insensitive (joined r s) b ↔ Then (DenotesRow o.case_insensitive r) (DenotesRow o.case_insensitive s) b
   denotes_joined no_item s b = (λ h. ([], b, refl, refl, h), λ (x, y, cut, nil, h). subst (DenotesRow o.case_insensitive s) (sym (cut ∙ ap (λ l. l ++ y) nil)) h)
   denotes_joined (item i r) s b = (
@@ -48,9 +51,11 @@ module _ (o : Options) where
     λ (z, v, cut, (x, u, parts, first, p), q). (x, u ++ v, cut ∙ ap (λ l. l ++ v) parts ∙ append_assoc x u v, first, (denotes_joined r s (u ++ v)).1 (u, v, refl, p, q)),
   )
 
+  -- the empty text
   has_none : HasRow [] (λ b. b ≡ [])
   has_none = (no_item, refl, λ b. (λ h. h, λ h. h))
 
+  -- two texts, one after the other
   has_then : (t u : List ℕ) (P Q : List ℕ → Type 0) → HasRow t P → HasRow u Q → HasRow (t ++ u) (Then P Q)
   has_then t u P Q (r, spelled, same) (s, spelled', same') = (
     joined r s,
@@ -61,9 +66,11 @@ module _ (o : Options) where
     ),
   )
 
+  -- the same said otherwise
   has_same : (t : List ℕ) (P Q : List ℕ → Type 0) → ((b : List ℕ) → P b ↔ Q b) → HasRow t P → HasRow t Q
   has_same t P Q iff (r, spelled, same) = (r, spelled, λ b. (λ h. (iff b).0 ((same b).0 h), λ h. (same b).1 ((iff b).1 h)))
 
+  -- the text of one item
   has_item : (i : Item) (t : List ℕ) → SpellsItem i t → HasRow t (DenotesItem o.case_insensitive i)
   has_item i t h = (
     item i no_item,
@@ -76,9 +83,11 @@ module _ (o : Options) where
 
   -- ---- groups
 
+  -- no rows
   has_no_more : HasSome [] (λ b. ⊥)
   has_no_more = (no_row, refl, λ b. (λ h. h, λ h. h))
 
+  -- one row more
   has_more : (t : List ℕ) (ts : List (List ℕ)) (P Q : List ℕ → Type 0) → HasRow t P → HasSome ts Q → HasSome (t ∷ ts) (λ b. P b ⊎ Q b)
   has_more t ts P Q (r, spelled, same) (rs, spelled', same') = (
     row r rs,
@@ -89,9 +98,11 @@ module _ (o : Options) where
     ),
   )
 
+  -- the same said otherwise, of rows
   some_same : (ts : List (List ℕ)) (P Q : List ℕ → Type 0) → ((b : List ℕ) → P b ↔ Q b) → HasSome ts P → HasSome ts Q
   some_same ts P Q iff (rs, spelled, same) = (rs, spelled, λ b. (λ h. (iff b).0 ((same b).0 h), λ h. (same b).1 ((iff b).1 h)))
 
+  -- rows in `(?:` and `)`
   has_group : (t : List ℕ) (ts : List (List ℕ)) (P : List ℕ → Type 0) → HasSome (t ∷ ts) P → HasRow (group_text (t ∷ ts)) P
   has_group t ts P (no_row, spelled, same) = absurd cc
   has_group t ts P (row r rs, (u, v, cut, first, rest), same) =
@@ -101,11 +112,13 @@ module _ (o : Options) where
 
   -- ---- bytes
 
+  -- `/`, folded or not
   has_slash : HasRow (codes "/") (λ b. b ≡ slash ∷ [])
   has_slash = has_same (codes "/") (DenotesItem o.case_insensitive (once (byte slash))) (λ b. b ≡ slash ∷ [])
       (λ b. (λ (c, e, h). e ∙ ap (λ d. d ∷ []) (slash_byte o.case_insensitive c h), λ e. (slash, e, byte_slash o.case_insensitive)))
       (has_item (once (byte slash)) (codes "/") (spells_byte slash (omega arith)))
 
+  -- bytes, one after another
   spelled_has : (xs : List ℕ) → Below xs → HasRow (bytes_text xs) (IsSpelled o xs)
   spelled_has [] h = has_same [] (λ b. b ≡ []) (IsSpelled o []) (spelled_none o) has_none
   spelled_has (x ∷ xs) (h, hs) = has_same (bytes_text (x ∷ xs)) (Then (IsSpelled o (x ∷ [])) (IsSpelled o xs)) (IsSpelled o (x ∷ xs)) (spelled_more o x xs)
@@ -113,11 +126,12 @@ module _ (o : Options) where
       (has_same (byte_text x) (DenotesItem o.case_insensitive (once (byte x))) (IsSpelled o (x ∷ [])) (spelled_one o x) (has_item (once (byte x)) (byte_text x) (spells_byte x h)))
       (spelled_has xs hs))
 
-  -- ---- any_byte bytes
+  -- ---- any bytes
 
   abbrev Everything : List ℕ → Type 0
   Everything b = Unit {0}
 
+  -- `.*` denotes everything
   any_repeats : (b : List ℕ) → Repeats (DenotesAtom o.case_insensitive any_byte) b
   any_repeats [] = no_piece
   any_repeats (c ∷ cs) = one_more (c ∷ []) cs (c ∷ cs) refl (c, refl) (any_repeats cs)
@@ -137,6 +151,7 @@ module _ (o : Options) where
   spells_wild true = (codes "/", refl, (codes "/", [], refl, spells_byte slash (omega arith), refl), omega arith)
   spells_wild false = refl
 
+  -- it is what `?` takes
   wild_is : (q : Bool) → o.literal_separator ≡ q → (b : List ℕ) → DenotesAtom o.case_insensitive (wild q) b ↔ OneByte (is_wild o) b
   wild_is true e b = rw e (
     λ (c, is, h). (c, is, sym (ap not (slash_alone o.case_insensitive c)) ∙ h),
@@ -268,6 +283,7 @@ module _ (o : Options) where
   kept_is none = refl
   kept_is (branch ts bs) = ap (λ k. is_kept o ts || k) (kept_is bs) ∙ some_text_with (is_kept o ts) (tokens_text o ts) (kept_texts o bs)
 
+  -- a group's text, by the texts of its kept branches
   group_has : (bs : Branches) (texts : List (List ℕ)) → kept_texts o bs ≡ texts → HasSome texts (TakesSome bs) → HasRow (group_text texts) (Takes o (Group bs))
   group_has bs [] e h =
       let dropped : any_kept o bs ≡ false = kept_is bs ∙ ap some_text e in
@@ -292,6 +308,7 @@ module _ (o : Options) where
       ))
       (has_group t ts (TakesSome bs) h)
 
+  -- one branch more, kept or not
   branch_has : (ts : Tokens) (bs : Branches) (kept : Bool) → is_kept o ts ≡ kept → HasRow (tokens_text o ts) (TakesAll o ts) → HasSome (kept_texts o bs) (TakesSome bs)
       → HasSome (with_text kept (tokens_text o ts) (kept_texts o bs)) (TakesSome (branch ts bs))
   branch_has ts bs true e first others = some_same (tokens_text o ts ∷ kept_texts o bs) (λ b. TakesAll o ts b ⊎ TakesSome bs b) (TakesSome (branch ts bs))
@@ -316,6 +333,7 @@ module _ (o : Options) where
       ))
       others
 
+  -- no branches
   no_branch_has : HasSome [] (TakesSome none)
   no_branch_has = some_same [] (λ b. ⊥) (TakesSome none) (λ b. (λ h. absurd h, λ h. true≢false (sym h))) has_no_more
 
@@ -348,6 +366,7 @@ module _ (o : Options) where
   abbrev Means : Tokens → List ℕ → Type 0
   Means ts b = IsTrue (means o ts b)
 
+  -- the body denotes what the tokens mean
   body_has : (ts : Tokens) → AreWellFormed ts → (alone : Bool) → is_prefix_alone ts ≡ alone → HasRow (if alone then codes ".*" else tokens_text o ts) (Means ts)
   body_has ts w true e = has_same (codes ".*") Everything (Means ts) (λ b. (λ h. or_first (is_prefix_alone ts) (takes_all o ts b) e, λ h. tt)) has_everything
   body_has ts w false e = has_same (tokens_text o ts) (TakesAll o ts) (Means ts)

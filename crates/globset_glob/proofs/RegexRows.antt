@@ -212,6 +212,10 @@ between_then_group_with_a_class : regex_of DEFAULT "a/**/{b,[!c-e]}" ≡ Ok (cod
 unfolding glob_on_literals
 between_then_group_with_a_class = refl
 
+hyphen_between_and_a_group : regex_of DEFAULT "a-b/**/*.{rs,é}" ≡ Ok (codes "(?-u)^a\\-b(?:/|/.*/).*\\.(?:rs|\\xc3\\xa9)$")
+unfolding glob_on_literals
+hyphen_between_and_a_group = refl
+
 unclosed_alone : regex_of unclosed "[" ≡ Ok (codes "(?-u)^\\[$")
 unfolding glob_on_literals
 unclosed_alone = refl

@@ -32,6 +32,7 @@ scalars_take (suc n) (c ∷ cs) h = let p = and_parts (scalar c) (scalars cs) h 
 -- ---- the ranges of a body
 
 mutual
+  -- the ends of ranges are characters of the body
   chain_scalars : (c z : ℕ) (cs : List ℕ) → IsScalar c → IsScalar z → scalars cs ≡ true → AreScalars (chain c z cs)
   chain_scalars c z [] hc hz h = (hc, hz, tt)
   chain_scalars c z (d ∷ rest) hc hz h =
@@ -46,6 +47,7 @@ mutual
   pair_scalars c z (x ∷ rest) hc hz h = let p = and_parts (scalar x) (scalars rest) h in chain_scalars c x rest hc p.0 p.1
 
 mutual
+  -- a body has a range
   chain_some : (c z : ℕ) (cs : List ℕ) → 1 ≤ length (chain c z cs)
   chain_some c z [] = omega arith
   chain_some c z (d ∷ rest) = elim (is_hyphen d) as (λ q. let xs : List (ℕ × ℕ) = elim q [ true ↦ pair c z rest | false ↦ (c, z) ∷ chain d d rest ] in 1 ≤ length xs) [
@@ -59,6 +61,7 @@ mutual
 
 -- ---- marks
 
+-- a mark whose token is well formed
 abbrev IsGood : Mark → Type 0
 IsGood (Char escaped c) = IsScalar c
 IsGood One = Unit {0}
@@ -73,6 +76,7 @@ abbrev AreGood : List Mark → Type 0
 AreGood [] = Unit {0}
 AreGood (m ∷ ms) = IsGood m × AreGood ms
 
+-- a closed class has one
 class_good : (negated : Bool) (k : ℕ) (c : ℕ) (cs : List ℕ) → scalars (c ∷ cs) ≡ true → IsGood (class_mark negated (take (k + 1) (c ∷ cs)))
 unfolding ranges
 class_good negated k c cs h =
@@ -110,6 +114,7 @@ escape_good (c ∷ cs) h = (and_parts (scalar c) (scalars cs) h).0
 abbrev IsFirstGood : Mark × ℕ → Type 0
 IsFirstGood p = IsGood p.0
 
+-- the mark at any place is good
 mark_at_good : (o : Options) (c : ℕ) (cs : List ℕ) → IsScalar c → scalars cs ≡ true → IsGood (mark_at o c cs).0
 unfolding mark_at
 mark_at_good o c cs hc h =
@@ -121,6 +126,7 @@ mark_at_good o c cs hc h =
     (λ e5. cond_both (c == 44) _ _ IsFirstGood (λ e. tt)
     (λ e6. cond_both (c == 92 && o.backslash_escape) _ _ IsFirstGood (λ e. escape_good cs h) (λ e. hc)))))))
 
+-- so all marks are
 marks_good : (o : Options) (n : ℕ) (cs : List ℕ) → scalars cs ≡ true → AreGood (marks o n cs)
 unfolding marks
 marks_good o n [] h = tt
@@ -129,6 +135,7 @@ marks_good o zero (c ∷ cs) h = let p = and_parts (scalar c) (scalars cs) h in 
 
 -- ---- nesting
 
+-- nesting keeps them good
 settled_good : (d : ℕ) (m : Mark) (s : ℕ × Mark) → IsGood m → settled d m ≡ Ok s → IsGood s.1
 settled_good d (Char escaped c) s h e = let g : (d, Char escaped c) ≡ s = cc in subst (λ p. IsGood p.1) g h
 settled_good d One s h e = let g : (d, One) ≡ s = cc in subst (λ p. IsGood p.1) g tt
@@ -145,6 +152,7 @@ with_good : (m : Mark) (r : Result (List Mark) Fault) (ks : List Mark) → IsGoo
 with_good m (Ok ls) ks hm h e = let g : m ∷ ls ≡ ks = cc in subst AreGood g (hm, h ls refl)
 with_good m (Err f) ks hm h e = absurd cc
 
+-- all of them
 nested_good : (d : ℕ) (ms ks : List Mark) → AreGood ms → nested d ms ≡ Ok ks → AreGood ks
 unfolding nested
 nested_good zero [] ks h e = let g : [] ≡ ks = cc in subst AreGood g tt
@@ -182,6 +190,7 @@ char_cut_good : (b : Bool) (c : ℕ) (ms : List Mark) → IsScalar c → AllToke
 char_cut_good true c ms h = slash_cut_good (last_run (drop (pairs ms) ms)) (nat_lt 0 (pairs ms)) (pairs ms)
 char_cut_good false c ms h = (h, tt)
 
+-- a piece of good marks has well-formed tokens
 piece_good : (start : Bool) (m : Mark) (ms : List Mark) → IsGood m → AllTokens (piece start m ms).0
 unfolding piece
 piece_good start (Stars n) ms h = let all = Stars n ∷ ms in run_cut_good (start && nat_lt 0 (pairs all)) (last_run (drop (pairs all) all)) n (pairs all)
@@ -214,6 +223,7 @@ open_good : (ls : Levels) → AreLevels ls → AreLevels (open_level ls)
 open_good (bs, []) h = h
 open_good (bs, outer ∷ more) (hb, (ho, hm)) = (in_branch_good (Group bs ∷ []) outer (hb, tt) ho, hm)
 
+-- and the groups put them together
 levels_good : (n : ℕ) (start : Bool) (ms : List Mark) → AreGood ms → AreLevels (levels n start ms)
 unfolding levels
 levels_good n start [] h = ((tt, tt), tt)
@@ -231,6 +241,7 @@ first_branch_good : (bs : Branches) → AllWellFormed bs → AreWellFormed (firs
 first_branch_good none h = tt
 first_branch_good (branch ts bs) h = h.0
 
+-- so the whole glob is well formed
 whole_good : (ms : List Mark) → AreGood ms → AreWellFormed (whole ms)
 unfolding whole
 whole_good ms h = elim (is_whole_run ms) as (λ q. AreWellFormed (elim q [ true ↦ and_then RecursivePrefix end | false ↦ first_branch (levels zero true ms).0 ])) [
@@ -238,6 +249,7 @@ whole_good ms h = elim (is_whole_run ms) as (λ q. AreWellFormed (elim q [ true 
   | false ↦ first_branch_good (levels zero true ms).0 (levels_good zero true ms h).0
 ]
 
+-- every reading of a text of scalar values is well formed
 pub reads_well : (o : Options) (text : List ℕ) (ts : Tokens) → scalars text ≡ true → reading o text ≡ Ok ts → AreWellFormed ts
 unfolding reading
 reads_well o text ts h e = step (nested zero (marks o zero text)) refl e

@@ -21,6 +21,7 @@ TakesAll o ts b = IsTrue (takes_all o ts b)
 abbrev pub Then : (List ℕ → Type 0) → (List ℕ → Type 0) → List ℕ → Type 0
 Then P Q b = (x y : List ℕ) × (b ≡ x ++ y) × P x × Q y
 
+-- empty, as a test and as an equation
 pub empty_same : (b : List ℕ) → (b ≡ []) ↔ IsTrue (is_empty b)
 empty_same b = (λ nil. ap is_empty nil, empty_is b)
 
@@ -34,6 +35,7 @@ same_self : (x : List ℕ) → IsTrue (same_bytes x x)
 same_self [] = refl
 same_self (c ∷ cs) = and_both (c == c) (same_bytes cs cs) (eq-eqb c c refl) (same_self cs)
 
+-- equal, as a test and as an equation
 pub equal_bytes : (x y : List ℕ) → (x ≡ y) ↔ IsTrue (same_bytes x y)
 equal_bytes x y = (λ is. subst (λ l. IsTrue (same_bytes x l)) is (same_self x), same_is x y)
 
@@ -46,21 +48,25 @@ one_of test [] h = absurd (true≢false (sym h))
 one_of test (c ∷ []) h = (c, refl, h)
 one_of test (c ∷ d ∷ rest) h = absurd (true≢false (sym h))
 
+-- one byte, as a test and as an equation
 pub one_byte : (test : ℕ → Bool) (b : List ℕ) → OneByte test b ↔ IsTrue (is_one_byte test b)
 one_byte test b = (λ (c, is, h). subst (λ l. IsTrue (is_one_byte test l)) (sym is) h, one_of test b)
 
 -- ---- recursive stars
 
+-- it ends in `/` where a `/` stands last
 ends_push : (x : List ℕ) → IsTrue (ends_with_slash (x ++ slash ∷ []))
 ends_push [] = refl
 ends_push (c ∷ []) = refl
 ends_push (c ∷ d ∷ ds) = ends_push (d ∷ ds)
 
+-- and only there
 ends_at : (b : List ℕ) → IsTrue (ends_with_slash b) → (x : List ℕ) × (b ≡ x ++ slash ∷ [])
 ends_at [] h = absurd (true≢false (sym h))
 ends_at (c ∷ []) h = ([], ap (λ d. d ∷ []) (eqb-true c slash h))
 ends_at (c ∷ d ∷ ds) h = let (x, is) = ends_at (d ∷ ds) h in (c ∷ x, ap (λ l. c ∷ l) is)
 
+-- it begins with `/` where a `/` stands first
 begins_at : (b : List ℕ) → IsTrue (begins_with_slash b) → (x : List ℕ) × (b ≡ slash ∷ x)
 begins_at [] h = absurd (true≢false (sym h))
 begins_at (c ∷ cs) h = (cs, ap (λ d. d ∷ cs) (eqb-true c slash h))
@@ -77,6 +83,7 @@ prefix_takes o b = (
 pub suffix_takes : (o : Options) (b : List ℕ) → ((x : List ℕ) × (b ≡ slash ∷ x)) ↔ Takes o RecursiveSuffix b
 suffix_takes o b = (λ (x, is). ap begins_with_slash is, begins_at b)
 
+-- both: one `/`, or two with anything between them
 between_at : (b : List ℕ) → IsTrue (begins_with_slash b && ends_with_slash b) → (b ≡ slash ∷ []) ⊎ ((x : List ℕ) × (b ≡ slash ∷ (x ++ slash ∷ [])))
 between_at [] h = absurd (true≢false (sym h))
 between_at (c ∷ []) h = inl (ap (λ d. d ∷ []) (eqb-true c slash (and_first (c == slash) (c == slash) h)))
@@ -95,6 +102,7 @@ between_takes o b = (
 
 -- ---- tokens one after another
 
+-- a token and then others
 pub then_takes : (o : Options) (t : Token) (ts : Tokens) (b : List ℕ) → Then (Takes o t) (TakesAll o ts) b ↔ TakesAll o (and_then t ts) b
 then_takes o t ts b = (there, back)
   where

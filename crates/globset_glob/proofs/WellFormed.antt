@@ -3,6 +3,7 @@ use Rattle.std.specs.Prelude.{◌≤◌, ℕ, List, [], ◌∷◌, length}
 use Rattle.std.specs.Char.{IsScalar}
 use Rattle.globset_glob.specs.Token.{Token, Literal, Any, ZeroOrMore, RecursivePrefix, RecursiveSuffix, RecursiveZeroOrMore, Class, Group, Tokens, end, and_then, Branches, none, branch}
 
+-- a class's ends are scalar values
 abbrev pub AreScalars : List (ℕ × ℕ) → Type 0
 AreScalars [] = Unit {0}
 AreScalars ((x, y) ∷ rs) = IsScalar x × IsScalar y × AreScalars rs
