@@ -8,5 +8,8 @@ pub use Rattle.globset_glob.specs.Blank
 pub use Rattle.globset_glob.specs.ClassBytes
 pub use Rattle.globset_glob.specs.Takes
 pub use Rattle.globset_glob.specs.Means
+pub use Rattle.globset_glob.specs.SmallRegex
+pub use Rattle.globset_glob.specs.RegexText
+pub use Rattle.globset_glob.specs.RegexDenotes
 pub use Rattle.globset_glob.specs.Cost
 pub use Rattle.globset_glob.specs.Errors

@@ -4,6 +4,7 @@ mod calls;
 mod faults;
 mod matching;
 mod nesting;
+mod regex;
 
 use crate::{Error, Glob, GlobBuilder};
 use std::alloc::Global;

@@ -47,7 +47,7 @@ united_dropped o b row union ts bs dropped k = (there, back)
     back (inl at) = inl at
     back (inr (x, y, cut, from, some)) = inr (x, y, cut, from, (let e : (is_kept o ts && takes_all o ts y) ≡ false = rw dropped refl in rw e at some))
 
-some_any : (o : Options) (bs : Branches) (y : List ℕ) → IsTrue (some_takes o bs y) → any_kept o bs ≡ true
+pub some_any : (o : Options) (bs : Branches) (y : List ℕ) → IsTrue (some_takes o bs y) → any_kept o bs ≡ true
 some_any o none y h = absurd (true≢false (sym h))
 some_any o (branch ts bs) y h = ⊎_elim {C = any_kept o (branch ts bs) ≡ true}
     (λ this. or_first (is_kept o ts) (any_kept o bs) (and_first (is_kept o ts) (takes_all o ts y) this))

@@ -15,6 +15,13 @@ pub mod Passes
 pub mod Rules
 pub mod Groups
 pub mod Heads
+pub mod Kept
+pub mod WellFormed
+pub mod Scalars
+pub mod Letters
+pub mod Taken
+pub mod Entries
+pub mod Expressions
 mod OnLiterals
 mod RowWords
 mod StarRows
@@ -23,3 +30,5 @@ mod FaultRows
 mod ClassByteRows
 mod MeaningRows
 mod MeaningMoreRows
+mod RegexRows
+mod SmallRegexRows

@@ -9,6 +9,9 @@ use Rattle.globset_glob.specs.Token.{Token, Literal, Class, Group, Tokens, end, 
 use Rattle.globset_glob.specs.Reading.{reading}
 use Rattle.globset_glob.specs.ClassBytes.{class_has}
 use Rattle.globset_glob.specs.Means.{GlobValue, glob_means}
+use Rattle.globset_glob.specs.RegexText.{regex_text}
+use Rattle.globset_glob.specs.Views.{map_ok}
+use Rattle.globset_glob.specs.declared.fault.Fault.{Fault}
 
 -- ---- options: the default ones but for one
 
@@ -105,3 +108,9 @@ takes_each o glob paths = list_all (λ path. takes_bytes o glob (utf8 path)) pat
 
 abbrev pub leaves_each : Options → String → List String → Bool
 leaves_each o glob paths = list_all (λ path. leaves_bytes o glob (utf8 path)) paths
+
+-- ---- the text as a regular expression
+
+-- that of a glob, or its fault
+abbrev pub regex_of : Options → String → Result (List ℕ) Fault
+regex_of o glob = map_ok (regex_text o) (reading o (codes glob))

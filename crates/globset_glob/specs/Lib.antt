@@ -12,6 +12,10 @@ pub mod ClassTable
 pub mod PlainTable
 pub mod Takes
 pub mod Means
+pub mod SmallRegex
+pub mod RegexText
+pub mod RegexDenotes
+pub mod RegexWriting
 pub mod Cost
 pub mod Weight
 pub mod Errors

@@ -9,6 +9,7 @@ pub mod tests;
 
 use crate::fault::Fault;
 use crate::options::Options;
+pub use bytes::is_byte_of;
 use bytes::{Membership, table_of};
 use std::alloc::{AllocError, Global};
 use std::marker::Model;
@@ -124,6 +125,20 @@ impl Class {
             Membership::Absent => false,
         };
         had != self.negated
+    }
+
+    /// Whether the class is negated.
+    pub fn negated(&self) -> bool
+        ensures { result ≡ self.now.negated }
+    {
+        self.negated
+    }
+
+    /// The ranges of the class, in order.
+    pub fn ranges(&self) -> &[(char, char)]
+        ensures { result.now ≡ self.now.ranges }
+    {
+        &self.ranges
     }
 
     /// An equal class.

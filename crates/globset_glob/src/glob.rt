@@ -8,6 +8,7 @@ use crate::error::Error;
 use crate::fault::ReadError;
 use crate::matcher::GlobMatcher;
 use crate::options::Options;
+use crate::regex_text::regex_text;
 use crate::token::Token;
 use crate::token::copy::copy_of;
 use crate::token::reader::read_tokens;
@@ -23,6 +24,7 @@ pub struct Glob {
     text: String,
     options: Options,
     tokens: Vec<Token>,
+    regex: String,
 }
 
 impl Model for Glob {
@@ -30,6 +32,7 @@ impl Model for Glob {
     ghost use Rattle.std.specs.Str.{chars};
     ghost use Rattle.globset_glob.specs.Means.{GlobValue};
     ghost use Rattle.globset_glob.specs.Reading.{reading};
+    ghost use Rattle.globset_glob.specs.RegexText.{regex_text};
     ghost use Rattle.globset_glob.specs.Views.{tokens_of};
     ghost use Rattle.globset_glob.specs.Weight.{weight};
 
@@ -37,12 +40,17 @@ impl Model for Glob {
 
     ghost view = { λ g. record { text = string_bytes g.text; options = g.options } };
 
-    ghost invariant = { λ g. (reading g.options (chars (string_bytes g.text)) ≡ Ok (tokens_of g.tokens.items))
-        × (weight (tokens_of g.tokens.items) ≤ 4 * length (string_bytes g.text)) };
+    ghost invariant = { λ g. record {
+      read : reading g.options (chars (string_bytes g.text)) ≡ Ok (tokens_of g.tokens.items);
+      weight : weight (tokens_of g.tokens.items) ≤ 4 * length (string_bytes g.text);
+      regex : string_bytes g.regex ≡ regex_text g.options (tokens_of g.tokens.items);
+    } };
 }
 
 impl Glob {
-    ghost use Rattle.globset_glob.specs.Means.{IsRead, default_glob, default_options};
+    ghost use Rattle.globset_glob.specs.Means.{IsRead, default_glob, default_options, tokens_of_glob, glob_means};
+    ghost use Rattle.globset_glob.specs.RegexText.{regex_text};
+    ghost use Rattle.globset_glob.specs.RegexDenotes.{HasExpression};
 
     /// Reads a glob under the default options: `\` escapes, and the other options are off.
     ///
@@ -72,6 +80,23 @@ impl Glob {
         self.text.as_str()
     }
 
+    /// The text of a regular expression for the paths that the glob means. It takes no memory.
+    ///
+    /// The text is `(?-u)`, `(?i)` under `case_insensitive`, `^`, a body and `$`. It is meant for engines that match bytes.
+    /// `.` has to take any byte: an engine whose `.` leaves out the line feed needs to be told so, since the text does not
+    /// tell it. In the body each of `\ . + * ? ( ) | [ ] { } ^ $ # & - ~` stands behind a `\`, wherever it stands, and each
+    /// byte above 7F is `\x` and two digits.
+    ///
+    /// ```text
+    /// a-b/**/*.{rs,é}    (?-u)^a\-b(?:/|/.*/).*\.(?:rs|\xc3\xa9)$
+    /// ```
+    pub fn regex(&self) -> &str
+        ensures text { result.now ≡ regex_text self.now.options (tokens_of_glob self.now) }
+        ensures denotes { HasExpression (glob_means self.now) result.now }
+    {
+        self.regex.as_str()
+    }
+
     /// An equal glob, or want of memory.
     pub fn clone(&self) -> Result<Glob, Error>
         ensures ok { IfOk result (λ g. g ≡ self.now) }
@@ -80,10 +105,12 @@ impl Glob {
         let alloc = self.allocator();
         let tokens = copy_of(alloc, &self.tokens)?;
         let text = String::from_str(alloc, self.text.as_str())?;
+        let regex = String::from_str(alloc, self.regex.as_str())?;
         Ok(Glob {
             text,
             options: self.options,
             tokens,
+            regex,
         })
     }
 
@@ -114,11 +141,13 @@ impl Glob {
             Err(ReadError::Memory) => return Err(Error::out_of_memory()),
             Err(ReadError::Fault(fault)) => return Err(Error::refusal(alloc, text, fault)),
         };
+        let regex = regex_text(alloc, options, &tokens)?;
         let text = String::from_str(alloc, text)?;
         Ok(Glob {
             text,
             options,
             tokens,
+            regex,
         })
     }
 

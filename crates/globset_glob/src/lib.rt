@@ -9,6 +9,7 @@ mod glob;
 mod matcher;
 mod options;
 mod path;
+mod regex_text;
 mod row;
 mod text;
 mod token;

@@ -24,6 +24,7 @@ fn groups(alloc: Global, open: usize, closed: usize) -> Result<String, AllocErro
 #[test]
 fn a_thousand_groups(rt: HostRuntime) -> Result<(), Fail> {
     let glob = read(rt.alloc(), &groups(rt.alloc(), 1000, 1000)?)?;
+    assert_eq!(rt; glob.regex().len(), "(?-u)^a$".len() + 1000 * "(?:)".len());
     let copy = glob.clone()?;
     drop(glob);
     let matcher = copy.compile_matcher()?.clone()?;

@@ -82,7 +82,7 @@ fn range_has_byte(range: (char, char), byte: u8) -> bool
 }
 
 /// Whether it is one of the bytes.
-fn is_byte_of(bytes: &[u8], byte: u8) -> bool
+pub fn is_byte_of(bytes: &[u8], byte: u8) -> bool
     ensures { result ≡ is_one_of byte bytes.now }
 {
     bytes.iter().any(|b| byte == *b)
