@@ -1,3 +1,4 @@
+pub mod Places
 pub mod Cells
 pub mod Cutting
 pub mod Trees
@@ -23,3 +24,4 @@ mod FaultRows
 mod ClassByteRows
 mod MeaningRows
 mod MeaningMoreRows
+mod PathRows

@@ -12,6 +12,7 @@ pub mod ClassTable
 pub mod PlainTable
 pub mod Takes
 pub mod Means
+pub mod PathParts
 pub mod Cost
 pub mod Weight
 pub mod Errors
