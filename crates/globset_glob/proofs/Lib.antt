@@ -1,4 +1,5 @@
 pub mod Places
+pub mod Equalities
 pub mod Cells
 pub mod Cutting
 pub mod Trees

@@ -16,6 +16,7 @@ pub mod PathParts
 pub mod Cost
 pub mod Weight
 pub mod Errors
+pub mod Equality
 pub mod Views
 pub mod Building
 pub mod Rows
