@@ -17,6 +17,8 @@ pub mod Passes
 pub mod Rules
 pub mod Groups
 pub mod Heads
+pub mod Escaped
+pub mod Alone
 mod OnLiterals
 mod RowWords
 mod StarRows
@@ -26,3 +28,4 @@ mod ClassByteRows
 mod MeaningRows
 mod MeaningMoreRows
 mod PathRows
+mod EscapeRows

@@ -17,6 +17,7 @@ pub mod Cost
 pub mod Weight
 pub mod Errors
 pub mod Equality
+pub mod Escape
 pub mod Views
 pub mod Building
 pub mod Rows
