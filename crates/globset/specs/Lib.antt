@@ -9,4 +9,7 @@ pub use Rattle.globset_glob.specs.ClassBytes
 pub use Rattle.globset_glob.specs.Takes
 pub use Rattle.globset_glob.specs.Means
 pub use Rattle.globset_glob.specs.Cost
+pub use Rattle.globset_glob.specs.PathParts
 pub use Rattle.globset_glob.specs.Errors
+pub use Rattle.globset_glob.specs.Equality
+pub use Rattle.globset_glob.specs.Escape

@@ -4,6 +4,8 @@ mod calls;
 mod faults;
 mod matching;
 mod nesting;
+mod paths;
+mod values;
 
 use crate::{Error, Glob, GlobBuilder};
 use std::alloc::Global;
