@@ -27,7 +27,11 @@ fn parts(rt: HostRuntime) -> Result<(), Fail> {
         let candidate = Candidate::new(path);
         assert_eq!(rt; candidate.path(), path.as_bytes());
         assert_eq!(rt; candidate.basename(), name.as_bytes(), "name of {path}");
-        assert_eq!(rt; candidate.ext(), extension.as_bytes(), "extension of {path}");
+        assert_eq!(rt;
+            candidate.ext(),
+            extension.as_bytes(),
+            "extension of {path}"
+        );
         let same = Candidate::from_bytes(path.as_bytes());
         assert_eq!(rt; same.path(), candidate.path());
         assert_eq!(rt; same.basename(), candidate.basename());
@@ -75,7 +79,11 @@ fn escaped(rt: HostRuntime) -> Result<(), Fail> {
         let glob = escape(alloc, text)?;
         assert_eq!(rt; glob.as_str(), want);
         if !text.contains('\\') {
-            assert!(rt; Glob::new(alloc, glob.as_str())?.compile_matcher()?.is_match(text)?);
+            assert!(rt;
+                Glob::new(alloc, glob.as_str())?
+                    .compile_matcher()?
+                    .is_match(text)?
+            );
         }
     }
     Ok(())
