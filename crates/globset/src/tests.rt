@@ -4,7 +4,9 @@ mod calls;
 mod faults;
 mod matching;
 mod nesting;
+mod paths;
 mod regex;
+mod values;
 
 use crate::{Error, Glob, GlobBuilder};
 use std::alloc::Global;

@@ -1,3 +1,5 @@
+pub mod Places
+pub mod Equalities
 pub mod Cells
 pub mod Cutting
 pub mod Trees
@@ -22,6 +24,8 @@ pub mod Letters
 pub mod Taken
 pub mod Entries
 pub mod Expressions
+pub mod Escaped
+pub mod Alone
 mod OnLiterals
 mod RowWords
 mod StarRows
@@ -32,3 +36,5 @@ mod MeaningRows
 mod MeaningMoreRows
 mod RegexRows
 mod SmallRegexRows
+mod PathRows
+mod EscapeRows

@@ -16,9 +16,12 @@ pub mod SmallRegex
 pub mod RegexText
 pub mod RegexDenotes
 pub mod RegexWriting
+pub mod PathParts
 pub mod Cost
 pub mod Weight
 pub mod Errors
+pub mod Equality
+pub mod Escape
 pub mod Views
 pub mod Building
 pub mod Rows

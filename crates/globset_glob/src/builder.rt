@@ -6,7 +6,7 @@ ghost use Rattle.globset_glob.specs.Errors.{IsRefusalOf};
 use crate::error::Error;
 use crate::glob::Glob;
 use crate::options::Options;
-use std::alloc::Global;
+use std::alloc::{AllocError, Global};
 use std::marker::Model;
 
 /// Sets the options of a glob and reads it.
@@ -14,7 +14,7 @@ use std::marker::Model;
 /// ```text
 /// GlobBuilder::new("*.RS").case_insensitive(true).literal_separator(true).build(alloc)?
 /// ```
-#[derive(Drop)]
+#[derive(Debug, Drop)]
 pub struct GlobBuilder<'a> {
     text: &'a str,
     options: Options,
@@ -95,5 +95,21 @@ impl<'a> GlobBuilder<'a> {
         ensures err { IfErr result (IsRefusalOf self.now.options self.now.text) }
     {
         Glob::read(alloc, self.options, self.text)
+    }
+}
+
+/// The same text and options. It takes no memory, and cannot fail.
+impl<'a> Clone for GlobBuilder<'a> {
+    ghost use Rattle.std.specs.Prelude.{◌≡◌, ⊤};
+
+    ghost is_clone = { λ b c. c ≡ b };
+
+    ghost is_infallible = { λ _. ⊤ };
+
+    fn clone(&self) -> Result<GlobBuilder<'a>, AllocError> {
+        Ok(GlobBuilder {
+            text: self.text,
+            options: self.options,
+        })
     }
 }

@@ -1,12 +1,14 @@
 //! Errors of globs.
 
+mod equality;
+
 use crate::fault::Fault;
 use std::alloc::{AllocError, AllocFailed, Global};
 use std::fmt;
 use std::marker::Model;
 
 /// Why a glob was refused, or a call gave up.
-#[derive(Debug, Drop)]
+#[derive(Debug, PartialEq, Eq, Drop)]
 pub enum ErrorKind {
     /// A `[` has no closing `]`.
     UnclosedClass,

@@ -3,6 +3,8 @@
 ghost use Rattle.std.specs.Prelude.{◌≡◌, ◌≤◌, ◌*◌, IfOk, IfErr, length, Ok};
 ghost use Rattle.globset_glob.specs.Errors.{out_of_memory, IsRefusalOf};
 
+mod equality;
+
 use crate::builder::GlobBuilder;
 use crate::error::Error;
 use crate::fault::ReadError;

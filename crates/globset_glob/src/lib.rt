@@ -4,6 +4,7 @@
 mod builder;
 mod class;
 mod error;
+mod escaping;
 mod fault;
 mod glob;
 mod matcher;
@@ -17,6 +18,7 @@ mod visits;
 
 pub use builder::GlobBuilder;
 pub use error::{Error, ErrorKind};
+pub use escaping::escape;
 pub use glob::Glob;
 pub use matcher::GlobMatcher;
 pub use path::{AsPath, Candidate};

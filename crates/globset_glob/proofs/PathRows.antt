@@ -1,0 +1,54 @@
+-- Examples of basenames and extensions. Each row computes.
+use Rattle.std.specs.Prelude.{◌≡◌, [], ◌∷◌, codes, refl}
+use Prim.Native.String.{String}
+use Rattle.globset_glob.specs.PathParts.{basename_of, extension_of}
+
+-- the path has this basename and this extension
+abbrev HasParts : String → String → String → Type 0
+HasParts path name extension = (basename_of (codes path) ≡ codes name) × (extension_of (codes path) ≡ codes extension)
+
+two_dots_inside : HasParts "a.tar.gz" "a.tar.gz" ".gz"
+two_dots_inside = (refl, refl)
+
+hidden : HasParts "x/.hidden" ".hidden" ".hidden"
+hidden = (refl, refl)
+
+behind_dots : HasParts "../a" "a" ""
+behind_dots = (refl, refl)
+
+file : HasParts "a/b.rs" "b.rs" ".rs"
+file = (refl, refl)
+
+dots_in_front : HasParts "..rs" "..rs" ".rs"
+dots_in_front = (refl, refl)
+
+extension_alone : HasParts ".rs" ".rs" ".rs"
+extension_alone = (refl, refl)
+
+no_dot : HasParts "a/foo" "foo" ""
+no_dot = (refl, refl)
+
+last_dot : HasParts "a/." "." "."
+last_dot = (refl, refl)
+
+last_dots : HasParts "a/.." "" ""
+last_dots = (refl, refl)
+
+dots_alone : HasParts ".." "" ""
+dots_alone = (refl, refl)
+
+three_dots : HasParts "a/..." "..." "."
+three_dots = (refl, refl)
+
+last_slash : HasParts "a/" "" ""
+last_slash = (refl, refl)
+
+dot_before_slash : HasParts "a.b/c" "c" ""
+dot_before_slash = (refl, refl)
+
+empty : HasParts "" "" ""
+empty = (refl, refl)
+
+-- FF and `.`, which are no text
+no_text : (basename_of (255 ∷ 46 ∷ []) ≡ 255 ∷ 46 ∷ []) × (extension_of (255 ∷ 46 ∷ []) ≡ 46 ∷ [])
+no_text = (refl, refl)
