@@ -32,6 +32,10 @@ pub and_all : (x : Bool) → (x && true) ≡ x
 and_all true = refl
 and_all false = refl
 
+pub and_none : (x : Bool) → (x && false) ≡ false
+and_none true = refl
+and_none false = refl
+
 pub and_assoc : (x y z : Bool) → (x && (y && z)) ≡ ((x && y) && z)
 and_assoc true y z = refl
 and_assoc false y z = refl
