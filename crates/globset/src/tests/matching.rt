@@ -100,7 +100,7 @@ fn paths(rt: HostRuntime) -> Result<(), Fail> {
                 want = false;
             } else {
                 let path = if word == "()" { "" } else { word };
-                assert_eq!(rt; matcher.is_match(path)?, want, "{glob} on {word}");
+                assert_eq!(rt; matcher.is_match(path)?, want, "{glob}");
             }
         }
     }
