@@ -45,6 +45,7 @@ pub data Expression : Type 0 where
 --
 -- A text is a list of bytes, all of them ASCII characters. Most parts of a tree have one text; a byte may have two.
 
+-- it is one of these
 abbrev pub is_among : ℕ → List ℕ → Bool
 is_among c [] = false
 is_among c (x ∷ xs) = (c == x) || is_among c xs
@@ -57,6 +58,7 @@ is_special c = is_among c (codes "\\.+*?()|[]{}^$#&-~")
 abbrev pub is_hexadecimal : ℕ → Bool
 is_hexadecimal c = (nat_le 48 c && nat_le c 57) || (nat_le 97 c && nat_le c 102)
 
+-- 0 to 15
 abbrev pub hexadecimal_value : ℕ → ℕ
 hexadecimal_value c = if nat_le c 57 then c - 48 else c - 87
 

@@ -86,8 +86,8 @@ impl Glob {
     ///
     /// The text is `(?-u)`, `(?i)` under `case_insensitive`, `^`, a body and `$`. It is meant for engines that match bytes.
     /// `.` has to take any byte: an engine whose `.` leaves out the line feed needs to be told so, since the text does not
-    /// tell it. In the body each of `\ . + * ? ( ) | [ ] { } ^ $ # & - ~` stands behind a `\`, wherever it stands, and each
-    /// byte above 7F is `\x` and two digits.
+    /// tell it. A character `\ . + * ? ( ) | [ ] { } ^ $ # & - ~` of the glob stands behind a `\`, in classes too, and a byte
+    /// above 7F is `\x` and two digits.
     ///
     /// ```text
     /// a-b/**/*.{rs,é}    (?-u)^a\-b(?:/|/.*/).*\.(?:rs|\xc3\xa9)$
