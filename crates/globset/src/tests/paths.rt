@@ -2,6 +2,8 @@
 
 use super::read;
 use crate::{Candidate, Glob, escape};
+use std::alloc::Global;
+use std::process::Abort;
 use std::test::Fail;
 
 /// Paths, their basenames and their extensions.
@@ -21,26 +23,37 @@ const PARTS: [(&str, &str, &str); 13] = [
     ("", "", ""),
 ];
 
+fn expect_parts(
+    rt: &impl Abort,
+    candidate: &Candidate<'_>,
+    path: &[u8],
+    name: &[u8],
+    extension: &[u8],
+) {
+    assert_eq!(rt; candidate.path(), path);
+    assert_eq!(rt; candidate.basename(), name);
+    assert_eq!(rt; candidate.ext(), extension);
+}
+
 #[test]
-fn parts(rt: HostRuntime) -> Result<(), Fail> {
+fn parts(rt: HostRuntime) {
     for (path, name, extension) in PARTS {
-        let candidate = Candidate::new(path);
-        assert_eq!(rt; candidate.path(), path.as_bytes());
-        assert_eq!(rt; candidate.basename(), name.as_bytes(), "name of {path}");
-        assert_eq!(rt;
-            candidate.ext(),
+        let (path_bytes, name, extension) = (
+            path.as_bytes(),
+            name.as_bytes(),
             extension.as_bytes(),
-            "extension of {path}"
         );
-        let same = Candidate::from_bytes(path.as_bytes());
-        assert_eq!(rt; same.path(), candidate.path());
-        assert_eq!(rt; same.basename(), candidate.basename());
-        assert_eq!(rt; same.ext(), candidate.ext());
+        expect_parts(&rt, &Candidate::new(path), path_bytes, name, extension);
+        expect_parts(
+            &rt,
+            &Candidate::from_bytes(path_bytes),
+            path_bytes,
+            name,
+            extension,
+        );
     }
-    let bytes = Candidate::from_bytes(b"\xff\x2e");
-    assert_eq!(rt; bytes.basename(), b"\xff\x2e".as_slice());
-    assert_eq!(rt; bytes.ext(), b"\x2e".as_slice());
-    Ok(())
+    let bytes = b"\xff\x2e";
+    expect_parts(&rt, &Candidate::from_bytes(bytes), bytes, bytes, b"\x2e");
 }
 
 /// A candidate's copy is of the same bytes, and what it answers outlives both.
@@ -72,20 +85,27 @@ const ESCAPED: [(&str, &str); 9] = [
     ("é*", "é[*]"),
 ];
 
+/// The escaped text is this one, and without a backslash in the text it means the text.
+fn expect_escaped(rt: &impl Abort, alloc: Global, text: &str, want: &str) -> Result<(), Fail> {
+    let glob = escape(alloc, text)?;
+    assert_eq!(rt; glob.as_str(), want);
+    if !text.contains('\\') {
+        let matcher = Glob::new(alloc, want)?.compile_matcher()?;
+        assert!(rt; matcher.is_match(text)?);
+    }
+    Ok(())
+}
+
 #[test]
 fn escaped(rt: HostRuntime) -> Result<(), Fail> {
-    let alloc = rt.alloc();
     for (text, want) in ESCAPED {
-        let glob = escape(alloc, text)?;
-        assert_eq!(rt; glob.as_str(), want);
-        if !text.contains('\\') {
-            assert!(rt;
-                Glob::new(alloc, glob.as_str())?
-                    .compile_matcher()?
-                    .is_match(text)?
-            );
-        }
+        expect_escaped(&rt, rt.alloc(), text, want)?;
     }
+    Ok(())
+}
+
+fn expect_match(rt: &impl Abort, glob: &Glob, path: &str, want: bool) -> Result<(), Fail> {
+    assert_eq!(rt; glob.compile_matcher()?.is_match(path)?, want);
     Ok(())
 }
 
@@ -95,12 +115,12 @@ fn escaped_backslash(rt: HostRuntime) -> Result<(), Fail> {
     let alloc = rt.alloc();
     let glob = escape(alloc, "a\\*")?;
     assert_eq!(rt; glob.as_str(), "a\\[*]");
-    let by_default = Glob::new(alloc, glob.as_str())?.compile_matcher()?;
-    assert!(rt; by_default.is_match("a[*]")?);
-    assert!(rt; !by_default.is_match("a\\*")?);
-    let plain = read(alloc, "b: a\\[*]")?.compile_matcher()?;
-    assert!(rt; plain.is_match("a\\*")?);
-    assert!(rt; !plain.is_match("a[*]")?);
-    assert!(rt; !plain.is_match("a\\b")?);
+    let by_default = Glob::new(alloc, glob.as_str())?;
+    expect_match(&rt, &by_default, "a[*]", true)?;
+    expect_match(&rt, &by_default, "a\\*", false)?;
+    let plain = read(alloc, "b: a\\[*]")?;
+    expect_match(&rt, &plain, "a\\*", true)?;
+    expect_match(&rt, &plain, "a[*]", false)?;
+    expect_match(&rt, &plain, "a\\b", false)?;
     Ok(())
 }

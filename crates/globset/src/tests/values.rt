@@ -4,12 +4,19 @@ use super::read;
 use crate::{Candidate, Error, ErrorKind, Glob, GlobBuilder};
 use std::alloc::{AllocError, Global};
 use std::hash::{DefaultHasher, Hash, Hasher};
+use std::process::Abort;
 use std::test::Fail;
 
 fn hash_of(glob: &Glob) -> u64 {
     let mut state = DefaultHasher::new();
     glob.hash(&mut state);
     state.finish()
+}
+
+/// Globs of one text under other options.
+fn expect_unequal(rt: &impl Abort, glob: &Glob, other: &Glob) {
+    assert_eq!(rt; glob.glob(), other.glob());
+    assert!(rt; glob != other);
 }
 
 #[test]
@@ -20,24 +27,26 @@ fn equal_globs(rt: HostRuntime) -> Result<(), Fail> {
     assert!(rt; glob == glob.clone()?);
     assert_eq!(rt; hash_of(&glob), hash_of(&same));
     assert!(rt; glob != read(rt.alloc(), "b")?);
-    for letters in ["i: a", "s: a", "b: a", "e: a", "u: a"] {
-        assert!(rt; glob != read(rt.alloc(), letters)?, "{letters}");
-    }
+    expect_unequal(&rt, &glob, &read(rt.alloc(), "i: a")?);
+    expect_unequal(&rt, &glob, &read(rt.alloc(), "s: a")?);
+    expect_unequal(&rt, &glob, &read(rt.alloc(), "b: a")?);
+    expect_unequal(&rt, &glob, &read(rt.alloc(), "e: a")?);
+    expect_unequal(&rt, &glob, &read(rt.alloc(), "u: a")?);
     Ok(())
+}
+
+fn expect_text(rt: &impl Abort, have: &str, want: &str) {
+    assert_eq!(rt; have, want);
 }
 
 #[test]
 fn texts_of_globs(rt: HostRuntime) -> Result<(), Fail> {
     let alloc = rt.alloc();
     let glob = Glob::new(alloc, "*.é")?;
-    for (shown, want) in [
-        (format!(in alloc; "{glob}")?, "*.é"),
-        (format!(in alloc; "{glob:>6}")?, "   *.é"),
-        (format!(in alloc; "{glob:-<6}|")?, "*.é---|"),
-        (format!(in alloc; "{glob:.2}")?, "*."),
-    ] {
-        assert_eq!(rt; shown.as_str(), want);
-    }
+    expect_text(&rt, &format!(in alloc; "{glob}")?, "*.é");
+    expect_text(&rt, &format!(in alloc; "{glob:>6}")?, "   *.é");
+    expect_text(&rt, &format!(in alloc; "{glob:-<6}|")?, "*.é---|");
+    expect_text(&rt, &format!(in alloc; "{glob:.2}")?, "*.");
     Ok(())
 }
 
@@ -82,46 +91,62 @@ fn text_of<E: std::error::Error>(alloc: Global, error: &E) -> Result<String, Fai
 }
 
 #[test]
-fn errors(rt: HostRuntime) -> Result<(), Fail> {
-    let alloc = rt.alloc();
-    let error = refused(alloc, "[z-a]")?;
+fn equal_errors(rt: HostRuntime) -> Result<(), Fail> {
+    let error = refused(rt.alloc(), "[z-a]")?;
     let copy = error.clone()?;
     assert!(rt; error == copy);
     assert_eq!(rt; copy.glob(), Some("[z-a]"));
     assert!(rt; *copy.kind() == ErrorKind::InvalidRange('z', 'a'));
-    assert!(rt; error == refused(alloc, "[z-a]")?);
-    assert!(rt; error != refused(alloc, "[z-b]")?);
-    assert!(rt; refused(alloc, "a[")? != refused(alloc, "[")?);
+    assert!(rt; error == refused(rt.alloc(), "[z-a]")?);
+    Ok(())
+}
+
+#[test]
+fn unequal_errors(rt: HostRuntime) -> Result<(), Fail> {
+    let error = refused(rt.alloc(), "[z-a]")?;
+    assert!(rt; error != refused(rt.alloc(), "[z-b]")?);
+    assert!(rt; refused(rt.alloc(), "a[")? != refused(rt.alloc(), "[")?);
     assert!(rt; Error::from(AllocError) == Error::from(AllocError).clone()?);
     assert!(rt; error != Error::from(AllocError));
-    let shown = text_of(alloc, &error)?;
-    assert_eq!(rt;
-        shown.as_str(),
-        "error parsing glob '[z-a]': invalid range; 'z' > 'a'"
-    );
+    Ok(())
+}
+
+#[test]
+fn texts_of_errors(rt: HostRuntime) -> Result<(), Fail> {
+    let alloc = rt.alloc();
+    let error = refused(alloc, "[z-a]")?;
+    let want = "error parsing glob '[z-a]': invalid range; 'z' > 'a'";
+    expect_text(&rt, &text_of(alloc, &error)?, want);
+    Ok(())
+}
+
+/// A kind is equal to its copy, and to no other kind.
+fn expect_copy(rt: &impl Abort, kind: &ErrorKind) -> Result<(), Fail> {
+    let copy = kind.clone()?;
+    assert!(rt; *kind == copy);
+    assert!(rt; *kind != ErrorKind::InvalidRange('z', 'b'));
     Ok(())
 }
 
 #[test]
 fn kinds(rt: HostRuntime) -> Result<(), Fail> {
+    expect_copy(&rt, &ErrorKind::UnclosedClass)?;
+    expect_copy(&rt, &ErrorKind::InvalidRange('z', 'a'))?;
+    expect_copy(&rt, &ErrorKind::UnopenedAlternates)?;
+    expect_copy(&rt, &ErrorKind::UnclosedAlternates)?;
+    expect_copy(&rt, &ErrorKind::DanglingEscape)?;
+    expect_copy(&rt, &ErrorKind::OutOfMemory)?;
+    expect_copy(&rt, &ErrorKind::InvalidRecursive)?;
+    expect_copy(&rt, &ErrorKind::NestedAlternates)
+}
+
+#[test]
+fn kinds_of_texts(rt: HostRuntime) -> Result<(), Fail> {
     let alloc = rt.alloc();
-    for kind in [
-        ErrorKind::UnclosedClass,
-        ErrorKind::InvalidRange('z', 'a'),
-        ErrorKind::UnopenedAlternates,
-        ErrorKind::UnclosedAlternates,
-        ErrorKind::DanglingEscape,
-        ErrorKind::OutOfMemory,
-        ErrorKind::InvalidRecursive,
-        ErrorKind::NestedAlternates,
-        ErrorKind::Regex(String::from_str(alloc, "too large")?),
-    ] {
-        let copy = kind.clone()?;
-        assert!(rt; kind == copy);
-        assert!(rt; kind != ErrorKind::InvalidRange('z', 'b'));
-        let other = ErrorKind::Regex(String::from_str(alloc, "too small")?);
-        assert!(rt; kind != other);
-    }
+    let kind = ErrorKind::Regex(String::from_str(alloc, "too large")?);
+    expect_copy(&rt, &kind)?;
+    let other = ErrorKind::Regex(String::from_str(alloc, "too small")?);
+    assert!(rt; kind != other);
     let shown = format!(in alloc; "{:?}", ErrorKind::InvalidRange('z', 'a'))?;
     assert_eq!(rt; shown.as_str(), "InvalidRange('z', 'a')");
     Ok(())
