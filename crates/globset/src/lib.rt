@@ -1,12 +1,18 @@
 //! Globs: which paths match a pattern such as `src/**/*.{c,h}`.
 //!
 //! A [`Glob`] is read from text by [`Glob::new`], or under options by [`GlobBuilder`]; its [`GlobMatcher`] tells which
-//! paths it means.
+//! paths it means. A [`GlobSet`] tells which of many globs mean a path.
 #![tactic(auto)]
 
+mod builder;
+mod member;
+mod set;
+
+pub use builder::GlobSetBuilder;
 pub use globset_glob::{
     AsPath, Candidate, Error, ErrorKind, Glob, GlobBuilder, GlobMatcher, Visits,
 };
+pub use set::GlobSet;
 
 #[cfg(test)]
 mod tests;
