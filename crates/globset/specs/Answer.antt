@@ -11,7 +11,7 @@ answers g path = not (silent g) && glob_means g path
 
 -- the glob at this index, if there is one, answers
 abbrev pub answers_at : List GlobValue → List ℕ → ℕ → Bool
-answers_at globs path i = option_map_or (λ g. answers g path) false (slice_get globs i)
+answers_at globs path i = option_map_or (λ g. answers g path) (slice_get globs i) false
 
 -- The indexes from 0 up to the number of globs, in order, those kept whose glob is not silent and means the path. So
 -- they ascend, each stands there once, and two equal globs answer alike.

@@ -1,5 +1,5 @@
 -- Globs that a set leaves out of its answers.
-use Rattle.std.specs.Prelude.{ℕ, Bool, true, false, ◌&&◌, not, ◌==◌}
+use Rattle.std.specs.Prelude.{Bool, false, ◌&&◌, not, ◌==◌}
 use Rattle.globset_glob.specs.Token.{Token, RecursivePrefix, Literal, Any, ZeroOrMore, RecursiveSuffix, RecursiveZeroOrMore, Class, Group, Tokens, end, and_then}
 use Rattle.globset_glob.specs.Means.{GlobValue, is_prefix, tokens_of_glob}
 

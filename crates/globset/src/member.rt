@@ -3,8 +3,10 @@
 ghost use Rattle.std.specs.Prelude.{◌≡◌, ◌+◌, ◌≤◌, IfOk, IfErr};
 ghost use Rattle.globset_glob.specs.Cost.{most_visits};
 ghost use Rattle.globset_glob.specs.Errors.{out_of_memory};
+ghost use Rattle.globset_glob.specs.Means.{is_prefix};
+ghost use Rattle.globset_glob.specs.Views.{token_of};
 ghost use Rattle.globset.specs.Answer.{answers};
-ghost use Rattle.globset.specs.Silent.{silent};
+ghost use Rattle.globset.specs.Silent.{is_dot, silent};
 
 use globset_glob::{Candidate, Error, Glob, GlobMatcher, Token, Visits, options_of, tokens_of};
 use std::marker::Model;
@@ -65,16 +67,26 @@ impl Member {
 }
 
 /// Whether no set answers by the glob.
-pub fn is_silent(glob: &Glob) -> bool
+fn is_silent(glob: &Glob) -> bool
     ensures { result ≡ silent glob.now }
 {
-    !options_of(glob).case_insensitive
-        && matches!(
-            tokens_of(glob),
-            [
-                Token::RecursivePrefix,
-                Token::Literal('.'),
-                Token::Literal('.')
-            ]
-        )
+    if options_of(glob).case_insensitive {
+        return false;
+    }
+    let [first, second, third] = tokens_of(glob) else {
+        return false;
+    };
+    is_recursive_prefix(first) && is_dot(second) && is_dot(third)
+}
+
+fn is_recursive_prefix(token: &Token) -> bool
+    ensures { result ≡ is_prefix (token_of token.now) }
+{
+    matches!(token, Token::RecursivePrefix)
+}
+
+fn is_dot(token: &Token) -> bool
+    ensures { result ≡ is_dot (token_of token.now) }
+{
+    matches!(token, Token::Literal('.'))
 }

@@ -1,0 +1,4 @@
+pub mod SilentLemmas
+pub mod AnswerLemmas
+pub mod WorkLemmas
+pub mod Listed
