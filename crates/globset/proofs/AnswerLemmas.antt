@@ -66,11 +66,12 @@ pub answer_is : (globs : List GlobValue) (path : List ℕ) (i : ℕ) → Contain
 unfolding answer
 answer_is globs path i h =
     let n = length globs in
-    let test = answers_at globs path in
-    (All-contains (λ j. j < n) (filter test (range_with_len 0 n)) i
-       (All-filter test (λ j. j < n) (range_with_len 0 n) (All-from_get_or (λ j. j < n) (range_with_len 0 n) 0
-         (λ k l. let within : k < n = rw length-range_with_len at l in rw (get_or-range_with_len 0 n k 0 within) (omega arith)))) h,
-     All-contains (λ j. test j ≡ true) (filter test (range_with_len 0 n)) i (filter_passes test (range_with_len 0 n)) h)
+    let test = answers_at globs path in (
+      All-contains (λ j. j < n) (filter test (range_with_len 0 n)) i
+          (All-filter test (λ j. j < n) (range_with_len 0 n) (All-from_get_or (λ j. j < n) (range_with_len 0 n) 0
+          (λ k l. let within : k < n = rw length-range_with_len at l in rw (get_or-range_with_len 0 n k 0 within) (omega arith)))) h,
+      All-contains (λ j. test j ≡ true) (filter test (range_with_len 0 n)) i (filter_passes test (range_with_len 0 n)) h,
+    )
 
 -- the glob at an index answers for it
 pub answers_here : (globs : List GlobValue) (path : List ℕ) (i : ℕ) (g : GlobValue) → i < length globs → g ≡ get_or globs i g → answers_at globs path i ≡ answers g path
@@ -83,14 +84,16 @@ empty_from [] h = refl
 empty_from (x ∷ xs) h = absurd (h x (0, omega arith, refl))
 
 pub some_answers : (globs : List GlobValue) (path : List ℕ) (i : ℕ) → i < length globs → answers_at globs path i ≡ true → IsTrue true ↔ (answer globs path ≢ [])
-some_answers globs path i h p =
-    (λ y e. let held = contains_answer globs path i h p in let no : held.0 < length (answer globs path) = held.1 in let z : held.0 < 0 = rw e at no in omega (arith, z),
-     λ n. refl)
+some_answers globs path i h p = (
+  λ y e. let held = contains_answer globs path i h p in let no : held.0 < length (answer globs path) = held.1 in let z : held.0 < 0 = rw e at no in omega (arith, z),
+  λ n. refl,
+)
 
 pub none_answers : (globs : List GlobValue) (path : List ℕ) → ((i : ℕ) → i < length globs → answers_at globs path i ≡ false) → IsTrue false ↔ (answer globs path ≢ [])
-none_answers globs path h =
-    (λ y. absurd (cc),
-     λ n. absurd (n (empty_from (answer globs path) (λ i held. let a = answer_is globs path i held in let p = a.1 in let q = h i a.0 in cc))))
+none_answers globs path h = (
+  λ y. absurd (cc),
+  λ n. absurd (n (empty_from (answer globs path) (λ i held. let a = answer_is globs path i held in let p = a.1 in let q = h i a.0 in cc))),
+)
 
 pub all_answer : (globs : List GlobValue) (path : List ℕ) → ((i : ℕ) → i < length globs → answers_at globs path i ≡ true)
     → IsTrue true ↔ ContainsAllBelow (answer globs path) (length globs)

@@ -2,3 +2,6 @@ pub mod SilentLemmas
 pub mod AnswerLemmas
 pub mod WorkLemmas
 pub mod Listed
+pub mod Steps
+pub mod Gone
+pub mod Results

@@ -13,7 +13,7 @@ pub visits_more : (globs : List GlobValue) (path : List ℕ) (i : ℕ) (g : Glob
     → most_set_visits (take i globs) path + most_visits g path ≡ most_set_visits (take (i + 1) globs) path
 visits_more globs path i g h e =
     let sums : sum_by cost (take (i + 1) globs) ≡ sum_by cost (take i globs) + cost g =
-      ap (sum_by cost) (take_more globs i g h ∙ ap (λ (x : GlobValue). take i globs ++ x ∷ []) (sym e)) ∙ sum_by-append cost (take i globs) (g ∷ []) ∙ omega arith in
+    ap (sum_by cost) (take_more globs i g h ∙ ap (λ (x : GlobValue). take i globs ++ x ∷ []) (sym e)) ∙ sum_by-append cost (take i globs) (g ∷ []) ∙ omega arith in
     rw sums (omega arith)
 
 -- the first globs make no more than all

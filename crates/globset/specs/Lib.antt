@@ -2,6 +2,7 @@ pub mod Silent
 pub mod Answer
 pub mod Work
 pub mod SetValue
+pub mod Lending
 pub use Rattle.globset_glob.specs.Token
 pub use Rattle.globset_glob.specs.Ranges
 pub use Rattle.globset_glob.specs.Marks

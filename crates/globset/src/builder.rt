@@ -29,6 +29,8 @@ impl GlobSetBuilder {
     ghost use Rattle.std.specs.Prelude.{◌≡◌, [], ◌∷◌, ◌++◌, IfOk, IfErr, OnOk, OnErr};
     ghost use Rattle.globset_glob.specs.Errors.{out_of_memory};
     ghost use Rattle.globset.specs.SetValue.{builder_globs, set_globs};
+    ghost use Rattle.globset.specs.Lending.{LendsItself};
+    ghost use Rattle.std.specs.Borrow.{sem};
 
     /// No globs yet. It takes no memory.
     pub fn new(alloc: Global) -> GlobSetBuilder
@@ -43,6 +45,7 @@ impl GlobSetBuilder {
     ///
     /// The only error is want of memory: the builder is then as it was, and the glob is dropped.
     pub fn add(&mut self, glob: Glob) -> Result<&mut GlobSetBuilder, Error>
+        ensures* lends { sem 𝓛 (LendsItself self.entry result) }
         ensures ok { IfOk result (λ b. (b.ghost_name ≡ self.entry.ghost_name) × (builder_globs b.now ≡ builder_globs self.old ++ glob ∷ [])) }
         ensures err { IfErr result (λ e. e ≡ out_of_memory) }
     {

@@ -22,9 +22,10 @@ returns-then-is_dot c =
     let tests : (p && (q && r)) ≡ is_prefix_dot_dot (tokens_of ts) = of_three ts _ _ _ (omega arith) c.first-item.is c.second-item.is c.third-item.is in
     let told : is_prefix_dot_dot (tokens_of ts) ≡ silent c.args.glob.now = by_tokens _ _ c.tokens_of.ensures (rw (← c.options_of.ensures) c.if-options_of.false) in
     elim c.if-is_recursive_prefix.branch [
-      then-is_recursive_prefix w ↦
-        c.is_dot-then-is_dot.ensures ∙ first_two_hold p q r (sym c.is_recursive_prefix.ensures ∙ w.if-is_recursive_prefix.true) (sym w.is_dot.ensures ∙ sym w.value-is ∙ c.if-is_dot.true) ∙ tests ∙ told
-    | else-is_recursive_prefix w ↦ absurd (cc) ]
+      | then-is_recursive_prefix w ↦
+          c.is_dot-then-is_dot.ensures ∙ first_two_hold p q r (sym c.is_recursive_prefix.ensures ∙ w.if-is_recursive_prefix.true) (sym w.is_dot.ensures ∙ sym w.value-is ∙ c.if-is_dot.true) ∙ tests ∙ told
+      | else-is_recursive_prefix w ↦ absurd (cc)
+    ]
 
 pub returns-else-is_dot : goal.returns-else-is_dot
 returns-else-is_dot c =
@@ -33,5 +34,6 @@ returns-else-is_dot c =
     let tests : (p && (q && r)) ≡ is_prefix_dot_dot (tokens_of ts) = of_three ts _ _ _ (omega arith) c.first-item.is c.second-item.is c.third-item.is in
     let told : is_prefix_dot_dot (tokens_of ts) ≡ silent c.args.glob.now = by_tokens _ _ c.tokens_of.ensures (rw (← c.options_of.ensures) c.if-options_of.false) in
     c.if-is_dot.false ∙ elim c.if-is_recursive_prefix.branch [
-      then-is_recursive_prefix w ↦ second_fails p q r (sym w.is_dot.ensures ∙ sym w.value-is ∙ c.if-is_dot.false)
-    | else-is_recursive_prefix w ↦ first_fails p q r (sym c.is_recursive_prefix.ensures ∙ w.if-is_recursive_prefix.false) ] ∙ tests ∙ told
+      | then-is_recursive_prefix w ↦ second_fails p q r (sym w.is_dot.ensures ∙ sym w.value-is ∙ c.if-is_dot.false)
+      | else-is_recursive_prefix w ↦ first_fails p q r (sym c.is_recursive_prefix.ensures ∙ w.if-is_recursive_prefix.false)
+    ] ∙ tests ∙ told

@@ -7,7 +7,7 @@ use Rattle.globset.proofs.set.GlobSet.is_match_visits.Goals as goal
 pub returns-in_err-answers-clause-visits : goal.returns-in_err-answers-clause-visits
 returns-in_err-answers-clause-visits c =
     rw (← c.members-member-items.ensures) (visits_within c.members-member-items.result.now c.args.path.now c.loop-member.member-index c.member-item.result _ c.loop-member.visits _
-      c.loop-member-test.true c.member-item.is c.loop-member.invariant.within c.answers.ensures.visits)
+    c.loop-member-test.true c.member-item.is c.loop-member.invariant.within c.answers.ensures.visits)
 
 pub returns-then-branch-clause-ok : goal.returns-then-branch-clause-ok
 returns-then-branch-clause-ok c =
@@ -18,7 +18,7 @@ returns-then-branch-clause-ok c =
 pub returns-then-branch-clause-visits : goal.returns-then-branch-clause-visits
 returns-then-branch-clause-visits c =
     rw (← c.members-member-items.ensures) (visits_within c.members-member-items.result.now c.args.path.now c.loop-member.member-index c.member-item.result _ c.loop-member.visits _
-      c.loop-member-test.true c.member-item.is c.loop-member.invariant.within c.answers.ensures.visits)
+    c.loop-member-test.true c.member-item.is c.loop-member.invariant.within c.answers.ensures.visits)
 
 pub loop-member-preserved : goal.loop-member-preserved
 loop-member-preserved c =

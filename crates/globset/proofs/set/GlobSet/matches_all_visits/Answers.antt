@@ -7,7 +7,7 @@ use Rattle.globset.proofs.set.GlobSet.matches_all_visits.Goals as goal
 pub returns-in_err-answers-clause-visits : goal.returns-in_err-answers-clause-visits
 returns-in_err-answers-clause-visits c =
     rw (← c.members-member-items.ensures) (visits_within c.members-member-items.result.now c.args.path.now c.loop-member.member-index c.member-item.result _ c.loop-member.visits _
-      c.loop-member-test.true c.member-item.is c.loop-member.invariant.within c.answers.ensures.visits)
+    c.loop-member-test.true c.member-item.is c.loop-member.invariant.within c.answers.ensures.visits)
 
 pub returns-then-not-branch-clause-ok : goal.returns-then-not-branch-clause-ok
 returns-then-not-branch-clause-ok c =
@@ -18,7 +18,7 @@ returns-then-not-branch-clause-ok c =
 pub returns-then-not-branch-clause-visits : goal.returns-then-not-branch-clause-visits
 returns-then-not-branch-clause-visits c =
     rw (← c.members-member-items.ensures) (visits_within c.members-member-items.result.now c.args.path.now c.loop-member.member-index c.member-item.result _ c.loop-member.visits _
-      c.loop-member-test.true c.member-item.is c.loop-member.invariant.within c.answers.ensures.visits)
+    c.loop-member-test.true c.member-item.is c.loop-member.invariant.within c.answers.ensures.visits)
 
 pub loop-member-preserved : goal.loop-member-preserved
 loop-member-preserved c =

@@ -8,12 +8,12 @@ use Rattle.globset.proofs.set.GlobSet.push_matches.Goals.{then-branch+in_ok-push
 pub returns-in_err-answers-clause-visits : goal.returns-in_err-answers-clause-visits
 returns-in_err-answers-clause-visits c =
     rw (← c.members-member-items.ensures) (visits_within c.members-member-items.result.now c.args.path.now c.loop-index.index c.member-item.result _ c.loop-index.visits _
-      c.loop-index-test.true c.member-item.is c.loop-index.invariant.within c.answers.ensures.visits)
+    c.loop-index-test.true c.member-item.is c.loop-index.invariant.within c.answers.ensures.visits)
 
 pub returns-in_err-push-clause-visits : goal.returns-in_err-push-clause-visits
 returns-in_err-push-clause-visits c =
     rw (← c.members-member-items.ensures) (visits_within c.members-member-items.result.now c.args.path.now c.loop-index.index c.member-item.result _ c.loop-index.visits _
-      c.loop-index-test.true c.member-item.is c.loop-index.invariant.within c.answers.ensures.visits)
+    c.loop-index-test.true c.member-item.is c.loop-index.invariant.within c.answers.ensures.visits)
 
 pub loop-index-preserved : goal.loop-index-preserved
 loop-index-preserved c =
@@ -22,9 +22,10 @@ loop-index-preserved c =
     let more = visits_more globs path i c.member-item.result c.loop-index-test.true c.member-item.is in
     record {
       sofar = elim c.if-branch.branch [
-          then-branch+in_ok-push w ↦ one_more (answers_at globs path) i _ _ c.loop-index.invariant.sofar (sym is ∙ w.if-branch.true) (ap (λ v. v.items) w.into-is ∙ w.in_ok-push.ensures.items)
-        | else-branch w ↦ not_more (answers_at globs path) i _ _ c.loop-index.invariant.sofar (sym is ∙ w.if-branch.false) (ap (λ v. v.items) w.into-is) ];
-      within = omega arith
+        | then-branch+in_ok-push w ↦ one_more (answers_at globs path) i _ _ c.loop-index.invariant.sofar (sym is ∙ w.if-branch.true) (ap (λ v. v.items) w.into-is ∙ w.in_ok-push.ensures.items)
+        | else-branch w ↦ not_more (answers_at globs path) i _ _ c.loop-index.invariant.sofar (sym is ∙ w.if-branch.false) (ap (λ v. v.items) w.into-is)
+      ];
+      within = omega arith;
     }
 
 pub returns-clause-ok : goal.returns-clause-ok

@@ -8,5 +8,5 @@ use Rattle.globset.proofs.set.GlobSet.push_matches.Given as goal
 abbrev pub invariant-loop-index : goal.invariant-loop-index
 invariant-loop-index l = record {
   sofar : l.into.items ≡ filter (answers_at l.member-items l.path) (range_with_len 0 l.index);
-  within : l.visits ≤ l.initial.visits + most_set_visits (take l.index l.member-items) l.path
+  within : l.visits ≤ l.initial.visits + most_set_visits (take l.index l.member-items) l.path;
 }
