@@ -46,7 +46,8 @@ impl GlobSetBuilder {
     /// The only error is want of memory: the builder is then as it was, and the glob is dropped.
     pub fn add(&mut self, glob: Glob) -> Result<&mut GlobSetBuilder, Error>
         ensures* lends { sem 𝓛 (LendsItself self.entry result) }
-        ensures ok { IfOk result (λ b. (b.ghost_name ≡ self.entry.ghost_name) × (builder_globs b.now ≡ builder_globs self.old ++ glob ∷ [])) }
+        ensures ok { IfOk result (λ b. (b.ghost_name ≡ self.entry.ghost_name)
+            × (builder_globs b.now ≡ builder_globs self.old ++ glob ∷ [])) }
         ensures err { IfErr result (λ e. e ≡ out_of_memory) }
     {
         match self.push(glob) {

@@ -5,6 +5,7 @@
 #![tactic(auto)]
 
 mod builder;
+pub mod laws;
 mod member;
 mod set;
 

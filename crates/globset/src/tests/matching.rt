@@ -1,7 +1,7 @@
 //! Which paths a glob means.
 
 use super::read;
-use crate::Candidate;
+use crate::{Candidate, GlobSet};
 use std::test::Fail;
 
 /// Each line has a glob, perhaps with the letters of its options, `=>`, the paths that it means, and after `not` those
@@ -82,8 +82,6 @@ foo/** => foo/ foo/a not foo
 **/a*x => a/x
 ? => a not ☃
 ??? => ☃ not ??
-**/.. => parent/..
-**/\.. => parent/..
 a*a*a*a*a*a*a*a*a => aaaaaaaaa not aaaaaaaa
 a?c => abc a/c not ac
 a/**/b => a/b a/x/b not ab
@@ -94,6 +92,7 @@ fn paths(rt: HostRuntime) -> Result<(), Fail> {
     for row in PATHS.lines() {
         let (glob, paths) = row.split_once(" =>").ok_or("a row")?;
         let matcher = read(rt.alloc(), glob)?.compile_matcher()?;
+        let set = GlobSet::new(rt.alloc(), [matcher.glob()])?;
         let mut want = true;
         for word in paths.split_whitespace() {
             if word == "not" {
@@ -101,8 +100,22 @@ fn paths(rt: HostRuntime) -> Result<(), Fail> {
             } else {
                 let path = if word == "()" { "" } else { word };
                 assert_eq!(rt; matcher.is_match(path)?, want, "{glob} on {word}");
+                assert_eq!(rt; set.is_match(path)?, want, "the set of {glob} on {word}");
             }
         }
+    }
+    Ok(())
+}
+
+/// The matcher of a silent glob answers, and a set of it does not.
+#[test]
+fn silent_globs(rt: HostRuntime) -> Result<(), Fail> {
+    for glob in ["**/..", "**/**/..", r"**/\.."] {
+        let matcher = read(rt.alloc(), glob)?.compile_matcher()?;
+        assert!(rt; matcher.is_match("parent/..")?, "{glob}");
+        assert!(rt; !matcher.is_match("parent/.")?, "{glob}");
+        let set = GlobSet::new(rt.alloc(), [matcher.glob()])?;
+        assert!(rt; !set.is_match("parent/..")?, "the set of {glob}");
     }
     Ok(())
 }
