@@ -1,3 +1,9 @@
+pub mod Silent
+pub mod Answer
+pub mod Work
+pub mod SetValue
+pub mod Lending
+pub mod Laws
 pub use Rattle.globset_glob.specs.Token
 pub use Rattle.globset_glob.specs.Ranges
 pub use Rattle.globset_glob.specs.Marks

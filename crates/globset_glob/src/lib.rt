@@ -1,6 +1,7 @@
 //! One glob: how it is read, and which paths it means.
 #![tactic(auto)]
 
+mod access;
 mod builder;
 mod class;
 mod error;
@@ -16,10 +17,13 @@ mod text;
 mod token;
 mod visits;
 
+pub use access::{options_of, tokens_of};
 pub use builder::GlobBuilder;
 pub use error::{Error, ErrorKind};
 pub use escaping::escape;
 pub use glob::Glob;
 pub use matcher::GlobMatcher;
+pub use options::Options;
 pub use path::{AsPath, Candidate};
+pub use token::Token;
 pub use visits::Visits;

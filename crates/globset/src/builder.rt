@@ -1,0 +1,88 @@
+//! Builders of sets.
+
+use crate::set::GlobSet;
+use globset_glob::{Error, Glob};
+use std::alloc::Global;
+use std::marker::Model;
+
+/// Collects the globs of a set, in the order in which they are added. Contracts see their list.
+///
+/// ```text
+/// let mut builder = GlobSetBuilder::new(alloc);
+/// builder.add(Glob::new(alloc, "*.c")?)?.add(Glob::new(alloc, "*.h")?)?;
+/// let set = builder.build()?;
+/// ```
+#[derive(Debug, Drop)]
+pub struct GlobSetBuilder {
+    pats: Vec<Glob>,
+}
+
+impl Model for GlobSetBuilder {
+    ghost use Rattle.globset.specs.SetValue.{BuilderValue};
+
+    ghost Value = { BuilderValue };
+
+    ghost view = { λ b. b.pats.items };
+}
+
+impl GlobSetBuilder {
+    ghost use Rattle.std.specs.Prelude.{◌≡◌, [], ◌∷◌, ◌++◌, IfOk, IfErr, OnOk, OnErr};
+    ghost use Rattle.globset_glob.specs.Errors.{out_of_memory};
+    ghost use Rattle.globset.specs.SetValue.{builder_globs, set_globs};
+    ghost use Rattle.globset.specs.Lending.{LendsItself};
+    ghost use Rattle.std.specs.Borrow.{sem};
+
+    /// No globs yet. It takes no memory.
+    pub fn new(alloc: Global) -> GlobSetBuilder
+        ensures { builder_globs result ≡ [] }
+    {
+        GlobSetBuilder {
+            pats: Vec::new(alloc),
+        }
+    }
+
+    /// Puts a glob at the end, and hands back the builder, so that calls can be chained.
+    ///
+    /// The only error is want of memory: the builder is then as it was, and the glob is dropped.
+    pub fn add(&mut self, glob: Glob) -> Result<&mut GlobSetBuilder, Error>
+        ensures* lends { sem 𝓛 (LendsItself self.entry result) }
+        ensures ok { IfOk result (λ b. (b.ghost_name ≡ self.entry.ghost_name)
+            × (builder_globs b.now ≡ builder_globs self.old ++ glob ∷ [])) }
+        ensures err { IfErr result (λ e. e ≡ out_of_memory) }
+    {
+        match self.push(glob) {
+            Ok(()) => Ok(self),
+            Err(error) => Err(error),
+        }
+    }
+
+    /// The set of the globs that were added, in order. It copies them, so the builder is unchanged and can go on. The only
+    /// error is want of memory.
+    pub fn build(&self) -> Result<GlobSet, Error>
+        ensures ok { IfOk result (λ s. set_globs s ≡ builder_globs self.now) }
+        ensures err { IfErr result (λ e. e ≡ out_of_memory) }
+    {
+        GlobSet::new(*self.pats.allocator(), &self.pats)
+    }
+
+    /// An equal builder, or want of memory.
+    pub fn clone(&self) -> Result<GlobSetBuilder, Error>
+        ensures ok { IfOk result (λ b. b ≡ self.now) }
+        ensures err { IfErr result (λ e. e ≡ out_of_memory) }
+    {
+        let mut pats = Vec::with_capacity(*self.pats.allocator(), self.pats.len())?;
+        for glob in &self.pats {
+            pats.push(glob.clone()?)?;
+        }
+        Ok(GlobSetBuilder { pats })
+    }
+
+    fn push(&mut self, glob: Glob) -> Result<(), Error>
+        ensures ok { OnOk result (builder_globs self.new ≡ builder_globs self.old ++ glob ∷ []) }
+        ensures kept { OnErr result (builder_globs self.new ≡ builder_globs self.old) }
+        ensures err { IfErr result (λ e. e ≡ out_of_memory) }
+    {
+        self.pats.push(glob)?;
+        Ok(())
+    }
+}
