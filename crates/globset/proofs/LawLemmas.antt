@@ -37,7 +37,7 @@ adding_keeps globs g path =
     let n = length globs in
     let more : length (globs ++ g ∷ []) ≡ n + 1 = simp length-append (omega arith) in
     let front = filter_agree_below (answers_at (globs ++ g ∷ []) path) (answers_at globs path) n
-      (λ i h. ap (λ (o : Option GlobValue). option_map_or (λ x. answers x path) o false) (slice_get-front globs (g ∷ []) i h)) in
+    (λ i h. ap (λ (o : Option GlobValue). option_map_or (λ x. answers x path) o false) (slice_get-front globs (g ∷ []) i h)) in
     let last : answers_at (globs ++ g ∷ []) path n ≡ answers g path = ap (λ (o : Option GlobValue). option_map_or (λ x. answers x path) o false) (slice_get-last globs g) in
     ap (λ (k : ℕ). filter (answers_at (globs ++ g ∷ []) path) (range_with_len 0 k)) more ∙ filter_more (answers_at (globs ++ g ∷ []) path) n
     ∙ (λ i. front i ++ cond (last i) (n ∷ []) [])
@@ -50,17 +50,18 @@ asked_within (g ∷ globs) path zero h = omega arith
 asked_within (g ∷ globs) path (suc i) h = omega (arith, asked_within globs path i h)
 
 pub order_only_renames : OrderRenames
-order_only_renames first second to path turned j =
-    (λ held.
-       let a = answer_is second path j held in
-       let from = turned.reached j a.0 in
-       let same : answers_at second path (to from.0) ≡ answers_at first path from.0 = ap (λ (o : Option GlobValue). option_map_or (λ x. answers x path) o false) (turned.moved from.0 from.1) in
-       (from.0, contains_answer first path from.0 from.1 (sym same ∙ ap (answers_at second path) from.2 ∙ a.1), from.2),
-     λ from.
-       let a = answer_is first path from.0 from.1 in
-       let same : answers_at second path (to from.0) ≡ answers_at first path from.0 = ap (λ (o : Option GlobValue). option_map_or (λ x. answers x path) o false) (turned.moved from.0 a.0) in
-       let yes : answers_at second path j ≡ true = ap (answers_at second path) (sym from.2) ∙ same ∙ a.1 in
-       contains_answer second path j (asked_within second path j yes) yes)
+order_only_renames first second to path turned j = (
+  λ held.
+      let a = answer_is second path j held in
+      let from = turned.reached j a.0 in
+      let same : answers_at second path (to from.0) ≡ answers_at first path from.0 = ap (λ (o : Option GlobValue). option_map_or (λ x. answers x path) o false) (turned.moved from.0 from.1) in
+      (from.0, contains_answer first path from.0 from.1 (sym same ∙ ap (answers_at second path) from.2 ∙ a.1), from.2),
+  λ from.
+      let a = answer_is first path from.0 from.1 in
+      let same : answers_at second path (to from.0) ≡ answers_at first path from.0 = ap (λ (o : Option GlobValue). option_map_or (λ x. answers x path) o false) (turned.moved from.0 a.0) in
+      let yes : answers_at second path j ≡ true = ap (answers_at second path) (sym from.2) ∙ same ∙ a.1 in
+      contains_answer second path j (asked_within second path j yes) yes,
+)
 
 -- ---- one glob
 
