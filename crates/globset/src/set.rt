@@ -84,7 +84,7 @@ impl GlobSet {
         })
     }
 
-    /// An equal set, or want of memory. The copy of a set of no globs takes none.
+    /// An equal set, or want of memory.
     pub fn clone(&self) -> Result<GlobSet, Error>
         ensures ok { IfOk result (λ s. s ≡ self.now) }
         ensures err { IfErr result (λ e. e ≡ out_of_memory) }

@@ -6,10 +6,11 @@ mod matching;
 mod nesting;
 mod paths;
 mod regex;
+mod sets;
 mod values;
 
 use crate::{Error, Glob, GlobBuilder};
-use std::alloc::Global;
+use std::alloc::{AllocError, Global};
 
 /// Reads a row's glob: the letters of options that differ from the default, each with a space behind it, and then the
 /// text. `i` is `case_insensitive`, `s` `literal_separator`, `e` `empty_alternates`, `u` `allow_unclosed_class`, and `b`
@@ -28,4 +29,13 @@ fn read(alloc: Global, row: &str) -> Result<Glob, Error> {
     builder.allow_unclosed_class(letters.contains('u'));
     builder.backslash_escape(!letters.contains('b'));
     builder.build(alloc)
+}
+
+/// So many times a character.
+fn repeated(alloc: Global, c: char, count: usize) -> Result<String, AllocError> {
+    let mut text = String::new(alloc);
+    for _ in 0..count {
+        text.push(c)?;
+    }
+    Ok(text)
 }

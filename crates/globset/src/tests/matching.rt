@@ -1,7 +1,8 @@
 //! Which paths a glob means.
 
 use super::read;
-use crate::{Candidate, GlobMatcher};
+use crate::{Candidate, GlobMatcher, GlobSet};
+use std::alloc::Global;
 use std::process::Abort;
 use std::test::Fail;
 
@@ -83,32 +84,38 @@ foo/** => foo/ foo/a not foo
 **/a*x => a/x
 ? => a not ☃
 ??? => ☃ not ??
-**/.. => parent/..
-**/\.. => parent/..
 a*a*a*a*a*a*a*a*a => aaaaaaaaa not aaaaaaaa
 a?c => abc a/c not ac
 a/**/b => a/b a/x/b not ab
 \* => * not a";
 
-/// Asks whether the glob means the path, `()` being the empty one.
-fn expect(rt: &impl Abort, matcher: &GlobMatcher, path: &str, want: bool) -> Result<(), Fail> {
+/// Asks the matcher and a set of its glob alone about a path.
+fn expect(
+    rt: &impl Abort,
+    matcher: &GlobMatcher,
+    set: &GlobSet,
+    path: &str,
+    want: bool,
+) -> Result<(), Fail> {
     let glob = matcher.glob().glob();
-    if path == "()" {
-        assert_eq!(rt; matcher.is_match("")?, want, "{glob} on the empty path");
-        return Ok(());
-    }
     assert_eq!(rt; matcher.is_match(path)?, want, "{glob} on {path}");
+    assert_eq!(rt; set.is_match(path)?, want, "the set of {glob} on {path}");
     Ok(())
 }
 
-/// Goes through the paths of a row.
-fn expect_row(rt: &impl Abort, matcher: &GlobMatcher, paths: &str) -> Result<(), Fail> {
+/// Goes through the paths of a row, where `()` is the empty one.
+fn expect_row(
+    rt: &impl Abort,
+    matcher: &GlobMatcher,
+    set: &GlobSet,
+    paths: &str,
+) -> Result<(), Fail> {
     let mut want = true;
     for word in paths.split_whitespace() {
-        if word == "not" {
-            want = false;
-        } else {
-            expect(rt, matcher, word, want)?;
+        match word {
+            "not" => want = false,
+            "()" => expect(rt, matcher, set, "", want)?,
+            _ => expect(rt, matcher, set, word, want)?,
         }
     }
     Ok(())
@@ -119,9 +126,27 @@ fn paths(rt: HostRuntime) -> Result<(), Fail> {
     for row in PATHS.lines() {
         let (glob, paths) = row.split_once(" =>").ok_or("a row")?;
         let matcher = read(rt.alloc(), glob)?.compile_matcher()?;
-        expect_row(&rt, &matcher, paths)?;
+        let set = GlobSet::new(rt.alloc(), [matcher.glob()])?;
+        expect_row(&rt, &matcher, &set, paths)?;
     }
     Ok(())
+}
+
+/// The matcher of a silent glob answers, and a set of it does not.
+fn expect_silent(rt: &impl Abort, alloc: Global, glob: &str) -> Result<(), Fail> {
+    let matcher = read(alloc, glob)?.compile_matcher()?;
+    assert!(rt; matcher.is_match("parent/..")?);
+    assert!(rt; !matcher.is_match("parent/.")?);
+    let set = GlobSet::new(alloc, [matcher.glob()])?;
+    assert!(rt; !set.is_match("parent/..")?);
+    Ok(())
+}
+
+#[test]
+fn silent_globs(rt: HostRuntime) -> Result<(), Fail> {
+    expect_silent(&rt, rt.alloc(), "**/..")?;
+    expect_silent(&rt, rt.alloc(), "**/**/..")?;
+    expect_silent(&rt, rt.alloc(), "**/\\..")
 }
 
 /// A class takes single bytes, also where they are no text.

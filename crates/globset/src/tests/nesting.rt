@@ -1,17 +1,9 @@
 //! Long and deep texts.
 
-use super::read;
+use super::{read, repeated};
 use crate::ErrorKind;
 use std::alloc::{AllocError, Global};
 use std::test::Fail;
-
-fn repeated(alloc: Global, c: char, count: usize) -> Result<String, AllocError> {
-    let mut text = String::new(alloc);
-    for _ in 0..count {
-        text.push(c)?;
-    }
-    Ok(text)
-}
 
 /// `a` inside so many open groups, and so many `}`.
 fn groups(alloc: Global, open: usize, closed: usize) -> Result<String, AllocError> {
