@@ -12,7 +12,7 @@ use std::alloc::{AllocError, Global};
 ///
 /// Read as a glob, it means the text alone: under default options where the text has no `\`, and any text where
 /// `backslash_escape` is off and the other options are as by default. A `\` stays, and by default it would escape what
-/// follows it. The only error is want of memory.
+/// follows it. It takes time linear in the text. The only error is want of memory.
 pub fn escape(alloc: Global, text: &str) -> Result<String, Error>
     ensures text { IfOk result (λ s. string_bytes s ≡ escaped text.now) }
     ensures escape_default { IfOk result (λ s. IsTrue (has_no_backslash text.now) → MeansOnly (default_glob (string_bytes s)) text.now) }

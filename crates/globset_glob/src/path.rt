@@ -78,7 +78,7 @@ impl<'a> Candidate<'a> {
         Candidate::from_bytes(path.as_bytes())
     }
 
-    /// The path of these bytes, UTF-8 or not. It takes no memory.
+    /// The path of these bytes, UTF-8 or not. It looks through the path's last part, and takes no memory.
     ///
     /// The candidate of a text's bytes is that of the text: contracts see the same value, and so every call on the two
     /// gives the same answer.

@@ -14,7 +14,7 @@ ghost use Rattle.globset_glob.specs.Equality.{SameKind, SameError};
 use crate::error::{Error, ErrorKind};
 use std::alloc::Global;
 
-/// Errors are equal where the texts that they hold are, and their kinds.
+/// Errors are equal where the texts that they hold are, and their kinds. It takes no memory.
 impl PartialEq for Error {
     ghost eq = { eq_of_both (on (λ e. e.glob) (option_eq bytes_eq)) (on (λ e. e.kind) ⟦<ErrorKind as PartialEq>⟧.eq) };
 
@@ -25,6 +25,7 @@ impl PartialEq for Error {
     }
 }
 
+/// Each error is equal to itself.
 impl Eq for Error {
     ghost laws = { and_equiv (on_equiv (λ e. e.glob) (options_equiv nat_list_eq_equiv)) (on_equiv (λ e. e.kind) laws-law) };
 }

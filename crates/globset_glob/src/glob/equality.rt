@@ -16,7 +16,8 @@ use crate::options::Options;
 use std::fmt;
 use std::hash::{Hash, Hasher};
 
-/// Globs are equal where their texts and their options are. Then they have the same tokens, and mean the same paths.
+/// Globs are equal where their texts and their options are. Then they have the same tokens, and mean the same paths. It
+/// takes no memory.
 impl PartialEq for Glob {
     ghost eq = { same_glob };
 
@@ -33,11 +34,12 @@ impl PartialEq for Glob {
     }
 }
 
+/// Each glob is equal to itself.
 impl Eq for Glob {
     ghost laws = { and_equiv (on_equiv (λ g. g.text) nat_list_eq_equiv) (on_equiv (λ g. g.options) laws-law) };
 }
 
-/// Equal globs hash equally.
+/// The hash is of the text and the options, so equal globs hash equally. It takes no memory.
 impl Hash for Glob {
     ghost hash_input = { λ g. fed.str g.text ++ ⟦<Options as Hash>⟧.hash_input g.options };
 
