@@ -1,2 +1,4 @@
+mod Numbers
 mod LineLemmas
 mod MoveLemmas
+mod WordLemmas

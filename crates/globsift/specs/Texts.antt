@@ -1,7 +1,7 @@
 -- Texts of faults.
 use Rattle.std.specs.Prelude.{ℕ, List, ◌++◌, codes}
 use Rattle.globset.specs.Errors.{error_text}
-use Rattle.globsift.specs.Command.{fault_value, FaultValue, unknown_option, no_glob, one_glob, glob_error}
+use Rattle.globsift.specs.Command.{fault_value, FaultValue, unknown_option, no_glob, glob_error}
 use Rattle.globsift.specs.declared.fault.Fault.{Fault}
 use Rattle.globsift.specs.declared.fault.Fault.TheVariants.{Command, Sift}
 use Rattle.globsift.specs.declared.fault.SiftFault.{SiftFault}
@@ -15,7 +15,6 @@ sift_fault_text OutOfMemory = codes "out of memory"
 abbrev pub command_fault_text : FaultValue → List ℕ
 command_fault_text (unknown_option word) = codes "unknown option '" ++ word ++ codes "'"
 command_fault_text no_glob = codes "no glob given"
-command_fault_text one_glob = codes "one glob only"
 command_fault_text (glob_error error) = error_text error
 
 abbrev pub fault_text : Fault → List ℕ

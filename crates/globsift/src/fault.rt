@@ -4,7 +4,7 @@ use globset::Error;
 use std::alloc::{AllocError, AllocFailed};
 use std::fmt;
 
-/// Why [`sift_one`](crate::sifting::sift_one) stopped before the end.
+/// Why [`sift`](crate::sifting::sift) stopped before the end.
 #[derive(Clone, Copy, Debug, PartialEq, Eq)]
 pub enum SiftFault {
     /// A read failed, or no read met the end.
@@ -57,13 +57,11 @@ impl<T: Drop> From<AllocFailed<T>> for SiftFault {
 /// Why the words of a command line are no command.
 #[derive(Debug, Drop)]
 pub enum CommandFault {
-    /// This word begins with `-`, and no option is known.
+    /// This word begins with `-` and is no option.
     UnknownOption(String),
-    /// There is no word.
+    /// There is no glob.
     NoGlob,
-    /// There is a second word that does not begin with `-`.
-    OneGlob,
-    /// The glob was refused, or memory ran out.
+    /// A glob was refused, or memory ran out.
     Glob(Error),
 }
 
@@ -78,7 +76,6 @@ impl fmt::Display for CommandFault {
         match self {
             CommandFault::UnknownOption(word) => write!(f, "unknown option '{word}'"),
             CommandFault::NoGlob => f.write_str("no glob given"),
-            CommandFault::OneGlob => f.write_str("one glob only"),
             CommandFault::Glob(error) => write!(f, "{error}"),
         }
     }

@@ -3,8 +3,8 @@
 ghost use Rattle.std.specs.Prelude.{Some};
 
 use crate::fault::SiftFault;
-use crate::sifting::sift_one;
-use globset::{Glob, GlobMatcher};
+use crate::sifting::sift;
+use globset::{Glob, GlobSet};
 use std::alloc::{AllocError, Global};
 use std::io::{Error, ErrorKind, Read, Result, Write};
 use std::test::Fail;
@@ -67,6 +67,7 @@ impl Write for ByteWriter {
 /// A reader and a writer, and what comes of them.
 #[derive(Clone, Copy)]
 struct Case {
+    numbered: bool,
     reads: u32,
     room: usize,
     write_fails: bool,
@@ -81,6 +82,7 @@ const INPUT: &[u8] = b"src/a.rs\n\nb.c\nx.rs\ny.rs";
 
 /// Nothing fails.
 const WHOLE: Case = Case {
+    numbered: false,
     reads: 99,
     room: 99,
     write_fails: true,
@@ -88,6 +90,13 @@ const WHOLE: Case = Case {
     answer: Ok(true),
     output: b"src/a.rs\nx.rs\ny.rs\n",
     flushes: 1,
+};
+
+/// The same with numbers.
+const NUMBERED: Case = Case {
+    numbered: true,
+    output: b"0,1\tsrc/a.rs\n0\tx.rs\n0\ty.rs\n",
+    ..WHOLE
 };
 
 /// A read fails.
@@ -104,8 +113,9 @@ const WRITE: Case = Case {
     ..WHOLE
 };
 
-const CASES: [Case; 11] = [
+const CASES: [Case; 17] = [
     WHOLE,
+    NUMBERED,
     Case {
         reads: 0,
         output: b"",
@@ -161,16 +171,54 @@ const CASES: [Case; 11] = [
         flushes: 1,
         ..WRITE
     },
+    // the same with numbers
+    Case {
+        numbered: true,
+        reads: 17,
+        output: b"0,1\tsrc/a.rs\n",
+        ..READ
+    },
+    Case {
+        numbered: true,
+        reads: 23,
+        output: b"0,1\tsrc/a.rs\n0\tx.rs\n",
+        ..READ
+    },
+    Case {
+        numbered: true,
+        room: 2,
+        output: b"0,",
+        ..WRITE
+    },
+    Case {
+        numbered: true,
+        room: 2,
+        write_fails: false,
+        output: b"0,",
+        ..WRITE
+    },
+    Case {
+        numbered: true,
+        flush_fails: true,
+        output: b"0,1\tsrc/a.rs\n0\tx.rs\n0\ty.rs\n",
+        flushes: 1,
+        ..WRITE
+    },
 ];
 
-fn make_matcher(alloc: Global, glob: &str) -> std::result::Result<GlobMatcher, globset::Error> {
-    Glob::new(alloc, glob)?.compile_matcher()
+/// The set of these globs under the default options.
+fn make_set(alloc: Global, globs: &[&str]) -> std::result::Result<GlobSet, globset::Error> {
+    let mut builder = GlobSet::builder(alloc);
+    for glob in globs {
+        builder.add(Glob::new(alloc, *glob)?)?;
+    }
+    builder.build()
 }
 
 /// What comes of a case: the answer and the writer.
 fn outcome(
     alloc: Global,
-    matcher: &GlobMatcher,
+    set: &GlobSet,
     case: &Case,
 ) -> (std::result::Result<bool, SiftFault>, ByteWriter) {
     let mut reader = ByteReader {
@@ -184,15 +232,15 @@ fn outcome(
         flush_fails: case.flush_fails,
         flushes: 0,
     };
-    let answer = sift_one(alloc, matcher, &mut reader, &mut writer);
+    let answer = sift(alloc, set, case.numbered, &mut reader, &mut writer);
     (answer, writer)
 }
 
 #[test]
 fn faults(rt: HostRuntime) -> std::result::Result<(), Fail> {
-    let matcher = make_matcher(rt.alloc(), "*.rs")?;
+    let set = make_set(rt.alloc(), &["*.rs", "src/**"])?;
     for case in CASES {
-        let (answer, writer) = outcome(rt.alloc(), &matcher, &case);
+        let (answer, writer) = outcome(rt.alloc(), &set, &case);
         assert_eq!(rt; writer.held.as_slice(), case.output);
         assert_eq!(rt; answer, case.answer);
         assert_eq!(rt; writer.flushes, case.flushes);
@@ -218,10 +266,10 @@ fn long_lines(rt: HostRuntime) -> std::result::Result<(), Fail> {
     output.push(b'\n')?;
     output.extend_from_slice(line.as_slice())?;
     output.push(b'\n')?;
-    let matcher = make_matcher(rt.alloc(), "s*")?;
+    let set = make_set(rt.alloc(), &["s*"])?;
     let mut reader = input.as_slice();
     let mut writer = Vec::new(rt.alloc());
-    let answer = sift_one(rt.alloc(), &matcher, &mut reader, &mut writer);
+    let answer = sift(rt.alloc(), &set, false, &mut reader, &mut writer);
     assert_eq!(rt; answer, Ok(true));
     assert_eq!(rt; writer.as_slice() == output.as_slice(), true);
     Ok(())

@@ -5,16 +5,16 @@ use Rattle.globsift.proofs.sifting.Output.put_chunk.Goals as goal
 
 pub returns-in_default : goal.returns-in_default
 returns-in_default g c =
-    chunk_kept _ _ c.args.chunk.now _ _ _ _ _ c.requires c.in_default.is c.memchr.ensures c.in_ok-extend_from_slice.ensures.items
+    chunk_kept _ _ _ c.args.chunk.now _ _ _ _ _ c.requires c.in_default.is c.memchr.ensures c.in_ok-extend_from_slice.ensures.items
 
 pub returns-in_err-put_line : goal.returns-in_err-put_line
 returns-in_err-put_line g c =
     let p = err_from_is_err_and c.from_residual-in_err-put_line.result c.from_residual-in_err-put_line.ensures.1 in
-    rw (p.1, p.2) (chunk_halts _ c.args.rest.now.items c.args.chunk.now c.as_slice.result.now c.in-Some.i _ _ _ _ c.requires c.in-Some.ensures
+    rw (p.1, p.2) (chunk_halts _ _ c.args.rest.now.items c.args.chunk.now c.as_slice.result.now c.in-Some.i _ _ _ _ c.requires c.in-Some.ensures
     (c.as_slice.ensures.value ∙ c.in_ok-extend_from_slice-2.ensures.items) c.in_err-put_line.ensures)
 
 pub returns : goal.returns
 returns g c =
     let line = c.as_slice.ensures.value ∙ c.in_ok-extend_from_slice-2.ensures.items in
     let put = c.in_ok-put_line.ensures in
-    chunk_result _ c.args.rest.now.items c.args.chunk.now c.as_slice.result.now _ c.in-Some.i _ _ _ _ _ _ _ _ _ c.put_and_keep-2.result c.requires c.in-Some.ensures line put.0 put.1 c.put_and_keep-2.ensures
+    chunk_result _ _ c.args.rest.now.items c.args.chunk.now c.as_slice.result.now _ c.in-Some.i _ _ _ _ _ _ _ _ _ c.put_and_keep-2.result c.requires c.in-Some.ensures line put.0 put.1 c.put_and_keep-2.ensures

@@ -4,21 +4,21 @@ use Rattle.globsift.proofs.MoveLemmas.{Moves-start, lines_step, lines_end, lines
 use Rattle.globsift.proofs.sifting.Output.put_lines.Goals as goal
 
 pub loop-i-init : goal.loop-i-init
-loop-i-init g c = ([], refl, Moves-start _ [] _ _ _ refl)
+loop-i-init g c = ([], refl, Moves-start _ _ [] _ _ _ refl)
 
 pub loop-i-preserved : goal.loop-i-preserved
 loop-i-preserved g c =
     let i = c.loop-i.invariant in
     let put = c.in_ok-put_line.ensures in
-    lines_step _ _ i.0 _ c.in-Some.i _ _ _ _ _ _ _ _ _ i.1 i.2 c.in-Some.ensures put.0 put.1
+    lines_step _ _ _ i.0 _ c.in-Some.i _ _ _ _ _ _ _ _ _ i.1 i.2 c.in-Some.ensures put.0 put.1
 
 pub returns : goal.returns
 returns g c =
     let i = c.loop-i.invariant in
-    lines_end _ _ i.0 c.loop-i.rest.now _ _ _ _ _ _ _ i.1 i.2 c.in_default.is c.memchr.ensures
+    lines_end _ _ _ i.0 c.loop-i.rest.now _ _ _ _ _ _ _ i.1 i.2 c.in_default.is c.memchr.ensures
 
 pub returns-in_err-put_line : goal.returns-in_err-put_line
 returns-in_err-put_line g c =
     let i = c.loop-i.invariant in
     let p = err_from_is_err_and c.from_residual.result c.from_residual.ensures.1 in
-    rw (p.1, p.2) (lines_halt _ _ i.0 _ c.in-Some.i _ _ _ _ _ _ _ _ i.1 i.2 c.in-Some.ensures c.in_err-put_line.ensures)
+    rw (p.1, p.2) (lines_halt _ _ _ i.0 _ c.in-Some.i _ _ _ _ _ _ _ _ i.1 i.2 c.in-Some.ensures c.in_err-put_line.ensures)

@@ -3,11 +3,11 @@ use Rattle.globsift.proofs.MoveLemmas.{rest_empty, rest_filled, rest_put, rest_h
 use Rattle.globsift.proofs.sifting.Output.put_rest.Goals as goal
 
 pub returns-then-is_empty : goal.returns-then-is_empty
-returns-then-is_empty g c = rest_empty _ c.args.rest.now _ _ _ _ c.is_empty.ensures c.if-is_empty.true
+returns-then-is_empty g c = rest_empty _ _ c.args.rest.now _ _ _ _ c.is_empty.ensures c.if-is_empty.true
 
 pub returns : goal.returns
 returns g c =
-    let p = rest_filled c.args.matcher.now c.args.rest.now _ c.requires c.is_empty.ensures c.if-is_empty.false in
+    let p = rest_filled c.args.set.now c.args.numbered c.args.rest.now _ c.requires c.is_empty.ensures c.if-is_empty.false in
     MatchResult-weaker c.put_line.result c.put_line.ensures
-    (λ u m. rest_put _ c.args.rest.now _ _ _ _ _ _ p m)
-    (λ f m. rest_halts _ c.args.rest.now _ _ _ f p.0 m)
+    (λ u m. rest_put _ _ c.args.rest.now _ _ _ _ _ _ p m)
+    (λ f m. rest_halts _ _ c.args.rest.now _ _ _ f p.0 m)

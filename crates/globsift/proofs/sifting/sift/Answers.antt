@@ -4,34 +4,34 @@ use Rattle.std.proofs.lemmas.Result.{err_from_is_err_and}
 use Rattle.std.proofs.KnownBytes.{Consumes-nil, Consumes-trans, Consumes-kept}
 use Rattle.globsift.specs.Lines.{is_lf}
 use Rattle.globsift.proofs.MoveLemmas.{Stops-halts, Stops-start, Moves-held_halts, Moves-drained, end_result, Moves-trans, Moves-halts, Moves-begin, Consumes-is, read_back}
-use Rattle.globsift.proofs.sifting.sift_one.Goals as goal
+use Rattle.globsift.proofs.sifting.sift.Goals as goal
 
 pub returns-in_err-chunk : goal.returns-in_err-chunk
 returns-in_err-chunk g c =
     let p = err_from_is_err_and c.from_residual.result c.from_residual.ensures.1 in
-    rw p.1 (Stops-start c.args.matcher.now (g.R.Read.remaining c.args.reader.now) (g.W.Write.contents c.args.writer.now) p.0 p.2)
+    rw p.1 (Stops-start c.args.set.now c.args.numbered (g.R.Read.remaining c.args.reader.now) (g.W.Write.contents c.args.writer.now) p.0 p.2)
 
 pub returns-in_err-with_capacity : goal.returns-in_err-with_capacity
 returns-in_err-with_capacity g c =
     let p = err_from_is_err_and c.from_residual-in_err-with_capacity.result c.from_residual-in_err-with_capacity.ensures.1 in
-    rw p.1 (Stops-start c.args.matcher.now (g.R.Read.remaining c.args.reader.now) (g.W.Write.contents c.args.writer.now) p.0 p.2)
+    rw p.1 (Stops-start c.args.set.now c.args.numbered (g.R.Read.remaining c.args.reader.now) (g.W.Write.contents c.args.writer.now) p.0 p.2)
 
 pub loop-init : goal.loop-init
-loop-init g c = ([], Consumes-nil _, Moves-begin _ _ _ _ c.new-rest.ensures.items c.in_ok-with_capacity.ensures.items, omega (arith, c.in_ok-chunk.ensures))
+loop-init g c = ([], Consumes-nil _, Moves-begin _ _ _ _ _ c.new-rest.ensures.items c.in_ok-with_capacity.ensures.items, omega (arith, c.in_ok-chunk.ensures))
 
 pub returns-in_err-write_held-in-Err : goal.returns-in_err-write_held-in-Err
 returns-in_err-write_held-in-Err g c =
     let i = c.loop.invariant in
     let p = err_from_is_err_and c.from_residual-in_err-write_held-in-Err.result c.from_residual-in_err-write_held-in-Err.ensures.1 in
-    rw (p.1, p.2) (Stops-halts _ i.0 _ _ _ _ c.in_err-write_held-in-Err.field-0.0 (Consumes-kept _ _ _ _ i.1 c.in-Err.ensures.bytes)
-    (Moves-held_halts _ _ _ _ _ _ _ _ _ _ _ i.2 c.in_err-write_held-in-Err.ensures))
+    rw (p.1, p.2) (Stops-halts _ _ i.0 _ _ _ _ c.in_err-write_held-in-Err.field-0.0 (Consumes-kept _ _ _ _ i.1 c.in-Err.ensures.bytes)
+    (Moves-held_halts _ _ _ _ _ _ _ _ _ _ _ _ i.2 c.in_err-write_held-in-Err.ensures))
 
 pub returns-in-Err : goal.returns-in-Err
 returns-in-Err g c =
     let i = c.loop.invariant in (
       i.0,
       Consumes-kept _ _ _ _ i.1 c.in-Err.ensures.bytes,
-      Moves-drained _ _ _ _ _ _ _ _ _ _ i.2 c.in_ok-write_held-in-Err.ensures.0 c.in_ok-write_held-in-Err.ensures.1,
+      Moves-drained _ _ _ _ _ _ _ _ _ _ _ i.2 c.in_ok-write_held-in-Err.ensures.0 c.in_ok-write_held-in-Err.ensures.1,
     )
 
 pub finish-requires : goal.finish-requires
@@ -41,7 +41,7 @@ pub returns-then-n-eq0 : goal.returns-then-n-eq0
 returns-then-n-eq0 g c =
     let i = c.loop.invariant in
     let filled : 0 < length c.read.new.buf = omega (arith, c.read.auto.buf, c.as_mut_slice.ensures.len, c.loop.chunk.ok.0) in
-    end_result _ i.0 (take c.in-Ok.n c.read.new.buf) _ c.as_slice.result.now _ _ _ _ _ _ _ _ c.finish.result i.1 c.in-Ok.ensures.bytes.0
+    end_result _ _ i.0 (take c.in-Ok.n c.read.new.buf) _ c.as_slice.result.now _ _ _ _ _ _ _ _ c.finish.result i.1 c.in-Ok.ensures.bytes.0
     (ap (λ k. take k c.read.new.buf) c.if-n-eq0.true) (c.in-Ok.ensures.bytes.1 c.if-n-eq0.true filled) i.2 c.as_slice.ensures.value c.finish.ensures
 
 pub slice_bounds-put_chunk-end : goal.slice_bounds-put_chunk-end
@@ -57,9 +57,9 @@ returns-in_err-put_chunk g c =
     let i = c.loop.invariant in
     let back : c.deref.result.now ≡ c.read.new.buf = read_back c.loop.chunk.len c.read.new.buf (drop (length c.read.new.buf) c.loop.chunk.items) _ (omega (arith, c.read.auto.buf, c.as_mut_slice.ensures.len, c.loop.chunk.ok.0)) c.deref.ensures.value in
     let p = err_from_is_err_and c.from_residual-in_err-put_chunk.result c.from_residual-in_err-put_chunk.ensures.1 in
-    rw (p.1, p.2) (Stops-halts _ (i.0 ++ take c.in-Ok.n c.deref.result.now) _ _ _ _ c.in_err-put_chunk.field-0.0
+    rw (p.1, p.2) (Stops-halts _ _ (i.0 ++ take c.in-Ok.n c.deref.result.now) _ _ _ _ c.in_err-put_chunk.field-0.0
     (Consumes-trans _ _ _ _ _ i.1 (Consumes-is _ _ _ _ (ap (λ (l : List ℕ). take c.in-Ok.n l) back) c.in-Ok.ensures.bytes.0))
-    (Moves-halts _ _ _ _ _ _ _ _ _ _ _ _ i.2 c.in_err-put_chunk.ensures))
+    (Moves-halts _ _ _ _ _ _ _ _ _ _ _ _ _ i.2 c.in_err-put_chunk.ensures))
 
 pub loop-preserved : goal.loop-preserved
 loop-preserved g c =
@@ -68,7 +68,7 @@ loop-preserved g c =
     let back : c.deref.result.now ≡ c.read.new.buf = read_back c.loop.chunk.len c.read.new.buf (drop (length c.read.new.buf) c.loop.chunk.items) _ same c.deref.ensures.value in (
       i.0 ++ take c.in-Ok.n c.deref.result.now,
       Consumes-trans _ _ _ _ _ i.1 (Consumes-is _ _ _ _ (ap (λ (l : List ℕ). take c.in-Ok.n l) back) c.in-Ok.ensures.bytes.0),
-      Moves-trans _ _ _ _ _ _ _ _ _ _ _ _ _ _ i.2 c.in_ok-put_chunk.ensures,
+      Moves-trans _ _ _ _ _ _ _ _ _ _ _ _ _ _ _ i.2 c.in_ok-put_chunk.ensures,
       subst (λ (k : ℕ). 0 < k) (sym (ap (λ (l : List ℕ). length l) (read_back c.loop.chunk.len c.read.new.buf (drop (length c.read.new.buf) c.loop.chunk.items) _ same refl) ∙ same ∙ c.loop.chunk.ok.0)) i.3,
     )
 
@@ -76,13 +76,13 @@ pub returns-in_err-write_held : goal.returns-in_err-write_held
 returns-in_err-write_held g c =
     let i = c.loop.invariant in
     let p = err_from_is_err_and c.from_residual-in_err-write_held.result c.from_residual-in_err-write_held.ensures.1 in
-    rw (p.1, p.2) (Stops-halts _ i.0 _ _ _ _ c.in_err-write_held.field-0.0 i.1
-    (Moves-held_halts _ _ _ _ _ _ _ _ _ _ _ i.2 c.in_err-write_held.ensures))
+    rw (p.1, p.2) (Stops-halts _ _ i.0 _ _ _ _ c.in_err-write_held.field-0.0 i.1
+    (Moves-held_halts _ _ _ _ _ _ _ _ _ _ _ _ i.2 c.in_err-write_held.ensures))
 
 pub returns : goal.returns
 returns g c =
     let i = c.loop.invariant in (
       i.0,
       i.1,
-      Moves-drained _ _ _ _ _ _ _ _ _ _ i.2 c.in_ok-write_held.ensures.0 c.in_ok-write_held.ensures.1,
+      Moves-drained _ _ _ _ _ _ _ _ _ _ _ i.2 c.in_ok-write_held.ensures.0 c.in_ok-write_held.ensures.1,
     )
