@@ -3,12 +3,13 @@ use Rattle.std.proofs.Common.{◌≡◌, ℕ, ◌+◌, ◌<◌, ◌≤◌, List,
 use Rattle.std.specs.List.{join_with_byte}
 use Rattle.std.proofs.lemmas.List.{take_more, map-append}
 
-pub join-more : (c : ℕ) (y x : List ℕ) (ys : List (List ℕ)) → join_with_byte c ((y ∷ ys) ++ x ∷ []) ≡ join_with_byte c (y ∷ ys) ++ (c ∷ x)
+-- one more piece after some
+join-more : (c : ℕ) (y x : List ℕ) (ys : List (List ℕ)) → join_with_byte c ((y ∷ ys) ++ x ∷ []) ≡ join_with_byte c (y ∷ ys) ++ (c ∷ x)
 join-more c y x [] = refl
 join-more c y x (z ∷ zs) = ap (λ (l : List ℕ). y ++ (c ∷ l)) (join-more c z x zs) ∙ sym (append_assoc y (c ∷ join_with_byte c (z ∷ zs)) (c ∷ x))
 
--- one more number; held' is held with a comma, where it is not the first
-pub joined_next : (p : List ℕ) (x : ℕ) (start held held' : List ℕ) → held ≡ start ++ join_with_byte 44 (map decimal p) →
+-- One more number after those of `p`. `held'` is `held`, with a comma where the number is not the first.
+joined_next : (p : List ℕ) (x : ℕ) (start held held' : List ℕ) → held ≡ start ++ join_with_byte 44 (map decimal p) →
     (length p ≤ 0 → held' ≡ held) → (0 < length p → held' ≡ held ++ 44 ∷ []) → held' ++ decimal x ≡ start ++ join_with_byte 44 (map decimal (p ++ x ∷ []))
 joined_next [] x start held held' e first other = ap (λ l. l ++ decimal x) (first (omega arith) ∙ e ∙ append-nil start)
 joined_next (y ∷ ys) x start held held' e first other =
@@ -18,6 +19,7 @@ joined_next (y ∷ ys) x start held held' e first other =
     ∙ ap (λ l. start ++ l) (append_assoc (join_with_byte 44 (map decimal (y ∷ ys))) (44 ∷ []) (decimal x)
     ∙ sym (join-more 44 (decimal y) (decimal x) (map decimal ys)) ∙ ap (λ l. join_with_byte 44 (decimal y ∷ l)) (sym (map-append decimal ys (x ∷ []))))
 
+-- the number at `i` after those before it
 pub joined_step : (xs : List ℕ) (i x : ℕ) (start held held' : List ℕ) → i < length xs → x ≡ get_or xs i 0 → held ≡ start ++ join_with_byte 44 (map decimal (take i xs)) →
     (i ≤ 0 → held' ≡ held) → (0 < i → held' ≡ held ++ 44 ∷ []) → held' ++ decimal x ≡ start ++ join_with_byte 44 (map decimal (take (i + 1) xs))
 joined_step xs i x start held held' h is e first other =

@@ -3,9 +3,8 @@ use Rattle.std.proofs.Common.{◌≡◌, ℕ, List, [], ◌∷◌, ◌++◌, Boo
 use Rattle.std.specs.List.{list_any}
 use Rattle.std.specs.Str.{bytes_eq}
 use Rattle.globset.specs.Means.{GlobValue}
-use Rattle.globsift.specs.Command.{CommandValue, FaultValue, is_end, is_given, is_numbered, asked, asked_by, gathered, command_of, commanded}
+use Rattle.globsift.specs.Command.{CommandValue, FaultValue, IsFaultOf, is_end, is_given, is_numbered, asked, asked_by, gathered, command_of, commanded}
 use Rattle.globsift.specs.Moves.{no_letters, globs_ask, words_ask, gathered_onto}
-use Rattle.globsift.specs.Command.{IsWantOr}
 use Rattle.globsift.specs.declared.command.Letters.{Letters}
 use Rattle.globsift.specs.declared.fault.CommandFault.{CommandFault}
 use Rattle.globsift.specs.declared.fault.CommandFault.TheVariants.{NoGlob}
@@ -38,6 +37,7 @@ onto_more : (globs : List GlobValue) (glob : GlobValue) (r : Result (List GlobVa
 onto_more globs glob (Ok more) = ap Ok (append_assoc globs (glob ∷ []) more)
 onto_more globs glob (Err fault) = refl
 
+-- globs with all that is asked for are globs before what is gathered
 gathered_onto-gathered : (globs : List GlobValue) (all : List (Result GlobValue FaultValue)) → gathered_onto globs all ≡ onto globs (gathered all)
 gathered_onto-gathered globs [] = ap Ok (sym (append-nil globs))
 gathered_onto-gathered globs (Ok glob ∷ more) = gathered_onto-gathered (globs ++ glob ∷ []) more ∙ onto_more globs glob (gathered more)
@@ -61,13 +61,13 @@ abbrev finished : List (List ℕ) → Result (List GlobValue) FaultValue → Res
 finished words r = elim r [ Ok globs ↦ command_of (is_numbered words) globs | Err fault ↦ Err fault ]
 
 -- a fault of some word is the fault of all
-pub command_refused : (words : List (List ℕ)) (r : Result (List GlobValue) FaultValue) (fault : CommandFault) → r ≡ gathered (asked [] words) → IsWantOr r fault →
-    IsWantOr (commanded words) fault
+pub command_refused : (words : List (List ℕ)) (r : Result (List GlobValue) FaultValue) (fault : CommandFault) → r ≡ gathered (asked [] words) → IsFaultOf r fault →
+    IsFaultOf (commanded words) fault
 command_refused words r fault e (inl want) = inl want
 command_refused words r fault e (inr is) = inr (ap (finished words) (sym e ∙ is))
 
 -- no word is a glob
-pub command_empty : (words : List (List ℕ)) (globs : List GlobValue) → gathered (asked [] words) ≡ Ok globs → globs ≡ [] → IsWantOr (commanded words) NoGlob
+pub command_empty : (words : List (List ℕ)) (globs : List GlobValue) → gathered (asked [] words) ≡ Ok globs → globs ≡ [] → IsFaultOf (commanded words) NoGlob
 command_empty words globs e none = inr (ap (finished words) (e ∙ ap Ok none))
 
 -- a command of some globs

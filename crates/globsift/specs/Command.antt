@@ -4,7 +4,7 @@ use Rattle.std.specs.List.{list_any}
 use Rattle.std.specs.Str.{bytes_eq, chars}
 use Rattle.globset.specs.Means.{GlobValue}
 use Rattle.globset.specs.Reading.{reading}
-use Rattle.globset.specs.Errors.{ErrorValue, refusal, out_of_memory}
+use Rattle.globset.specs.Errors.{ErrorValue, out_of_memory, refusal}
 use Rattle.globset.specs.SetValue.{set_globs}
 use Rattle.globsift.specs.declared.asked.Command.{Command}
 use Rattle.globsift.specs.declared.fault.CommandFault.{CommandFault}
@@ -33,6 +33,10 @@ abbrev pub fault_value : CommandFault → FaultValue
 fault_value (faults.UnknownOption word) = unknown_option (string_bytes word)
 fault_value faults.NoGlob = no_glob
 fault_value (faults.Glob error) = glob_error error
+
+-- Memory ran out, or what was asked for is refused with this fault.
+abbrev pub IsFaultOf : {X : Type 0} → Result X FaultValue → CommandFault → Type 0
+IsFaultOf asked fault = (fault_value fault ≡ glob_error out_of_memory) ⊎ (asked ≡ Err (fault_value fault))
 
 -- ---- words
 
@@ -115,7 +119,3 @@ command_of numbered (glob ∷ globs) = Ok (record { globs = glob ∷ globs; numb
 -- What the words of a command line ask for: the command, or the first fault from the left.
 abbrev pub commanded : List (List ℕ) → Result CommandValue FaultValue
 commanded words = elim (gathered (asked [] words)) [ Ok globs ↦ command_of (is_numbered words) globs | Err fault ↦ Err fault ]
-
--- the call's fault: memory ran out, or it is the fault of what was asked
-abbrev pub IsWantOr : {X : Type 0} → Result X FaultValue → CommandFault → Type 0
-IsWantOr asked fault = (fault_value fault ≡ glob_error out_of_memory) ⊎ (asked ≡ Err (fault_value fault))

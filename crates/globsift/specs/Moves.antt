@@ -1,18 +1,16 @@
 -- What holds between the steps of sifting, and between those of reading words. Only private functions cite these; the
 -- public contracts need `Lines`, `Output` and `Command` alone.
-use Rattle.std.specs.Prelude.{◌≡◌, ◌⊎◌, ℕ, List, [], ◌∷◌, ◌++◌, Bool, true, false, ◌||◌, ◌&&◌, not, Option, Result, Ok, Err, codes, map, if◌then◌else◌}
+use Rattle.std.specs.Prelude.{◌≡◌, ℕ, List, [], ◌∷◌, ◌++◌, Bool, true, false, ◌||◌, ◌&&◌, not, Option, Result, Ok, Err, codes, map, if◌then◌else◌}
 use Rattle.std.specs.List.{list_any}
 use Rattle.std.specs.Io.KnownBytes.{Appends}
 use Rattle.std.specs.Str.{bytes_eq}
-use Rattle.globset.specs.Errors.{out_of_memory}
 use Rattle.globset.specs.Means.{GlobValue}
 use Rattle.globset.specs.SetValue.{builder_globs}
-use Rattle.globsift.specs.Command.{FaultValue, fault_value, glob_error, unknown_option, is_dashed, is_end, is_option, is_reset, glob_or_fault}
+use Rattle.globsift.specs.Command.{FaultValue, unknown_option, is_dashed, is_end, is_option, is_reset, glob_or_fault}
 use Rattle.globsift.specs.Lines.{lines, is_lf, through_last_lf}
 use Rattle.globsift.specs.Output.{sifted, has_match, GrowsByFront}
 use Rattle.globsift.specs.declared.command.Gathered.{Gathered}
 use Rattle.globsift.specs.declared.command.Letters.{Letters}
-use Rattle.globsift.specs.declared.fault.CommandFault.{CommandFault}
 use Rattle.globsift.specs.declared.fault.SiftFault.{SiftFault}
 use Rattle.globsift.specs.declared.fault.SiftFault.TheVariants.{Read, Write, OutOfMemory}
 

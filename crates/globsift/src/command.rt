@@ -3,10 +3,9 @@
 ghost use Rattle.std.specs.Prelude.{◌≡◌, ◌⊎◌, ◌||◌, map, MatchResult, Ok, Err, string_bytes};
 ghost use Rattle.globset.specs.Errors.{out_of_memory};
 ghost use Rattle.globset.specs.SetValue.{builder_globs};
-ghost use Rattle.globsift.specs.Command.{command_value, commanded, fault_value, glob_error};
+ghost use Rattle.globsift.specs.Command.{IsFaultOf, command_value, commanded, fault_value, glob_error};
 ghost use Rattle.globsift.specs.Command.{glob_or_fault, is_dashed, is_numbered, is_option, unknown_option};
 ghost use Rattle.globsift.specs.Moves.{letters_glob, no_letters, turned, with_globs, with_word, with_words};
-ghost use Rattle.globsift.specs.Command.{IsWantOr};
 
 use crate::asked::Command;
 use crate::fault::CommandFault;
@@ -21,7 +20,7 @@ use std::alloc::Global;
 /// `-` is a fault, and any other word is a glob. The first fault from the left is answered, or want of memory.
 pub fn command(alloc: Global, words: &[String]) -> Result<Command, CommandFault>
     ensures { MatchResult result (λ command. commanded (map string_bytes words.now) ≡ Ok (command_value command))
-        (IsWantOr (commanded (map string_bytes words.now))) }
+        (IsFaultOf (commanded (map string_bytes words.now))) }
 {
     let mut gathered = Gathered {
         letters: Letters::none(),
@@ -97,7 +96,7 @@ impl Letters {
     /// Reads a word as a glob.
     fn read_glob(self, alloc: Global, word: &str) -> Result<Glob, CommandFault>
         ensures { MatchResult result (λ glob. glob_or_fault (letters_glob self word.now) ≡ Ok glob)
-            (IsWantOr (glob_or_fault (letters_glob self word.now))) }
+            (IsFaultOf (glob_or_fault (letters_glob self word.now))) }
     {
         let mut builder = GlobBuilder::new(word);
         builder.case_insensitive(self.case_insensitive);
@@ -128,7 +127,7 @@ impl Gathered {
         ensures { MatchResult result
             (λ after. (with_globs self.new (map string_bytes after.now) ≡ with_words self.old (map string_bytes words.now))
             × (self.new.letters.numbered ≡ (self.old.letters.numbered || is_numbered (map string_bytes words.now))))
-            (IsWantOr (with_words self.old (map string_bytes words.now))) }
+            (IsFaultOf (with_words self.old (map string_bytes words.now))) }
     {
         let mut rest = words;
         while let [word, after @ ..] = rest {
@@ -146,7 +145,7 @@ impl Gathered {
         ensures { MatchResult result
             (λ _. (with_word self.old word.now ≡ Ok (builder_globs self.new.globs))
             × (self.new.letters ≡ turned self.old.letters word.now))
-            (IsWantOr (with_word self.old word.now)) }
+            (IsFaultOf (with_word self.old word.now)) }
     {
         if self.letters.take(word) {
             return Ok(());
@@ -164,7 +163,7 @@ impl Gathered {
         ensures { MatchResult result
             (λ _. (with_globs self.old (map string_bytes words.now) ≡ Ok (builder_globs self.new.globs))
             × (self.new.letters ≡ self.old.letters))
-            (IsWantOr (with_globs self.old (map string_bytes words.now))) }
+            (IsFaultOf (with_globs self.old (map string_bytes words.now))) }
     {
         for word in words {
             let glob = self.letters.read_glob(alloc, word.as_str())?;
