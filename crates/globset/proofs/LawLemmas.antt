@@ -1,12 +1,11 @@
 -- Laws of answers.
-use Rattle.std.proofs.Common.{◌≡◌, ℕ, zero, suc, ◌+◌, ◌<◌, List, [], ◌∷◌, ◌++◌, length, Bool, true, false, cond, Option, Some, refl, ap, sym, subst, ◌∙◌, arith, length-append}
-use Rattle.std.specs.Prelude.{◌↔◌, filter, Contains, slice_get}
+use Rattle.std.proofs.Common.{◌≡◌, ℕ, zero, suc, ◌+◌, ◌<◌, List, [], ◌∷◌, ◌++◌, length, Bool, true, false, cond, Option, Some, refl, ap, sym, ◌∙◌, arith, length-append}
+use Rattle.std.specs.Prelude.{filter, slice_get}
 use Rattle.std.specs.List.{range_with_len}
 use Rattle.std.specs.Option.{option_map_or}
-use Rattle.globset_glob.specs.Means.{GlobValue, glob_means}
-use Rattle.globset.specs.Silent.{silent}
+use Rattle.globset_glob.specs.Means.{GlobValue}
 use Rattle.globset.specs.Answer.{answers, answers_at, answer}
-use Rattle.globset.specs.Laws.{AddKeeps, IsReordered, OrderRenames, OneGlobSet}
+use Rattle.globset.specs.Laws.{AddKeeps, OrderRenames, OneGlobSet}
 use Rattle.globset.proofs.AnswerLemmas.{filter_more, contains_answer, answer_is}
 
 -- ---- a glob more at the end

@@ -137,7 +137,8 @@ impl GlobSet {
         self.is_match_candidate(&Candidate::new(path.path_text()))
     }
 
-    /// The same of a candidate's path.
+    /// Whether some glob that is not silent means a candidate's path, as [`GlobSet::is_match`]. The only error is want of
+    /// memory, and none is needed by a set of no globs.
     pub fn is_match_candidate(&self, path: &Candidate<'_>) -> Result<bool, Error>
         ensures ok { IfOk result (λ yes. IsTrue yes ↔ (answer (set_globs self.now) path.now ≢ [])) }
         ensures err { IfErr result (λ e. e ≡ out_of_memory) }
@@ -147,9 +148,9 @@ impl GlobSet {
         self.is_match_visits(path, &mut visits)
     }
 
-    /// The same, and counts the visits: at most `path bytes + 1` times the sum of `4 * glob bytes + 4` over the globs, also
-    /// where memory ran out. It asks the globs in order up to the first that answers, and takes the memory of one matcher
-    /// at a time.
+    /// [`GlobSet::is_match_candidate`], which goes through it, with a count of the visits: it adds at most `path bytes + 1`
+    /// times the sum of `4 * glob bytes + 4` over the globs, also where memory runs out. It asks the globs in order up to
+    /// the first that answers, and takes the memory of one matcher at a time.
     pub fn is_match_visits(&self, path: &Candidate<'_>, visits: &mut Visits) -> Result<bool, Error>
         ensures ok { IfOk result (λ yes. IsTrue yes ↔ (answer (set_globs self.now) path.now ≢ [])) }
         ensures err { IfErr result (λ e. e ≡ out_of_memory) }
@@ -178,7 +179,8 @@ impl GlobSet {
         self.matches_all_candidate(&Candidate::new(path.path_text()))
     }
 
-    /// The same of a candidate's path.
+    /// Whether every glob means a candidate's path, and none is silent, as [`GlobSet::matches_all`]. The only error is want
+    /// of memory, and none is needed by a set of no globs.
     pub fn matches_all_candidate(&self, path: &Candidate<'_>) -> Result<bool, Error>
         ensures ok { IfOk result (λ yes. IsTrue yes
             ↔ ContainsAllBelow (answer (set_globs self.now) path.now) (length (set_globs self.now))) }
@@ -189,8 +191,9 @@ impl GlobSet {
         self.matches_all_visits(path, &mut visits)
     }
 
-    /// The same, and counts the visits, within the bound of [`GlobSet::is_match_visits`], also where memory ran out. It
-    /// asks the globs in order up to the first that does not answer, and takes the memory of one matcher at a time.
+    /// [`GlobSet::matches_all_candidate`], which goes through it, with a count of the visits, within the bound of
+    /// [`GlobSet::is_match_visits`], also where memory runs out. It asks the globs in order up to the first that does not
+    /// answer, and takes the memory of one matcher at a time.
     pub fn matches_all_visits(
         &self,
         path: &Candidate<'_>,
@@ -222,7 +225,8 @@ impl GlobSet {
         self.matches_candidate(alloc, &Candidate::new(path.path_text()))
     }
 
-    /// The same of a candidate's path.
+    /// The indexes, ascending, of the globs that mean a candidate's path, silent globs left out. The only error is want of
+    /// memory.
     pub fn matches_candidate(
         &self,
         alloc: Global,
@@ -236,8 +240,8 @@ impl GlobSet {
         Ok(indexes)
     }
 
-    /// Clears the vector and leaves in it what [`GlobSet::matches`] gives, whatever it held. After want of memory it is
-    /// empty. Room that it has is used again.
+    /// Clears the vector and leaves in it what [`GlobSet::matches`] gives, whatever it held; room that it has is used again.
+    /// After want of memory, the only error, it is empty.
     pub fn matches_into<P: AsPath>(&self, path: P, into: &mut Vec<usize>) -> Result<(), Error>
         ensures ok { OnOk result (into.new.items ≡ answer (set_globs self.now) (P.text path)) }
         ensures err { IfErr result (λ e. e ≡ out_of_memory) }
@@ -246,7 +250,8 @@ impl GlobSet {
         self.matches_candidate_into(&Candidate::new(path.path_text()), into)
     }
 
-    /// The same of a candidate's path.
+    /// Clears the vector and leaves in it what [`GlobSet::matches_candidate`] gives, whatever it held. After want of memory,
+    /// the only error, it is empty.
     pub fn matches_candidate_into(
         &self,
         path: &Candidate<'_>,
@@ -260,8 +265,9 @@ impl GlobSet {
         self.matches_visits(path, into, &mut visits)
     }
 
-    /// The same, and counts the visits, within the bound of [`GlobSet::is_match_visits`], also where memory ran out. It
-    /// takes the memory of one matcher at a time, and room in the vector for the indexes.
+    /// [`GlobSet::matches_candidate_into`], which goes through it, with a count of the visits, within the bound of
+    /// [`GlobSet::is_match_visits`], also where memory runs out; the vector is then empty. It takes the memory of one matcher
+    /// at a time, and room in the vector for the indexes.
     pub fn matches_visits(
         &self,
         path: &Candidate<'_>,
