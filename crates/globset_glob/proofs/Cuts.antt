@@ -1,9 +1,7 @@
 -- Lists cut in two.
-use Rattle.std.proofs.Common.{◌≡◌, ℕ, ◌⊎◌, inl, inr, Bool, true, false, true≢false, ◌&&◌, ◌||◌, List, [], ◌∷◌, ◌++◌, IsTrue, refl, ap, sym, ◌∙◌}
-use Rattle.std.specs.Prelude.{◌==◌}
-use Rattle.std.proofs.lemmas.Bool.{eqb-true}
+use Rattle.std.proofs.Common.{◌≡◌, ℕ, ◌⊎◌, inl, inr, Bool, false, true≢false, ◌||◌, List, [], ◌∷◌, ◌++◌, IsTrue, refl, ap, sym}
 use Rattle.std.proofs.Math.Logic.{⊎_elim}
-use Rattle.globset_glob.specs.Takes.{some_cut, is_empty, ends_with_slash, slash}
+use Rattle.globset_glob.specs.Takes.{some_cut, is_empty}
 use Rattle.globset_glob.proofs.Truth.{or_first, or_second, or_either}
 
 -- a list is empty or has a last element

@@ -1,7 +1,6 @@
 -- What a glob means, by its tokens.
-use Rattle.std.proofs.Common.{◌≡◌, ℕ, List, Bool, Result, Ok, Err, refl, ap, sym, ◌∙◌}
+use Rattle.std.proofs.Common.{◌≡◌, ℕ, List, Result, Ok, Err, ap, sym}
 use Rattle.std.specs.Str.{chars}
-use Rattle.globset_glob.specs.declared.options.Options.{Options}
 use Rattle.globset_glob.specs.declared.fault.Fault.{Fault}
 use Rattle.globset_glob.specs.Token.{Tokens, end}
 use Rattle.globset_glob.specs.Reading.{reading}

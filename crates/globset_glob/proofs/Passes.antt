@@ -1,6 +1,5 @@
 -- What one pass makes of a row.
 use Rattle.std.proofs.Common.{◌≡◌, ℕ, zero, suc, ◌+◌, ◌<◌, ◌≤◌, ◌⊎◌, inl, inr, Bool, true, false, true≢false, ◌&&◌, ◌||◌, List, [], ◌∷◌, ◌++◌, length, set, take, get_or, slice_index, slice_index_or, IsTrue, refl, ap, sym, subst, ◌∙◌, add-one, arith, get_or-set_other, get_or-set_same}
-use Rattle.std.specs.Prelude.{◌↔◌}
 use Rattle.std.specs.List.{list_all}
 use Rattle.std.proofs.lemmas.List.{append-nil, append_assoc, length-take-le, same_from_push}
 use Rattle.std.proofs.lemmas.List.Folds.{list_all-append}
@@ -9,11 +8,10 @@ use Rattle.std.proofs.Math.Seq.{take-suc}
 use Rattle.std.proofs.Math.Logic.{⊎_elim}
 use Rattle.globset_glob.specs.Rows.{Leads, IsNext, IsNoneBefore}
 use Rattle.globset_glob.specs.Rules.{has_byte, begins, ends_in, allows}
-use Rattle.globset_glob.specs.Takes.{is_empty}
 use Rattle.globset_glob.specs.declared.row.rule.Rule.{Rule}
 use Rattle.globset_glob.specs.declared.row.rule.Bytes.{Bytes}
 use Rattle.globset_glob.proofs.Truth.{and_both, and_first, and_second, or_first, or_none, and_all, and_assoc, two_ways, first_way, second_way}
-use Rattle.globset_glob.proofs.Cuts.{last_of, cons_none, empty_is, is_empty-push}
+use Rattle.globset_glob.proofs.Cuts.{last_of, cons_none, is_empty-push}
 
 -- some piece that began before the place k has come to it, and may go on
 unfoldable pub is_open : Rule → List ℕ → List Bool → ℕ → Bool

@@ -1,9 +1,9 @@
 -- Each token's rule takes what the token takes.
-use Rattle.std.proofs.Common.{◌≡◌, ℕ, Bool, true, false, true≢false, ◌&&◌, ◌||◌, List, [], ◌∷◌, ◌++◌, IsTrue, refl, ap, sym, ◌∙◌}
-use Rattle.std.specs.Prelude.{◌==◌, ◌↔◌, if◌then◌else◌}
+use Rattle.std.proofs.Common.{◌≡◌, ℕ, Bool, true, false, true≢false, ◌&&◌, List, [], ◌∷◌, ◌++◌, IsTrue, refl, ap, sym, ◌∙◌}
+use Rattle.std.specs.Prelude.{◌==◌, if◌then◌else◌}
 use Rattle.std.specs.Char.{to_ascii_lowercase}
 use Rattle.std.specs.List.{list_all}
-use Rattle.globset_glob.specs.Token.{Token, Any, ZeroOrMore, RecursivePrefix, RecursiveSuffix, RecursiveZeroOrMore}
+use Rattle.globset_glob.specs.Token.{Token, ZeroOrMore, RecursivePrefix, RecursiveSuffix, RecursiveZeroOrMore}
 use Rattle.globset_glob.specs.Takes.{takes, is_wild, is_empty, ends_with_slash, slash, compared}
 use Rattle.globset_glob.specs.Rules.{has_byte, ends_in, allows, spells, IsRuleOf}
 use Rattle.globset_glob.specs.Rows.{IsNext}

@@ -5,7 +5,7 @@
 -- bytes of its first character but the last, the bytes from that last one up to the first byte of its second character,
 -- and the other bytes of that. So `[a-z]` has the small ASCII letters, and `[é-ü]` has C3, the bytes from A9 to C3, and
 -- BC.
-use Rattle.std.specs.Prelude.{ℕ, Bool, true, false, not, ◌&&◌, ◌||◌, ◌==◌, nat_le, List, [], ◌∷◌, if◌then◌else◌, encode_utf8}
+use Rattle.std.specs.Prelude.{ℕ, Bool, false, not, ◌&&◌, ◌||◌, ◌==◌, nat_le, List, [], ◌∷◌, if◌then◌else◌, encode_utf8}
 use Rattle.std.specs.Char.{to_ascii_lowercase, to_ascii_uppercase}
 use Rattle.globset_glob.specs.declared.options.Options.{Options}
 

@@ -1,5 +1,5 @@
 -- How a program keeps the bytes of a class.
-use Rattle.std.specs.Prelude.{◌≡◌, ℕ, ◌<◌, List, Bool, true, false, ◌||◌, ◌&&◌, length, Some, slice_get, if◌then◌else◌}
+use Rattle.std.specs.Prelude.{◌≡◌, ℕ, ◌<◌, List, ◌||◌, length, Some, slice_get, if◌then◌else◌}
 use Rattle.std.specs.Char.{to_ascii_lowercase, to_ascii_uppercase}
 use Rattle.globset_glob.specs.declared.class.bytes.Membership.{Membership}
 use Rattle.globset_glob.specs.declared.class.bytes.Membership.TheVariants.{Absent, OtherCase, Present}

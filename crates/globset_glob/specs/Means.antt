@@ -1,5 +1,5 @@
 -- What a glob means: which paths, each a list of bytes.
-use Rattle.std.specs.Prelude.{ℕ, Bool, true, false, ◌||◌, List, Result, Ok, Err, IsOk, ◌≡◌}
+use Rattle.std.specs.Prelude.{ℕ, Bool, true, false, ◌||◌, List, Ok, Err, IsOk}
 use Rattle.std.specs.Str.{chars}
 use Rattle.globset_glob.specs.declared.options.Options.{Options}
 use Rattle.globset_glob.specs.Token.{Token, RecursivePrefix, Literal, Any, ZeroOrMore, RecursiveSuffix, RecursiveZeroOrMore, Class, Group, Tokens, end, and_then}

@@ -1,5 +1,5 @@
 -- Reading: a glob's text under its options has tokens, or it has a fault, the first from the left.
-use Rattle.std.specs.Prelude.{◌≡◌, ℕ, zero, suc, List, [], ◌∷◌, Bool, true, false, Result, Ok, Err, IsOk}
+use Rattle.std.specs.Prelude.{◌≡◌, ℕ, zero, suc, List, [], ◌∷◌, Bool, true, false, Result, Ok, Err}
 use Rattle.globset_glob.specs.declared.options.Options.{Options}
 use Rattle.globset_glob.specs.declared.fault.Fault.{Fault}
 use Rattle.globset_glob.specs.Token.{Token, Tokens, Branches, end, and_then, none, branch, Group, RecursivePrefix, before}
