@@ -3,7 +3,7 @@
 -- byte of the second, and the others of the second: so `[é-ü]` has C3, A9 to C3, and BC, which are the bytes A9 to C3.
 use Rattle.std.specs.Prelude.{◌≡◌, [], ◌∷◌, ◌++◌, refl}
 use Rattle.globset_glob.specs.declared.options.TheConstants.Options.{DEFAULT}
-use Rattle.globset_glob.proofs.OnLiterals.{glob_on_literals}
+use Rattle.globset_glob.proofs.Unfoldings.{glob_on_literals}
 use Rattle.globset_glob.proofs.RowWords.{insensitive, separated, bytes_had, from_to}
 
 character_past_ascii : bytes_had DEFAULT "[é]" ≡ 0xA9 ∷ 0xC3 ∷ []

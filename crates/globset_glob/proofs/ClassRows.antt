@@ -4,7 +4,7 @@ use Rattle.std.specs.Prelude.{◌≡◌, [], ◌∷◌, true, false, Ok, codes, 
 use Rattle.globset_glob.specs.declared.options.TheConstants.Options.{DEFAULT}
 use Rattle.globset_glob.specs.Token.{Class}
 use Rattle.globset_glob.specs.Reading.{reading}
-use Rattle.globset_glob.proofs.OnLiterals.{glob_on_literals}
+use Rattle.globset_glob.proofs.Unfoldings.{glob_on_literals}
 use Rattle.globset_glob.proofs.RowWords.{tokens, spans}
 
 one_member : reading DEFAULT (codes "[a]") ≡ Ok (tokens (Class false (spans "aa") ∷ []))

@@ -3,7 +3,7 @@ use Rattle.std.specs.Prelude.{◌≡◌, [], ◌∷◌, true, refl, codes, encod
 use Prim.Native.String.{String}
 use Rattle.globset_glob.specs.declared.options.TheConstants.Options.{DEFAULT}
 use Rattle.globset_glob.specs.Escape.{escaped}
-use Rattle.globset_glob.proofs.OnLiterals.{glob_on_literals}
+use Rattle.globset_glob.proofs.Unfoldings.{glob_on_literals}
 use Rattle.globset_glob.proofs.RowWords.{unescaped, takes_each, leaves_each}
 
 -- the text, escaped, is the other one

@@ -14,12 +14,12 @@ use Rattle.globset_glob.specs.SmallRegex.{Entry, single, Atom, any_byte, byte, c
 use Rattle.globset_glob.specs.RegexText.{byte_text, bytes_text, ranges_text, class_text, others_text, group_text, with_text, token_text, tokens_text, kept_texts, body_text, regex_text}
 use Rattle.globset_glob.specs.RegexDenotes.{HasExpression}
 use Rattle.globset_glob.specs.declared.options.Options.{Options}
-use Rattle.globset_glob.proofs.Truth.{and_both, and_first, and_second, or_first, or_second, or_either, iff_trans}
-use Rattle.globset_glob.proofs.Groups.{some_any}
+use Rattle.globset_glob.proofs.Booleans.{and_both, and_first, and_second, or_first, or_second, or_either, iff_trans}
+use Rattle.globset_glob.proofs.GroupUnions.{some_any}
 use Rattle.globset_glob.proofs.WellFormed.{AreScalars, IsWellFormed, AreWellFormed, AllWellFormed}
-use Rattle.globset_glob.proofs.Taken.{Takes, TakesAll, Then, OneByte, empty_same, one_byte, equal_bytes, prefix_takes, suffix_takes, between_takes, then_takes}
-use Rattle.globset_glob.proofs.Letters.{Below, IsSpelled, spells_byte, encode_below, slash_byte, byte_slash, slash_alone, spelled_more, spelled_none, spelled_one}
-use Rattle.globset_glob.proofs.Entries.{has_ranges}
+use Rattle.globset_glob.proofs.TakesLemmas.{Takes, TakesAll, Then, OneByte, empty_same, one_byte, equal_bytes, prefix_takes, suffix_takes, between_takes, then_takes}
+use Rattle.globset_glob.proofs.ByteTexts.{Below, IsSpelled, spells_byte, encode_below, slash_byte, byte_slash, slash_alone, spelled_more, spelled_none, spelled_one}
+use Rattle.globset_glob.proofs.ClassTexts.{has_ranges}
 
 -- ---- rows
 

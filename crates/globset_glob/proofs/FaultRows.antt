@@ -5,7 +5,7 @@ use Rattle.globset_glob.specs.declared.fault.Fault.TheVariants.{UnclosedClass, I
 use Rattle.globset_glob.specs.declared.options.TheConstants.Options.{DEFAULT}
 use Rattle.globset_glob.specs.Token.{Any, ZeroOrMore, Class}
 use Rattle.globset_glob.specs.Reading.{reading}
-use Rattle.globset_glob.proofs.OnLiterals.{glob_on_literals}
+use Rattle.globset_glob.proofs.Unfoldings.{glob_on_literals}
 use Rattle.globset_glob.proofs.RowWords.{unclosed, unescaped, char_of, tokens, literals, group, spans}
 
 open_bracket_alone : reading DEFAULT (codes "[") ≡ Err UnclosedClass

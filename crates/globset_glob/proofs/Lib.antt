@@ -1,32 +1,32 @@
-pub mod Places
+pub mod LastPlaces
 pub mod Equalities
-pub mod Cells
-pub mod Cutting
-pub mod Trees
-pub mod Nests
-pub mod Plugs
-pub mod Held
-pub mod Closers
+pub mod ListLemmas
+pub mod MarkLemmas
+pub mod TokenViews
+pub mod NestingLemmas
+pub mod LevelLemmas
+pub mod TreeLemmas
+pub mod UnclosedClasses
 pub mod GlobLemmas
 pub mod ClassLemmas
 pub mod Weights
-pub mod Truth
-pub mod Cuts
-pub mod Steps
-pub mod Passes
+pub mod Booleans
+pub mod ListCuts
+pub mod RowSteps
+pub mod RowPasses
 pub mod Rules
-pub mod Groups
-pub mod Heads
-pub mod Kept
+pub mod GroupUnions
+pub mod TokenLists
+pub mod KeptBranches
 pub mod WellFormed
-pub mod Scalars
-pub mod Letters
-pub mod Taken
-pub mod Entries
+pub mod WellFormedReadings
+pub mod ByteTexts
+pub mod TakesLemmas
+pub mod ClassTexts
 pub mod Expressions
-pub mod Escaped
-pub mod Alone
-mod OnLiterals
+pub mod EscapeReading
+pub mod EscapeMeaning
+mod Unfoldings
 mod RowWords
 mod StarRows
 mod ClassRows

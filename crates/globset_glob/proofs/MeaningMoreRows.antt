@@ -3,7 +3,7 @@
 use Rattle.std.specs.Prelude.{◌≡◌, [], ◌∷◌, true, refl}
 use Rattle.globset_glob.specs.declared.options.TheConstants.Options.{DEFAULT}
 use Rattle.globset_glob.specs.Cost.{most_visits}
-use Rattle.globset_glob.proofs.OnLiterals.{glob_on_literals}
+use Rattle.globset_glob.proofs.Unfoldings.{glob_on_literals}
 use Rattle.globset_glob.proofs.RowWords.{insensitive, separated, blank_kept, utf8, glob_of, takes_bytes, leaves_bytes, takes_each, leaves_each}
 
 -- ---- the last component may be `..`

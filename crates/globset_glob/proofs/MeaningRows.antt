@@ -1,7 +1,7 @@
 -- Examples of what a glob means: the paths that it matches, and paths that it does not. Each row computes.
 use Rattle.std.specs.Prelude.{◌≡◌, [], ◌∷◌, true, refl}
 use Rattle.globset_glob.specs.declared.options.TheConstants.Options.{DEFAULT}
-use Rattle.globset_glob.proofs.OnLiterals.{glob_on_literals}
+use Rattle.globset_glob.proofs.Unfoldings.{glob_on_literals}
 use Rattle.globset_glob.proofs.RowWords.{insensitive, separated, unescaped, blank_kept, takes_each, leaves_each}
 
 letter : takes_each DEFAULT "a" ("a" ∷ []) ≡ true

@@ -1,7 +1,7 @@
 -- Examples of the text that a glob has as a regular expression. Each row computes.
 use Rattle.std.specs.Prelude.{◌≡◌, Ok, codes, refl}
 use Rattle.globset_glob.specs.declared.options.TheConstants.Options.{DEFAULT}
-use Rattle.globset_glob.proofs.OnLiterals.{glob_on_literals}
+use Rattle.globset_glob.proofs.Unfoldings.{glob_on_literals}
 use Rattle.globset_glob.proofs.RowWords.{insensitive, separated, blank_kept, unclosed, regex_of}
 
 letter : regex_of DEFAULT "a" ≡ Ok (codes "(?-u)^a$")

@@ -11,9 +11,9 @@ use Rattle.globset_glob.specs.declared.options.Options.{Options}
 use Rattle.globset_glob.specs.declared.row.rule.Rule.{Rule}
 use Rattle.globset_glob.specs.declared.row.rule.Bytes.{Bytes}
 use Rattle.globset_glob.specs.declared.row.rule.Bytes.TheVariants.{Everything, Only}
-use Rattle.globset_glob.proofs.Truth.{and_all, and_first, and_second, and_both, same_truth}
-use Rattle.globset_glob.proofs.Cuts.{cut_of, some_cut-append, some_cut-same}
-use Rattle.globset_glob.proofs.Steps.{both, next_same}
+use Rattle.globset_glob.proofs.Booleans.{and_all, and_first, and_second, and_both, same_truth}
+use Rattle.globset_glob.proofs.ListCuts.{cut_of, some_cut-append, some_cut-same}
+use Rattle.globset_glob.proofs.RowSteps.{both, next_same}
 
 -- ---- sets of bytes
 

@@ -4,7 +4,7 @@ use Rattle.std.proofs.Common.{refl, inl, inr, true≢false, sym, ◌∙◌, ap, 
 use Rattle.globset_glob.specs.SmallRegex.{single, span, any_byte, byte, class_of, group_of, once, repeated, optional, Atom, Item, no_item, item, Row, no_row, row, Expression, expression, is_special, class_of_has, SpellsByte, SpellsEntry, SpellsAtom, SpellsItem, SpellsRow, SpellsOthers, Spells, no_piece, one_more, DenotesAtom, DenotesItem, DenotesRow, Denotes}
 use Rattle.std.proofs.lemmas.Bool.{eq-eqb}
 use Rattle.std.proofs.lemmas.List.{append_cancel_right}
-use Rattle.globset_glob.proofs.Cuts.{cons_none}
+use Rattle.globset_glob.proofs.ListCuts.{cons_none}
 
 -- ---- the texts of a byte
 

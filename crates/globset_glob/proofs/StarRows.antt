@@ -5,7 +5,7 @@ use Rattle.std.specs.Prelude.{◌≡◌, [], ◌∷◌, ◌++◌, Ok, codes, ref
 use Rattle.globset_glob.specs.declared.options.TheConstants.Options.{DEFAULT}
 use Rattle.globset_glob.specs.Token.{Any, ZeroOrMore, RecursivePrefix, RecursiveSuffix, RecursiveZeroOrMore, end}
 use Rattle.globset_glob.specs.Reading.{reading}
-use Rattle.globset_glob.proofs.OnLiterals.{glob_on_literals}
+use Rattle.globset_glob.proofs.Unfoldings.{glob_on_literals}
 use Rattle.globset_glob.proofs.RowWords.{tokens, literals, group}
 
 empty_text : reading DEFAULT (codes "") ≡ Ok end

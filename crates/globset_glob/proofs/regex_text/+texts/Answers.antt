@@ -2,10 +2,10 @@ use Rattle.std.proofs.Common.{◌≡◌, ℕ, ◌||◌, not, sym, ap, ◌∙◌,
 use Rattle.globset_glob.specs.Token.{Group}
 use Rattle.globset_glob.specs.Blank.{any_kept}
 use Rattle.globset_glob.specs.Views.{token_of, branches_of}
-use Rattle.globset_glob.proofs.Truth.{or_none}
-use Rattle.globset_glob.proofs.Trees.{group_is}
-use Rattle.globset_glob.proofs.Heads.{tokens_past, branches_past}
-use Rattle.globset_glob.proofs.Kept.{any_kept_is, kept_at_end}
+use Rattle.globset_glob.proofs.Booleans.{or_none}
+use Rattle.globset_glob.proofs.TokenViews.{group_is}
+use Rattle.globset_glob.proofs.TokenLists.{tokens_past, branches_past}
+use Rattle.globset_glob.proofs.KeptBranches.{any_kept_is, kept_at_end}
 use Rattle.globset_glob.proofs.regex_text.+texts.Goals as goal
 
 is_group : (t : ℕ) (c : goal.push_token-After-push_group t) → token_of c.args.token.now ≡ Group (branches_of c.deref.result.now)

@@ -1,5 +1,5 @@
 use Rattle.std.proofs.Common.{rules, ◌≡◌, ◌+◌, ◌<◌, length, arith, sym, ap, ◌∙◌, ◌&&◌, refl}
-use Rattle.globset_glob.proofs.Passes.{is_open, is_passed, is_open_more, is_passed_more, written_at, left_at, none_at, not_passed, open_at_first, passed_at_first, pass_next}
+use Rattle.globset_glob.proofs.RowPasses.{is_open, is_passed, is_open_more, is_passed_more, written_at, left_at, none_at, not_passed, open_at_first, passed_at_first, pass_next}
 use Rattle.globset_glob.proofs.row.pass.Goals as goal
 
 pub returns-then-start-path-clause-next : goal.returns-then-start-path-clause-next

@@ -1,5 +1,5 @@
 use Rattle.std.proofs.Common.{◌≡◌, ℕ, ◌+◌, ◌≤◌, ◌<◌, length, get_or, false}
-use Rattle.globset_glob.proofs.Passes.{is_open, is_passed}
+use Rattle.globset_glob.proofs.RowPasses.{is_open, is_passed}
 use Rattle.globset_glob.proofs.row.pass.Given as goal
 
 abbrev pub invariant-loop-i : goal.invariant-loop-i

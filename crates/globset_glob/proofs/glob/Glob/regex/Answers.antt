@@ -8,7 +8,7 @@ use Rattle.globset_glob.specs.RegexText.{regex_text}
 use Rattle.globset_glob.specs.RegexDenotes.{HasExpression}
 use Rattle.globset_glob.specs.Views.{tokens_of}
 use Rattle.globset_glob.proofs.GlobLemmas.{tokens_are}
-use Rattle.globset_glob.proofs.Scalars.{reads_well}
+use Rattle.globset_glob.proofs.WellFormedReadings.{reads_well}
 use Rattle.globset_glob.proofs.Expressions.{regex_has}
 use Rattle.globset_glob.proofs.glob.Glob.regex.Goals as goal
 

@@ -4,12 +4,12 @@ use Rattle.globset_glob.specs.Takes.{takes, takes_all}
 use Rattle.globset_glob.specs.Blank.{is_blank_token, is_blank, are_blank, is_kept, any_kept}
 use Rattle.globset_glob.specs.Rows.{IsNext}
 use Rattle.globset_glob.specs.Views.{token_of, tokens_of, branches_of}
-use Rattle.globset_glob.proofs.Truth.{iff_trans, or_none}
-use Rattle.globset_glob.proofs.Trees.{group_is}
-use Rattle.globset_glob.proofs.Heads.{tokens_here, branches_here, tokens_past, branches_past}
-use Rattle.globset_glob.proofs.Steps.{goes_on, goes_all}
+use Rattle.globset_glob.proofs.Booleans.{iff_trans, or_none}
+use Rattle.globset_glob.proofs.TokenViews.{group_is}
+use Rattle.globset_glob.proofs.TokenLists.{tokens_here, branches_here, tokens_past, branches_past}
+use Rattle.globset_glob.proofs.RowSteps.{goes_on, goes_all}
 use Rattle.globset_glob.proofs.Rules.{next_by_rule}
-use Rattle.globset_glob.proofs.Groups.{united_kept, united_dropped, group_union, group_empty, kept_more, dropped_more, blank_more}
+use Rattle.globset_glob.proofs.GroupUnions.{united_kept, united_dropped, group_union, group_empty, kept_more, dropped_more, blank_more}
 use Rattle.globset_glob.proofs.row.walk.+walk.Goals as goal
 use Rattle.globset_glob.proofs.row.walk.+walk.Goals.{walk_token-in-Any, walk_token-in-ZeroOrMore, walk_token-in-RecursivePrefix, walk_token-in-RecursiveSuffix, walk_token-in-RecursiveZeroOrMore, walk_token-in-Class, walk_group-then-keeps_branch, walk_group-else-keeps_branch}
 

@@ -5,8 +5,8 @@ use Rattle.globset_glob.specs.Blank.{is_blank, are_blank, any_kept}
 use Rattle.globset_glob.specs.Weight.{weight, branches_weight}
 use Rattle.globset_glob.specs.Rows.{Leads}
 use Rattle.globset_glob.specs.Views.{tokens_of, branches_of}
-use Rattle.globset_glob.proofs.Steps.{Goes}
-use Rattle.globset_glob.proofs.Groups.{IsUnited}
+use Rattle.globset_glob.proofs.RowSteps.{Goes}
+use Rattle.globset_glob.proofs.GroupUnions.{IsUnited}
 use Rattle.globset_glob.proofs.row.walk.+walk.Given as goal
 
 abbrev pub invariant-walk_tokens-loop-token : goal.invariant-walk_tokens-loop-token

@@ -2,7 +2,7 @@ use Rattle.std.proofs.Common.{◌≡◌, false, true, set, sym, ap, ◌∙◌}
 use Rattle.globset_glob.specs.Takes.{takes_all}
 use Rattle.globset_glob.specs.Means.{is_prefix_alone}
 use Rattle.globset_glob.specs.Views.{tokens_of}
-use Rattle.globset_glob.proofs.Steps.{last_place}
+use Rattle.globset_glob.proofs.RowSteps.{last_place}
 use Rattle.globset_glob.proofs.row.walk.is_match.Goals as goal
 
 pub returns-clause-value : goal.returns-clause-value

@@ -4,7 +4,7 @@ use Rattle.std.proofs.lemmas.List.{drop_more, drop_all}
 use Rattle.globset_glob.specs.Token.{Literal}
 use Rattle.globset_glob.specs.Takes.{takes, is_empty}
 use Rattle.globset_glob.specs.Rules.{spells, allows}
-use Rattle.globset_glob.proofs.Steps.{both, goes_on, goes_all, next_same}
+use Rattle.globset_glob.proofs.RowSteps.{both, goes_on, goes_all, next_same}
 use Rattle.globset_glob.proofs.Rules.{spells_by_rule, spells_none}
 use Rattle.globset_glob.proofs.row.walk.walk_literal.Goals as goal
 

@@ -1,6 +1,6 @@
 use Rattle.std.proofs.Common.{◌≡◌, ◌+◌, ◌*◌, ◌≤◌, drop, length}
 use Rattle.globset_glob.specs.Rules.{spells}
-use Rattle.globset_glob.proofs.Steps.{Goes}
+use Rattle.globset_glob.proofs.RowSteps.{Goes}
 use Rattle.globset_glob.proofs.row.walk.walk_literal.Given as goal
 
 abbrev pub invariant-loop-byte : goal.invariant-loop-byte

@@ -2,7 +2,7 @@ use Rattle.std.proofs.Common.{◌≡◌, List, arith, ap, sym, ◌∙◌}
 use Rattle.std.proofs.lemmas.List.{take_all}
 use Rattle.globset_glob.specs.Token.{Tokens, Group, none, ahead}
 use Rattle.globset_glob.specs.Views.{token_of, branch_list}
-use Rattle.globset_glob.proofs.Trees.{group_is}
+use Rattle.globset_glob.proofs.TokenViews.{group_is}
 use Rattle.globset_glob.proofs.token.copy.+copies.Goals as goal
 
 pub copy_of_token-returns-after-loop-branch : goal.copy_of_token-returns-after-loop-branch

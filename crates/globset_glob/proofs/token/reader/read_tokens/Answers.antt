@@ -2,7 +2,7 @@ use Rattle.std.proofs.Common.{rules, zero, subst, sym}
 use Rattle.globset_glob.specs.Settled.{Nests}
 use Rattle.globset_glob.specs.Reading.{reading}
 use Rattle.globset_glob.specs.Views.{marks_of, tokens_of}
-use Rattle.globset_glob.proofs.Nests.{nested_again}
+use Rattle.globset_glob.proofs.NestingLemmas.{nested_again}
 use Rattle.globset_glob.proofs.Weights.{text_weight}
 use Rattle.globset_glob.proofs.token.reader.read_tokens.Goals as goal
 

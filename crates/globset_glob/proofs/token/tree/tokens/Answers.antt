@@ -5,8 +5,8 @@ use Rattle.globset_glob.specs.Settled.{Nests}
 use Rattle.globset_glob.specs.Building.{joined, depth}
 use Rattle.globset_glob.specs.Views.{marks_of}
 use Rattle.std.proofs.lemmas.List.{length-map}
-use Rattle.globset_glob.proofs.Cells.{head_cell}
-use Rattle.globset_glob.proofs.Held.{marks_behind, whole_run, finish}
+use Rattle.globset_glob.proofs.ListLemmas.{head_cell}
+use Rattle.globset_glob.proofs.TreeLemmas.{marks_behind, whole_run, finish}
 use Rattle.globset_glob.proofs.token.tree.tokens.Goals as goal
 
 pub returns-then-is_whole_run : goal.returns-then-is_whole_run

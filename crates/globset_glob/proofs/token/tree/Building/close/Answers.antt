@@ -1,6 +1,6 @@
 use Rattle.std.proofs.Common.{ap, ◌∙◌, ◌++◌, ◌∷◌, []}
 use Rattle.globset_glob.specs.declared.token.Token.TheVariants.{Alternates}
-use Rattle.globset_glob.proofs.Held.{close_law}
+use Rattle.globset_glob.proofs.TreeLemmas.{close_law}
 use Rattle.globset_glob.proofs.token.tree.Building.close.Goals as goal
 
 pub returns-clause-read : goal.returns-clause-read

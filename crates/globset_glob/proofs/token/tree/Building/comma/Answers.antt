@@ -1,6 +1,6 @@
 use Rattle.std.proofs.Common.{◌≡◌, suc, ◌-◌, length, vec_len, arith, ap, ◌∙◌, refl}
-use Rattle.globset_glob.proofs.Cells.{last_cell}
-use Rattle.globset_glob.proofs.Held.{comma_law}
+use Rattle.globset_glob.proofs.ListLemmas.{last_cell}
+use Rattle.globset_glob.proofs.TreeLemmas.{comma_law}
 use Rattle.globset_glob.proofs.token.tree.Building.comma.Goals as goal
 
 pub returns-clause-read : goal.returns-clause-read

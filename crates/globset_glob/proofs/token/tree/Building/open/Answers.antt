@@ -1,5 +1,5 @@
 use Rattle.std.proofs.Common.{ap, ◌∙◌}
-use Rattle.globset_glob.proofs.Held.{open_law}
+use Rattle.globset_glob.proofs.TreeLemmas.{open_law}
 use Rattle.globset_glob.proofs.token.tree.Building.open.Goals as goal
 
 pub returns-clause-read : goal.returns-clause-read

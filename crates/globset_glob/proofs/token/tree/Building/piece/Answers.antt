@@ -2,8 +2,8 @@ use Rattle.std.proofs.Common.{drop, length, subst, sym}
 use Rattle.globset_glob.specs.Building.{frames}
 use Rattle.globset_glob.specs.Settled.{Nests}
 use Rattle.globset_glob.specs.Views.{mark_of, marks_of}
-use Rattle.globset_glob.proofs.Held.{piece_law}
-use Rattle.globset_glob.proofs.Nests.{nests_piece}
+use Rattle.globset_glob.proofs.TreeLemmas.{piece_law}
+use Rattle.globset_glob.proofs.NestingLemmas.{nests_piece}
 use Rattle.globset_glob.proofs.token.tree.Building.piece.Goals as goal
 
 pub returns-clause-read : goal.returns-clause-read

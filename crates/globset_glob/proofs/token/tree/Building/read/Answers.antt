@@ -4,7 +4,7 @@ use Rattle.globset_glob.specs.Settled.{Nests}
 use Rattle.globset_glob.specs.Marks as marks
 use Rattle.globset_glob.specs.Building.{depth}
 use Rattle.globset_glob.specs.Views.{mark_of, marks_of}
-use Rattle.globset_glob.proofs.Nests.{nests_open, nests_comma, nests_close, nests_bad}
+use Rattle.globset_glob.proofs.NestingLemmas.{nests_open, nests_comma, nests_close, nests_bad}
 use Rattle.globset_glob.proofs.token.tree.Building.read.Goals as goal
 use Rattle.globset_glob.proofs.token.tree.Building.read.Goals.{In-Open, In-Comma, In-Close}
 

@@ -15,10 +15,10 @@ use Rattle.globset_glob.specs.Token as token
 use Rattle.globset_glob.specs.Reading.{reading}
 use Rattle.globset_glob.specs.Means.{default_glob, default_options, is_prefix, is_prefix_alone, glob_means}
 use Rattle.globset_glob.specs.Escape.{is_special, escaped_chars, escaped, has_no_backslash, plain_options, MeansOnly}
-use Rattle.globset_glob.proofs.Truth.{and_both, and_first, and_second, or_none, and_all, and_none}
-use Rattle.globset_glob.proofs.Cuts.{cut_of, some_cut-append, empty_is}
+use Rattle.globset_glob.proofs.Booleans.{and_both, and_first, and_second, or_none, and_all, and_none}
+use Rattle.globset_glob.proofs.ListCuts.{cut_of, some_cut-append, empty_is}
 use Rattle.globset_glob.proofs.GlobLemmas.{means_is}
-use Rattle.globset_glob.proofs.Escaped.{by_special, NoEscape, token_as, token_for, tokens_for, escaped_reads}
+use Rattle.globset_glob.proofs.EscapeReading.{by_special, NoEscape, token_as, token_for, tokens_for, escaped_reads}
 
 -- ---- one token
 

@@ -7,7 +7,7 @@ use Rattle.globset_glob.specs.ClassBytes.{is_one_of, is_from_last, is_spanned, r
 use Rattle.globset_glob.specs.SmallRegex.{Entry, single, span, SpellsEntries, entry_has, entries_have}
 use Rattle.globset_glob.specs.RegexText.{byte_text, bytes_text, char_text, range_text, ranges_text}
 use Rattle.globset_glob.proofs.WellFormed.{AreScalars}
-use Rattle.globset_glob.proofs.Letters.{Below, spells_byte, encode_below, encode_some}
+use Rattle.globset_glob.proofs.ByteTexts.{Below, spells_byte, encode_below, encode_some}
 
 or_assoc : (p q r : Bool) → (p || (q || r)) ≡ ((p || q) || r)
 or_assoc true q r = refl

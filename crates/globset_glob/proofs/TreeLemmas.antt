@@ -14,9 +14,9 @@ use Rattle.globset_glob.specs.Settled.{Nests, is_inner}
 use Rattle.globset_glob.specs.declared.text.mark.Mark as held_mark
 use Rattle.globset_glob.specs.Stars.{piece}
 use Rattle.globset_glob.specs.Building.{Frame, in_frames, frame, frames}
-use Rattle.globset_glob.proofs.Trees.{group_is}
-use Rattle.globset_glob.proofs.Plugs.{open_step, comma_step, close_step, piece_step, end_step}
-use Rattle.globset_glob.proofs.Nests.{nests_end}
+use Rattle.globset_glob.proofs.TokenViews.{group_is}
+use Rattle.globset_glob.proofs.LevelLemmas.{open_step, comma_step, close_step, piece_step, end_step}
+use Rattle.globset_glob.proofs.NestingLemmas.{nests_end}
 use Rattle.std.proofs.lemmas.List.{nil_from_length}
 
 framed : (gs hs : List Group) (g : Group) (f : Frame) → gs ≡ hs ++ g ∷ [] → frame g ≡ f → frames gs ≡ frames hs ++ f ∷ []

@@ -7,8 +7,8 @@ use Rattle.globset_glob.specs.Takes.{takes, some_takes, takes_all, is_empty}
 use Rattle.globset_glob.specs.Blank.{is_kept, any_kept}
 use Rattle.globset_glob.specs.Rows.{Leads, IsNext}
 use Rattle.globset_glob.specs.declared.options.Options.{Options}
-use Rattle.globset_glob.proofs.Truth.{and_both, and_first, and_second, or_first, or_second, or_either}
-use Rattle.globset_glob.proofs.Steps.{leads_empty}
+use Rattle.globset_glob.proofs.Booleans.{and_both, and_first, and_second, or_first, or_second, or_either}
+use Rattle.globset_glob.proofs.RowSteps.{leads_empty}
 
 -- The place k is in the union so far, or a branch that is left leads to it.
 abbrev pub IsUnited : Options → List ℕ → List Bool → List Bool → Branches → ℕ → Type 0

@@ -10,8 +10,8 @@ use Rattle.globset_glob.specs.Rows.{Leads, IsNext, IsNoneBefore}
 use Rattle.globset_glob.specs.Rules.{has_byte, begins, ends_in, allows}
 use Rattle.globset_glob.specs.declared.row.rule.Rule.{Rule}
 use Rattle.globset_glob.specs.declared.row.rule.Bytes.{Bytes}
-use Rattle.globset_glob.proofs.Truth.{and_both, and_first, and_second, or_first, or_none, and_all, and_assoc, two_ways, first_way, second_way}
-use Rattle.globset_glob.proofs.Cuts.{last_of, cons_none, is_empty-push}
+use Rattle.globset_glob.proofs.Booleans.{and_both, and_first, and_second, or_first, or_none, and_all, and_assoc, two_ways, first_way, second_way}
+use Rattle.globset_glob.proofs.ListCuts.{last_of, cons_none, is_empty-push}
 
 -- some piece that began before the place k has come to it, and may go on
 unfoldable pub is_open : Rule → List ℕ → List Bool → ℕ → Bool

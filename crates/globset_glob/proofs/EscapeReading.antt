@@ -14,7 +14,7 @@ use Rattle.globset_glob.specs.Token.{Token, Literal, Tokens, end, and_then, befo
 use Rattle.globset_glob.specs.Token as token
 use Rattle.globset_glob.specs.Reading.{in_level, levels, is_whole_run, whole, reading, whole_or_fault}
 use Rattle.globset_glob.specs.Escape.{is_special, escaped_chars}
-use Rattle.globset_glob.proofs.Truth.{or_either, and_first, and_second}
+use Rattle.globset_glob.proofs.Booleans.{or_either, and_first, and_second}
 
 -- ---- one character in brackets
 

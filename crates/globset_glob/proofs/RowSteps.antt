@@ -4,8 +4,8 @@ use Rattle.std.specs.Prelude.{◌↔◌}
 use Rattle.std.proofs.lemmas.List.{append-nil, append_assoc, length-take-le, length-take, length-append, take_at, take-take, take_all, length-replicate}
 use Rattle.globset_glob.specs.Takes.{some_cut, is_empty}
 use Rattle.globset_glob.specs.Rows.{Leads, IsNext}
-use Rattle.globset_glob.proofs.Truth.{and_both, and_first, and_second, same_truth}
-use Rattle.globset_glob.proofs.Cuts.{cut_of, some_cut-append, empty_is}
+use Rattle.globset_glob.proofs.Booleans.{and_both, and_first, and_second, same_truth}
+use Rattle.globset_glob.proofs.ListCuts.{cut_of, some_cut-append, empty_is}
 
 -- what stands before a cut of the path's front is a front of the path
 front_fits : (b : List ℕ) (k : ℕ) (u z : List ℕ) → take k b ≡ u ++ z → length u ≤ length b

@@ -6,8 +6,8 @@ use Rattle.std.proofs.Math.Logic.{⊎_elim}
 use Rattle.globset_glob.specs.Token.{Token, RecursivePrefix, RecursiveSuffix, RecursiveZeroOrMore, Tokens, and_then}
 use Rattle.globset_glob.specs.Takes.{takes, takes_all, is_empty, same_bytes, is_one_byte, begins_with_slash, ends_with_slash, slash}
 use Rattle.globset_glob.specs.declared.options.Options.{Options}
-use Rattle.globset_glob.proofs.Truth.{and_both, and_first, and_second, or_first, or_second, or_either}
-use Rattle.globset_glob.proofs.Cuts.{cut_of, some_cut-append, empty_is}
+use Rattle.globset_glob.proofs.Booleans.{and_both, and_first, and_second, or_first, or_second, or_either}
+use Rattle.globset_glob.proofs.ListCuts.{cut_of, some_cut-append, empty_is}
 
 -- the token takes the bytes
 abbrev pub Takes : Options → Token → List ℕ → Type 0

@@ -2,7 +2,7 @@
 use Rattle.std.proofs.Common.{◌≡◌, ℕ, ◌⊎◌, inl, inr, Bool, false, true≢false, ◌||◌, List, [], ◌∷◌, ◌++◌, IsTrue, refl, ap, sym}
 use Rattle.std.proofs.Math.Logic.{⊎_elim}
 use Rattle.globset_glob.specs.Takes.{some_cut, is_empty}
-use Rattle.globset_glob.proofs.Truth.{or_first, or_second, or_either}
+use Rattle.globset_glob.proofs.Booleans.{or_first, or_second, or_either}
 
 -- a list is empty or has a last element
 pub last_of : (xs : List ℕ) → (xs ≡ []) ⊎ ((z : List ℕ) × (c : ℕ) × (xs ≡ z ++ c ∷ []))
