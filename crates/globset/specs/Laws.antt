@@ -20,6 +20,6 @@ abbrev pub OrderRenames : Type 0
 OrderRenames = (first second : List GlobValue) (to : ℕ → ℕ) (path : List ℕ) → IsReordered first second to
     → (j : ℕ) → Contains (answer second path) j ↔ ((i : ℕ) × Contains (answer first path) i × (to i ≡ j))
 
--- A set of one glob that is not silent answers as the glob's matcher.
+-- Where a set's only glob is not silent, the set answers what the glob's matcher does.
 abbrev pub OneGlobSet : Type 0
 OneGlobSet = (g : GlobValue) (path : List ℕ) → silent g ≡ false → answer (g ∷ []) path ≡ (if glob_means g path then 0 ∷ [] else [])

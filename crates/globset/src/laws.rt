@@ -2,8 +2,8 @@
 
 ghost use Rattle.globset.specs.Laws.{AddKeeps, OneGlobSet, OrderRenames};
 
-/// A glob that is added at the end changes no earlier index's answer: the new answer is the old one, and behind it the new
-/// glob's own index where that glob answers.
+/// What a set answers stays as it is when one more glob is put behind the others: only the new glob's own index can come to
+/// it, at its end.
 pub fn add_keeps()
     ensures { AddKeeps }
 {}
@@ -13,7 +13,8 @@ pub fn order_renames()
     ensures { OrderRenames }
 {}
 
-/// A set of one glob that is not silent answers as its matcher: `[0]` where the glob means the path, and else nothing.
+/// Where a set's only glob is not silent, its answer is `[0]` on the paths that the glob's matcher matches, and empty on all
+/// others.
 pub fn one_glob_set()
     ensures { OneGlobSet }
 {}

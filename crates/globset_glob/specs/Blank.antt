@@ -3,7 +3,7 @@ use Rattle.std.specs.Prelude.{Bool, true, false, ◌&&◌, ◌||◌, not}
 use Rattle.globset_glob.specs.declared.options.Options.{Options}
 use Rattle.globset_glob.specs.Token.{Token, Literal, Any, ZeroOrMore, RecursivePrefix, RecursiveSuffix, RecursiveZeroOrMore, Class, Group, Tokens, end, and_then, Branches, none, branch}
 
--- A branch is blank if all its tokens are groups whose branches are all blank. An empty branch is blank.
+-- A blank branch holds groups at most, and nothing but blank branches in these. The smallest one is empty.
 abbrev mutual
   pub is_blank_token : Token → Bool
   is_blank_token (Group bs) = are_blank bs

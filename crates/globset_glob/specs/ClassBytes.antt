@@ -1,10 +1,9 @@
 -- The bytes that a character class has.
 --
 -- Classes take single bytes, each a number from 0 to 255. A range with equal ends has the bytes of its character in
--- UTF-8. Any other range has all
--- bytes of its first character but the last, the bytes from that last one up to the first byte of its second character,
--- and the other bytes of that. So `[a-z]` has the small ASCII letters, and `[é-ü]` has C3, the bytes from A9 to C3, and
--- BC.
+-- UTF-8. Any other range has, of its two characters: the bytes that stand before the last byte of the first one; every
+-- byte from that last one up to the byte with which the second one begins; and what follows that in the second one. So
+-- `[a-z]` has the small ASCII letters, and `[é-ü]` has C3, every byte from A9 to C3, and BC.
 use Rattle.std.specs.Prelude.{ℕ, Bool, false, not, ◌&&◌, ◌||◌, ◌==◌, nat_le, List, [], ◌∷◌, if◌then◌else◌, encode_utf8}
 use Rattle.std.specs.Char.{to_ascii_lowercase, to_ascii_uppercase}
 use Rattle.globset_glob.specs.declared.options.Options.{Options}

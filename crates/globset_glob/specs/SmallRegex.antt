@@ -89,7 +89,7 @@ abbrev mutual
   -- `(?:`, one or more rows parted by `|`, `)`
   SpellsAtom (group_of r rs) t = (u v : List ℕ) × (t ≡ codes "(?:" ++ u ++ v ++ codes ")") × SpellsRow r u × SpellsOthers rs v
 
-  -- an atom, or an atom and `*`, or an atom and `?`
+  -- an atom, which a `*` or a `?` may follow
   pub SpellsItem : Item → List ℕ → Type 0
   SpellsItem (once a) t = SpellsAtom a t
   SpellsItem (repeated a) t = (u : List ℕ) × (t ≡ u ++ codes "*") × SpellsAtom a u
@@ -151,7 +151,7 @@ abbrev mutual
   DenotesItem fold (repeated a) b = Repeats (DenotesAtom fold a) b
   DenotesItem fold (optional a) b = (b ≡ []) ⊎ DenotesAtom fold a b
 
-  -- the list can be cut into as many pieces as there are items, each denoted by its item, in order
+  -- one item after another: the first denotes a front part of the list, and the others the rest in the same way
   pub DenotesRow : Bool → Row → List ℕ → Type 0
   DenotesRow fold no_item b = b ≡ []
   DenotesRow fold (item i r) b = (x y : List ℕ) × (b ≡ x ++ y) × DenotesItem fold i x × DenotesRow fold r y
@@ -165,6 +165,6 @@ abbrev mutual
 abbrev pub AreBytes : List ℕ → Type 0
 AreBytes b = All (λ c. c < 256) b
 
--- A whole one denotes the lists of bytes that its row denotes: `^` and `$` hold the row to the whole list.
+-- A whole one denotes the lists of bytes that its row denotes: between `^` and `$` a row has to match all of a list.
 abbrev pub Denotes : Expression → List ℕ → Type 0
 Denotes (expression fold r) b = AreBytes b × DenotesRow fold r b

@@ -75,7 +75,7 @@ abbrev mutual
   some_takes o none b = false
   some_takes o (branch ts bs) b = (is_kept o ts && takes_all o ts b) || some_takes o bs b
 
-  -- it can be cut into as many pieces as there are tokens, each taken by its token, in order
+  -- one after another: the first token takes a front part of it, and the others take the rest in the same way
   pub takes_all : Options → Tokens → List ℕ → Bool
   takes_all o end b = is_empty b
   takes_all o (and_then t ts) b = some_cut (λ x y. takes o t x && takes_all o ts y) b

@@ -11,8 +11,8 @@ enum Ticks {
     After(Snapshot<Ticks>),
 }
 
-/// How many counted reads a match has made. It takes no bytes when the program runs: contracts see a whole number with
-/// no bound.
+/// How many counted reads a match has made. In a running program it has no size; in contracts it is a number without an
+/// upper bound.
 ///
 /// A visit is one counted read of a token or of one place of a row.
 #[derive(Drop)]

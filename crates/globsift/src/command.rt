@@ -14,9 +14,9 @@ use std::alloc::Global;
 
 /// Reads the words of a command line.
 ///
-/// `-i`, `-s`, `-e` and `-u` turn `case_insensitive`, `literal_separator`, `empty_alternates` and `allow_unclosed_class`
-/// on, and `-b` turns `backslash_escape` off, for the globs that follow; `-r` sets the default options again. `-n` numbers
-/// the output, wherever it stands. `--` ends these: each word after it is a glob. Before it another word that begins with
+/// Each of `-i`, `-s`, `-e` and `-u` gives the globs after it one more option: `case_insensitive`, `literal_separator`,
+/// `empty_alternates` and `allow_unclosed_class`. After `-b` they have no `backslash_escape`, and after `-r` the default
+/// options. With `-n`, at any place, the output is numbered. `--` ends these: each word after it is a glob. Before it another word that begins with
 /// `-` is a fault, and any other word is a glob. The first fault from the left is answered, or want of memory.
 pub fn command(alloc: Global, words: &[String]) -> Result<Command, CommandFault>
     ensures { MatchResult result (λ command. commanded (map string_bytes words.now) ≡ Ok (command_value command))

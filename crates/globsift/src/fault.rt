@@ -9,7 +9,7 @@ use std::fmt;
 pub enum SiftFault {
     /// A read failed, or no read met the end.
     Read,
-    /// A write or the flush failed, or a write took none of the bytes.
+    /// The writer failed at a write or at the flush, or took nothing of what was written.
     Write,
     /// Memory ran out.
     OutOfMemory,

@@ -291,9 +291,9 @@ fn zeros(alloc: Global, count: usize) -> Result<Vec<u8>, AllocError>
 /// first.
 ///
 /// On success all was written and the writer was flushed. A fault of the reader or the writer is final, and no call is
-/// tried again. Where a read failed, or 2^64 - 1 reads met no end, what was written is the output for the bytes up to
-/// their last LF. Where a write or the flush failed, a write took none of the bytes, or memory ran out, it is a
-/// beginning of the output. After a fault no flush is tried.
+/// tried again. After a failed read, and after 2^64 - 1 reads with no end in sight, the output of all lines that were
+/// read whole is written. After a fault of the writer, and where memory ran out, a beginning of the output is. After a
+/// fault no flush is tried.
 pub fn sift<R: Read, W: Write>(
     alloc: Global,
     set: &GlobSet,
