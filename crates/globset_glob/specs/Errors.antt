@@ -1,11 +1,12 @@
 -- Errors of globs, and their texts.
-use Rattle.std.specs.Prelude.{◌≡◌, ℕ, List, ◌++◌, Option, Some, None, encode_utf8, codes, string_bytes, ◌⊎◌}
+use Rattle.std.specs.Prelude.{◌≡◌, ℕ, List, ◌++◌, Option, Some, None, encode_utf8, codes, string_bytes, ◌⊎◌, Result, Ok, Err}
 use Rattle.globset_glob.specs.declared.error.ErrorKind.{ErrorKind}
 use Rattle.globset_glob.specs.declared.error.ErrorKind.TheVariants as kinds
 use Rattle.globset_glob.specs.declared.fault.Fault.{Fault}
 use Rattle.globset_glob.specs.declared.fault.Fault.TheVariants as faults
 use Rattle.globset_glob.specs.declared.options.Options.{Options}
-use Rattle.globset_glob.specs.Reading.{HasFault}
+use Rattle.globset_glob.specs.Means.{GlobValue}
+use Rattle.globset_glob.specs.Reading.{HasFault, reading}
 use Rattle.std.specs.Str.{chars}
 
 -- An error as contracts see it: the text that was refused, where one is held, and why.
@@ -27,6 +28,10 @@ kind_of faults.DanglingEscape = kinds.DanglingEscape
 -- a text was refused for a fault, and is held
 abbrev pub refusal : List ℕ → Fault → ErrorValue
 refusal text f = record { glob = Some text; kind = kind_of f }
+
+-- What a text is read as: the glob of it under these options, or the refusal for its first fault.
+abbrev pub glob_or_refusal : GlobValue → Result GlobValue ErrorValue
+glob_or_refusal g = elim (reading g.options (chars g.text)) [ Ok ts ↦ Ok g | Err f ↦ Err (refusal g.text f) ]
 
 -- The error of a text that was not read: its fault under these options, or want of memory.
 abbrev pub IsRefusalOf : Options → List ℕ → ErrorValue → Type 0

@@ -21,6 +21,7 @@ pub mod Cost
 pub mod Weight
 pub mod Errors
 pub mod Equality
+pub mod Values
 pub mod Escape
 pub mod Views
 pub mod Building

@@ -1,13 +1,16 @@
-//! What a glob is read as, for the crates above that sort globs by their tokens.
+//! What `globset` alone needs: what a glob is read as, its matcher without a copy, and errors of elements.
 
 ghost use Rattle.std.specs.Prelude.{◌≡◌, Ok};
 ghost use Rattle.std.specs.Str.{chars};
 ghost use Rattle.globset_glob.specs.Reading.{reading};
+ghost use Rattle.globset_glob.specs.Values.{of_element};
 ghost use Rattle.globset_glob.specs.Views.{tokens_of};
 
 use crate::glob::Glob;
+use crate::matcher::GlobMatcher;
 use crate::options::Options;
 use crate::token::Token;
+use crate::value::error::ValueError;
 
 /// What the glob's text is read as under its options. It takes no memory.
 pub fn tokens_of(glob: &Glob) -> &[Token]
@@ -21,4 +24,19 @@ pub fn options_of(glob: &Glob) -> Options
     ensures { result ≡ glob.now.options }
 {
     glob.options()
+}
+
+/// The matcher of a glob that is given away. It takes no memory.
+pub fn matcher_of(glob: Glob) -> GlobMatcher
+    ensures { result ≡ glob }
+{
+    GlobMatcher::new(glob)
+}
+
+/// The error of the element at this index of an array. Want of memory is about no element, and stays as it is. It takes no
+/// memory.
+pub fn error_of_element(index: usize, error: ValueError) -> ValueError
+    ensures { result ≡ of_element index error }
+{
+    error.of_element(index)
 }

@@ -15,9 +15,10 @@ mod regex_text;
 mod row;
 mod text;
 mod token;
+mod value;
 mod visits;
 
-pub use access::{options_of, tokens_of};
+pub use access::{error_of_element, matcher_of, options_of, tokens_of};
 pub use builder::GlobBuilder;
 pub use error::{Error, ErrorKind};
 pub use escaping::escape;
@@ -26,4 +27,5 @@ pub use matcher::GlobMatcher;
 pub use options::Options;
 pub use path::{AsPath, Candidate};
 pub use token::Token;
+pub use value::error::{ValueError, ValueErrorKind};
 pub use visits::Visits;
