@@ -6,3 +6,4 @@ pub mod Listed
 pub mod Steps
 pub mod Gone
 pub mod Results
+pub mod ValueLemmas

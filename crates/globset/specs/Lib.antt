@@ -2,6 +2,7 @@ pub mod Silent
 pub mod Answer
 pub mod Work
 pub mod SetValue
+pub mod SetFromValue
 pub mod Lending
 pub mod Laws
 pub use Rattle.globset_glob.specs.Token
@@ -21,4 +22,5 @@ pub use Rattle.globset_glob.specs.Cost
 pub use Rattle.globset_glob.specs.PathParts
 pub use Rattle.globset_glob.specs.Errors
 pub use Rattle.globset_glob.specs.Equality
+pub use Rattle.globset_glob.specs.Values
 pub use Rattle.globset_glob.specs.Escape

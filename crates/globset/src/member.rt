@@ -8,7 +8,8 @@ ghost use Rattle.globset_glob.specs.Views.{token_of};
 ghost use Rattle.globset.specs.Answer.{answers};
 ghost use Rattle.globset.specs.Silent.{is_dot, silent};
 
-use globset_glob::{Candidate, Error, Glob, GlobMatcher, Token, Visits, options_of, tokens_of};
+use globset_glob::{Candidate, Error, Glob, GlobMatcher, Token, Visits};
+use globset_glob::{matcher_of, options_of, tokens_of};
 use std::marker::Model;
 
 /// The matcher of a glob, and whether the glob is silent: that is found once, when the set is made.
@@ -31,7 +32,7 @@ impl Model for Member {
 }
 
 impl Member {
-    /// Of an equal glob, or want of memory.
+    /// Of a copy of this glob, or want of memory.
     pub fn new(glob: &Glob) -> Result<Member, Error>
         ensures ok { IfOk result (λ m. m ≡ glob.now) }
         ensures err { IfErr result (λ e. e ≡ out_of_memory) }
@@ -40,6 +41,17 @@ impl Member {
             matcher: glob.compile_matcher()?,
             is_silent: is_silent(glob),
         })
+    }
+
+    /// Of this glob, which is given away. It takes no memory.
+    pub fn of(glob: Glob) -> Member
+        ensures { result ≡ glob }
+    {
+        let is_silent = is_silent(&glob);
+        Member {
+            matcher: matcher_of(glob),
+            is_silent,
+        }
     }
 
     /// Whether the glob is not silent and means the path. A silent glob is not asked.

@@ -9,6 +9,8 @@ ghost use Rattle.globset.specs.Answer.{answer, ContainsAllBelow};
 ghost use Rattle.globset.specs.SetValue.{set_globs, builder_globs};
 ghost use Rattle.globset.specs.Work.{most_set_visits};
 
+mod value;
+
 use crate::builder::GlobSetBuilder;
 use crate::member::Member;
 use globset_glob::{AsPath, Candidate, Error, Glob, Visits};
@@ -99,6 +101,15 @@ impl GlobSet {
         Ok(GlobSet {
             members: Some(copies),
         })
+    }
+
+    /// The set of these members.
+    fn of(members: Vec<Member>) -> GlobSet
+        ensures { set_globs result ≡ members.items }
+    {
+        GlobSet {
+            members: Some(members),
+        }
     }
 
     fn members(&self) -> &[Member]

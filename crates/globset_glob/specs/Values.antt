@@ -25,10 +25,15 @@ value_out_of_memory = of_kind (kinds.Glob out_of_memory)
 abbrev pub IsValueErrorOf : {X : Type 0} → Result X ValueErrorValue → ValueErrorValue → Type 0
 IsValueErrorOf asked e = (e ≡ value_out_of_memory) ⊎ (asked ≡ Err e)
 
+-- a glob, or the error of a text that is none
+abbrev pub of_text : Result GlobValue ErrorValue → Result GlobValue ValueErrorValue
+of_text (Ok g) = Ok g
+of_text (Err e) = Err (of_kind (kinds.Glob e))
+
 -- What a value is read as: a text, as the glob of its content under the default options, or with the first fault of that.
 -- No other value is a glob.
 abbrev pub glob_of_value : Data → Result GlobValue ValueErrorValue
-glob_of_value (string text) = elim (glob_or_refusal (default_glob text)) [ Ok g ↦ Ok g | Err e ↦ Err (of_kind (kinds.Glob e)) ]
+glob_of_value (string text) = of_text (glob_or_refusal (default_glob text))
 glob_of_value null = Err (of_kind kinds.NotText)
 glob_of_value (boolean b) = Err (of_kind kinds.NotText)
 glob_of_value (number n) = Err (of_kind kinds.NotText)

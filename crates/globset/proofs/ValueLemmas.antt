@@ -1,0 +1,96 @@
+-- Elements of an array, read one after another.
+use Rattle.std.proofs.Common.{◌≡◌, ℕ, ◌+◌, ◌≤◌, ◌<◌, List, [], ◌∷◌, ◌++◌, ap, sym, ◌∙◌, refl, Result, Ok, Err, IfErr, drop, get_or, length, inl, inr}
+use Rattle.std.proofs.lemmas.List.{drop_more, drop_all}
+use Rattle.std.proofs.lemmas.Result.{IfErr-at_err}
+use Rattle.std.specs.Str.{chars}
+use Rattle.serde_json.specs.Data.{Data, null, boolean, number, string, array, object}
+use Rattle.serde_json.specs.View.{view, items_view}
+use Rattle.serde_json.specs.declared.value.Value.{Value}
+use Rattle.globset_glob.specs.declared.fault.Fault.{Fault}
+use Rattle.globset_glob.specs.declared.fault.Fault.TheVariants as faults
+use Rattle.globset_glob.specs.declared.value.error.ValueErrorKind.TheVariants.{Glob}
+use Rattle.globset_glob.specs.Errors.{refusal}
+use Rattle.globset_glob.specs.Means.{GlobValue, default_glob, default_options}
+use Rattle.globset_glob.specs.Reading.{reading}
+use Rattle.globset_glob.specs.Token.{Tokens}
+use Rattle.globset_glob.specs.Values.{ValueErrorValue, IsValueErrorOf, of_kind, of_text, of_element, at_index, glob_of_value}
+use Rattle.globset.specs.SetFromValue.{ahead_of, globs_from}
+
+-- ---- globs that were read, and what follows
+
+-- globs before the globs of what follows, or before the error there
+abbrev pub onto : List GlobValue → Result (List GlobValue) ValueErrorValue → Result (List GlobValue) ValueErrorValue
+onto [] r = r
+onto (g ∷ globs) r = ahead_of g (onto globs r)
+
+onto-nothing : (globs : List GlobValue) → onto globs (Ok []) ≡ Ok globs
+onto-nothing [] = refl
+onto-nothing (g ∷ globs) = ap (ahead_of g) (onto-nothing globs)
+
+onto-error : (globs : List GlobValue) (e : ValueErrorValue) → onto globs (Err e) ≡ Err e
+onto-error [] e = refl
+onto-error (g ∷ globs) e = ap (ahead_of g) (onto-error globs e)
+
+onto-more : (globs : List GlobValue) (g : GlobValue) (r : Result (List GlobValue) ValueErrorValue) → onto globs (ahead_of g r) ≡ onto (globs ++ g ∷ []) r
+onto-more [] g r = refl
+onto-more (h ∷ globs) g r = ap (ahead_of h) (onto-more globs g r)
+
+-- ---- the errors of values are no want of memory
+
+known_fault : (i : ℕ) (text : List ℕ) (f : Fault) → of_element i (of_kind (Glob (refusal text f))) ≡ at_index i (of_kind (Glob (refusal text f)))
+known_fault i text faults.UnclosedClass = refl
+known_fault i text (faults.InvalidRange start end) = refl
+known_fault i text faults.UnopenedAlternates = refl
+known_fault i text faults.UnclosedAlternates = refl
+known_fault i text faults.DanglingEscape = refl
+
+known_text : (i : ℕ) (text : List ℕ) (r : Result Tokens Fault) →
+    IfErr (of_text (elim r [ Ok ts ↦ Ok (default_glob text) | Err f ↦ Err (refusal text f) ])) (λ e. of_element i e ≡ at_index i e)
+known_text i text (Ok ts) = tt
+known_text i text (Err f) = known_fault i text f
+
+known_error : (i : ℕ) (value : Data) → IfErr (glob_of_value value) (λ e. of_element i e ≡ at_index i e)
+known_error i (string text) = known_text i text (reading default_options (chars text))
+known_error i null = refl
+known_error i (boolean b) = refl
+known_error i (number n) = refl
+known_error i (array values) = refl
+known_error i (object entries) = refl
+
+-- ---- one element
+
+-- what follows from this element on, once it is read
+abbrev next : ℕ → Result GlobValue ValueErrorValue → Result (List GlobValue) ValueErrorValue → Result (List GlobValue) ValueErrorValue
+next i r more = elim r [ Ok g ↦ ahead_of g more | Err e ↦ Err (at_index i e) ]
+
+next_value : (values : List Value) (i : ℕ) (value : Value) → i < length values → value ≡ get_or values i value →
+    globs_from i (items_view (drop i values)) ≡ next i (glob_of_value (view value)) (globs_from (i + 1) (items_view (drop (i + 1) values)))
+next_value values i value within is =
+    ap (λ (vs : List Value). globs_from i (items_view vs)) (drop_more values i value within)
+    ∙ ap (λ (v : Value). globs_from i (items_view (v ∷ drop (i + 1) values))) (sym is)
+
+-- an element is a glob, and was put at the end
+pub one_glob : (values : List Value) (i : ℕ) (value : Value) (globs globs' : List GlobValue) (g h : GlobValue) (all : Result (List GlobValue) ValueErrorValue) →
+    i < length values → value ≡ get_or values i value → all ≡ onto globs (globs_from i (items_view (drop i values))) → glob_of_value (view value) ≡ Ok g →
+    h ≡ g → globs' ≡ globs ++ h ∷ [] → all ≡ onto globs' (globs_from (i + 1) (items_view (drop (i + 1) values)))
+one_glob values i value globs globs' g h all within is sofar e same put =
+    let more = globs_from (i + 1) (items_view (drop (i + 1) values)) in
+    sofar ∙ ap (onto globs) (next_value values i value within is ∙ ap (λ (r : Result GlobValue ValueErrorValue). next i r more) e) ∙ onto-more globs g more
+    ∙ ap (λ (l : List GlobValue). onto l more) (ap (λ (x : GlobValue). globs ++ x ∷ []) (sym same) ∙ sym put)
+
+-- an element is refused
+pub one_error : (values : List Value) (i : ℕ) (value : Value) (globs : List GlobValue) (e f : ValueErrorValue) (all : Result (List GlobValue) ValueErrorValue) →
+    i < length values → value ≡ get_or values i value → all ≡ onto globs (globs_from i (items_view (drop i values))) → IsValueErrorOf (glob_of_value (view value)) e →
+    f ≡ of_element i e → IsValueErrorOf all f
+one_error values i value globs e f all within is sofar (inl memory) of = inl (of ∙ ap (of_element i) memory)
+one_error values i value globs e f all within is sofar (inr refused) of =
+    let more = globs_from (i + 1) (items_view (drop (i + 1) values)) in
+    let here : f ≡ at_index i e = of ∙ IfErr-at_err (λ x. of_element i x ≡ at_index i x) refused (known_error i (view value)) in
+    inr (sofar ∙ ap (onto globs) (next_value values i value within is ∙ ap (λ (r : Result GlobValue ValueErrorValue). next i r more) refused)
+    ∙ onto-error globs (at_index i e) ∙ ap Err (sym here))
+
+-- all elements were read
+pub all_globs : (values : List Value) (i : ℕ) (globs : List GlobValue) (all : Result (List GlobValue) ValueErrorValue) → length values ≤ i →
+    all ≡ onto globs (globs_from i (items_view (drop i values))) → all ≡ Ok globs
+all_globs values i globs all end sofar =
+    sofar ∙ ap (λ (vs : List Value). onto globs (globs_from i (items_view vs))) (drop_all i values end) ∙ onto-nothing globs

@@ -1,0 +1,44 @@
+//! Sets as JSON values.
+
+ghost use Rattle.std.specs.Prelude.{◌≡◌, IfOk, IfErr, MatchResult, Ok};
+ghost use Rattle.serde_json.specs.View.{view, items_view};
+ghost use Rattle.globset_glob.specs.Values.{IsValueErrorOf};
+ghost use Rattle.globset.specs.SetFromValue.{globs_from, globs_of_value};
+ghost use Rattle.globset.specs.SetValue.{set_globs};
+
+use crate::member::Member;
+use crate::set::GlobSet;
+use globset_glob::{Glob, ValueError, ValueErrorKind, error_of_element};
+use serde_json::Value;
+use std::alloc::Global;
+
+impl GlobSet {
+    /// Reads the elements of a JSON array, in order, each as [`Glob::from_value`] does: so under the default options.
+    ///
+    /// Where an element is refused the error is that of the first such element, with its index. A value that is no array is
+    /// [`ValueErrorKind::NotArray`], with no index. Want of memory is [`ValueErrorKind::Glob`], and has no index either.
+    pub fn from_value(alloc: Global, value: &Value) -> Result<GlobSet, ValueError>
+        ensures ok { IfOk result (λ set. globs_of_value (view value.now) ≡ Ok (set_globs set)) }
+        ensures err { IfErr result (IsValueErrorOf (globs_of_value (view value.now))) }
+    {
+        match value {
+            Value::Array(values) => Ok(GlobSet::of(read_members(alloc, values)?)),
+            _ => Err(ValueError::from(ValueErrorKind::NotArray)),
+        }
+    }
+}
+
+/// The members of these elements of an array.
+fn read_members(alloc: Global, values: &[Value]) -> Result<Vec<Member>, ValueError>
+    ensures { MatchResult result (λ members. globs_from 0 (items_view values.now) ≡ Ok members.items)
+        (IsValueErrorOf (globs_from 0 (items_view values.now))) }
+{
+    let mut members = Vec::with_capacity(alloc, values.len())?;
+    for (index, value) in values.iter().enumerate() {
+        match Glob::from_value(alloc, value) {
+            Ok(glob) => members.push(Member::of(glob))?,
+            Err(error) => return Err(error_of_element(index, error)),
+        }
+    }
+    Ok(members)
+}
