@@ -1,5 +1,6 @@
 pub mod LastPlaces
 pub mod Equalities
+pub mod ValueLemmas
 pub mod ListLemmas
 pub mod MarkLemmas
 pub mod TokenViews

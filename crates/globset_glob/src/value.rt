@@ -4,7 +4,7 @@ ghost use Rattle.std.specs.Prelude.{◌≡◌, IfOk, IfErr, Ok};
 ghost use Rattle.serde_json.specs.Data.{string};
 ghost use Rattle.serde_json.specs.View.{view};
 ghost use Rattle.globset_glob.specs.Errors.{out_of_memory};
-ghost use Rattle.globset_glob.specs.Means.{IsRead};
+ghost use Rattle.globset_glob.specs.Means.{IsRead, default_options};
 ghost use Rattle.globset_glob.specs.Values.{IsValueErrorOf, glob_of_value};
 
 pub mod error;
@@ -16,9 +16,12 @@ use serde_json::Value;
 use std::alloc::Global;
 
 impl Glob {
-    /// The JSON text whose content is the glob's text. Its options are no part of it. The only error is want of memory.
+    /// The JSON text whose content is the glob's text. The options are no part of it: [`Glob::from_value`] reads an equal
+    /// glob back where they are the default ones. The only error is want of memory.
+    #[tactic(auto, using(crate::proofs::ValueLemmas::read_back))]
     pub fn to_value(&self) -> Result<Value, Error>
         ensures ok { IfOk result (λ value. view value ≡ string self.now.text) }
+        ensures read_back { self.now.options ≡ default_options → IfOk result (λ value. glob_of_value (view value) ≡ Ok self.now) }
         ensures err { IfErr result (λ e. e ≡ out_of_memory) }
     {
         let text = String::from_str(self.allocator(), self.glob())?;
