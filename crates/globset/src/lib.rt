@@ -12,8 +12,8 @@ mod set;
 
 pub use builder::GlobSetBuilder;
 pub use globset_glob::{
-    AsPath, Candidate, Error, ErrorKind, Glob, GlobBuilder, GlobMatcher, ValueError, ValueErrorKind,
-    Visits, escape,
+    AsPath, Candidate, Error, ErrorKind, Glob, GlobBuilder, GlobMatcher, ValueError,
+    ValueErrorKind, Visits, escape,
 };
 pub use set::GlobSet;
 

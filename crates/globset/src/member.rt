@@ -8,8 +8,9 @@ ghost use Rattle.globset_glob.specs.Views.{token_of};
 ghost use Rattle.globset.specs.Answer.{answers};
 ghost use Rattle.globset.specs.Silent.{is_dot, silent};
 
-use globset_glob::{Candidate, Error, Glob, GlobMatcher, Token, Visits};
-use globset_glob::{matcher_of, options_of, tokens_of};
+use globset_glob::{
+    Candidate, Error, Glob, GlobMatcher, Token, Visits, matcher_of, options_of, tokens_of,
+};
 use std::marker::Model;
 
 /// The matcher of a glob, and whether the glob is silent: that is found once, when the set is made.

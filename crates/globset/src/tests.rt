@@ -2,6 +2,7 @@
 
 mod calls;
 mod faults;
+mod json;
 mod matching;
 mod nesting;
 mod paths;

@@ -2,3 +2,4 @@ mod Numbers
 mod LineLemmas
 mod MoveLemmas
 mod WordLemmas
+pub mod SetLemmas

@@ -3,9 +3,9 @@ use Rattle.std.proofs.Common.{◌≡◌, ℕ, List, [], ◌∷◌, ◌++◌, Boo
 use Rattle.std.specs.List.{list_any}
 use Rattle.std.specs.Str.{bytes_eq}
 use Rattle.globset.specs.Means.{GlobValue}
-use Rattle.globsift.specs.Command.{CommandValue, FaultValue, IsFaultOf, is_end, is_given, is_numbered, asked, asked_by, gathered, command_of, commanded}
+use Rattle.globsift.specs.Command.{CommandValue, FaultValue, IsFaultOf, is_end, is_given, is_numbered, asked, asked_by, gathered, command_of, globs_commanded}
 use Rattle.globsift.specs.Moves.{no_letters, globs_ask, words_ask, gathered_onto}
-use Rattle.globsift.specs.declared.command.Letters.{Letters}
+use Rattle.globsift.specs.declared.command.globs.Letters.{Letters}
 use Rattle.globsift.specs.declared.fault.CommandFault.{CommandFault}
 use Rattle.globsift.specs.declared.fault.CommandFault.TheVariants.{NoGlob}
 
@@ -60,14 +60,13 @@ gathered-asked words letters globs e f =
 abbrev finished : List (List ℕ) → Result (List GlobValue) FaultValue → Result CommandValue FaultValue
 finished words r = elim r [ Ok globs ↦ command_of (is_numbered words) globs | Err fault ↦ Err fault ]
 
--- a fault of some word is the fault of all
-pub command_refused : (words : List (List ℕ)) (r : Result (List GlobValue) FaultValue) (fault : CommandFault) → r ≡ gathered (asked [] words) → IsFaultOf r fault →
-    IsFaultOf (commanded words) fault
-command_refused words r fault e (inl want) = inl want
-command_refused words r fault e (inr is) = inr (ap (finished words) (sym e ∙ is))
+-- a fault of what is asked for, in other words
+pub same_fault : (r s : Result (List GlobValue) FaultValue) (fault : CommandFault) → r ≡ s → IsFaultOf r fault → IsFaultOf s fault
+same_fault r s fault e (inl memory) = inl memory
+same_fault r s fault e (inr is) = inr (sym e ∙ is)
 
 -- no word is a glob
-pub command_empty : (words : List (List ℕ)) (globs : List GlobValue) → gathered (asked [] words) ≡ Ok globs → globs ≡ [] → IsFaultOf (commanded words) NoGlob
+pub command_empty : (words : List (List ℕ)) (globs : List GlobValue) → gathered (asked [] words) ≡ Ok globs → globs ≡ [] → IsFaultOf (globs_commanded words) NoGlob
 command_empty words globs e none = inr (ap (finished words) (e ∙ ap Ok none))
 
 -- a command of some globs
@@ -77,7 +76,7 @@ command_of-some numbered (glob ∷ globs) some = refl
 
 -- some words are globs
 pub command_given : (words : List (List ℕ)) (globs set : List GlobValue) (numbered : Bool) → gathered (asked [] words) ≡ Ok globs → set ≡ globs → (set ≡ [] → ⊥) →
-    numbered ≡ is_numbered words → commanded words ≡ Ok (record { globs = set; numbered = numbered })
+    numbered ≡ is_numbered words → globs_commanded words ≡ Ok (record { globs = set; numbered = numbered })
 command_given words globs set numbered e same some is =
     ap (finished words) (e ∙ ap Ok (sym same)) ∙ command_of-some (is_numbered words) set some
     ∙ ap (λ (b : Bool). Ok (record { globs = set; numbered = b })) (sym is)

@@ -9,8 +9,8 @@ use Rattle.globset.specs.SetValue.{builder_globs}
 use Rattle.globsift.specs.Command.{FaultValue, unknown_option, is_dashed, is_end, is_option, is_reset, glob_or_fault}
 use Rattle.globsift.specs.Lines.{lines, is_lf, through_last_lf}
 use Rattle.globsift.specs.Output.{sifted, has_match, GrowsByFront}
-use Rattle.globsift.specs.declared.command.Gathered.{Gathered}
-use Rattle.globsift.specs.declared.command.Letters.{Letters}
+use Rattle.globsift.specs.declared.command.globs.Gathered.{Gathered}
+use Rattle.globsift.specs.declared.command.globs.Letters.{Letters}
 use Rattle.globsift.specs.declared.fault.SiftFault.{SiftFault}
 use Rattle.globsift.specs.declared.fault.SiftFault.TheVariants.{Read, Write, OutOfMemory}
 

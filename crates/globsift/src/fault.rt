@@ -1,6 +1,6 @@
 //! Why the program stops.
 
-use globset::Error;
+use globset::{Error, ValueError};
 use std::alloc::{AllocError, AllocFailed};
 use std::fmt;
 
@@ -59,10 +59,18 @@ impl<T: Drop> From<AllocFailed<T>> for SiftFault {
 pub enum CommandFault {
     /// This word begins with `-` and is no option.
     UnknownOption(String),
-    /// There is no glob.
+    /// There is no glob, and no `--set`.
     NoGlob,
+    /// No word follows `--set`.
+    SetWithoutText,
+    /// Beside `--set` and its text there is another word than `-n`.
+    SetNotAlone,
+    /// The text after `--set` is no JSON.
+    NotJson,
     /// A glob was refused, or memory ran out.
     Glob(Error),
+    /// The JSON value is no array of globs.
+    Value(ValueError),
 }
 
 impl fmt::Display for CommandFault {
@@ -76,7 +84,11 @@ impl fmt::Display for CommandFault {
         match self {
             CommandFault::UnknownOption(word) => write!(f, "unknown option '{word}'"),
             CommandFault::NoGlob => f.write_str("no glob given"),
+            CommandFault::SetWithoutText => f.write_str("--set takes a text"),
+            CommandFault::SetNotAlone => f.write_str("--set stands alone or beside -n"),
+            CommandFault::NotJson => f.write_str("not a JSON text"),
             CommandFault::Glob(error) => write!(f, "{error}"),
+            CommandFault::Value(error) => write!(f, "{error}"),
         }
     }
 }

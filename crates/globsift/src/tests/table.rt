@@ -15,7 +15,7 @@ struct Example {
     answer: bool,
 }
 
-const EXAMPLES: [Example; 33] = [
+const EXAMPLES: [Example; 41] = [
     Example {
         words: &["**/*.rs"],
         input: b"src/a.rs\nb.c\n",
@@ -219,6 +219,57 @@ const EXAMPLES: [Example; 33] = [
         output: b"10\ta\n",
         answer: true,
     },
+    // a set of a JSON text, alone or beside `-n`
+    Example {
+        words: &["--set", "[\"*.rs\",\"*.c\"]", "-n"],
+        input: b"a.c\n",
+        output: b"1\ta.c\n",
+        answer: true,
+    },
+    Example {
+        words: &["-n", "-n", "--set", " [ \"*.rs\" , \"*\" ] ", "-n"],
+        input: b"a.c\na.rs",
+        output: b"1\ta.c\n0,1\ta.rs\n",
+        answer: true,
+    },
+    Example {
+        words: &["-n", "--set", "[\"*.c\"]"],
+        input: b"a.c\n",
+        output: b"0\ta.c\n",
+        answer: true,
+    },
+    Example {
+        words: &["--set", "[\"a\\u002ac\",\"d\"]"],
+        input: b"abc\nd\ne\n",
+        output: b"abc\nd\n",
+        answer: true,
+    },
+    // which may be empty
+    Example {
+        words: &["--set", "[]"],
+        input: b"a\n\n",
+        output: b"",
+        answer: false,
+    },
+    Example {
+        words: &["-n", "--set", "[]"],
+        input: b"",
+        output: b"",
+        answer: false,
+    },
+    // after `--` it is a glob
+    Example {
+        words: &["--", "--set", "x"],
+        input: b"--set\nx\n[]\n",
+        output: b"--set\nx\n",
+        answer: true,
+    },
+    Example {
+        words: &["a", "--", "--set"],
+        input: b"--set\na\n",
+        output: b"--set\na\n",
+        answer: true,
+    },
     // a silent glob is counted and never answers
     Example {
         words: &["-n", "**/..", "*"],
@@ -235,7 +286,7 @@ struct Refused {
     text: &'static str,
 }
 
-const REFUSED: [Refused; 14] = [
+const REFUSED: [Refused; 31] = [
     Refused {
         words: &[],
         text: "no glob given",
@@ -261,8 +312,8 @@ const REFUSED: [Refused; 14] = [
         text: "unknown option '-is'",
     },
     Refused {
-        words: &["--set", "[]"],
-        text: "unknown option '--set'",
+        words: &["--set="],
+        text: "unknown option '--set='",
     },
     Refused {
         words: &["-I", "a"],
@@ -291,6 +342,74 @@ const REFUSED: [Refused; 14] = [
     Refused {
         words: &["{a"],
         text: "error parsing glob '{a': unclosed alternate group; missing '}' (maybe escape '{' with '[{]'?)",
+    },
+    Refused {
+        words: &["--set"],
+        text: "--set takes a text",
+    },
+    Refused {
+        words: &["-n", "--set"],
+        text: "--set takes a text",
+    },
+    Refused {
+        words: &["a", "--set"],
+        text: "--set stands alone or beside -n",
+    },
+    Refused {
+        words: &["-i", "--set", "[]"],
+        text: "--set stands alone or beside -n",
+    },
+    Refused {
+        words: &["--set", "[]", "-x"],
+        text: "--set stands alone or beside -n",
+    },
+    Refused {
+        words: &["--set", "[", "-x"],
+        text: "--set stands alone or beside -n",
+    },
+    Refused {
+        words: &["--set", "[]", "-n", "--"],
+        text: "--set stands alone or beside -n",
+    },
+    Refused {
+        words: &["--set", "[]", "--set", "[]"],
+        text: "--set stands alone or beside -n",
+    },
+    Refused {
+        words: &["-x", "--set", "[]"],
+        text: "unknown option '-x'",
+    },
+    Refused {
+        words: &["[", "--set"],
+        text: "error parsing glob '[': unclosed character class; missing ']'",
+    },
+    Refused {
+        words: &["--set", "["],
+        text: "not a JSON text",
+    },
+    Refused {
+        words: &["--set", "--"],
+        text: "not a JSON text",
+    },
+    Refused {
+        words: &["--set", "-n"],
+        text: "not a JSON text",
+    },
+    Refused {
+        words: &["--set", "{}"],
+        text: "expected an array of glob patterns",
+    },
+    Refused {
+        words: &["--set", "[1.5]"],
+        text: "element 0: expected a glob pattern",
+    },
+    Refused {
+        words: &["--set", "[\"*.rs\", 7]"],
+        text: "element 1: expected a glob pattern",
+    },
+    Refused {
+        words: &["--set", "[\"a\",\"{\",\"[\"]"],
+        text: "element 1: error parsing glob '{': unclosed alternate group; missing '}' (maybe escape '{' with '[{]'?)",
     },
 ];
 

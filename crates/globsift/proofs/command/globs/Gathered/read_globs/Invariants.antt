@@ -1,6 +1,6 @@
 use Rattle.std.proofs.Common.{◌≡◌, drop, map, string_bytes}
 use Rattle.globsift.specs.Moves.{with_globs}
-use Rattle.globsift.proofs.command.Gathered.read_globs.Given as goal
+use Rattle.globsift.proofs.command.globs.Gathered.read_globs.Given as goal
 
 abbrev pub invariant-loop-word : goal.invariant-loop-word
 invariant-loop-word l =

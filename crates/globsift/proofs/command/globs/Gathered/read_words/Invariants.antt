@@ -1,7 +1,7 @@
 use Rattle.std.proofs.Common.{◌≡◌, ◌||◌, length, map, string_bytes}
 use Rattle.globsift.specs.Command.{is_numbered}
 use Rattle.globsift.specs.Moves.{with_words}
-use Rattle.globsift.proofs.command.Gathered.read_words.Given as goal
+use Rattle.globsift.proofs.command.globs.Gathered.read_words.Given as goal
 
 abbrev pub invariant-loop-rest : goal.invariant-loop-rest
 invariant-loop-rest l =

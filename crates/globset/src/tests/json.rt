@@ -1,0 +1,159 @@
+//! Globs and sets as JSON values.
+
+use super::read;
+use crate::{Glob, GlobSet, ValueError, ValueErrorKind};
+use serde_json::Value;
+use std::alloc::{AllocError, Global};
+use std::process::Abort;
+use std::test::Fail;
+
+/// Each line has a JSON text, `=>` and what reading it as a glob shows: the glob's text, or the error.
+const GLOBS: &str = r#""*.md" => *.md
+"" => 
+"src/**/*.rs" => src/**/*.rs
+"\u0041\\\"" => A\"
+"[" => error parsing glob '[': unclosed character class; missing ']'
+"a\\" => error parsing glob 'a\': dangling '\'
+7 => expected a glob pattern
+-7 => expected a glob pattern
+1.5 => expected a glob pattern
+1e300 => expected a glob pattern
+null => expected a glob pattern
+true => expected a glob pattern
+[] => expected a glob pattern
+["a"] => expected a glob pattern
+{"glob": "a"} => expected a glob pattern"#;
+
+#[test]
+fn globs(rt: HostRuntime) -> Result<(), Fail> {
+    for row in GLOBS.lines() {
+        let (text, want) = row.split_once(" => ").ok_or("a row")?;
+        let value = Value::from_str(rt.alloc(), text)?;
+        let have = shown_glob(rt.alloc(), &value)?;
+        assert_eq!(rt; have.as_str(), want, "{text}");
+    }
+    Ok(())
+}
+
+/// The text of the glob that a value is read as, or that of the error.
+fn shown_glob(alloc: Global, value: &Value) -> Result<String, AllocError> {
+    match Glob::from_value(alloc, value) {
+        Ok(glob) => String::from_str(alloc, glob.glob()),
+        Err(error) => error.to_string(alloc),
+    }
+}
+
+/// Each line has a JSON text, `=>` and what reading it as a set shows: how many globs it has, or the error.
+const SETS: &str = r#"[] => 0 globs
+["a"] => 1 globs
+["src/**/*.rs", "README.md", "a"] => 3 globs
+["*.rs", 7] => element 1: expected a glob pattern
+[1.5] => element 0: expected a glob pattern
+["a", "["] => element 1: error parsing glob '[': unclosed character class; missing ']'
+["a", null, "[", "b"] => element 1: expected a glob pattern
+["a", "[", null] => element 1: error parsing glob '[': unclosed character class; missing ']'
+[["a"]] => element 0: expected a glob pattern
+["a", "b", "c", "d", "e", "f", "g", "h", "i", "j", {}] => element 10: expected a glob pattern
+{} => expected an array of glob patterns
+{"a": "b"} => expected an array of glob patterns
+"a" => expected an array of glob patterns
+7 => expected an array of glob patterns
+false => expected an array of glob patterns
+null => expected an array of glob patterns"#;
+
+#[test]
+fn sets(rt: HostRuntime) -> Result<(), Fail> {
+    for row in SETS.lines() {
+        let (text, want) = row.split_once(" => ").ok_or("a row")?;
+        let value = Value::from_str(rt.alloc(), text)?;
+        let have = shown_set(rt.alloc(), &value)?;
+        assert_eq!(rt; have.as_str(), want, "{text}");
+    }
+    Ok(())
+}
+
+/// How many globs the set has that a value is read as, or the text of the error.
+fn shown_set(alloc: Global, value: &Value) -> Result<String, AllocError> {
+    match GlobSet::from_value(alloc, value) {
+        Ok(set) => format!(in alloc; "{} globs", set.len()),
+        Err(error) => error.to_string(alloc),
+    }
+}
+
+#[test]
+fn set_of_values_matches(rt: HostRuntime) -> Result<(), Fail> {
+    let alloc = rt.alloc();
+    let value = Value::from_str(alloc, r#"["src/**/*.rs", "README.md"]"#)?;
+    let set = GlobSet::from_value(alloc, &value)?;
+    assert!(rt; set.is_match("src/lib.rs")?);
+    assert!(rt; !set.is_match("Cargo.lock")?);
+    let indexes = set.matches(alloc, "README.md")?;
+    assert_eq!(rt; indexes.as_slice(), [1].as_slice());
+    Ok(())
+}
+
+#[test]
+fn written_and_read_back(rt: HostRuntime) -> Result<(), Fail> {
+    let alloc = rt.alloc();
+    let glob = Glob::new(alloc, "src/**/*.rs")?;
+    let value = glob.to_value()?;
+    let text = value.to_string(alloc)?;
+    assert_eq!(rt; text.as_str(), r#""src/**/*.rs""#);
+    let back = Glob::from_value(alloc, &Value::from_str(alloc, text.as_str())?)?;
+    assert!(rt; back == glob);
+    Ok(())
+}
+
+#[test]
+fn options_are_no_part_of_a_value(rt: HostRuntime) -> Result<(), Fail> {
+    let glob = read(rt.alloc(), "i: *.RS")?;
+    let back = Glob::from_value(rt.alloc(), &glob.to_value()?)?;
+    assert!(rt; back != glob);
+    assert!(rt; back == Glob::new(rt.alloc(), "*.RS")?);
+    Ok(())
+}
+
+/// The error of a JSON text that is no set.
+fn refused(alloc: Global, text: &str) -> Result<ValueError, Fail> {
+    let value = Value::from_str(alloc, text)?;
+    let Err(error) = GlobSet::from_value(alloc, &value) else {
+        return Err(Fail::from("read"));
+    };
+    Ok(error)
+}
+
+#[test]
+fn indexes_and_kinds(rt: HostRuntime) -> Result<(), Fail> {
+    let number = refused(rt.alloc(), r#"["*.rs", 7]"#)?;
+    assert_eq!(rt; number.index(), Some(1));
+    assert!(rt; *number.kind() == ValueErrorKind::NotText);
+    let object = refused(rt.alloc(), "{}")?;
+    assert_eq!(rt; object.index(), None);
+    assert!(rt; *object.kind() == ValueErrorKind::NotArray);
+    let glob = refused(rt.alloc(), r#"["a", "["]"#)?;
+    assert_eq!(rt; glob.index(), Some(1));
+    expect_kind(&rt, &glob)
+}
+
+/// The kind holds the error that the text `[` has by itself.
+fn expect_kind(rt: &impl Abort, error: &ValueError) -> Result<(), Fail> {
+    let ValueErrorKind::Glob(cause) = error.kind() else {
+        return Err(Fail::from("no glob"));
+    };
+    assert_eq!(rt; cause.glob(), Some("["));
+    Ok(())
+}
+
+#[test]
+fn equal_errors(rt: HostRuntime) -> Result<(), Fail> {
+    let error = refused(rt.alloc(), r#"["a", "["]"#)?;
+    assert!(rt; error == refused(rt.alloc(), r#"[ "b", "[" ]"#)?);
+    assert!(rt; error != refused(rt.alloc(), r#"["["]"#)?);
+    assert!(rt; error != refused(rt.alloc(), r#"["a", "{"]"#)?);
+    let shown = format!(in rt.alloc(); "{:?}", refused(rt.alloc(), "[7]")?)?;
+    assert_eq!(rt;
+        shown.as_str(),
+        "ValueError { index: Some(0), kind: NotText }"
+    );
+    Ok(())
+}
