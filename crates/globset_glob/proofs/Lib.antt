@@ -18,6 +18,7 @@ pub mod RowPasses
 pub mod Rules
 pub mod GroupUnions
 pub mod TokenLists
+pub mod KindEqualities
 pub mod KeptBranches
 pub mod WellFormed
 pub mod WellFormedReadings

@@ -5,8 +5,11 @@ use Rattle.std.specs.Str.{bytes_eq}
 use Rattle.globset_glob.specs.declared.options.Options.{Options}
 use Rattle.globset_glob.specs.declared.error.ErrorKind.{ErrorKind}
 use Rattle.globset_glob.specs.declared.error.ErrorKind.TheVariants as kinds
+use Rattle.globset_glob.specs.declared.value.error.ValueErrorKind.{ValueErrorKind}
+use Rattle.globset_glob.specs.declared.value.error.ValueErrorKind.TheVariants as causes
 use Rattle.globset_glob.specs.Means.{GlobValue}
 use Rattle.globset_glob.specs.Errors.{ErrorValue}
+use Rattle.globset_glob.specs.Values.{ValueErrorValue}
 
 -- each option has one value in both
 abbrev pub same_options : Options → Options → Bool
@@ -29,3 +32,12 @@ SameKind kind other = kind ≡ other
 -- Equality of errors: one text or none, and equal kinds.
 abbrev pub SameError : ErrorValue → ErrorValue → Type 0
 SameError e f = (e.glob ≡ f.glob) × SameKind e.kind f.kind
+
+-- Equality of kinds of errors of values: the same variant, with equal errors.
+abbrev pub SameValueKind : ValueErrorKind → ValueErrorKind → Type 0
+SameValueKind (causes.Glob e) (causes.Glob f) = SameError e f
+SameValueKind kind other = kind ≡ other
+
+-- Equality of errors of values: one index or none, and equal kinds.
+abbrev pub SameValueError : ValueErrorValue → ValueErrorValue → Type 0
+SameValueError e f = (e.index ≡ f.index) × SameValueKind e.kind f.kind

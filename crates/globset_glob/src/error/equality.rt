@@ -1,6 +1,6 @@
 //! When errors are equal, and copies of them.
 
-ghost use Rattle.std.specs.Prelude.{◌≡◌, IfOk, IfErr, IsTrue, string_bytes};
+ghost use Rattle.std.specs.Prelude.{◌≡◌, ◌↔◌, IfOk, IfErr, IsTrue, string_bytes};
 ghost use Rattle.std.specs.Str.{bytes_eq};
 ghost use Rattle.std.specs.Option.{option_eq};
 ghost use Rattle.std.specs.Ordering.{on, eq_of_both};
@@ -20,7 +20,11 @@ impl PartialEq for Error {
 
     ghost laws = { partial_equiv_from_equiv (and_equiv (on_equiv (λ e. e.glob) (options_equiv nat_list_eq_equiv)) (on_equiv (λ e. e.kind) laws-law)) };
 
-    fn eq(&self, other: &Error) -> bool {
+    #[tactic(auto, using(crate::proofs::KindEqualities::equal_errors))]
+    fn eq(&self, other: &Error) -> bool
+        ensures answer { result ≡ ⟦<Error as PartialEq>⟧.eq self.now other.now }
+        ensures fields { IsTrue result ↔ SameError self.now other.now }
+    {
         self.glob == other.glob && self.kind == other.kind
     }
 }

@@ -1,12 +1,13 @@
 //! Why a JSON value is refused.
 
-ghost use Rattle.std.specs.Prelude.{nat_eq};
+ghost use Rattle.std.specs.Prelude.{◌≡◌, ◌↔◌, IsTrue, nat_eq};
 ghost use Rattle.std.specs.Option.{option_eq};
 ghost use Rattle.std.specs.Ordering.{on, eq_of_both};
 ghost use Rattle.std.specs.Cmp.{partial_equiv_from_equiv};
 ghost use Rattle.std.specs.Cmp.Lexicographic.{options_equiv};
 ghost use Rattle.std.proofs.lemmas.Cmp.{and_equiv, on_equiv, nat_eq_equiv};
 ghost use Rattle.globset_glob.specs.contracts.value.error.ValueErrorKindEq.TheImpl.Laws.{laws-law};
+ghost use Rattle.globset_glob.specs.Equality.{SameValueError};
 
 use crate::error::{Error, ErrorKind};
 use std::alloc::{AllocError, AllocFailed};
@@ -63,7 +64,11 @@ impl PartialEq for ValueError {
 
     ghost laws = { partial_equiv_from_equiv (and_equiv (on_equiv (λ e. e.index) (options_equiv nat_eq_equiv)) (on_equiv (λ e. e.kind) laws-law)) };
 
-    fn eq(&self, other: &ValueError) -> bool {
+    #[tactic(auto, using(crate::proofs::KindEqualities::equal_value_errors))]
+    fn eq(&self, other: &ValueError) -> bool
+        ensures answer { result ≡ ⟦<ValueError as PartialEq>⟧.eq self.now other.now }
+        ensures fields { IsTrue result ↔ SameValueError self.now other.now }
+    {
         self.index == other.index && self.kind == other.kind
     }
 }
