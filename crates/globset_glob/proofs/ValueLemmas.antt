@@ -1,5 +1,5 @@
 -- A glob's value, read back.
-use Rattle.std.proofs.Common.{◌≡◌, List, ap, sym, ◌∙◌, refl, Result, Ok, Err}
+use Rattle.std.proofs.Common.{◌≡◌, ap, sym, ◌∙◌, refl, Result, Ok, Err}
 use Rattle.std.proofs.lemmas.Bool.{true≢false}
 use Rattle.std.specs.Prelude.{IsOk}
 use Rattle.std.specs.Str.{chars}
