@@ -1,9 +1,8 @@
 -- What a JSON value is read as, where a set is wanted.
 use Rattle.std.specs.Prelude.{ℕ, ◌+◌, List, [], ◌∷◌, Result, Ok, Err}
 use Rattle.serde_json.specs.Data.{Data, null, boolean, number, string, array, object, Items, no_items, item}
-use Rattle.globset_glob.specs.declared.value.error.ValueErrorKind.TheVariants.{NotArray}
 use Rattle.globset_glob.specs.Means.{GlobValue}
-use Rattle.globset_glob.specs.Values.{ValueErrorValue, of_kind, at_index, glob_of_value}
+use Rattle.globset_glob.specs.Values.{ValueErrorValue, not_array, at_index, glob_of_value}
 
 -- a glob, and behind it the globs of what follows, or the error there
 abbrev pub ahead_of : GlobValue → Result (List GlobValue) ValueErrorValue → Result (List GlobValue) ValueErrorValue
@@ -19,8 +18,8 @@ globs_from i (item value values) = elim (glob_of_value value) [ Ok g ↦ ahead_o
 -- What a value is read as: an array, as the globs of all its elements. No other value is a set.
 abbrev pub globs_of_value : Data → Result (List GlobValue) ValueErrorValue
 globs_of_value (array values) = globs_from 0 values
-globs_of_value null = Err (of_kind NotArray)
-globs_of_value (boolean b) = Err (of_kind NotArray)
-globs_of_value (number n) = Err (of_kind NotArray)
-globs_of_value (string text) = Err (of_kind NotArray)
-globs_of_value (object entries) = Err (of_kind NotArray)
+globs_of_value null = Err not_array
+globs_of_value (boolean b) = Err not_array
+globs_of_value (number n) = Err not_array
+globs_of_value (string text) = Err not_array
+globs_of_value (object entries) = Err not_array

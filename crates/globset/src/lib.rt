@@ -2,7 +2,7 @@
 //!
 //! A [`Glob`] is read from text by [`Glob::new`], or under options by [`GlobBuilder`]; its [`GlobMatcher`] tells which
 //! paths it means. A [`GlobSet`] tells which of many globs mean a path. [`escape`] makes of any text a glob that means it
-//! alone.
+//! alone. [`Glob::from_value`] and [`GlobSet::from_value`] read JSON values.
 #![tactic(auto)]
 
 mod builder;

@@ -1,6 +1,7 @@
 pub mod LastPlaces
 pub mod Equalities
 pub mod ValueLemmas
+pub mod ValueRows
 pub mod ListLemmas
 pub mod MarkLemmas
 pub mod TokenViews

@@ -17,6 +17,14 @@ pub record ValueErrorValue : Type 0 where
 abbrev pub of_kind : ValueErrorKind → ValueErrorValue
 of_kind kind = record { index = None; kind = kind }
 
+-- no text, where a glob is read
+abbrev pub not_text : ValueErrorValue
+not_text = of_kind kinds.NotText
+
+-- no array, where a set is read
+abbrev pub not_array : ValueErrorValue
+not_array = of_kind kinds.NotArray
+
 -- memory ran out: that is about no element
 abbrev pub value_out_of_memory : ValueErrorValue
 value_out_of_memory = of_kind (kinds.Glob out_of_memory)
@@ -34,11 +42,11 @@ of_text (Err e) = Err (of_kind (kinds.Glob e))
 -- No other value is a glob.
 abbrev pub glob_of_value : Data → Result GlobValue ValueErrorValue
 glob_of_value (string text) = of_text (glob_or_refusal (default_glob text))
-glob_of_value null = Err (of_kind kinds.NotText)
-glob_of_value (boolean b) = Err (of_kind kinds.NotText)
-glob_of_value (number n) = Err (of_kind kinds.NotText)
-glob_of_value (array values) = Err (of_kind kinds.NotText)
-glob_of_value (object entries) = Err (of_kind kinds.NotText)
+glob_of_value null = Err not_text
+glob_of_value (boolean b) = Err not_text
+glob_of_value (number n) = Err not_text
+glob_of_value (array values) = Err not_text
+glob_of_value (object entries) = Err not_text
 
 -- ---- elements
 

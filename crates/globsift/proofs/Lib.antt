@@ -3,3 +3,4 @@ mod LineLemmas
 mod MoveLemmas
 mod WordLemmas
 pub mod SetLemmas
+pub mod WordRows
