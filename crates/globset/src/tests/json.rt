@@ -1,10 +1,8 @@
 //! Globs and sets as JSON values.
 
-use super::read;
-use crate::{Glob, GlobSet, ValueError, ValueErrorKind};
+use crate::{Glob, GlobSet, ValueErrorKind};
 use serde_json::Value;
 use std::alloc::{AllocError, Global};
-use std::process::Abort;
 use std::test::Fail;
 
 /// Each line has a JSON text, `=>` and what reading it as a glob shows: the glob's text, or the error.
@@ -43,23 +41,23 @@ fn shown_glob(alloc: Global, value: &Value) -> Result<String, AllocError> {
     }
 }
 
-/// Each line has a JSON text, `=>` and what reading it as a set shows: how many globs it has, or the error.
+/// Each line has a JSON text, `=>` and what reading it as a set shows: how many globs it has, or the index and the error.
 const SETS: &str = r#"[] => 0 globs
 ["a"] => 1 globs
 ["src/**/*.rs", "README.md", "a"] => 3 globs
-["*.rs", 7] => element 1: expected a glob pattern
-[1.5] => element 0: expected a glob pattern
-["a", "["] => element 1: error parsing glob '[': unclosed character class; missing ']'
-["a", null, "[", "b"] => element 1: expected a glob pattern
-["a", "[", null] => element 1: error parsing glob '[': unclosed character class; missing ']'
-[["a"]] => element 0: expected a glob pattern
-["a", "b", "c", "d", "e", "f", "g", "h", "i", "j", {}] => element 10: expected a glob pattern
-{} => expected an array of glob patterns
-{"a": "b"} => expected an array of glob patterns
-"a" => expected an array of glob patterns
-7 => expected an array of glob patterns
-false => expected an array of glob patterns
-null => expected an array of glob patterns"#;
+["*.rs", 7] => Some(1) element 1: expected a glob pattern
+[1.5] => Some(0) element 0: expected a glob pattern
+["a", "["] => Some(1) element 1: error parsing glob '[': unclosed character class; missing ']'
+["a", null, "[", "b"] => Some(1) element 1: expected a glob pattern
+["a", "[", null] => Some(1) element 1: error parsing glob '[': unclosed character class; missing ']'
+[["a"]] => Some(0) element 0: expected a glob pattern
+["a", "b", "c", "d", "e", "f", "g", "h", "i", "j", {}] => Some(10) element 10: expected a glob pattern
+{} => None expected an array of glob patterns
+{"a": "b"} => None expected an array of glob patterns
+"a" => None expected an array of glob patterns
+7 => None expected an array of glob patterns
+false => None expected an array of glob patterns
+null => None expected an array of glob patterns"#;
 
 #[test]
 fn sets(rt: HostRuntime) -> Result<(), Fail> {
@@ -72,11 +70,11 @@ fn sets(rt: HostRuntime) -> Result<(), Fail> {
     Ok(())
 }
 
-/// How many globs the set has that a value is read as, or the text of the error.
+/// How many globs the set has that a value is read as, or the index of the error and its text.
 fn shown_set(alloc: Global, value: &Value) -> Result<String, AllocError> {
     match GlobSet::from_value(alloc, value) {
         Ok(set) => format!(in alloc; "{} globs", set.len()),
-        Err(error) => error.to_string(alloc),
+        Err(error) => format!(in alloc; "{:?} {error}", error.index()),
     }
 }
 
@@ -105,55 +103,15 @@ fn written_and_read_back(rt: HostRuntime) -> Result<(), Fail> {
 }
 
 #[test]
-fn options_are_no_part_of_a_value(rt: HostRuntime) -> Result<(), Fail> {
-    let glob = read(rt.alloc(), "i: *.RS")?;
-    let back = Glob::from_value(rt.alloc(), &glob.to_value()?)?;
-    assert!(rt; back != glob);
-    assert!(rt; back == Glob::new(rt.alloc(), "*.RS")?);
-    Ok(())
-}
-
-/// The error of a JSON text that is no set.
-fn refused(alloc: Global, text: &str) -> Result<ValueError, Fail> {
-    let value = Value::from_str(alloc, text)?;
-    let Err(error) = GlobSet::from_value(alloc, &value) else {
+fn shown_error(rt: HostRuntime) -> Result<(), Fail> {
+    let Err(error) = GlobSet::from_value(rt.alloc(), &Value::Null) else {
         return Err(Fail::from("read"));
     };
-    Ok(error)
-}
-
-#[test]
-fn indexes_and_kinds(rt: HostRuntime) -> Result<(), Fail> {
-    let number = refused(rt.alloc(), r#"["*.rs", 7]"#)?;
-    assert_eq!(rt; number.index(), Some(1));
-    assert!(rt; *number.kind() == ValueErrorKind::NotText);
-    let object = refused(rt.alloc(), "{}")?;
-    assert_eq!(rt; object.index(), None);
-    assert!(rt; *object.kind() == ValueErrorKind::NotArray);
-    let glob = refused(rt.alloc(), r#"["a", "["]"#)?;
-    assert_eq!(rt; glob.index(), Some(1));
-    expect_kind(&rt, &glob)
-}
-
-/// The kind holds the error that the text `[` has by itself.
-fn expect_kind(rt: &impl Abort, error: &ValueError) -> Result<(), Fail> {
-    let ValueErrorKind::Glob(cause) = error.kind() else {
-        return Err(Fail::from("no glob"));
-    };
-    assert_eq!(rt; cause.glob(), Some("["));
-    Ok(())
-}
-
-#[test]
-fn equal_errors(rt: HostRuntime) -> Result<(), Fail> {
-    let error = refused(rt.alloc(), r#"["a", "["]"#)?;
-    assert!(rt; error == refused(rt.alloc(), r#"[ "b", "[" ]"#)?);
-    assert!(rt; error != refused(rt.alloc(), r#"["["]"#)?);
-    assert!(rt; error != refused(rt.alloc(), r#"["a", "{"]"#)?);
-    let shown = format!(in rt.alloc(); "{:?}", refused(rt.alloc(), "[7]")?)?;
+    assert!(rt; *error.kind() == ValueErrorKind::NotArray);
+    let shown = format!(in rt.alloc(); "{error:?}")?;
     assert_eq!(rt;
         shown.as_str(),
-        "ValueError { index: Some(0), kind: NotText }"
+        "ValueError { index: None, kind: NotArray }"
     );
     Ok(())
 }
