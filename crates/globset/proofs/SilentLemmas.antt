@@ -1,17 +1,14 @@
 -- Which globs are silent, by their tokens.
-use Rattle.std.proofs.Common.{◌≡◌, ◌<◌, ◌≤◌, List, [], ◌∷◌, length, get_or, Bool, true, false, not, ◌&&◌, Ok, refl, ap, sym, ◌∙◌, arith}
-use Rattle.std.specs.Str.{chars}
-use Rattle.globset_glob.specs.declared.token.Token as held
+use Rattle.std.proofs.Common.{◌≡◌, ◌<◌, ◌≤◌, List, [], ◌∷◌, length, get_or, Bool, true, false, not, ◌&&◌, refl, ap, sym, ◌∙◌, arith}
+use Rattle.glob_syntax.specs.declared.token.Token as held
 use Rattle.globset_glob.specs.Token.{Tokens}
-use Rattle.globset_glob.specs.Reading.{reading}
-use Rattle.globset_glob.specs.Means.{GlobValue, is_prefix}
+use Rattle.globset_glob.specs.Means.{GlobValue, is_prefix, tokens_of_glob}
 use Rattle.globset_glob.specs.Views.{token_of, tokens_of}
-use Rattle.globset_glob.proofs.GlobLemmas.{tokens_are}
 use Rattle.globset.specs.Silent.{silent, is_dot, is_prefix_dot_dot}
 
-silent_is : (g : GlobValue) (ts : Tokens) → reading g.options (chars g.text) ≡ Ok ts → (not g.options.case_insensitive && is_prefix_dot_dot ts) ≡ silent g
+silent_is : (g : GlobValue) (ts : Tokens) → tokens_of_glob g ≡ ts → (not g.options.case_insensitive && is_prefix_dot_dot ts) ≡ silent g
 unfolding silent
-silent_is g ts h = ap (λ us. not g.options.case_insensitive && is_prefix_dot_dot us) (sym (tokens_are g ts h))
+silent_is g ts h = ap (λ us. not g.options.case_insensitive && is_prefix_dot_dot us) (sym h)
 
 -- no glob that is case-insensitive
 pub not_folded : (g : GlobValue) → g.options.case_insensitive ≡ true → false ≡ silent g
@@ -23,11 +20,11 @@ never true c h = sym h
 never false c h = refl
 
 -- no glob of other tokens
-pub not_other : (g : GlobValue) (ts : Tokens) → reading g.options (chars g.text) ≡ Ok ts → is_prefix_dot_dot ts ≡ false → false ≡ silent g
+pub not_other : (g : GlobValue) (ts : Tokens) → tokens_of_glob g ≡ ts → is_prefix_dot_dot ts ≡ false → false ≡ silent g
 not_other g ts h e = never (not g.options.case_insensitive) (is_prefix_dot_dot ts) e ∙ silent_is g ts h
 
 -- a glob that is case-sensitive goes by its tokens
-pub by_tokens : (g : GlobValue) (ts : Tokens) → reading g.options (chars g.text) ≡ Ok ts → g.options.case_insensitive ≡ false → is_prefix_dot_dot ts ≡ silent g
+pub by_tokens : (g : GlobValue) (ts : Tokens) → tokens_of_glob g ≡ ts → g.options.case_insensitive ≡ false → is_prefix_dot_dot ts ≡ silent g
 by_tokens g ts h e = ap (λ b. not b && is_prefix_dot_dot ts) (sym e) ∙ silent_is g ts h
 
 -- ---- tokens in a program

@@ -6,9 +6,9 @@ use Rattle.std.specs.Str.{chars}
 use Rattle.serde_json.specs.Data.{Data, null, boolean, number, string, array, object}
 use Rattle.serde_json.specs.View.{view, items_view}
 use Rattle.serde_json.specs.declared.value.Value.{Value}
-use Rattle.globset_glob.specs.declared.fault.Fault.{Fault}
-use Rattle.globset_glob.specs.declared.fault.Fault.TheVariants as faults
-use Rattle.globset_glob.specs.declared.value.error.ValueErrorKind.TheVariants.{Glob}
+use Rattle.glob_syntax.specs.declared.fault.Fault.{Fault}
+use Rattle.glob_syntax.specs.declared.fault.Fault.TheVariants as faults
+use Rattle.globset_glob.specs.declared.json.error.ValueErrorKind.TheVariants.{Glob}
 use Rattle.globset_glob.specs.Errors.{refusal}
 use Rattle.globset_glob.specs.Means.{GlobValue, default_glob, default_options}
 use Rattle.globset_glob.specs.Reading.{reading}

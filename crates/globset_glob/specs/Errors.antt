@@ -2,11 +2,11 @@
 use Rattle.std.specs.Prelude.{◌≡◌, ℕ, List, ◌++◌, Option, Some, None, encode_utf8, codes, string_bytes, ◌⊎◌, Result, Ok, Err}
 use Rattle.globset_glob.specs.declared.error.ErrorKind.{ErrorKind}
 use Rattle.globset_glob.specs.declared.error.ErrorKind.TheVariants as kinds
-use Rattle.globset_glob.specs.declared.fault.Fault.{Fault}
-use Rattle.globset_glob.specs.declared.fault.Fault.TheVariants as faults
-use Rattle.globset_glob.specs.declared.options.Options.{Options}
+use Rattle.glob_syntax.specs.declared.fault.Fault.{Fault}
+use Rattle.glob_syntax.specs.declared.fault.Fault.TheVariants as faults
+use Rattle.glob_syntax.specs.declared.options.Options.{Options}
 use Rattle.globset_glob.specs.Means.{GlobValue}
-use Rattle.globset_glob.specs.Reading.{HasFault, reading}
+use Rattle.glob_syntax.specs.Reading.{HasFault, reading}
 use Rattle.std.specs.Str.{chars}
 
 -- An error as contracts see it: the text that was refused, where one is held, and why.

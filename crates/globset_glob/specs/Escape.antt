@@ -2,7 +2,7 @@
 use Rattle.std.specs.Prelude.{◌≡◌, ◌↔◌, ℕ, ◌==◌, List, [], ◌∷◌, Bool, false, ◌||◌, not, if◌then◌else◌, IsTrue, encode_utf8_all}
 use Rattle.std.specs.List.{flat_map, list_all}
 use Rattle.std.specs.Str.{chars}
-use Rattle.globset_glob.specs.declared.options.Options.{Options}
+use Rattle.glob_syntax.specs.declared.options.Options.{Options}
 use Rattle.globset_glob.specs.Means.{GlobValue, default_options, IsRead, glob_means}
 
 -- `?`, `*`, `[`, `]`, `{` and `}`

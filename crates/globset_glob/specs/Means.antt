@@ -1,9 +1,9 @@
 -- What a glob means: which paths, each a list of bytes.
 use Rattle.std.specs.Prelude.{ℕ, Bool, true, false, ◌||◌, List, Ok, Err, IsOk}
 use Rattle.std.specs.Str.{chars}
-use Rattle.globset_glob.specs.declared.options.Options.{Options}
-use Rattle.globset_glob.specs.Token.{Token, RecursivePrefix, Literal, Any, ZeroOrMore, RecursiveSuffix, RecursiveZeroOrMore, Class, Group, Tokens, end, and_then}
-use Rattle.globset_glob.specs.Reading.{reading}
+use Rattle.glob_syntax.specs.declared.options.Options.{Options}
+use Rattle.glob_syntax.specs.Token.{Token, RecursivePrefix, Literal, Any, ZeroOrMore, RecursiveSuffix, RecursiveZeroOrMore, Class, Group, Tokens, end, and_then}
+use Rattle.glob_syntax.specs.Reading.{reading}
 use Rattle.globset_glob.specs.Takes.{takes_all}
 
 -- A glob as contracts see it: its text, in UTF-8, and its options.

@@ -1,9 +1,9 @@
 -- The text that a glob has as a regular expression. It is a list of bytes, all of them ASCII characters.
 use Rattle.std.specs.Prelude.{ℕ, ◌+◌, ◌/◌, ◌%◌, Bool, true, false, ◌==◌, nat_lt, List, [], ◌∷◌, ◌++◌, if◌then◌else◌, encode_utf8, codes}
-use Rattle.globset_glob.specs.declared.options.Options.{Options}
-use Rattle.globset_glob.specs.Token.{Token, Literal, Any, ZeroOrMore, RecursivePrefix, RecursiveSuffix, RecursiveZeroOrMore, Class, Group, Tokens, end, and_then, Branches, none, branch}
+use Rattle.glob_syntax.specs.declared.options.Options.{Options}
+use Rattle.glob_syntax.specs.Token.{Token, Literal, Any, ZeroOrMore, RecursivePrefix, RecursiveSuffix, RecursiveZeroOrMore, Class, Group, Tokens, end, and_then, Branches, none, branch}
 use Rattle.globset_glob.specs.Blank.{is_kept}
-use Rattle.globset_glob.specs.ClassBytes.{is_one_of}
+use Rattle.glob_syntax.specs.ClassBytes.{is_one_of}
 use Rattle.globset_glob.specs.Means.{is_prefix_alone}
 
 -- ---- characters

@@ -3,8 +3,8 @@ use Rattle.std.specs.Prelude.{◌≡◌, ◌⊎◌, ℕ, List, ◌++◌, Bool, t
 use Rattle.serde_json.specs.Data.{Data, null, boolean, number, string, array, object}
 use Rattle.globset_glob.specs.declared.error.ErrorKind.{ErrorKind}
 use Rattle.globset_glob.specs.declared.error.ErrorKind.TheVariants as causes
-use Rattle.globset_glob.specs.declared.value.error.ValueErrorKind.{ValueErrorKind}
-use Rattle.globset_glob.specs.declared.value.error.ValueErrorKind.TheVariants as kinds
+use Rattle.globset_glob.specs.declared.json.error.ValueErrorKind.{ValueErrorKind}
+use Rattle.globset_glob.specs.declared.json.error.ValueErrorKind.TheVariants as kinds
 use Rattle.globset_glob.specs.Errors.{ErrorValue, out_of_memory, error_text, glob_or_refusal}
 use Rattle.globset_glob.specs.Means.{GlobValue, default_glob}
 

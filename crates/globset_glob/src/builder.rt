@@ -5,7 +5,7 @@ ghost use Rattle.globset_glob.specs.Errors.{IsRefusalOf};
 
 use crate::error::Error;
 use crate::glob::Glob;
-use crate::options::Options;
+use glob_syntax::Options;
 use std::alloc::{AllocError, Global};
 use std::marker::Model;
 

@@ -2,7 +2,7 @@
 
 mod equality;
 
-use crate::fault::Fault;
+use glob_syntax::Fault;
 use std::alloc::{AllocError, AllocFailed, Global};
 use std::fmt;
 use std::marker::Model;

@@ -7,13 +7,9 @@ mod equality;
 
 use crate::builder::GlobBuilder;
 use crate::error::Error;
-use crate::fault::ReadError;
-use crate::matcher::GlobMatcher;
-use crate::options::Options;
+use crate::matching::matcher::GlobMatcher;
 use crate::regex_text::regex_text;
-use crate::token::Token;
-use crate::token::copy::copy_of;
-use crate::token::reader::read_tokens;
+use glob_syntax::{Options, ReadError, Token, copy_of, read_tokens};
 use std::alloc::Global;
 use std::fmt;
 use std::marker::Model;
@@ -33,10 +29,11 @@ impl Model for Glob {
     ghost use Rattle.std.specs.Prelude.{◌≡◌, ◌≤◌, ◌*◌, Ok, length, string_bytes};
     ghost use Rattle.std.specs.Str.{chars};
     ghost use Rattle.globset_glob.specs.Means.{GlobValue};
-    ghost use Rattle.globset_glob.specs.Reading.{reading};
+    ghost use Rattle.glob_syntax.specs.Reading.{reading};
     ghost use Rattle.globset_glob.specs.RegexText.{regex_text};
-    ghost use Rattle.globset_glob.specs.Views.{tokens_of};
-    ghost use Rattle.globset_glob.specs.Weight.{weight};
+    ghost use Rattle.glob_syntax.specs.Views.{tokens_of};
+    ghost use Rattle.glob_syntax.specs.inner.Weight.{weight};
+    ghost use Rattle.glob_syntax.specs.inner.WellFormed.{AreWellFormed};
 
     ghost Value = { GlobValue };
 
@@ -44,6 +41,7 @@ impl Model for Glob {
 
     ghost invariant = { λ g. record {
       read : reading g.options (chars (string_bytes g.text)) ≡ Ok (tokens_of g.tokens.items);
+      well_formed : AreWellFormed (tokens_of g.tokens.items);
       weight : weight (tokens_of g.tokens.items) ≤ 4 * length (string_bytes g.text);
       regex : string_bytes g.regex ≡ regex_text g.options (tokens_of g.tokens.items);
     } };
@@ -128,9 +126,9 @@ impl Glob {
 impl Glob {
     ghost use Rattle.std.specs.Str.{chars};
     ghost use Rattle.globset_glob.specs.Means.{IsRead};
-    ghost use Rattle.globset_glob.specs.Reading.{reading};
-    ghost use Rattle.globset_glob.specs.Views.{tokens_of};
-    ghost use Rattle.globset_glob.specs.Weight.{weight};
+    ghost use Rattle.glob_syntax.specs.Reading.{reading};
+    ghost use Rattle.glob_syntax.specs.Views.{tokens_of};
+    ghost use Rattle.glob_syntax.specs.inner.Weight.{weight};
 
     /// Reads a text under these options.
     pub(crate) fn read(alloc: Global, options: Options, text: &str) -> Result<Glob, Error>

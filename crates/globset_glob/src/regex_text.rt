@@ -1,16 +1,14 @@
 //! The text that a glob has as a regular expression.
 
 ghost use Rattle.std.specs.Prelude.{◌≡◌, ◌<◌, ◌++◌, [], ◌∷◌, ◌||◌, not, List, ℕ, IfOk, OnOk, string_bytes};
-ghost use Rattle.globset_glob.specs.Token.{Group};
+ghost use Rattle.glob_syntax.specs.Token.{Group};
 ghost use Rattle.globset_glob.specs.Blank.{is_kept, is_blank_token};
 ghost use Rattle.globset_glob.specs.Means.{is_prefix_alone};
-ghost use Rattle.globset_glob.specs.Views.{token_of, tokens_of, branches_of};
+ghost use Rattle.glob_syntax.specs.Views.{token_of, tokens_of, branches_of};
 ghost use Rattle.globset_glob.specs.RegexText.{is_escaped, hexadecimal_digit, byte_text, bytes_text, char_text, range_text, ranges_text, class_text, with_text, token_text, tokens_text, flags_text, body_text, regex_text};
-ghost use Rattle.globset_glob.specs.RegexWriting.{rest_text};
+ghost use Rattle.globset_glob.specs.inner.RegexWriting.{rest_text};
 
-use crate::class::{Class, is_byte_of};
-use crate::options::Options;
-use crate::token::Token;
+use glob_syntax::{Class, Options, Token};
 use std::alloc::{AllocError, Global};
 
 /// The text of a glob's tokens. It takes time linear in the tokens.
@@ -199,7 +197,7 @@ const ESCAPED: &[u8] = b"\\.+*?()|[]{}^$#&-~";
 fn is_escaped(byte: u8) -> bool
     ensures { result ≡ is_escaped byte }
 {
-    is_byte_of(ESCAPED, byte)
+    ESCAPED.iter().any(|escaped| byte == *escaped)
 }
 
 /// The digit of a number below 16, `0` to `9` or `a` to `f`.

@@ -25,7 +25,7 @@ impl Model for Visits {
 
     ghost Value = { ℕ };
 
-    ghost use Rattle.globset_glob.specs.Ticks.{count};
+    ghost use Rattle.globset_glob.specs.inner.Ticks.{count};
 
     ghost view = { λ v. count v.ticks.value };
 }

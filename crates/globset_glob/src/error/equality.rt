@@ -20,7 +20,7 @@ impl PartialEq for Error {
 
     ghost laws = { partial_equiv_from_equiv (and_equiv (on_equiv (λ e. e.glob) (options_equiv nat_list_eq_equiv)) (on_equiv (λ e. e.kind) laws-law)) };
 
-    #[tactic(auto, using(crate::proofs::KindEqualities::equal_errors))]
+    #[tactic(auto, using(crate::proofs::lemmas::KindEqualities::equal_errors))]
     fn eq(&self, other: &Error) -> bool
         ensures answer { result ≡ ⟦<Error as PartialEq>⟧.eq self.now other.now }
         ensures fields { IsTrue result ↔ SameError self.now other.now }

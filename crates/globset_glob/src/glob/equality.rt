@@ -7,12 +7,12 @@ ghost use Rattle.std.specs.Hash as fed;
 ghost use Rattle.std.specs.Fmt.{styled_text};
 ghost use Rattle.std.specs.Cmp.{partial_equiv_from_equiv};
 ghost use Rattle.std.proofs.lemmas.Cmp.{and_equiv, on_equiv, nat_list_eq_equiv};
-ghost use Rattle.globset_glob.specs.contracts.options.OptionsEq.TheImpl.Laws.{laws-law};
+ghost use Rattle.glob_syntax.specs.contracts.options.OptionsEq.TheImpl.Laws.{laws-law};
 ghost use Rattle.globset_glob.specs.Equality.{same_glob};
 ghost use Rattle.globset_glob.specs.Means.{tokens_of_glob, glob_means};
 
 use crate::glob::Glob;
-use crate::options::Options;
+use glob_syntax::Options;
 use std::fmt;
 use std::hash::{Hash, Hasher};
 
@@ -23,7 +23,7 @@ impl PartialEq for Glob {
 
     ghost laws = { partial_equiv_from_equiv (and_equiv (on_equiv (λ g. g.text) nat_list_eq_equiv) (on_equiv (λ g. g.options) laws-law)) };
 
-    #[tactic(auto, using(crate::proofs::Equalities::equal_globs))]
+    #[tactic(auto, using(crate::proofs::lemmas::Equalities::equal_globs))]
     fn eq(&self, other: &Glob) -> bool
         ensures answer { result ≡ same_glob self.now other.now }
         ensures fields { IsTrue result ↔ (self.now ≡ other.now) }

@@ -6,7 +6,7 @@ ghost use Rattle.globset_glob.specs.PathParts.{last_place, last_part, basename_o
 use bstr::ByteSlice;
 
 /// The place of the last such byte. It looks at each byte at most once.
-#[tactic(auto, using(crate::proofs::LastPlaces::last_place_found))]
+#[tactic(auto, using(crate::proofs::lemmas::LastPositions::last_place_found))]
 fn last_place(bytes: &[u8], byte: u8) -> Option<usize>
     ensures place { result ≡ last_place (λ b. b == byte) bytes.now }
     ensures bound { IfSome result (λ k. k < length bytes.now) }
@@ -15,7 +15,7 @@ fn last_place(bytes: &[u8], byte: u8) -> Option<usize>
 }
 
 /// What follows the last `/` of a path, or the whole path where it has none.
-#[tactic(auto, using(crate::proofs::LastPlaces::take_rest))]
+#[tactic(auto, using(crate::proofs::lemmas::LastPositions::take_rest))]
 fn last_part(path: &[u8]) -> &[u8]
     ensures { result.now ≡ last_part path.now }
 {
@@ -38,7 +38,7 @@ pub fn basename(path: &[u8]) -> &[u8]
 }
 
 /// What of a basename begins with its last `.`, or nothing where it has none.
-#[tactic(auto, using(crate::proofs::LastPlaces::take_rest))]
+#[tactic(auto, using(crate::proofs::lemmas::LastPositions::take_rest))]
 pub fn extension(name: &[u8]) -> &[u8]
     ensures { result.now ≡ extension_in name.now }
 {

@@ -10,17 +10,17 @@ pub returns-then-options_of : goal.returns-then-options_of
 returns-then-options_of c = not_folded c.args.glob.now (rw (← c.options_of.ensures) c.if-options_of.true)
 
 pub returns-in_default : goal.returns-in_default
-returns-in_default c = not_other _ _ c.tokens_of.ensures (too_few c.tokens_of.result.now c.in_default.len_below)
+returns-in_default c = not_other _ _ c.tokens_of.ensures.tokens (too_few c.tokens_of.result.now c.in_default.len_below)
 
 pub returns-in_default-2 : goal.returns-in_default-2
-returns-in_default-2 c = not_other _ _ c.tokens_of.ensures (too_many c.tokens_of.result.now c.in_default.len_at_least)
+returns-in_default-2 c = not_other _ _ c.tokens_of.ensures.tokens (too_many c.tokens_of.result.now c.in_default.len_at_least)
 
 pub returns-then-is_dot : goal.returns-then-is_dot
 returns-then-is_dot c =
     let ts = c.tokens_of.result.now in
     let p = is_prefix (token_of c.first-item.result) in let q = is_dot (token_of c.second-item.result) in let r = is_dot (token_of c.third-item.result) in
     let tests : (p && (q && r)) ≡ is_prefix_dot_dot (tokens_of ts) = of_three ts _ _ _ (omega arith) c.first-item.is c.second-item.is c.third-item.is in
-    let told : is_prefix_dot_dot (tokens_of ts) ≡ silent c.args.glob.now = by_tokens _ _ c.tokens_of.ensures (rw (← c.options_of.ensures) c.if-options_of.false) in
+    let told : is_prefix_dot_dot (tokens_of ts) ≡ silent c.args.glob.now = by_tokens _ _ c.tokens_of.ensures.tokens (rw (← c.options_of.ensures) c.if-options_of.false) in
     elim c.if-is_recursive_prefix.branch [
       | then-is_recursive_prefix w ↦
           c.is_dot-then-is_dot.ensures ∙ first_two_hold p q r (sym c.is_recursive_prefix.ensures ∙ w.if-is_recursive_prefix.true) (sym w.is_dot.ensures ∙ sym w.value-is ∙ c.if-is_dot.true) ∙ tests ∙ told
@@ -32,7 +32,7 @@ returns-else-is_dot c =
     let ts = c.tokens_of.result.now in
     let p = is_prefix (token_of c.first-item.result) in let q = is_dot (token_of c.second-item.result) in let r = is_dot (token_of c.third-item.result) in
     let tests : (p && (q && r)) ≡ is_prefix_dot_dot (tokens_of ts) = of_three ts _ _ _ (omega arith) c.first-item.is c.second-item.is c.third-item.is in
-    let told : is_prefix_dot_dot (tokens_of ts) ≡ silent c.args.glob.now = by_tokens _ _ c.tokens_of.ensures (rw (← c.options_of.ensures) c.if-options_of.false) in
+    let told : is_prefix_dot_dot (tokens_of ts) ≡ silent c.args.glob.now = by_tokens _ _ c.tokens_of.ensures.tokens (rw (← c.options_of.ensures) c.if-options_of.false) in
     c.if-is_dot.false ∙ elim c.if-is_recursive_prefix.branch [
       | then-is_recursive_prefix w ↦ second_fails p q r (sym w.is_dot.ensures ∙ sym w.value-is ∙ c.if-is_dot.false)
       | else-is_recursive_prefix w ↦ first_fails p q r (sym c.is_recursive_prefix.ensures ∙ w.if-is_recursive_prefix.false)

@@ -4,7 +4,7 @@ use Rattle.std.proofs.lemmas.Iterator.{YieldsList-from_chars}
 use Rattle.std.proofs.lemmas.Iterator.Consumers.{YieldsList-end}
 use Rattle.std.proofs.lemmas.Str.{encodes-append}
 use Rattle.globset_glob.specs.Escape.{escaped_chars}
-use Rattle.globset_glob.proofs.EscapeMeaning.{means_only_by_default, means_only_plain}
+use Rattle.globset_glob.proofs.lemmas.EscapeMeaning.{means_only_by_default, means_only_plain}
 use Rattle.globset_glob.proofs.escaping.escape.Goals as goal
 
 pub loop-c-preserved : goal.loop-c-preserved

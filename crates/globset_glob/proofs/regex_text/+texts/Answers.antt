@@ -1,11 +1,11 @@
 use Rattle.std.proofs.Common.{◌≡◌, ℕ, ◌||◌, not, sym, ap, ◌∙◌, arith}
-use Rattle.globset_glob.specs.Token.{Group}
+use Rattle.glob_syntax.specs.Token.{Group}
 use Rattle.globset_glob.specs.Blank.{any_kept}
-use Rattle.globset_glob.specs.Views.{token_of, branches_of}
-use Rattle.globset_glob.proofs.Booleans.{or_none}
-use Rattle.globset_glob.proofs.TokenViews.{group_is}
-use Rattle.globset_glob.proofs.TokenLists.{tokens_past, branches_past}
-use Rattle.globset_glob.proofs.KeptBranches.{any_kept_is, kept_at_end}
+use Rattle.glob_syntax.specs.Views.{token_of, branches_of}
+use Rattle.globset_glob.proofs.lemmas.Booleans.{or_none}
+use Rattle.glob_syntax.proofs.lemmas.TokenViews.{group_is}
+use Rattle.globset_glob.proofs.lemmas.TokenLists.{tokens_past, branches_past}
+use Rattle.globset_glob.proofs.lemmas.KeptBranches.{any_kept_is, kept_at_end}
 use Rattle.globset_glob.proofs.regex_text.+texts.Goals as goal
 
 is_group : (t : ℕ) (c : goal.push_token-After-push_group t) → token_of c.args.token.now ≡ Group (branches_of c.deref.result.now)

@@ -1,10 +1,10 @@
 use Rattle.std.proofs.Common.{◌≡◌, ◌+◌, ◌*◌, ◌++◌, ◌||◌, not, drop}
 use Rattle.std.specs.Prelude.{string_bytes}
-use Rattle.globset_glob.specs.Token.{Group}
+use Rattle.glob_syntax.specs.Token.{Group}
 use Rattle.globset_glob.specs.Blank.{is_kept, any_kept}
-use Rattle.globset_glob.specs.Views.{tokens_of, branches_of}
+use Rattle.glob_syntax.specs.Views.{tokens_of, branches_of}
 use Rattle.globset_glob.specs.RegexText.{token_text, tokens_text, kept_texts}
-use Rattle.globset_glob.specs.RegexWriting.{rest_text}
+use Rattle.globset_glob.specs.inner.RegexWriting.{rest_text}
 use Rattle.globset_glob.proofs.regex_text.+texts.Given as goal
 
 -- the text so far, and that of the branches that are left; whether a branch was kept, or will be

@@ -1,4 +1,4 @@
-use Rattle.globset_glob.proofs.TokenLists.{more_than_one}
+use Rattle.globset_glob.proofs.lemmas.TokenLists.{more_than_one}
 use Rattle.globset_glob.proofs.regex_text.is_prefix_alone.Goals as goal
 
 pub returns-in_default-3 : goal.returns-in_default-3

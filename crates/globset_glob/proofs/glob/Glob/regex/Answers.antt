@@ -1,26 +1,25 @@
 use Rattle.std.proofs.Common.{◌≡◌, ℕ, List, Ok, ap, sym, ◌∙◌, subst}
-use Rattle.std.specs.Str.{IsUtf8, chars}
-use Rattle.std.proofs.lemmas.Str.{IsUtf8-string_bytes, scalars-chars}
-use Rattle.globset_glob.specs.Token.{Tokens}
-use Rattle.globset_glob.specs.Reading.{reading}
+use Rattle.std.specs.Str.{chars}
+use Rattle.glob_syntax.specs.Token.{Tokens}
+use Rattle.glob_syntax.specs.Reading.{reading}
 use Rattle.globset_glob.specs.Means.{GlobValue, means, tokens_of_glob, glob_means}
 use Rattle.globset_glob.specs.RegexText.{regex_text}
 use Rattle.globset_glob.specs.RegexDenotes.{HasExpression}
-use Rattle.globset_glob.specs.Views.{tokens_of}
-use Rattle.globset_glob.proofs.GlobLemmas.{tokens_are}
-use Rattle.globset_glob.proofs.WellFormedReadings.{reads_well}
-use Rattle.globset_glob.proofs.Expressions.{regex_has}
+use Rattle.glob_syntax.specs.Views.{tokens_of}
+use Rattle.glob_syntax.specs.inner.WellFormed.{AreWellFormed}
+use Rattle.globset_glob.proofs.lemmas.Globs.{tokens_are}
+use Rattle.globset_glob.proofs.lemmas.Expressions.{regex_has}
 use Rattle.globset_glob.proofs.glob.Glob.regex.Goals as goal
 
 text_is : (g : GlobValue) (ts : Tokens) (text : List ℕ) → reading g.options (chars g.text) ≡ Ok ts → text ≡ regex_text g.options ts → text ≡ regex_text g.options (tokens_of_glob g)
 text_is g ts text read is = is ∙ ap (regex_text g.options) (sym (tokens_are g ts read))
 
 -- the text of a glob denotes what the glob means
-has_expression : (g : GlobValue) (ts : Tokens) (text : List ℕ) → IsUtf8 g.text → reading g.options (chars g.text) ≡ Ok ts → text ≡ regex_text g.options ts → HasExpression (glob_means g) text
+has_expression : (g : GlobValue) (ts : Tokens) (text : List ℕ) → AreWellFormed ts → reading g.options (chars g.text) ≡ Ok ts → text ≡ regex_text g.options ts → HasExpression (glob_means g) text
 unfolding glob_means
-has_expression g ts text utf8 read is =
+has_expression g ts text formed read is =
     subst (λ us. HasExpression (means g.options us) text) (sym (tokens_are g ts read))
-    (subst (HasExpression (means g.options ts)) (sym is) (regex_has g.options ts (reads_well g.options (chars g.text) ts (scalars-chars g.text utf8) read)))
+    (subst (HasExpression (means g.options ts)) (sym is) (regex_has g.options ts formed))
 
 pub returns-clause-text : goal.returns-clause-text
 returns-clause-text c =
@@ -31,4 +30,4 @@ pub returns-clause-denotes : goal.returns-clause-denotes
 returns-clause-denotes c =
     let inv = c.self.invariant in
     has_expression c.args.self.now (tokens_of c.self.inside.tokens.items) c.as_str.result.now
-    (rw (← c.self.view_is) (IsUtf8-string_bytes c.self.inside.text)) (rw (← c.self.view_is) inv.read) (rw (← c.self.view_is) (c.as_str.ensures.value ∙ inv.regex))
+    inv.well_formed (rw (← c.self.view_is) inv.read) (rw (← c.self.view_is) (c.as_str.ensures.value ∙ inv.regex))

@@ -1,0 +1,6 @@
+pub mod Words
+pub mod Unfoldings
+mod Stars
+mod Classes
+mod Faults
+mod ClassBytes

@@ -1,0 +1,9 @@
+pub mod Token
+pub mod Ranges
+pub mod Marks
+pub mod Nesting
+pub mod Stars
+pub mod Reading
+pub mod ClassBytes
+pub mod Views
+pub mod inner

@@ -1,0 +1,94 @@
+-- A glob's text, a list of characters, is cut from the left into marks: plain characters, `?`, runs of `*`, classes,
+-- braces and commas.
+use Rattle.std.specs.Prelude.{◌≡◌, ℕ, zero, suc, ◌+◌, List, [], ◌∷◌, Bool, true, false, ◌||◌, ◌&&◌, ◌==◌, if◌then◌else◌, take, drop, Option, Some, None}
+use Rattle.std.specs.List.{prefix_len, position}
+use Rattle.glob_syntax.specs.declared.options.Options.{Options}
+use Rattle.glob_syntax.specs.declared.fault.Fault.{Fault}
+use Rattle.glob_syntax.specs.declared.fault.Fault.TheVariants.{UnclosedClass, DanglingEscape}
+use Rattle.glob_syntax.specs.Ranges.{ranges, bad_range}
+
+pub data Mark : Type 0 where
+  -- a plain character: whether it was escaped, and the character
+  Char : Bool → ℕ → Mark
+  -- `?`
+  One : Mark
+  -- a run of unescaped `*`, as long as it goes, by its length
+  Stars : ℕ → Mark
+  -- a closed class: whether it is negated, and its ranges in order
+  Class : Bool → List (ℕ × ℕ) → Mark
+  -- `{`
+  Open : Mark
+  -- `,`, in braces or not
+  Comma : Mark
+  -- `}`
+  Close : Mark
+  -- what stands here has no reading
+  Bad : Fault → Mark
+
+-- ---- classes
+
+-- `]`
+abbrev pub is_closer : ℕ → Bool
+is_closer c = c == 93
+
+-- no `]` stands among these characters
+abbrev pub NoCloser : List ℕ → Type 0
+NoCloser cs = position is_closer cs ≡ None
+
+-- `!` or `^` stands first
+abbrev pub is_negated : List ℕ → Bool
+is_negated [] = false
+is_negated (c ∷ cs) = c == 33 || c == 94
+
+-- How many characters the body of a class has that begins with the first of these. That one is a member whatever it is;
+-- the next `]` closes the class. None where no `]` does.
+abbrev pub members : List ℕ → Option ℕ
+members cs = elim (position is_closer (drop 1 cs)) [ None ↦ None | Some n ↦ Some (n + 1) ]
+
+-- a closed class with this body: a bad range has no reading
+abbrev pub class_mark : Bool → List ℕ → Mark
+class_mark negated body = elim (bad_range body) [ None ↦ Class negated (ranges body) | Some f ↦ Bad f ]
+
+-- A `[` that no `]` closes, where `rest` is what follows it past a negation. With the option it is a plain character,
+-- by itself: what follows, the negation too, is cut as usual. Without it, it is a fault: the first bad range of the rest,
+-- read as a body, and else the want of a `]`.
+abbrev pub unclosed_mark : Options → List ℕ → Mark
+unclosed_mark o rest = elim o.allow_unclosed_class [ true ↦ Char false 91 | false ↦ elim (bad_range rest) [ None ↦ Bad UnclosedClass | Some f ↦ Bad f ] ]
+
+-- ---- the mark at one place
+
+-- In what follows a mark stands beside the number of characters that it takes after its first.
+
+-- the mark at a `[`, after which stand `skipped` characters of negation and then `cs`
+abbrev pub class_at : Options → ℕ → Bool → List ℕ → Mark × ℕ
+class_at o skipped negated cs = elim (members cs) [ None ↦ (unclosed_mark o cs, 0) | Some n ↦ (class_mark negated (take n cs), skipped + n + 1) ]
+
+-- the mark at a `\` that escapes, after which stands `cs`
+abbrev pub escape_at : List ℕ → Mark × ℕ
+escape_at [] = (Bad DanglingEscape, 0)
+escape_at (c ∷ cs) = (Char true c, 1)
+
+-- a run of stars, with so many after the first
+abbrev pub star_run : ℕ → Mark × ℕ
+star_run more = (Stars (suc more), more)
+
+-- The mark that begins with `c`, after which stands `cs`. Special are `?`, `*`, `[`, `{`, `}`, `,` and, with the option,
+-- `\`. Every other character is plain, `]` and `!` too.
+unfoldable pub mark_at : Options → ℕ → List ℕ → Mark × ℕ
+mark_at o c cs =
+    if c == 63 then (One, 0)
+    else (if c == 42 then star_run (prefix_len (λ d. d == 42) cs)
+    else (if c == 91 then (if is_negated cs then class_at o 1 true (drop 1 cs) else class_at o 0 false cs)
+    else (if c == 123 then (Open, 0)
+    else (if c == 125 then (Close, 0)
+    else (if c == 44 then (Comma, 0)
+    else (if c == 92 && o.backslash_escape then escape_at cs
+    else (Char false c, 0)))))))
+
+-- ---- the marks of a text
+
+-- the marks of these characters, the first n of which belong to the mark before them
+unfoldable pub marks : Options → ℕ → List ℕ → List Mark
+marks o n [] = []
+marks o (suc n) (c ∷ cs) = marks o n cs
+marks o zero (c ∷ cs) = let m = mark_at o c cs in m.0 ∷ marks o m.1 cs

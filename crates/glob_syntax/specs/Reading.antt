@@ -1,0 +1,81 @@
+-- Reading: a glob's text under its options has tokens, or it has a fault, the first from the left.
+use Rattle.std.specs.Prelude.{◌≡◌, ℕ, zero, suc, List, [], ◌∷◌, Bool, true, false, Result, Ok, Err}
+use Rattle.glob_syntax.specs.declared.options.Options.{Options}
+use Rattle.glob_syntax.specs.declared.fault.Fault.{Fault}
+use Rattle.glob_syntax.specs.Token.{Token, Tokens, Branches, end, and_then, none, branch, Group, RecursivePrefix, before}
+use Rattle.glob_syntax.specs.Marks.{Mark, Open, Comma, Close, marks}
+use Rattle.glob_syntax.specs.Nesting.{nested}
+use Rattle.glob_syntax.specs.Stars.{is_run, piece}
+
+-- ---- branches
+
+-- What some last marks of a glob are read as. They may begin inside groups: the first part is the branches of the
+-- innermost group that is open where they begin, from the one that is being read on; the list has those of each group
+-- around it, outwards. The whole glob counts as the one branch of an outermost group.
+abbrev pub Levels : Type 0
+Levels = Branches × List Branches
+
+-- tokens, and then the first of these branches; a level of marks that nest has one
+abbrev pub in_branch : List Token → Branches → Branches
+in_branch front none = none
+in_branch front (branch ts bs) = branch (before front ts) bs
+
+-- tokens, and then these levels: they begin the branch that is being read
+abbrev pub in_level : List Token → Levels → Levels
+in_level front levels = (in_branch front levels.0, levels.1)
+
+-- A `{`, and then these levels: the innermost is a whole group, a token of the branch around it. Where marks nest, there
+-- is one.
+abbrev pub open_level : Levels → Levels
+open_level (bs, []) = (bs, [])
+open_level (bs, outer ∷ more) = (in_branch (Group bs ∷ []) outer, more)
+
+-- a `,`, and then these levels: one more branch
+abbrev pub next_branch : Levels → Levels
+next_branch (bs, more) = (branch end bs, more)
+
+-- a `}`, and then these levels: a group ends, with a branch that has no more tokens
+abbrev pub close_level : Levels → Levels
+close_level (bs, more) = (branch end none, bs ∷ more)
+
+-- The levels of marks, the first n of which belong to the piece before them; `start` says that a branch starts here.
+unfoldable pub levels : ℕ → Bool → List Mark → Levels
+levels n start [] = (branch end none, [])
+levels (suc n) start (m ∷ ms) = levels n start ms
+levels zero start (Open ∷ ms) = open_level (levels zero true ms)
+levels zero start (Comma ∷ ms) = next_branch (levels zero true ms)
+levels zero start (Close ∷ ms) = close_level (levels zero false ms)
+levels zero start (m ∷ ms) = let p = piece start m ms in in_level p.0 (levels p.1 false ms)
+
+-- the whole glob's branch
+abbrev pub first_branch : Branches → Tokens
+first_branch none = end
+first_branch (branch ts bs) = ts
+
+-- `**` is the whole glob
+abbrev pub is_whole_run : List Mark → Bool
+is_whole_run (m ∷ []) = is_run m
+is_whole_run ms = false
+
+-- the tokens of a glob's marks
+unfoldable pub whole : List Mark → Tokens
+whole ms = elim (is_whole_run ms) [ true ↦ and_then RecursivePrefix end | false ↦ first_branch (levels zero true ms).0 ]
+
+-- ---- reading
+
+abbrev pub whole_or_fault : Result (List Mark) Fault → Result Tokens Fault
+whole_or_fault (Ok ms) = Ok (whole ms)
+whole_or_fault (Err f) = Err f
+
+-- The tokens of a text, or its first fault from the left. It is a function, so a text has a reading or a fault and
+-- never both, and at most one of either.
+unfoldable pub reading : Options → List ℕ → Result Tokens Fault
+reading o text = whole_or_fault (nested zero (marks o zero text))
+
+-- the text has these tokens
+abbrev pub Reads : Options → List ℕ → Tokens → Type 0
+Reads o text ts = reading o text ≡ Ok ts
+
+-- the text has this fault
+abbrev pub HasFault : Options → List ℕ → Fault → Type 0
+HasFault o text f = reading o text ≡ Err f

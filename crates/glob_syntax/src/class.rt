@@ -1,0 +1,153 @@
+//! Character classes: their bodies as ranges, and the bytes that they have.
+
+ghost use Rattle.std.specs.Prelude.{◌≡◌, IfOk};
+ghost use Rattle.glob_syntax.specs.Ranges.{ranges, bad_range};
+
+mod table;
+
+use crate::fault::Fault;
+use crate::options::Options;
+use std::alloc::{AllocError, Global};
+use std::marker::Model;
+use table::{Membership, table_of};
+
+/// The first bad range of a class's body.
+#[tactic(auto, unfolding(crate::specs::Ranges::bad_range))]
+pub fn bad_range(body: &[char]) -> Option<Fault>
+    ensures { result ≡ bad_range body.now }
+{
+    let [first, rest @ ..] = body else {
+        return None;
+    };
+    let mut start = *first;
+    let mut rest = rest;
+    loop {
+        match rest {
+            ['-', x, after @ ..] => {
+                if *x < start {
+                    return Some(Fault::InvalidRange(start, *x));
+                }
+                rest = after;
+            }
+            [d, after @ ..] => {
+                start = *d;
+                rest = after;
+            }
+            [] => return None,
+        }
+    }
+}
+
+/// The ranges of a class's body.
+#[tactic(auto, unfolding(crate::specs::Ranges::ranges))]
+pub fn ranges(alloc: Global, body: &[char]) -> Result<Vec<(char, char)>, AllocError>
+    ensures { IfOk result (λ v. v.items ≡ ranges body.now) }
+{
+    let mut out = Vec::new(alloc);
+    let [first, rest @ ..] = body else {
+        return Ok(out);
+    };
+    let mut start = *first;
+    let mut last = *first;
+    let mut rest = rest;
+    loop {
+        match rest {
+            ['-', x, after @ ..] => {
+                last = *x;
+                rest = after;
+            }
+            ['-'] => {
+                out.push((start, last))?;
+                out.push(('-', '-'))?;
+                return Ok(out);
+            }
+            [c, after @ ..] => {
+                out.push((start, last))?;
+                start = *c;
+                last = *c;
+                rest = after;
+            }
+            [] => {
+                out.push((start, last))?;
+                return Ok(out);
+            }
+        }
+    }
+}
+
+/// A character class. Contracts see whether it is negated, and its ranges in order.
+///
+/// Its table of bytes is made once, when the class is read, and serves whatever the options are.
+#[derive(Debug, Drop)]
+pub struct Class {
+    negated: bool,
+    ranges: Vec<(char, char)>,
+    /// How the ranges have each byte.
+    table: Vec<Membership>,
+}
+
+impl Model for Class {
+    ghost use Rattle.glob_syntax.specs.ClassBytes.{ClassValue};
+    ghost use Rattle.glob_syntax.specs.inner.ClassTable.{IsTableOf};
+
+    ghost Value = { ClassValue };
+
+    ghost view = { λ c. record { negated = c.negated; ranges = c.ranges.items } };
+
+    ghost invariant = { λ c. IsTableOf c.ranges.items c.table.items };
+}
+
+impl Class {
+    ghost use Rattle.glob_syntax.specs.ClassBytes.{class_has};
+
+    /// The class of these ranges. It looks at each range once for each of the 256 bytes.
+    pub fn new(alloc: Global, negated: bool, ranges: Vec<(char, char)>) -> Result<Class, AllocError>
+        ensures { IfOk result (λ c. c ≡ record { negated = negated; ranges = ranges.items }) }
+    {
+        let table = table_of(alloc, &ranges)?;
+        Ok(Class {
+            negated,
+            ranges,
+            table,
+        })
+    }
+
+    /// Whether the class has a byte under these options: one look at its table.
+    pub fn has(&self, options: Options, byte: u8) -> bool
+        ensures { result ≡ class_has options self.now.negated self.now.ranges byte }
+    {
+        let had = match self.table[byte as usize] {
+            Membership::Present => true,
+            Membership::OtherCase => options.case_insensitive,
+            Membership::Absent => false,
+        };
+        had != self.negated
+    }
+
+    /// Whether the class is negated.
+    pub fn negated(&self) -> bool
+        ensures { result ≡ self.now.negated }
+    {
+        self.negated
+    }
+
+    /// The ranges of the class, in order.
+    pub fn ranges(&self) -> &[(char, char)]
+        ensures { result.now ≡ self.now.ranges }
+    {
+        &self.ranges
+    }
+
+    /// An equal class.
+    pub fn clone(&self, alloc: Global) -> Result<Class, AllocError>
+        ensures { IfOk result (λ c. c ≡ self.now) }
+    {
+        let ranges = Vec::from_slice(alloc, &self.ranges)?;
+        let table = Vec::from_slice(alloc, &self.table)?;
+        Ok(Class {
+            negated: self.negated,
+            ranges,
+            table,
+        })
+    }
+}

@@ -1,0 +1,157 @@
+//! Marks: what a glob's text is cut into.
+
+ghost use Rattle.std.specs.Prelude.{◌≡◌, ◌<◌, ◌≤◌, length, None, IfSome, IsFalse, drop, ◌==◌, ◌+◌};
+ghost use Rattle.std.specs.List.{prefix_len, position};
+ghost use Rattle.glob_syntax.specs.Marks.{is_closer, members, unclosed_mark, class_mark, class_at, escape_at, mark_at, NoCloser};
+ghost use Rattle.glob_syntax.specs.inner.MarkViews.{mark_of};
+
+use crate::class::bad_range;
+use crate::fault::Fault;
+use crate::options::Options;
+
+/// A piece of a glob's text.
+#[derive(Clone, Copy, Debug)]
+pub enum Mark<'a> {
+    /// A plain character, escaped or not.
+    Char { escaped: bool, c: char },
+    /// `?`
+    One,
+    /// A run of unescaped `*`, as long as it goes, by its length.
+    Stars(usize),
+    /// A closed class, by its body without the negation.
+    Class { negated: bool, body: &'a [char] },
+    /// `{`
+    Open,
+    /// `,`
+    Comma,
+    /// `}`
+    Close,
+    /// What stands here has no reading.
+    Bad(Fault),
+}
+
+/// Where the first `]` stands.
+fn closing(rest: &[char]) -> Option<usize>
+    ensures { result ≡ position is_closer rest.now }
+{
+    rest.iter().position(|c| *c == ']')
+}
+
+/// How many members a class has whose first member is the first of `rest`; `None` where no `]` closes it.
+fn members(rest: &[char]) -> Option<usize>
+    ensures value { result ≡ members rest.now }
+    ensures within { IfSome result (λ n. n < length rest.now) }
+{
+    match rest {
+        [] => None,
+        [_, after @ ..] => match closing(after) {
+            None => None,
+            Some(n) => Some(n + 1),
+        },
+    }
+}
+
+/// The mark at a `[`, after which stand `skipped` characters of negation and then `rest`, and how many more characters
+/// it takes.
+///
+/// `closable` becomes false once a `[` had no `]`: no later one has, so none is looked for again.
+fn class_at<'a>(
+    options: Options,
+    closable: &mut bool,
+    skipped: usize,
+    negated: bool,
+    rest: &'a [char],
+) -> (Mark<'a>, usize)
+    requires skips { skipped ≤ 1 }
+    requires known { IsFalse closable.old → NoCloser (drop 1 rest.now) }
+    ensures known { IsFalse closable.new → NoCloser (drop 1 rest.now) }
+    ensures remembered { members rest.now ≡ None → IsFalse closable.new }
+    ensures kept { IsFalse closable.old → IsFalse closable.new }
+    ensures value { (mark_of result.0, result.1) ≡ class_at options skipped negated rest.now }
+    ensures within { result.1 ≤ skipped + length rest.now }
+{
+    let count = if *closable { members(rest) } else { None };
+    match count {
+        None => {
+            *closable = false;
+            (unclosed_mark(options, rest), 0)
+        }
+        Some(n) => {
+            let (body, _) = rest.split_at(n);
+            (class_mark(negated, body), skipped + n + 1)
+        }
+    }
+}
+
+/// A `[` that no `]` closes, before `rest`.
+fn unclosed_mark<'a>(options: Options, rest: &[char]) -> Mark<'a>
+    ensures { mark_of result ≡ unclosed_mark options rest.now }
+{
+    if options.allow_unclosed_class {
+        Mark::Char {
+            escaped: false,
+            c: '[',
+        }
+    } else {
+        Mark::Bad(bad_range(rest).unwrap_or(Fault::UnclosedClass))
+    }
+}
+
+/// A closed class with this body.
+fn class_mark(negated: bool, body: &[char]) -> Mark<'_>
+    ensures { mark_of result ≡ class_mark negated body.now }
+{
+    match bad_range(body) {
+        None => Mark::Class { negated, body },
+        Some(fault) => Mark::Bad(fault),
+    }
+}
+
+/// The mark that begins with `c`, after which stands `rest`, and how many more characters it takes.
+#[tactic(auto, unfolding(crate::specs::Marks::mark_at))]
+pub fn mark_at<'a>(
+    options: Options,
+    closable: &mut bool,
+    c: char,
+    rest: &'a [char],
+) -> (Mark<'a>, usize)
+    requires { IsFalse closable.old → NoCloser (drop 1 rest.now) }
+    ensures known { IsFalse closable.new → NoCloser (drop 2 rest.now) }
+    ensures kept { IsFalse closable.old → IsFalse closable.new }
+    ensures value { (mark_of result.0, result.1) ≡ mark_at options c rest.now }
+    ensures within { result.1 ≤ length rest.now }
+{
+    match c {
+        '?' => (Mark::One, 0),
+        '*' => {
+            let more = stars(rest);
+            (Mark::Stars(more + 1), more)
+        }
+        '[' => match rest {
+            ['!' | '^', after @ ..] => class_at(options, closable, 1, true, after),
+            _ => class_at(options, closable, 0, false, rest),
+        },
+        '{' => (Mark::Open, 0),
+        '}' => (Mark::Close, 0),
+        ',' => (Mark::Comma, 0),
+        '\\' if options.backslash_escape => match rest {
+            [] => (Mark::Bad(Fault::DanglingEscape), 0),
+            [next, ..] => (
+                Mark::Char {
+                    escaped: true,
+                    c: *next,
+                },
+                1,
+            ),
+        },
+        _ => (Mark::Char { escaped: false, c }, 0),
+    }
+}
+
+/// How many stars stand at the front.
+fn stars(rest: &[char]) -> usize
+    ensures value { result ≡ prefix_len (λ d. d == 42) rest.now }
+    ensures within { result ≤ length rest.now }
+{
+    rest.iter().take_while(|c| **c == '*').count()
+}

@@ -1,0 +1,26 @@
+//! Tokens: what a glob's marks are read as.
+
+pub mod copy;
+
+use crate::class::Class;
+
+/// A token of a glob.
+#[derive(Debug, Drop)]
+pub enum Token {
+    /// A character.
+    Literal(char),
+    /// `?`
+    Any,
+    /// `*`
+    ZeroOrMore,
+    /// `**/` at the start of a branch.
+    RecursivePrefix,
+    /// `/**` at the end of a branch.
+    RecursiveSuffix,
+    /// `/**/` elsewhere.
+    RecursiveZeroOrMore,
+    /// `[..]`
+    Class(Class),
+    /// `{..}`, by its branches.
+    Alternates(Vec<Vec<Token>>),
+}

@@ -1,0 +1,113 @@
+-- What tokens take, by how the bytes are put together.
+use Rattle.std.proofs.Common.{◌≡◌, ℕ, ◌⊎◌, inl, inr, Bool, true≢false, ◌&&◌, List, [], ◌∷◌, ◌++◌, IsTrue, refl, ap, sym, subst}
+use Rattle.std.specs.Prelude.{◌==◌, ◌↔◌}
+use Rattle.std.proofs.lemmas.Bool.{eqb-true, eq-eqb}
+use Rattle.std.proofs.Math.Logic.{⊎_elim}
+use Rattle.glob_syntax.specs.Token.{Token, RecursivePrefix, RecursiveSuffix, RecursiveZeroOrMore, Tokens, and_then}
+use Rattle.globset_glob.specs.Takes.{takes, takes_all, is_empty, same_bytes, is_one_byte, begins_with_slash, ends_with_slash, slash}
+use Rattle.glob_syntax.specs.declared.options.Options.{Options}
+use Rattle.globset_glob.proofs.lemmas.Booleans.{and_both, and_first, and_second, or_first, or_second, or_either}
+use Rattle.globset_glob.proofs.lemmas.Cuts.{cut_of, some_cut-append, empty_is}
+
+-- the token takes the bytes
+abbrev pub Takes : Options → Token → List ℕ → Type 0
+Takes o t b = IsTrue (takes o t b)
+
+-- the tokens take the bytes
+abbrev pub TakesAll : Options → Tokens → List ℕ → Type 0
+TakesAll o ts b = IsTrue (takes_all o ts b)
+
+-- it can be cut in two, so that P holds of the first part and Q of the second
+abbrev pub Then : (List ℕ → Type 0) → (List ℕ → Type 0) → List ℕ → Type 0
+Then P Q b = (x y : List ℕ) × (b ≡ x ++ y) × P x × Q y
+
+-- empty, as a test and as an equation
+pub empty_same : (b : List ℕ) → (b ≡ []) ↔ IsTrue (is_empty b)
+empty_same b = (λ nil. ap is_empty nil, empty_is b)
+
+same_is : (x y : List ℕ) → IsTrue (same_bytes x y) → x ≡ y
+same_is [] [] h = refl
+same_is [] (d ∷ ds) h = absurd (true≢false (sym h))
+same_is (c ∷ cs) [] h = absurd (true≢false (sym h))
+same_is (c ∷ cs) (d ∷ ds) h = (λ i. eqb-true c d (and_first (c == d) (same_bytes cs ds) h) i ∷ same_is cs ds (and_second (c == d) (same_bytes cs ds) h) i)
+
+same_self : (x : List ℕ) → IsTrue (same_bytes x x)
+same_self [] = refl
+same_self (c ∷ cs) = and_both (c == c) (same_bytes cs cs) (eq-eqb c c refl) (same_self cs)
+
+-- equal, as a test and as an equation
+pub equal_bytes : (x y : List ℕ) → (x ≡ y) ↔ IsTrue (same_bytes x y)
+equal_bytes x y = (λ is. subst (λ l. IsTrue (same_bytes x l)) is (same_self x), same_is x y)
+
+-- one byte, of which the test holds
+abbrev pub OneByte : (ℕ → Bool) → List ℕ → Type 0
+OneByte test b = (c : ℕ) × (b ≡ c ∷ []) × IsTrue (test c)
+
+one_of : (test : ℕ → Bool) (b : List ℕ) → IsTrue (is_one_byte test b) → OneByte test b
+one_of test [] h = absurd (true≢false (sym h))
+one_of test (c ∷ []) h = (c, refl, h)
+one_of test (c ∷ d ∷ rest) h = absurd (true≢false (sym h))
+
+-- one byte, as a test and as an equation
+pub one_byte : (test : ℕ → Bool) (b : List ℕ) → OneByte test b ↔ IsTrue (is_one_byte test b)
+one_byte test b = (λ (c, is, h). subst (λ l. IsTrue (is_one_byte test l)) (sym is) h, one_of test b)
+
+-- ---- recursive stars
+
+-- it ends in `/` where a `/` stands last
+ends_push : (x : List ℕ) → IsTrue (ends_with_slash (x ++ slash ∷ []))
+ends_push [] = refl
+ends_push (c ∷ []) = refl
+ends_push (c ∷ d ∷ ds) = ends_push (d ∷ ds)
+
+-- and only there
+ends_at : (b : List ℕ) → IsTrue (ends_with_slash b) → (x : List ℕ) × (b ≡ x ++ slash ∷ [])
+ends_at [] h = absurd (true≢false (sym h))
+ends_at (c ∷ []) h = ([], ap (λ d. d ∷ []) (eqb-true c slash h))
+ends_at (c ∷ d ∷ ds) h = let (x, is) = ends_at (d ∷ ds) h in (c ∷ x, ap (λ l. c ∷ l) is)
+
+-- it begins with `/` where a `/` stands first
+begins_at : (b : List ℕ) → IsTrue (begins_with_slash b) → (x : List ℕ) × (b ≡ slash ∷ x)
+begins_at [] h = absurd (true≢false (sym h))
+begins_at (c ∷ cs) h = (cs, ap (λ d. d ∷ cs) (eqb-true c slash h))
+
+pub prefix_takes : (o : Options) (b : List ℕ) → ((b ≡ []) ⊎ ((x : List ℕ) × (b ≡ x ++ slash ∷ []))) ↔ Takes o RecursivePrefix b
+prefix_takes o b = (
+  λ h. ⊎_elim {C = Takes o RecursivePrefix b}
+      (λ nil. or_first (is_empty b) (ends_with_slash b) (ap is_empty nil))
+      (λ (x, is). or_second (is_empty b) (ends_with_slash b) (subst (λ l. IsTrue (ends_with_slash l)) (sym is) (ends_push x)))
+      h,
+  λ h. ⊎_elim {C = (b ≡ []) ⊎ ((x : List ℕ) × (b ≡ x ++ slash ∷ []))} (λ empty. inl (empty_is b empty)) (λ ends. inr (ends_at b ends)) (or_either (is_empty b) (ends_with_slash b) h),
+)
+
+pub suffix_takes : (o : Options) (b : List ℕ) → ((x : List ℕ) × (b ≡ slash ∷ x)) ↔ Takes o RecursiveSuffix b
+suffix_takes o b = (λ (x, is). ap begins_with_slash is, begins_at b)
+
+-- both: one `/`, or two with anything between them
+between_at : (b : List ℕ) → IsTrue (begins_with_slash b && ends_with_slash b) → (b ≡ slash ∷ []) ⊎ ((x : List ℕ) × (b ≡ slash ∷ (x ++ slash ∷ [])))
+between_at [] h = absurd (true≢false (sym h))
+between_at (c ∷ []) h = inl (ap (λ d. d ∷ []) (eqb-true c slash (and_first (c == slash) (c == slash) h)))
+between_at (c ∷ d ∷ ds) h =
+    let (x, is) = ends_at (d ∷ ds) (and_second (c == slash) (ends_with_slash (d ∷ ds)) h) in
+    inr (x, (λ i. eqb-true c slash (and_first (c == slash) (ends_with_slash (d ∷ ds)) h) i ∷ is i))
+
+pub between_takes : (o : Options) (b : List ℕ) → ((b ≡ slash ∷ []) ⊎ ((x : List ℕ) × (b ≡ slash ∷ (x ++ slash ∷ [])))) ↔ Takes o RecursiveZeroOrMore b
+between_takes o b = (
+  λ h. ⊎_elim {C = Takes o RecursiveZeroOrMore b}
+      (λ is. subst (Takes o RecursiveZeroOrMore) (sym is) refl)
+      (λ (x, is). subst (Takes o RecursiveZeroOrMore) (sym is) (ends_push (slash ∷ x)))
+      h,
+  between_at b,
+)
+
+-- ---- tokens one after another
+
+-- a token and then others
+pub then_takes : (o : Options) (t : Token) (ts : Tokens) (b : List ℕ) → Then (Takes o t) (TakesAll o ts) b ↔ TakesAll o (and_then t ts) b
+then_takes o t ts b = (there, back)
+  where
+    there : Then (Takes o t) (TakesAll o ts) b → TakesAll o (and_then t ts) b
+    there (x, y, cut, p, q) = subst (TakesAll o (and_then t ts)) (sym cut) (some_cut-append (λ x y. takes o t x && takes_all o ts y) x y (and_both (takes o t x) (takes_all o ts y) p q))
+
+    back : TakesAll o (and_then t ts) b → Then (Takes o t) (TakesAll o ts) b
+    back h = let (x, y, cut, both) = cut_of (λ x y. takes o t x && takes_all o ts y) b h in (x, y, cut, and_first (takes o t x) (takes_all o ts y) both, and_second (takes o t x) (takes_all o ts y) both)

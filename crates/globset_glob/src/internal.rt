@@ -1,0 +1,44 @@
+//! What `globset` alone needs: what a glob is read as, its matcher without a copy, and errors of elements.
+
+ghost use Rattle.std.specs.Prelude.{◌≡◌, Ok};
+ghost use Rattle.std.specs.Str.{chars};
+ghost use Rattle.glob_syntax.specs.Reading.{reading};
+ghost use Rattle.globset_glob.specs.Means.{tokens_of_glob};
+ghost use Rattle.globset_glob.specs.Values.{of_element};
+ghost use Rattle.glob_syntax.specs.Views.{tokens_of};
+
+use crate::glob::Glob;
+use crate::json::error::ValueError;
+use crate::matching::matcher::GlobMatcher;
+use glob_syntax::{Options, Token};
+
+/// What the glob's text is read as under its options. It takes no memory.
+#[tactic(auto, using(crate::proofs::lemmas::Globs::tokens_are))]
+pub fn tokens_of(glob: &Glob) -> &[Token]
+    ensures read { reading glob.now.options (chars glob.now.text) ≡ Ok (tokens_of result.now) }
+    ensures tokens { tokens_of_glob glob.now ≡ tokens_of result.now }
+{
+    glob.tokens()
+}
+
+/// The options that the glob was read under. It takes no memory.
+pub fn options_of(glob: &Glob) -> Options
+    ensures { result ≡ glob.now.options }
+{
+    glob.options()
+}
+
+/// The matcher of a glob that is given away. It takes no memory.
+pub fn matcher_of(glob: Glob) -> GlobMatcher
+    ensures { result ≡ glob }
+{
+    GlobMatcher::new(glob)
+}
+
+/// The error of the element at this index of an array. Want of memory is about no element, and stays as it is. It takes no
+/// memory.
+pub fn error_of_element(index: usize, error: ValueError) -> ValueError
+    ensures { result ≡ of_element index error }
+{
+    error.of_element(index)
+}

@@ -1,0 +1,4 @@
+//! Which paths a glob matches.
+
+pub mod matcher;
+mod row;
