@@ -1,4 +1,3 @@
 pub mod RegexWriting
 pub mod Rows
 pub mod Rules
-pub mod Ticks

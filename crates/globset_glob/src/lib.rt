@@ -10,7 +10,6 @@ mod json;
 mod matching;
 mod path;
 mod regex_text;
-mod visits;
 
 pub use builder::GlobBuilder;
 pub use error::{Error, ErrorKind};

@@ -8,8 +8,8 @@ use crate::error::Error;
 use crate::glob::Glob;
 use crate::matching::row::walk::is_match;
 use crate::path::{AsPath, Candidate};
-use crate::visits::Visits;
 use std::marker::Model;
+use visits::Visits;
 
 /// Tells which paths one glob means. Contracts see its glob.
 #[derive(Debug, Drop)]

@@ -7,10 +7,10 @@ ghost use Rattle.globset_glob.specs.inner.Rules.{allows, has_byte};
 mod rule;
 pub mod walk;
 
-use crate::visits::Visits;
 use rule::Rule;
 use std::alloc::{AllocError, Global};
 use std::marker::Model;
+use visits::Visits;
 
 /// For each place of a path, from 0 to the path's length, whether the tokens so far lead there.
 #[derive(Drop)]

@@ -10,9 +10,9 @@ ghost use Rattle.globset_glob.specs.inner.Rows.{IsNext};
 ghost use Rattle.glob_syntax.specs.Views.{token_of, tokens_of, branches_of};
 
 use crate::matching::row::{Row, pass, rule};
-use crate::visits::Visits;
 use glob_syntax::{Options, Token};
 use std::alloc::{AllocError, Global};
+use visits::Visits;
 
 /// Whether the tokens mean the path.
 ///

@@ -1,4 +1,5 @@
-//! A count of visits.
+//! A count of reads, which contracts speak of and which takes no memory and no time in a running program.
+#![tactic(auto)]
 
 use std::marker::Model;
 use std::mem;
@@ -11,10 +12,13 @@ enum Ticks {
     After(Snapshot<Ticks>),
 }
 
-/// How many counted reads a match has made. In a running program it has no size; in contracts it is a number without an
-/// upper bound.
+/// How many visits a match has made.
 ///
-/// A visit is one counted read of a token or of one place of a row.
+/// A visit is one counted read, such as of a token, of a state of an automaton or of an entry of a table. A function that
+/// makes visits takes a `&mut Visits`, and its contract says how many it makes at most.
+///
+/// In a running program a count has no size, and counting takes no time. In contracts it is a number without an upper
+/// bound.
 #[derive(Drop)]
 pub struct Visits {
     ticks: Snapshot<Ticks>,
@@ -25,7 +29,7 @@ impl Model for Visits {
 
     ghost Value = { ℕ };
 
-    ghost use Rattle.globset_glob.specs.inner.Ticks.{count};
+    ghost use Rattle.visits.specs.inner.Ticks.{count};
 
     ghost view = { λ v. count v.ticks.value };
 }
@@ -33,7 +37,7 @@ impl Model for Visits {
 impl Visits {
     ghost use Rattle.std.specs.Prelude.{◌≡◌, ◌+◌};
 
-    /// No visits.
+    /// Returns a count of no visits.
     pub fn new() -> Visits
         ensures { result ≡ 0 }
     {
@@ -42,7 +46,7 @@ impl Visits {
         }
     }
 
-    /// One more.
+    /// Counts one more visit.
     pub fn tick(&mut self)
         ensures { self.new ≡ self.old + 1 }
     {

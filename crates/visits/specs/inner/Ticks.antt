@@ -1,6 +1,6 @@
 -- The number of visits that a count's snapshots stand for.
 use Rattle.std.specs.Prelude.{ℕ, ◌+◌}
-use Rattle.globset_glob.specs.declared.visits.Ticks.{Ticks, Start, After'}
+use Rattle.visits.specs.declared.Ticks.{Ticks, Start, After'}
 
 abbrev pub count : Ticks → ℕ
 count Start = 0
