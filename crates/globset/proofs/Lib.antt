@@ -1,9 +1,2 @@
-pub mod SilentLemmas
-pub mod AnswerLemmas
-pub mod WorkLemmas
-pub mod LawLemmas
-pub mod Listed
-pub mod Steps
-pub mod Gone
-pub mod Results
-pub mod ValueLemmas
+pub mod lemmas
+pub mod examples

@@ -1,23 +1,23 @@
--- What a set answers about a path.
+-- The indexes that a set returns for a path.
 use Rattle.std.specs.Prelude.{ℕ, Bool, false, ◌&&◌, not, List, length, filter, ◌<◌, Contains, slice_get}
 use Rattle.std.specs.List.{range_with_len}
 use Rattle.std.specs.Option.{option_map_or}
 use Rattle.globset_glob.specs.Means.{GlobValue, glob_means}
 use Rattle.globset.specs.Silent.{silent}
 
--- the glob is not silent, and means the path
-abbrev pub answers : GlobValue → List ℕ → Bool
-answers g path = not (silent g) && glob_means g path
+-- The glob is not silent and matches the path. Only then does a set return its index.
+abbrev pub is_listed : GlobValue → List ℕ → Bool
+is_listed g path = not (silent g) && glob_means g path
 
--- the glob at this index, if there is one, answers
-abbrev pub answers_at : List GlobValue → List ℕ → ℕ → Bool
-answers_at globs path i = option_map_or (λ g. answers g path) (slice_get globs i) false
+-- The list has a glob at this index, and it is listed. `slice_get` is `None` past the end of the list.
+abbrev pub is_listed_at : List GlobValue → List ℕ → ℕ → Bool
+is_listed_at globs path i = option_map_or (λ g. is_listed g path) (slice_get globs i) false
 
--- The indexes from 0 up to the number of globs, in order, those kept whose glob is not silent and means the path. So
--- they ascend, each stands there once, and two equal globs answer alike.
+-- The indexes of the globs that are not silent and match the path: of the indexes 0, 1, .. below the number of globs, those
+-- that are listed, in this order. So they ascend, no index is there twice, and equal globs are all there or all not.
 unfoldable pub answer : List GlobValue → List ℕ → List ℕ
-answer globs path = filter (answers_at globs path) (range_with_len 0 (length globs))
+answer globs path = filter (is_listed_at globs path) (range_with_len 0 (length globs))
 
--- every number below n is in the list
+-- Every number below n is in the list. Of an answer, with n the number of globs: every glob is listed.
 abbrev pub ContainsAllBelow : List ℕ → ℕ → Type 0
 ContainsAllBelow xs n = (i : ℕ) → i < n → Contains xs i

@@ -1,25 +1,30 @@
--- Laws of answers.
+-- Laws of the indexes that sets return.
 use Rattle.std.specs.Prelude.{◌≡◌, ℕ, ◌<◌, ◌↔◌, false, if◌then◌else◌, List, [], ◌∷◌, ◌++◌, length, Contains, slice_get}
 use Rattle.globset_glob.specs.Means.{GlobValue, glob_means}
 use Rattle.globset.specs.Silent.{silent}
-use Rattle.globset.specs.Answer.{answers, answer}
+use Rattle.globset.specs.Answer.{is_listed, answer}
 
--- A glob at the end adds its own index, where it answers, and changes nothing before it.
+-- One more glob after the others: if it is listed, its index is added at the end, and otherwise nothing changes.
 abbrev pub AddKeeps : Type 0
 AddKeeps = (globs : List GlobValue) (g : GlobValue) (path : List ℕ)
-    → answer (globs ++ g ∷ []) path ≡ answer globs path ++ (if answers g path then length globs ∷ [] else [])
+    → answer (globs ++ g ∷ []) path ≡ answer globs path ++ (if is_listed g path then length globs ∷ [] else [])
 
--- The globs of the second list are those of the first in another order: the glob at an index of the first stands at the
--- index `to` of the second, and every index of the second is one of these.
+-- The second list has the globs of the first in another order, and `to` says where each one goes: the glob at index i of the
+-- first list is at index `to i` of the second. The renaming is one to one: `to` takes the indexes of the first list to indexes
+-- of the second, no two of them to the same one, and leaves none of the second out. So the lists are equally long, and a glob
+-- that is in the first list several times is in the second as often.
 pub record IsReordered (first second : List GlobValue) (to : ℕ → ℕ) : Type 0 where
-  pub moved : (i : ℕ) → i < length first → slice_get second (to i) ≡ slice_get first i
-  pub reached : (j : ℕ) → j < length second → (i : ℕ) × (i < length first) × (to i ≡ j)
+  pub same_glob : (i : ℕ) → i < length first → slice_get second (to i) ≡ slice_get first i
+  pub in_range : (i : ℕ) → i < length first → to i < length second
+  pub one_to_one : (i j : ℕ) → i < length first → j < length first → to i ≡ to j → i ≡ j
+  pub onto : (j : ℕ) → j < length second → (i : ℕ) × (i < length first) × (to i ≡ j)
 
--- The answer in another order is the answer with each index renamed.
+-- In another order, the indexes are the same ones renamed: j is an index of the second list's answer if and only if it is
+-- `to i` for an index i of the first list's answer.
 abbrev pub OrderRenames : Type 0
 OrderRenames = (first second : List GlobValue) (to : ℕ → ℕ) (path : List ℕ) → IsReordered first second to
     → (j : ℕ) → Contains (answer second path) j ↔ ((i : ℕ) × Contains (answer first path) i × (to i ≡ j))
 
--- Where a set's only glob is not silent, the set answers what the glob's matcher does.
+-- A set of one glob that is not silent: the indexes are [0] on the paths that the glob matches, and none on all others.
 abbrev pub OneGlobSet : Type 0
 OneGlobSet = (g : GlobValue) (path : List ℕ) → silent g ≡ false → answer (g ∷ []) path ≡ (if glob_means g path then 0 ∷ [] else [])

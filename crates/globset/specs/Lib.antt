@@ -5,6 +5,7 @@ pub mod SetValue
 pub mod SetFromValue
 pub mod Lending
 pub mod Laws
+pub mod inner
 pub use Rattle.globset_glob.specs.Token
 pub use Rattle.globset_glob.specs.Ranges
 pub use Rattle.globset_glob.specs.Marks

@@ -1,10 +1,9 @@
--- Sets and builders as contracts see them.
-use Rattle.std.specs.Prelude.{List, [], Option, None, Some}
-use Rattle.std.specs.declared.alloc.Global.{Global}
-use Rattle.std.specs.declared.vec.Vec.{Vec}
+-- Sets and builders as contracts see them: as lists of globs.
+use Rattle.std.specs.Prelude.{List}
 use Rattle.globset_glob.specs.Means.{GlobValue}
 
--- a set is seen as the list of its globs
+-- A set is seen as the list of its globs, each a text and options. The first has index 0. Two sets are equal if their lists
+-- are.
 abbrev pub SetValue : Type 0
 SetValue = List GlobValue
 
@@ -12,15 +11,10 @@ SetValue = List GlobValue
 abbrev pub set_globs : SetValue → List GlobValue
 set_globs s = s
 
--- a builder is seen as the list of the globs that were added
+-- A builder is seen as the list of the globs that were added, the first first.
 abbrev pub BuilderValue : Type 0
 BuilderValue = List GlobValue
 
--- the globs of a builder, in order
+-- the globs of a builder, in the order in which they were added
 abbrev pub builder_globs : BuilderValue → List GlobValue
 builder_globs b = b
-
--- what a set keeps in memory, where it keeps anything
-abbrev pub kept : Option (Vec GlobValue Global) → List GlobValue
-kept None = []
-kept (Some globs) = globs.items

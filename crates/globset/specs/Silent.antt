@@ -1,9 +1,9 @@
--- Globs that a set leaves out of its answers.
+-- Silent globs: those that a set leaves out.
 use Rattle.std.specs.Prelude.{Bool, false, ◌&&◌, not, ◌==◌}
 use Rattle.globset_glob.specs.Token.{Token, RecursivePrefix, Literal, Any, ZeroOrMore, RecursiveSuffix, RecursiveZeroOrMore, Class, Group, Tokens, end, and_then}
 use Rattle.globset_glob.specs.Means.{GlobValue, is_prefix, tokens_of_glob}
 
--- a literal `.`, which is 46
+-- The token is the literal `.`, whose code is 46. The class `[.]` is another token.
 abbrev pub is_dot : Token → Bool
 is_dot (Literal c) = c == 46
 is_dot Any = false
@@ -14,7 +14,8 @@ is_dot RecursiveZeroOrMore = false
 is_dot (Class negated rs) = false
 is_dot (Group bs) = false
 
--- RecursivePrefix and two literals `.`, and nothing else: `**/..`, `**/**/..`, `**/\..` and every other spelling of them
+-- The tokens are RecursivePrefix, the literal `.` and the literal `.`, and no more. `**/..`, `**/**/..` and `**/\..` all have
+-- these tokens.
 abbrev pub is_prefix_dot_dot : Tokens → Bool
 is_prefix_dot_dot end = false
 is_prefix_dot_dot (and_then t end) = false
@@ -22,7 +23,8 @@ is_prefix_dot_dot (and_then t (and_then u end)) = false
 is_prefix_dot_dot (and_then t (and_then u (and_then v end))) = is_prefix t && (is_dot u && is_dot v)
 is_prefix_dot_dot (and_then t (and_then u (and_then v (and_then w ts)))) = false
 
--- The glob is silent: no set gives its index for any path. It goes by the glob's tokens, so not by how it is spelled:
--- `**/[.][.]` takes the same paths and is not silent. Its own matcher answers as any other.
+-- The glob is silent: no set returns its index, for any path. This depends on the glob's tokens and on `case_insensitive`,
+-- and not on how the text is spelled. `**/[.][.]` matches the same paths as `**/..` and is not silent. A matcher of one
+-- glob ignores this.
 unfoldable pub silent : GlobValue → Bool
 silent g = not g.options.case_insensitive && is_prefix_dot_dot (tokens_of_glob g)

@@ -2,10 +2,12 @@
 
 use crate::set::GlobSet;
 use globset_glob::{Error, Glob};
-use std::alloc::Global;
+use std::alloc::{AllocError, Global};
 use std::marker::Model;
 
-/// Collects the globs of a set, in the order in which they are added. Contracts see their list.
+/// Collects the globs of a set, in the order in which they are added.
+///
+/// Contracts see the list of the globs.
 ///
 /// ```text
 /// let mut builder = GlobSetBuilder::new(alloc);
@@ -32,7 +34,7 @@ impl GlobSetBuilder {
     ghost use Rattle.globset.specs.Lending.{LendsItself};
     ghost use Rattle.std.specs.Borrow.{sem};
 
-    /// No globs yet. It takes no memory.
+    /// Returns a builder that has no globs. It allocates nothing.
     pub fn new(alloc: Global) -> GlobSetBuilder
         ensures { builder_globs result ≡ [] }
     {
@@ -41,9 +43,10 @@ impl GlobSetBuilder {
         }
     }
 
-    /// Puts a glob at the end, and hands back the builder, so that calls can be chained.
+    /// Adds a glob after the others, and returns the builder, so that calls can be chained.
     ///
-    /// The only error is want of memory: the builder is then as it was, and the glob is dropped.
+    /// Returns an error if memory runs out, and no other. The builder then has the globs that it had before the call, and
+    /// the new glob is dropped.
     pub fn add(&mut self, glob: Glob) -> Result<&mut GlobSetBuilder, Error>
         ensures* lends { sem 𝓛 (LendsItself self.entry result) }
         ensures ok { IfOk result (λ b. (b.ghost_name ≡ self.entry.ghost_name)
@@ -56,8 +59,10 @@ impl GlobSetBuilder {
         }
     }
 
-    /// The set of the globs that were added, in order. It copies them, so the builder is unchanged and can go on. The only
-    /// error is want of memory.
+    /// Returns the set of the globs that were added, in order. They are copied: the builder is unchanged, and more globs can
+    /// be added to it.
+    ///
+    /// Returns an error if memory runs out, and no other.
     pub fn build(&self) -> Result<GlobSet, Error>
         ensures ok { IfOk result (λ s. set_globs s ≡ builder_globs self.now) }
         ensures err { IfErr result (λ e. e ≡ out_of_memory) }
@@ -65,7 +70,7 @@ impl GlobSetBuilder {
         GlobSet::new(*self.pats.allocator(), &self.pats)
     }
 
-    /// An equal builder, or want of memory.
+    /// Returns an equal builder, with memory of its own. Returns an error if memory runs out, and no other.
     pub fn clone(&self) -> Result<GlobSetBuilder, Error>
         ensures ok { IfOk result (λ b. b ≡ self.now) }
         ensures err { IfErr result (λ e. e ≡ out_of_memory) }
@@ -84,5 +89,19 @@ impl GlobSetBuilder {
     {
         self.pats.push(glob)?;
         Ok(())
+    }
+}
+
+/// The same as the method [`GlobSetBuilder::clone`], for code that is generic over `Clone`.
+impl Clone for GlobSetBuilder {
+    ghost use Rattle.std.specs.Prelude.{◌≡◌};
+
+    ghost is_clone = { λ b c. c ≡ b };
+
+    fn clone(&self) -> Result<GlobSetBuilder, AllocError> {
+        match GlobSetBuilder::clone(self) {
+            Ok(builder) => Ok(builder),
+            Err(_) => Err(AllocError),
+        }
     }
 }

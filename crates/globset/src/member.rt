@@ -5,7 +5,7 @@ ghost use Rattle.globset_glob.specs.Cost.{most_visits};
 ghost use Rattle.globset_glob.specs.Errors.{out_of_memory};
 ghost use Rattle.globset_glob.specs.Means.{is_prefix};
 ghost use Rattle.globset_glob.specs.Views.{token_of};
-ghost use Rattle.globset.specs.Answer.{answers};
+ghost use Rattle.globset.specs.Answer.{is_listed};
 ghost use Rattle.globset.specs.Silent.{is_dot, silent};
 
 use globset_glob::{
@@ -13,7 +13,7 @@ use globset_glob::{
 };
 use std::marker::Model;
 
-/// The matcher of a glob, and whether the glob is silent: that is found once, when the set is made.
+/// The matcher of a glob, and whether the glob is silent. The latter is computed once, when the set is built.
 #[derive(Debug, Drop)]
 pub struct Member {
     matcher: GlobMatcher,
@@ -33,7 +33,7 @@ impl Model for Member {
 }
 
 impl Member {
-    /// Of a copy of this glob, or want of memory.
+    /// Returns the member for a copy of the glob. Returns an error if memory runs out, and no other.
     pub fn new(glob: &Glob) -> Result<Member, Error>
         ensures ok { IfOk result (λ m. m ≡ glob.now) }
         ensures err { IfErr result (λ e. e ≡ out_of_memory) }
@@ -44,8 +44,8 @@ impl Member {
         })
     }
 
-    /// Of this glob, which is given away. It takes no memory.
-    pub fn of(glob: Glob) -> Member
+    /// Returns the member for the glob. It allocates nothing.
+    pub fn from_glob(glob: Glob) -> Member
         ensures { result ≡ glob }
     {
         let is_silent = is_silent(&glob);
@@ -55,9 +55,9 @@ impl Member {
         }
     }
 
-    /// Whether the glob is not silent and means the path. A silent glob is not asked.
-    pub fn answers(&self, path: &Candidate<'_>, visits: &mut Visits) -> Result<bool, Error>
-        ensures ok { IfOk result (λ yes. yes ≡ answers self.now path.now) }
+    /// Returns whether the glob is not silent and matches the path. A silent glob is not tried.
+    pub fn matches(&self, path: &Candidate<'_>, visits: &mut Visits) -> Result<bool, Error>
+        ensures ok { IfOk result (λ yes. yes ≡ is_listed self.now path.now) }
         ensures err { IfErr result (λ e. e ≡ out_of_memory) }
         ensures visits { visits.new ≤ visits.old + most_visits self.now path.now }
     {
@@ -67,7 +67,7 @@ impl Member {
         self.matcher.is_match_visits(path, visits)
     }
 
-    /// Of an equal glob, or want of memory.
+    /// Returns the member for an equal glob. Returns an error if memory runs out, and no other.
     pub fn clone(&self) -> Result<Member, Error>
         ensures ok { IfOk result (λ m. m ≡ self.now) }
         ensures err { IfErr result (λ e. e ≡ out_of_memory) }
@@ -79,7 +79,7 @@ impl Member {
     }
 }
 
-/// Whether no set answers by the glob.
+/// Returns whether every set leaves the glob out.
 fn is_silent(glob: &Glob) -> bool
     ensures { result ≡ silent glob.now }
 {

@@ -1,4 +1,4 @@
-//! Sets as JSON values.
+//! Sets of globs from JSON values.
 
 ghost use Rattle.std.specs.Prelude.{◌≡◌, IfOk, IfErr, MatchResult, Ok};
 ghost use Rattle.serde_json.specs.View.{view, items_view};
@@ -13,22 +13,26 @@ use serde_json::Value;
 use std::alloc::Global;
 
 impl GlobSet {
-    /// Reads the elements of a JSON array, in order, each as [`Glob::from_value`] does: so under the default options.
+    /// Returns the set of the globs in a JSON array of strings, in order. Each element is read as [`Glob::from_value`] reads
+    /// it, so under the default options.
     ///
-    /// Where an element is refused the error is that of the first such element, with its index. A value that is no array is
-    /// [`ValueErrorKind::NotArray`], with no index. Want of memory is [`ValueErrorKind::Glob`], and has no index either.
+    /// Returns one of these errors:
+    ///
+    /// - the error of the first element that is not a glob, with its index;
+    /// - [`ValueErrorKind::NotArray`] if the value is not an array, with no index;
+    /// - [`ValueErrorKind::Glob`] of an out-of-memory error if memory runs out, with no index.
     pub fn from_value(alloc: Global, value: &Value) -> Result<GlobSet, ValueError>
         ensures ok { IfOk result (λ set. globs_of_value (view value.now) ≡ Ok (set_globs set)) }
         ensures err { IfErr result (IsValueErrorOf (globs_of_value (view value.now))) }
     {
         match value {
-            Value::Array(values) => Ok(GlobSet::of(read_members(alloc, values)?)),
+            Value::Array(values) => Ok(GlobSet::from_members(read_members(alloc, values)?)),
             _ => Err(ValueError::from(ValueErrorKind::NotArray)),
         }
     }
 }
 
-/// The members of these elements of an array.
+/// Returns the members for these elements of an array.
 fn read_members(alloc: Global, values: &[Value]) -> Result<Vec<Member>, ValueError>
     ensures { MatchResult result (λ members. globs_from 0 (items_view values.now) ≡ Ok members.items)
         (IsValueErrorOf (globs_from 0 (items_view values.now))) }
@@ -36,7 +40,7 @@ fn read_members(alloc: Global, values: &[Value]) -> Result<Vec<Member>, ValueErr
     let mut members = Vec::with_capacity(alloc, values.len())?;
     for (index, value) in values.iter().enumerate() {
         match Glob::from_value(alloc, value) {
-            Ok(glob) => members.push(Member::of(glob))?,
+            Ok(glob) => members.push(Member::from_glob(glob))?,
             Err(error) => return Err(error_of_element(index, error)),
         }
     }

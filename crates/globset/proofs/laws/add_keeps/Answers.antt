@@ -1,4 +1,4 @@
-use Rattle.globset.proofs.LawLemmas.{adding_keeps}
+use Rattle.globset.proofs.lemmas.Laws.{adding_keeps}
 use Rattle.globset.proofs.laws.add_keeps.Goals as goal
 
 pub returns : goal.returns

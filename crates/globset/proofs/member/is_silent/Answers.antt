@@ -2,12 +2,12 @@ use Rattle.std.proofs.Common.{◌≡◌, ◌&&◌, arith, sym, ◌∙◌}
 use Rattle.globset_glob.specs.Means.{is_prefix}
 use Rattle.globset_glob.specs.Views.{token_of, tokens_of}
 use Rattle.globset.specs.Silent.{is_dot, is_prefix_dot_dot, silent}
-use Rattle.globset.proofs.SilentLemmas.{not_folded, not_other, by_tokens, too_few, too_many, of_three, first_two_hold, first_fails, second_fails}
+use Rattle.globset.proofs.lemmas.Silent.{not_insensitive, not_other, by_tokens, too_few, too_many, of_three, first_two_hold, first_fails, second_fails}
 use Rattle.globset.proofs.member.is_silent.Goals as goal
 use Rattle.globset.proofs.member.is_silent.Goals.{then-is_recursive_prefix, else-is_recursive_prefix}
 
 pub returns-then-options_of : goal.returns-then-options_of
-returns-then-options_of c = not_folded c.args.glob.now (rw (← c.options_of.ensures) c.if-options_of.true)
+returns-then-options_of c = not_insensitive c.args.glob.now (rw (← c.options_of.ensures) c.if-options_of.true)
 
 pub returns-in_default : goal.returns-in_default
 returns-in_default c = not_other _ _ c.tokens_of.ensures.tokens (too_few c.tokens_of.result.now c.in_default.len_below)

@@ -1,4 +1,4 @@
-use Rattle.globset.proofs.Steps.{◌≡◌, ℕ, List, [], ◌∷◌, refl, ap, lit<, MutBor, full_share, id⊢, ftrue, flft, fres, named, fact, tables, ‵, raw, ◌⊛◌, some, later, at_ret, ◌$◌, ◌∵◌, !, qed, done, move, keep, use0, use1, use2, use3, split, join, fsplit, fsplit3, fjoin, feq_l, pick, await, rewrite, suffices, frame, group, enter, of_opd, addr, lit, stop, fld, no_more, and_then, first, exec, returns, alloc_all, pass_all, free_all, look_at, get, through, sets, lands_as, env, unit, yes, no, MutRef, mut_vals, plain, nothing, heard, peeks, shows, calls_at, lasts, triple_of, Stays, walk_of, stay_dropped, Goes-spent_ref, RefMutOf, ends_at, framed, follows, follows_itself}
+use Rattle.globset.proofs.lemmas.WalkNames.{◌≡◌, ℕ, List, [], ◌∷◌, refl, ap, lit<, MutBor, full_share, id⊢, ftrue, flft, fres, named, fact, tables, ‵, raw, ◌⊛◌, some, later, at_ret, ◌$◌, ◌∵◌, !, qed, done, move, keep, use0, use1, use2, use3, split, join, fsplit, fsplit3, fjoin, feq_l, pick, await, rewrite, suffices, frame, group, enter, of_opd, addr, lit, stop, fld, no_more, and_then, first, exec, returns, alloc_all, pass_all, free_all, look_at, get, through, sets, lands_as, env, unit, yes, no, MutRef, mut_vals, plain, nothing, heard, peeks, shows, calls_at, lasts, triple_of, Stays, walk_of, stay_dropped, Goes-spent_ref, RefMutOf, ends_at, framed, follows, follows_itself}
 use denote.Follow.{follows_by}
 use mir.Val.{Val, vptr, vcons, vnil, of_list}
 use types.Match.{live, vrt, in_variant}
@@ -12,13 +12,13 @@ use Rattle.std.proofs.raw_atomic.Walks.{proved_at}
 use Rattle.std.proofs.VecSteps.Shapes.{arm_body}
 use types.Run.{switches_on}
 use types.ByLocal.{get_in, get_tag, sets_last}
-use Rattle.globset.proofs.Steps.{◌∙◌}
+use Rattle.globset.proofs.lemmas.WalkNames.{◌∙◌}
 use mathlib.Core.Path.{subst, sym}
 use Rattle.std.specs.Prelude.{Ok, Err}
 use denote.Lend.{lends_again, comes_back, LentAgain}
 use denote.Triple.Clauses.{Lasts}
-use Rattle.globset.proofs.Gone.{Goes-blank, one_val}
-use Rattle.globset.proofs.Results.{and_tt, ok_of, err_of, cases}
+use Rattle.globset.proofs.lemmas.WalkParameters.{Goes-blank, one_val}
+use Rattle.globset.proofs.lemmas.WalkResults.{and_tt, ok_of, err_of, cases}
 use types.Tokens.{lft_new, lft_end}
 use Rattle.std.specs.contracts.result.Result as result
 use Rattle.std.specs.Prelude.{Result, ◌++◌, OnOk, OnErr, IfErr, ⊤}

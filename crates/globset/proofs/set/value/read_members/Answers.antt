@@ -1,6 +1,6 @@
 use Rattle.serde_json.specs.View.{items_view}
 use Rattle.globset.specs.SetFromValue.{globs_from}
-use Rattle.globset.proofs.ValueLemmas.{one_glob, one_error, all_globs}
+use Rattle.globset.proofs.lemmas.SetFromValue.{one_glob, one_error, all_globs}
 use Rattle.globset.proofs.set.value.read_members.Goals as goal
 
 pub returns-in-Err : goal.returns-in-Err
@@ -10,8 +10,8 @@ returns-in-Err c =
 
 pub loop-index-preserved : goal.loop-index-preserved
 loop-index-preserved c =
-    one_glob c.args.values.now c.loop-index.index c.index-values-index.result c.loop-index.members.items c.push.new.self.items c.in-Ok.glob c.of.result
-    (globs_from 0 (items_view c.args.values.now)) c.loop-index-test.true c.index-values-index.is c.loop-index.invariant c.in-Ok.ensures.ok c.of.ensures
+    one_glob c.args.values.now c.loop-index.index c.index-values-index.result c.loop-index.members.items c.push.new.self.items c.in-Ok.glob c.from_glob.result
+    (globs_from 0 (items_view c.args.values.now)) c.loop-index-test.true c.index-values-index.is c.loop-index.invariant c.in-Ok.ensures.ok c.from_glob.ensures
     c.in_ok-push-in-Ok.ensures.items
 
 pub returns : goal.returns

@@ -1,7 +1,7 @@
 use Rattle.std.proofs.Common.{◌≡◌, drop}
 use Rattle.serde_json.specs.View.{items_view}
 use Rattle.globset.specs.SetFromValue.{globs_from}
-use Rattle.globset.proofs.ValueLemmas.{onto}
+use Rattle.globset.proofs.lemmas.SetFromValue.{onto}
 use Rattle.globset.proofs.set.value.read_members.Given as goal
 
 abbrev pub invariant-loop-index : goal.invariant-loop-index

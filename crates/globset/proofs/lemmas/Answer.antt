@@ -1,4 +1,4 @@
--- What a set answers, by its indexes.
+-- The indexes that a set returns for a path.
 use Rattle.std.proofs.Common.{◌≡◌, ℕ, zero, suc, ◌+◌, ◌<◌, List, [], ◌∷◌, ◌++◌, append-nil, length, get_or, Bool, true, false, cond, Option, refl, ap, sym, subst, ◌∙◌, arith}
 use Rattle.std.specs.Prelude.{◌≢◌, ◌↔◌, filter, Contains, IsTrue}
 use Rattle.std.specs.List.{range_with_len}
@@ -7,45 +7,45 @@ use Rattle.std.proofs.lemmas.List.Elements.{filter-append, filter_passes, All-fi
 use Rattle.std.proofs.lemmas.List.FromFn.{length-range_with_len, get_or-range_with_len}
 use Rattle.std.proofs.lemmas.Option.{slice_get_read}
 use Rattle.globset_glob.specs.Means.{GlobValue}
-use Rattle.globset.specs.Answer.{answers, answers_at, answer, ContainsAllBelow}
+use Rattle.globset.specs.Answer.{is_listed, is_listed_at, answer, ContainsAllBelow}
 
--- ---- numbers from one on
+-- ---- consecutive numbers
 
 range_more : (a n : ℕ) → range_with_len a (suc n) ≡ range_with_len a n ++ (a + n) ∷ []
 range_more a zero = let e : a ≡ a + 0 = omega arith in ap (λ (j : ℕ). j ∷ []) e
 range_more a (suc n) = let e : a + 1 + n ≡ a + suc n = omega arith in
     ap (λ (xs : List ℕ). a ∷ xs) (range_more (a + 1) n ∙ ap (λ (j : ℕ). range_with_len (a + 1) n ++ j ∷ []) e)
 
--- those below n + 1 that pass
+-- the numbers below n + 1 that pass a test: those below n, and n if it passes
 pub filter_more : (test : ℕ → Bool) (n : ℕ) → filter test (range_with_len 0 (n + 1)) ≡ filter test (range_with_len 0 n) ++ cond (test n) (n ∷ []) []
 filter_more test n =
     let e : n + 1 ≡ suc n = omega arith in let z : 0 + n ≡ n = omega arith in
     ap (λ (j : ℕ). filter test (range_with_len 0 j)) e ∙ ap (filter test) (range_more 0 n) ∙ filter-append test (range_with_len 0 n) ((0 + n) ∷ [])
     ∙ ap (λ (j : ℕ). filter test (range_with_len 0 n) ++ cond (test j) (j ∷ []) []) z
 
--- the index n passes, and was put at the end
-pub one_more : (test : ℕ → Bool) (n : ℕ) (xs ys : List ℕ) → xs ≡ filter test (range_with_len 0 n) → test n ≡ true → ys ≡ xs ++ n ∷ []
+-- the number n passes, and was pushed onto the list
+pub index_kept : (test : ℕ → Bool) (n : ℕ) (xs ys : List ℕ) → xs ≡ filter test (range_with_len 0 n) → test n ≡ true → ys ≡ xs ++ n ∷ []
     → ys ≡ filter test (range_with_len 0 (n + 1))
-one_more test n xs ys e p h =
+index_kept test n xs ys e p h =
     h ∙ ap (λ (zs : List ℕ). zs ++ n ∷ []) e ∙ ap (λ (b : Bool). filter test (range_with_len 0 n) ++ cond b (n ∷ []) []) (sym p) ∙ sym (filter_more test n)
 
--- the index n does not pass, and nothing changed
-pub not_more : (test : ℕ → Bool) (n : ℕ) (xs ys : List ℕ) → xs ≡ filter test (range_with_len 0 n) → test n ≡ false → ys ≡ xs
+-- the number n does not pass, and the list is unchanged
+pub index_dropped : (test : ℕ → Bool) (n : ℕ) (xs ys : List ℕ) → xs ≡ filter test (range_with_len 0 n) → test n ≡ false → ys ≡ xs
     → ys ≡ filter test (range_with_len 0 (n + 1))
-not_more test n xs ys e p h =
+index_dropped test n xs ys e p h =
     h ∙ e ∙ sym (append-nil (filter test (range_with_len 0 n))) ∙ ap (λ (b : Bool). filter test (range_with_len 0 n) ++ cond b (n ∷ []) []) (sym p) ∙ sym (filter_more test n)
 
--- all indexes were asked
+-- every index was tested
 pub whole_answer : (globs : List GlobValue) (path : List ℕ) (n : ℕ) (xs : List ℕ) → n ≡ length globs
-    → xs ≡ filter (answers_at globs path) (range_with_len 0 n) → xs ≡ answer globs path
+    → xs ≡ filter (is_listed_at globs path) (range_with_len 0 n) → xs ≡ answer globs path
 unfolding answer
-whole_answer globs path n xs h e = e ∙ ap (λ (k : ℕ). filter (answers_at globs path) (range_with_len 0 k)) h
+whole_answer globs path n xs h e = e ∙ ap (λ (k : ℕ). filter (is_listed_at globs path) (range_with_len 0 k)) h
 
 passes_on : (b : Bool) (x : ℕ) (ys : List ℕ) (i : ℕ) → Contains ys i → Contains (cond b (x ∷ ys) ys) i
 passes_on true x ys i h = (suc h.0, omega (arith, h.1), h.2)
 passes_on false x ys i h = h
 
--- what is in a list and passes is kept
+-- a number that is in a list and passes the test is in the filtered list
 filter_keeps : (test : ℕ → Bool) (xs : List ℕ) (k i : ℕ) → k < length xs → get_or xs k i ≡ i → test i ≡ true → Contains (filter test xs) i
 filter_keeps test [] k i h e p = absurd (omega arith)
 filter_keeps test (x ∷ xs) zero i h e p =
@@ -53,29 +53,29 @@ filter_keeps test (x ∷ xs) zero i h e p =
     (subst (λ (b : Bool). Contains (cond b (i ∷ filter test xs) (filter test xs)) i) (sym p) (0, omega arith, refl))
 filter_keeps test (x ∷ xs) (suc k) i h e p = passes_on (test x) x (filter test xs) i (filter_keeps test xs k i (omega (arith, h)) e p)
 
--- an index that answers
-pub contains_answer : (globs : List GlobValue) (path : List ℕ) (i : ℕ) → i < length globs → answers_at globs path i ≡ true → Contains (answer globs path) i
+-- the index of a listed glob is in the answer
+pub listed_is_contained : (globs : List GlobValue) (path : List ℕ) (i : ℕ) → i < length globs → is_listed_at globs path i ≡ true → Contains (answer globs path) i
 unfolding answer
-contains_answer globs path i h p =
+listed_is_contained globs path i h p =
     let n = length globs in
     let z : 0 + i ≡ i = omega arith in
-    filter_keeps (answers_at globs path) (range_with_len 0 n) i i (rw length-range_with_len h) (get_or-range_with_len 0 n i i h ∙ z) p
+    filter_keeps (is_listed_at globs path) (range_with_len 0 n) i i (rw length-range_with_len h) (get_or-range_with_len 0 n i i h ∙ z) p
 
--- an index of the answer
-pub answer_is : (globs : List GlobValue) (path : List ℕ) (i : ℕ) → Contains (answer globs path) i → (i < length globs) × (answers_at globs path i ≡ true)
+-- an index of the answer is that of a listed glob
+pub contained_is_listed : (globs : List GlobValue) (path : List ℕ) (i : ℕ) → Contains (answer globs path) i → (i < length globs) × (is_listed_at globs path i ≡ true)
 unfolding answer
-answer_is globs path i h =
+contained_is_listed globs path i h =
     let n = length globs in
-    let test = answers_at globs path in (
+    let test = is_listed_at globs path in (
       All-contains (λ j. j < n) (filter test (range_with_len 0 n)) i
           (All-filter test (λ j. j < n) (range_with_len 0 n) (All-from_get_or (λ j. j < n) (range_with_len 0 n) 0
           (λ k l. let within : k < n = rw length-range_with_len at l in rw (get_or-range_with_len 0 n k 0 within) (omega arith)))) h,
       All-contains (λ j. test j ≡ true) (filter test (range_with_len 0 n)) i (filter_passes test (range_with_len 0 n)) h,
     )
 
--- the glob at an index answers for it
-pub answers_here : (globs : List GlobValue) (path : List ℕ) (i : ℕ) (g : GlobValue) → i < length globs → g ≡ get_or globs i g → answers_at globs path i ≡ answers g path
-answers_here globs path i g h e = ap (λ (o : Option GlobValue). option_map_or (λ x. answers x path) o false) (slice_get_read globs (length globs) i g refl h e)
+-- the glob at an index is listed if and only if the index is
+pub is_listed_here : (globs : List GlobValue) (path : List ℕ) (i : ℕ) (g : GlobValue) → i < length globs → g ≡ get_or globs i g → is_listed_at globs path i ≡ is_listed g path
+is_listed_here globs path i g h e = ap (λ (o : Option GlobValue). option_map_or (λ x. is_listed x path) o false) (slice_get_read globs (length globs) i g refl h e)
 
 -- ---- any and all
 
@@ -83,22 +83,22 @@ empty_from : (xs : List ℕ) → ((i : ℕ) → Contains xs i → ⊥) → xs �
 empty_from [] h = refl
 empty_from (x ∷ xs) h = absurd (h x (0, omega arith, refl))
 
-pub some_answers : (globs : List GlobValue) (path : List ℕ) (i : ℕ) → i < length globs → answers_at globs path i ≡ true → IsTrue true ↔ (answer globs path ≢ [])
-some_answers globs path i h p = (
-  λ y e. let held = contains_answer globs path i h p in let no : held.0 < length (answer globs path) = held.1 in let z : held.0 < 0 = rw e at no in omega (arith, z),
+pub some_listed : (globs : List GlobValue) (path : List ℕ) (i : ℕ) → i < length globs → is_listed_at globs path i ≡ true → IsTrue true ↔ (answer globs path ≢ [])
+some_listed globs path i h p = (
+  λ y e. let held = listed_is_contained globs path i h p in let no : held.0 < length (answer globs path) = held.1 in let z : held.0 < 0 = rw e at no in omega (arith, z),
   λ n. refl,
 )
 
-pub none_answers : (globs : List GlobValue) (path : List ℕ) → ((i : ℕ) → i < length globs → answers_at globs path i ≡ false) → IsTrue false ↔ (answer globs path ≢ [])
-none_answers globs path h = (
+pub none_listed : (globs : List GlobValue) (path : List ℕ) → ((i : ℕ) → i < length globs → is_listed_at globs path i ≡ false) → IsTrue false ↔ (answer globs path ≢ [])
+none_listed globs path h = (
   λ y. absurd (cc),
-  λ n. absurd (n (empty_from (answer globs path) (λ i held. let a = answer_is globs path i held in let p = a.1 in let q = h i a.0 in cc))),
+  λ n. absurd (n (empty_from (answer globs path) (λ i held. let a = contained_is_listed globs path i held in let p = a.1 in let q = h i a.0 in cc))),
 )
 
-pub all_answer : (globs : List GlobValue) (path : List ℕ) → ((i : ℕ) → i < length globs → answers_at globs path i ≡ true)
+pub all_listed : (globs : List GlobValue) (path : List ℕ) → ((i : ℕ) → i < length globs → is_listed_at globs path i ≡ true)
     → IsTrue true ↔ ContainsAllBelow (answer globs path) (length globs)
-all_answer globs path h = (λ y i l. contains_answer globs path i l (h i l), λ all. refl)
+all_listed globs path h = (λ y i l. listed_is_contained globs path i l (h i l), λ all. refl)
 
-pub one_fails : (globs : List GlobValue) (path : List ℕ) (i : ℕ) → i < length globs → answers_at globs path i ≡ false
+pub one_not_listed : (globs : List GlobValue) (path : List ℕ) (i : ℕ) → i < length globs → is_listed_at globs path i ≡ false
     → IsTrue false ↔ ContainsAllBelow (answer globs path) (length globs)
-one_fails globs path i l h = (λ y. absurd (cc), λ all. let p = (answer_is globs path i (all i l)).1 in cc)
+one_not_listed globs path i l h = (λ y. absurd (cc), λ all. let p = (contained_is_listed globs path i (all i l)).1 in cc)

@@ -1,4 +1,4 @@
--- A parameter by value of which the call leaves nothing, where what is said of it at the return is empty.
+-- For proofs by hand: a parameter that is passed by value, of which nothing is left at the return and nothing is said there.
 use Prim.Native.Nat.{ℕ}
 use mathlib.Core.Path.{◌≡◌, refl}
 use mathlib.Core.List.{List, [], ◌∷◌}
@@ -18,7 +18,7 @@ pub Goes-blank : {M : Type 1} {𝓤 : Ura M} (𝓛 : Logic 𝓤) (n : ℕ) (s : 
     → ((κs : Lfts n) (x : (s.row κs).Denot) (f : Last ((s.row κs).exit k) x) → T (blank (left ((s.row κs).exit k) x f))) → Goes 𝓛 n s k (stay_dropped s k)
 Goes-blank {𝓤 = 𝓤} 𝓛 n s k is κs x f vs ok = via 𝓤 _ (had 𝓛 (left ((s.row κs).exit k) x f) (is κs x f)) (𝓛.laws.⇛_intro _)
 
--- a value that takes one machine value
+-- the one machine value of a value that takes no more
 pub one_val : {P : Type 1} (vs : List Val) → Lone vs → ((v : Val) → vs ≡ v ∷ [] → P) → P
 one_val [] n k = absurd n
 one_val (v ∷ []) n k = k v refl

@@ -1,4 +1,4 @@
--- Elements of an array, read one after another.
+-- The elements of an array, read one after another.
 use Rattle.std.proofs.Common.{◌≡◌, ℕ, ◌+◌, ◌≤◌, ◌<◌, List, [], ◌∷◌, ◌++◌, ap, sym, ◌∙◌, refl, Result, Ok, Err, IfErr, drop, get_or, length, inl, inr}
 use Rattle.std.proofs.lemmas.List.{drop_more, drop_all}
 use Rattle.std.proofs.lemmas.Result.{IfErr-at_err}
@@ -16,9 +16,9 @@ use Rattle.globset_glob.specs.Token.{Tokens}
 use Rattle.globset_glob.specs.Values.{ValueErrorValue, IsValueErrorOf, of_kind, of_text, of_element, at_index, glob_of_value}
 use Rattle.globset.specs.SetFromValue.{ahead_of, globs_from}
 
--- ---- globs that were read, and what follows
+-- ---- the globs read so far, and what comes after them
 
--- globs before the globs of what follows, or before the error there
+-- these globs and the globs after them, or the error of what comes after them
 abbrev pub onto : List GlobValue → Result (List GlobValue) ValueErrorValue → Result (List GlobValue) ValueErrorValue
 onto [] r = r
 onto (g ∷ globs) r = ahead_of g (onto globs r)
@@ -35,7 +35,7 @@ onto-more : (globs : List GlobValue) (g : GlobValue) (r : Result (List GlobValue
 onto-more [] g r = refl
 onto-more (h ∷ globs) g r = ap (ahead_of h) (onto-more globs g r)
 
--- ---- the errors of values are no want of memory
+-- ---- no error of a value is that of memory
 
 known_fault : (i : ℕ) (text : List ℕ) (f : Fault) → of_element i (of_kind (Glob (refusal text f))) ≡ at_index i (of_kind (Glob (refusal text f)))
 known_fault i text faults.UnclosedClass = refl
@@ -59,7 +59,7 @@ known_error i (object entries) = refl
 
 -- ---- one element
 
--- what follows from this element on, once it is read
+-- the globs from this element on, or the error, by what the element is read as
 abbrev next : ℕ → Result GlobValue ValueErrorValue → Result (List GlobValue) ValueErrorValue → Result (List GlobValue) ValueErrorValue
 next i r more = elim r [ Ok g ↦ ahead_of g more | Err e ↦ Err (at_index i e) ]
 
@@ -69,7 +69,7 @@ next_value values i value within is =
     ap (λ (vs : List Value). globs_from i (items_view vs)) (drop_more values i value within)
     ∙ ap (λ (v : Value). globs_from i (items_view (v ∷ drop (i + 1) values))) (sym is)
 
--- an element is a glob, and was put at the end
+-- an element is a glob, and was pushed onto the list
 pub one_glob : (values : List Value) (i : ℕ) (value : Value) (globs globs' : List GlobValue) (g h : GlobValue) (all : Result (List GlobValue) ValueErrorValue) →
     i < length values → value ≡ get_or values i value → all ≡ onto globs (globs_from i (items_view (drop i values))) → glob_of_value (view value) ≡ Ok g →
     h ≡ g → globs' ≡ globs ++ h ∷ [] → all ≡ onto globs' (globs_from (i + 1) (items_view (drop (i + 1) values)))
@@ -78,7 +78,7 @@ one_glob values i value globs globs' g h all within is sofar e same put =
     sofar ∙ ap (onto globs) (next_value values i value within is ∙ ap (λ (r : Result GlobValue ValueErrorValue). next i r more) e) ∙ onto-more globs g more
     ∙ ap (λ (l : List GlobValue). onto l more) (ap (λ (x : GlobValue). globs ++ x ∷ []) (sym same) ∙ sym put)
 
--- an element is refused
+-- an element is not a glob
 pub one_error : (values : List Value) (i : ℕ) (value : Value) (globs : List GlobValue) (e f : ValueErrorValue) (all : Result (List GlobValue) ValueErrorValue) →
     i < length values → value ≡ get_or values i value → all ≡ onto globs (globs_from i (items_view (drop i values))) → IsValueErrorOf (glob_of_value (view value)) e →
     f ≡ of_element i e → IsValueErrorOf all f

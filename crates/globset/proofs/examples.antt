@@ -1,0 +1,4 @@
+pub mod Words
+pub mod SilentGlobs
+pub mod Indexes
+pub mod JsonSets

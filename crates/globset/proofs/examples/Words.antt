@@ -1,0 +1,65 @@
+-- The words in which the examples are written.
+use Rattle.std.specs.Prelude.{ℕ, Bool, true, List, [], ◌∷◌, length, is_ok, codes, encode_utf8_all, if◌then◌else◌, Option, None, Some, ◌==◌}
+use Rattle.std.specs.Char.{encode_utf8}
+use Rattle.std.specs.List.{list_all, range_with_len}
+use Rattle.std.specs.Str.{chars}
+use Prim.Native.String.{String}
+use Rattle.glob_syntax.specs.declared.options.Options.{Options}
+use Rattle.glob_syntax.specs.declared.options.TheConstants.Options.{DEFAULT}
+use Rattle.globset_glob.specs.Ranges.{ranges, bad_range}
+use Rattle.globset_glob.specs.Marks.{marks, mark_at}
+use Rattle.globset_glob.specs.Nesting.{nested}
+use Rattle.globset_glob.specs.Stars.{piece}
+use Rattle.globset_glob.specs.Reading.{reading, whole, levels}
+use Rattle.globset_glob.specs.Means.{GlobValue, tokens_of_glob, glob_means}
+use Rattle.globset.specs.Answer.{answer}
+use Rattle.globset.specs.Silent.{silent}
+
+-- What a proof unfolds to compute `silent` and `answer` of globs that are written out.
+unfoldable pub globs_on_literals : Unit {0}
+unfolding chars encode_utf8 ranges bad_range marks mark_at nested piece reading whole levels tokens_of_glob glob_means silent answer
+globs_on_literals = tt
+
+-- ---- globs
+
+-- the bytes of a text
+abbrev pub utf8 : String → List ℕ
+utf8 text = encode_utf8_all (codes text)
+
+abbrev pub glob_under : Options → String → GlobValue
+glob_under o text = record { text = utf8 text; options = o }
+
+-- the glob of a text under the default options
+abbrev pub glob : String → GlobValue
+glob = glob_under DEFAULT
+
+-- under `case_insensitive`
+abbrev pub insensitive : String → GlobValue
+insensitive = glob_under (record DEFAULT { case_insensitive = true })
+
+-- under `literal_separator`
+abbrev pub separated : String → GlobValue
+separated = glob_under (record DEFAULT { literal_separator = true })
+
+-- the globs of these texts under the default options
+abbrev pub globs : List String → List GlobValue
+globs [] = []
+globs (text ∷ texts) = glob text ∷ globs texts
+
+-- ---- results
+
+-- the text has a reading, as that of every `Glob` has
+abbrev pub is_read : GlobValue → Bool
+is_read g = is_ok (reading g.options (chars g.text))
+
+-- whether the glob is silent, or `None` if its text is not a glob
+abbrev pub silence : GlobValue → Option Bool
+silence g = if is_read g then Some (silent g) else None
+
+-- the indexes that the set of these globs returns for the path, or `None` if one of the texts is not a glob
+abbrev pub indexes : List GlobValue → String → Option (List ℕ)
+indexes gs path = if list_all is_read gs then Some (answer gs (utf8 path)) else None
+
+-- whether the set's indexes for the path are all indexes below the number of globs, or `None` if a text is not a glob
+abbrev pub all_listed : List GlobValue → String → Option Bool
+all_listed gs path = if list_all is_read gs then Some (length (answer gs (utf8 path)) == length gs) else None

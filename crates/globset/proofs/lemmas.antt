@@ -1,0 +1,9 @@
+pub mod Silent
+pub mod Answer
+pub mod Work
+pub mod Laws
+pub mod SetFromValue
+pub mod SliceItems
+pub mod WalkNames
+pub mod WalkParameters
+pub mod WalkResults

@@ -1,0 +1,69 @@
+-- Laws of the indexes that sets return.
+use Rattle.std.proofs.Common.{◌≡◌, ℕ, zero, suc, ◌+◌, ◌<◌, List, [], ◌∷◌, ◌++◌, length, Bool, true, false, cond, Option, Some, refl, ap, sym, ◌∙◌, arith, length-append}
+use Rattle.std.specs.Prelude.{filter, slice_get}
+use Rattle.std.specs.List.{range_with_len}
+use Rattle.std.specs.Option.{option_map_or}
+use Rattle.globset_glob.specs.Means.{GlobValue}
+use Rattle.globset.specs.Answer.{is_listed, is_listed_at, answer}
+use Rattle.globset.specs.Laws.{AddKeeps, OrderRenames, OneGlobSet}
+use Rattle.globset.proofs.lemmas.Answer.{filter_more, listed_is_contained, contained_is_listed}
+
+-- ---- one more glob at the end
+
+slice_get-front : (xs ys : List GlobValue) (i : ℕ) → i < length xs → slice_get (xs ++ ys) i ≡ slice_get xs i
+slice_get-front [] ys i h = absurd (omega arith)
+slice_get-front (x ∷ xs) ys zero h = refl
+slice_get-front (x ∷ xs) ys (suc i) h = slice_get-front xs ys i (omega arith)
+
+slice_get-last : (xs : List GlobValue) (x : GlobValue) → slice_get (xs ++ x ∷ []) (length xs) ≡ Some x
+slice_get-last [] x = refl
+slice_get-last (y ∷ xs) x = slice_get-last xs x
+
+-- two tests that agree below n keep the same numbers below n
+filter_agree_below : (p q : ℕ → Bool) (n : ℕ) → ((i : ℕ) → i < n → p i ≡ q i) → filter p (range_with_len 0 n) ≡ filter q (range_with_len 0 n)
+filter_agree_below p q zero h = refl
+filter_agree_below p q (suc n) h =
+    let more : suc n ≡ n + 1 = omega arith in
+    let here : p n ≡ q n = h n (omega arith) in
+    let front = filter_agree_below p q n (λ i l. h i (omega arith)) in
+    ap (λ (k : ℕ). filter p (range_with_len 0 k)) more ∙ filter_more p n
+    ∙ (λ i. front i ++ cond (here i) (n ∷ []) [])
+    ∙ sym (filter_more q n) ∙ ap (λ (k : ℕ). filter q (range_with_len 0 k)) (sym more)
+
+pub adding_keeps : AddKeeps
+unfolding answer
+adding_keeps globs g path =
+    let n = length globs in
+    let more : length (globs ++ g ∷ []) ≡ n + 1 = simp length-append (omega arith) in
+    let front = filter_agree_below (is_listed_at (globs ++ g ∷ []) path) (is_listed_at globs path) n
+    (λ i h. ap (λ (o : Option GlobValue). option_map_or (λ x. is_listed x path) o false) (slice_get-front globs (g ∷ []) i h)) in
+    let last : is_listed_at (globs ++ g ∷ []) path n ≡ is_listed g path = ap (λ (o : Option GlobValue). option_map_or (λ x. is_listed x path) o false) (slice_get-last globs g) in
+    ap (λ (k : ℕ). filter (is_listed_at (globs ++ g ∷ []) path) (range_with_len 0 k)) more ∙ filter_more (is_listed_at (globs ++ g ∷ []) path) n
+    ∙ (λ i. front i ++ cond (last i) (n ∷ []) [])
+
+-- ---- another order
+
+listed_within : (globs : List GlobValue) (path : List ℕ) (i : ℕ) → is_listed_at globs path i ≡ true → i < length globs
+listed_within [] path i h = absurd (cc)
+listed_within (g ∷ globs) path zero h = omega arith
+listed_within (g ∷ globs) path (suc i) h = omega (arith, listed_within globs path i h)
+
+pub order_only_renames : OrderRenames
+order_only_renames first second to path reordered j = (
+  λ held.
+      let a = contained_is_listed second path j held in
+      let from = reordered.onto j a.0 in
+      let same : is_listed_at second path (to from.0) ≡ is_listed_at first path from.0 = ap (λ (o : Option GlobValue). option_map_or (λ x. is_listed x path) o false) (reordered.same_glob from.0 from.1) in
+      (from.0, listed_is_contained first path from.0 from.1 (sym same ∙ ap (is_listed_at second path) from.2 ∙ a.1), from.2),
+  λ from.
+      let a = contained_is_listed first path from.0 from.1 in
+      let same : is_listed_at second path (to from.0) ≡ is_listed_at first path from.0 = ap (λ (o : Option GlobValue). option_map_or (λ x. is_listed x path) o false) (reordered.same_glob from.0 a.0) in
+      let yes : is_listed_at second path j ≡ true = ap (is_listed_at second path) (sym from.2) ∙ same ∙ a.1 in
+      listed_is_contained second path j (listed_within second path j yes) yes,
+)
+
+-- ---- one glob
+
+pub one_glob_is_listed : OneGlobSet
+unfolding answer
+one_glob_is_listed g path h = rw h refl

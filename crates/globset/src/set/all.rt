@@ -1,0 +1,64 @@
+//! Whether every glob of a set matches a path.
+
+ghost use Rattle.std.specs.Prelude.{◌≡◌, ◌+◌, ◌≤◌, ◌↔◌, [], IfOk, IfErr, IsOk, IsTrue, length};
+ghost use Rattle.globset_glob.specs.Errors.{out_of_memory};
+ghost use Rattle.globset.specs.Answer.{answer, ContainsAllBelow};
+ghost use Rattle.globset.specs.SetValue.{set_globs};
+ghost use Rattle.globset.specs.Work.{most_set_visits};
+
+use crate::set::GlobSet;
+use globset_glob::{AsPath, Candidate, Error, Visits};
+
+impl GlobSet {
+    /// Returns whether every glob matches the path and none is silent: whether [`GlobSet::matches`] would return every index
+    /// below [`GlobSet::len`]. It is true if the set has no globs.
+    ///
+    /// Returns an error if memory runs out, and no other. A set of no globs needs no memory.
+    pub fn matches_all<P: AsPath>(&self, path: P) -> Result<bool, Error>
+        ensures ok { IfOk result (λ yes. IsTrue yes
+            ↔ ContainsAllBelow (answer (set_globs self.now) (P.text path)) (length (set_globs self.now))) }
+        ensures err { IfErr result (λ e. e ≡ out_of_memory) }
+        ensures empty { set_globs self.now ≡ [] → IsOk result }
+    {
+        self.matches_all_candidate(&Candidate::new(path.path_text()))
+    }
+
+    /// Returns whether every glob matches the candidate's path and none is silent, as [`GlobSet::matches_all`] does.
+    ///
+    /// Returns an error if memory runs out, and no other. A set of no globs needs no memory.
+    pub fn matches_all_candidate(&self, path: &Candidate<'_>) -> Result<bool, Error>
+        ensures ok { IfOk result (λ yes. IsTrue yes
+            ↔ ContainsAllBelow (answer (set_globs self.now) path.now) (length (set_globs self.now))) }
+        ensures err { IfErr result (λ e. e ≡ out_of_memory) }
+        ensures empty { set_globs self.now ≡ [] → IsOk result }
+    {
+        let mut visits = Visits::new();
+        self.matches_all_visits(path, &mut visits)
+    }
+
+    /// The same as [`GlobSet::matches_all_candidate`], which calls it, with a count of the visits.
+    ///
+    /// It adds at most `path bytes + 1` times the sum of `4 * glob bytes + 4` over the globs, also if memory runs out. It
+    /// tries the globs in order and stops at the first that is silent or does not match. It holds the memory of one matcher
+    /// at a time.
+    ///
+    /// Returns an error if memory runs out, and no other. A set of no globs needs no memory.
+    pub fn matches_all_visits(
+        &self,
+        path: &Candidate<'_>,
+        visits: &mut Visits,
+    ) -> Result<bool, Error>
+        ensures ok { IfOk result (λ yes. IsTrue yes
+            ↔ ContainsAllBelow (answer (set_globs self.now) path.now) (length (set_globs self.now))) }
+        ensures err { IfErr result (λ e. e ≡ out_of_memory) }
+        ensures empty { set_globs self.now ≡ [] → IsOk result }
+        ensures visits { visits.new ≤ visits.old + most_set_visits (set_globs self.now) path.now }
+    {
+        for member in self.members() {
+            if !member.matches(path, visits)? {
+                return Ok(false);
+            }
+        }
+        Ok(true)
+    }
+}

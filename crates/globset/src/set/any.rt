@@ -1,0 +1,59 @@
+//! Whether some glob of a set matches a path.
+
+ghost use Rattle.std.specs.Prelude.{◌≡◌, ◌≢◌, ◌+◌, ◌≤◌, ◌↔◌, [], IfOk, IfErr, IsOk, IsTrue};
+ghost use Rattle.globset_glob.specs.Errors.{out_of_memory};
+ghost use Rattle.globset.specs.Answer.{answer};
+ghost use Rattle.globset.specs.SetValue.{set_globs};
+ghost use Rattle.globset.specs.Work.{most_set_visits};
+
+use crate::set::GlobSet;
+use globset_glob::{AsPath, Candidate, Error, Visits};
+
+impl GlobSet {
+    /// Returns whether some glob that is not silent matches the path: whether [`GlobSet::matches`] would return an index.
+    ///
+    /// To match several sets against one path, or against bytes that are not UTF-8, create a [`Candidate`] and call
+    /// [`GlobSet::is_match_candidate`].
+    ///
+    /// Returns an error if memory runs out, and no other. A set of no globs needs no memory.
+    pub fn is_match<P: AsPath>(&self, path: P) -> Result<bool, Error>
+        ensures ok { IfOk result (λ yes. IsTrue yes ↔ (answer (set_globs self.now) (P.text path) ≢ [])) }
+        ensures err { IfErr result (λ e. e ≡ out_of_memory) }
+        ensures empty { set_globs self.now ≡ [] → IsOk result }
+    {
+        self.is_match_candidate(&Candidate::new(path.path_text()))
+    }
+
+    /// Returns whether some glob that is not silent matches the candidate's path, as [`GlobSet::is_match`] does.
+    ///
+    /// Returns an error if memory runs out, and no other. A set of no globs needs no memory.
+    pub fn is_match_candidate(&self, path: &Candidate<'_>) -> Result<bool, Error>
+        ensures ok { IfOk result (λ yes. IsTrue yes ↔ (answer (set_globs self.now) path.now ≢ [])) }
+        ensures err { IfErr result (λ e. e ≡ out_of_memory) }
+        ensures empty { set_globs self.now ≡ [] → IsOk result }
+    {
+        let mut visits = Visits::new();
+        self.is_match_visits(path, &mut visits)
+    }
+
+    /// The same as [`GlobSet::is_match_candidate`], which calls it, with a count of the visits.
+    ///
+    /// It adds at most `path bytes + 1` times the sum of `4 * glob bytes + 4` over the globs, also if memory runs out. It
+    /// tries the globs in order and stops at the first that is not silent and matches. It holds the memory of one matcher at
+    /// a time.
+    ///
+    /// Returns an error if memory runs out, and no other. A set of no globs needs no memory.
+    pub fn is_match_visits(&self, path: &Candidate<'_>, visits: &mut Visits) -> Result<bool, Error>
+        ensures ok { IfOk result (λ yes. IsTrue yes ↔ (answer (set_globs self.now) path.now ≢ [])) }
+        ensures err { IfErr result (λ e. e ≡ out_of_memory) }
+        ensures empty { set_globs self.now ≡ [] → IsOk result }
+        ensures visits { visits.new ≤ visits.old + most_set_visits (set_globs self.now) path.now }
+    {
+        for member in self.members() {
+            if member.matches(path, visits)? {
+                return Ok(true);
+            }
+        }
+        Ok(false)
+    }
+}

@@ -1,0 +1,112 @@
+//! The indexes of the globs of a set that match a path.
+
+ghost use Rattle.std.specs.Prelude.{◌≡◌, ◌+◌, ◌≤◌, [], IfOk, IfErr, OnOk, OnErr};
+ghost use Rattle.globset_glob.specs.Errors.{out_of_memory};
+ghost use Rattle.globset.specs.Answer.{answer};
+ghost use Rattle.globset.specs.SetValue.{set_globs};
+ghost use Rattle.globset.specs.Work.{most_set_visits};
+
+use crate::set::GlobSet;
+use globset_glob::{AsPath, Candidate, Error, Visits};
+use std::alloc::Global;
+
+impl GlobSet {
+    /// Returns the indexes, ascending, of the globs that match the path. Silent globs are left out.
+    ///
+    /// Returns an error if memory runs out, and no other.
+    pub fn matches<P: AsPath>(&self, alloc: Global, path: P) -> Result<Vec<usize>, Error>
+        ensures ok { IfOk result (λ v. v.items ≡ answer (set_globs self.now) (P.text path)) }
+        ensures err { IfErr result (λ e. e ≡ out_of_memory) }
+    {
+        self.matches_candidate(alloc, &Candidate::new(path.path_text()))
+    }
+
+    /// Returns the indexes, ascending, of the globs that match the candidate's path. Silent globs are left out.
+    ///
+    /// Returns an error if memory runs out, and no other.
+    pub fn matches_candidate(
+        &self,
+        alloc: Global,
+        path: &Candidate<'_>,
+    ) -> Result<Vec<usize>, Error>
+        ensures ok { IfOk result (λ v. v.items ≡ answer (set_globs self.now) path.now) }
+        ensures err { IfErr result (λ e. e ≡ out_of_memory) }
+    {
+        let mut indexes = Vec::new(alloc);
+        self.matches_candidate_into(path, &mut indexes)?;
+        Ok(indexes)
+    }
+
+    /// Replaces the vector's items by the indexes that [`GlobSet::matches`] returns. The vector's capacity is reused.
+    ///
+    /// Returns an error if memory runs out, and no other. The vector is then empty.
+    pub fn matches_into<P: AsPath>(&self, path: P, into: &mut Vec<usize>) -> Result<(), Error>
+        ensures ok { OnOk result (into.new.items ≡ answer (set_globs self.now) (P.text path)) }
+        ensures err { IfErr result (λ e. e ≡ out_of_memory) }
+        ensures refused { OnErr result (into.new.items ≡ []) }
+    {
+        self.matches_candidate_into(&Candidate::new(path.path_text()), into)
+    }
+
+    /// Replaces the vector's items by the indexes that [`GlobSet::matches_candidate`] returns. The vector's capacity is
+    /// reused.
+    ///
+    /// Returns an error if memory runs out, and no other. The vector is then empty.
+    pub fn matches_candidate_into(
+        &self,
+        path: &Candidate<'_>,
+        into: &mut Vec<usize>,
+    ) -> Result<(), Error>
+        ensures ok { OnOk result (into.new.items ≡ answer (set_globs self.now) path.now) }
+        ensures err { IfErr result (λ e. e ≡ out_of_memory) }
+        ensures refused { OnErr result (into.new.items ≡ []) }
+    {
+        let mut visits = Visits::new();
+        self.matches_visits(path, into, &mut visits)
+    }
+
+    /// The same as [`GlobSet::matches_candidate_into`], which calls it, with a count of the visits.
+    ///
+    /// It adds at most `path bytes + 1` times the sum of `4 * glob bytes + 4` over the globs, also if memory runs out. It
+    /// tries every glob, in order. It holds the memory of one matcher at a time, and grows the vector for the indexes.
+    ///
+    /// Returns an error if memory runs out, and no other. The vector is then empty.
+    pub fn matches_visits(
+        &self,
+        path: &Candidate<'_>,
+        into: &mut Vec<usize>,
+        visits: &mut Visits,
+    ) -> Result<(), Error>
+        ensures ok { OnOk result (into.new.items ≡ answer (set_globs self.now) path.now) }
+        ensures err { IfErr result (λ e. e ≡ out_of_memory) }
+        ensures refused { OnErr result (into.new.items ≡ []) }
+        ensures visits { visits.new ≤ visits.old + most_set_visits (set_globs self.now) path.now }
+    {
+        into.clear();
+        if let Err(error) = self.push_matches(path, into, visits) {
+            into.clear();
+            return Err(error);
+        }
+        Ok(())
+    }
+
+    /// Pushes the indexes onto an empty vector. If memory runs out, the vector has some of them.
+    fn push_matches(
+        &self,
+        path: &Candidate<'_>,
+        into: &mut Vec<usize>,
+        visits: &mut Visits,
+    ) -> Result<(), Error>
+        requires { into.old.items ≡ [] }
+        ensures ok { OnOk result (into.new.items ≡ answer (set_globs self.now) path.now) }
+        ensures err { IfErr result (λ e. e ≡ out_of_memory) }
+        ensures visits { visits.new ≤ visits.old + most_set_visits (set_globs self.now) path.now }
+    {
+        for (index, member) in self.members().iter().enumerate() {
+            if member.matches(path, visits)? {
+                into.push(index)?;
+            }
+        }
+        Ok(())
+    }
+}
