@@ -1,7 +1,7 @@
 -- Errors of globs, and their texts.
 use Rattle.std.specs.Prelude.{◌≡◌, ℕ, List, ◌++◌, Option, Some, None, encode_utf8, codes, string_bytes, ◌⊎◌, Result, Ok, Err}
-use Rattle.globset_glob.specs.declared.error.ErrorKind.{ErrorKind}
-use Rattle.globset_glob.specs.declared.error.ErrorKind.TheVariants as kinds
+use Rattle.globset_glob.specs.declared.error.kind.ErrorKind.{ErrorKind}
+use Rattle.globset_glob.specs.declared.error.kind.ErrorKind.TheVariants as kinds
 use Rattle.glob_syntax.specs.declared.fault.Fault.{Fault}
 use Rattle.glob_syntax.specs.declared.fault.Fault.TheVariants as faults
 use Rattle.glob_syntax.specs.declared.options.Options.{Options}

@@ -1,8 +1,8 @@
 -- What a JSON value is read as, or why it is refused.
 use Rattle.std.specs.Prelude.{◌≡◌, ◌⊎◌, ℕ, List, ◌++◌, Bool, true, false, Option, Some, None, Result, Ok, Err, codes, decimal, if◌then◌else◌}
 use Rattle.serde_json.specs.Data.{Data, null, boolean, number, string, array, object}
-use Rattle.globset_glob.specs.declared.error.ErrorKind.{ErrorKind}
-use Rattle.globset_glob.specs.declared.error.ErrorKind.TheVariants as causes
+use Rattle.globset_glob.specs.declared.error.kind.ErrorKind.{ErrorKind}
+use Rattle.globset_glob.specs.declared.error.kind.ErrorKind.TheVariants as causes
 use Rattle.globset_glob.specs.declared.json.error.ValueErrorKind.{ValueErrorKind}
 use Rattle.globset_glob.specs.declared.json.error.ValueErrorKind.TheVariants as kinds
 use Rattle.globset_glob.specs.Errors.{ErrorValue, out_of_memory, error_text, glob_or_refusal}

@@ -1,3 +1,4 @@
+pub mod Equality
 pub mod RegexWriting
 pub mod Rows
 pub mod Rules

@@ -1,66 +1,23 @@
 //! Errors of globs.
 
-mod equality;
+ghost use Rattle.std.specs.Prelude.{◌≡◌, ◌⊎◌, ◌↔◌, IfOk, IfErr, IsTrue};
+ghost use Rattle.std.specs.Cmp.{partial_equiv_from_equiv};
+ghost use Rattle.globset_glob.specs.Errors.{out_of_memory};
+ghost use Rattle.globset_glob.specs.Equality.{SameError};
+ghost use Rattle.globset_glob.specs.inner.Equality.{same_error, same_error_laws};
+
+pub mod kind;
 
 use glob_syntax::Fault;
+use kind::ErrorKind;
 use std::alloc::{AllocError, AllocFailed, Global};
 use std::fmt;
 use std::marker::Model;
 
-/// Why a glob was refused, or a call gave up.
-#[derive(Debug, PartialEq, Eq, Drop)]
-pub enum ErrorKind {
-    /// A `[` has no closing `]`.
-    UnclosedClass,
-    /// A range `s-e` in a class goes down, as in `[z-a]`: the characters `s` and `e`.
-    InvalidRange(char, char),
-    /// A `}` has no open `{`.
-    UnopenedAlternates,
-    /// A `{` has no closing `}`.
-    UnclosedAlternates,
-    /// A `\` that would escape is the last character.
-    DanglingEscape,
-    /// Memory ran out. The only kind that a call on a glob that was read can answer.
-    OutOfMemory,
-    /// Never made: every use of `**` has a meaning.
-    InvalidRecursive,
-    /// Never made: groups nest.
-    NestedAlternates,
-    /// Never made: there is no engine that could refuse.
-    Regex(String),
-}
-
-impl fmt::Display for ErrorKind {
-    ghost use Rattle.std.specs.Prelude.{Some};
-    ghost use Rattle.globset_glob.specs.Errors.{kind_text};
-
-    ghost output = { λ kind. Some (kind_text kind) };
-
-    fn fmt<W: fmt::Write>(&self, f: &mut fmt::Formatter<W>) -> fmt::Result {
-        match self {
-            ErrorKind::UnclosedClass => f.write_str("unclosed character class; missing ']'"),
-            ErrorKind::InvalidRange(start, end) => write!(f, "invalid range; '{start}' > '{end}'"),
-            ErrorKind::UnopenedAlternates => f.write_str(
-                "unopened alternate group; missing '{' (maybe escape '}' with '[}]'?)",
-            ),
-            ErrorKind::UnclosedAlternates => f.write_str(
-                "unclosed alternate group; missing '}' (maybe escape '{' with '[{]'?)",
-            ),
-            ErrorKind::DanglingEscape => f.write_str("dangling '\\'"),
-            ErrorKind::OutOfMemory => f.write_str("out of memory"),
-            ErrorKind::InvalidRecursive => {
-                f.write_str("invalid use of **; must be one path component")
-            }
-            ErrorKind::NestedAlternates => f.write_str("nested alternate groups are not allowed"),
-            ErrorKind::Regex(text) => f.write_str(text.as_str()),
-        }
-    }
-}
-
-/// Why a text is no glob, or that memory ran out.
+/// An error of reading a glob, or of any other call that runs out of memory.
 ///
-/// An error of a refused text holds that text. Where memory ran out, also for the copy of that text, the kind is
-/// [`ErrorKind::OutOfMemory`] and no text is held.
+/// The error of a rejected text holds that text. If memory runs out, also for the copy of that text, the kind is
+/// [`ErrorKind::OutOfMemory`] and the error holds no text.
 #[derive(Debug, Drop)]
 pub struct Error {
     glob: Option<String>,
@@ -78,12 +35,11 @@ impl Model for Error {
 }
 
 impl Error {
-    ghost use Rattle.std.specs.Prelude.{◌≡◌, ◌⊎◌};
     ghost use Rattle.std.specs.Option.{option_map};
-    ghost use Rattle.globset_glob.specs.Errors.{out_of_memory, refusal};
+    ghost use Rattle.globset_glob.specs.Errors.{refusal};
 
-    /// The error of a text that is no glob. Where the text cannot be copied it is want of memory.
-    pub fn refusal(alloc: Global, text: &str, fault: Fault) -> Error
+    /// The error of a text with this fault. If the text cannot be copied, it says that memory ran out.
+    pub(crate) fn refusal(alloc: Global, text: &str, fault: Fault) -> Error
         ensures { (result ≡ out_of_memory) ⊎ (result ≡ refusal text.now fault) }
     {
         let Ok(glob) = String::from_str(alloc, text) else {
@@ -91,12 +47,12 @@ impl Error {
         };
         Error {
             glob: Some(glob),
-            kind: ErrorKind::from(fault),
+            kind: ErrorKind::of(fault),
         }
     }
 
-    /// Want of memory. It takes none.
-    pub fn out_of_memory() -> Error
+    /// The error that memory ran out.
+    pub(crate) fn out_of_memory() -> Error
         ensures { result ≡ out_of_memory }
     {
         Error {
@@ -105,7 +61,7 @@ impl Error {
         }
     }
 
-    /// The text that was refused, where one is held. It takes no memory.
+    /// Returns the rejected text, or `None` if memory ran out.
     pub fn glob(&self) -> Option<&str>
         ensures { option_map (λ s. s.now) result ≡ self.now.glob }
     {
@@ -115,15 +71,58 @@ impl Error {
         }
     }
 
-    /// Why. It takes no memory.
+    /// Returns the kind of the error.
     pub fn kind(&self) -> &ErrorKind
         ensures { result.now ≡ self.now.kind }
     {
         &self.kind
     }
+
+    /// Returns an equal error, or an error if memory runs out.
+    pub fn clone(&self) -> Result<Error, Error>
+        ensures ok { IfOk result (λ e. SameError e self.now) }
+        ensures equal { IfOk result (λ e. IsTrue (⟦<Error as PartialEq>⟧.eq e self.now)) }
+        ensures err { IfErr result (λ e. e ≡ out_of_memory) }
+    {
+        Ok(Clone::clone(self)?)
+    }
 }
 
-/// `error parsing glob '<glob>': <kind>`, or the kind's text alone where no glob is held.
+/// An equal error. The error of the call says that memory ran out.
+impl Clone for Error {
+    ghost is_clone = { λ e f. SameError f e };
+
+    fn clone(&self) -> Result<Error, AllocError> {
+        let kind = Clone::clone(&self.kind)?;
+        let glob = match &self.glob {
+            Some(glob) => Some(glob.clone()?),
+            None => None,
+        };
+        Ok(Error { glob, kind })
+    }
+}
+
+/// Errors are equal if their texts and their kinds are. It allocates nothing.
+impl PartialEq for Error {
+    ghost eq = { same_error };
+
+    ghost laws = { partial_equiv_from_equiv same_error_laws };
+
+    #[tactic(auto, using(crate::proofs::lemmas::KindEqualities::equal_errors))]
+    fn eq(&self, other: &Error) -> bool
+        ensures result { result ≡ same_error self.now other.now }
+        ensures same { IsTrue result ↔ SameError self.now other.now }
+    {
+        self.glob == other.glob && self.kind == other.kind
+    }
+}
+
+/// Each error is equal to itself.
+impl Eq for Error {
+    ghost laws = { same_error_laws };
+}
+
+/// `error parsing glob '<glob>': <kind>`, or only the kind's text if the error holds no glob text.
 impl fmt::Display for Error {
     ghost use Rattle.std.specs.Prelude.{Some};
     ghost use Rattle.globset_glob.specs.Errors.{error_text};
@@ -143,27 +142,8 @@ impl fmt::Display for Error {
 
 impl std::error::Error for Error {}
 
-impl From<Fault> for ErrorKind {
-    ghost use Rattle.std.specs.Prelude.{◌≡◌};
-    ghost use Rattle.globset_glob.specs.Errors.{kind_of};
-
-    ghost from_gives = { λ fault kind. kind ≡ kind_of fault };
-
-    fn from(fault: Fault) -> ErrorKind {
-        match fault {
-            Fault::UnclosedClass => ErrorKind::UnclosedClass,
-            Fault::InvalidRange(start, end) => ErrorKind::InvalidRange(start, end),
-            Fault::UnopenedAlternates => ErrorKind::UnopenedAlternates,
-            Fault::UnclosedAlternates => ErrorKind::UnclosedAlternates,
-            Fault::DanglingEscape => ErrorKind::DanglingEscape,
-        }
-    }
-}
-
+/// The error that memory ran out, so that `?` converts std's.
 impl From<AllocError> for Error {
-    ghost use Rattle.std.specs.Prelude.{◌≡◌};
-    ghost use Rattle.globset_glob.specs.Errors.{out_of_memory};
-
     ghost from_gives = { λ _ e. e ≡ out_of_memory };
 
     fn from(_e: AllocError) -> Error {
@@ -171,10 +151,8 @@ impl From<AllocError> for Error {
     }
 }
 
+/// The error that memory ran out, so that `?` converts the error of `Vec::push` and the like.
 impl<T: Drop> From<AllocFailed<T>> for Error {
-    ghost use Rattle.std.specs.Prelude.{◌≡◌};
-    ghost use Rattle.globset_glob.specs.Errors.{out_of_memory};
-
     ghost from_gives = { λ _ e. e ≡ out_of_memory };
 
     fn from(_e: AllocFailed<T>) -> Error {

@@ -12,7 +12,8 @@ mod path;
 mod regex_text;
 
 pub use builder::GlobBuilder;
-pub use error::{Error, ErrorKind};
+pub use error::Error;
+pub use error::kind::ErrorKind;
 pub use escaping::escape;
 pub use glob::Glob;
 pub use glob_syntax::{Class, Options, Token};

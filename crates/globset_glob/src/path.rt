@@ -9,14 +9,14 @@ use std::alloc::AllocError;
 use std::fmt;
 use std::marker::Model;
 
-/// What can be matched as a path: a value with a text.
+/// A text that can be matched as a path.
 ///
-/// `Path`, `OsStr` and the like have none of their own: hand in their text, or their bytes by
+/// A `Path`, an `OsStr` and the like have no text of their own. Pass their text, or pass their bytes to
 /// [`Candidate::from_bytes`].
 pub trait AsPath: Drop {
     ghost text: { Self → List ℕ };
 
-    /// The path's text, the same at each call.
+    /// Returns the path's text, which is the same at each call.
     fn path_text(&self) -> &str
         ensures { result.now ≡ text self.now };
 }
@@ -45,79 +45,72 @@ impl AsPath for &String {
     }
 }
 
-/// A path that is made ready once, to be matched by many globs.
+/// A path that can be matched by many globs.
 ///
-/// Contracts see it as the path's bytes. A path is a list of bytes, UTF-8 or not; `/` is its only separator, and nothing
-/// in it is changed before matching. What the getters answer are slices of the bytes that were handed in, and no copies:
-/// they live as long as those bytes, and longer than the candidate where it goes first.
+/// Contracts see a candidate as the path's bytes. A path is a list of bytes, UTF-8 or not. Its only separator is `/`, and
+/// it is not changed before matching. `path`, `basename` and `ext` return slices of the bytes that the candidate was made
+/// from, not copies, so they may be used as long as those bytes, also after the candidate is dropped.
 #[derive(Drop)]
 pub struct Candidate<'a> {
     path: &'a [u8],
-    base: &'a [u8],
-    ext: &'a [u8],
 }
 
 impl<'a> Model for Candidate<'a> {
-    ghost use Rattle.std.specs.Prelude.{◌≡◌, ℕ, List};
-    ghost use Rattle.globset_glob.specs.PathParts.{basename_of, extension_of};
+    ghost use Rattle.std.specs.Prelude.{ℕ, List};
 
     ghost Value = { List ℕ };
 
     ghost view = { λ c. c.path.now };
-
-    ghost invariant = { λ c. (c.base.now ≡ basename_of c.path.now) × (c.ext.now ≡ extension_of c.path.now) };
 }
 
 impl<'a> Candidate<'a> {
     ghost use Rattle.globset_glob.specs.PathParts.{basename_of, extension_of};
 
-    /// The path of this text. It takes no memory.
+    /// Returns a candidate for the path with this text. It reads none of the path and allocates nothing.
     pub fn new(path: &'a str) -> Candidate<'a>
         ensures { result ≡ path.now }
     {
         Candidate::from_bytes(path.as_bytes())
     }
 
-    /// The path of these bytes, UTF-8 or not. It looks through the path's last part, and takes no memory.
+    /// Returns a candidate for the path with these bytes, UTF-8 or not. It reads none of them and allocates nothing.
     ///
-    /// The candidate of a text's bytes is that of the text: contracts see the same value, and so every call on the two
-    /// gives the same answer.
+    /// A text and its bytes give equal candidates: contracts see the same value, so every call returns the same for both.
     pub fn from_bytes(path: &'a [u8]) -> Candidate<'a>
         ensures { result ≡ path.now }
     {
-        let base = parts::basename(path);
-        Candidate {
-            path,
-            base,
-            ext: parts::extension(base),
-        }
+        Candidate { path }
     }
 
-    /// The path's bytes: those that were handed in, and no copy.
+    /// Returns the path's bytes, the ones that the candidate was made from.
     pub fn path(&self) -> &'a [u8]
         ensures { result.now ≡ self.now }
     {
         self.path
     }
 
-    /// The basename: what follows the path's last `/`, or the whole path where it has none, but nothing where that is
-    /// `..`. It was found when the candidate was made.
+    /// Returns the basename: the bytes after the path's last `/`, or the whole path if it has no `/`. If these bytes are
+    /// `..`, the basename is empty.
+    ///
+    /// Each call searches the path from its end to its last `/`, and reads each byte of the basename at most once more.
     pub fn basename(&self) -> &'a [u8]
         ensures { result.now ≡ basename_of self.now }
     {
-        self.base
+        parts::basename(self.path)
     }
 
-    /// The extension: what of the basename begins with its last `.`, or nothing where it has none. It was found when the
-    /// candidate was made.
+    /// Returns the extension: the bytes of the basename from its last `.` on, or nothing if it has no `.`.
+    ///
+    /// Each call finds the basename as [`basename`](Candidate::basename) does, and then searches it from its end to its
+    /// last `.`.
     pub fn ext(&self) -> &'a [u8]
         ensures { result.now ≡ extension_of self.now }
     {
-        self.ext
+        parts::extension(self.basename())
     }
 }
 
-/// The same path, of the same bytes. It takes no memory, and cannot fail.
+/// A candidate for the same bytes. It allocates nothing, and cannot fail.
 impl<'a> Clone for Candidate<'a> {
     ghost use Rattle.std.specs.Prelude.{◌≡◌, ⊤};
 
@@ -126,11 +119,7 @@ impl<'a> Clone for Candidate<'a> {
     ghost is_infallible = { λ _. ⊤ };
 
     fn clone(&self) -> Result<Candidate<'a>, AllocError> {
-        Ok(Candidate {
-            path: self.path,
-            base: self.base,
-            ext: self.ext,
-        })
+        Ok(Candidate { path: self.path })
     }
 }
 
@@ -139,8 +128,8 @@ impl<'a> fmt::Debug for Candidate<'a> {
     fn fmt<W: fmt::Write>(&self, f: &mut fmt::Formatter<W>) -> fmt::Result {
         f.debug_struct("Candidate")
             .field("path", &self.path.as_bstr())
-            .field("basename", &self.base.as_bstr())
-            .field("ext", &self.ext.as_bstr())
+            .field("basename", &self.basename().as_bstr())
+            .field("ext", &self.ext().as_bstr())
             .finish()
     }
 }

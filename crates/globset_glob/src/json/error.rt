@@ -1,28 +1,63 @@
-//! Why a JSON value is refused.
+//! Errors of reading a JSON value.
 
-ghost use Rattle.std.specs.Prelude.{◌≡◌, ◌↔◌, IsTrue, nat_eq};
-ghost use Rattle.std.specs.Option.{option_eq};
-ghost use Rattle.std.specs.Ordering.{on, eq_of_both};
+ghost use Rattle.std.specs.Prelude.{◌≡◌, ◌↔◌, IsTrue};
 ghost use Rattle.std.specs.Cmp.{partial_equiv_from_equiv};
-ghost use Rattle.std.specs.Cmp.Lexicographic.{options_equiv};
-ghost use Rattle.std.proofs.lemmas.Cmp.{and_equiv, on_equiv, nat_eq_equiv};
-ghost use Rattle.globset_glob.specs.contracts.json.error.ValueErrorKindEq.TheImpl.Laws.{laws-law};
-ghost use Rattle.globset_glob.specs.Equality.{SameValueError};
+ghost use Rattle.globset_glob.specs.Equality.{SameValueKind, SameValueError};
+ghost use Rattle.globset_glob.specs.inner.Equality.{same_value_kind, same_value_kind_laws, same_value_error, same_value_error_laws};
 
-use crate::error::{Error, ErrorKind};
+use crate::error::Error;
+use crate::error::kind::ErrorKind;
 use std::alloc::{AllocError, AllocFailed};
 use std::fmt;
 use std::marker::Model;
 
-/// Why a value, or an element of an array, is refused.
-#[derive(Debug, PartialEq, Eq, Drop)]
+/// Why a JSON value, or an element of a JSON array, is rejected, or that memory ran out.
+#[derive(Debug, Drop)]
 pub enum ValueErrorKind {
-    /// It is no text, but a number, a truth value, null, an array or an object.
+    /// It is not a text, but a number, a truth value, null, an array or an object.
     NotText,
-    /// It is no array.
+    /// It is not an array.
     NotArray,
-    /// Its content is no glob, or memory ran out.
+    /// The content of the text is rejected as a glob, or memory ran out.
     Glob(Error),
+}
+
+/// An equal kind. The error says that memory ran out.
+impl Clone for ValueErrorKind {
+    ghost is_clone = { λ k l. SameValueKind l k };
+
+    fn clone(&self) -> Result<ValueErrorKind, AllocError> {
+        match self {
+            ValueErrorKind::NotText => Ok(ValueErrorKind::NotText),
+            ValueErrorKind::NotArray => Ok(ValueErrorKind::NotArray),
+            ValueErrorKind::Glob(error) => Ok(ValueErrorKind::Glob(Clone::clone(error)?)),
+        }
+    }
+}
+
+/// Kinds are equal if they are the same variant, and its errors are equal. It allocates nothing.
+impl PartialEq for ValueErrorKind {
+    ghost eq = { same_value_kind };
+
+    ghost laws = { partial_equiv_from_equiv same_value_kind_laws };
+
+    #[tactic(auto, using(crate::proofs::lemmas::KindEqualities::equal_value_kinds))]
+    fn eq(&self, other: &ValueErrorKind) -> bool
+        ensures result { result ≡ same_value_kind self.now other.now }
+        ensures same { IsTrue result ↔ SameValueKind self.now other.now }
+    {
+        match (self, other) {
+            (ValueErrorKind::NotText, ValueErrorKind::NotText) => true,
+            (ValueErrorKind::NotArray, ValueErrorKind::NotArray) => true,
+            (ValueErrorKind::Glob(error), ValueErrorKind::Glob(other)) => error == other,
+            _ => false,
+        }
+    }
+}
+
+/// Each kind is equal to itself.
+impl Eq for ValueErrorKind {
+    ghost laws = { same_value_kind_laws };
 }
 
 impl fmt::Display for ValueErrorKind {
@@ -40,10 +75,10 @@ impl fmt::Display for ValueErrorKind {
     }
 }
 
-/// Why a JSON value is no glob, or no set of globs, or that memory ran out.
+/// An error of reading a glob, or a set of globs, from a JSON value.
 ///
-/// An error of an element of an array holds its index. Want of memory is [`ValueErrorKind::Glob`] with an error of the kind
-/// [`ErrorKind::OutOfMemory`], and holds no index.
+/// The error of an element of an array holds the element's index. If memory runs out, the kind is
+/// [`ValueErrorKind::Glob`] with an error of the kind [`ErrorKind::OutOfMemory`], and the error holds no index.
 #[derive(Debug, Drop)]
 pub struct ValueError {
     index: Option<usize>,
@@ -58,16 +93,28 @@ impl Model for ValueError {
     ghost view = { λ e. record { index = e.index; kind = e.kind } };
 }
 
-/// Errors are equal where their indexes are, and their kinds. It takes no memory.
-impl PartialEq for ValueError {
-    ghost eq = { eq_of_both (on (λ e. e.index) (option_eq nat_eq)) (on (λ e. e.kind) ⟦<ValueErrorKind as PartialEq>⟧.eq) };
+/// An equal error. The error of the call says that memory ran out.
+impl Clone for ValueError {
+    ghost is_clone = { λ e f. SameValueError f e };
 
-    ghost laws = { partial_equiv_from_equiv (and_equiv (on_equiv (λ e. e.index) (options_equiv nat_eq_equiv)) (on_equiv (λ e. e.kind) laws-law)) };
+    fn clone(&self) -> Result<ValueError, AllocError> {
+        Ok(ValueError {
+            index: self.index,
+            kind: self.kind.clone()?,
+        })
+    }
+}
+
+/// Errors are equal if their indexes and their kinds are. It allocates nothing.
+impl PartialEq for ValueError {
+    ghost eq = { same_value_error };
+
+    ghost laws = { partial_equiv_from_equiv same_value_error_laws };
 
     #[tactic(auto, using(crate::proofs::lemmas::KindEqualities::equal_value_errors))]
     fn eq(&self, other: &ValueError) -> bool
-        ensures answer { result ≡ ⟦<ValueError as PartialEq>⟧.eq self.now other.now }
-        ensures fields { IsTrue result ↔ SameValueError self.now other.now }
+        ensures result { result ≡ same_value_error self.now other.now }
+        ensures same { IsTrue result ↔ SameValueError self.now other.now }
     {
         self.index == other.index && self.kind == other.kind
     }
@@ -75,29 +122,28 @@ impl PartialEq for ValueError {
 
 /// Each error is equal to itself.
 impl Eq for ValueError {
-    ghost laws = { and_equiv (on_equiv (λ e. e.index) (options_equiv nat_eq_equiv)) (on_equiv (λ e. e.kind) laws-law) };
+    ghost laws = { same_value_error_laws };
 }
 
 impl ValueError {
     ghost use Rattle.std.specs.Prelude.{◌≡◌};
     ghost use Rattle.globset_glob.specs.Values.{is_memory, of_element};
 
-    /// The index of the first refused element, where the value is an array and an element of it was refused. It takes no
-    /// memory.
+    /// Returns the index of the first rejected element, or `None` if the error is not about an element of an array.
     pub fn index(&self) -> Option<usize>
         ensures { result ≡ self.now.index }
     {
         self.index
     }
 
-    /// Why. It takes no memory.
+    /// Returns the kind of the error.
     pub fn kind(&self) -> &ValueErrorKind
         ensures { result.now ≡ self.now.kind }
     {
         &self.kind
     }
 
-    /// The error of the element at this index. Want of memory stays as it is.
+    /// The error with this index. If it says that memory ran out, it is unchanged.
     pub(crate) fn of_element(self, index: usize) -> ValueError
         ensures { result ≡ of_element index self }
     {
@@ -121,7 +167,7 @@ impl ValueError {
     }
 }
 
-/// `element <index>: <kind>`, or the kind's text alone where no index is held.
+/// `element <index>: <kind>`, or only the kind's text if the error holds no index.
 impl fmt::Display for ValueError {
     ghost use Rattle.std.specs.Prelude.{Some};
     ghost use Rattle.globset_glob.specs.Values.{value_error_text};
@@ -153,6 +199,7 @@ impl From<ValueErrorKind> for ValueError {
     }
 }
 
+/// An error with no index, of the kind [`ValueErrorKind::Glob`].
 impl From<Error> for ValueError {
     ghost use Rattle.std.specs.Prelude.{◌≡◌};
     ghost use Rattle.globset_glob.specs.Values.{of_kind};
@@ -165,6 +212,7 @@ impl From<Error> for ValueError {
     }
 }
 
+/// The error that memory ran out, so that `?` converts std's.
 impl From<AllocError> for ValueError {
     ghost use Rattle.std.specs.Prelude.{◌≡◌};
     ghost use Rattle.globset_glob.specs.Values.{value_out_of_memory};
@@ -176,6 +224,7 @@ impl From<AllocError> for ValueError {
     }
 }
 
+/// The error that memory ran out, so that `?` converts the error of `Vec::push` and the like.
 impl<T: Drop> From<AllocFailed<T>> for ValueError {
     ghost use Rattle.std.specs.Prelude.{◌≡◌};
     ghost use Rattle.globset_glob.specs.Values.{value_out_of_memory};
