@@ -1,0 +1,2 @@
+-- Examples whose expected values are written out, computed from the definitions alone.
+mod CommandOfSet
