@@ -1,6 +1,2 @@
-mod Numbers
-mod LineLemmas
-mod MoveLemmas
-mod WordLemmas
-pub mod SetLemmas
-pub mod WordRows
+pub mod lemmas
+pub mod examples

@@ -1,4 +1,4 @@
--- What the words of a command line ask for. Each word is a text in UTF-8.
+-- What the command-line arguments ask for. Each argument is a text in UTF-8.
 use Rattle.std.specs.Prelude.{◌≡◌, ◌⊎◌, ℕ, List, [], ◌∷◌, ◌++◌, Bool, true, false, ◌==◌, ◌||◌, ◌&&◌, not, Option, Some, None, option_map, Result, Ok, Err, codes, map, string_bytes, if◌then◌else◌}
 use Rattle.std.specs.List.{list_all, list_any}
 use Rattle.std.specs.Str.{bytes_eq}
@@ -8,9 +8,9 @@ use Rattle.globset.specs.Errors.{ErrorValue, glob_or_refusal, out_of_memory}
 use Rattle.globset.specs.SetFromValue.{globs_of_value}
 use Rattle.globset.specs.Values.{ValueErrorValue}
 use Rattle.globset.specs.SetValue.{set_globs}
-use Rattle.globsift.specs.declared.asked.Command.{Command}
-use Rattle.globsift.specs.declared.fault.CommandFault.{CommandFault}
-use Rattle.globsift.specs.declared.fault.CommandFault.TheVariants as faults
+use Rattle.globsift.specs.declared.command.parsed.Command.{Command}
+use Rattle.globsift.specs.declared.command.fault.CommandFault.{CommandFault}
+use Rattle.globsift.specs.declared.command.fault.CommandFault.TheVariants as faults
 
 -- A command as contracts see it.
 pub record CommandValue : Type 0 where
@@ -19,28 +19,30 @@ pub record CommandValue : Type 0 where
   -- whether the output is numbered
   pub numbered : Bool
 
+-- the command that the program holds, as contracts see it
 abbrev pub command_value : Command → CommandValue
 command_value command = record { globs = set_globs command.set; numbered = command.numbered }
 
--- A fault as contracts see it, apart from where its texts lie.
+-- An error as contracts see it: its texts are lists of bytes, wherever the program keeps them.
 pub data FaultValue : Type 0 where
-  -- this word begins with `-` and is no option
+  -- this argument starts with `-` and is no flag
   unknown_option : List ℕ → FaultValue
   -- there is no glob, and no `--set`
   no_glob : FaultValue
-  -- no word follows `--set`
+  -- no argument follows `--set`
   set_without_text : FaultValue
-  -- another word than `-n` stands beside `--set` and its text
+  -- there is an argument other than `-n` beside `--set` and its text
   set_not_alone : FaultValue
-  -- the text after `--set` is no JSON
+  -- the text after `--set` is not JSON
   not_json : FaultValue
-  -- a word is no glob, or memory ran out
+  -- an argument is not a glob, or memory ran out
   glob_error : ErrorValue → FaultValue
-  -- the JSON value is no array of globs
+  -- the JSON value is not an array of globs
   value_error : ValueErrorValue → FaultValue
 
+-- the error that the program holds, as contracts see it
 abbrev pub fault_value : CommandFault → FaultValue
-fault_value (faults.UnknownOption word) = unknown_option (string_bytes word)
+fault_value (faults.UnknownOption argument) = unknown_option (string_bytes argument)
 fault_value faults.NoGlob = no_glob
 fault_value faults.SetWithoutText = set_without_text
 fault_value faults.SetNotAlone = set_not_alone
@@ -48,139 +50,142 @@ fault_value faults.NotJson = not_json
 fault_value (faults.Glob error) = glob_error error
 fault_value (faults.Value error) = value_error error
 
--- Memory ran out, or what was asked for is refused with this fault.
+-- The error is that memory ran out, or it is the one that `result` has.
 abbrev pub IsFaultOf : {X : Type 0} → Result X FaultValue → CommandFault → Type 0
-IsFaultOf asked fault = (fault_value fault ≡ glob_error out_of_memory) ⊎ (asked ≡ Err (fault_value fault))
+IsFaultOf result fault = (fault_value fault ≡ glob_error out_of_memory) ⊎ (result ≡ Err (fault_value fault))
 
--- ---- words
+-- ---- single arguments
 
--- the word ends options
-abbrev pub is_end : List ℕ → Bool
-is_end word = bytes_eq word (codes "--")
+-- the argument is `--`, which ends the flags
+abbrev pub is_double_dash : List ℕ → Bool
+is_double_dash argument = bytes_eq argument (codes "--")
 
--- a JSON text follows the word
-abbrev pub is_set : List ℕ → Bool
-is_set word = bytes_eq word (codes "--set")
+-- the argument is `--set`
+abbrev pub is_dash_set : List ℕ → Bool
+is_dash_set argument = bytes_eq argument (codes "--set")
 
--- the word asks for numbers before each line
-abbrev pub is_number : List ℕ → Bool
-is_number word = bytes_eq word (codes "-n")
+-- the argument is `-n`, which asks for numbered output
+abbrev pub is_dash_n : List ℕ → Bool
+is_dash_n argument = bytes_eq argument (codes "-n")
 
--- the word sets the default options again
-abbrev pub is_reset : List ℕ → Bool
-is_reset word = bytes_eq word (codes "-r")
+-- the argument is `-r`, which sets the default options again
+abbrev pub is_dash_r : List ℕ → Bool
+is_dash_r argument = bytes_eq argument (codes "-r")
 
--- the word is one of the options
-abbrev pub is_option : List ℕ → Bool
-is_option word = list_any (bytes_eq word)
+-- the argument is one of the flags
+abbrev pub is_flag : List ℕ → Bool
+is_flag argument = list_any (bytes_eq argument)
     (codes "-i" ∷ codes "-s" ∷ codes "-e" ∷ codes "-u" ∷ codes "-b" ∷ codes "-r" ∷ codes "-n" ∷ [])
 
--- the word begins with `-`
-abbrev pub is_dashed : List ℕ → Bool
-is_dashed [] = false
-is_dashed (byte ∷ bytes) = byte == 45
+-- the argument starts with `-`, which is 45
+abbrev pub starts_with_dash : List ℕ → Bool
+starts_with_dash [] = false
+starts_with_dash (byte ∷ bytes) = byte == 45
 
--- ---- options. Of the words before a word, the nearest comes first.
+-- ---- options of a glob. `before` is the arguments before it, the nearest first.
 
--- this letter stands among the words before, with no `-r` after it
-abbrev pub is_given : List ℕ → List (List ℕ) → Bool
-is_given letter [] = false
-is_given letter (word ∷ before) = bytes_eq word letter || (not (is_reset word) && is_given letter before)
+-- the flag is among the arguments before, with no `-r` between it and the glob
+abbrev pub is_in_force : List ℕ → List (List ℕ) → Bool
+is_in_force flag [] = false
+is_in_force flag (argument ∷ before) = bytes_eq argument flag || (not (is_dash_r argument) && is_in_force flag before)
 
--- A word as a glob that stands behind these words: an option whose letter is not given has its default.
+-- The argument as a glob after these arguments. An option whose flag is not in force has its default.
 abbrev pub glob_after : List (List ℕ) → List ℕ → GlobValue
-glob_after before word = record {
-  text = word;
+glob_after before argument = record {
+  text = argument;
   options = record {
-    case_insensitive = is_given (codes "-i") before;
-    literal_separator = is_given (codes "-s") before;
-    backslash_escape = not (is_given (codes "-b") before);
-    empty_alternates = is_given (codes "-e") before;
-    allow_unclosed_class = is_given (codes "-u") before;
+    case_insensitive = is_in_force (codes "-i") before;
+    literal_separator = is_in_force (codes "-s") before;
+    backslash_escape = not (is_in_force (codes "-b") before);
+    empty_alternates = is_in_force (codes "-e") before;
+    allow_unclosed_class = is_in_force (codes "-u") before;
   };
 }
 
 -- ---- globs
 
--- the glob, or the first fault of its text from the left
+-- the glob, or the first error of its text from the left
 abbrev pub glob_or_fault : GlobValue → Result GlobValue FaultValue
 glob_or_fault glob = elim (glob_or_refusal glob) [ Ok glob ↦ Ok glob | Err error ↦ Err (glob_error error) ]
 
--- what a word asks for that no `--` precedes: nothing, a glob or a fault
-abbrev pub asked_by : List (List ℕ) → List ℕ → List (Result GlobValue FaultValue)
-asked_by before word = if is_option word then []
-    else (if is_dashed word then Err (unknown_option word) else glob_or_fault (glob_after before word)) ∷ []
+-- an argument with no `--` before it: nothing for a flag, and otherwise a glob or an error
+abbrev pub parse_argument : List (List ℕ) → List ℕ → List (Result GlobValue FaultValue)
+parse_argument before argument = if is_flag argument then []
+    else (if starts_with_dash argument then Err (unknown_option argument) else glob_or_fault (glob_after before argument)) ∷ []
 
--- What these words ask for, in order, behind the words before. After `--` each is a glob, and there are no letters.
-abbrev pub asked : List (List ℕ) → List (List ℕ) → List (Result GlobValue FaultValue)
-asked before [] = []
-asked before (word ∷ words) = if is_end word then map (λ glob. glob_or_fault (glob_after before glob)) words
-    else asked_by before word ++ asked (word ∷ before) words
+-- The globs and errors of these arguments, in order. After `--` each argument is a glob, and none is a flag.
+abbrev pub parse_arguments : List (List ℕ) → List (List ℕ) → List (Result GlobValue FaultValue)
+parse_arguments before [] = []
+parse_arguments before (argument ∷ arguments) =
+    if is_double_dash argument then map (λ glob. glob_or_fault (glob_after before glob)) arguments
+    else parse_argument before argument ++ parse_arguments (argument ∷ before) arguments
 
--- all of the globs, or the first fault
-abbrev pub gathered : List (Result GlobValue FaultValue) → Result (List GlobValue) FaultValue
-gathered [] = Ok []
-gathered (Ok glob ∷ more) = elim (gathered more) [ Ok globs ↦ Ok (glob ∷ globs) | Err fault ↦ Err fault ]
-gathered (Err fault ∷ more) = Err fault
+-- all of the globs, or the first error
+abbrev pub collect_globs : List (Result GlobValue FaultValue) → Result (List GlobValue) FaultValue
+collect_globs [] = Ok []
+collect_globs (Ok glob ∷ more) = elim (collect_globs more) [ Ok globs ↦ Ok (glob ∷ globs) | Err fault ↦ Err fault ]
+collect_globs (Err fault ∷ more) = Err fault
 
 -- ---- commands without `--set`
 
--- `-n` stands before `--`, or anywhere if there is none
+-- `-n` comes before `--`, or anywhere if there is no `--`
 abbrev pub is_numbered : List (List ℕ) → Bool
 is_numbered [] = false
-is_numbered (word ∷ words) = not (is_end word) && (is_number word || is_numbered words)
+is_numbered (argument ∷ arguments) = not (is_double_dash argument) && (is_dash_n argument || is_numbered arguments)
 
--- a command of at least one glob
-abbrev pub command_of : Bool → List GlobValue → Result CommandValue FaultValue
-command_of numbered [] = Err no_glob
-command_of numbered (glob ∷ globs) = Ok (record { globs = glob ∷ globs; numbered = numbered })
+-- the command of these globs, of which there has to be one
+abbrev pub with_some_glob : Bool → List GlobValue → Result CommandValue FaultValue
+with_some_glob numbered [] = Err no_glob
+with_some_glob numbered (glob ∷ globs) = Ok (record { globs = glob ∷ globs; numbered = numbered })
 
--- what words without `--set` ask for
-abbrev pub globs_commanded : List (List ℕ) → Result CommandValue FaultValue
-globs_commanded words = elim (gathered (asked [] words)) [ Ok globs ↦ command_of (is_numbered words) globs | Err fault ↦ Err fault ]
+-- The command of arguments without `--set`: the globs in order, or the first error from the left. That there is no glob
+-- comes last.
+abbrev pub command_of_globs : List (List ℕ) → Result CommandValue FaultValue
+command_of_globs arguments =
+    elim (collect_globs (parse_arguments [] arguments)) [ Ok globs ↦ with_some_glob (is_numbered arguments) globs | Err fault ↦ Err fault ]
 
 -- ---- commands with `--set`
 
--- there is a word
-abbrev pub has_word : List (List ℕ) → Bool
-has_word [] = false
-has_word (word ∷ words) = true
+-- there is an argument
+abbrev pub has_argument : List (List ℕ) → Bool
+has_argument [] = false
+has_argument (argument ∷ arguments) = true
 
--- The words before the first `--set`, and those after it. There are none where no word is `--set`, or `--` stands before
--- it: then it is a glob.
-abbrev pub around_set : List (List ℕ) → Option (List (List ℕ) × List (List ℕ))
-around_set [] = None
-around_set (word ∷ words) = if is_end word then None
-    else (if is_set word then Some ([], words) else option_map (λ p. (word ∷ p.0, p.1)) (around_set words))
+-- The arguments before the first `--set` and those after it. `None` if no argument is `--set`, or a `--` comes before it:
+-- then it is a glob.
+abbrev pub split_at_set : List (List ℕ) → Option (List (List ℕ) × List (List ℕ))
+split_at_set [] = None
+split_at_set (argument ∷ arguments) = if is_double_dash argument then None
+    else (if is_dash_set argument then Some ([], arguments) else option_map (λ p. (argument ∷ p.0, p.1)) (split_at_set arguments))
 
--- the globs of a value, or why it has none
+-- the same globs, or the same error as one of the command line
 abbrev pub globs_or_fault : Result (List GlobValue) ValueErrorValue → Result (List GlobValue) FaultValue
 globs_or_fault (Ok globs) = Ok globs
 globs_or_fault (Err error) = Err (value_error error)
 
--- the globs of a JSON text
+-- The globs of a JSON text. `read` is the value of the text, if it is JSON.
 abbrev pub globs_of_json : List ℕ → Result (List GlobValue) FaultValue
 globs_of_json text = elim (read text) [ Some value ↦ globs_or_fault (globs_of_value value) | None ↦ Err not_json ]
 
--- The command of a JSON text, which may be one of no globs.
-abbrev pub json_commanded : Bool → List ℕ → Result CommandValue FaultValue
-json_commanded numbered text = elim (globs_of_json text) [ Ok globs ↦ Ok (record { globs = globs; numbered = numbered }) | Err fault ↦ Err fault ]
+-- The command of a JSON text. The array may be empty.
+abbrev pub command_of_json : Bool → List ℕ → Result CommandValue FaultValue
+command_of_json numbered text = elim (globs_of_json text) [ Ok globs ↦ Ok (record { globs = globs; numbered = numbered }) | Err fault ↦ Err fault ]
 
--- What the words behind `--set` ask for, where each word before it is `-n`: the text comes first, and each later word is
--- `-n`. The output is numbered where there is such a word on either side.
-abbrev pub text_commanded : List (List ℕ) → List (List ℕ) → Result CommandValue FaultValue
-text_commanded before [] = Err set_without_text
-text_commanded before (text ∷ others) =
-    if list_all is_number others then json_commanded (has_word before || has_word others) text else Err set_not_alone
+-- The command of the arguments after `--set`, where each one before it is `-n`: the text comes first, and each later
+-- argument has to be `-n`. The output is numbered if there is an `-n` on either side.
+abbrev pub command_of_text : List (List ℕ) → List (List ℕ) → Result CommandValue FaultValue
+command_of_text before [] = Err set_without_text
+command_of_text before (text ∷ others) =
+    if list_all is_dash_n others then command_of_json (has_argument before || has_argument others) text else Err set_not_alone
 
--- What the words before and after `--set` ask for. Where a word before it is not `-n`, that is a fault: the first one of
--- these words, or, if they have none, that `--set` does not stand alone.
-abbrev pub set_commanded : List (List ℕ) → List (List ℕ) → Result CommandValue FaultValue
-set_commanded before after = if list_all is_number before then text_commanded before after
-    else elim (gathered (asked [] before)) [ Ok globs ↦ Err set_not_alone | Err fault ↦ Err fault ]
+-- The command of the arguments before and after `--set`. If one before it is not `-n`, that is an error: the first one of
+-- these arguments, or, if they have none, that `--set` is not alone.
+abbrev pub command_of_set : List (List ℕ) → List (List ℕ) → Result CommandValue FaultValue
+command_of_set before after = if list_all is_dash_n before then command_of_text before after
+    else elim (collect_globs (parse_arguments [] before)) [ Ok globs ↦ Err set_not_alone | Err fault ↦ Err fault ]
 
 -- ---- all
 
--- What the words of a command line ask for: the command, or the first fault from the left. That of a JSON text comes last.
-abbrev pub commanded : List (List ℕ) → Result CommandValue FaultValue
-commanded words = elim (around_set words) [ Some p ↦ set_commanded p.0 p.1 | None ↦ globs_commanded words ]
+-- The command of these arguments, or the first error from the left. An error of the JSON text comes after all others.
+abbrev pub command_of : List (List ℕ) → Result CommandValue FaultValue
+command_of arguments = elim (split_at_set arguments) [ Some p ↦ command_of_set p.0 p.1 | None ↦ command_of_globs arguments ]

@@ -1,6 +1,6 @@
 pub mod Lines
 pub mod Output
 pub mod Command
-pub mod Moves
 pub mod Texts
 pub mod Program
+pub mod inner

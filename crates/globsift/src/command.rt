@@ -1,50 +1,40 @@
-//! The words of a command line.
+//! From the arguments of a command line to a command.
 
 ghost use Rattle.std.specs.Prelude.{◌≡◌, map, MatchResult, Ok, string_bytes};
-ghost use Rattle.std.specs.Option.{option_map};
-ghost use Rattle.globsift.specs.Command.{IsFaultOf, around_set, command_value, commanded};
+ghost use Rattle.globsift.specs.Command.{IsFaultOf, command_of, command_value};
 
+pub mod fault;
+mod flags;
+mod glob_arguments;
 mod globs;
 mod json;
+pub mod parsed;
+mod split;
 
-use crate::asked::Command;
-use crate::fault::CommandFault;
+use fault::CommandFault;
 use globs::command_of_globs;
 use json::command_of_set;
+use parsed::Command;
+use split::split_at_set;
 use std::alloc::Global;
 
-/// Reads the words of a command line.
+/// Parses the arguments of a command line, without the program's name.
 ///
-/// Each of `-i`, `-s`, `-e` and `-u` gives the globs after it one more option: `case_insensitive`, `literal_separator`,
-/// `empty_alternates` and `allow_unclosed_class`. After `-b` they have no `backslash_escape`, and after `-r` the default
-/// options. With `-n`, at any place, the output is numbered. `--` ends these: each word after it is a glob. Before it
-/// another word that begins with `-` is a fault, and any other word is a glob.
+/// Each of `-i`, `-s`, `-e` and `-u` turns on an option for the globs after it: `case_insensitive`, `literal_separator`,
+/// `empty_alternates` and `allow_unclosed_class`. `-b` turns off `backslash_escape`, and `-r` sets the default options
+/// again. `-n`, at any position, asks for numbered output. `--` ends these flags: each argument after it is a glob. Before
+/// it any other argument that starts with `-` is rejected, and all others are globs.
 ///
-/// In place of these `--set` takes the next word, whatever it is, as the JSON text of an array of globs. Then each other
-/// word has to be `-n`. That text is read once all words are found to be right.
+/// With `--set` the next argument, whatever it is, is the JSON text of an array of globs, and each other argument has to be
+/// `-n`. The text is read after all other arguments were checked.
 ///
-/// The first fault from the left is answered, or want of memory.
-pub fn command(alloc: Global, words: &[String]) -> Result<Command, CommandFault>
-    ensures { MatchResult result (λ command. commanded (map string_bytes words.now) ≡ Ok (command_value command))
-        (IsFaultOf (commanded (map string_bytes words.now))) }
+/// Returns the first error from the left, or an error if memory runs out.
+pub fn command(alloc: Global, arguments: &[String]) -> Result<Command, CommandFault>
+    ensures { MatchResult result (λ command. command_of (map string_bytes arguments.now) ≡ Ok (command_value command))
+        (IsFaultOf (command_of (map string_bytes arguments.now))) }
 {
-    match around_set(words) {
+    match split_at_set(arguments) {
         Some((before, after)) => command_of_set(alloc, before, after),
-        None => command_of_globs(alloc, words),
+        None => command_of_globs(alloc, arguments),
     }
-}
-
-/// The words before the first `--set` and those after it, unless there is none or a `--` stands before it.
-fn around_set(words: &[String]) -> Option<(&[String], &[String])>
-    ensures { option_map (λ p. (map string_bytes p.0.now, map string_bytes p.1.now)) result ≡ around_set (map string_bytes words.now) }
-{
-    for (index, word) in words.iter().enumerate() {
-        if word.as_str() == "--" {
-            return None;
-        }
-        if word.as_str() == "--set" {
-            return Some((&words[..index], &words[index + 1..]));
-        }
-    }
-    None
 }

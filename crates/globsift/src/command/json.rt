@@ -1,39 +1,39 @@
-//! A JSON array of globs as a word of a command line.
+//! The command of a JSON array of globs.
 
-ghost use Rattle.std.specs.Prelude.{◌≡◌, map, MatchResult, Ok, Err, if◌then◌else◌, string_bytes};
+ghost use Rattle.std.specs.Prelude.{◌≡◌, map, MatchResult, Ok, if◌then◌else◌, string_bytes};
 ghost use Rattle.std.specs.List.{list_all};
 ghost use Rattle.globset.specs.Errors.{out_of_memory};
 ghost use Rattle.globset.specs.SetValue.{set_globs};
 ghost use Rattle.globset.specs.Values.{is_memory};
-ghost use Rattle.globsift.specs.Command.{IsFaultOf, command_value, fault_value, glob_error, globs_of_json, is_number};
-ghost use Rattle.globsift.specs.Command.{set_commanded, value_error};
+ghost use Rattle.globsift.specs.Command.{IsFaultOf, command_of_set, command_value, fault_value, glob_error};
+ghost use Rattle.globsift.specs.Command.{globs_of_json, is_dash_n, value_error};
 
-use super::globs::Gathered;
-use crate::asked::Command;
-use crate::fault::CommandFault;
+use super::fault::CommandFault;
+use super::glob_arguments::GlobArguments;
+use super::parsed::Command;
 use globset::{Error, ErrorKind, GlobSet, ValueError, ValueErrorKind};
 use serde_json::Value;
 use std::alloc::{AllocError, Global};
 
-/// Reads the words of a command line that stand before and after `--set`.
-#[tactic(auto, using(crate::proofs::SetLemmas::some_word))]
+/// Parses the arguments before and after `--set`.
+#[tactic(auto, using(crate::proofs::lemmas::SplitAtSet::some_argument))]
 pub fn command_of_set(
     alloc: Global,
     before: &[String],
     after: &[String],
 ) -> Result<Command, CommandFault>
     ensures { MatchResult result
-        (λ command. set_commanded (map string_bytes before.now) (map string_bytes after.now) ≡ Ok (command_value command))
-        (IsFaultOf (set_commanded (map string_bytes before.now) (map string_bytes after.now))) }
+        (λ command. command_of_set (map string_bytes before.now) (map string_bytes after.now) ≡ Ok (command_value command))
+        (IsFaultOf (command_of_set (map string_bytes before.now) (map string_bytes after.now))) }
 {
-    if !are_numbers(before) {
-        Gathered::read(alloc, before)?;
+    if !are_all_dash_n(before) {
+        GlobArguments::parse(alloc, before)?;
         return Err(CommandFault::SetNotAlone);
     }
     let [text, others @ ..] = after else {
         return Err(CommandFault::SetWithoutText);
     };
-    if !are_numbers(others) {
+    if !are_all_dash_n(others) {
         return Err(CommandFault::SetNotAlone);
     }
     Ok(Command {
@@ -42,12 +42,12 @@ pub fn command_of_set(
     })
 }
 
-/// Whether each word is `-n`.
-fn are_numbers(words: &[String]) -> bool
-    ensures { result ≡ list_all is_number (map string_bytes words.now) }
+/// Returns whether each argument is `-n`.
+fn are_all_dash_n(arguments: &[String]) -> bool
+    ensures { result ≡ list_all is_dash_n (map string_bytes arguments.now) }
 {
-    for word in words {
-        if word.as_str() != "-n" {
+    for argument in arguments {
+        if argument.as_str() != "-n" {
             return false;
         }
     }
@@ -69,7 +69,7 @@ fn read_set(alloc: Global, text: &str) -> Result<GlobSet, CommandFault>
     }
 }
 
-/// The fault of a refused value. Want of memory is that of a glob.
+/// The error of a rejected value. It is an error of a glob if memory ran out.
 fn fault_of(error: ValueError) -> CommandFault
     ensures { fault_value result ≡ (if is_memory error.kind then glob_error out_of_memory else value_error error) }
 {
@@ -79,7 +79,7 @@ fn fault_of(error: ValueError) -> CommandFault
     CommandFault::Value(error)
 }
 
-/// Whether memory ran out.
+/// Returns whether memory ran out.
 fn is_memory(error: &ValueError) -> bool
     ensures { result ≡ is_memory error.now.kind }
 {

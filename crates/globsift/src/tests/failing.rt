@@ -1,15 +1,16 @@
-//! Readers and writers that give and take little at once, and fail midway.
+//! Readers and writers that move one byte at a time, and fail.
 
 ghost use Rattle.std.specs.Prelude.{Some};
 
-use crate::fault::SiftFault;
+use super::bytes_of;
+use crate::sifting::fault::SiftFault;
 use crate::sifting::sift;
 use globset::{Glob, GlobSet};
 use std::alloc::{AllocError, Global};
 use std::io::{Error, ErrorKind, Read, Result, Write};
 use std::test::Fail;
 
-/// Gives one byte at each read, and fails once no read is left.
+/// Returns one byte at each read, and fails when no read is left.
 #[derive(Drop)]
 struct ByteReader<'a> {
     rest: &'a [u8],
@@ -32,10 +33,10 @@ impl Read for ByteReader<'_> {
     }
 }
 
-/// Takes one byte at each write. Once it is full, a write fails or takes none.
+/// Accepts one byte at each write. When it is full, a write fails or accepts none.
 #[derive(Drop)]
 struct ByteWriter {
-    held: Vec<u8>,
+    bytes: Vec<u8>,
     room: usize,
     write_fails: bool,
     flush_fails: bool,
@@ -43,14 +44,14 @@ struct ByteWriter {
 }
 
 impl Write for ByteWriter {
-    ghost contents = { λ writer. Some writer.held.items };
+    ghost contents = { λ writer. Some writer.bytes.items };
 
     fn write(&mut self, buf: &[u8]) -> Result<usize> {
         if self.room == 0 && self.write_fails {
             return Err(Error::from(ErrorKind::Interrupted));
         }
         let n = self.room.min(buf.len()).min(1);
-        self.held.extend_from_slice(&buf[..n])?;
+        self.bytes.extend_from_slice(&buf[..n])?;
         self.room -= n;
         Ok(n)
     }
@@ -64,213 +65,134 @@ impl Write for ByteWriter {
     }
 }
 
-/// A reader and a writer, and what comes of them.
+/// What is read: the last line has no LF.
+const INPUT: &[u8] = b"src/a.rs\n\nb.c\nx.rs\ny.rs";
+
+/// How a reader and a writer fail, and what comes of it: the form of the output, how many reads succeed, how many bytes the
+/// writer accepts, what it does then and at a flush, the result, how many flushes there were, and what was written, with `|`
+/// for LF and `:` for a tab.
+const CASES: &str = "\
+plain 99 99 fails flushes true 1 src/a.rs|x.rs|y.rs|
+numbered 99 99 fails flushes true 1 0,1:src/a.rs|0:x.rs|0:y.rs|
+plain 0 99 fails flushes Read 0 -
+plain 8 99 fails flushes Read 0 -
+plain 17 99 fails flushes Read 0 src/a.rs|
+plain 23 99 fails flushes Read 0 src/a.rs|x.rs|
+numbered 23 99 fails flushes Read 0 0,1:src/a.rs|0:x.rs|
+plain 99 0 fails flushes Write 0 -
+plain 99 5 fails flushes Write 0 src/a
+plain 99 0 accepts-none flushes Write 0 -
+plain 99 5 accepts-none flushes Write 0 src/a
+numbered 99 2 accepts-none flushes Write 0 0,
+plain 17 5 fails flushes Write 0 src/a
+plain 99 99 fails no-flush Write 1 src/a.rs|x.rs|y.rs|";
+
+/// A row of `CASES`.
 #[derive(Clone, Copy)]
-struct Case {
+struct Case<'a> {
     numbered: bool,
     reads: u32,
     room: usize,
     write_fails: bool,
     flush_fails: bool,
-    answer: std::result::Result<bool, SiftFault>,
-    output: &'static [u8],
+    result: &'a str,
     flushes: u32,
+    output: &'a str,
 }
 
-/// What is read: the last line has no LF.
-const INPUT: &[u8] = b"src/a.rs\n\nb.c\nx.rs\ny.rs";
+/// Reads a row.
+fn parse(row: &str) -> Option<Case<'_>> {
+    let mut columns = row.split(' ');
+    Some(Case {
+        numbered: columns.next()? == "numbered",
+        reads: columns.next()?.parse().ok()?,
+        room: columns.next()?.parse().ok()?,
+        write_fails: columns.next()? == "fails",
+        flush_fails: columns.next()? == "no-flush",
+        result: columns.next()?,
+        flushes: columns.next()?.parse().ok()?,
+        output: columns.next()?,
+    })
+}
 
-/// Nothing fails.
-const WHOLE: Case = Case {
-    numbered: false,
-    reads: 99,
-    room: 99,
-    write_fails: true,
-    flush_fails: false,
-    answer: Ok(true),
-    output: b"src/a.rs\nx.rs\ny.rs\n",
-    flushes: 1,
-};
-
-/// The same with numbers.
-const NUMBERED: Case = Case {
-    numbered: true,
-    output: b"0,1\tsrc/a.rs\n0\tx.rs\n0\ty.rs\n",
-    ..WHOLE
-};
-
-/// A read fails.
-const READ: Case = Case {
-    answer: Err(SiftFault::Read),
-    flushes: 0,
-    ..WHOLE
-};
-
-/// A write fails.
-const WRITE: Case = Case {
-    answer: Err(SiftFault::Write),
-    flushes: 0,
-    ..WHOLE
-};
-
-const CASES: [Case; 17] = [
-    WHOLE,
-    NUMBERED,
-    Case {
-        reads: 0,
-        output: b"",
-        ..READ
-    },
-    Case {
-        reads: 8,
-        output: b"",
-        ..READ
-    },
-    Case {
-        reads: 17,
-        output: b"src/a.rs\n",
-        ..READ
-    },
-    // all bytes came, and not the end
-    Case {
-        reads: 23,
-        output: b"src/a.rs\nx.rs\n",
-        ..READ
-    },
-    Case {
-        room: 0,
-        output: b"",
-        ..WRITE
-    },
-    Case {
-        room: 5,
-        output: b"src/a",
-        ..WRITE
-    },
-    Case {
-        room: 0,
-        write_fails: false,
-        output: b"",
-        ..WRITE
-    },
-    Case {
-        room: 5,
-        write_fails: false,
-        output: b"src/a",
-        ..WRITE
-    },
-    // a read failed, and then the writing of what was held
-    Case {
-        reads: 17,
-        room: 5,
-        output: b"src/a",
-        ..WRITE
-    },
-    Case {
-        flush_fails: true,
-        flushes: 1,
-        ..WRITE
-    },
-    // the same with numbers
-    Case {
-        numbered: true,
-        reads: 17,
-        output: b"0,1\tsrc/a.rs\n",
-        ..READ
-    },
-    Case {
-        numbered: true,
-        reads: 23,
-        output: b"0,1\tsrc/a.rs\n0\tx.rs\n",
-        ..READ
-    },
-    Case {
-        numbered: true,
-        room: 2,
-        output: b"0,",
-        ..WRITE
-    },
-    Case {
-        numbered: true,
-        room: 2,
-        write_fails: false,
-        output: b"0,",
-        ..WRITE
-    },
-    Case {
-        numbered: true,
-        flush_fails: true,
-        output: b"0,1\tsrc/a.rs\n0\tx.rs\n0\ty.rs\n",
-        flushes: 1,
-        ..WRITE
-    },
-];
-
-/// The set of these globs under the default options.
-fn make_set(alloc: Global, globs: &[&str]) -> std::result::Result<GlobSet, globset::Error> {
+/// The set of `*.rs` and `src/**`.
+fn make_set(alloc: Global) -> std::result::Result<GlobSet, globset::Error> {
     let mut builder = GlobSet::builder(alloc);
-    for glob in globs {
-        builder.add(Glob::new(alloc, *glob)?)?;
-    }
+    builder.add(Glob::new(alloc, "*.rs")?)?;
+    builder.add(Glob::new(alloc, "src/**")?)?;
     builder.build()
 }
 
-/// What comes of a case: the answer and the writer.
-fn outcome(
-    alloc: Global,
-    set: &GlobSet,
-    case: &Case,
-) -> (std::result::Result<bool, SiftFault>, ByteWriter) {
+/// A result as a row names it.
+fn name_of(outcome: std::result::Result<bool, SiftFault>) -> &'static str {
+    match outcome {
+        Ok(true) => "true",
+        Ok(false) => "false",
+        Err(SiftFault::Read) => "Read",
+        Err(SiftFault::Write) => "Write",
+        Err(SiftFault::OutOfMemory) => "OutOfMemory",
+    }
+}
+
+/// The result of a case, and the writer after it.
+fn run(alloc: Global, set: &GlobSet, case: &Case<'_>) -> (&'static str, ByteWriter) {
     let mut reader = ByteReader {
         rest: INPUT,
         reads: case.reads,
     };
     let mut writer = ByteWriter {
-        held: Vec::new(alloc),
+        bytes: Vec::new(alloc),
         room: case.room,
         write_fails: case.write_fails,
         flush_fails: case.flush_fails,
         flushes: 0,
     };
-    let answer = sift(alloc, set, case.numbered, &mut reader, &mut writer);
-    (answer, writer)
+    let result = sift(alloc, set, case.numbered, &mut reader, &mut writer);
+    (name_of(result), writer)
 }
 
 #[test]
-fn faults(rt: HostRuntime) -> std::result::Result<(), Fail> {
-    let set = make_set(rt.alloc(), &["*.rs", "src/**"])?;
-    for case in CASES {
-        let (answer, writer) = outcome(rt.alloc(), &set, &case);
-        assert_eq!(rt; writer.held.as_slice(), case.output);
-        assert_eq!(rt; answer, case.answer);
-        assert_eq!(rt; writer.flushes, case.flushes);
+fn failures(rt: HostRuntime) -> std::result::Result<(), Fail> {
+    let set = make_set(rt.alloc())?;
+    for row in CASES.lines() {
+        let Some(case) = parse(row) else {
+            assert!(rt; false, "not a row: {row}");
+            continue;
+        };
+        let (result, writer) = run(rt.alloc(), &set, &case);
+        let wanted = bytes_of(
+            rt.alloc(),
+            if case.output == "-" { "" } else { case.output },
+        )?;
+        assert_eq!(rt;
+            writer.bytes.as_slice(),
+            wanted.as_slice(),
+            "written at {row}"
+        );
+        assert_eq!(rt; result, case.result, "result at {row}");
+        assert_eq!(rt; writer.flushes, case.flushes, "flushes at {row}");
     }
     Ok(())
 }
 
 /// A line with no LF.
-fn make_line(alloc: Global, count: usize) -> std::result::Result<Vec<u8>, AllocError> {
-    vec![in alloc; b's'; count]
+fn make_line(alloc: Global, length: usize) -> std::result::Result<Vec<u8>, AllocError> {
+    vec![in alloc; b's'; length]
 }
 
-// Lines that are longer than what is read and held at once, the second one with no LF.
+// The line is longer than what is read and what is pending at once.
 #[test]
-fn long_lines(rt: HostRuntime) -> std::result::Result<(), Fail> {
+fn long_line(rt: HostRuntime) -> std::result::Result<(), Fail> {
     let line = make_line(rt.alloc(), 200000)?;
-    let mut input = Vec::new(rt.alloc());
-    input.extend_from_slice(line.as_slice())?;
-    input.extend_from_slice(b"\nt\n")?;
-    input.extend_from_slice(line.as_slice())?;
-    let mut output = Vec::new(rt.alloc());
-    output.extend_from_slice(line.as_slice())?;
-    output.push(b'\n')?;
-    output.extend_from_slice(line.as_slice())?;
-    output.push(b'\n')?;
-    let set = make_set(rt.alloc(), &["s*"])?;
-    let mut reader = input.as_slice();
+    let mut builder = GlobSet::builder(rt.alloc());
+    builder.add(Glob::new(rt.alloc(), "s*")?)?;
+    let set = builder.build()?;
+    let mut reader = line.as_slice();
     let mut writer = Vec::new(rt.alloc());
-    let answer = sift(rt.alloc(), &set, false, &mut reader, &mut writer);
-    assert_eq!(rt; answer, Ok(true));
-    assert_eq!(rt; writer.as_slice() == output.as_slice(), true);
+    let result = sift(rt.alloc(), &set, false, &mut reader, &mut writer);
+    assert_eq!(rt; name_of(result), "true");
+    assert_eq!(rt; writer.len(), 200001);
+    assert_eq!(rt; writer.as_slice().starts_with(line.as_slice()), true);
+    assert_eq!(rt; writer.as_slice().ends_with(b"\n"), true);
     Ok(())
 }

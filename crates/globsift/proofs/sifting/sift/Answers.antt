@@ -3,7 +3,8 @@ use Rattle.std.specs.List.{list_any}
 use Rattle.std.proofs.lemmas.Result.{err_from_is_err_and}
 use Rattle.std.proofs.KnownBytes.{Consumes-nil, Consumes-trans, Consumes-kept}
 use Rattle.globsift.specs.Lines.{is_lf}
-use Rattle.globsift.proofs.MoveLemmas.{Stops-halts, Stops-start, Moves-held_halts, Moves-drained, end_result, Moves-trans, Moves-halts, Moves-begin, Consumes-is, read_back}
+use Rattle.globsift.proofs.lemmas.Sifting.{Stops-fails, Stops-start, end_result, Consumes-is, read_back}
+use Rattle.globsift.proofs.lemmas.Handling.{Handles-pending_fails, Handles-drained, Handles-trans, Handles-fails, Handles-begin}
 use Rattle.globsift.proofs.sifting.sift.Goals as goal
 
 pub returns-in_err-chunk : goal.returns-in_err-chunk
@@ -17,21 +18,21 @@ returns-in_err-with_capacity g c =
     rw p.1 (Stops-start c.args.set.now c.args.numbered (g.R.Read.remaining c.args.reader.now) (g.W.Write.contents c.args.writer.now) p.0 p.2)
 
 pub loop-init : goal.loop-init
-loop-init g c = ([], Consumes-nil _, Moves-begin _ _ _ _ _ c.new-rest.ensures.items c.in_ok-with_capacity.ensures.items, omega (arith, c.in_ok-chunk.ensures))
+loop-init g c = ([], Consumes-nil _, Handles-begin _ _ _ _ _ c.new-rest.ensures.items c.in_ok-with_capacity.ensures.items, omega (arith, c.in_ok-chunk.ensures))
 
-pub returns-in_err-write_held-in-Err : goal.returns-in_err-write_held-in-Err
-returns-in_err-write_held-in-Err g c =
+pub returns-in_err-write_pending-in-Err : goal.returns-in_err-write_pending-in-Err
+returns-in_err-write_pending-in-Err g c =
     let i = c.loop.invariant in
-    let p = err_from_is_err_and c.from_residual-in_err-write_held-in-Err.result c.from_residual-in_err-write_held-in-Err.ensures.1 in
-    rw (p.1, p.2) (Stops-halts _ _ i.0 _ _ _ _ c.in_err-write_held-in-Err.field-0.0 (Consumes-kept _ _ _ _ i.1 c.in-Err.ensures.bytes)
-    (Moves-held_halts _ _ _ _ _ _ _ _ _ _ _ _ i.2 c.in_err-write_held-in-Err.ensures))
+    let p = err_from_is_err_and c.from_residual-in_err-write_pending-in-Err.result c.from_residual-in_err-write_pending-in-Err.ensures.1 in
+    rw (p.1, p.2) (Stops-fails _ _ i.0 _ _ _ _ c.in_err-write_pending-in-Err.field-0.0 (Consumes-kept _ _ _ _ i.1 c.in-Err.ensures.bytes)
+    (Handles-pending_fails _ _ _ _ _ _ _ _ _ _ _ _ i.2 c.in_err-write_pending-in-Err.ensures))
 
 pub returns-in-Err : goal.returns-in-Err
 returns-in-Err g c =
     let i = c.loop.invariant in (
       i.0,
       Consumes-kept _ _ _ _ i.1 c.in-Err.ensures.bytes,
-      Moves-drained _ _ _ _ _ _ _ _ _ _ _ i.2 c.in_ok-write_held-in-Err.ensures.0 c.in_ok-write_held-in-Err.ensures.1,
+      Handles-drained _ _ _ _ _ _ _ _ _ _ _ i.2 c.in_ok-write_pending-in-Err.ensures.0 c.in_ok-write_pending-in-Err.ensures.1,
     )
 
 pub finish-requires : goal.finish-requires
@@ -44,22 +45,22 @@ returns-then-n-eq0 g c =
     end_result _ _ i.0 (take c.in-Ok.n c.read.new.buf) _ c.as_slice.result.now _ _ _ _ _ _ _ _ c.finish.result i.1 c.in-Ok.ensures.bytes.0
     (ap (λ k. take k c.read.new.buf) c.if-n-eq0.true) (c.in-Ok.ensures.bytes.1 c.if-n-eq0.true filled) i.2 c.as_slice.ensures.value c.finish.ensures
 
-pub slice_bounds-put_chunk-end : goal.slice_bounds-put_chunk-end
-slice_bounds-put_chunk-end g c =
+pub slice_bounds-handle_chunk-end : goal.slice_bounds-handle_chunk-end
+slice_bounds-handle_chunk-end g c =
     let back : c.deref.result.now ≡ c.read.new.buf = read_back c.loop.chunk.len c.read.new.buf (drop (length c.read.new.buf) c.loop.chunk.items) _ (omega (arith, c.read.auto.buf, c.as_mut_slice.ensures.len, c.loop.chunk.ok.0)) c.deref.ensures.value in
     c.in-Ok.ensures.bound.1 ∙ ap (λ (l : List ℕ). length (take c.in-Ok.n l)) (sym back)
 
-pub put_chunk-requires : goal.put_chunk-requires
-put_chunk-requires g c = c.loop.invariant.2.no_lf
+pub handle_chunk-requires : goal.handle_chunk-requires
+handle_chunk-requires g c = c.loop.invariant.2.no_lf
 
-pub returns-in_err-put_chunk : goal.returns-in_err-put_chunk
-returns-in_err-put_chunk g c =
+pub returns-in_err-handle_chunk : goal.returns-in_err-handle_chunk
+returns-in_err-handle_chunk g c =
     let i = c.loop.invariant in
     let back : c.deref.result.now ≡ c.read.new.buf = read_back c.loop.chunk.len c.read.new.buf (drop (length c.read.new.buf) c.loop.chunk.items) _ (omega (arith, c.read.auto.buf, c.as_mut_slice.ensures.len, c.loop.chunk.ok.0)) c.deref.ensures.value in
-    let p = err_from_is_err_and c.from_residual-in_err-put_chunk.result c.from_residual-in_err-put_chunk.ensures.1 in
-    rw (p.1, p.2) (Stops-halts _ _ (i.0 ++ take c.in-Ok.n c.deref.result.now) _ _ _ _ c.in_err-put_chunk.field-0.0
+    let p = err_from_is_err_and c.from_residual-in_err-handle_chunk.result c.from_residual-in_err-handle_chunk.ensures.1 in
+    rw (p.1, p.2) (Stops-fails _ _ (i.0 ++ take c.in-Ok.n c.deref.result.now) _ _ _ _ c.in_err-handle_chunk.field-0.0
     (Consumes-trans _ _ _ _ _ i.1 (Consumes-is _ _ _ _ (ap (λ (l : List ℕ). take c.in-Ok.n l) back) c.in-Ok.ensures.bytes.0))
-    (Moves-halts _ _ _ _ _ _ _ _ _ _ _ _ _ i.2 c.in_err-put_chunk.ensures))
+    (Handles-fails _ _ _ _ _ _ _ _ _ _ _ _ _ i.2 c.in_err-handle_chunk.ensures))
 
 pub loop-preserved : goal.loop-preserved
 loop-preserved g c =
@@ -68,21 +69,21 @@ loop-preserved g c =
     let back : c.deref.result.now ≡ c.read.new.buf = read_back c.loop.chunk.len c.read.new.buf (drop (length c.read.new.buf) c.loop.chunk.items) _ same c.deref.ensures.value in (
       i.0 ++ take c.in-Ok.n c.deref.result.now,
       Consumes-trans _ _ _ _ _ i.1 (Consumes-is _ _ _ _ (ap (λ (l : List ℕ). take c.in-Ok.n l) back) c.in-Ok.ensures.bytes.0),
-      Moves-trans _ _ _ _ _ _ _ _ _ _ _ _ _ _ _ i.2 c.in_ok-put_chunk.ensures,
+      Handles-trans _ _ _ _ _ _ _ _ _ _ _ _ _ _ _ i.2 c.in_ok-handle_chunk.ensures,
       subst (λ (k : ℕ). 0 < k) (sym (ap (λ (l : List ℕ). length l) (read_back c.loop.chunk.len c.read.new.buf (drop (length c.read.new.buf) c.loop.chunk.items) _ same refl) ∙ same ∙ c.loop.chunk.ok.0)) i.3,
     )
 
-pub returns-in_err-write_held : goal.returns-in_err-write_held
-returns-in_err-write_held g c =
+pub returns-in_err-write_pending : goal.returns-in_err-write_pending
+returns-in_err-write_pending g c =
     let i = c.loop.invariant in
-    let p = err_from_is_err_and c.from_residual-in_err-write_held.result c.from_residual-in_err-write_held.ensures.1 in
-    rw (p.1, p.2) (Stops-halts _ _ i.0 _ _ _ _ c.in_err-write_held.field-0.0 i.1
-    (Moves-held_halts _ _ _ _ _ _ _ _ _ _ _ _ i.2 c.in_err-write_held.ensures))
+    let p = err_from_is_err_and c.from_residual-in_err-write_pending.result c.from_residual-in_err-write_pending.ensures.1 in
+    rw (p.1, p.2) (Stops-fails _ _ i.0 _ _ _ _ c.in_err-write_pending.field-0.0 i.1
+    (Handles-pending_fails _ _ _ _ _ _ _ _ _ _ _ _ i.2 c.in_err-write_pending.ensures))
 
 pub returns : goal.returns
 returns g c =
     let i = c.loop.invariant in (
       i.0,
       i.1,
-      Moves-drained _ _ _ _ _ _ _ _ _ _ _ i.2 c.in_ok-write_held.ensures.0 c.in_ok-write_held.ensures.1,
+      Handles-drained _ _ _ _ _ _ _ _ _ _ _ i.2 c.in_ok-write_pending.ensures.0 c.in_ok-write_pending.ensures.1,
     )

@@ -1,6 +1,0 @@
-use Rattle.std.proofs.Common.{◌≡◌, ◌++◌, take, map, decimal}
-use Rattle.std.specs.List.{join_with_byte}
-use Rattle.globsift.proofs.sifting.put_numbers.Given as goal
-
-abbrev pub invariant-loop-i : goal.invariant-loop-i
-invariant-loop-i l = l.held.items ≡ l.initial.held.items ++ join_with_byte 44 (map decimal (take l.i l.indexes))

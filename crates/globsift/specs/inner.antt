@@ -1,0 +1,3 @@
+-- Definitions that only private functions and proofs cite.
+pub mod Sifting
+pub mod Parsing
