@@ -7,6 +7,7 @@
 mod class;
 mod fault;
 mod groups;
+pub mod laws;
 mod marks;
 mod options;
 mod reading;

@@ -122,10 +122,11 @@ settled_again (suc d) Close x h = let e : (d, Close) ≡ x = cc in ap (λ (y : �
 settled_again zero Comma x h = let e : (zero, Char false 44) ≡ x = cc in ap (λ (y : ℕ × Mark). nested_mark zero y.1) (sym e) ∙ h
 settled_again d m x h = let e : (d, m) ≡ x = cc in ap (λ (y : ℕ × Mark). nested_mark d y.1) (sym e) ∙ h
 
-abbrev step : Result (ℕ × Mark) Fault → List Mark → Result (List Mark) Fault
+-- the marks behind one that has been looked at
+abbrev pub step : Result (ℕ × Mark) Fault → List Mark → Result (List Mark) Fault
 step s ms = elim s [ Err f ↦ Err f | Ok x ↦ with_mark x.1 (nested x.0 ms) ]
 
-nested_step : (d : ℕ) (m : Mark) (ms : List Mark) → nested d (m ∷ ms) ≡ step (nested_mark d m) ms
+pub nested_step : (d : ℕ) (m : Mark) (ms : List Mark) → nested d (m ∷ ms) ≡ step (nested_mark d m) ms
 unfolding nested
 nested_step d m ms = refl
 
