@@ -2,7 +2,7 @@
 
 ghost use Rattle.glob_syntax.specs.Laws.{FaultsStay};
 
-/// Without `allow_unclosed_class`, a text whose first fault is `InvalidRange` or `UnopenedAlternates` has that very fault
+/// Without `allow_unclosed_class`, a text whose error is `InvalidRange` or `UnopenedAlternates` keeps that very error
 /// whatever text follows it.
 pub fn faults_stay()
     ensures { FaultsStay }

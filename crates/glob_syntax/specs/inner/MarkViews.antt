@@ -1,4 +1,4 @@
--- Marks as contracts see them, apart from how memory holds them.
+-- Marks as contracts see them, whatever memory holds them.
 use Rattle.std.specs.Prelude.{◌≡◌, ℕ, ◌++◌, List, map, Result, Ok, Err}
 use Rattle.glob_syntax.specs.declared.marks.mark.Mark.{Mark}
 use Rattle.glob_syntax.specs.declared.marks.mark.Mark.TheVariants as held
@@ -21,7 +21,7 @@ mark_of (held.Bad f) = marks.Bad f
 abbrev pub marks_of : List Mark → List marks.Mark
 marks_of ms = map mark_of ms
 
--- The tokens grew by those of a piece, which takes so many marks besides its first.
+-- the tokens of a piece were appended, and so many marks belong to it after its first one
 pub record Adds (old new : List tokens.Token) (p : List Token × ℕ) (more : ℕ) : Type 0 where
   pub tokens : token_list new ≡ token_list old ++ p.0
   pub takes : more ≡ p.1
