@@ -1,7 +1,7 @@
 -- The bytes that a character class contains.
 --
 -- A class matches single bytes, each a number from 0 to 255. A range with equal ends contains the bytes of its character in
--- UTF-8. Any other range contains, of the UTF-8 bytes of its two characters: those of the first character but its last one;
+-- UTF-8. Any other range contains, of the UTF-8 bytes of its two characters: those of the first character except its last one;
 -- every byte from that last one up to the first byte of the second character; and the other bytes of the second character.
 -- So `[a-z]` contains the lowercase ASCII letters, and `[é-ü]` contains C3, every byte from A9 to C3, and BC.
 use Rattle.std.specs.Prelude.{ℕ, Bool, false, not, ◌&&◌, ◌||◌, ◌==◌, nat_le, List, [], ◌∷◌, if◌then◌else◌, encode_utf8}

@@ -9,7 +9,7 @@ pub struct Options {
     pub literal_separator: bool,
     /// Whether a `\` outside classes makes the next character plain. On by default; the other options are off.
     pub backslash_escape: bool,
-    /// Whether the blank branches of a group are kept, as the second one of `{a,}`. A branch is blank if it has nothing but
+    /// Whether the blank branches of a group are kept, as the second one of `{a,}`. A branch is blank if it has only
     /// groups whose branches are all blank.
     pub empty_alternates: bool,
     /// Whether a `[` that no `]` closes is a plain character. By default it is an error.
