@@ -7,6 +7,7 @@ use Rattle.glob_syntax.specs.declared.fault.Fault.{Fault}
 use Rattle.glob_syntax.specs.declared.fault.Fault.TheVariants.{UnclosedClass, DanglingEscape}
 use Rattle.glob_syntax.specs.Ranges.{ranges, bad_range}
 
+-- a part of a text, and what it means for the reading
 pub data Mark : Type 0 where
   -- a plain character: whether it was escaped, and the character
   Char : Bool → ℕ → Mark

@@ -10,7 +10,8 @@ use Rattle.glob_syntax.specs.Token.{Token, Tokens, Branches, Literal, Any, ZeroO
 
 -- ---- tokens
 
--- a token, and the branches of a group, whose memory the compiler sees as rows
+-- A token of the program as a token of the definitions. The branches inside `Alternates` are shown as rows, which
+-- `row_branches` and `row_tokens` read.
 abbrev mutual
   pub token_of : tokens.Token → Token
   token_of (tokens.Literal c) = Literal c

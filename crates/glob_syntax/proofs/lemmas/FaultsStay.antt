@@ -130,8 +130,8 @@ bracket_at o cs = cond (is_negated cs) (class_at o 1 true (drop 1 cs)) (class_at
 
 module _ (o : Options) (f : Fault) (lasting : is_lasting f ≡ true) (more : List ℕ) where
   -- if f is the first error of a text whose first mark is p, it is that of the longer text too, whose first mark is q
-  abbrev Carries : List ℕ → Mark × ℕ → Mark × ℕ → Type 0
-  Carries cs p q = (d : ℕ) → nested d (p.0 ∷ marks o p.1 cs) ≡ Err f → nested d (q.0 ∷ marks o q.1 (cs ++ more)) ≡ Err f
+  abbrev KeepsError : List ℕ → Mark × ℕ → Mark × ℕ → Type 0
+  KeepsError cs p q = (d : ℕ) → nested d (p.0 ∷ marks o p.1 cs) ≡ Err f → nested d (q.0 ∷ marks o q.1 (cs ++ more)) ≡ Err f
 
   with_err : (m : Mark) (r s : Result (List Mark) Fault) → (r ≡ Err f → s ≡ Err f) → with_mark m r ≡ Err f → with_mark m s ≡ Err f
   with_err m (Ok ms) s g h = absurd cc
@@ -142,17 +142,17 @@ module _ (o : Options) (f : Fault) (lasting : is_lasting f ≡ true) (more : Lis
   after_step (Ok x) ms ns deep h = with_err x.1 (nested x.0 ms) (nested x.0 ns) (deep x.0) h
 
   -- the same mark
-  same : (cs : List ℕ) (p : Mark × ℕ) → ((n d : ℕ) → nested d (marks o n cs) ≡ Err f → nested d (marks o n (cs ++ more)) ≡ Err f) → Carries cs p p
+  same : (cs : List ℕ) (p : Mark × ℕ) → ((n d : ℕ) → nested d (marks o n cs) ≡ Err f → nested d (marks o n (cs ++ more)) ≡ Err f) → KeepsError cs p p
   same cs p deep d h =
       nested_step d p.0 (marks o p.1 (cs ++ more)) ∙ after_step (nested_mark d p.0) (marks o p.1 cs) (marks o p.1 (cs ++ more)) (deep p.1) (sym (nested_step d p.0 (marks o p.1 cs)) ∙ h)
 
   -- the same error
-  same_fault : (cs : List ℕ) (e : Fault) (n k : ℕ) → Carries cs (Bad e, n) (Bad e, k)
+  same_fault : (cs : List ℕ) (e : Fault) (n k : ℕ) → KeepsError cs (Bad e, n) (Bad e, k)
   unfolding nested
   same_fault cs e n k d h = h
 
   -- an error that is not lasting
-  mended : (cs : List ℕ) (e : Fault) (n : ℕ) (q : Mark × ℕ) → is_lasting e ≡ false → Carries cs (Bad e, n) q
+  mended : (cs : List ℕ) (e : Fault) (n : ℕ) (q : Mark × ℕ) → is_lasting e ≡ false → KeepsError cs (Bad e, n) q
   unfolding nested
   mended cs e n q g d h = let i : e ≡ f = cc in let j = ap is_lasting i in absurd cc
 
@@ -163,20 +163,20 @@ module _ (o : Options) (f : Fault) (lasting : is_lasting f ≡ true) (more : Lis
   no_end (suc d) h = let i : UnclosedAlternates ≡ f = cc in let j = ap is_lasting i in absurd cc
 
   -- a run of stars to the end of the text
-  last_stars : (cs : List ℕ) (k n : ℕ) (q : Mark × ℕ) → length cs ≤ n → Carries cs (Stars k, n) q
+  last_stars : (cs : List ℕ) (k n : ℕ) (q : Mark × ℕ) → length cs ≤ n → KeepsError cs (Stars k, n) q
   unfolding nested marks
   last_stars cs k n q h d g =
       let none_left : marks o n cs ≡ [] = marks_skip o n cs ∙ ap (marks o zero) (drop_all n cs h) in
       absurd (no_end d (err_under (Stars k) (nested d []) (sym (ap (λ ms. nested d (Stars k ∷ ms)) none_left) ∙ g)))
 
   -- any run of stars
-  stars : (cs : List ℕ) (p : ℕ → Bool) → ((n d : ℕ) → nested d (marks o n cs) ≡ Err f → nested d (marks o n (cs ++ more)) ≡ Err f) → Carries cs (star_run (prefix_len p cs)) (star_run (prefix_len p (cs ++ more)))
+  stars : (cs : List ℕ) (p : ℕ → Bool) → ((n d : ℕ) → nested d (marks o n cs) ≡ Err f → nested d (marks o n (cs ++ more)) ≡ Err f) → KeepsError cs (star_run (prefix_len p cs)) (star_run (prefix_len p (cs ++ more)))
   stars cs p deep = by (nat_lt (prefix_len p cs) (length cs)) refl
     where
-      by : (b : Bool) → nat_lt (prefix_len p cs) (length cs) ≡ b → Carries cs (star_run (prefix_len p cs)) (star_run (prefix_len p (cs ++ more)))
+      by : (b : Bool) → nat_lt (prefix_len p cs) (length cs) ≡ b → KeepsError cs (star_run (prefix_len p cs)) (star_run (prefix_len p (cs ++ more)))
       by true h =
           let e = prefix_within p cs more (ltb-true (prefix_len p cs) (length cs) h) in
-          subst (λ n. Carries cs (star_run (prefix_len p cs)) (star_run n)) (sym e) (same cs (star_run (prefix_len p cs)) deep)
+          subst (λ n. KeepsError cs (star_run (prefix_len p cs)) (star_run n)) (sym e) (same cs (star_run (prefix_len p cs)) deep)
       by false h = last_stars cs (suc (prefix_len p cs)) (prefix_len p cs) (star_run (prefix_len p (cs ++ more))) (ltb-false (prefix_len p cs) (length cs) h)
 
   module _ (closed_only : o.allow_unclosed_class ≡ false) (whole : List ℕ) (skipped : ℕ) (negated : Bool) where
@@ -185,64 +185,64 @@ module _ (o : Options) (f : Fault) (lasting : is_lasting f ≡ true) (more : Lis
     unclosed_is cs r h = ap (λ b. elim b [ true ↦ Char false 91 | false ↦ no_class (bad_range cs) ]) closed_only ∙ ap no_class h
 
     -- the mark of the longer text, where the body has a bad range
-    beyond : (c : ℕ) (cs : List ℕ) (e : Fault) (s : Option ℕ) → bad_range (c ∷ cs) ≡ Some e → members (c ∷ cs) ≡ None → members (c ∷ cs ++ more) ≡ s → Carries whole (Bad e, 0) (class_by o skipped negated (c ∷ cs ++ more) s)
+    beyond : (c : ℕ) (cs : List ℕ) (e : Fault) (s : Option ℕ) → bad_range (c ∷ cs) ≡ Some e → members (c ∷ cs) ≡ None → members (c ∷ cs ++ more) ≡ s → KeepsError whole (Bad e, 0) (class_by o skipped negated (c ∷ cs ++ more) s)
     beyond c cs e None bad unclosed_here still =
         let m : unclosed_mark o (c ∷ cs ++ more) ≡ Bad e = unclosed_is (c ∷ cs ++ more) (Some e) (bad_range_stays (c ∷ cs) more e bad) in
-        subst (λ x. Carries whole (Bad e, 0) (x, 0)) (sym m) (same_fault whole e 0 0)
+        subst (λ x. KeepsError whole (Bad e, 0) (x, 0)) (sym m) (same_fault whole e 0 0)
     beyond c cs e (Some n) bad unclosed_here closes =
         let body : take n (c ∷ cs ++ more) ≡ (c ∷ cs) ++ take (n - length (c ∷ cs)) more = members_beyond c n cs more unclosed_here closes in
         let m : class_mark negated (take n (c ∷ cs ++ more)) ≡ Bad e = ap (class_mark negated) body ∙ ap (body_mark negated ((c ∷ cs) ++ take (n - length (c ∷ cs)) more)) (bad_range_stays (c ∷ cs) (take (n - length (c ∷ cs)) more) e bad) in
-        subst (λ x. Carries whole (Bad e, 0) (x, skipped + n + 1)) (sym m) (same_fault whole e 0 (skipped + n + 1))
+        subst (λ x. KeepsError whole (Bad e, 0) (x, skipped + n + 1)) (sym m) (same_fault whole e 0 (skipped + n + 1))
 
-    unclosed : (c : ℕ) (cs : List ℕ) (r : Option Fault) → bad_range (c ∷ cs) ≡ r → members (c ∷ cs) ≡ None → Carries whole (no_class r, 0) (class_at o skipped negated (c ∷ cs ++ more))
+    unclosed : (c : ℕ) (cs : List ℕ) (r : Option Fault) → bad_range (c ∷ cs) ≡ r → members (c ∷ cs) ≡ None → KeepsError whole (no_class r, 0) (class_at o skipped negated (c ∷ cs ++ more))
     unclosed c cs None bad unclosed_here = mended whole UnclosedClass 0 (class_at o skipped negated (c ∷ cs ++ more)) refl
     unclosed c cs (Some e) bad unclosed_here = beyond c cs e (members (c ∷ cs ++ more)) bad unclosed_here refl
 
     -- a class with a member
     class : (c : ℕ) (cs : List ℕ) (r : Option ℕ) → members (c ∷ cs) ≡ r → ((n d : ℕ) → nested d (marks o n whole) ≡ Err f → nested d (marks o n (whole ++ more)) ≡ Err f)
-        → Carries whole (class_by o skipped negated (c ∷ cs) r) (class_at o skipped negated (c ∷ cs ++ more))
+        → KeepsError whole (class_by o skipped negated (c ∷ cs) r) (class_at o skipped negated (c ∷ cs ++ more))
     class c cs None h deep =
-        subst (λ x. Carries whole (x, 0) (class_at o skipped negated (c ∷ cs ++ more))) (sym (unclosed_is (c ∷ cs) (bad_range (c ∷ cs)) refl)) (unclosed c cs (bad_range (c ∷ cs)) refl h)
+        subst (λ x. KeepsError whole (x, 0) (class_at o skipped negated (c ∷ cs ++ more))) (sym (unclosed_is (c ∷ cs) (bad_range (c ∷ cs)) refl)) (unclosed c cs (bad_range (c ∷ cs)) refl h)
     class c cs (Some n) h deep =
         let there = members_within c n cs more h in
         let body : take n (c ∷ cs ++ more) ≡ take n (c ∷ cs) = take-append-le n (c ∷ cs) more there.0 in
         let q : class_at o skipped negated (c ∷ cs ++ more) ≡ (class_mark negated (take n (c ∷ cs)), skipped + n + 1) =
         ap (class_by o skipped negated (c ∷ cs ++ more)) there.1 ∙ ap (λ b. (class_mark negated b, skipped + n + 1)) body in
-        subst (λ x. Carries whole (class_mark negated (take n (c ∷ cs)), skipped + n + 1) x) (sym q) (same whole (class_mark negated (take n (c ∷ cs)), skipped + n + 1) deep)
+        subst (λ x. KeepsError whole (class_mark negated (take n (c ∷ cs)), skipped + n + 1) x) (sym q) (same whole (class_mark negated (take n (c ∷ cs)), skipped + n + 1) deep)
 
     -- a `[`, and perhaps a negation, at the end of the text
-    class_at_end : (q : Mark × ℕ) → Carries whole (class_at o skipped negated []) q
+    class_at_end : (q : Mark × ℕ) → KeepsError whole (class_at o skipped negated []) q
     unfolding bad_range
-    class_at_end q = subst (λ x. Carries whole (x, 0) q) (sym (unclosed_is [] None refl)) (mended whole UnclosedClass 0 q refl)
+    class_at_end q = subst (λ x. KeepsError whole (x, 0) q) (sym (unclosed_is [] None refl)) (mended whole UnclosedClass 0 q refl)
 
-    any_class : (cs : List ℕ) → ((n d : ℕ) → nested d (marks o n whole) ≡ Err f → nested d (marks o n (whole ++ more)) ≡ Err f) → Carries whole (class_at o skipped negated cs) (class_at o skipped negated (cs ++ more))
+    any_class : (cs : List ℕ) → ((n d : ℕ) → nested d (marks o n whole) ≡ Err f → nested d (marks o n (whole ++ more)) ≡ Err f) → KeepsError whole (class_at o skipped negated cs) (class_at o skipped negated (cs ++ more))
     any_class [] deep = class_at_end (class_at o skipped negated more)
     any_class (c ∷ cs) deep = class c cs (members (c ∷ cs)) refl deep
 
   -- a `[`
   bracket : (cs : List ℕ) → o.allow_unclosed_class ≡ false → ((n d : ℕ) → nested d (marks o n cs) ≡ Err f → nested d (marks o n (cs ++ more)) ≡ Err f)
-      → Carries cs (bracket_at o cs) (bracket_at o (cs ++ more))
+      → KeepsError cs (bracket_at o cs) (bracket_at o (cs ++ more))
   bracket [] closed_only deep = class_at_end closed_only [] 0 false (bracket_at o more)
   bracket (c ∷ cs) closed_only deep =
-      both_ways (is_negated (c ∷ cs)) _ _ _ _ (Carries (c ∷ cs)) (λ e. any_class closed_only (c ∷ cs) 1 true cs deep) (λ e. any_class closed_only (c ∷ cs) 0 false (c ∷ cs) deep)
+      both_ways (is_negated (c ∷ cs)) _ _ _ _ (KeepsError (c ∷ cs)) (λ e. any_class closed_only (c ∷ cs) 1 true cs deep) (λ e. any_class closed_only (c ∷ cs) 0 false (c ∷ cs) deep)
 
   -- a `\` that escapes
-  escape : (cs : List ℕ) → ((n d : ℕ) → nested d (marks o n cs) ≡ Err f → nested d (marks o n (cs ++ more)) ≡ Err f) → Carries cs (escape_at cs) (escape_at (cs ++ more))
+  escape : (cs : List ℕ) → ((n d : ℕ) → nested d (marks o n cs) ≡ Err f → nested d (marks o n (cs ++ more)) ≡ Err f) → KeepsError cs (escape_at cs) (escape_at (cs ++ more))
   escape [] deep = mended [] DanglingEscape 0 (escape_at more) refl
   escape (c ∷ cs) deep = same (c ∷ cs) (Char true c, 1) deep
 
   -- any mark
   mark : (c : ℕ) (cs : List ℕ) → o.allow_unclosed_class ≡ false → ((n d : ℕ) → nested d (marks o n cs) ≡ Err f → nested d (marks o n (cs ++ more)) ≡ Err f)
-      → Carries cs (mark_at o c cs) (mark_at o c (cs ++ more))
+      → KeepsError cs (mark_at o c cs) (mark_at o c (cs ++ more))
   unfolding mark_at
   mark c cs closed_only deep =
-      both_ways (c == 63) _ _ _ _ (Carries cs) (λ e. same cs (One, 0) deep)
-      (λ e1. both_ways (c == 42) _ _ _ _ (Carries cs) (λ e. stars cs (λ d. d == 42) deep)
-      (λ e2. both_ways (c == 91) _ _ _ _ (Carries cs) (λ e. bracket cs closed_only deep)
-      (λ e3. both_ways (c == 123) _ _ _ _ (Carries cs) (λ e. same cs (Open, 0) deep)
-      (λ e4. both_ways (c == 125) _ _ _ _ (Carries cs) (λ e. same cs (Close, 0) deep)
-      (λ e5. both_ways (c == 44) _ _ _ _ (Carries cs) (λ e. same cs (Comma, 0) deep)
-      (λ e6. both_ways (c == 92 && o.backslash_escape) _ _ _ _ (Carries cs) (λ e. escape cs deep) (λ e. same cs (Char false c, 0) deep)))))))
+      both_ways (c == 63) _ _ _ _ (KeepsError cs) (λ e. same cs (One, 0) deep)
+      (λ e1. both_ways (c == 42) _ _ _ _ (KeepsError cs) (λ e. stars cs (λ d. d == 42) deep)
+      (λ e2. both_ways (c == 91) _ _ _ _ (KeepsError cs) (λ e. bracket cs closed_only deep)
+      (λ e3. both_ways (c == 123) _ _ _ _ (KeepsError cs) (λ e. same cs (Open, 0) deep)
+      (λ e4. both_ways (c == 125) _ _ _ _ (KeepsError cs) (λ e. same cs (Close, 0) deep)
+      (λ e5. both_ways (c == 44) _ _ _ _ (KeepsError cs) (λ e. same cs (Comma, 0) deep)
+      (λ e6. both_ways (c == 92 && o.backslash_escape) _ _ _ _ (KeepsError cs) (λ e. escape cs deep) (λ e. same cs (Char false c, 0) deep)))))))
 
   -- ---- texts
 

@@ -8,6 +8,7 @@ use Rattle.glob_syntax.specs.Marks as marks
 use Rattle.glob_syntax.specs.Ranges.{ranges}
 use Rattle.glob_syntax.specs.Views.{token_list}
 
+-- a mark; that of a class by the ranges of its body
 abbrev pub mark_of : Mark → marks.Mark
 mark_of (held.Char escaped c) = marks.Char escaped c
 mark_of held.One = marks.One
@@ -18,6 +19,7 @@ mark_of held.Comma = marks.Comma
 mark_of held.Close = marks.Close
 mark_of (held.Bad f) = marks.Bad f
 
+-- marks, one after another
 abbrev pub marks_of : List Mark → List marks.Mark
 marks_of ms = map mark_of ms
 

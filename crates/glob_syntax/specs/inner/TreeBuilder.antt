@@ -23,7 +23,7 @@ abbrev pub in_frames : List Frame → Levels → Levels
 in_frames [] ls = ls
 in_frames (f ∷ fs) ls = in_frame f (in_frames fs ls)
 
--- an open group as memory holds it
+-- an open group, and open groups, as memory holds them
 abbrev pub frame : Group → Frame
 frame g = (token_list g.before.items, branch_list g.branches.items)
 
