@@ -5,5 +5,6 @@ pub mod Nesting
 pub mod Stars
 pub mod Reading
 pub mod ClassBytes
+pub mod Laws
 pub mod Views
 pub mod inner

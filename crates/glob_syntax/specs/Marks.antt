@@ -1,5 +1,5 @@
--- A glob's text, a list of characters, is cut from the left into marks: plain characters, `?`, runs of `*`, classes,
--- braces and commas.
+-- A glob's text, a list of characters, is split from left to right into marks: plain characters, `?`, runs of `*`,
+-- classes, braces and commas.
 use Rattle.std.specs.Prelude.{◌≡◌, ℕ, zero, suc, ◌+◌, List, [], ◌∷◌, Bool, true, false, ◌||◌, ◌&&◌, ◌==◌, if◌then◌else◌, take, drop, Option, Some, None}
 use Rattle.std.specs.List.{prefix_len, position}
 use Rattle.glob_syntax.specs.declared.options.Options.{Options}
@@ -7,22 +7,23 @@ use Rattle.glob_syntax.specs.declared.fault.Fault.{Fault}
 use Rattle.glob_syntax.specs.declared.fault.Fault.TheVariants.{UnclosedClass, DanglingEscape}
 use Rattle.glob_syntax.specs.Ranges.{ranges, bad_range}
 
+-- a part of a text, and what it means for the reading
 pub data Mark : Type 0 where
   -- a plain character: whether it was escaped, and the character
   Char : Bool → ℕ → Mark
   -- `?`
   One : Mark
-  -- a run of unescaped `*`, as long as it goes, by its length
+  -- a run of unescaped `*`, all that follow one another, by its length
   Stars : ℕ → Mark
   -- a closed class: whether it is negated, and its ranges in order
   Class : Bool → List (ℕ × ℕ) → Mark
   -- `{`
   Open : Mark
-  -- `,`, in braces or not
+  -- `,`, inside braces or not
   Comma : Mark
   -- `}`
   Close : Mark
-  -- what stands here has no reading
+  -- an error at this position
   Bad : Fault → Mark
 
 -- ---- classes
@@ -31,49 +32,49 @@ pub data Mark : Type 0 where
 abbrev pub is_closer : ℕ → Bool
 is_closer c = c == 93
 
--- no `]` stands among these characters
+-- none of these characters is a `]`
 abbrev pub NoCloser : List ℕ → Type 0
 NoCloser cs = position is_closer cs ≡ None
 
--- `!` or `^` stands first
+-- the first character is `!` or `^`
 abbrev pub is_negated : List ℕ → Bool
 is_negated [] = false
 is_negated (c ∷ cs) = c == 33 || c == 94
 
--- How many characters the body of a class has that begins with the first of these. That one is a member whatever it is;
--- the next `]` closes the class. None where no `]` does.
+-- How many characters the body of a class has, where its first character is the first of these. That one is a member
+-- whatever it is; the next `]` closes the class. `None` if no `]` does.
 abbrev pub members : List ℕ → Option ℕ
 members cs = elim (position is_closer (drop 1 cs)) [ None ↦ None | Some n ↦ Some (n + 1) ]
 
--- a closed class with this body: a bad range has no reading
+-- a closed class with this body; a bad range is an error
 abbrev pub class_mark : Bool → List ℕ → Mark
 class_mark negated body = elim (bad_range body) [ None ↦ Class negated (ranges body) | Some f ↦ Bad f ]
 
--- A `[` that no `]` closes, where `rest` is what follows it past a negation. With the option it is a plain character,
--- by itself: what follows, the negation too, is cut as usual. Without it, it is a fault: the first bad range of the rest,
--- read as a body, and else the want of a `]`.
+-- A `[` that no `]` closes, where `rest` is what follows it and, if there is one, its negation. With
+-- `allow_unclosed_class` the `[` alone is a plain character, and what follows, the negation too, is split as usual. Without
+-- it, it is an error: that of the first bad range of `rest`, read as a body, and `UnclosedClass` if there is none.
 abbrev pub unclosed_mark : Options → List ℕ → Mark
 unclosed_mark o rest = elim o.allow_unclosed_class [ true ↦ Char false 91 | false ↦ elim (bad_range rest) [ None ↦ Bad UnclosedClass | Some f ↦ Bad f ] ]
 
--- ---- the mark at one place
+-- ---- the mark at one position
 
--- In what follows a mark stands beside the number of characters that it takes after its first.
+-- In what follows, a mark comes with the number of characters that belong to it after its first one.
 
--- the mark at a `[`, after which stand `skipped` characters of negation and then `cs`
+-- the mark at a `[` that `skipped` characters of negation and then `cs` follow
 abbrev pub class_at : Options → ℕ → Bool → List ℕ → Mark × ℕ
 class_at o skipped negated cs = elim (members cs) [ None ↦ (unclosed_mark o cs, 0) | Some n ↦ (class_mark negated (take n cs), skipped + n + 1) ]
 
--- the mark at a `\` that escapes, after which stands `cs`
+-- the mark at a `\` that escapes, followed by `cs`
 abbrev pub escape_at : List ℕ → Mark × ℕ
 escape_at [] = (Bad DanglingEscape, 0)
 escape_at (c ∷ cs) = (Char true c, 1)
 
--- a run of stars, with so many after the first
+-- a run of stars, with so many after the first one
 abbrev pub star_run : ℕ → Mark × ℕ
 star_run more = (Stars (suc more), more)
 
--- The mark that begins with `c`, after which stands `cs`. Special are `?`, `*`, `[`, `{`, `}`, `,` and, with the option,
--- `\`. Every other character is plain, `]` and `!` too.
+-- The mark that begins with `c`, followed by `cs`. The special characters are `?`, `*`, `[`, `{`, `}`, `,` and, with
+-- `backslash_escape`, `\`. Every other character is plain, also `]` and `!`.
 unfoldable pub mark_at : Options → ℕ → List ℕ → Mark × ℕ
 mark_at o c cs =
     if c == 63 then (One, 0)

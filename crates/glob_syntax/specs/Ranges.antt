@@ -1,8 +1,9 @@
 -- The body of a character class, without its brackets and its negation, as ranges.
 --
--- A body is one or more chains and then, perhaps, a last `-`. A chain is a character, which is not `-` save at the very
--- start, and any number of pairs, each a `-` and one more character. It is the range from its character to the last
--- character of its last pair, or its character alone. A last `-` is a member by itself.
+-- A body is one or more chains and then, perhaps, a last `-`. A chain is a character, which is not `-` except at the very
+-- start of the body, followed any number of times by a `-` and one more character. It is the range from its first
+-- character to its last one, which may be the same. A last `-` is a member by itself. So `a-c-e` is one range, from `a` to
+-- `e`, and `ab-` has the members `a`, `b` and `-`.
 use Rattle.std.specs.Prelude.{ℕ, List, [], ◌∷◌, Bool, true, false, ◌==◌, nat_lt, Option, Some, None}
 use Rattle.glob_syntax.specs.declared.fault.Fault.{Fault}
 use Rattle.glob_syntax.specs.declared.fault.Fault.TheVariants.{InvalidRange}
@@ -11,32 +12,32 @@ use Rattle.glob_syntax.specs.declared.fault.Fault.TheVariants.{InvalidRange}
 abbrev pub is_hyphen : ℕ → Bool
 is_hyphen c = c == 45
 
--- The ranges of what is left of a body inside a chain, which goes from `first` to `last` so far: a `-` begins a pair,
--- or is the last member, and any other character begins the next chain.
+-- The ranges of what is left of a body inside a chain, which goes from `first` to `last` so far. A `-` goes on with the
+-- chain, or is the last member, and any other character begins the next chain. `after_hyphen` is what a `-` goes on with.
 abbrev mutual
   pub chain : ℕ → ℕ → List ℕ → List (ℕ × ℕ)
   chain first last [] = (first, last) ∷ []
-  chain first last (c ∷ rest) = elim (is_hyphen c) [ true ↦ pair first last rest | false ↦ (first, last) ∷ chain c c rest ]
+  chain first last (c ∷ rest) = elim (is_hyphen c) [ true ↦ after_hyphen first last rest | false ↦ (first, last) ∷ chain c c rest ]
 
-  pub pair : ℕ → ℕ → List ℕ → List (ℕ × ℕ)
-  pair first last [] = (first, last) ∷ (45, 45) ∷ []
-  pair first last (c ∷ rest) = chain first c rest
+  pub after_hyphen : ℕ → ℕ → List ℕ → List (ℕ × ℕ)
+  after_hyphen first last [] = (first, last) ∷ (45, 45) ∷ []
+  after_hyphen first last (c ∷ rest) = chain first c rest
 
 -- the ranges of a body
 unfoldable pub ranges : List ℕ → List (ℕ × ℕ)
 ranges [] = []
 ranges (c ∷ rest) = chain c c rest
 
--- The first bad pair of what is left of a body inside a chain that begins with `first`: the pair's character is below
--- `first`.
+-- The first bad range of what is left of a body inside a chain that begins with `first`: a character after a `-` that is
+-- below `first`.
 abbrev mutual
   pub bad_chain : ℕ → List ℕ → Option Fault
   bad_chain first [] = None
-  bad_chain first (c ∷ rest) = elim (is_hyphen c) [ true ↦ bad_pair first rest | false ↦ bad_chain c rest ]
+  bad_chain first (c ∷ rest) = elim (is_hyphen c) [ true ↦ bad_after_hyphen first rest | false ↦ bad_chain c rest ]
 
-  pub bad_pair : ℕ → List ℕ → Option Fault
-  bad_pair first [] = None
-  bad_pair first (c ∷ rest) = elim (nat_lt c first) [ true ↦ Some (InvalidRange first c) | false ↦ bad_chain first rest ]
+  pub bad_after_hyphen : ℕ → List ℕ → Option Fault
+  bad_after_hyphen first [] = None
+  bad_after_hyphen first (c ∷ rest) = elim (nat_lt c first) [ true ↦ Some (InvalidRange first c) | false ↦ bad_chain first rest ]
 
 -- the first bad range of a body
 unfoldable pub bad_range : List ℕ → Option Fault

@@ -1,4 +1,4 @@
--- Reading: a glob's text under its options has tokens, or it has a fault, the first from the left.
+-- Reading: a glob's text has tokens under its options, or it has an error, the first one from left to right.
 use Rattle.std.specs.Prelude.{◌≡◌, ℕ, zero, suc, List, [], ◌∷◌, Bool, true, false, Result, Ok, Err}
 use Rattle.glob_syntax.specs.declared.options.Options.{Options}
 use Rattle.glob_syntax.specs.declared.fault.Fault.{Fault}
@@ -9,23 +9,23 @@ use Rattle.glob_syntax.specs.Stars.{is_run, piece}
 
 -- ---- branches
 
--- What some last marks of a glob are read as. They may begin inside groups: the first part is the branches of the
--- innermost group that is open where they begin, from the one that is being read on; the list has those of each group
--- around it, outwards. The whole glob counts as the one branch of an outermost group.
+-- What some last marks of a glob are read as. They may begin inside groups. The first part has the branches of the
+-- innermost open group, from the branch in which the marks begin; the list has those of each group around it, from the
+-- inside out. The whole glob counts as the only branch of an outermost group.
 abbrev pub Levels : Type 0
 Levels = Branches × List Branches
 
--- tokens, and then the first of these branches; a level of marks that nest has one
+-- tokens, and then the first of these branches; where the braces of the marks match, there is one
 abbrev pub in_branch : List Token → Branches → Branches
 in_branch front none = none
 in_branch front (branch ts bs) = branch (before front ts) bs
 
--- tokens, and then these levels: they begin the branch that is being read
+-- tokens, and then these levels: the tokens are at the front of the branch that is being read
 abbrev pub in_level : List Token → Levels → Levels
 in_level front levels = (in_branch front levels.0, levels.1)
 
--- A `{`, and then these levels: the innermost is a whole group, a token of the branch around it. Where marks nest, there
--- is one.
+-- A `{`, and then these levels: the innermost one is a whole group, which is a token of the branch around it. Where the
+-- braces of the marks match, there is such a branch.
 abbrev pub open_level : Levels → Levels
 open_level (bs, []) = (bs, [])
 open_level (bs, outer ∷ more) = (in_branch (Group bs ∷ []) outer, more)
@@ -34,11 +34,11 @@ open_level (bs, outer ∷ more) = (in_branch (Group bs ∷ []) outer, more)
 abbrev pub next_branch : Levels → Levels
 next_branch (bs, more) = (branch end bs, more)
 
--- a `}`, and then these levels: a group ends, with a branch that has no more tokens
+-- a `}`, and then these levels: a group ends, and its last branch has no more tokens
 abbrev pub close_level : Levels → Levels
 close_level (bs, more) = (branch end none, bs ∷ more)
 
--- The levels of marks, the first n of which belong to the piece before them; `start` says that a branch starts here.
+-- The levels of marks, the first n of which belong to the piece before them; `start` says whether a branch starts here.
 unfoldable pub levels : ℕ → Bool → List Mark → Levels
 levels n start [] = (branch end none, [])
 levels (suc n) start (m ∷ ms) = levels n start ms
@@ -63,12 +63,13 @@ whole ms = elim (is_whole_run ms) [ true ↦ and_then RecursivePrefix end | fals
 
 -- ---- reading
 
+-- the tokens of marks that have no error
 abbrev pub whole_or_fault : Result (List Mark) Fault → Result Tokens Fault
 whole_or_fault (Ok ms) = Ok (whole ms)
 whole_or_fault (Err f) = Err f
 
--- The tokens of a text, or its first fault from the left. It is a function, so a text has a reading or a fault and
--- never both, and at most one of either.
+-- The tokens of a text, or its first error from left to right. This is a function, so a text has either tokens or an
+-- error, and only one of each.
 unfoldable pub reading : Options → List ℕ → Result Tokens Fault
 reading o text = whole_or_fault (nested zero (marks o zero text))
 
@@ -76,6 +77,6 @@ reading o text = whole_or_fault (nested zero (marks o zero text))
 abbrev pub Reads : Options → List ℕ → Tokens → Type 0
 Reads o text ts = reading o text ≡ Ok ts
 
--- the text has this fault
+-- the first error of the text is this one
 abbrev pub HasFault : Options → List ℕ → Fault → Type 0
 HasFault o text f = reading o text ≡ Err f

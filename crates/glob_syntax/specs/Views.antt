@@ -1,5 +1,5 @@
--- Tokens and results of reading as contracts see them, apart from how memory holds them.
-use Rattle.std.specs.Prelude.{◌≡◌, ℕ, ◌++◌, List, map, Result, Ok, Err}
+-- Tokens and results of reading as contracts see them, whatever memory holds them.
+use Rattle.std.specs.Prelude.{◌≡◌, List, map, Result, Ok, Err}
 use Rattle.glob_syntax.specs.declared.fault.Fault.{Fault}
 use Rattle.glob_syntax.specs.declared.fault.ReadError.{ReadError}
 use Rattle.glob_syntax.specs.declared.fault.ReadError.TheVariants as errors
@@ -10,6 +10,8 @@ use Rattle.glob_syntax.specs.Token.{Token, Tokens, Branches, Literal, Any, ZeroO
 
 -- ---- tokens
 
+-- A token of the program as a token of the definitions. The branches inside `Alternates` are shown as rows, which
+-- `row_branches` and `row_tokens` read.
 abbrev mutual
   pub token_of : tokens.Token → Token
   token_of (tokens.Literal c) = Literal c
@@ -33,22 +35,26 @@ abbrev mutual
 abbrev pub token_list : List tokens.Token → List Token
 token_list ts = map token_of ts
 
+-- tokens, one after another
 abbrev pub tokens_of : List tokens.Token → Tokens
 tokens_of ts = before (token_list ts) end
 
+-- the branches of a group, in a list
 abbrev pub branch_list : List (Vec tokens.Token Global) → List Tokens
 branch_list vs = map (λ v. tokens_of v.items) vs
 
+-- the branches of a group, one after another
 abbrev pub branches_of : List (Vec tokens.Token Global) → Branches
 branches_of vs = ahead (branch_list vs) none
 
 -- ---- results
 
--- What a function returned, seen by view, is what reading gives, unless memory ran out.
-abbrev pub Fails : {Y : Type 0} → ReadError → Result Y Fault → Type 0
-Fails errors.Memory read = Unit {0}
-Fails (errors.Fault f) read = read ≡ Err f
+-- a returned error is that of the reading, unless memory ran out
+abbrev pub ErrorAgrees : {Y : Type 0} → ReadError → Result Y Fault → Type 0
+ErrorAgrees errors.Memory read = Unit {0}
+ErrorAgrees (errors.Fault f) read = read ≡ Err f
 
-abbrev pub Gives : {X Y : Type 0} → (X → Y) → Result X ReadError → Result Y Fault → Type 0
-Gives view (Ok x) read = read ≡ Ok (view x)
-Gives view (Err e) read = Fails e read
+-- a returned value, seen by `view`, or a returned error is that of the reading, unless memory ran out
+abbrev pub AgreesWith : {X Y : Type 0} → (X → Y) → Result X ReadError → Result Y Fault → Type 0
+AgreesWith view (Ok x) read = read ≡ Ok (view x)
+AgreesWith view (Err e) read = ErrorAgrees e read

@@ -1,4 +1,4 @@
-//! Character classes: their bodies as ranges, and the bytes that they have.
+//! Character classes: the ranges of a body, and the bytes that a class contains.
 
 ghost use Rattle.std.specs.Prelude.{◌≡◌, IfOk};
 ghost use Rattle.glob_syntax.specs.Ranges.{ranges, bad_range};
@@ -11,7 +11,7 @@ use std::alloc::{AllocError, Global};
 use std::marker::Model;
 use table::{Membership, table_of};
 
-/// The first bad range of a class's body.
+/// The error of the first bad range of a class's body, if it has one.
 #[tactic(auto, unfolding(crate::specs::Ranges::bad_range))]
 pub fn bad_range(body: &[char]) -> Option<Fault>
     ensures { result ≡ bad_range body.now }
@@ -75,14 +75,15 @@ pub fn ranges(alloc: Global, body: &[char]) -> Result<Vec<(char, char)>, AllocEr
     }
 }
 
-/// A character class. Contracts see whether it is negated, and its ranges in order.
+/// A character class.
 ///
-/// Its table of bytes is made once, when the class is read, and serves whatever the options are.
+/// Contracts see whether it is negated, and its ranges in order. Its table of bytes is made once, when the class is read,
+/// and works under all options.
 #[derive(Debug, Drop)]
 pub struct Class {
     negated: bool,
     ranges: Vec<(char, char)>,
-    /// How the ranges have each byte.
+    /// How the ranges contain each byte.
     table: Vec<Membership>,
 }
 
@@ -100,7 +101,9 @@ impl Model for Class {
 impl Class {
     ghost use Rattle.glob_syntax.specs.ClassBytes.{class_has};
 
-    /// The class of these ranges. It looks at each range once for each of the 256 bytes.
+    /// Returns the class of these ranges. This takes 256 steps for each range, and memory for a table of 256 entries.
+    ///
+    /// Returns an error if memory runs out.
     pub fn new(alloc: Global, negated: bool, ranges: Vec<(char, char)>) -> Result<Class, AllocError>
         ensures { IfOk result (λ c. c ≡ record { negated = negated; ranges = ranges.items }) }
     {
@@ -112,33 +115,35 @@ impl Class {
         })
     }
 
-    /// Whether the class has a byte under these options: one look at its table.
+    /// Returns whether the class contains a byte under these options. This reads one entry of its table.
     pub fn has(&self, options: Options, byte: u8) -> bool
         ensures { result ≡ class_has options self.now.negated self.now.ranges byte }
     {
-        let had = match self.table[byte as usize] {
+        let contained = match self.table[byte as usize] {
             Membership::Present => true,
             Membership::OtherCase => options.case_insensitive,
             Membership::Absent => false,
         };
-        had != self.negated
+        contained != self.negated
     }
 
-    /// Whether the class is negated.
+    /// Returns whether the class is negated.
     pub fn negated(&self) -> bool
         ensures { result ≡ self.now.negated }
     {
         self.negated
     }
 
-    /// The ranges of the class, in order.
+    /// Returns the ranges of the class, in order, each with its first and last character.
     pub fn ranges(&self) -> &[(char, char)]
         ensures { result.now ≡ self.now.ranges }
     {
         &self.ranges
     }
 
-    /// An equal class.
+    /// Returns an equal class with memory of its own.
+    ///
+    /// Returns an error if memory runs out.
     pub fn clone(&self, alloc: Global) -> Result<Class, AllocError>
         ensures { IfOk result (λ c. c ≡ self.now) }
     {

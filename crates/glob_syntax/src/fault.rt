@@ -1,22 +1,22 @@
-//! Why a text is no glob.
+//! Errors of reading a glob.
 
 ghost use Rattle.std.specs.Prelude.{◌≡◌};
 ghost use Rattle.glob_syntax.specs.declared.fault.ReadError.TheVariants.{Memory};
 
 use std::alloc::{AllocError, AllocFailed};
 
-/// The first fault of a text, from the left.
+/// An error in a glob's text. A text has the first one from left to right.
 #[derive(Clone, Copy, Debug, PartialEq, Eq)]
 pub enum Fault {
-    /// A `[` that no `]` closes.
+    /// No `]` closes a class.
     UnclosedClass,
-    /// A range from a character to one below it.
+    /// A range of a class goes down, from the first of these characters to the second.
     InvalidRange(char, char),
-    /// A `}` that no open `{` precedes.
+    /// A `}` closes no group.
     UnopenedAlternates,
-    /// A `{` that is open at the end.
+    /// A `{` is still open at the end of the text.
     UnclosedAlternates,
-    /// A last `\` that would escape.
+    /// The last character is a `\` that escapes nothing.
     DanglingEscape,
 }
 
@@ -25,7 +25,7 @@ pub enum Fault {
 pub enum ReadError {
     /// Memory ran out.
     Memory,
-    /// The text is no glob.
+    /// The text is not a valid glob.
     Fault(Fault),
 }
 

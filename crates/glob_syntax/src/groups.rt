@@ -1,4 +1,4 @@
-//! Braces: the tokens of marks, with their groups.
+//! Braces: the tokens of marks, in groups.
 
 ghost use Rattle.std.specs.Prelude.{◌≡◌, ◌<◌, ◌≤◌, true, ◌+◌, ◌∷◌, zero, Ok, IfOk, OnOk, List, drop, length};
 ghost use Rattle.glob_syntax.specs.Marks as marks;
@@ -20,11 +20,11 @@ use std::mem;
 struct Group {
     /// The tokens before it in its branch.
     before: Vec<Token>,
-    /// Its branches that are done.
+    /// Its branches that are complete.
     branches: Vec<Vec<Token>>,
 }
 
-/// The tokens of the marks that were read so far.
+/// The tokens of the marks read so far.
 #[derive(Drop)]
 struct TreeBuilder {
     /// The groups that are open, the outermost first.
@@ -36,7 +36,7 @@ struct TreeBuilder {
 }
 
 impl TreeBuilder {
-    /// A `{` is read.
+    /// Reads a `{`.
     fn open(&mut self, alloc: Global) -> Result<(), AllocError>
         ensures read { OnOk result ((ms : List marks.Mark) → joined self.new (levels zero self.new.start ms) ≡ joined self.old (levels zero self.old.start (marks.Open ∷ ms))) }
         ensures groups { OnOk result (depth self.new ≡ depth self.old + 1) }
@@ -50,7 +50,7 @@ impl TreeBuilder {
         Ok(())
     }
 
-    /// A `,` is read.
+    /// Reads a `,`.
     fn comma(&mut self, alloc: Global) -> Result<(), AllocError>
         requires { 0 < depth self.old }
         ensures read { OnOk result ((ms : List marks.Mark) → joined self.new (levels zero self.new.start ms) ≡ joined self.old (levels zero self.old.start (marks.Comma ∷ ms))) }
@@ -65,7 +65,7 @@ impl TreeBuilder {
         Ok(())
     }
 
-    /// A `}` is read.
+    /// Reads a `}`.
     fn close(&mut self) -> Result<(), AllocError>
         requires { 0 < depth self.old }
         ensures read { OnOk result ((ms : List marks.Mark) → joined self.new (levels zero self.new.start ms) ≡ joined self.old (levels zero self.old.start (marks.Close ∷ ms))) }
@@ -81,7 +81,8 @@ impl TreeBuilder {
         Ok(())
     }
 
-    /// A mark inside a branch is read, the first of `rest`. Answers how many marks its piece takes besides.
+    /// Reads a piece of a branch, which begins with `mark`, the first of `rest`. Returns how many marks belong to the piece
+    /// after its first one.
     fn piece(
         &mut self,
         alloc: Global,
@@ -101,7 +102,8 @@ impl TreeBuilder {
         Ok(more)
     }
 
-    /// The mark `mark`, the first of `rest`, is read. Answers how many marks its piece takes besides.
+    /// Reads `mark`, the first of `rest`, and the piece that begins with it. Returns how many marks belong to the piece after
+    /// its first one.
     fn read(
         &mut self,
         alloc: Global,
@@ -137,15 +139,15 @@ impl TreeBuilder {
     }
 }
 
-/// The marks behind the first `n`.
-fn behind<'a, 'b>(marks: &'a [Mark<'b>], n: usize) -> &'a [Mark<'b>]
+/// The marks after the first `n`.
+fn skip<'a, 'b>(marks: &'a [Mark<'b>], n: usize) -> &'a [Mark<'b>]
     requires { n ≤ length marks.now }
     ensures { result.now ≡ drop n marks.now }
 {
     &marks[n..]
 }
 
-/// The tokens of marks whose groups are closed.
+/// Returns the tokens of marks whose groups are closed.
 pub fn tokens(alloc: Global, marks: &[Mark<'_>]) -> Result<Vec<Token>, AllocError>
     requires { Nests zero (marks_of marks.now) }
     ensures { IfOk result (λ v. tokens_of v.items ≡ whole (marks_of marks.now)) }
@@ -162,7 +164,7 @@ pub fn tokens(alloc: Global, marks: &[Mark<'_>]) -> Result<Vec<Token>, AllocErro
     let mut rest = marks;
     while let [mark, after @ ..] = rest {
         let more = builder.read(alloc, *mark, rest, after)?;
-        rest = behind(after, more);
+        rest = skip(after, more);
     }
     Ok(builder.branch)
 }

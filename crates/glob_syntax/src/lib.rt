@@ -1,12 +1,13 @@
-//! How a glob is read: from its text and options to tokens, or to its first fault.
+//! Reads globs: from a text and options to tokens, or to the first error.
 //!
-//! A text goes through `marks` (what each character stands for), `class` (the bodies of character classes), `stars` (runs of
-//! `*`) and `groups` (braces); `reading` joins them. Nothing here knows which paths a glob matches.
+//! `reading` splits a text into `marks`, which tell special characters from plain ones. Then `stars` reads runs of `*`, and
+//! `groups` reads braces. `class` reads the bodies of character classes. Nothing here knows which paths a glob matches.
 #![tactic(auto)]
 
 mod class;
 mod fault;
 mod groups;
+pub mod laws;
 mod marks;
 mod options;
 mod reading;

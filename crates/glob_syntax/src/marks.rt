@@ -1,10 +1,10 @@
-//! A glob's text as marks, with its nesting, or its first fault.
+//! Splits a glob's text into marks, and checks that its braces match.
 
 ghost use Rattle.std.specs.Prelude.{◌≡◌, ◌+◌, ◌<◌, ◌^◌, zero, length, IfOk, ◌≤◌};
 ghost use Rattle.glob_syntax.specs.inner.MarkViews.{map_ok};
 ghost use Rattle.glob_syntax.specs.Marks.{marks};
 ghost use Rattle.glob_syntax.specs.Nesting.{nested_mark, nested};
-ghost use Rattle.glob_syntax.specs.Views.{Gives};
+ghost use Rattle.glob_syntax.specs.Views.{AgreesWith};
 ghost use Rattle.glob_syntax.specs.inner.MarkViews.{mark_of, marks_of};
 
 pub mod mark;
@@ -14,7 +14,7 @@ use crate::options::Options;
 use mark::{Mark, mark_at};
 use std::alloc::Global;
 
-/// A mark inside so many open groups, and how many are open behind it.
+/// A mark inside `depth` open groups, and how many are open after it.
 fn nested_mark<'a>(depth: usize, mark: Mark<'a>) -> Result<(usize, Mark<'a>), Fault>
     requires { depth + 1 < 2 ^ 64 }
     ensures value { map_ok (λ s. (s.0, mark_of s.1)) result ≡ nested_mark depth (mark_of mark.entry) }
@@ -50,13 +50,13 @@ fn nested_mark<'a>(depth: usize, mark: Mark<'a>) -> Result<(usize, Mark<'a>), Fa
     }
 }
 
-/// The marks of a text, or its first fault.
-pub fn marks<'a>(
+/// Returns the marks of a text, or its first error.
+pub fn read_marks<'a>(
     alloc: Global,
     options: Options,
     text: &'a [char],
 ) -> Result<Vec<Mark<'a>>, ReadError>
-    ensures { Gives (λ v. marks_of v.items) result (nested zero (marks options zero text.now)) }
+    ensures { AgreesWith (λ v. marks_of v.items) result (nested zero (marks options zero text.now)) }
 {
     let mut out = Vec::new(alloc);
     let mut depth = 0;

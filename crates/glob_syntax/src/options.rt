@@ -1,22 +1,23 @@
-//! How a glob is read and what it means.
+//! Options that say how a glob is read and what it matches.
 
 /// The five options of a glob. Each glob has its own.
 #[derive(Clone, Copy, Debug, PartialEq, Eq, Hash)]
 pub struct Options {
-    /// Whether ASCII letters are equal in both cases.
+    /// Whether each ASCII letter matches both of its cases.
     pub case_insensitive: bool,
-    /// Whether `?` and `*` take no `/`.
+    /// Whether `?` and `*` do not match `/`. A class that contains `/` still matches it.
     pub literal_separator: bool,
-    /// Whether a `\` makes the next character plain.
+    /// Whether a `\` outside classes makes the next character plain. On by default; the other options are off.
     pub backslash_escape: bool,
-    /// Whether the blank branches of a group are kept.
+    /// Whether the blank branches of a group are kept, as the second one of `{a,}`. A branch is blank if it has only
+    /// groups whose branches are all blank.
     pub empty_alternates: bool,
-    /// Whether a `[` with no `]` is a plain character.
+    /// Whether a `[` that no `]` closes is a plain character. By default it is an error.
     pub allow_unclosed_class: bool,
 }
 
 impl Options {
-    /// `backslash_escape` is on, the others are off.
+    /// The default options.
     pub const DEFAULT: Options = Options {
         case_insensitive: false,
         literal_separator: false,

@@ -1,15 +1,15 @@
-//! A glob's text as tokens.
+//! Reads a glob's text as tokens.
 
 ghost use Rattle.std.specs.Prelude.{◌≡◌, ◌*◌, ◌≤◌, length, IfOk};
 ghost use Rattle.std.specs.Str.{chars};
 ghost use Rattle.glob_syntax.specs.Reading.{reading};
-ghost use Rattle.glob_syntax.specs.Views.{Gives, tokens_of};
+ghost use Rattle.glob_syntax.specs.Views.{AgreesWith, tokens_of};
 ghost use Rattle.glob_syntax.specs.inner.Weight.{weight};
 ghost use Rattle.glob_syntax.specs.inner.WellFormed.{AreWellFormed};
 
 use crate::fault::ReadError;
 use crate::groups::tokens;
-use crate::marks::marks;
+use crate::marks::read_marks;
 use crate::options::Options;
 use crate::token::Token;
 use std::alloc::{AllocError, Global};
@@ -21,14 +21,31 @@ fn characters(alloc: Global, text: &str) -> Result<Vec<char>, AllocError>
     text.chars().collect(alloc)
 }
 
-/// The tokens of a glob's text, or its first fault. It takes time linear in the text.
+/// Returns the tokens of a glob's text.
+///
+/// This takes time and memory linear in the length of the text. One pass splits the text into marks, and another makes
+/// tokens of the marks. The first pass looks ahead for the `]` of each class; once there is none, it never looks again. Each
+/// class has a table of 256 entries, made in 256 steps for each of its ranges.
+///
+/// # Errors
+///
+/// Returns `ReadError::Fault` with the first error of the text, from left to right:
+///
+/// - `InvalidRange` for a class with a range that goes down, as `[z-a]`. If no `]` closes the class, this is the
+///   error only without `allow_unclosed_class`;
+/// - `UnclosedClass` for any other class that no `]` closes, without `allow_unclosed_class`;
+/// - `UnopenedAlternates` for a `}` that closes no group;
+/// - `DanglingEscape` for a `\` at the end of the text, under `backslash_escape`;
+/// - `UnclosedAlternates` for a group that is still open at the end of the text.
+///
+/// Returns `ReadError::Memory` if memory runs out.
 #[tactic(auto, unfolding(crate::specs::Reading::reading))]
 pub fn read_tokens(alloc: Global, options: Options, text: &str) -> Result<Vec<Token>, ReadError>
-    ensures value { Gives (λ v. tokens_of v.items) result (reading options (chars text.now)) }
+    ensures value { AgreesWith (λ v. tokens_of v.items) result (reading options (chars text.now)) }
     ensures well_formed { IfOk result (λ v. AreWellFormed (tokens_of v.items)) }
     ensures weight { IfOk result (λ v. weight (tokens_of v.items) ≤ 4 * length text.now) }
 {
     let characters = characters(alloc, text)?;
-    let marks = marks(alloc, options, &characters)?;
+    let marks = read_marks(alloc, options, &characters)?;
     Ok(tokens(alloc, &marks)?)
 }

@@ -1,4 +1,4 @@
-//! Runs of `*`: which marks belong to one piece.
+//! Runs of `*`: which marks belong to the same piece.
 
 ghost use Rattle.std.specs.Prelude.{◌≡◌, ◌≤◌, ◌<◌, length, IsTrue};
 ghost use Rattle.glob_syntax.specs.Stars.{is_run, is_slash, ends_branch, at_end, last_run, pairs};
@@ -9,7 +9,7 @@ pub mod piece;
 
 use crate::marks::mark::Mark;
 
-/// Whether the mark is a run of two.
+/// Whether the mark is a run of two stars.
 fn is_run(mark: Mark<'_>) -> bool
     ensures { result ≡ is_run (mark_of mark.entry) }
 {
@@ -67,7 +67,7 @@ fn at_end(marks: &[Mark<'_>]) -> bool
     }
 }
 
-/// Whether a run of two stands first, and ends the branch.
+/// Whether the first mark is a run of two stars that ends the branch.
 pub fn last_run(marks: &[Mark<'_>]) -> bool
     ensures value { result ≡ last_run (marks_of marks.now) }
     ensures some { IsTrue result → 0 < length marks.now }
@@ -78,7 +78,7 @@ pub fn last_run(marks: &[Mark<'_>]) -> bool
     }
 }
 
-/// How many marks at the front are pairs of a run of two and an unescaped `/`.
+/// How many marks at the front make up pairs of a run of two stars and an unescaped `/`.
 pub fn pairs(marks: &[Mark<'_>]) -> usize
     ensures value { result ≡ pairs (marks_of marks.now) }
     ensures within { result ≤ length marks.now }
@@ -95,7 +95,7 @@ pub fn pairs(marks: &[Mark<'_>]) -> usize
     count
 }
 
-/// Whether these marks are a run of two alone.
+/// Whether the only mark is a run of two stars.
 pub fn is_whole_run(marks: &[Mark<'_>]) -> bool
     ensures { result ≡ is_whole_run (marks_of marks.now) }
 {

@@ -1,4 +1,4 @@
-//! Tokens: what a glob's marks are read as.
+//! The tokens of a glob.
 
 pub mod copy;
 
@@ -7,20 +7,20 @@ use crate::class::Class;
 /// A token of a glob.
 #[derive(Debug, Drop)]
 pub enum Token {
-    /// A character.
+    /// A plain character.
     Literal(char),
     /// `?`
     Any,
     /// `*`
     ZeroOrMore,
-    /// `**/` at the start of a branch.
+    /// `**/` at the start of a branch, and `**` as the whole glob.
     RecursivePrefix,
     /// `/**` at the end of a branch.
     RecursiveSuffix,
     /// `/**/` elsewhere.
     RecursiveZeroOrMore,
-    /// `[..]`
+    /// A character class, `[..]`.
     Class(Class),
-    /// `{..}`, by its branches.
+    /// A group, `{..}`, by its branches.
     Alternates(Vec<Vec<Token>>),
 }

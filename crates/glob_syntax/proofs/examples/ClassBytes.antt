@@ -1,6 +1,6 @@
--- Examples of the bytes that classes have, in ascending order. Each row computes over all bytes from 0 to 255. A range
--- of two characters has, of their bytes in UTF-8, those of the first but its last, those from that one up to the first
--- byte of the second, and the others of the second: so `[é-ü]` has C3, A9 to C3, and BC, which are the bytes A9 to C3.
+-- Examples of the bytes that classes contain, in ascending order. Each example is computed over all bytes from 0 to 255. A
+-- range of two characters contains, of their bytes in UTF-8, those of the first except its last, those from that one up to
+-- the first byte of the second, and the others of the second. So `[é-ü]` contains C3, A9 to C3, and BC: the bytes A9 to C3.
 use Rattle.std.specs.Prelude.{◌≡◌, [], ◌∷◌, ◌++◌, refl}
 use Rattle.glob_syntax.specs.declared.options.TheConstants.Options.{DEFAULT}
 use Rattle.glob_syntax.proofs.examples.Unfoldings.{reading_on_literals}

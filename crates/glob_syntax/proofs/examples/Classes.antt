@@ -1,5 +1,5 @@
--- Examples of class bodies under the default options: whether the class is negated, and its ranges in order. Each row
--- computes. In `spans` each two characters are the ends of one range; a member alone is a range from itself to itself.
+-- Examples of class bodies under the default options: whether the class is negated, and its ranges in order. Each example is
+-- computed. In `spans` each two characters are the ends of one range; a member alone is a range from itself to itself.
 use Rattle.std.specs.Prelude.{◌≡◌, [], ◌∷◌, true, false, Ok, codes, refl}
 use Rattle.glob_syntax.specs.declared.options.TheConstants.Options.{DEFAULT}
 use Rattle.glob_syntax.specs.Token.{Class}

@@ -1,5 +1,5 @@
--- Examples of faults, the first from the left, and of texts that an option reads where the default options find a fault.
--- Each row computes.
+-- Examples of the first error of a text, and of texts that are read under an option and are errors under the default ones.
+-- Each example is computed.
 use Rattle.std.specs.Prelude.{◌≡◌, [], ◌∷◌, ◌++◌, false, Ok, Err, codes, refl}
 use Rattle.glob_syntax.specs.declared.fault.Fault.TheVariants.{UnclosedClass, InvalidRange, UnopenedAlternates, UnclosedAlternates, DanglingEscape}
 use Rattle.glob_syntax.specs.declared.options.TheConstants.Options.{DEFAULT}
@@ -36,17 +36,17 @@ range_down_to_hyphen : reading DEFAULT (codes "[z--]") ≡ Err (InvalidRange (ch
 unfolding reading_on_literals
 range_down_to_hyphen = refl
 
-bad_pair_before_last_hyphen : reading DEFAULT (codes "[a--]") ≡ Err (InvalidRange (char_of "a") (char_of "-"))
+bad_range_before_last_hyphen : reading DEFAULT (codes "[a--]") ≡ Err (InvalidRange (char_of "a") (char_of "-"))
 unfolding reading_on_literals
-bad_pair_before_last_hyphen = refl
+bad_range_before_last_hyphen = refl
 
 bad_second_pair : reading DEFAULT (codes "[c-e-b]") ≡ Err (InvalidRange (char_of "c") (char_of "b"))
 unfolding reading_on_literals
 bad_second_pair = refl
 
-bad_range_before_want_of_bracket : reading DEFAULT (codes "[b-a") ≡ Err (InvalidRange (char_of "b") (char_of "a"))
+bad_range_before_missing_bracket : reading DEFAULT (codes "[b-a") ≡ Err (InvalidRange (char_of "b") (char_of "a"))
 unfolding reading_on_literals
-bad_range_before_want_of_bracket = refl
+bad_range_before_missing_bracket = refl
 
 bad_range_in_plain_text : reading unclosed (codes "[b-a") ≡ Ok (tokens (literals "[b-a"))
 unfolding reading_on_literals
@@ -120,7 +120,7 @@ bracket_as_plain_in_an_open_group : reading unclosed (codes "{[") ≡ Err Unclos
 unfolding reading_on_literals
 bracket_as_plain_in_an_open_group = refl
 
--- ---- which fault comes first
+-- ---- which error comes first
 
 bad_range_past_negation : reading DEFAULT (codes "[!b-a") ≡ Err (InvalidRange (char_of "b") (char_of "a"))
 unfolding reading_on_literals
@@ -138,9 +138,9 @@ second_class_bad : reading DEFAULT (codes "[a-b][d-c]") ≡ Err (InvalidRange (c
 unfolding reading_on_literals
 second_class_bad = refl
 
-first_bad_pair_of_two : reading DEFAULT (codes "[d-cb-a]") ≡ Err (InvalidRange (char_of "d") (char_of "c"))
+first_bad_range_of_two : reading DEFAULT (codes "[d-cb-a]") ≡ Err (InvalidRange (char_of "d") (char_of "c"))
 unfolding reading_on_literals
-first_bad_pair_of_two = refl
+first_bad_range_of_two = refl
 
 bad_range_past_ascii : reading DEFAULT (codes "[ü-é]") ≡ Err (InvalidRange (char_of "ü") (char_of "é"))
 unfolding reading_on_literals

@@ -1,5 +1,5 @@
--- Examples of star reading under the default options: what runs of `*` and the `/` about them are read as. Each row
--- computes. A run has two stars, a pair is a run and a `/`, and a prefix, a middle and a suffix are the three recursive
+-- Examples of star reading under the default options: the tokens of runs of `*` and of the `/` next to them. Each example is
+-- computed. A run has two stars, a pair is a run and a `/`, and a prefix, a middle and a suffix are the three recursive
 -- tokens.
 use Rattle.std.specs.Prelude.{◌≡◌, [], ◌∷◌, ◌++◌, Ok, codes, refl}
 use Rattle.glob_syntax.specs.declared.options.TheConstants.Options.{DEFAULT}

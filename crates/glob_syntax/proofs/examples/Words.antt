@@ -1,7 +1,5 @@
--- The words in which rows of examples are written.
-use Rattle.std.specs.Prelude.{ℕ, zero, suc, ◌+◌, ◌-◌, Bool, true, false, ◌&&◌, not, List, [], ◌∷◌, map, get_or, filter, is_ok, codes, encode_utf8_all, Result, Ok, Err}
-use Rattle.std.specs.List.{list_all}
-use Rattle.std.specs.Str.{chars}
+-- Definitions to write the examples with.
+use Rattle.std.specs.Prelude.{ℕ, zero, suc, ◌+◌, ◌-◌, true, false, List, [], ◌∷◌, map, get_or, filter, codes, Result, Ok, Err}
 use Prim.Native.String.{String}
 use Rattle.glob_syntax.specs.declared.options.Options.{Options}
 use Rattle.glob_syntax.specs.declared.options.TheConstants.Options.{DEFAULT}
@@ -9,7 +7,7 @@ use Rattle.glob_syntax.specs.Token.{Token, Literal, Class, Group, Tokens, end, a
 use Rattle.glob_syntax.specs.Reading.{reading}
 use Rattle.glob_syntax.specs.ClassBytes.{class_has}
 
--- ---- options: the default ones but for one
+-- ---- options: the default ones except one
 
 abbrev pub insensitive : Options
 insensitive = record DEFAULT { case_insensitive = true }
@@ -26,7 +24,7 @@ blank_kept = record DEFAULT { empty_alternates = true }
 abbrev pub unclosed : Options
 unclosed = record DEFAULT { allow_unclosed_class = true }
 
--- ---- tokens and faults
+-- ---- tokens and errors
 
 -- the first character of a text
 abbrev pub char_of : String → ℕ
@@ -44,7 +42,7 @@ literals text = map Literal (codes text)
 abbrev pub group : List (List Token) → Token
 group branches = Group (ahead (map tokens branches) none)
 
--- pairs of each two numbers in a row
+-- pairs of numbers that follow one another
 abbrev pub paired : List ℕ → List (ℕ × ℕ)
 paired [] = []
 paired (x ∷ []) = []
@@ -56,7 +54,7 @@ spans text = paired (codes text)
 
 -- ---- bytes of a class
 
--- so many numbers in a row
+-- so many numbers from `first` on
 abbrev pub counted : ℕ → ℕ → List ℕ
 counted first zero = []
 counted first (suc n) = first ∷ counted (first + 1) n
@@ -65,7 +63,7 @@ counted first (suc n) = first ∷ counted (first + 1) n
 abbrev pub from_to : ℕ → ℕ → List ℕ
 from_to low high = counted low (high + 1 - low)
 
--- what the class has that is the only token, ascending
+-- the bytes that the only token, a class, contains, in ascending order
 abbrev pub bytes_of_tokens : Options → Tokens → List ℕ
 bytes_of_tokens o (and_then (Class negated rs) end) = filter (class_has o negated rs) (from_to 0 255)
 bytes_of_tokens o _ = []
@@ -74,6 +72,6 @@ abbrev pub bytes_of_result : {E : Type 0} → Options → Result Tokens E → Li
 bytes_of_result o (Ok ts) = bytes_of_tokens o ts
 bytes_of_result o (Err f) = []
 
--- the bytes of the class that is the whole glob, ascending
+-- the bytes that the class which is the whole glob contains, in ascending order
 abbrev pub bytes_had : Options → String → List ℕ
 bytes_had o glob = bytes_of_result o (reading o (codes glob))

@@ -7,7 +7,7 @@ use Rattle.glob_syntax.specs.declared.class.table.Membership.{Membership}
 use Rattle.glob_syntax.specs.ClassBytes.{is_one_of, is_from_last, range_has, ranges_have}
 use Rattle.glob_syntax.specs.inner.ClassTable.{membership}
 
--- as `any` says it
+-- in the words of `any`
 pub one_of_is : (byte : ℕ) (bs : List ℕ) → is_one_of byte bs ≡ list_any (λ b. byte == b) bs
 one_of_is byte [] = refl
 one_of_is byte (b ∷ bs) = ap (λ t. (byte == b) || t) (one_of_is byte bs)
@@ -48,7 +48,7 @@ get_last : {A : Type 0} (xs : List A) (y : A) → slice_get (xs ++ y ∷ []) (le
 get_last [] y = refl
 get_last (x ∷ xs) y = get_last xs y
 
--- one more byte in a table
+-- a table with one more byte
 pub table_push : (rs : List (ℕ × ℕ)) (table : List Membership) (n : ℕ) (m : Membership) → length table ≡ n → ((b : ℕ) → b < n → slice_get table b ≡ Some (membership rs b)) → m ≡ membership rs n
     → (b : ℕ) → b < n + 1 → slice_get (table ++ m ∷ []) b ≡ Some (membership rs b)
 table_push rs table n m len done is =

@@ -1,4 +1,4 @@
--- The steps of reading groups, at the values that the program holds.
+-- The steps of reading groups, on the values that the program holds.
 use Rattle.std.proofs.Common.{◌≡◌, ℕ, zero, suc, List, [], ◌∷◌, ◌++◌, Bool, true, false, drop, length, refl, sym, ap, subst, ◌∙◌}
 use Rattle.std.proofs.lemmas.List.{map_push}
 use Rattle.std.specs.declared.alloc.Global.{Global}
@@ -60,10 +60,10 @@ pub piece_law : (fs : List Frame) (branch branch' : List held.Token) (start : Bo
     → in_frames fs (in_level (token_list branch') (levels zero false (drop more ms))) ≡ in_frames fs (in_level (token_list branch) (levels zero start (m ∷ ms)))
 piece_law fs branch branch' start m ms more i a = piece_step fs (token_list branch) start ms _ m (token_list branch') more i a.tokens a.takes refl
 
-pub marks_behind : (n : ℕ) (ms : List held_mark.Mark) → marks_of (drop n ms) ≡ drop n (marks_of ms)
-marks_behind zero ms = refl
-marks_behind (suc n) [] = refl
-marks_behind (suc n) (m ∷ ms) = marks_behind n ms
+pub marks_of-drop : (n : ℕ) (ms : List held_mark.Mark) → marks_of (drop n ms) ≡ drop n (marks_of ms)
+marks_of-drop zero ms = refl
+marks_of-drop (suc n) [] = refl
+marks_of-drop (suc n) (m ∷ ms) = marks_of-drop n ms
 
 pub whole_run : (branch : List held.Token) (ms : List Mark) → branch ≡ held.TheVariants.RecursivePrefix ∷ [] → is_whole_run ms ≡ true → tokens_of branch ≡ whole ms
 unfolding whole
@@ -72,7 +72,7 @@ whole_run branch ms e h = ap tokens_of e ∙ sym (rw (h, whole) refl)
 no_groups : (gs : List Group) → length gs ≡ 0 → gs ≡ []
 no_groups gs h = nil_from_length gs h
 
--- the end of the marks
+-- at the end of the marks
 pub finish : (gs : List Group) (branch : List held.Token) (start : Bool) (rest ms : List Mark) → length rest ≡ 0 → Nests (length gs) rest
     → in_frames (frames gs) (in_level (token_list branch) (levels zero start rest)) ≡ levels zero true ms → is_whole_run ms ≡ false → tokens_of branch ≡ whole ms
 unfolding whole

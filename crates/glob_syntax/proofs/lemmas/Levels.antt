@@ -1,4 +1,4 @@
--- The groups that are open while a glob is read, and what is read behind them.
+-- The groups that are open while a glob is read, and what is read after them.
 use Rattle.std.proofs.Common.{◌≡◌, ℕ, zero, suc, List, [], ◌∷◌, ◌++◌, Bool, true, false, drop, refl, sym, ap, ◌∙◌}
 use Rattle.glob_syntax.specs.Token.{before, ahead, Token, Tokens, Branches, Group, end, and_then, none, branch}
 use Rattle.glob_syntax.specs.Marks.{Mark, Char, One, Stars, Class, Open, Comma, Close}
@@ -66,7 +66,7 @@ module _ (fs : List Frame) (tokens : List Token) (start : Bool) (ms : List Mark)
       ∙ ap (λ (bs : Branches). in_frames fs (in_level front (in_level (Group bs ∷ []) l))) (ahead_push done (before tokens end) none)
       ∙ sym (in_frames_push fs (front, done) (in_level tokens (close_level l))) ∙ h
 
-  -- a mark that is no bracket, at the tokens and the length of its piece
+  -- a mark that is no brace or comma, by the tokens and the length of its piece
   pub piece_step : (m : Mark) (added : List Token) (more : ℕ) → is_inner m ≡ true → added ≡ tokens ++ (piece start m ms).0 → more ≡ (piece start m ms).1
       → in_frames fs (in_level tokens (levels zero start (m ∷ ms))) ≡ total → in_frames fs (in_level added (levels zero false (drop more ms))) ≡ total
   piece_step m added more i a k h =

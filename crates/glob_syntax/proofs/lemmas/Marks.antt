@@ -1,4 +1,4 @@
--- Cutting a text from left to right, as a loop does.
+-- Splitting a text from left to right, as a loop does.
 use Rattle.std.proofs.Common.{◌≡◌, ℕ, zero, suc, List, [], ◌∷◌, ◌++◌, length, drop, Result, Ok, Err, refl, sym, ap, ◌∙◌, append_assoc, arith, ◌-◌, ◌<◌}
 use Rattle.std.proofs.lemmas.List.{append-nil, nil_from_length}
 use Rattle.glob_syntax.specs.declared.options.Options.{Options}
@@ -7,12 +7,12 @@ use Rattle.glob_syntax.specs.declared.fault.Fault.TheVariants.{UnclosedAlternate
 use Rattle.glob_syntax.specs.Marks.{Mark, mark_at, marks}
 use Rattle.glob_syntax.specs.Nesting.{nested_mark, with_mark, nested}
 
--- what was read before, and what is still read
+-- the marks read so far, and then those of what follows
 abbrev pub with_front : List Mark → Result (List Mark) Fault → Result (List Mark) Fault
 with_front front (Ok ms) = Ok (front ++ ms)
 with_front front (Err f) = Err f
 
--- a mark takes its characters
+-- the characters that belong to the mark before are skipped
 pub marks_skip : (o : Options) (n : ℕ) (cs : List ℕ) → marks o n cs ≡ marks o zero (drop n cs)
 unfolding marks
 marks_skip o zero cs = refl
@@ -26,7 +26,7 @@ regroup front m (Err f) = refl
 abbrev step : Result (ℕ × Mark) Fault → List Mark → Result (List Mark) Fault
 step s ms = elim s [ Err f ↦ Err f | Ok x ↦ with_mark x.1 (nested x.0 ms) ]
 
--- the marks of a text by its first one
+-- the marks of a text, by its first mark
 first_mark : (o : Options) (d c : ℕ) (cs : List ℕ) (m : Mark) (more : ℕ) (s : Result (ℕ × Mark) Fault) → (m, more) ≡ mark_at o c cs → s ≡ nested_mark d m
     → nested d (marks o zero (c ∷ cs)) ≡ step s (marks o zero (drop more cs))
 unfolding marks nested
@@ -44,7 +44,7 @@ module _ (front : List Mark) (o : Options) (d : ℕ) (rest : List ℕ) (total : 
       ∙ ap (with_front front) (sym (first_mark o d c cs m more (Ok (inside, kept)) e h))
       ∙ ap (λ (l : List ℕ). with_front front (nested d (marks o zero l))) (sym cell) ∙ so_far
 
-  -- a mark has no reading
+  -- a mark is an error
   pub stops : (c : ℕ) (cs : List ℕ) (m : Mark) (more : ℕ) (f : Fault) → rest ≡ c ∷ cs → (m, more) ≡ mark_at o c cs → Err f ≡ nested_mark d m → total ≡ Err f
   stops c cs m more f cell e h =
       sym so_far ∙ ap (λ (l : List ℕ). with_front front (nested d (marks o zero l))) cell ∙ ap (with_front front) (first_mark o d c cs m more (Err f) e h)

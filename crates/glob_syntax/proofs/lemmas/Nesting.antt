@@ -1,4 +1,4 @@
--- Marks whose groups are closed, from the left on.
+-- Marks whose groups are closed, from left to right.
 use Rattle.std.proofs.Common.{◌≡◌, ℕ, zero, suc, ◌+◌, ◌-◌, ◌<◌, List, [], ◌∷◌, Bool, true, false, ◌&&◌, nat_lt, ◌==◌, drop, Result, Ok, Err, refl, sym, ap, ◌∙◌, subst, arith, ltb-true}
 use Rattle.glob_syntax.specs.Token.{Token, Literal}
 use Rattle.glob_syntax.specs.declared.fault.Fault.{Fault}
@@ -10,13 +10,13 @@ use Rattle.glob_syntax.specs.Stars.{is_run, is_slash, at_end, last_run, pairs, r
 abbrev char_cut : Bool → ℕ → List Mark → List Token × ℕ
 char_cut b c ms = elim b [ true ↦ slash_piece ms | false ↦ (Literal c ∷ [], 0) ]
 
-behind : (m n : Mark) (r : Result (List Mark) Fault) (ms : List Mark) → with_mark m r ≡ Ok (n ∷ ms) → r ≡ Ok ms
-behind m n (Ok ks) ms e = cc
-behind m n (Err f) ms e = cc
+rest_is : (m n : Mark) (r : Result (List Mark) Fault) (ms : List Mark) → with_mark m r ≡ Ok (n ∷ ms) → r ≡ Ok ms
+rest_is m n (Ok ks) ms e = cc
+rest_is m n (Err f) ms e = cc
 
 pub nests_open : (d : ℕ) (ms : List Mark) → Nests d (Open ∷ ms) → Nests (suc d) ms
 unfolding nested
-nests_open d ms h = record { is = behind Open Open (nested (suc d) ms) ms h.is }
+nests_open d ms h = record { is = rest_is Open Open (nested (suc d) ms) ms h.is }
 
 comma_outside : (r : Result (List Mark) Fault) (ms : List Mark) → with_mark (Char false 44) r ≡ Ok (Comma ∷ ms) → ⊥
 comma_outside (Ok ks) ms e = cc
@@ -25,12 +25,12 @@ comma_outside (Err f) ms e = cc
 pub nests_comma : (d : ℕ) (ms : List Mark) → Nests d (Comma ∷ ms) → (0 < d) × Nests d ms
 unfolding nested
 nests_comma zero ms h = absurd (comma_outside (nested zero ms) ms h.is)
-nests_comma (suc d) ms h = (omega arith, record { is = behind Comma Comma (nested (suc d) ms) ms h.is })
+nests_comma (suc d) ms h = (omega arith, record { is = rest_is Comma Comma (nested (suc d) ms) ms h.is })
 
 pub nests_close : (d : ℕ) (ms : List Mark) → Nests d (Close ∷ ms) → (0 < d) × Nests (d - 1) ms
 unfolding nested
 nests_close zero ms h = absurd (let e = h.is in cc)
-nests_close (suc d) ms h = (omega arith, let e : d ≡ suc d - 1 = omega arith in subst (λ k. Nests k ms) e (record { is = behind Close Close (nested d ms) ms h.is }))
+nests_close (suc d) ms h = (omega arith, let e : d ≡ suc d - 1 = omega arith in subst (λ k. Nests k ms) e (record { is = rest_is Close Close (nested d ms) ms h.is }))
 
 pub nests_end : (d : ℕ) → Nests d [] → d ≡ 0
 unfolding nested
@@ -39,10 +39,10 @@ nests_end (suc d) h = let e = h.is in cc
 
 pub nests_inner : (d : ℕ) (m : Mark) (ms : List Mark) → is_inner m ≡ true → Nests d (m ∷ ms) → Nests d ms
 unfolding nested
-nests_inner d (Char e c) ms i h = record { is = behind (Char e c) (Char e c) (nested d ms) ms h.is }
-nests_inner d One ms i h = record { is = behind One One (nested d ms) ms h.is }
-nests_inner d (Stars n) ms i h = record { is = behind (Stars n) (Stars n) (nested d ms) ms h.is }
-nests_inner d (Class n rs) ms i h = record { is = behind (Class n rs) (Class n rs) (nested d ms) ms h.is }
+nests_inner d (Char e c) ms i h = record { is = rest_is (Char e c) (Char e c) (nested d ms) ms h.is }
+nests_inner d One ms i h = record { is = rest_is One One (nested d ms) ms h.is }
+nests_inner d (Stars n) ms i h = record { is = rest_is (Stars n) (Stars n) (nested d ms) ms h.is }
+nests_inner d (Class n rs) ms i h = record { is = rest_is (Class n rs) (Class n rs) (nested d ms) ms h.is }
 nests_inner d m ms i h = absurd (cc)
 
 run_inner : (m : Mark) → is_run m ≡ true → is_inner m ≡ true
@@ -77,7 +77,7 @@ nests_run : (d : ℕ) (ms : List Mark) → last_run ms ≡ true → Nests d ms �
 nests_run d [] e h = h
 nests_run d (m ∷ ms) e h = nests_inner d m ms (run_inner m (both (is_run m) (at_end ms) e).0) h
 
--- behind the pairs at the front, and the run that ends the branch
+-- after the pairs at the front, and the run that ends the branch
 nests_last : (d : ℕ) (ms : List Mark) → Nests d ms → last_run (drop (pairs ms) ms) ≡ true → Nests d (drop (suc (pairs ms)) ms)
 nests_last d ms h e = subst (Nests d) (drop_next (pairs ms) ms) (nests_run d (drop (pairs ms) ms) e (nests_pairs d ms h))
 
@@ -99,7 +99,7 @@ nests_char : (d : ℕ) (ms : List Mark) (b : Bool) (c : ℕ) → Nests d ms → 
 nests_char d ms true c h = nests_slash_cut d ms (last_run (drop (pairs ms) ms)) (nat_lt 0 (pairs ms)) refl h
 nests_char d ms false c h = h
 
--- behind a piece
+-- after a piece
 pub nests_piece : (d : ℕ) (start : Bool) (m : Mark) (ms : List Mark) → is_inner m ≡ true → Nests d (m ∷ ms) → Nests d (drop (piece start m ms).1 ms)
 unfolding piece
 nests_piece d start (Stars n) ms i h = nests_run_cut d n (Stars n) ms start (start && nat_lt 0 (pairs (Stars n ∷ ms))) (last_run (drop (pairs (Stars n ∷ ms)) (Stars n ∷ ms))) refl refl refl h
@@ -112,33 +112,34 @@ pub nests_bad : (d : ℕ) (f : Fault) (ms : List Mark) → Nests d (Bad f ∷ ms
 unfolding nested
 nests_bad d f ms h = let e = h.is in cc
 
--- ---- what nesting gives nests
+-- ---- nested marks nest again
 
-settled_again : (d : ℕ) (m : Mark) (x : ℕ × Mark) → nested_mark d m ≡ Ok x → nested_mark d x.1 ≡ Ok x
-settled_again d (Bad f) x h = absurd (cc)
-settled_again d Open x h = let e : (suc d, Open) ≡ x = cc in ap (λ (y : ℕ × Mark). nested_mark d y.1) (sym e) ∙ h
-settled_again zero Close x h = absurd (cc)
-settled_again (suc d) Close x h = let e : (d, Close) ≡ x = cc in ap (λ (y : ℕ × Mark). nested_mark (suc d) y.1) (sym e) ∙ h
-settled_again zero Comma x h = let e : (zero, Char false 44) ≡ x = cc in ap (λ (y : ℕ × Mark). nested_mark zero y.1) (sym e) ∙ h
-settled_again d m x h = let e : (d, m) ≡ x = cc in ap (λ (y : ℕ × Mark). nested_mark d y.1) (sym e) ∙ h
+nested_mark_again : (d : ℕ) (m : Mark) (x : ℕ × Mark) → nested_mark d m ≡ Ok x → nested_mark d x.1 ≡ Ok x
+nested_mark_again d (Bad f) x h = absurd (cc)
+nested_mark_again d Open x h = let e : (suc d, Open) ≡ x = cc in ap (λ (y : ℕ × Mark). nested_mark d y.1) (sym e) ∙ h
+nested_mark_again zero Close x h = absurd (cc)
+nested_mark_again (suc d) Close x h = let e : (d, Close) ≡ x = cc in ap (λ (y : ℕ × Mark). nested_mark (suc d) y.1) (sym e) ∙ h
+nested_mark_again zero Comma x h = let e : (zero, Char false 44) ≡ x = cc in ap (λ (y : ℕ × Mark). nested_mark zero y.1) (sym e) ∙ h
+nested_mark_again d m x h = let e : (d, m) ≡ x = cc in ap (λ (y : ℕ × Mark). nested_mark d y.1) (sym e) ∙ h
 
-abbrev step : Result (ℕ × Mark) Fault → List Mark → Result (List Mark) Fault
+-- the marks after the first one, by what that one is
+abbrev pub step : Result (ℕ × Mark) Fault → List Mark → Result (List Mark) Fault
 step s ms = elim s [ Err f ↦ Err f | Ok x ↦ with_mark x.1 (nested x.0 ms) ]
 
-nested_step : (d : ℕ) (m : Mark) (ms : List Mark) → nested d (m ∷ ms) ≡ step (nested_mark d m) ms
+pub nested_step : (d : ℕ) (m : Mark) (ms : List Mark) → nested d (m ∷ ms) ≡ step (nested_mark d m) ms
 unfolding nested
 nested_step d m ms = refl
 
-again_behind : (d : ℕ) (x : ℕ × Mark) (ms ks : List Mark) (r : Result (List Mark) Fault) → nested_mark d x.1 ≡ Ok x → nested x.0 ms ≡ r → ((ls : List Mark) → nested x.0 ms ≡ Ok ls → nested x.0 ls ≡ Ok ls) → with_mark x.1 r ≡ Ok ks → nested d ks ≡ Ok ks
-again_behind d x ms ks (Err f) s h again e = absurd (cc)
-again_behind d x ms ks (Ok ls) s h again e =
+again_rest : (d : ℕ) (x : ℕ × Mark) (ms ks : List Mark) (r : Result (List Mark) Fault) → nested_mark d x.1 ≡ Ok x → nested x.0 ms ≡ r → ((ls : List Mark) → nested x.0 ms ≡ Ok ls → nested x.0 ls ≡ Ok ls) → with_mark x.1 r ≡ Ok ks → nested d ks ≡ Ok ks
+again_rest d x ms ks (Err f) s h again e = absurd (cc)
+again_rest d x ms ks (Ok ls) s h again e =
     let k : x.1 ∷ ls ≡ ks = cc in
     let one : nested d (x.1 ∷ ls) ≡ Ok (x.1 ∷ ls) = nested_step d x.1 ls ∙ ap (λ (t : Result (ℕ × Mark) Fault). step t ls) s ∙ ap (with_mark x.1) (again ls h) in
     subst (λ (l : List Mark). nested d l ≡ Ok l) k one
 
 again_first : (d : ℕ) (m : Mark) (ms ks : List Mark) (s : Result (ℕ × Mark) Fault) → nested_mark d m ≡ s → ((e : ℕ) (ls : List Mark) → nested e ms ≡ Ok ls → nested e ls ≡ Ok ls) → step s ms ≡ Ok ks → nested d ks ≡ Ok ks
 again_first d m ms ks (Err f) h again e = absurd (cc)
-again_first d m ms ks (Ok x) h again e = again_behind d x ms ks (nested x.0 ms) (settled_again d m x h) refl (again x.0) e
+again_first d m ms ks (Ok x) h again e = again_rest d x ms ks (nested x.0 ms) (nested_mark_again d m x h) refl (again x.0) e
 
 pub nested_again : (ms : List Mark) (d : ℕ) (ks : List Mark) → nested d ms ≡ Ok ks → nested d ks ≡ Ok ks
 unfolding nested

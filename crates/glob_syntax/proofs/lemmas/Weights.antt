@@ -1,6 +1,6 @@
 -- The tokens of a text weigh at most four times its bytes in UTF-8.
 --
--- Each mark has a weight: at most four times the bytes of its characters, and no less than what its tokens weigh.
+-- Each mark has a weight, which is at most four times the bytes of its characters, and at least the weight of its tokens.
 use Rattle.std.proofs.Common.{◌≡◌, ℕ, zero, suc, ◌+◌, ◌*◌, ◌≤◌, List, [], ◌∷◌, Bool, true, false, ◌&&◌, Option, Some, None, Result, Ok, Err, take, drop, replicate, length, ◌==◌, refl, ap, ◌∙◌, subst, arith, length-append}
 use lib.Utf8.{encode}
 use Rattle.std.specs.Prelude.{nat_lt, encode_utf8, encode_utf8_all}
@@ -21,7 +21,7 @@ use Rattle.glob_syntax.specs.inner.Weight.{token_weight, weight, branches_weight
 
 -- ---- bytes
 
--- how many bytes characters take
+-- how many bytes characters have
 abbrev bytes : List ℕ → ℕ
 bytes [] = 0
 bytes (c ∷ cs) = length (encode_utf8 c) + bytes cs
@@ -30,11 +30,11 @@ bytes_are : (cs : List ℕ) → length (encode_utf8_all cs) ≡ bytes cs
 bytes_are [] = refl
 bytes_are (c ∷ cs) = length-append (encode_utf8 c) (encode_utf8_all cs) ∙ ap (λ n. length (encode_utf8 c) + n) (bytes_are cs)
 
--- a character takes some
+-- a character has a byte
 some_byte : (c : ℕ) → 1 ≤ length (encode_utf8 c)
 some_byte c = let whole : 1 ≤ length (encode_utf8_all (c ∷ [])) = length-le-encodes (c ∷ []) in omega (arith, bytes_are (c ∷ []))
 
--- and `[`, `,` and `/` take one
+-- and `[`, `,` and `/` have one
 bracket_byte : length (encode_utf8 91) ≡ 1
 unfolding encode
 bracket_byte = refl
@@ -54,6 +54,7 @@ bytes_drop (suc n) (c ∷ cs) = omega (arith, bytes_drop n cs)
 
 -- ---- marks
 
+-- as much as the tokens of a mark weigh
 abbrev mark_weight : Mark → ℕ
 mark_weight (Char escaped c) = 1 + length (encode_utf8 c)
 mark_weight One = 2
@@ -68,19 +69,20 @@ abbrev marks_weight : List Mark → ℕ
 marks_weight [] = 0
 marks_weight (m ∷ ms) = mark_weight m + marks_weight ms
 
--- a mark that begins with `c`, before `cs`, and takes so many of these: they pay for it
-abbrev IsPaid : ℕ → List ℕ → Mark × ℕ → Type 0
-IsPaid c cs p = mark_weight p.0 + 4 * bytes (drop p.1 cs) ≤ 4 * (length (encode_utf8 c) + bytes cs)
+-- A mark that begins with `c`, followed by `cs`, so many of which belong to the mark: it weighs at most four times the bytes
+-- of its characters.
+abbrev IsBounded : ℕ → List ℕ → Mark × ℕ → Type 0
+IsBounded c cs p = mark_weight p.0 + 4 * bytes (drop p.1 cs) ≤ 4 * (length (encode_utf8 c) + bytes cs)
 
-light_paid : (c : ℕ) (cs : List ℕ) (p : Mark × ℕ) → mark_weight p.0 ≤ 4 → IsPaid c cs p
-light_paid c cs p light = omega (arith, some_byte c, bytes_drop p.1 cs)
+light_bounded : (c : ℕ) (cs : List ℕ) (p : Mark × ℕ) → mark_weight p.0 ≤ 4 → IsBounded c cs p
+light_bounded c cs p light = omega (arith, some_byte c, bytes_drop p.1 cs)
 
-plain_paid : (c : ℕ) (cs : List ℕ) → IsPaid c cs (Char false c, 0)
-plain_paid c cs = omega (arith, some_byte c)
+plain_bounded : (c : ℕ) (cs : List ℕ) → IsBounded c cs (Char false c, 0)
+plain_bounded c cs = omega (arith, some_byte c)
 
-escape_paid : (c : ℕ) (cs : List ℕ) → IsPaid c cs (escape_at cs)
-escape_paid c [] = omega arith
-escape_paid c (d ∷ cs) = omega (arith, some_byte c, some_byte d)
+escape_bounded : (c : ℕ) (cs : List ℕ) → IsBounded c cs (escape_at cs)
+escape_bounded c [] = omega arith
+escape_bounded c (d ∷ cs) = omega (arith, some_byte c, some_byte d)
 
 -- each star has a byte
 stars_bytes : (p : ℕ → Bool) (cs : List ℕ) → prefix_len p cs + bytes (drop (prefix_len p cs) cs) ≤ bytes cs
@@ -91,8 +93,8 @@ stars_bytes p (c ∷ cs) = cond_both (p c) (1 + prefix_len p cs) 0 (λ n. n + by
     one_more : (n : ℕ) → suc n ≡ 1 + n
     one_more n = omega arith
 
-stars_paid : (p : ℕ → Bool) (c : ℕ) (cs : List ℕ) → IsPaid c cs (star_run (prefix_len p cs))
-stars_paid p c cs = omega (arith, some_byte c, stars_bytes p cs)
+stars_bounded : (p : ℕ → Bool) (c : ℕ) (cs : List ℕ) → IsBounded c cs (star_run (prefix_len p cs))
+stars_bounded p c cs = omega (arith, some_byte c, stars_bytes p cs)
 
 class_light : (negated : Bool) (body : List ℕ) → mark_weight (class_mark negated body) ≤ 4
 class_light negated body = elim (bad_range body) as (λ r. mark_weight (elim r [ None ↦ Class negated (ranges body) | Some f ↦ Bad f ]) ≤ 4) [ None ↦ omega arith | Some f ↦ omega arith ]
@@ -110,38 +112,41 @@ class_at_light o n negated cs = go (members cs)
     go None = unclosed_light o cs
     go (Some k) = class_light negated (take k cs)
 
-mark_at_paid : (o : Options) (c : ℕ) (cs : List ℕ) → IsPaid c cs (mark_at o c cs)
+-- so does the mark at any position
+mark_at_bounded : (o : Options) (c : ℕ) (cs : List ℕ) → IsBounded c cs (mark_at o c cs)
 unfolding mark_at
-mark_at_paid o c cs =
-    let light : (p : Mark × ℕ) → mark_weight p.0 ≤ 4 → IsPaid c cs p = light_paid c cs in
-    cond_both (c == 63) _ _ (IsPaid c cs) (λ e. light (One, 0) (omega arith))
-    (λ e1. cond_both (c == 42) _ _ (IsPaid c cs) (λ e. stars_paid (λ d. d == 42) c cs)
-    (λ e2. cond_both (c == 91) _ _ (IsPaid c cs)
-    (λ e. cond_both (is_negated cs) _ _ (IsPaid c cs) (λ g. light (class_at o 1 true (drop 1 cs)) (class_at_light o 1 true (drop 1 cs))) (λ g. light (class_at o 0 false cs) (class_at_light o 0 false cs)))
-    (λ e3. cond_both (c == 123) _ _ (IsPaid c cs) (λ e. light (Open, 0) (omega arith))
-    (λ e4. cond_both (c == 125) _ _ (IsPaid c cs) (λ e. light (Close, 0) (omega arith))
-    (λ e5. cond_both (c == 44) _ _ (IsPaid c cs) (λ e. light (Comma, 0) (omega arith))
-    (λ e6. cond_both (c == 92 && o.backslash_escape) _ _ (IsPaid c cs) (λ e. escape_paid c cs) (λ e. plain_paid c cs)))))))
+mark_at_bounded o c cs =
+    let light : (p : Mark × ℕ) → mark_weight p.0 ≤ 4 → IsBounded c cs p = light_bounded c cs in
+    cond_both (c == 63) _ _ (IsBounded c cs) (λ e. light (One, 0) (omega arith))
+    (λ e1. cond_both (c == 42) _ _ (IsBounded c cs) (λ e. stars_bounded (λ d. d == 42) c cs)
+    (λ e2. cond_both (c == 91) _ _ (IsBounded c cs)
+    (λ e. cond_both (is_negated cs) _ _ (IsBounded c cs) (λ g. light (class_at o 1 true (drop 1 cs)) (class_at_light o 1 true (drop 1 cs))) (λ g. light (class_at o 0 false cs) (class_at_light o 0 false cs)))
+    (λ e3. cond_both (c == 123) _ _ (IsBounded c cs) (λ e. light (Open, 0) (omega arith))
+    (λ e4. cond_both (c == 125) _ _ (IsBounded c cs) (λ e. light (Close, 0) (omega arith))
+    (λ e5. cond_both (c == 44) _ _ (IsBounded c cs) (λ e. light (Comma, 0) (omega arith))
+    (λ e6. cond_both (c == 92 && o.backslash_escape) _ _ (IsBounded c cs) (λ e. escape_bounded c cs) (λ e. plain_bounded c cs)))))))
 
-marks_paid : (o : Options) (n : ℕ) (cs : List ℕ) → marks_weight (marks o n cs) ≤ 4 * bytes (drop n cs)
+-- and all marks together
+marks_bounded : (o : Options) (n : ℕ) (cs : List ℕ) → marks_weight (marks o n cs) ≤ 4 * bytes (drop n cs)
 unfolding marks
-marks_paid o n [] = omega arith
-marks_paid o (suc n) (c ∷ cs) = marks_paid o n cs
-marks_paid o zero (c ∷ cs) = let p = mark_at o c cs in omega (arith, mark_at_paid o c cs, marks_paid o p.1 cs)
+marks_bounded o n [] = omega arith
+marks_bounded o (suc n) (c ∷ cs) = marks_bounded o n cs
+marks_bounded o zero (c ∷ cs) = let p = mark_at o c cs in omega (arith, mark_at_bounded o c cs, marks_bounded o p.1 cs)
 
 -- ---- nesting
 
-settled_weight : (d : ℕ) (m : Mark) (s : ℕ × Mark) → nested_mark d m ≡ Ok s → mark_weight s.1 ≡ mark_weight m
-settled_weight d (Char escaped c) s e = let g : s ≡ (d, Char escaped c) = cc in ap (λ (p : ℕ × Mark). mark_weight p.1) g
-settled_weight d One s e = let g : s ≡ (d, One) = cc in ap (λ (p : ℕ × Mark). mark_weight p.1) g
-settled_weight d (Stars n) s e = let g : s ≡ (d, Stars n) = cc in ap (λ (p : ℕ × Mark). mark_weight p.1) g
-settled_weight d (Class negated rs) s e = let g : s ≡ (d, Class negated rs) = cc in ap (λ (p : ℕ × Mark). mark_weight p.1) g
-settled_weight d Open s e = let g : s ≡ (suc d, Open) = cc in ap (λ (p : ℕ × Mark). mark_weight p.1) g
-settled_weight zero Comma s e = let g : s ≡ (zero, Char false 44) = cc in ap (λ (p : ℕ × Mark). mark_weight p.1) g ∙ ap (λ n. 1 + n) comma_byte
-settled_weight (suc d) Comma s e = let g : s ≡ (suc d, Comma) = cc in ap (λ (p : ℕ × Mark). mark_weight p.1) g
-settled_weight zero Close s e = absurd cc
-settled_weight (suc d) Close s e = let g : s ≡ (d, Close) = cc in ap (λ (p : ℕ × Mark). mark_weight p.1) g
-settled_weight d (Bad f) s e = absurd cc
+-- nesting keeps the weight
+nested_mark_weight : (d : ℕ) (m : Mark) (s : ℕ × Mark) → nested_mark d m ≡ Ok s → mark_weight s.1 ≡ mark_weight m
+nested_mark_weight d (Char escaped c) s e = let g : s ≡ (d, Char escaped c) = cc in ap (λ (p : ℕ × Mark). mark_weight p.1) g
+nested_mark_weight d One s e = let g : s ≡ (d, One) = cc in ap (λ (p : ℕ × Mark). mark_weight p.1) g
+nested_mark_weight d (Stars n) s e = let g : s ≡ (d, Stars n) = cc in ap (λ (p : ℕ × Mark). mark_weight p.1) g
+nested_mark_weight d (Class negated rs) s e = let g : s ≡ (d, Class negated rs) = cc in ap (λ (p : ℕ × Mark). mark_weight p.1) g
+nested_mark_weight d Open s e = let g : s ≡ (suc d, Open) = cc in ap (λ (p : ℕ × Mark). mark_weight p.1) g
+nested_mark_weight zero Comma s e = let g : s ≡ (zero, Char false 44) = cc in ap (λ (p : ℕ × Mark). mark_weight p.1) g ∙ ap (λ n. 1 + n) comma_byte
+nested_mark_weight (suc d) Comma s e = let g : s ≡ (suc d, Comma) = cc in ap (λ (p : ℕ × Mark). mark_weight p.1) g
+nested_mark_weight zero Close s e = absurd cc
+nested_mark_weight (suc d) Close s e = let g : s ≡ (d, Close) = cc in ap (λ (p : ℕ × Mark). mark_weight p.1) g
+nested_mark_weight d (Bad f) s e = absurd cc
 
 nested_weight : (d : ℕ) (ms ks : List Mark) → nested d ms ≡ Ok ks → marks_weight ks ≡ marks_weight ms
 unfolding nested
@@ -149,13 +154,13 @@ nested_weight zero [] ks e = let g : ks ≡ [] = cc in ap marks_weight g
 nested_weight (suc d) [] ks e = absurd cc
 nested_weight d (m ∷ ms) ks e = step (λ k ls g. nested_weight k ms ls g) (nested_mark d m) refl e
   where
-    behind : (s : ℕ × Mark) (r : Result (List Mark) Fault) → mark_weight s.1 ≡ mark_weight m → ((ls : List Mark) → r ≡ Ok ls → marks_weight ls ≡ marks_weight ms) → with_mark s.1 r ≡ Ok ks → marks_weight ks ≡ marks_weight (m ∷ ms)
-    behind s (Ok ls) q deep e' = let g : ks ≡ s.1 ∷ ls = cc in ap marks_weight g ∙ omega (arith, deep ls refl)
-    behind s (Err f) q deep e' = absurd cc
+    after_mark : (s : ℕ × Mark) (r : Result (List Mark) Fault) → mark_weight s.1 ≡ mark_weight m → ((ls : List Mark) → r ≡ Ok ls → marks_weight ls ≡ marks_weight ms) → with_mark s.1 r ≡ Ok ks → marks_weight ks ≡ marks_weight (m ∷ ms)
+    after_mark s (Ok ls) q deep e' = let g : ks ≡ s.1 ∷ ls = cc in ap marks_weight g ∙ omega (arith, deep ls refl)
+    after_mark s (Err f) q deep e' = absurd cc
 
     step : ((k : ℕ) (ls : List Mark) → nested k ms ≡ Ok ls → marks_weight ls ≡ marks_weight ms) → (r : Result (ℕ × Mark) Fault) → nested_mark d m ≡ r → (let x : Result (List Mark) Fault = elim r [ Err f ↦ Err f | Ok s ↦ with_mark s.1 (nested s.0 ms) ] in x ≡ Ok ks) → marks_weight ks ≡ marks_weight (m ∷ ms)
     step deep (Err f) q e' = absurd cc
-    step deep (Ok s) q e' = behind s (nested s.0 ms) (settled_weight d m s q) (deep s.0) e'
+    step deep (Ok s) q e' = after_mark s (nested s.0 ms) (nested_mark_weight d m s q) (deep s.0) e'
 
 -- ---- pieces
 
@@ -184,6 +189,7 @@ char_cut_weight : (b : Bool) (c : ℕ) (ms : List Mark) → list_weight (char_cu
 char_cut_weight true c ms = omega (arith, some_byte c, slash_cut_weight (last_run (drop (pairs ms) ms)) (nat_lt 0 (pairs ms)) (pairs ms))
 char_cut_weight false c ms = omega arith
 
+-- a piece weighs no more than its first mark
 piece_weight : (start : Bool) (m : Mark) (ms : List Mark) → list_weight (piece start m ms).0 ≤ mark_weight m
 unfolding piece
 piece_weight start (Stars n) ms = let all = Stars n ∷ ms in run_cut_weight (start && nat_lt 0 (pairs all)) (last_run (drop (pairs all) all)) n (pairs all)
@@ -221,6 +227,7 @@ open_weight (bs, outer ∷ more) = omega (arith, in_branch_weight (Group bs ∷ 
 piece_level_weight : (start : Bool) (m : Mark) (ms : List Mark) (w : ℕ) → levels_weight (levels (piece start m ms).1 false ms) ≤ w → levels_weight (in_level (piece start m ms).0 (levels (piece start m ms).1 false ms)) ≤ mark_weight m + w
 piece_level_weight start m ms w h = let p = piece start m ms in omega (arith, piece_weight start m ms, in_branch_weight p.0 (levels p.1 false ms).0)
 
+-- the levels of marks weigh no more than the marks and one branch
 levels_light : (n : ℕ) (start : Bool) (ms : List Mark) → levels_weight (levels n start ms) ≤ 2 + marks_weight ms
 unfolding levels
 levels_light n start [] = omega arith
@@ -247,6 +254,7 @@ whole_run_weight [] e = absurd cc
 whole_run_weight (m ∷ []) e = omega (arith, run_weight m e)
 whole_run_weight (m ∷ n ∷ ms) e = absurd cc
 
+-- and so the tokens of a glob weigh no more than its marks
 whole_weight : (ms : List Mark) → weight (whole ms) ≤ marks_weight ms
 unfolding whole
 whole_weight ms = go (is_whole_run ms) refl
@@ -262,7 +270,7 @@ unfolding reading
 reads_bytes o text ts e = go (nested zero (marks o zero text)) refl e
   where
     go : (r : Result (List Mark) Fault) → nested zero (marks o zero text) ≡ r → whole_or_fault r ≡ Ok ts → weight ts ≤ 4 * bytes text
-    go (Ok ms) q e' = let g : whole ms ≡ ts = cc in subst (λ us. weight us ≤ 4 * bytes text) g (omega (arith, whole_weight ms, nested_weight zero (marks o zero text) ms q, marks_paid o zero text))
+    go (Ok ms) q e' = let g : whole ms ≡ ts = cc in subst (λ us. weight us ≤ 4 * bytes text) g (omega (arith, whole_weight ms, nested_weight zero (marks o zero text) ms q, marks_bounded o zero text))
     go (Err f) q e' = absurd cc
 
 -- the tokens of characters

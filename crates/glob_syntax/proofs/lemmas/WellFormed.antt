@@ -10,7 +10,7 @@ use Rattle.glob_syntax.specs.declared.options.Options.{Options}
 use Rattle.glob_syntax.specs.declared.fault.Fault.{Fault}
 use Rattle.glob_syntax.specs.declared.fault.Fault.TheVariants.{UnclosedClass}
 use Rattle.glob_syntax.specs.Token.{Token, Literal, ZeroOrMore, RecursivePrefix, Group, Tokens, end, and_then, Branches, none, branch, before}
-use Rattle.glob_syntax.specs.Ranges.{chain, pair, ranges, bad_range, is_hyphen}
+use Rattle.glob_syntax.specs.Ranges.{chain, after_hyphen, ranges, bad_range, is_hyphen}
 use Rattle.glob_syntax.specs.Marks.{Mark, Char, One, Stars, Class, Open, Comma, Close, Bad, is_closer, is_negated, class_mark, unclosed_mark, class_at, escape_at, mark_at, marks}
 use Rattle.glob_syntax.specs.Nesting.{nested_mark, with_mark, nested}
 use Rattle.glob_syntax.specs.Stars.{last_run, pairs, run_cut, slash_cut, slash_piece, piece}
@@ -37,27 +37,27 @@ mutual
   chain_scalars c z [] hc hz h = (hc, hz, tt)
   chain_scalars c z (d ∷ rest) hc hz h =
       let p = and_parts (scalar d) (scalars rest) h in
-      elim (is_hyphen d) as (λ q. AreScalars (elim q [ true ↦ pair c z rest | false ↦ (c, z) ∷ chain d d rest ])) [
-        | true ↦ pair_scalars c z rest hc hz p.1
+      elim (is_hyphen d) as (λ q. AreScalars (elim q [ true ↦ after_hyphen c z rest | false ↦ (c, z) ∷ chain d d rest ])) [
+        | true ↦ after_hyphen_scalars c z rest hc hz p.1
         | false ↦ (hc, hz, chain_scalars d d rest p.0 p.0 p.1)
       ]
 
-  pair_scalars : (c z : ℕ) (cs : List ℕ) → IsScalar c → IsScalar z → scalars cs ≡ true → AreScalars (pair c z cs)
-  pair_scalars c z [] hc hz h = (hc, hz, (refl, refl, tt))
-  pair_scalars c z (x ∷ rest) hc hz h = let p = and_parts (scalar x) (scalars rest) h in chain_scalars c x rest hc p.0 p.1
+  after_hyphen_scalars : (c z : ℕ) (cs : List ℕ) → IsScalar c → IsScalar z → scalars cs ≡ true → AreScalars (after_hyphen c z cs)
+  after_hyphen_scalars c z [] hc hz h = (hc, hz, (refl, refl, tt))
+  after_hyphen_scalars c z (x ∷ rest) hc hz h = let p = and_parts (scalar x) (scalars rest) h in chain_scalars c x rest hc p.0 p.1
 
 mutual
   -- a body has a range
   chain_some : (c z : ℕ) (cs : List ℕ) → 1 ≤ length (chain c z cs)
   chain_some c z [] = omega arith
-  chain_some c z (d ∷ rest) = elim (is_hyphen d) as (λ q. let xs : List (ℕ × ℕ) = elim q [ true ↦ pair c z rest | false ↦ (c, z) ∷ chain d d rest ] in 1 ≤ length xs) [
-    | true ↦ pair_some c z rest
+  chain_some c z (d ∷ rest) = elim (is_hyphen d) as (λ q. let xs : List (ℕ × ℕ) = elim q [ true ↦ after_hyphen c z rest | false ↦ (c, z) ∷ chain d d rest ] in 1 ≤ length xs) [
+    | true ↦ after_hyphen_some c z rest
     | false ↦ let e : 1 ≤ length ((c, z) ∷ chain d d rest) = omega arith in e
   ]
 
-  pair_some : (c z : ℕ) (cs : List ℕ) → 1 ≤ length (pair c z cs)
-  pair_some c z [] = omega arith
-  pair_some c z (x ∷ rest) = chain_some c x rest
+  after_hyphen_some : (c z : ℕ) (cs : List ℕ) → 1 ≤ length (after_hyphen c z cs)
+  after_hyphen_some c z [] = omega arith
+  after_hyphen_some c z (x ∷ rest) = chain_some c x rest
 
 -- ---- marks
 
@@ -76,7 +76,7 @@ abbrev AreGood : List Mark → Type 0
 AreGood [] = Unit {0}
 AreGood (m ∷ ms) = IsGood m × AreGood ms
 
--- a closed class has one
+-- the mark of a closed class
 class_good : (negated : Bool) (k : ℕ) (c : ℕ) (cs : List ℕ) → scalars (c ∷ cs) ≡ true → IsGood (class_mark negated (take (k + 1) (c ∷ cs)))
 unfolding ranges
 class_good negated k c cs h =
@@ -96,7 +96,7 @@ unclosed_good o cs = elim o.allow_unclosed_class as (λ q. IsGood (elim q [ true
   | false ↦ elim (bad_range cs) as (λ r. IsGood (elim r [ None ↦ Bad UnclosedClass | Some f ↦ Bad f ])) [ None ↦ tt | Some f ↦ tt ]
 ]
 
--- the mark at a `[`, by the place of the `]` behind the first member
+-- the mark at a `[`, by the position of the `]` after the first member
 abbrev at_closer : Options → ℕ → Bool → List ℕ → Option ℕ → Mark × ℕ
 at_closer o n negated cs r = let m : Option ℕ = elim r [ None ↦ None | Some k ↦ Some (k + 1) ] in elim m [ None ↦ (unclosed_mark o cs, 0) | Some k ↦ (class_mark negated (take k cs), n + k + 1) ]
 
@@ -114,7 +114,7 @@ escape_good (c ∷ cs) h = (and_parts (scalar c) (scalars cs) h).0
 abbrev IsFirstGood : Mark × ℕ → Type 0
 IsFirstGood p = IsGood p.0
 
--- the mark at any place is good
+-- the mark at any position is good
 mark_at_good : (o : Options) (c : ℕ) (cs : List ℕ) → IsScalar c → scalars cs ≡ true → IsGood (mark_at o c cs).0
 unfolding mark_at
 mark_at_good o c cs hc h =
@@ -136,17 +136,17 @@ marks_good o zero (c ∷ cs) h = let p = and_parts (scalar c) (scalars cs) h in 
 -- ---- nesting
 
 -- nesting keeps them good
-settled_good : (d : ℕ) (m : Mark) (s : ℕ × Mark) → IsGood m → nested_mark d m ≡ Ok s → IsGood s.1
-settled_good d (Char escaped c) s h e = let g : (d, Char escaped c) ≡ s = cc in subst (λ p. IsGood p.1) g h
-settled_good d One s h e = let g : (d, One) ≡ s = cc in subst (λ p. IsGood p.1) g tt
-settled_good d (Stars n) s h e = let g : (d, Stars n) ≡ s = cc in subst (λ p. IsGood p.1) g tt
-settled_good d (Class negated rs) s h e = let g : (d, Class negated rs) ≡ s = cc in subst (λ p. IsGood p.1) g h
-settled_good d Open s h e = let g : (suc d, Open) ≡ s = cc in subst (λ p. IsGood p.1) g tt
-settled_good zero Comma s h e = let g : (zero, Char false 44) ≡ s = cc in subst (λ p. IsGood p.1) g refl
-settled_good (suc d) Comma s h e = let g : (suc d, Comma) ≡ s = cc in subst (λ p. IsGood p.1) g tt
-settled_good zero Close s h e = absurd cc
-settled_good (suc d) Close s h e = let g : (d, Close) ≡ s = cc in subst (λ p. IsGood p.1) g tt
-settled_good d (Bad f) s h e = absurd cc
+nested_mark_good : (d : ℕ) (m : Mark) (s : ℕ × Mark) → IsGood m → nested_mark d m ≡ Ok s → IsGood s.1
+nested_mark_good d (Char escaped c) s h e = let g : (d, Char escaped c) ≡ s = cc in subst (λ p. IsGood p.1) g h
+nested_mark_good d One s h e = let g : (d, One) ≡ s = cc in subst (λ p. IsGood p.1) g tt
+nested_mark_good d (Stars n) s h e = let g : (d, Stars n) ≡ s = cc in subst (λ p. IsGood p.1) g tt
+nested_mark_good d (Class negated rs) s h e = let g : (d, Class negated rs) ≡ s = cc in subst (λ p. IsGood p.1) g h
+nested_mark_good d Open s h e = let g : (suc d, Open) ≡ s = cc in subst (λ p. IsGood p.1) g tt
+nested_mark_good zero Comma s h e = let g : (zero, Char false 44) ≡ s = cc in subst (λ p. IsGood p.1) g refl
+nested_mark_good (suc d) Comma s h e = let g : (suc d, Comma) ≡ s = cc in subst (λ p. IsGood p.1) g tt
+nested_mark_good zero Close s h e = absurd cc
+nested_mark_good (suc d) Close s h e = let g : (d, Close) ≡ s = cc in subst (λ p. IsGood p.1) g tt
+nested_mark_good d (Bad f) s h e = absurd cc
 
 with_good : (m : Mark) (r : Result (List Mark) Fault) (ks : List Mark) → IsGood m → ((ls : List Mark) → r ≡ Ok ls → AreGood ls) → with_mark m r ≡ Ok ks → AreGood ks
 with_good m (Ok ls) ks hm h e = let g : m ∷ ls ≡ ks = cc in subst AreGood g (hm, h ls refl)
@@ -161,7 +161,7 @@ nested_good d (m ∷ ms) ks (hm, hms) e = step (λ k ls g. nested_good k ms ls h
   where
     step : ((k : ℕ) (ls : List Mark) → nested k ms ≡ Ok ls → AreGood ls) → (r : Result (ℕ × Mark) Fault) → nested_mark d m ≡ r → (let x : Result (List Mark) Fault = elim r [ Err f ↦ Err f | Ok s ↦ with_mark s.1 (nested s.0 ms) ] in x ≡ Ok ks) → AreGood ks
     step deep (Err f) q e' = absurd cc
-    step deep (Ok s) q e' = with_good s.1 (nested s.0 ms) ks (settled_good d m s hm q) (deep s.0) e'
+    step deep (Ok s) q e' = with_good s.1 (nested s.0 ms) ks (nested_mark_good d m s hm q) (deep s.0) e'
 
 -- ---- pieces
 
@@ -223,7 +223,7 @@ open_good : (ls : Levels) → AreLevels ls → AreLevels (open_level ls)
 open_good (bs, []) h = h
 open_good (bs, outer ∷ more) (hb, (ho, hm)) = (in_branch_good (Group bs ∷ []) outer (hb, tt) ho, hm)
 
--- and the groups put them together
+-- and groups keep them well formed
 levels_good : (n : ℕ) (start : Bool) (ms : List Mark) → AreGood ms → AreLevels (levels n start ms)
 unfolding levels
 levels_good n start [] h = ((tt, tt), tt)

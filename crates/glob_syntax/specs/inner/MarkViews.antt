@@ -1,4 +1,4 @@
--- Marks as contracts see them, apart from how memory holds them.
+-- Marks as contracts see them, whatever memory holds them.
 use Rattle.std.specs.Prelude.{◌≡◌, ℕ, ◌++◌, List, map, Result, Ok, Err}
 use Rattle.glob_syntax.specs.declared.marks.mark.Mark.{Mark}
 use Rattle.glob_syntax.specs.declared.marks.mark.Mark.TheVariants as held
@@ -8,6 +8,7 @@ use Rattle.glob_syntax.specs.Marks as marks
 use Rattle.glob_syntax.specs.Ranges.{ranges}
 use Rattle.glob_syntax.specs.Views.{token_list}
 
+-- a mark; that of a class by the ranges of its body
 abbrev pub mark_of : Mark → marks.Mark
 mark_of (held.Char escaped c) = marks.Char escaped c
 mark_of held.One = marks.One
@@ -18,10 +19,11 @@ mark_of held.Comma = marks.Comma
 mark_of held.Close = marks.Close
 mark_of (held.Bad f) = marks.Bad f
 
+-- marks, one after another
 abbrev pub marks_of : List Mark → List marks.Mark
 marks_of ms = map mark_of ms
 
--- The tokens grew by those of a piece, which takes so many marks besides its first.
+-- the tokens of a piece were appended, and so many marks belong to it after its first one
 pub record Adds (old new : List tokens.Token) (p : List Token × ℕ) (more : ℕ) : Type 0 where
   pub tokens : token_list new ≡ token_list old ++ p.0
   pub takes : more ≡ p.1

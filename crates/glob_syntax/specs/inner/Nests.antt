@@ -1,13 +1,13 @@
--- Marks that were found to have no fault, as the making of tokens takes them.
+-- Marks that have no error, from which tokens are made.
 use Rattle.std.specs.Prelude.{◌≡◌, ℕ, List, Bool, true, false, Ok}
 use Rattle.glob_syntax.specs.Marks.{Mark, Open, Comma, Close, Bad}
 use Rattle.glob_syntax.specs.Nesting.{nested}
 
--- inside so many open groups these marks close them all, and have no fault
+-- inside so many open groups, these marks have no error, and close all of the groups
 pub record Nests (depth : ℕ) (ms : List Mark) : Type 0 where
   pub is : nested depth ms ≡ Ok ms
 
--- a mark that is inside a branch, and no brace or comma
+-- a mark inside a branch: no brace, comma or error
 abbrev pub is_inner : Mark → Bool
 is_inner Open = false
 is_inner Comma = false

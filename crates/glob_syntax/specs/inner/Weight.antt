@@ -1,10 +1,10 @@
--- What matching by rows costs at each place of a path: one read of each token, and one of each place of a row for each
--- pass that a token takes.
+-- What matching by rows costs at each position of a path: one read of each token, and one of each position of a row for
+-- each pass that a token needs.
 use Rattle.std.specs.Prelude.{ℕ, ◌+◌, length, encode_utf8}
 use Rattle.glob_syntax.specs.Token.{Token, Literal, Any, ZeroOrMore, RecursivePrefix, RecursiveSuffix, RecursiveZeroOrMore, Class, Group, Tokens, end, and_then, Branches, none, branch}
 
--- A literal takes one pass for each of its bytes, and a group none of its own; a branch takes a copy of the group's first
--- row, and gives its last row to the group's.
+-- A literal needs one pass for each of its bytes, and a group none of its own. A branch copies the group's first row, and
+-- adds its last row to the group's.
 abbrev mutual
   pub token_weight : Token → ℕ
   token_weight (Literal c) = 1 + length (encode_utf8 c)

@@ -1,4 +1,4 @@
--- What every reading has: characters are Unicode scalar values, and a class has a range.
+-- What holds of every reading: characters are Unicode scalar values, and a class has a range.
 use Rattle.std.specs.Prelude.{◌≤◌, ℕ, List, [], ◌∷◌, length}
 use Rattle.std.specs.Char.{IsScalar}
 use Rattle.glob_syntax.specs.Token.{Token, Literal, Any, ZeroOrMore, RecursivePrefix, RecursiveSuffix, RecursiveZeroOrMore, Class, Group, Tokens, end, and_then, Branches, none, branch}
@@ -8,6 +8,7 @@ abbrev pub AreScalars : List (ℕ × ℕ) → Type 0
 AreScalars [] = Unit {0}
 AreScalars ((x, y) ∷ rs) = IsScalar x × IsScalar y × AreScalars rs
 
+-- the characters of a token, and of all tokens inside it, are scalar values, and its classes have ranges
 abbrev mutual
   pub IsWellFormed : Token → Type 0
   IsWellFormed (Literal c) = IsScalar c

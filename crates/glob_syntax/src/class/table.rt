@@ -1,24 +1,23 @@
-//! The bytes of ranges of characters.
+//! The table of the bytes that ranges of characters contain.
 
 ghost use Rattle.std.specs.Prelude.{◌≡◌, ℕ, List, IfOk};
 ghost use Rattle.glob_syntax.specs.ClassBytes.{ranges_have, range_has, is_one_of, is_from_last};
-ghost use Rattle.glob_syntax.specs.inner.ClassTable.{IsTableOf, membership};
-ghost use Rattle.glob_syntax.specs.inner.ClassTable.{IsPlainTable};
+ghost use Rattle.glob_syntax.specs.inner.ClassTable.{IsTableOf, IsPlainTable, membership};
 
 use std::alloc::{AllocError, Global};
 
-/// How the ranges of a class have a byte.
+/// How the ranges of a class contain a byte.
 #[derive(Clone, Copy, Debug)]
 pub enum Membership {
     /// Not at all.
     Absent,
-    /// As the other case of an ASCII letter that they have.
+    /// As the other case of an ASCII letter that they contain.
     OtherCase,
-    /// As it is.
+    /// As the byte itself.
     Present,
 }
 
-/// For each byte, how the ranges have it.
+/// Returns for each byte how the ranges contain it.
 pub fn table_of(alloc: Global, ranges: &[(char, char)]) -> Result<Vec<Membership>, AllocError>
     ensures { IfOk result (λ v. IsTableOf ranges.now v.items) }
 {
@@ -30,7 +29,7 @@ pub fn table_of(alloc: Global, ranges: &[(char, char)]) -> Result<Vec<Membership
     Ok(table)
 }
 
-/// How ranges have a byte, by the bytes that they have as they are.
+/// How ranges contain a byte, where `plain` says of each byte whether they contain the byte itself.
 fn membership_in(plain: &[bool; 256], byte: u8) -> Membership
     ensures { (rs : List (ℕ × ℕ)) → IsPlainTable rs plain.now → result ≡ membership rs byte }
 {
@@ -45,7 +44,7 @@ fn membership_in(plain: &[bool; 256], byte: u8) -> Membership
     }
 }
 
-/// For each byte, whether the ranges have it as it is.
+/// Returns for each byte whether the ranges contain the byte itself.
 fn plain_table(ranges: &[(char, char)]) -> [bool; 256]
     ensures { IsPlainTable ranges.now result }
 {
@@ -56,14 +55,14 @@ fn plain_table(ranges: &[(char, char)]) -> [bool; 256]
     plain
 }
 
-/// Whether one of the ranges has the byte.
+/// Whether one of the ranges contains the byte.
 fn ranges_have_byte(ranges: &[(char, char)], byte: u8) -> bool
     ensures { result ≡ ranges_have ranges.now byte }
 {
     ranges.iter().any(|range| range_has_byte(*range, byte))
 }
 
-/// Whether the range has the byte.
+/// Whether the range contains the byte.
 fn range_has_byte(range: (char, char), byte: u8) -> bool
     ensures { result ≡ range_has range byte }
 {
@@ -73,27 +72,27 @@ fn range_has_byte(range: (char, char), byte: u8) -> bool
     let first = low.encode_utf8(&mut low_buffer).as_bytes();
     let second = high.encode_utf8(&mut high_buffer).as_bytes();
     if low == high {
-        return is_byte_of(first, byte);
+        return is_one_of(first, byte);
     }
     match second {
         [] => false,
-        [upper, others @ ..] => is_byte_from_last(first, *upper, byte) || is_byte_of(others, byte),
+        [upper, others @ ..] => is_from_last(first, *upper, byte) || is_one_of(others, byte),
     }
 }
 
-/// Whether it is one of the bytes.
-pub fn is_byte_of(bytes: &[u8], byte: u8) -> bool
+/// Whether the byte is one of these.
+fn is_one_of(bytes: &[u8], byte: u8) -> bool
     ensures { result ≡ is_one_of byte bytes.now }
 {
     bytes.iter().any(|b| byte == *b)
 }
 
-/// Whether it is one of the bytes but the last, or lies from the last one up to `upper`.
-fn is_byte_from_last(bytes: &[u8], upper: u8, byte: u8) -> bool
+/// Whether the byte is one of these except the last one, or from the last one up to `upper`.
+fn is_from_last(bytes: &[u8], upper: u8, byte: u8) -> bool
     ensures { result ≡ is_from_last byte bytes.now upper }
 {
     match bytes {
         [] => false,
-        [before @ .., last] => is_byte_of(before, byte) || (*last <= byte && byte <= upper),
+        [before @ .., last] => is_one_of(before, byte) || (*last <= byte && byte <= upper),
     }
 }

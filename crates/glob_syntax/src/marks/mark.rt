@@ -1,4 +1,4 @@
-//! Marks: what a glob's text is cut into.
+//! Marks: plain and special characters, runs of stars and classes.
 
 ghost use Rattle.std.specs.Prelude.{◌≡◌, ◌<◌, ◌≤◌, length, None, IfSome, IsFalse, drop, ◌==◌, ◌+◌};
 ghost use Rattle.std.specs.List.{prefix_len, position};
@@ -9,16 +9,16 @@ use crate::class::bad_range;
 use crate::fault::Fault;
 use crate::options::Options;
 
-/// A piece of a glob's text.
+/// A mark of a glob's text.
 #[derive(Clone, Copy, Debug)]
 pub enum Mark<'a> {
     /// A plain character, escaped or not.
     Char { escaped: bool, c: char },
     /// `?`
     One,
-    /// A run of unescaped `*`, as long as it goes, by its length.
+    /// A run of unescaped `*`, all that follow one another, by its length.
     Stars(usize),
-    /// A closed class, by its body without the negation.
+    /// A closed class. The body does not include the negation.
     Class { negated: bool, body: &'a [char] },
     /// `{`
     Open,
@@ -26,35 +26,35 @@ pub enum Mark<'a> {
     Comma,
     /// `}`
     Close,
-    /// What stands here has no reading.
+    /// An error at this position.
     Bad(Fault),
 }
 
-/// Where the first `]` stands.
-fn closing(rest: &[char]) -> Option<usize>
+/// The position of the first `]`.
+fn first_closer(rest: &[char]) -> Option<usize>
     ensures { result ≡ position is_closer rest.now }
 {
     rest.iter().position(|c| *c == ']')
 }
 
-/// How many members a class has whose first member is the first of `rest`; `None` where no `]` closes it.
+/// How many members a class has, where `rest` begins with the first one; `None` if no `]` closes the class.
 fn members(rest: &[char]) -> Option<usize>
     ensures value { result ≡ members rest.now }
     ensures within { IfSome result (λ n. n < length rest.now) }
 {
     match rest {
         [] => None,
-        [_, after @ ..] => match closing(after) {
+        [_, after @ ..] => match first_closer(after) {
             None => None,
             Some(n) => Some(n + 1),
         },
     }
 }
 
-/// The mark at a `[`, after which stand `skipped` characters of negation and then `rest`, and how many more characters
-/// it takes.
+/// The mark at a `[` that `skipped` characters of negation and then `rest` follow, and how many characters belong to it
+/// after the `[`.
 ///
-/// `closable` becomes false once a `[` had no `]`: no later one has, so none is looked for again.
+/// `closable` becomes false once no `]` closes a `[`. Then none closes a later one, so this never searches again.
 fn class_at<'a>(
     options: Options,
     closable: &mut bool,
@@ -83,7 +83,7 @@ fn class_at<'a>(
     }
 }
 
-/// A `[` that no `]` closes, before `rest`.
+/// The mark at a `[` that no `]` closes, followed by `rest`.
 fn unclosed_mark<'a>(options: Options, rest: &[char]) -> Mark<'a>
     ensures { mark_of result ≡ unclosed_mark options rest.now }
 {
@@ -97,7 +97,7 @@ fn unclosed_mark<'a>(options: Options, rest: &[char]) -> Mark<'a>
     }
 }
 
-/// A closed class with this body.
+/// The mark of a closed class with this body.
 fn class_mark(negated: bool, body: &[char]) -> Mark<'_>
     ensures { mark_of result ≡ class_mark negated body.now }
 {
@@ -107,7 +107,7 @@ fn class_mark(negated: bool, body: &[char]) -> Mark<'_>
     }
 }
 
-/// The mark that begins with `c`, after which stands `rest`, and how many more characters it takes.
+/// The mark that begins with `c`, followed by `rest`, and how many characters belong to it after `c`.
 #[tactic(auto, unfolding(crate::specs::Marks::mark_at))]
 pub fn mark_at<'a>(
     options: Options,
@@ -124,7 +124,7 @@ pub fn mark_at<'a>(
     match c {
         '?' => (Mark::One, 0),
         '*' => {
-            let more = stars(rest);
+            let more = count_stars(rest);
             (Mark::Stars(more + 1), more)
         }
         '[' => match rest {
@@ -148,8 +148,8 @@ pub fn mark_at<'a>(
     }
 }
 
-/// How many stars stand at the front.
-fn stars(rest: &[char]) -> usize
+/// How many stars are at the front.
+fn count_stars(rest: &[char]) -> usize
     ensures value { result ≡ prefix_len (λ d. d == 42) rest.now }
     ensures within { result ≤ length rest.now }
 {

@@ -12,7 +12,8 @@ use crate::stars::{last_run, pairs};
 use crate::token::Token;
 use std::alloc::{AllocError, Global};
 
-/// A run of `n` stars, which is the first of `rest`: pushes its tokens, and answers how many marks it takes besides.
+/// Pushes the tokens of a piece that begins with a run of `n` stars, the first of `rest`. Returns how many marks belong to
+/// the piece after its first one.
 fn push_run(
     out: &mut Vec<Token>,
     start: bool,
@@ -37,6 +38,7 @@ fn push_run(
     }
 }
 
+/// Pushes `n` tokens `*`.
 fn push_stars(out: &mut Vec<Token>, n: usize) -> Result<(), AllocError>
     ensures { OnOk result (token_list out.new.items ≡ token_list out.old.items ++ replicate n ZeroOrMore) }
 {
@@ -46,7 +48,8 @@ fn push_stars(out: &mut Vec<Token>, n: usize) -> Result<(), AllocError>
     Ok(())
 }
 
-/// A `/` before these marks.
+/// Pushes the tokens of a piece that begins with a `/`, followed by `after`. Returns how many marks belong to the piece
+/// after its first one.
 fn push_slash(out: &mut Vec<Token>, after: &[Mark<'_>]) -> Result<usize, AllocError>
     ensures adds { IfOk result (λ more. Adds out.old.items out.new.items (slash_piece (marks_of after.now)) more) }
     ensures within { IfOk result (λ more. more ≤ length after.now) }
@@ -64,8 +67,8 @@ fn push_slash(out: &mut Vec<Token>, after: &[Mark<'_>]) -> Result<usize, AllocEr
     }
 }
 
-/// The mark `mark`, the first of `rest` and not a bracket, with `after` behind it: pushes the tokens of its piece, and
-/// answers how many marks that takes besides.
+/// Pushes the tokens of a piece that begins with `mark`, the first of `rest`, followed by `after`. Returns how many marks
+/// belong to the piece after its first one. A brace or a comma has no tokens.
 #[tactic(auto, unfolding(crate::specs::Stars::piece))]
 pub fn push_piece(
     alloc: Global,

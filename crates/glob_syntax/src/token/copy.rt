@@ -6,7 +6,9 @@ ghost use Rattle.glob_syntax.specs.Views.{token_of, tokens_of};
 use crate::token::Token;
 use std::alloc::{AllocError, Global};
 
-/// Equal tokens, with memory of their own.
+/// Returns equal tokens with memory of their own.
+///
+/// Returns an error if memory runs out.
 #[cycle(copies)]
 pub fn copy_of(alloc: Global, tokens: &[Token]) -> Result<Vec<Token>, AllocError>
     ensures { IfOk result (λ v. tokens_of v.items ≡ tokens_of tokens.now) }
@@ -18,7 +20,7 @@ pub fn copy_of(alloc: Global, tokens: &[Token]) -> Result<Vec<Token>, AllocError
     Ok(copies)
 }
 
-/// An equal token, with memory of its own.
+/// Returns an equal token with memory of its own.
 #[cycle(copies)]
 fn copy_of_token(alloc: Global, token: &Token) -> Result<Token, AllocError>
     ensures { IfOk result (λ t. token_of t ≡ token_of token.now) }

@@ -6,7 +6,7 @@ use Rattle.glob_syntax.specs.inner.TreeBuilder.{joined, depth}
 use Rattle.glob_syntax.specs.inner.MarkViews.{marks_of}
 use Rattle.std.proofs.lemmas.List.{length-map}
 use Rattle.glob_syntax.proofs.lemmas.Lists.{head_cell}
-use Rattle.glob_syntax.proofs.lemmas.Groups.{marks_behind, whole_run, finish}
+use Rattle.glob_syntax.proofs.lemmas.Groups.{marks_of-drop, whole_run, finish}
 use Rattle.glob_syntax.proofs.groups.tokens.Goals as goal
 
 pub returns-then-is_whole_run : goal.returns-then-is_whole_run
@@ -17,10 +17,10 @@ returns-then-is_whole_run c =
 pub loop-rest-preserved : goal.loop-rest-preserved
 loop-rest-preserved c =
     let rest = c.loop-rest.rest.now in
-    let behind = ap marks_of c.behind-rest.ensures ∙ marks_behind c.in_ok-more.more (take (length rest - 1) (drop 1 rest)) in
+    let left = ap marks_of c.skip-rest.ensures ∙ marks_of-drop c.in_ok-more.more (take (length rest - 1) (drop 1 rest)) in
     record {
-      read = rw behind (c.in_ok-more.ensures.read ∙ ap (λ l. joined c.loop-rest.builder (levels zero c.loop-rest.builder.start (marks_of l))) (sym (head_cell rest _ c.in-len1-up.len_at_least)) ∙ c.loop-rest.invariant.read);
-      nests = subst (Nests (depth c.read.new.self)) (sym behind) c.in_ok-more.ensures.nests;
+      read = rw left (c.in_ok-more.ensures.read ∙ ap (λ l. joined c.loop-rest.builder (levels zero c.loop-rest.builder.start (marks_of l))) (sym (head_cell rest _ c.in-len1-up.len_at_least)) ∙ c.loop-rest.invariant.read);
+      nests = subst (Nests (depth c.read.new.self)) (sym left) c.in_ok-more.ensures.nests;
     }
 
 pub returns : goal.returns

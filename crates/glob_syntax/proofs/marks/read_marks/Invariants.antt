@@ -3,7 +3,7 @@ use Rattle.glob_syntax.specs.Marks.{marks, NoCloser}
 use Rattle.glob_syntax.specs.Nesting.{nested}
 use Rattle.glob_syntax.specs.inner.MarkViews.{marks_of}
 use Rattle.glob_syntax.proofs.lemmas.Marks.{with_front}
-use Rattle.glob_syntax.proofs.marks.marks.Given as goal
+use Rattle.glob_syntax.proofs.marks.read_marks.Given as goal
 
 abbrev pub invariant-loop-rest : goal.invariant-loop-rest
 invariant-loop-rest l = record {

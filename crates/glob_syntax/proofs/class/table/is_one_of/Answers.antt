@@ -3,7 +3,7 @@ use Rattle.std.specs.Prelude.{◌==◌}
 use Rattle.std.proofs.lemmas.Iterator.{YieldsList-from_slice}
 use Rattle.std.proofs.lemmas.Iterator.Search.{any_from_yields_List}
 use Rattle.glob_syntax.proofs.lemmas.Classes.{one_of_is}
-use Rattle.glob_syntax.proofs.class.table.is_byte_of.Goals as goal
+use Rattle.glob_syntax.proofs.class.table.is_one_of.Goals as goal
 
 pub returns : goal.returns
 returns c =

@@ -6,7 +6,7 @@ use Rattle.glob_syntax.specs.Nesting.{nested}
 use Rattle.glob_syntax.proofs.lemmas.Lists.{one_cell}
 use Rattle.glob_syntax.proofs.lemmas.UnclosedClasses.{no_closer_next}
 use Rattle.glob_syntax.proofs.lemmas.Marks.{goes_on, stops, ends_open, ends}
-use Rattle.glob_syntax.proofs.marks.marks.Goals as goal
+use Rattle.glob_syntax.proofs.marks.read_marks.Goals as goal
 
 pub returns-in-Err : goal.returns-in-Err
 returns-in-Err c =

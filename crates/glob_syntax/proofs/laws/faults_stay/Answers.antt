@@ -1,0 +1,5 @@
+use Rattle.glob_syntax.proofs.lemmas.FaultsStay.{faults_stay}
+use Rattle.glob_syntax.proofs.laws.faults_stay.Goals as goal
+
+pub returns : goal.returns
+returns c = faults_stay
