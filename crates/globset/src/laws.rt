@@ -5,6 +5,9 @@ ghost use Rattle.globset_glob.specs.Errors.{out_of_memory};
 ghost use Rattle.globset.specs.Laws.{AddKeeps, OneGlobSet, OrderRenames};
 ghost use Rattle.globset.specs.SetValue.{builder_globs};
 
+#[cfg(test)]
+mod tests;
+
 use crate::builder::GlobSetBuilder;
 use globset_glob::{Error, Glob};
 
@@ -41,11 +44,7 @@ pub fn failed_add_keeps(builder: &mut GlobSetBuilder, glob: Glob) -> Result<(), 
 
 /// After [`GlobSetBuilder::add`] returned an error, more globs can be added: this adds `other` if adding `glob` failed, and
 /// returns whether `glob` was added.
-pub fn add_after_error(
-    builder: &mut GlobSetBuilder,
-    glob: Glob,
-    other: Glob,
-) -> Result<bool, Error>
+pub fn add_after_error(builder: &mut GlobSetBuilder, glob: Glob, other: Glob) -> Result<bool, Error>
     ensures ok { IfOk result (λ first. builder_globs builder.new ≡ builder_globs builder.old ++ (if first then glob else other) ∷ []) }
     ensures kept { OnErr result (builder_globs builder.new ≡ builder_globs builder.old) }
     ensures err { IfErr result (λ e. e ≡ out_of_memory) }
