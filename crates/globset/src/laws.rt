@@ -1,6 +1,15 @@
-//! Laws of sets. Each is the contract of a function with an empty body.
+//! Laws of sets and builders, as contracts. Most of these functions have an empty body.
 
+ghost use Rattle.std.specs.Prelude.{◌≡◌, ◌∷◌, ◌++◌, [], IfOk, IfErr, OnOk, OnErr, if◌then◌else◌};
+ghost use Rattle.globset_glob.specs.Errors.{out_of_memory};
 ghost use Rattle.globset.specs.Laws.{AddKeeps, OneGlobSet, OrderRenames};
+ghost use Rattle.globset.specs.SetValue.{builder_globs};
+
+#[cfg(test)]
+mod tests;
+
+use crate::builder::GlobSetBuilder;
+use globset_glob::{Error, Glob};
 
 /// One more glob after the others adds at most its own index, at the end of the indexes. The others stay as they are.
 pub fn add_keeps()
@@ -17,3 +26,32 @@ pub fn order_renames()
 pub fn one_glob_set()
     ensures { OneGlobSet }
 {}
+
+/// After [`GlobSetBuilder::add`] returned an error, the builder has the globs that it had before the call.
+///
+/// This function calls `add` and nothing else, and its contract has plain clauses. Generated proofs can use these after an
+/// error; of the clause `lends` of `add` they use only what it says after `Ok`.
+pub fn failed_add_keeps(builder: &mut GlobSetBuilder, glob: Glob) -> Result<(), Error>
+    ensures ok { OnOk result (builder_globs builder.new ≡ builder_globs builder.old ++ glob ∷ []) }
+    ensures kept { OnErr result (builder_globs builder.new ≡ builder_globs builder.old) }
+    ensures err { IfErr result (λ e. e ≡ out_of_memory) }
+{
+    match builder.add(glob) {
+        Ok(_) => Ok(()),
+        Err(error) => Err(error),
+    }
+}
+
+/// After [`GlobSetBuilder::add`] returned an error, more globs can be added: this adds `other` if adding `glob` failed, and
+/// returns whether `glob` was added.
+pub fn add_after_error(builder: &mut GlobSetBuilder, glob: Glob, other: Glob) -> Result<bool, Error>
+    ensures ok { IfOk result (λ first. builder_globs builder.new ≡ builder_globs builder.old ++ (if first then glob else other) ∷ []) }
+    ensures kept { OnErr result (builder_globs builder.new ≡ builder_globs builder.old) }
+    ensures err { IfErr result (λ e. e ≡ out_of_memory) }
+{
+    if failed_add_keeps(builder, glob).is_ok() {
+        return Ok(true);
+    }
+    failed_add_keeps(builder, other)?;
+    Ok(false)
+}

@@ -1,5 +1,5 @@
 -- Examples of the indexes that a set returns for a path. Each row computes.
-use Rattle.std.specs.Prelude.{◌≡◌, ℕ, [], ◌∷◌, true, false, Some, refl}
+use Rattle.std.specs.Prelude.{◌≡◌, [], ◌∷◌, true, false, Some, refl}
 use Rattle.globset.specs.Work.{most_set_visits}
 use Rattle.globset.proofs.examples.Words.{globs_on_literals, utf8, glob, insensitive, separated, globs, indexes, all_listed}
 

@@ -1,6 +1,5 @@
 -- Examples of sets from JSON values. Each row computes.
 use Rattle.std.specs.Prelude.{◌≡◌, [], ◌∷◌, Ok, Err, codes, refl}
-use Rattle.std.specs.Char.{encode_utf8}
 use Rattle.serde_json.specs.Data.{number, unsigned, string, array, object, no_items, item, no_members}
 use Rattle.glob_syntax.specs.declared.fault.Fault.TheVariants.{UnclosedClass}
 use Rattle.globset_glob.specs.declared.json.error.ValueErrorKind.TheVariants.{Glob}

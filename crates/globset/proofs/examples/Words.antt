@@ -1,7 +1,7 @@
 -- The words in which the examples are written.
 use Rattle.std.specs.Prelude.{ℕ, Bool, true, List, [], ◌∷◌, length, is_ok, codes, encode_utf8_all, if◌then◌else◌, Option, None, Some, ◌==◌}
 use Rattle.std.specs.Char.{encode_utf8}
-use Rattle.std.specs.List.{list_all, range_with_len}
+use Rattle.std.specs.List.{list_all}
 use Rattle.std.specs.Str.{chars}
 use Prim.Native.String.{String}
 use Rattle.glob_syntax.specs.declared.options.Options.{Options}
