@@ -1,4 +1,5 @@
 -- Lemmas by topic.
+pub mod Or
 pub mod Lines
 pub mod Output
 pub mod Written

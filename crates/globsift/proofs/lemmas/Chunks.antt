@@ -11,7 +11,8 @@ use Rattle.globset.specs.Means.{GlobValue}
 use Rattle.globsift.specs.Output.{is_matched, line_output, sifted, has_match}
 use Rattle.globsift.specs.inner.Sifting.{FailsMidway, WritesAllBut, Handles}
 use Rattle.globsift.specs.declared.sifting.fault.SiftFault.{SiftFault}
-use Rattle.globsift.proofs.lemmas.Lines.{found_lf, not_found, or_nothing}
+use Rattle.globsift.proofs.lemmas.Lines.{found_lf, not_found}
+use Rattle.globsift.proofs.lemmas.Or.{or_nothing}
 use Rattle.globsift.proofs.lemmas.Output.{sifted-nil, has_match-nil, sifted-rest, has_match-rest}
 use Rattle.globsift.proofs.lemmas.Handling.{Handles-start, Handles-line, Handles-trans, Handles-fails, FailsMidway-line}
 

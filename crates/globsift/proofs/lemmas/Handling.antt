@@ -11,7 +11,8 @@ use Rattle.globsift.specs.Output.{is_matched, line_output, sifted, has_match}
 use Rattle.globsift.specs.inner.Sifting.{FailsMidway, WritesAllBut, Handles}
 use Rattle.globsift.specs.declared.sifting.fault.SiftFault.{SiftFault}
 use Rattle.globsift.specs.declared.sifting.fault.SiftFault.TheVariants.{OutOfMemory}
-use Rattle.globsift.proofs.lemmas.Lines.{found_lf, not_found, or_assoc, or_nothing, last_rest, IsWholeLines-nil, IsWholeLines-line, IsWholeLines-append}
+use Rattle.globsift.proofs.lemmas.Lines.{found_lf, not_found, last_rest, IsWholeLines-nil, IsWholeLines-line, IsWholeLines-append}
+use Rattle.globsift.proofs.lemmas.Or.{or_assoc, or_nothing}
 use Rattle.globsift.proofs.lemmas.Output.{sifted-nil, has_match-nil, sifted-append, has_match-append, sifted-line, has_match-line}
 use Rattle.globsift.proofs.lemmas.Written.{FailsMidway-more, FailsMidway-after, FailsMidway-memory, Appends-drained}
 

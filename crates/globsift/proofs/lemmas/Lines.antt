@@ -5,28 +5,9 @@ use Rattle.std.proofs.lemmas.Bool.{eqb-true, true≢false, cases_Bool}
 use Rattle.std.proofs.lemmas.List.{length-take, get_or-take, take-append-drop}
 use Rattle.std.proofs.Math.Seq.{drop-cons}
 use Rattle.memchr.specs.Find.{IsFirstByte, is_byte}
+use Rattle.globsift.proofs.lemmas.Or.{or_false, or_true}
 use Rattle.globsift.specs.Lines.{lines, is_lf, through_last_lf}
 use Rattle.globsift.specs.inner.Sifting.{IsWholeLines}
-
--- neither side is true
-pub or_false : (a b : Bool) → (a || b) ≡ false → (a ≡ false) × (b ≡ false)
-or_false true b e = absurd (true≢false e)
-or_false false b e = (refl, e)
-
--- the second side is true
-pub or_true : (a b : Bool) → b ≡ true → (a || b) ≡ true
-or_true true b e = refl
-or_true false b e = e
-
--- `||` of three
-pub or_assoc : (a b c : Bool) → ((a || b) || c) ≡ (a || (b || c))
-or_assoc true b c = refl
-or_assoc false b c = refl
-
--- `false` on the right changes nothing
-pub or_nothing : (a : Bool) → (a || false) ≡ a
-or_nothing true = refl
-or_nothing false = refl
 
 -- a line with its LF, and then more
 pub lines_line : (line rest : List ℕ) → list_any is_lf line ≡ false → lines (line ++ 10 ∷ rest) ≡ line ∷ lines rest

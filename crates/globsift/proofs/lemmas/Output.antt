@@ -8,7 +8,8 @@ use Rattle.globset.specs.Answer.{answer}
 use Rattle.globset.specs.Means.{GlobValue}
 use Rattle.globsift.specs.Output.{is_matched, index_column, line_output, sifted, has_match}
 use Rattle.globsift.specs.inner.Sifting.{IsWholeLines}
-use Rattle.globsift.proofs.lemmas.Lines.{or_true, or_nothing, lines_line, lines_rest}
+use Rattle.globsift.proofs.lemmas.Lines.{lines_line, lines_rest}
+use Rattle.globsift.proofs.lemmas.Or.{or_true, or_nothing}
 
 -- the output for no bytes
 pub sifted-nil : (globs : List GlobValue) (numbered : Bool) → sifted globs numbered [] ≡ []

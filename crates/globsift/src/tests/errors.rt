@@ -2,87 +2,56 @@
 
 use super::arguments_of;
 use crate::command::command;
-use crate::command::fault::CommandFault;
 use crate::fault::Fault;
 use crate::sifting::fault::SiftFault;
 use std::alloc::{AllocError, Global};
 use std::test::Fail;
 
-/// Command lines with the texts of their errors.
-const TEXTS: &str = "\
-globsift => no glob given
-globsift -x a => unknown option '-x'
-globsift {a => error parsing glob '{a': unclosed alternate group; missing '}' (maybe escape '{' with '[{]'?)
-globsift --set => --set takes a text
-globsift --set [] a => --set stands alone or beside -n
-globsift --set [ => not a JSON text
-globsift --set {} => expected an array of glob patterns
-globsift --set [\"*.rs\",7] => element 1: expected a glob pattern
+/// Command lines, what `Debug` shows of their errors, and the texts of these.
+const ROWS: &str = "\
+globsift => NoGlob: no glob given
+globsift -x a => UnknownOption(\"-x\"): unknown option '-x'
+globsift a [ => Glob(Error { glob: Some(\"[\"), kind: UnclosedClass }): error parsing glob '[': unclosed character class; missing ']'
+globsift --set => SetWithoutText: --set takes a text
+globsift --set [] a => SetNotAlone: --set stands alone or beside -n
+globsift --set [ => NotJson: not a JSON text
+globsift --set {} => Value(ValueError { index: None, kind: NotArray }): expected an array of glob patterns
+globsift --set [\"*.rs\",7] => Value(ValueError { index: Some(1), kind: NotText }): element 1: expected a glob pattern
 globsift -n * => accepted";
 
-/// Command lines with what `Debug` shows of their errors.
-const SHOWN: &str = "\
-globsift => NoGlob
-globsift -x a => UnknownOption(\"-x\")
-globsift a [ => Glob(Error { glob: Some(\"[\"), kind: UnclosedClass })
-globsift --set => SetWithoutText
-globsift --set [] a => SetNotAlone
-globsift --set [ => NotJson
-globsift --set {} => Value(ValueError { index: None, kind: NotArray })
-globsift -n * => accepted";
-
-/// The error of a command line: its text and what `Debug` shows, or twice `accepted`.
-fn error_of(alloc: Global, line: &str) -> Result<(String, String), Fail> {
+/// What `Debug` shows of a command line's error, and the text of the error; or `accepted`.
+fn error_of(alloc: Global, line: &str) -> Result<String, AllocError> {
     let arguments = arguments_of(alloc, line)?;
     match command(alloc, &arguments) {
-        Ok(_) => Ok((
-            String::from_str(alloc, "accepted")?,
-            String::from_str(alloc, "accepted")?,
-        )),
-        Err(fault) => Ok((fault.to_string(alloc)?, format!(in alloc; "{fault:?}")?)),
+        Ok(_) => String::from_str(alloc, "accepted"),
+        Err(fault) => format!(in alloc; "{fault:?}: {fault}"),
     }
 }
 
 #[test]
-fn texts(rt: HostRuntime) -> Result<(), Fail> {
-    for row in TEXTS.lines() {
-        let (line, text) = row.split_once(" => ").unwrap_or((row, ""));
-        assert_eq!(rt; error_of(rt.alloc(), line)?.0.as_str(), text, "of {row}");
+fn of_command(rt: HostRuntime) -> Result<(), Fail> {
+    for row in ROWS.lines() {
+        let (line, wanted) = row.split_once(" => ").unwrap_or((row, ""));
+        assert_eq!(rt; error_of(rt.alloc(), line)?.as_str(), wanted, "of {row}");
     }
     Ok(())
 }
 
-#[test]
-fn shown_by_debug(rt: HostRuntime) -> Result<(), Fail> {
-    for row in SHOWN.lines() {
-        let (line, shown) = row.split_once(" => ").unwrap_or((row, ""));
-        assert_eq!(rt; error_of(rt.alloc(), line)?.1.as_str(), shown, "of {row}");
-    }
-    Ok(())
-}
-
-/// The texts of the errors of `sift`, and what `Debug` shows of them.
-const SIFT_FAULTS: [(SiftFault, &str, &str); 3] = [
-    (SiftFault::Read, "reading failed", "Sift(Read)"),
-    (SiftFault::Write, "writing failed", "Sift(Write)"),
-    (SiftFault::OutOfMemory, "out of memory", "Sift(OutOfMemory)"),
+/// The errors of `sift`, and what `Debug` shows of them, and their texts.
+const SIFT_FAULTS: [(SiftFault, &str); 3] = [
+    (SiftFault::Read, "Sift(Read): reading failed"),
+    (SiftFault::Write, "Sift(Write): writing failed"),
+    (SiftFault::OutOfMemory, "Sift(OutOfMemory): out of memory"),
 ];
 
 #[test]
 fn of_sift(rt: HostRuntime) -> Result<(), Fail> {
-    for (fault, text, shown) in SIFT_FAULTS {
+    for (fault, wanted) in SIFT_FAULTS {
         let fault = Fault::from(fault);
-        assert_eq!(rt; fault.to_string(rt.alloc())?.as_str(), text, "of {shown}");
         assert_eq!(rt;
-            format!(in rt.alloc(); "{fault:?}")?.as_str(),
-            shown,
-            "of {text}"
+            format!(in rt.alloc(); "{fault:?}: {fault}")?.as_str(),
+            wanted
         );
     }
-    let fault = Fault::from(CommandFault::NoGlob);
-    assert_eq!(rt;
-        format!(in rt.alloc(); "{fault:?} {fault}")?.as_str(),
-        "Command(NoGlob) no glob given"
-    );
     Ok(())
 }
