@@ -8,7 +8,8 @@ use std::alloc::{AllocError, Global};
 
 /// Returns equal tokens with memory of their own.
 ///
-/// Returns an error if memory runs out.
+/// This takes time and memory linear in the tokens, and a stack that grows with the depth of their groups. Returns an error
+/// if memory runs out.
 #[cycle(copies)]
 pub fn copy_of(alloc: Global, tokens: &[Token]) -> Result<Vec<Token>, AllocError>
     ensures { IfOk result (λ v. tokens_of v.items ≡ tokens_of tokens.now) }
