@@ -13,8 +13,9 @@ is_listed g path = not (silent g) && glob_means g path
 abbrev pub is_listed_at : List GlobValue → List ℕ → ℕ → Bool
 is_listed_at globs path i = option_map_or (λ g. is_listed g path) (slice_get globs i) false
 
--- The indexes of the globs that are not silent and match the path: of the indexes 0, 1, .. below the number of globs, those
--- that are listed, in this order. So they ascend, no index is there twice, and equal globs are all there or all not.
+-- The indexes of the globs that are not silent and match the path: of the indexes 0, 1, .. below the number of globs,
+-- those that are listed, in this order. So they ascend, no index is there twice, and equal globs are all there or all
+-- not.
 unfoldable pub answer : List GlobValue → List ℕ → List ℕ
 answer globs path = filter (is_listed_at globs path) (range_with_len 0 (length globs))
 

@@ -9,18 +9,18 @@ abbrev pub AddKeeps : Type 0
 AddKeeps = (globs : List GlobValue) (g : GlobValue) (path : List ℕ)
     → answer (globs ++ g ∷ []) path ≡ answer globs path ++ (if is_listed g path then length globs ∷ [] else [])
 
--- The second list has the globs of the first in another order, and `to` says where each one goes: the glob at index i of the
--- first list is at index `to i` of the second. The renaming is one to one: `to` takes the indexes of the first list to indexes
--- of the second, no two of them to the same one, and leaves none of the second out. So the lists are equally long, and a glob
--- that is in the first list several times is in the second as often.
+-- The second list has the globs of the first in another order, and `to` says where each one goes: the glob at index i
+-- of the first list is at index `to i` of the second. The renaming is one to one: `to` takes the indexes of the first
+-- list to indexes of the second, no two of them to the same one, and leaves none of the second out. So the lists are
+-- equally long, and a glob that is in the first list several times is in the second as often.
 pub record IsReordered (first second : List GlobValue) (to : ℕ → ℕ) : Type 0 where
   pub same_glob : (i : ℕ) → i < length first → slice_get second (to i) ≡ slice_get first i
   pub in_range : (i : ℕ) → i < length first → to i < length second
   pub one_to_one : (i j : ℕ) → i < length first → j < length first → to i ≡ to j → i ≡ j
   pub onto : (j : ℕ) → j < length second → (i : ℕ) × (i < length first) × (to i ≡ j)
 
--- In another order, the indexes are the same ones renamed: j is an index of the second list's answer if and only if it is
--- `to i` for an index i of the first list's answer.
+-- In another order, the indexes are the same ones renamed: j is an index of the second list's answer if and only if it
+-- is `to i` for an index i of the first list's answer.
 abbrev pub OrderRenames : Type 0
 OrderRenames = (first second : List GlobValue) (to : ℕ → ℕ) (path : List ℕ) → IsReordered first second to
     → (j : ℕ) → Contains (answer second path) j ↔ ((i : ℕ) × Contains (answer first path) i × (to i ≡ j))

@@ -9,8 +9,8 @@ abbrev pub ahead_of : GlobValue → Result (List GlobValue) ValueErrorValue → 
 ahead_of g (Ok globs) = Ok (g ∷ globs)
 ahead_of g (Err e) = Err e
 
--- The globs of the elements of an array, in order, or the error of the first element that is not a glob, with its index. The
--- number is the index of the first of these elements.
+-- The globs of the elements of an array, in order, or the error of the first element that is not a glob, with its
+-- index. The number is the index of the first of these elements.
 abbrev pub globs_from : ℕ → Items → Result (List GlobValue) ValueErrorValue
 globs_from i no_items = Ok []
 globs_from i (item value values) = elim (glob_of_value value) [ Ok g ↦ ahead_of g (globs_from (i + 1) values) | Err e ↦ Err (at_index i e) ]

@@ -2,8 +2,8 @@
 use Rattle.std.specs.Prelude.{List}
 use Rattle.globset_glob.specs.Means.{GlobValue}
 
--- A set is seen as the list of its globs, each a text and options. The first has index 0. Two sets are equal if their lists
--- are.
+-- A set is seen as the list of its globs, each a text and options. The first has index 0. Two sets are equal if their
+-- lists are.
 abbrev pub SetValue : Type 0
 SetValue = List GlobValue
 

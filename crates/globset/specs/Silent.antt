@@ -14,8 +14,8 @@ is_dot RecursiveZeroOrMore = false
 is_dot (Class negated rs) = false
 is_dot (Group bs) = false
 
--- The tokens are RecursivePrefix, the literal `.` and the literal `.`, and no more. `**/..`, `**/**/..` and `**/\..` all have
--- these tokens.
+-- The tokens are RecursivePrefix, the literal `.` and the literal `.`, and no more. `**/..`, `**/**/..` and `**/\..`
+-- all have these tokens.
 abbrev pub is_prefix_dot_dot : Tokens → Bool
 is_prefix_dot_dot end = false
 is_prefix_dot_dot (and_then t end) = false
@@ -23,8 +23,8 @@ is_prefix_dot_dot (and_then t (and_then u end)) = false
 is_prefix_dot_dot (and_then t (and_then u (and_then v end))) = is_prefix t && (is_dot u && is_dot v)
 is_prefix_dot_dot (and_then t (and_then u (and_then v (and_then w ts)))) = false
 
--- The glob is silent: no set returns its index, for any path. This depends on the glob's tokens and on `case_insensitive`,
--- and not on how the text is spelled. `**/[.][.]` matches the same paths as `**/..` and is not silent. A matcher of one
--- glob ignores this.
+-- The glob is silent: no set returns its index, for any path. This depends on the glob's tokens and on
+-- `case_insensitive`, and not on how the text is spelled. `**/[.][.]` matches the same paths as `**/..` and is not
+-- silent. A matcher of one glob ignores this.
 unfoldable pub silent : GlobValue → Bool
 silent g = not g.options.case_insensitive && is_prefix_dot_dot (tokens_of_glob g)

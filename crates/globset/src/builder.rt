@@ -45,8 +45,8 @@ impl GlobSetBuilder {
 
     /// Adds a glob after the others, and returns the builder, so that calls can be chained.
     ///
-    /// Returns an error if memory runs out, and no other. The builder then has the globs that it had before the call, and
-    /// the new glob is dropped.
+    /// Returns an error if memory runs out, and no other. The builder then has the globs that it had before the call,
+    /// and the new glob is dropped.
     pub fn add(&mut self, glob: Glob) -> Result<&mut GlobSetBuilder, Error>
         ensures* lends { sem 𝓛 (LendsItself self.entry result) }
         ensures ok { IfOk result (λ b. (b.ghost_name ≡ self.entry.ghost_name)
@@ -59,8 +59,8 @@ impl GlobSetBuilder {
         }
     }
 
-    /// Returns the set of the globs that were added, in order. They are copied: the builder is unchanged, and more globs can
-    /// be added to it.
+    /// Returns the set of the globs that were added, in order. They are copied: the builder is unchanged, and more
+    /// globs can be added to it.
     ///
     /// Returns an error if memory runs out, and no other.
     pub fn build(&self) -> Result<GlobSet, Error>

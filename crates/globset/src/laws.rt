@@ -21,16 +21,16 @@ pub fn order_renames()
     ensures { OrderRenames }
 {}
 
-/// If the only glob of a set is not silent, the set matches the paths that the glob's matcher matches: the indexes are `[0]`
-/// on these paths, and none on all others.
+/// If the only glob of a set is not silent, the set matches the paths that the glob's matcher matches: the indexes are
+/// `[0]` on these paths, and none on all others.
 pub fn one_glob_set()
     ensures { OneGlobSet }
 {}
 
 /// After [`GlobSetBuilder::add`] returned an error, the builder has the globs that it had before the call.
 ///
-/// This function calls `add` and nothing else, and its contract has plain clauses. Generated proofs can use these after an
-/// error; of the clause `lends` of `add` they use only what it says after `Ok`.
+/// This function calls `add` and nothing else. Its contract has plain clauses, which generated proofs of callers can
+/// use. They cannot use the clause `lends` of `add`, which says the same of the builder: only a proof by hand can.
 pub fn failed_add_keeps(builder: &mut GlobSetBuilder, glob: Glob) -> Result<(), Error>
     ensures ok { OnOk result (builder_globs builder.new ≡ builder_globs builder.old ++ glob ∷ []) }
     ensures kept { OnErr result (builder_globs builder.new ≡ builder_globs builder.old) }
@@ -42,10 +42,11 @@ pub fn failed_add_keeps(builder: &mut GlobSetBuilder, glob: Glob) -> Result<(), 
     }
 }
 
-/// After [`GlobSetBuilder::add`] returned an error, more globs can be added: this adds `other` if adding `glob` failed, and
-/// returns whether `glob` was added.
+/// After [`GlobSetBuilder::add`] returned an error, more globs can be added: this adds `other` if adding `glob` failed,
+/// and returns whether `glob` was added.
 pub fn add_after_error(builder: &mut GlobSetBuilder, glob: Glob, other: Glob) -> Result<bool, Error>
-    ensures ok { IfOk result (λ first. builder_globs builder.new ≡ builder_globs builder.old ++ (if first then glob else other) ∷ []) }
+    ensures ok { IfOk result (λ first.
+        builder_globs builder.new ≡ builder_globs builder.old ++ (if first then glob else other) ∷ []) }
     ensures kept { OnErr result (builder_globs builder.new ≡ builder_globs builder.old) }
     ensures err { IfErr result (λ e. e ≡ out_of_memory) }
 {

@@ -1,6 +1,7 @@
 //! Globs: which paths match a pattern such as `src/**/*.{c,h}`.
 //!
-//! - A [`Glob`] is one parsed pattern: [`Glob::new`] parses it under the default options, and [`GlobBuilder`] under others.
+//! - A [`Glob`] is one parsed pattern: [`Glob::new`] parses it under the default options, and [`GlobBuilder`] under
+//!   others.
 //! - A [`GlobMatcher`] matches one glob against paths.
 //! - A [`GlobSet`] matches many globs against a path at once.
 //! - [`escape`] returns a pattern that matches the given text and nothing else.

@@ -24,9 +24,9 @@ use std::marker::Model;
 ///
 /// Contracts see the list of the globs.
 ///
-/// [`GlobSet::matches`] returns the indexes of the globs that match a path. Silent globs are left out: a glob is silent if
-/// it is case-sensitive and is parsed like `**/..`. It counts in [`GlobSet::len`], so [`GlobSet::matches_all`] is false on
-/// every path if the set has a silent glob.
+/// [`GlobSet::matches`] returns the indexes of the globs that match a path. Silent globs are left out: a glob is silent
+/// if it is case-sensitive and is parsed like `**/..`. It counts in [`GlobSet::len`], so [`GlobSet::matches_all`] is
+/// false on every path if the set has a silent glob.
 ///
 /// ```text
 /// let set = GlobSet::new(alloc, [&Glob::new(alloc, "*.c")?, &Glob::new(alloc, "src/*")?])?;
@@ -80,8 +80,8 @@ impl GlobSet {
 
     /// Returns the set of these globs, in order, each with its own options. The globs are copied.
     ///
-    /// The iterator has to end, and its items have to be known to the prover: those of a slice, of a `Vec` and of iterators
-    /// over either are.
+    /// The iterator has to end, and its items have to be known to the prover: those of a slice, of a `Vec` and of
+    /// iterators over either are.
     ///
     /// Returns an error if memory runs out, and no other.
     pub fn new<'g, I: IntoIterator<Item = &'g Glob>>(

@@ -1,4 +1,5 @@
--- For proofs by hand: a parameter that is passed by value, of which nothing is left at the return and nothing is said there.
+-- For proofs by hand: a parameter that is passed by value, of which nothing is left at the return and nothing is said
+-- there.
 use Prim.Native.Nat.{ℕ}
 use mathlib.Core.Path.{◌≡◌, refl}
 use mathlib.Core.List.{List, [], ◌∷◌}

@@ -10,8 +10,8 @@ use crate::set::GlobSet;
 use globset_glob::{AsPath, Candidate, Error, Visits};
 
 impl GlobSet {
-    /// Returns whether every glob matches the path and none is silent: whether [`GlobSet::matches`] would return every index
-    /// below [`GlobSet::len`]. It is true if the set has no globs.
+    /// Returns whether every glob matches the path and none is silent: whether [`GlobSet::matches`] would return every
+    /// index below [`GlobSet::len`]. It is true if the set has no globs.
     ///
     /// Returns an error if memory runs out, and no other. A set of no globs needs no memory.
     pub fn matches_all<P: AsPath>(&self, path: P) -> Result<bool, Error>
@@ -38,9 +38,9 @@ impl GlobSet {
 
     /// The same as [`GlobSet::matches_all_candidate`], which calls it, with a count of the visits.
     ///
-    /// It adds at most `path bytes + 1` times the sum of `4 * glob bytes + 4` over the globs, also if memory runs out. It
-    /// tries the globs in order and stops at the first that is silent or does not match. It holds the memory of one matcher
-    /// at a time.
+    /// It adds at most `path bytes + 1` times the sum of `4 * glob bytes + 4` over the globs, also if memory runs out.
+    /// It tries the globs in order and stops at the first that is silent or does not match. It holds the memory of one
+    /// matcher at a time.
     ///
     /// Returns an error if memory runs out, and no other. A set of no globs needs no memory.
     pub fn matches_all_visits(

@@ -10,7 +10,8 @@ use crate::set::GlobSet;
 use globset_glob::{AsPath, Candidate, Error, Visits};
 
 impl GlobSet {
-    /// Returns whether some glob that is not silent matches the path: whether [`GlobSet::matches`] would return an index.
+    /// Returns whether some glob that is not silent matches the path: whether [`GlobSet::matches`] would return an
+    /// index.
     ///
     /// To match several sets against one path, or against bytes that are not UTF-8, create a [`Candidate`] and call
     /// [`GlobSet::is_match_candidate`].
@@ -38,9 +39,9 @@ impl GlobSet {
 
     /// The same as [`GlobSet::is_match_candidate`], which calls it, with a count of the visits.
     ///
-    /// It adds at most `path bytes + 1` times the sum of `4 * glob bytes + 4` over the globs, also if memory runs out. It
-    /// tries the globs in order and stops at the first that is not silent and matches. It holds the memory of one matcher at
-    /// a time.
+    /// It adds at most `path bytes + 1` times the sum of `4 * glob bytes + 4` over the globs, also if memory runs out.
+    /// It tries the globs in order and stops at the first that is not silent and matches. It holds the memory of one
+    /// matcher at a time.
     ///
     /// Returns an error if memory runs out, and no other. A set of no globs needs no memory.
     pub fn is_match_visits(&self, path: &Candidate<'_>, visits: &mut Visits) -> Result<bool, Error>

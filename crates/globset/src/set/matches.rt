@@ -43,7 +43,7 @@ impl GlobSet {
     pub fn matches_into<P: AsPath>(&self, path: P, into: &mut Vec<usize>) -> Result<(), Error>
         ensures ok { OnOk result (into.new.items ≡ answer (set_globs self.now) (P.text path)) }
         ensures err { IfErr result (λ e. e ≡ out_of_memory) }
-        ensures refused { OnErr result (into.new.items ≡ []) }
+        ensures cleared { OnErr result (into.new.items ≡ []) }
     {
         self.matches_candidate_into(&Candidate::new(path.path_text()), into)
     }
@@ -59,7 +59,7 @@ impl GlobSet {
     ) -> Result<(), Error>
         ensures ok { OnOk result (into.new.items ≡ answer (set_globs self.now) path.now) }
         ensures err { IfErr result (λ e. e ≡ out_of_memory) }
-        ensures refused { OnErr result (into.new.items ≡ []) }
+        ensures cleared { OnErr result (into.new.items ≡ []) }
     {
         let mut visits = Visits::new();
         self.matches_visits(path, into, &mut visits)
@@ -67,8 +67,9 @@ impl GlobSet {
 
     /// The same as [`GlobSet::matches_candidate_into`], which calls it, with a count of the visits.
     ///
-    /// It adds at most `path bytes + 1` times the sum of `4 * glob bytes + 4` over the globs, also if memory runs out. It
-    /// tries every glob, in order. It holds the memory of one matcher at a time, and grows the vector for the indexes.
+    /// It adds at most `path bytes + 1` times the sum of `4 * glob bytes + 4` over the globs, also if memory runs out.
+    /// It tries every glob, in order. It holds the memory of one matcher at a time, and grows the vector for the
+    /// indexes.
     ///
     /// Returns an error if memory runs out, and no other. The vector is then empty.
     pub fn matches_visits(
@@ -79,7 +80,7 @@ impl GlobSet {
     ) -> Result<(), Error>
         ensures ok { OnOk result (into.new.items ≡ answer (set_globs self.now) path.now) }
         ensures err { IfErr result (λ e. e ≡ out_of_memory) }
-        ensures refused { OnErr result (into.new.items ≡ []) }
+        ensures cleared { OnErr result (into.new.items ≡ []) }
         ensures visits { visits.new ≤ visits.old + most_set_visits (set_globs self.now) path.now }
     {
         into.clear();
