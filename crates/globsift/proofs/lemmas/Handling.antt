@@ -5,7 +5,7 @@ use Rattle.std.specs.Io.KnownBytes.{Appends}
 use Rattle.std.proofs.KnownBytes.{Appends-nil, Appends-trans}
 use Rattle.std.proofs.lemmas.List.{take_rest}
 use Rattle.memchr.specs.Find.{IsFirstByte, is_byte}
-use Rattle.globsift.specs.Lines.{lines, is_lf, through_last_lf}
+use Rattle.globsift.specs.Lines.{is_lf, through_last_lf}
 use Rattle.globset.specs.Means.{GlobValue}
 use Rattle.globsift.specs.Output.{is_matched, line_output, sifted, has_match}
 use Rattle.globsift.specs.inner.Sifting.{FailsMidway, WritesAllBut, Handles}

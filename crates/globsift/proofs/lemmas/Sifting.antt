@@ -1,5 +1,5 @@
 -- The whole call: what was read and written.
-use Rattle.std.proofs.Common.{◌≡◌, ℕ, ◌+◌, ◌-◌, take, List, [], ◌++◌, length, Bool, false, ◌||◌, ap, ◌∙◌, sym, subst, append_assoc, append-nil, Option, Result, Ok, Err, MatchResult}
+use Rattle.std.proofs.Common.{◌≡◌, ℕ, take, List, [], ◌++◌, length, Bool, false, ◌||◌, ap, ◌∙◌, sym, subst, append_assoc, append-nil, Option, Result, Ok, Err, MatchResult}
 use Rattle.std.specs.Io.KnownBytes.{Appends, Consumes, IsAtEnd}
 use Rattle.std.proofs.KnownBytes.{Appends-trans, Consumes-nil, Consumes-trans}
 use Rattle.std.proofs.lemmas.List.{take_at}

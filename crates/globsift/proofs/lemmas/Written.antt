@@ -1,5 +1,5 @@
 -- Written bytes, pending bytes and errors.
-use Rattle.std.proofs.Common.{◌≡◌, ℕ, ◌+◌, ◌-◌, List, [], ◌++◌, ap, ◌∙◌, sym, subst, append_assoc, append-nil, refl, Option}
+use Rattle.std.proofs.Common.{◌≡◌, ℕ, List, [], ◌++◌, ap, ◌∙◌, sym, subst, append_assoc, append-nil, refl, Option}
 use Rattle.std.specs.Io.KnownBytes.{Appends}
 use Rattle.std.proofs.KnownBytes.{Appends-nil, Appends-trans}
 use Rattle.globsift.specs.Output.{AppendsPrefix}
