@@ -8,7 +8,7 @@ ghost use Rattle.std.specs.Hash as fed;
 ghost use Rattle.std.proofs.Common.{rules};
 ghost use Rattle.std.proofs.lemmas.Cmp.{and_equiv, on_equiv, nat_list_eq_equiv};
 ghost use Rattle.glob_syntax.specs.contracts.options.OptionsEq.TheImpl.Laws.{laws-law};
-ghost use Rattle.globset_glob.specs.Equality.{same_glob};
+ghost use Rattle.globset_glob.specs.inner.Equality.{same_glob};
 ghost use Rattle.globset_glob.specs.Errors.{out_of_memory, IsRefusalOf};
 ghost use Rattle.globset_glob.specs.Means.{tokens_of_glob, glob_means};
 
