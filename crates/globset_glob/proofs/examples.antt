@@ -1,9 +1,17 @@
 pub mod Words
 pub mod Unfoldings
+mod Backslashes
+mod Case
+mod Classes
 mod Escape
-mod Meaning
-mod MeaningByTopic
+mod Groups
+mod Literals
+mod ParentDirectories
 mod Paths
+mod Recursive
 mod RegexTexts
+mod Separator
 mod SmallRegex
 mod Values
+mod Visits
+mod Wildcards

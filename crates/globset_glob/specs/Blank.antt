@@ -1,9 +1,9 @@
--- Branches that say nothing.
+-- Blank branches of groups, which match only under `empty_alternates`.
 use Rattle.std.specs.Prelude.{Bool, true, false, ◌&&◌, ◌||◌, not}
 use Rattle.glob_syntax.specs.declared.options.Options.{Options}
 use Rattle.glob_syntax.specs.Token.{Token, Literal, Any, ZeroOrMore, RecursivePrefix, RecursiveSuffix, RecursiveZeroOrMore, Class, Group, Tokens, end, and_then, Branches, none, branch}
 
--- A blank branch holds groups at most, and nothing but blank branches in these. The smallest one is empty.
+-- A branch is blank if each of its tokens is a group whose branches are all blank. An empty branch is blank.
 abbrev mutual
   pub is_blank_token : Token → Bool
   is_blank_token (Group bs) = are_blank bs
@@ -23,11 +23,11 @@ abbrev mutual
   are_blank none = true
   are_blank (branch ts bs) = is_blank ts && are_blank bs
 
--- a kept branch is any under `empty_alternates`, else one that is not blank
+-- A branch is kept if it is not blank, or under `empty_alternates`.
 abbrev pub is_kept : Options → Tokens → Bool
 is_kept o ts = o.empty_alternates || not (is_blank ts)
 
--- some branch is kept
+-- a group with these branches has a kept branch
 abbrev pub any_kept : Options → Branches → Bool
 any_kept o none = false
 any_kept o (branch ts bs) = is_kept o ts || any_kept o bs

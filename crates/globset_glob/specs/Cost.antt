@@ -1,11 +1,11 @@
--- How many visits matching may make.
+-- The bound on the visits of a matcher.
 use Rattle.std.specs.Prelude.{ℕ, ◌+◌, ◌*◌, List, length}
 use Rattle.globset_glob.specs.Means.{GlobValue}
 
--- The most visits at one place of a path, by the bytes of the glob's text.
+-- the most visits at one position of a path: 4 for each byte of the glob's text, and 4
 abbrev pub cost : GlobValue → ℕ
 cost g = 4 * length g.text + 4
 
--- The most visits on a path, which has one place more than bytes.
+-- The most visits for a path. It has one position more than it has bytes.
 abbrev pub most_visits : GlobValue → List ℕ → ℕ
 most_visits g path = (length path + 1) * cost g

@@ -1,4 +1,4 @@
--- What a glob means: which paths, each a list of bytes.
+-- Which paths a glob matches. A path is a list of bytes.
 use Rattle.std.specs.Prelude.{ℕ, Bool, true, false, ◌||◌, List, Ok, Err, IsOk}
 use Rattle.std.specs.Str.{chars}
 use Rattle.glob_syntax.specs.declared.options.Options.{Options}
@@ -11,6 +11,7 @@ pub record GlobValue : Type 0 where
   pub text : List ℕ
   pub options : Options
 
+-- the token is RecursivePrefix
 abbrev pub is_prefix : Token → Bool
 is_prefix RecursivePrefix = true
 is_prefix (Literal c) = false
@@ -21,20 +22,20 @@ is_prefix RecursiveZeroOrMore = false
 is_prefix (Class negated rs) = false
 is_prefix (Group bs) = false
 
--- the only token is RecursivePrefix
+-- RecursivePrefix is the only token
 abbrev pub is_prefix_alone : Tokens → Bool
 is_prefix_alone end = false
 is_prefix_alone (and_then t end) = is_prefix t
 is_prefix_alone (and_then t (and_then u ts)) = false
 
--- The tokens of a whole glob mean these bytes: RecursivePrefix alone, as of `**` and `**/`, means everything, and other
--- tokens mean what they take, one after another.
+-- The tokens of a whole glob match the path. RecursivePrefix alone, as in `**` and `**/`, matches every path. Other tokens
+-- match a path if they match it one after another.
 abbrev pub means : Options → Tokens → List ℕ → Bool
 means o ts path = is_prefix_alone ts || takes_all o ts path
 
--- ---- of a glob
+-- ---- globs
 
--- the options that a glob has if none is set: `\` escapes, and the others are off
+-- the options of a glob if none is set: `\` escapes, and the others are off
 abbrev pub default_options : Options
 default_options = record {
   case_insensitive = false;
@@ -44,18 +45,18 @@ default_options = record {
   allow_unclosed_class = false;
 }
 
--- the glob of a text under the default options
+-- the glob with this text and the default options
 abbrev pub default_glob : List ℕ → GlobValue
 default_glob text = record { text = text; options = default_options }
 
--- its text has a reading under its options. Every `Glob` has one.
+-- The text has a reading under the options. That of every `Glob` has one.
 abbrev pub IsRead : GlobValue → Type 0
 IsRead g = IsOk (reading g.options (chars g.text))
 
--- Its tokens. A text with a fault has none, but then it is no glob.
+-- The tokens that the text is read as. A text with a fault gets no tokens here, but no `Glob` has such a text.
 unfoldable pub tokens_of_glob : GlobValue → Tokens
 tokens_of_glob g = elim (reading g.options (chars g.text)) [ Ok ts ↦ ts | Err f ↦ end ]
 
--- It means the path. This is asked of a text that has a reading, as that of every `Glob` has.
+-- The glob matches the path. This says something only of a text that has a reading, and that of every `Glob` has one.
 unfoldable pub glob_means : GlobValue → List ℕ → Bool
 glob_means g path = means g.options (tokens_of_glob g) path

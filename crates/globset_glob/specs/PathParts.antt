@@ -1,48 +1,49 @@
--- The last part of a path, and its extension.
+-- The basename and the extension of a path. A path is a list of bytes.
 use Rattle.std.specs.Prelude.{ℕ, suc, ◌+◌, ◌==◌, List, [], ◌∷◌, Bool, true, false, Option, Some, None, drop, codes, if◌then◌else◌}
 use Rattle.std.specs.Str.{bytes_eq}
 
--- `/`
+-- the byte is `/`
 abbrev pub is_separator : ℕ → Bool
 is_separator byte = byte == 47
 
--- `.`
+-- the byte is `.`
 abbrev pub is_dot : ℕ → Bool
 is_dot byte = byte == 46
 
--- the last place of a list, by that in all but its first byte, and by whether the first byte passes the test
-abbrev pub one_further : Option ℕ → Bool → Option ℕ
-one_further (Some k) first = Some (suc k)
-one_further None true = Some 0
-one_further None false = None
+-- the last position in a list, given the last position in the list without its first byte, and whether the first byte
+-- passes the test
+abbrev pub with_first : Option ℕ → Bool → Option ℕ
+with_first (Some k) first = Some (suc k)
+with_first None true = Some 0
+with_first None false = None
 
--- the place of the last byte that passes the test, the first byte of the list being at 0
-abbrev pub last_place : (ℕ → Bool) → List ℕ → Option ℕ
-last_place test [] = None
-last_place test (c ∷ cs) = one_further (last_place test cs) (test c)
+-- the position of the last byte that passes the test, counted from 0
+abbrev pub last_position : (ℕ → Bool) → List ℕ → Option ℕ
+last_position test [] = None
+last_position test (c ∷ cs) = with_first (last_position test cs) (test c)
 
--- what follows that place; everything where there is none
-abbrev pub after_place : List ℕ → Option ℕ → List ℕ
-after_place bytes None = bytes
-after_place bytes (Some k) = drop (k + 1) bytes
+-- the bytes after a position, or all bytes if there is no position
+abbrev pub after_position : List ℕ → Option ℕ → List ℕ
+after_position bytes None = bytes
+after_position bytes (Some k) = drop (k + 1) bytes
 
--- what begins at that place; nothing where there is none
-abbrev pub from_place : List ℕ → Option ℕ → List ℕ
-from_place bytes None = []
-from_place bytes (Some k) = drop k bytes
+-- the bytes from a position on, or no bytes if there is no position
+abbrev pub from_position : List ℕ → Option ℕ → List ℕ
+from_position bytes None = []
+from_position bytes (Some k) = drop k bytes
 
--- what follows the last `/` of a path; the whole path where it has none
+-- the bytes after the last `/` of a path, or the whole path if it has none
 abbrev pub last_part : List ℕ → List ℕ
-last_part path = after_place path (last_place is_separator path)
+last_part path = after_position path (last_position is_separator path)
 
--- The basename of a path: its last part, but nothing where that is `..`.
+-- The basename of a path: its last part, but nothing if that is `..`.
 abbrev pub basename_of : List ℕ → List ℕ
 basename_of path = if bytes_eq (last_part path) (codes "..") then [] else last_part path
 
--- what of a name begins with its last `.`; nothing where it has none
+-- the bytes of a name from its last `.` on, or nothing if it has none
 abbrev pub extension_in : List ℕ → List ℕ
-extension_in name = from_place name (last_place is_dot name)
+extension_in name = from_position name (last_position is_dot name)
 
--- The extension of a path: what of its basename begins with the last `.`.
+-- The extension of a path: the bytes of its basename from the last `.` on.
 abbrev pub extension_of : List ℕ → List ℕ
 extension_of path = extension_in (basename_of path)

@@ -1,12 +1,12 @@
--- Small regular expressions: which texts are regular expressions, and which lists of bytes each of them denotes.
+-- Small regular expressions: which texts are regular expressions, and which lists of bytes they match.
 --
--- A text is tied to a tree, and the tree to the lists of bytes. Nothing here knows of globs.
+-- `Spells` relates a text to a tree, and `Denotes` relates the tree to the lists of bytes. Nothing here is about globs.
 use Rattle.std.specs.Prelude.{◌≡◌, ◌<◌, ◌≤◌, ◌+◌, ◌-◌, ◌*◌, ◌⊎◌, ℕ, Bool, false, not, ◌&&◌, ◌||◌, ◌==◌, nat_le, List, [], ◌∷◌, ◌++◌, length, All, if◌then◌else◌, IsTrue, IsFalse, codes}
 use Rattle.std.specs.Char.{to_ascii_lowercase, to_ascii_uppercase}
 
 -- ---- trees
 
--- what stands in a class: one byte, or the bytes from one to another
+-- an entry of a class: one byte, or the bytes from one to another
 pub data Entry : Type 0 where
   single : ℕ → Entry
   span : ℕ → ℕ → Entry
@@ -15,6 +15,7 @@ mutual
   pub data Atom : Type 0 where
     -- `.`
     any_byte : Atom
+    -- one byte
     byte : ℕ → Atom
     -- `[..]`: whether it is negated, and its entries
     class_of : Bool → List Entry → Atom
@@ -22,6 +23,7 @@ mutual
     group_of : Row → Rows → Atom
 
   pub data Item : Type 0 where
+    -- the atom alone
     once : Atom → Item
     -- `*`
     repeated : Atom → Item
@@ -37,20 +39,20 @@ mutual
     no_row : Rows
     row : Row → Rows → Rows
 
--- a whole one: whether ASCII letters are equal in both cases, and its row
+-- a whole regular expression: whether ASCII letters are equal in both cases, and its row
 pub data Expression : Type 0 where
   expression : Bool → Row → Expression
 
 -- ---- the texts of a tree
 --
--- A text is a list of bytes, all of them ASCII characters. Most parts of a tree have one text; a byte may have two.
+-- A text is a list of bytes, all of them ASCII characters. Most parts of a tree have one text. A byte may have two.
 
--- it is one of these
+-- the number is in the list
 abbrev pub is_among : ℕ → List ℕ → Bool
 is_among c [] = false
 is_among c (x ∷ xs) = (c == x) || is_among c xs
 
--- the characters \ . + * ? ( ) | [ ] { } ^ $ # & - ~ stand for themselves only behind a backslash
+-- the special characters, which match themselves only after a backslash: \ . + * ? ( ) | [ ] { } ^ $ # & - ~
 abbrev pub is_special : ℕ → Bool
 is_special c = is_among c (codes "\\.+*?()|[]{}^$#&-~")
 
@@ -58,113 +60,120 @@ is_special c = is_among c (codes "\\.+*?()|[]{}^$#&-~")
 abbrev pub is_hexadecimal : ℕ → Bool
 is_hexadecimal c = (nat_le 48 c && nat_le c 57) || (nat_le 97 c && nat_le c 102)
 
--- 0 to 15
+-- the value of a digit, 0 to 15
 abbrev pub hexadecimal_value : ℕ → ℕ
 hexadecimal_value c = if nat_le c 57 then c - 48 else c - 87
 
--- A byte is written as the ASCII character that it is, if that is not special; as a special character behind a
--- backslash; or, whatever byte it is, as `\x` and two digits.
+-- A byte is written in one of these ways: as the ASCII character that it is, if that is not special; as a special character
+-- after a backslash; or, whatever byte it is, as `\x` and two digits.
 abbrev pub SpellsByte : ℕ → List ℕ → Type 0
 SpellsByte c t =
     ((t ≡ c ∷ []) × (c < 128) × IsFalse (is_special c))
     ⊎ (((t ≡ codes "\\" ++ c ∷ []) × IsTrue (is_special c))
     ⊎ ((h : ℕ) × (l : ℕ) × (t ≡ codes "\\x" ++ h ∷ l ∷ []) × IsTrue (is_hexadecimal h) × IsTrue (is_hexadecimal l) × (c ≡ 16 * hexadecimal_value h + hexadecimal_value l)))
 
--- a byte, or a byte, `-` and a byte
+-- an entry is written as a byte, or as a byte, `-` and a byte
 abbrev pub SpellsEntry : Entry → List ℕ → Type 0
 SpellsEntry (single c) t = SpellsByte c t
 SpellsEntry (span c d) t = (u v : List ℕ) × (t ≡ u ++ codes "-" ++ v) × SpellsByte c u × SpellsByte d v
 
--- the entries, one after another
+-- entries are written one after another
 abbrev pub SpellsEntries : List Entry → List ℕ → Type 0
 SpellsEntries [] t = t ≡ []
 SpellsEntries (e ∷ es) t = (u v : List ℕ) × (t ≡ u ++ v) × SpellsEntry e u × SpellsEntries es v
 
 abbrev mutual
+  -- an atom is written as `.`, as a byte, as a class or as a group
   pub SpellsAtom : Atom → List ℕ → Type 0
   SpellsAtom any_byte t = t ≡ codes "."
   SpellsAtom (byte c) t = SpellsByte c t
   -- `[`, a `^` if it is negated, one or more entries, `]`
   SpellsAtom (class_of negated es) t = (u : List ℕ) × (t ≡ codes "[" ++ (if negated then codes "^" else []) ++ u ++ codes "]") × SpellsEntries es u × (1 ≤ length es)
-  -- `(?:`, one or more rows parted by `|`, `)`
+  -- `(?:`, one or more rows separated by `|`, `)`
   SpellsAtom (group_of r rs) t = (u v : List ℕ) × (t ≡ codes "(?:" ++ u ++ v ++ codes ")") × SpellsRow r u × SpellsOthers rs v
 
-  -- an atom, which a `*` or a `?` may follow
+  -- an item is written as an atom, which a `*` or a `?` may follow
   pub SpellsItem : Item → List ℕ → Type 0
   SpellsItem (once a) t = SpellsAtom a t
   SpellsItem (repeated a) t = (u : List ℕ) × (t ≡ u ++ codes "*") × SpellsAtom a u
   SpellsItem (optional a) t = (u : List ℕ) × (t ≡ u ++ codes "?") × SpellsAtom a u
 
-  -- any number of items, possibly none
+  -- the items of a row are written one after another; a row may have none
   pub SpellsRow : Row → List ℕ → Type 0
   SpellsRow no_item t = t ≡ []
   SpellsRow (item i r) t = (u v : List ℕ) × (t ≡ u ++ v) × SpellsItem i u × SpellsRow r v
 
-  -- the rows of a group after its first, each behind a `|`
+  -- the rows of a group after its first are written with a `|` before each
   pub SpellsOthers : Rows → List ℕ → Type 0
   SpellsOthers no_row t = t ≡ []
   SpellsOthers (row r rs) t = (u v : List ℕ) × (t ≡ codes "|" ++ u ++ v) × SpellsRow r u × SpellsOthers rs v
 
--- a whole text: `(?-u)`, then `(?i)` if letters are equal in both cases, `^`, a row, `$`
+-- The text of a whole regular expression: `(?-u)`, then `(?i)` if letters are equal in both cases, `^`, a row, `$`
 abbrev pub Spells : Expression → List ℕ → Type 0
 Spells (expression fold r) t = (u : List ℕ) × (t ≡ codes "(?-u)" ++ (if fold then codes "(?i)" else []) ++ codes "^" ++ u ++ codes "$") × SpellsRow r u
 
 -- ---- what a tree denotes
 
--- `c` is the byte x, or where letters are equal in both cases, its other case
+-- The byte `c` is x. If letters are equal in both cases, it may also be the other case of x.
 abbrev pub is_same : Bool → ℕ → ℕ → Bool
 is_same fold x c = if fold then to_ascii_lowercase c == to_ascii_lowercase x else c == x
 
+-- the entry has the byte
 abbrev pub entry_has : Entry → ℕ → Bool
 entry_has (single x) c = c == x
 entry_has (span x y) c = nat_le x c && nat_le c y
 
+-- some entry has the byte
 abbrev pub entries_have : List Entry → ℕ → Bool
 entries_have [] c = false
 entries_have (e ∷ es) c = entry_has e c || entries_have es c
 
--- the set of a class before its negation: where letters are equal in both cases, the other case of each is had too
+-- The class has the byte before its negation. If letters are equal in both cases, it has the other case of each of its letters
+-- too.
 abbrev pub folded_entries_have : Bool → List Entry → ℕ → Bool
 folded_entries_have fold es c = entries_have es c || (fold && (entries_have es (to_ascii_lowercase c) || entries_have es (to_ascii_uppercase c)))
 
--- and then a negated class has the rest
+-- The class has the byte. A negated class has the bytes that it would not have otherwise.
 abbrev pub class_of_has : Bool → Bool → List Entry → ℕ → Bool
 class_of_has fold negated es c = if negated then not (folded_entries_have fold es c) else folded_entries_have fold es c
 
--- the list can be cut into any number of pieces, and P holds of each
+-- the list can be cut into any number of pieces, so that P holds of each piece
 pub data Repeats (P : List ℕ → Type 0) : List ℕ → Type 0 where
   no_piece : Repeats P []
   one_more : (x y b : List ℕ) → b ≡ x ++ y → P x → Repeats P y → Repeats P b
 
--- In what follows `fold` says whether ASCII letters are equal in both cases.
+-- Which lists of bytes the parts of a tree denote. `fold` says whether ASCII letters are equal in both cases.
 abbrev mutual
+  -- an atom
   pub DenotesAtom : Bool → Atom → List ℕ → Type 0
-  -- one byte, whatever it is: a line feed too
+  -- any one byte, also a line feed
   DenotesAtom fold any_byte b = (c : ℕ) × (b ≡ c ∷ [])
   DenotesAtom fold (byte x) b = (c : ℕ) × (b ≡ c ∷ []) × IsTrue (is_same fold x c)
   DenotesAtom fold (class_of negated es) b = (c : ℕ) × (b ≡ c ∷ []) × IsTrue (class_of_has fold negated es c)
-  -- what one of its rows denotes
+  -- a group denotes what one of its rows denotes
   DenotesAtom fold (group_of r rs) b = DenotesRow fold r b ⊎ DenotesSome fold rs b
 
+  -- an item: its atom once, any number of times, or at most once
   pub DenotesItem : Bool → Item → List ℕ → Type 0
   DenotesItem fold (once a) b = DenotesAtom fold a b
   DenotesItem fold (repeated a) b = Repeats (DenotesAtom fold a) b
   DenotesItem fold (optional a) b = (b ≡ []) ⊎ DenotesAtom fold a b
 
-  -- one item after another: the first denotes a front part of the list, and the others the rest in the same way
+  -- a row: the first item denotes the front of the list, and the other items denote the rest in the same way
   pub DenotesRow : Bool → Row → List ℕ → Type 0
   DenotesRow fold no_item b = b ≡ []
   DenotesRow fold (item i r) b = (x y : List ℕ) × (b ≡ x ++ y) × DenotesItem fold i x × DenotesRow fold r y
 
-  -- one of the rows denotes the list
+  -- one of these rows
   pub DenotesSome : Bool → Rows → List ℕ → Type 0
   DenotesSome fold no_row b = ⊥
   DenotesSome fold (row r rs) b = DenotesRow fold r b ⊎ DenotesSome fold rs b
 
--- its numbers are bytes
+-- the list is one of bytes
 abbrev pub AreBytes : List ℕ → Type 0
 AreBytes b = All (λ c. c < 256) b
 
--- A whole one denotes the lists of bytes that its row denotes: between `^` and `$` a row has to match all of a list.
+-- A whole regular expression denotes the lists of bytes that its row denotes, because a row between `^` and `$` has to match
+-- all of a list.
 abbrev pub Denotes : Expression → List ℕ → Type 0
 Denotes (expression fold r) b = AreBytes b × DenotesRow fold r b

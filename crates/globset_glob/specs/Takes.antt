@@ -1,7 +1,8 @@
--- What a token takes: which lists of bytes, a whole path or a piece of it. A byte is a number from 0 to 255.
+-- Which lists of bytes a token matches. Such a list is a whole path or a piece of one. A byte is a number from 0 to 255.
 use Rattle.std.specs.Prelude.{ℕ, Bool, true, false, not, ◌&&◌, ◌||◌, ◌==◌, List, [], ◌∷◌, map, if◌then◌else◌, encode_utf8}
 use Rattle.std.specs.Char.{to_ascii_lowercase}
 use Rattle.std.specs.List.{list_all}
+use Rattle.std.specs.Str.{bytes_eq}
 use Rattle.glob_syntax.specs.declared.options.Options.{Options}
 use Rattle.glob_syntax.specs.Token.{Token, Literal, Any, ZeroOrMore, RecursivePrefix, RecursiveSuffix, RecursiveZeroOrMore, Class, Group, Tokens, end, and_then, Branches, none, branch}
 use Rattle.globset_glob.specs.Blank.{is_kept, any_kept}
@@ -13,69 +14,65 @@ use Rattle.glob_syntax.specs.ClassBytes.{class_has}
 abbrev pub slash : ℕ
 slash = 47
 
+-- the list is empty
 abbrev pub is_empty : List ℕ → Bool
 is_empty [] = true
 is_empty (c ∷ cs) = false
 
-abbrev pub same_bytes : List ℕ → List ℕ → Bool
-same_bytes [] [] = true
-same_bytes [] (d ∷ ds) = false
-same_bytes (c ∷ cs) [] = false
-same_bytes (c ∷ cs) (d ∷ ds) = (c == d) && same_bytes cs ds
-
--- it has one byte, which passes the test
+-- the list has one byte, which passes the test
 abbrev pub is_one_byte : (ℕ → Bool) → List ℕ → Bool
 is_one_byte test [] = false
 is_one_byte test (c ∷ []) = test c
 is_one_byte test (c ∷ d ∷ rest) = false
 
--- its first byte is `/`
+-- the first byte is `/`
 abbrev pub begins_with_slash : List ℕ → Bool
 begins_with_slash [] = false
 begins_with_slash (c ∷ cs) = c == slash
 
--- its last byte is `/`
+-- the last byte is `/`
 abbrev pub ends_with_slash : List ℕ → Bool
 ends_with_slash [] = false
 ends_with_slash (c ∷ []) = c == slash
 ends_with_slash (c ∷ d ∷ rest) = ends_with_slash (d ∷ rest)
 
--- it can be cut into two parts, either of which may be empty, so that `test` holds of them
+-- The list can be cut into two parts that pass the test. Either part may be empty.
 abbrev pub some_cut : (List ℕ → List ℕ → Bool) → List ℕ → Bool
 some_cut test [] = test [] []
 some_cut test (c ∷ cs) = test [] (c ∷ cs) || some_cut (λ front back. test (c ∷ front) back) cs
 
 -- ---- tokens
 
--- a byte that `?` and `*` take: any, but no `/` under `literal_separator`
+-- `?` and `*` match the byte: any byte, but not `/` under `literal_separator`
 abbrev pub is_wild : Options → ℕ → Bool
 is_wild o c = not (o.literal_separator && (c == slash))
 
--- what literals compare: under `case_insensitive` ASCII letters are equal in both cases
+-- the bytes as literals compare them: under `case_insensitive` each ASCII letter as its lower case
 abbrev pub compared : Options → List ℕ → List ℕ
 compared o b = if o.case_insensitive then map to_ascii_lowercase b else b
 
 abbrev mutual
+  -- the token matches the bytes
   pub takes : Options → Token → List ℕ → Bool
-  -- the character's bytes in UTF-8
-  takes o (Literal c) b = same_bytes (compared o b) (compared o (encode_utf8 c))
+  -- the bytes are the character in UTF-8
+  takes o (Literal c) b = bytes_eq (compared o b) (compared o (encode_utf8 c))
   takes o Any b = is_one_byte (is_wild o) b
   takes o ZeroOrMore b = list_all (is_wild o) b
   takes o RecursivePrefix b = is_empty b || ends_with_slash b
   takes o RecursiveSuffix b = begins_with_slash b
-  -- one `/` is both its first and its last byte
+  -- a single `/` is both the first and the last byte
   takes o RecursiveZeroOrMore b = begins_with_slash b && ends_with_slash b
-  -- `/` too, also under `literal_separator`
+  -- a class may match `/`, also under `literal_separator`
   takes o (Class negated rs) b = is_one_byte (class_has o negated rs) b
-  -- what some kept branch takes; nothing but the empty text where none is kept
+  -- a kept branch matches the bytes; a group with no kept branch matches only the empty list
   takes o (Group bs) b = some_takes o bs b || (not (any_kept o bs) && is_empty b)
 
-  -- some kept branch takes it
+  -- a kept branch matches the bytes
   pub some_takes : Options → Branches → List ℕ → Bool
   some_takes o none b = false
   some_takes o (branch ts bs) b = (is_kept o ts && takes_all o ts b) || some_takes o bs b
 
-  -- one after another: the first token takes a front part of it, and the others take the rest in the same way
+  -- the tokens match the bytes one after another: the first token matches the front, and the other tokens match the rest
   pub takes_all : Options → Tokens → List ℕ → Bool
   takes_all o end b = is_empty b
   takes_all o (and_then t ts) b = some_cut (λ x y. takes o t x && takes_all o ts y) b

@@ -1,4 +1,4 @@
-//! A glob's text and options, before it is read.
+//! The text and the options of a glob, before it is read.
 
 ghost use Rattle.std.specs.Prelude.{◌≡◌, IfOk, IfErr};
 ghost use Rattle.globset_glob.specs.Errors.{IsRefusalOf};
@@ -9,7 +9,7 @@ use glob_syntax::Options;
 use std::alloc::{AllocError, Global};
 use std::marker::Model;
 
-/// Sets the options of a glob and reads it.
+/// Sets the options of a glob, and reads the glob under them.
 ///
 /// ```text
 /// GlobBuilder::new("*.RS").case_insensitive(true).literal_separator(true).build(alloc)?
@@ -31,7 +31,7 @@ impl<'a> Model for GlobBuilder<'a> {
 impl<'a> GlobBuilder<'a> {
     ghost use Rattle.globset_glob.specs.Means.{IsRead, default_glob};
 
-    /// The default options: `backslash_escape` is on, the others are off. It takes no memory.
+    /// Returns a builder with this text and the default options: `backslash_escape` is on, and the others are off.
     pub fn new(text: &'a str) -> GlobBuilder<'a>
         ensures { result ≡ default_glob text.now }
     {
@@ -41,7 +41,7 @@ impl<'a> GlobBuilder<'a> {
         }
     }
 
-    /// Whether ASCII letters are equal in both cases. Off by default.
+    /// Sets whether ASCII letters match in both cases. Off by default.
     pub fn case_insensitive(&mut self, yes: bool) -> &mut GlobBuilder<'a>
         ensures same_reference { result.ghost_name ≡ self.entry.ghost_name }
         ensures value { result.now ≡ record self.old { options = record self.old.options { case_insensitive = yes } } }
@@ -50,7 +50,8 @@ impl<'a> GlobBuilder<'a> {
         self
     }
 
-    /// Whether `?` and `*` take no `/`. Classes may take it all the same. Off by default.
+    /// Sets whether `?` and `*` match any byte except `/`. If it is off, they match `/` too. A class that contains `/` matches
+    /// it in both cases. Off by default.
     pub fn literal_separator(&mut self, yes: bool) -> &mut GlobBuilder<'a>
         ensures same_reference { result.ghost_name ≡ self.entry.ghost_name }
         ensures value { result.now ≡ record self.old { options = record self.old.options { literal_separator = yes } } }
@@ -59,7 +60,7 @@ impl<'a> GlobBuilder<'a> {
         self
     }
 
-    /// Whether a `\` outside classes makes the next character plain, whatever it is. On by default.
+    /// Sets whether a `\` outside classes escapes the next character, which then matches itself. On by default.
     pub fn backslash_escape(&mut self, yes: bool) -> &mut GlobBuilder<'a>
         ensures same_reference { result.ghost_name ≡ self.entry.ghost_name }
         ensures value { result.now ≡ record self.old { options = record self.old.options { backslash_escape = yes } } }
@@ -68,7 +69,9 @@ impl<'a> GlobBuilder<'a> {
         self
     }
 
-    /// Whether the blank branches of a group count, as the second of `{a,}`. Off by default.
+    /// Sets whether a group keeps its empty branches, as the second of `{a,}`, which then match the empty text. A branch
+    /// that contains only groups of empty branches counts as empty. If it is off, empty branches are dropped. Off by
+    /// default.
     pub fn empty_alternates(&mut self, yes: bool) -> &mut GlobBuilder<'a>
         ensures same_reference { result.ghost_name ≡ self.entry.ghost_name }
         ensures value { result.now ≡ record self.old { options = record self.old.options { empty_alternates = yes } } }
@@ -77,7 +80,7 @@ impl<'a> GlobBuilder<'a> {
         self
     }
 
-    /// Whether a `[` with no closing `]` is a plain character, and no fault. Off by default.
+    /// Sets whether a `[` with no closing `]` matches itself. If it is off, such a `[` is an error. Off by default.
     pub fn allow_unclosed_class(&mut self, yes: bool) -> &mut GlobBuilder<'a>
         ensures same_reference { result.ghost_name ≡ self.entry.ghost_name }
         ensures value { result.now ≡ record self.old { options = record self.old.options { allow_unclosed_class = yes } } }
@@ -86,9 +89,10 @@ impl<'a> GlobBuilder<'a> {
         self
     }
 
-    /// Reads the glob under its options, in time linear in its text. The builder is unchanged.
+    /// Reads the glob under its options, in time linear in the length of its text. The builder does not change.
     ///
-    /// A text that is no glob is refused with its first fault from the left, and the error holds the text.
+    /// Returns an error if the text is not a glob, or if memory runs out. The error of a text holds the text, and its kind
+    /// is that of the first error in the text.
     pub fn build(&self, alloc: Global) -> Result<Glob, Error>
         ensures ok { IfOk result (λ g. g ≡ self.now) }
         ensures read { IfOk result IsRead }
@@ -98,7 +102,7 @@ impl<'a> GlobBuilder<'a> {
     }
 }
 
-/// The same text and options. It takes no memory, and cannot fail.
+/// A builder with the same text and options. It allocates nothing, and cannot fail.
 impl<'a> Clone for GlobBuilder<'a> {
     ghost use Rattle.std.specs.Prelude.{◌≡◌, ⊤};
 

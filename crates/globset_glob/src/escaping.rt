@@ -1,4 +1,4 @@
-//! Texts as globs that mean those texts alone.
+//! Escaping: globs that match one text.
 
 ghost use Rattle.std.specs.Prelude.{◌≡◌, ◌++◌, IfOk, IfErr, OnOk, IsTrue, string_bytes, encode_utf8_all};
 ghost use Rattle.globset_glob.specs.Errors.{out_of_memory};
@@ -8,11 +8,13 @@ ghost use Rattle.globset_glob.specs.Escape.{is_special, escaped_char, escaped, h
 use crate::error::Error;
 use std::alloc::{AllocError, Global};
 
-/// The text with each of `?`, `*`, `[`, `]`, `{` and `}` in brackets, and all else as it is: `a*b` becomes `a[*]b`.
+/// Returns the text with each of `?`, `*`, `[`, `]`, `{` and `}` in brackets: `a*b` becomes `a[*]b`.
 ///
-/// Read as a glob, it means the text alone: under default options where the text has no `\`, and any text where
-/// `backslash_escape` is off and the other options are as by default. A `\` stays, and by default it would escape what
-/// follows it. It takes time linear in the text. The only error is want of memory.
+/// The result is a glob that matches only the text, if the glob's options are the default ones and the text contains no
+/// `\`. A `\` is not changed, and under the default options it escapes the next character. With `backslash_escape` off and
+/// the other default options, the result matches only the text, whatever the text is.
+///
+/// The time is linear in the length of the text. Returns an error if memory runs out.
 pub fn escape(alloc: Global, text: &str) -> Result<String, Error>
     ensures text { IfOk result (λ s. string_bytes s ≡ escaped text.now) }
     ensures escape_default { IfOk result (λ s. IsTrue (has_no_backslash text.now) → MeansOnly (default_glob (string_bytes s)) text.now) }
@@ -26,7 +28,7 @@ pub fn escape(alloc: Global, text: &str) -> Result<String, Error>
     Ok(out)
 }
 
-/// Adds a character, in brackets if it is special.
+/// Appends a character, in brackets if it is special.
 fn push_escaped(out: &mut String, c: char) -> Result<(), AllocError>
     ensures { OnOk result (string_bytes out.new ≡ string_bytes out.old ++ encode_utf8_all (escaped_char c)) }
 {
@@ -39,7 +41,7 @@ fn push_escaped(out: &mut String, c: char) -> Result<(), AllocError>
     }
 }
 
-/// Whether a character means something by itself, outside of classes. `\`, `,` and `!` are not among these.
+/// Whether a character is one that `escape` puts in brackets. `\`, `,` and `!` are not.
 fn is_special(c: char) -> bool
     ensures { result ≡ is_special c }
 {

@@ -1,22 +1,30 @@
-//! A glob, and how it is read.
+//! Globs.
 
-ghost use Rattle.std.specs.Prelude.{◌≡◌, ◌≤◌, ◌*◌, IfOk, IfErr, length, Ok};
+ghost use Rattle.std.specs.Prelude.{◌≡◌, ◌==◌, ◌≤◌, ◌*◌, ◌↔◌, ◌++◌, ℕ, List, Some, Ok, IfOk, IfErr, IsTrue, length};
+ghost use Rattle.std.specs.Cmp.{partial_equiv_from_equiv};
+ghost use Rattle.std.specs.Cmp.Rules.{hashing};
+ghost use Rattle.std.specs.Fmt.{styled_text};
+ghost use Rattle.std.specs.Hash as fed;
+ghost use Rattle.std.proofs.Common.{rules};
+ghost use Rattle.std.proofs.lemmas.Cmp.{and_equiv, on_equiv, nat_list_eq_equiv};
+ghost use Rattle.glob_syntax.specs.contracts.options.OptionsEq.TheImpl.Laws.{laws-law};
+ghost use Rattle.globset_glob.specs.inner.Equality.{same_glob};
 ghost use Rattle.globset_glob.specs.Errors.{out_of_memory, IsRefusalOf};
-
-mod equality;
+ghost use Rattle.globset_glob.specs.Means.{tokens_of_glob, glob_means};
 
 use crate::builder::GlobBuilder;
 use crate::error::Error;
 use crate::matching::matcher::GlobMatcher;
 use crate::regex_text::regex_text;
 use glob_syntax::{Options, ReadError, Token, copy_of, read_tokens};
-use std::alloc::Global;
+use std::alloc::{AllocError, Global};
 use std::fmt;
+use std::hash::{Hash, Hasher};
 use std::marker::Model;
 
-/// One glob, read.
+/// A glob pattern that was read.
 ///
-/// Contracts see its text and its options. Every glob has a reading: its tokens, which follow from the two.
+/// Contracts see a glob as its text and its options. Every glob has tokens, which the text and the options determine.
 #[derive(Drop)]
 pub struct Glob {
     text: String,
@@ -48,13 +56,14 @@ impl Model for Glob {
 }
 
 impl Glob {
-    ghost use Rattle.globset_glob.specs.Means.{IsRead, default_glob, default_options, tokens_of_glob, glob_means};
+    ghost use Rattle.globset_glob.specs.Means.{IsRead, default_glob, default_options};
     ghost use Rattle.globset_glob.specs.RegexText.{regex_text};
     ghost use Rattle.globset_glob.specs.RegexDenotes.{HasExpression};
 
     /// Reads a glob under the default options: `\` escapes, and the other options are off.
     ///
-    /// A text that is no glob is refused with its first fault from the left, and the error holds the text.
+    /// Returns an error if the text is not a glob, or if memory runs out. The error of a text holds the text, and its kind
+    /// is that of the first error in the text.
     pub fn new(alloc: Global, glob: &str) -> Result<Glob, Error>
         ensures ok { IfOk result (λ g. g ≡ default_glob glob.now) }
         ensures read { IfOk result IsRead }
@@ -63,7 +72,7 @@ impl Glob {
         GlobBuilder::new(glob).build(alloc)
     }
 
-    /// The same as [`Glob::new`].
+    /// Reads a glob under the default options, as [`Glob::new`] does, and returns the same errors.
     pub fn from_str(alloc: Global, glob: &str) -> Result<Glob, Error>
         ensures ok { IfOk result (λ g. g ≡ default_glob glob.now) }
         ensures read { IfOk result IsRead }
@@ -72,7 +81,7 @@ impl Glob {
         Glob::new(alloc, glob)
     }
 
-    /// The text that the glob was read from. It takes no memory.
+    /// Returns the text that the glob was read from.
     pub fn glob(&self) -> &str
         ensures text { result.now ≡ self.now.text }
         ensures read { IsRead self.now }
@@ -80,12 +89,12 @@ impl Glob {
         self.text.as_str()
     }
 
-    /// The text of a regular expression for the paths that the glob means. It takes no memory.
+    /// Returns the text of a regular expression that matches the same paths as the glob.
     ///
-    /// The text is `(?-u)`, `(?i)` under `case_insensitive`, `^`, a body and `$`. It is meant for engines that match bytes.
-    /// `.` has to take any byte: an engine whose `.` leaves out the line feed needs to be told so, since the text does not
-    /// tell it. A character `\ . + * ? ( ) | [ ] { } ^ $ # & - ~` of the glob stands behind a `\`, in classes too, and a byte
-    /// above 7F is `\x` and two digits.
+    /// The text is `(?-u)`, then `(?i)` under `case_insensitive`, `^`, the tokens, and `$`. It is for engines that match
+    /// bytes. `.` has to match any byte. In many engines it does not match a line feed, which the text does not change, so
+    /// such an engine needs its option for that. The characters `\ . + * ? ( ) | [ ] { } ^ $ # & - ~` of the glob are
+    /// written after a `\`, in classes too. A byte above 7F is written as `\x` and two digits.
     ///
     /// ```text
     /// a-b/**/*.{rs,é}    (?-u)^a\-b(?:/|/.*/).*\.(?:rs|\xc3\xa9)$
@@ -97,24 +106,15 @@ impl Glob {
         self.regex.as_str()
     }
 
-    /// An equal glob, or want of memory.
+    /// Returns an equal glob, or an error if memory runs out.
     pub fn clone(&self) -> Result<Glob, Error>
         ensures ok { IfOk result (λ g. g ≡ self.now) }
         ensures err { IfErr result (λ e. e ≡ out_of_memory) }
     {
-        let alloc = self.allocator();
-        let tokens = copy_of(alloc, &self.tokens)?;
-        let text = String::from_str(alloc, self.text.as_str())?;
-        let regex = String::from_str(alloc, self.regex.as_str())?;
-        Ok(Glob {
-            text,
-            options: self.options,
-            tokens,
-            regex,
-        })
+        Ok(Clone::clone(self)?)
     }
 
-    /// A matcher of an equal glob, or want of memory.
+    /// Returns a matcher for an equal glob, or an error if memory runs out.
     pub fn compile_matcher(&self) -> Result<GlobMatcher, Error>
         ensures ok { IfOk result (λ m. m ≡ self.now) }
         ensures err { IfErr result (λ e. e ≡ out_of_memory) }
@@ -151,7 +151,7 @@ impl Glob {
         })
     }
 
-    /// What the glob is read as. It takes no memory.
+    /// The tokens that the text was read as.
     pub(crate) fn tokens(&self) -> &[Token]
         ensures read { reading self.now.options (chars self.now.text) ≡ Ok (tokens_of result.now) }
         ensures weight { weight (tokens_of result.now) ≤ 4 * length self.now.text }
@@ -166,9 +166,70 @@ impl Glob {
         self.options
     }
 
-    /// The memory that the glob lies in.
+    /// The allocator that holds the glob.
     pub(crate) fn allocator(&self) -> Global {
         *self.text.allocator()
+    }
+}
+
+/// An equal glob. The error says that memory ran out.
+impl Clone for Glob {
+    ghost is_clone = { λ g h. h ≡ g };
+
+    fn clone(&self) -> Result<Glob, AllocError> {
+        let tokens = copy_of(self.allocator(), &self.tokens)?;
+        Ok(Glob {
+            text: self.text.clone()?,
+            options: self.options,
+            tokens,
+            regex: self.regex.clone()?,
+        })
+    }
+}
+
+/// Globs are equal if their texts and their options are. Equal globs have the same tokens and match the same paths. It
+/// allocates nothing.
+impl PartialEq for Glob {
+    ghost eq = { same_glob };
+
+    ghost laws = { partial_equiv_from_equiv (and_equiv (on_equiv (λ g. g.text) nat_list_eq_equiv) (on_equiv (λ g. g.options) laws-law)) };
+
+    #[tactic(auto, using(crate::proofs::lemmas::Equalities::equal_globs))]
+    fn eq(&self, other: &Glob) -> bool
+        ensures result { result ≡ same_glob self.now other.now }
+        ensures fields { IsTrue result ↔ (self.now ≡ other.now) }
+        ensures tokens { IsTrue result → tokens_of_glob self.now ≡ tokens_of_glob other.now }
+        ensures paths { IsTrue result → (path : List ℕ) → glob_means self.now path ≡ glob_means other.now path }
+    {
+        self.text == other.text && self.options == other.options
+    }
+}
+
+/// Each glob is equal to itself.
+impl Eq for Glob {
+    ghost laws = { and_equiv (on_equiv (λ g. g.text) nat_list_eq_equiv) (on_equiv (λ g. g.options) laws-law) };
+}
+
+/// Hashes the text and the options, so equal globs have equal hashes. It allocates nothing.
+impl Hash for Glob {
+    ghost hash_input = { λ g. fed.str g.text ++ ⟦<Options as Hash>⟧.hash_input g.options };
+
+    ghost respects_eq = { Prim.search (hashing, rules) };
+
+    fn hash<H: Hasher>(&self, state: &mut H) {
+        self.text.hash(state);
+        self.options.hash(state);
+    }
+}
+
+/// The glob's text, padded as a `&str` is.
+impl fmt::Display for Glob {
+    ghost output = { λ g. Some g.text };
+
+    ghost styled_output = { λ g s. Some (styled_text s g.text) };
+
+    fn fmt<W: fmt::Write>(&self, f: &mut fmt::Formatter<W>) -> fmt::Result {
+        f.pad(self.text.as_str())
     }
 }
 

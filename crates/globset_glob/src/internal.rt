@@ -1,4 +1,4 @@
-//! What `globset` alone needs: what a glob is read as, its matcher without a copy, and errors of elements.
+//! Calls for the crate `globset` alone, which does not re-export them.
 
 ghost use Rattle.std.specs.Prelude.{◌≡◌, Ok};
 ghost use Rattle.std.specs.Str.{chars};
@@ -12,7 +12,7 @@ use crate::json::error::ValueError;
 use crate::matching::matcher::GlobMatcher;
 use glob_syntax::{Options, Token};
 
-/// What the glob's text is read as under its options. It takes no memory.
+/// Returns the tokens that the glob's text was read as under its options.
 #[tactic(auto, using(crate::proofs::lemmas::Globs::tokens_are))]
 pub fn tokens_of(glob: &Glob) -> &[Token]
     ensures read { reading glob.now.options (chars glob.now.text) ≡ Ok (tokens_of result.now) }
@@ -21,22 +21,22 @@ pub fn tokens_of(glob: &Glob) -> &[Token]
     glob.tokens()
 }
 
-/// The options that the glob was read under. It takes no memory.
+/// Returns the options that the glob was read under.
 pub fn options_of(glob: &Glob) -> Options
     ensures { result ≡ glob.now.options }
 {
     glob.options()
 }
 
-/// The matcher of a glob that is given away. It takes no memory.
+/// Returns a matcher for a glob, without a copy. It allocates nothing.
 pub fn matcher_of(glob: Glob) -> GlobMatcher
     ensures { result ≡ glob }
 {
     GlobMatcher::new(glob)
 }
 
-/// The error of the element at this index of an array. Want of memory is about no element, and stays as it is. It takes no
-/// memory.
+/// Returns the error of the element at this index of an array. An error that memory ran out is about no element, and is
+/// returned as it is.
 pub fn error_of_element(index: usize, error: ValueError) -> ValueError
     ensures { result ≡ of_element index error }
 {

@@ -16,8 +16,10 @@ use serde_json::Value;
 use std::alloc::Global;
 
 impl Glob {
-    /// The JSON text whose content is the glob's text. The options are no part of it: [`Glob::from_value`] reads an equal
-    /// glob back where they are the default ones. The only error is want of memory.
+    /// Returns a JSON text whose content is the glob's text, or an error if memory runs out.
+    ///
+    /// The options are not part of the value. If they are the default ones, [`Glob::from_value`] reads an equal glob from
+    /// it.
     #[tactic(auto, using(crate::proofs::lemmas::Values::read_back))]
     pub fn to_value(&self) -> Result<Value, Error>
         ensures ok { IfOk result (λ value. view value ≡ string self.now.text) }
@@ -28,10 +30,11 @@ impl Glob {
         Ok(Value::String(text))
     }
 
-    /// Reads the content of a JSON text under the default options, as [`Glob::new`] does.
+    /// Reads the content of a JSON text as a glob under the default options, as [`Glob::new`] does.
     ///
-    /// A value that is no text, such as a number, is [`ValueErrorKind::NotText`]. A content that is no glob is
-    /// [`ValueErrorKind::Glob`] with its error; so is want of memory. No error of this call has an index.
+    /// Returns an error of the kind [`ValueErrorKind::NotText`] for any other value, such as a number. If the content is not
+    /// a glob, or if memory runs out, the kind is [`ValueErrorKind::Glob`] with the error of [`Glob::new`]. No error of this
+    /// call has an index.
     pub fn from_value(alloc: Global, value: &Value) -> Result<Glob, ValueError>
         ensures ok { IfOk result (λ g. glob_of_value (view value.now) ≡ Ok g) }
         ensures read { IfOk result IsRead }

@@ -1,4 +1,4 @@
-//! One glob: how it is read, and which paths it matches.
+//! One glob: reading it, and matching paths against it.
 #![tactic(auto)]
 
 mod builder;

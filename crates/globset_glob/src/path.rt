@@ -92,7 +92,7 @@ impl<'a> Candidate<'a> {
     /// Returns the basename: the bytes after the path's last `/`, or the whole path if it has no `/`. If these bytes are
     /// `..`, the basename is empty.
     ///
-    /// Each call searches the path from its end to its last `/`, and reads each byte of the basename at most once more.
+    /// Each call searches the path from its end to its last `/`, and reads no byte before that.
     pub fn basename(&self) -> &'a [u8]
         ensures { result.now ≡ basename_of self.now }
     {

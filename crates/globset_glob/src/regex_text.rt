@@ -1,4 +1,4 @@
-//! The text that a glob has as a regular expression.
+//! The text of a glob as a regular expression.
 
 ghost use Rattle.std.specs.Prelude.{◌≡◌, ◌<◌, ◌++◌, [], ◌∷◌, ◌||◌, not, List, ℕ, IfOk, OnOk, string_bytes};
 ghost use Rattle.glob_syntax.specs.Token.{Group};
@@ -11,7 +11,7 @@ ghost use Rattle.globset_glob.specs.inner.RegexWriting.{rest_text};
 use glob_syntax::{Class, Options, Token};
 use std::alloc::{AllocError, Global};
 
-/// The text of a glob's tokens. It takes time linear in the tokens.
+/// The text of a whole glob with these tokens, in time linear in their number.
 pub fn regex_text(alloc: Global, options: Options, tokens: &[Token]) -> Result<String, AllocError>
     ensures { IfOk result (λ text. string_bytes text ≡ regex_text options (tokens_of tokens.now)) }
 {
@@ -23,7 +23,7 @@ pub fn regex_text(alloc: Global, options: Options, tokens: &[Token]) -> Result<S
     Ok(text)
 }
 
-/// What stands before the `^`.
+/// Appends the flags, which come before the `^`.
 fn push_flags(text: &mut String, options: Options) -> Result<(), AllocError>
     ensures { OnOk result (string_bytes text.new ≡ string_bytes text.old ++ flags_text options) }
 {
@@ -34,7 +34,7 @@ fn push_flags(text: &mut String, options: Options) -> Result<(), AllocError>
     Ok(())
 }
 
-/// What stands between the `^` and the `$`.
+/// Appends the text between the `^` and the `$`.
 fn push_body(text: &mut String, options: Options, tokens: &[Token]) -> Result<(), AllocError>
     ensures { OnOk result (string_bytes text.new ≡ string_bytes text.old ++ body_text options (tokens_of tokens.now)) }
 {
@@ -53,7 +53,7 @@ fn is_prefix_alone(tokens: &[Token]) -> bool
     matches!(tokens, [Token::RecursivePrefix])
 }
 
-/// The tokens' texts, one after another. Answers whether they are kept as a branch.
+/// Appends the tokens' texts, one after another. Returns whether a branch of these tokens is kept.
 #[cycle(texts)]
 fn push_tokens(text: &mut String, options: Options, tokens: &[Token]) -> Result<bool, AllocError>
     ensures text { OnOk result (string_bytes text.new ≡ string_bytes text.old ++ tokens_text options (tokens_of tokens.now)) }
@@ -66,7 +66,7 @@ fn push_tokens(text: &mut String, options: Options, tokens: &[Token]) -> Result<
     Ok(kept)
 }
 
-/// The text of one token. Answers whether a branch of this token alone is kept.
+/// Appends the text of one token. Returns whether a branch of this token alone is kept.
 #[cycle(texts)]
 fn push_token(text: &mut String, options: Options, token: &Token) -> Result<bool, AllocError>
     ensures text { OnOk result (string_bytes text.new ≡ string_bytes text.old ++ token_text options (token_of token.now)) }
@@ -87,7 +87,7 @@ fn push_token(text: &mut String, options: Options, token: &Token) -> Result<bool
     Ok(true)
 }
 
-/// The text of a group. Answers whether a branch of this group alone is kept.
+/// Appends the text of a group. Returns whether a branch of this group alone is kept.
 #[cycle(texts)]
 fn push_group(
     text: &mut String,
@@ -107,9 +107,9 @@ fn push_group(
     Ok(options.empty_alternates || !first)
 }
 
-/// A branch of a group, if it is kept, behind `(?:` or `|`. Answers whether none has been written yet.
+/// Appends `(?:` or `|` and a branch of a group, if the branch is kept. Returns whether no branch has been written yet.
 ///
-/// Only its tokens tell whether it is kept, so what was written before them is taken back if it is not.
+/// Only writing the tokens tells whether the branch is kept. If it is not, what was written is removed again.
 #[cycle(texts)]
 fn push_branch(
     text: &mut String,
@@ -130,7 +130,7 @@ fn push_branch(
     Ok(first)
 }
 
-/// The text of a class.
+/// Appends the text of a class.
 fn push_class(text: &mut String, class: &Class) -> Result<(), AllocError>
     ensures { OnOk result (string_bytes text.new ≡ string_bytes text.old ++ class_text class.now.negated class.now.ranges) }
 {
@@ -142,7 +142,7 @@ fn push_class(text: &mut String, class: &Class) -> Result<(), AllocError>
     Ok(())
 }
 
-/// The text of a range of a class.
+/// Appends the text of a range of a class.
 fn push_range(text: &mut String, range: (char, char)) -> Result<(), AllocError>
     ensures { OnOk result (string_bytes text.new ≡ string_bytes text.old ++ range_text range) }
 {
@@ -155,7 +155,7 @@ fn push_range(text: &mut String, range: (char, char)) -> Result<(), AllocError>
     Ok(())
 }
 
-/// The text of a character.
+/// Appends the text of a character.
 fn push_char(text: &mut String, c: char) -> Result<(), AllocError>
     ensures { OnOk result (string_bytes text.new ≡ string_bytes text.old ++ char_text c) }
 {
@@ -166,7 +166,7 @@ fn push_char(text: &mut String, c: char) -> Result<(), AllocError>
     Ok(())
 }
 
-/// The text of a byte.
+/// Appends the text of a byte.
 fn push_byte(text: &mut String, byte: u8) -> Result<(), AllocError>
     ensures { OnOk result (string_bytes text.new ≡ string_bytes text.old ++ byte_text byte) }
 {
@@ -181,7 +181,7 @@ fn push_byte(text: &mut String, byte: u8) -> Result<(), AllocError>
     push_ascii(text, byte)
 }
 
-/// An ASCII character as it is.
+/// Appends an ASCII character as it is.
 fn push_ascii(text: &mut String, byte: u8) -> Result<(), AllocError>
     requires { byte < 128 }
     ensures { OnOk result (string_bytes text.new ≡ string_bytes text.old ++ byte ∷ []) }
@@ -190,17 +190,17 @@ fn push_ascii(text: &mut String, byte: u8) -> Result<(), AllocError>
     Ok(())
 }
 
-/// The ASCII characters that have a backslash before them.
+/// The ASCII characters that are written after a backslash.
 const ESCAPED: &[u8] = b"\\.+*?()|[]{}^$#&-~";
 
-/// Whether an ASCII character has a backslash before it.
+/// Whether an ASCII character is written after a backslash.
 fn is_escaped(byte: u8) -> bool
     ensures { result ≡ is_escaped byte }
 {
     ESCAPED.iter().any(|escaped| byte == *escaped)
 }
 
-/// The digit of a number below 16, `0` to `9` or `a` to `f`.
+/// The hexadecimal digit of a number below 16, `0` to `9` or `a` to `f`.
 fn hexadecimal_digit(value: u8) -> u8
     requires { value < 16 }
     ensures value { result ≡ hexadecimal_digit value }

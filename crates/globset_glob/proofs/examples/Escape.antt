@@ -1,13 +1,13 @@
--- Examples of escaping, and of what an escaped text with a backslash means. Each row computes.
+-- Examples of escaping, and of the paths that an escaped text with a backslash matches. Each row computes.
 use Rattle.std.specs.Prelude.{◌≡◌, [], ◌∷◌, true, refl, codes, encode_utf8_all}
 use Prim.Native.String.{String}
 use Rattle.glob_syntax.specs.declared.options.TheConstants.Options.{DEFAULT}
 use Rattle.globset_glob.specs.Escape.{escaped}
 use Rattle.globset_glob.proofs.examples.Unfoldings.{glob_on_literals}
 use Rattle.glob_syntax.proofs.examples.Words.{unescaped}
-use Rattle.globset_glob.proofs.examples.Words.{takes_each, leaves_each}
+use Rattle.globset_glob.proofs.examples.Words.{matches_each, matches_none}
 
--- the text, escaped, is the other one
+-- escaping the text gives the other text
 abbrev Escapes : String → String → Type 0
 Escapes text result = escaped (encode_utf8_all (codes text)) ≡ encode_utf8_all (codes result)
 
@@ -51,20 +51,20 @@ two_bytes : Escapes "é*" "é[*]"
 unfolding glob_on_literals
 two_bytes = refl
 
--- under default options the backslash of `a\[*]` escapes the bracket, and the text that was escaped is not meant
-escapes_a_bracket : takes_each DEFAULT "a\\[*]" ("a[*]" ∷ []) ≡ true
+-- Under the default options the backslash of `a\[*]` escapes the bracket, so the text that was escaped is not matched.
+escapes_a_bracket : matches_each DEFAULT "a\\[*]" ("a[*]" ∷ []) ≡ true
 unfolding glob_on_literals
 escapes_a_bracket = refl
 
-escapes_a_bracket_not : leaves_each DEFAULT "a\\[*]" ("a\\*" ∷ []) ≡ true
+escapes_a_bracket_not : matches_none DEFAULT "a\\[*]" ("a\\*" ∷ []) ≡ true
 unfolding glob_on_literals
 escapes_a_bracket_not = refl
 
--- where it does not escape, it is
-plain_backslash : takes_each unescaped "a\\[*]" ("a\\*" ∷ []) ≡ true
+-- With `backslash_escape` off it is matched.
+plain_backslash : matches_each unescaped "a\\[*]" ("a\\*" ∷ []) ≡ true
 unfolding glob_on_literals
 plain_backslash = refl
 
-plain_backslash_not : leaves_each unescaped "a\\[*]" ("a[*]" ∷ "a*" ∷ []) ≡ true
+plain_backslash_not : matches_none unescaped "a\\[*]" ("a[*]" ∷ "a*" ∷ []) ≡ true
 unfolding glob_on_literals
 plain_backslash_not = refl

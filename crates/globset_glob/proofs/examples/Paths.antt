@@ -13,8 +13,8 @@ two_dots_inside = (refl, refl)
 hidden : HasParts "x/.hidden" ".hidden" ".hidden"
 hidden = (refl, refl)
 
-behind_dots : HasParts "../a" "a" ""
-behind_dots = (refl, refl)
+after_dots : HasParts "../a" "a" ""
+after_dots = (refl, refl)
 
 file : HasParts "a/b.rs" "b.rs" ".rs"
 file = (refl, refl)
@@ -49,6 +49,6 @@ dot_before_slash = (refl, refl)
 empty : HasParts "" "" ""
 empty = (refl, refl)
 
--- FF and `.`, which are no text
-no_text : (basename_of (255 ∷ 46 ∷ []) ≡ 255 ∷ 46 ∷ []) × (extension_of (255 ∷ 46 ∷ []) ≡ 46 ∷ [])
-no_text = (refl, refl)
+-- the bytes FF and 2E, which are not UTF-8
+not_utf8 : (basename_of (255 ∷ 46 ∷ []) ≡ 255 ∷ 46 ∷ []) × (extension_of (255 ∷ 46 ∷ []) ≡ 46 ∷ [])
+not_utf8 = (refl, refl)

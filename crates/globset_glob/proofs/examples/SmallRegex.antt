@@ -14,8 +14,8 @@ as_itself = inl (refl, omega arith, refl)
 slash_as_itself : SpellsByte 47 (codes "/")
 slash_as_itself = inl (refl, omega arith, refl)
 
-behind_a_backslash : SpellsByte 42 (codes "\\*")
-behind_a_backslash = inr (inl (refl, refl))
+after_a_backslash : SpellsByte 42 (codes "\\*")
+after_a_backslash = inr (inl (refl, refl))
 
 by_two_digits : SpellsByte 0xC3 (codes "\\xc3")
 by_two_digits = inr (inr (99, 51, refl, refl, refl, refl))
@@ -23,17 +23,17 @@ by_two_digits = inr (inr (99, 51, refl, refl, refl, refl))
 ascii_by_two_digits : SpellsByte 42 (codes "\\x2a")
 ascii_by_two_digits = inr (inr (50, 97, refl, refl, refl, refl))
 
--- a special character does not stand for itself
+-- a special character does not match itself
 not_special_as_itself : (c : ℕ) → SpellsByte c (codes "*") → ⊥
 not_special_as_itself c (inl (is, low, plain)) = let e : 42 ≡ c = cc in absurd (true≢false (ap is_special e ∙ plain))
 not_special_as_itself c (inr (inl (is, special))) = cc
 not_special_as_itself c (inr (inr (h, l, is, hh, hl, value))) = cc
 
 -- and a backslash before a letter is not the letter
-not_letter_behind_a_backslash : SpellsByte 97 (codes "\\a") → ⊥
-not_letter_behind_a_backslash (inl (is, low, plain)) = cc
-not_letter_behind_a_backslash (inr (inl (is, special))) = absurd (true≢false (sym special))
-not_letter_behind_a_backslash (inr (inr (h, l, is, hh, hl, value))) = cc
+not_letter_after_a_backslash : SpellsByte 97 (codes "\\a") → ⊥
+not_letter_after_a_backslash (inl (is, low, plain)) = cc
+not_letter_after_a_backslash (inr (inl (is, special))) = absurd (true≢false (sym special))
+not_letter_after_a_backslash (inr (inr (h, l, is, hh, hl, value))) = cc
 
 -- ---- whole texts, with the parts that they are cut into
 
@@ -53,7 +53,7 @@ letter_optional : Spells (expression true (item (optional (byte 97)) no_item)) (
 letter_optional = (codes "a?", refl, (codes "a?", codes "", refl, (codes "a", refl, as_itself), refl))
 
 two_items : Spells (expression false (item (once (byte 97)) (item (once (byte 42)) no_item))) (codes "(?-u)^a\\*$")
-two_items = (codes "a\\*", refl, (codes "a", codes "\\*", refl, as_itself, (codes "\\*", codes "", refl, behind_a_backslash, refl)))
+two_items = (codes "a\\*", refl, (codes "a", codes "\\*", refl, as_itself, (codes "\\*", codes "", refl, after_a_backslash, refl)))
 
 -- a negated class of a range and a byte
 class : Spells (expression false (item (once (class_of true (span 97 122 ∷ single 45 ∷ []))) no_item)) (codes "(?-u)^[^a-z\\-]$")
@@ -124,7 +124,7 @@ no_row_of_a_star (item i r) (x ∷ xs, v, cut, h, rest) =
     front_nil [] v e = refl
     front_nil (y ∷ ys) v e = absurd cc
 
--- `*` stands behind nothing
+-- `*` needs an item before it
 star_of_nothing : (x : Expression) → Spells x (codes "(?-u)^*$") → ⊥
 star_of_nothing (expression true r) (u, is, h) = other_heads 94 40 _ _ refl (ap (drop 5) is)
 star_of_nothing (expression false r) (u, is, h) =

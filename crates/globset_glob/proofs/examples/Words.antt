@@ -1,4 +1,4 @@
--- The words in which rows of examples are written.
+-- Definitions that the examples are written with.
 use Rattle.std.specs.Prelude.{ℕ, Bool, ◌&&◌, not, List, is_ok, codes, encode_utf8_all, Result}
 use Rattle.std.specs.List.{list_all}
 use Rattle.std.specs.Str.{chars}
@@ -10,12 +10,13 @@ use Rattle.glob_syntax.specs.inner.MarkViews.{map_ok}
 use Rattle.globset_glob.specs.Means.{GlobValue, glob_means}
 use Rattle.globset_glob.specs.RegexText.{regex_text}
 
--- ---- meaning
+-- ---- matching
 
--- the bytes of a text
+-- the bytes of a text in UTF-8
 abbrev pub utf8 : String → List ℕ
 utf8 text = encode_utf8_all (codes text)
 
+-- the glob with these options and this text
 abbrev pub glob_of : Options → String → GlobValue
 glob_of o glob = record { text = utf8 glob; options = o }
 
@@ -23,22 +24,24 @@ glob_of o glob = record { text = utf8 glob; options = o }
 abbrev pub is_glob : Options → String → Bool
 is_glob o glob = is_ok (reading o (chars (utf8 glob)))
 
--- it is a glob, and means these bytes; it is one, and does not
-abbrev pub takes_bytes : Options → String → List ℕ → Bool
-takes_bytes o glob path = is_glob o glob && glob_means (glob_of o glob) path
+-- the text is a glob, and the glob matches this path, given as bytes
+abbrev pub matches_bytes : Options → String → List ℕ → Bool
+matches_bytes o glob path = is_glob o glob && glob_means (glob_of o glob) path
 
-abbrev pub leaves_bytes : Options → String → List ℕ → Bool
-leaves_bytes o glob path = is_glob o glob && not (glob_means (glob_of o glob) path)
+-- the text is a glob, and the glob does not match this path, given as bytes
+abbrev pub matches_no_bytes : Options → String → List ℕ → Bool
+matches_no_bytes o glob path = is_glob o glob && not (glob_means (glob_of o glob) path)
 
--- it is a glob, and means each of these paths; it is one, and means none of them
-abbrev pub takes_each : Options → String → List String → Bool
-takes_each o glob paths = list_all (λ path. takes_bytes o glob (utf8 path)) paths
+-- the text is a glob, and the glob matches each of these paths
+abbrev pub matches_each : Options → String → List String → Bool
+matches_each o glob paths = list_all (λ path. matches_bytes o glob (utf8 path)) paths
 
-abbrev pub leaves_each : Options → String → List String → Bool
-leaves_each o glob paths = list_all (λ path. leaves_bytes o glob (utf8 path)) paths
+-- the text is a glob, and the glob matches none of these paths
+abbrev pub matches_none : Options → String → List String → Bool
+matches_none o glob paths = list_all (λ path. matches_no_bytes o glob (utf8 path)) paths
 
--- ---- the text as a regular expression
+-- ---- texts of regular expressions
 
--- that of a glob, or its fault
+-- the text of the glob as a regular expression, or the first fault of its own text
 abbrev pub regex_of : Options → String → Result (List ℕ) Fault
 regex_of o glob = map_ok (regex_text o) (reading o (codes glob))

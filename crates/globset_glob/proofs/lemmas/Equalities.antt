@@ -6,7 +6,7 @@ use Rattle.std.proofs.lemmas.Bool.Decides.{Decides-and}
 use Rattle.std.proofs.lemmas.Slice.Eq.{bytes_eq-Decides}
 use Rattle.glob_syntax.specs.declared.options.Options.{Options}
 use Rattle.globset_glob.specs.Means.{GlobValue}
-use Rattle.globset_glob.specs.Equality.{same_options, same_glob}
+use Rattle.globset_glob.specs.inner.Equality.{same_options, same_glob}
 
 same_options_decides : (o p : Options) → Decides (same_options o p) (o ≡ p)
 same_options_decides o p =

@@ -1,4 +1,4 @@
--- An escaped text means that text alone.
+-- An escaped text matches that text and no other path.
 use Rattle.std.proofs.Common.{◌≡◌, ◌↔◌, ℕ, List, [], ◌∷◌, ◌++◌, Bool, true, false, true≢false, ◌||◌, ◌&&◌, not, ◌==◌, Ok, is_ok, IsTrue, refl, ap, sym, ◌∙◌, subst, encode_utf8_all, IsUtf8}
 use Rattle.std.specs.Prelude.{if◌then◌else◌}
 use Rattle.std.specs.Char.{encode_utf8}
@@ -6,10 +6,11 @@ use Rattle.std.specs.Str.{chars, all_scalars}
 use Rattle.std.specs.List.{list_all}
 use Rattle.std.proofs.lemmas.Bool.{eqb-true}
 use Rattle.std.proofs.lemmas.Bool.Decides.{Decides-eqb}
+use Rattle.std.proofs.lemmas.Slice.Eq.{bytes_eq-Decides}
 use Rattle.std.proofs.lemmas.Str.{chars-encodes, encodes-chars, scalars-chars}
 use Rattle.glob_syntax.specs.declared.options.Options.{Options}
 use Rattle.glob_syntax.specs.ClassBytes.{ranges_have, class_has}
-use Rattle.globset_glob.specs.Takes.{is_empty, same_bytes, is_one_byte, takes, takes_all, compared}
+use Rattle.globset_glob.specs.Takes.{is_empty, is_one_byte, takes, takes_all, compared}
 use Rattle.glob_syntax.specs.Token.{Token, Literal, end, before}
 use Rattle.glob_syntax.specs.Token as token
 use Rattle.glob_syntax.specs.Reading.{reading}
@@ -22,22 +23,9 @@ use Rattle.globset_glob.proofs.lemmas.EscapeReading.{by_special, NoEscape, token
 
 -- ---- one token
 
-same_bytes_are : (x y : List ℕ) → IsTrue (same_bytes x y) → x ≡ y
-same_bytes_are [] [] h = refl
-same_bytes_are [] (d ∷ ds) h = absurd (true≢false (sym h))
-same_bytes_are (c ∷ cs) [] h = absurd (true≢false (sym h))
-same_bytes_are (c ∷ cs) (d ∷ ds) h =
-    let here : c ≡ d = eqb-true c d (and_first _ _ h) in
-    let rest : cs ≡ ds = same_bytes_are cs ds (and_second _ _ h) in
-    λ i. here i ∷ rest i
-
-same_bytes_self : (x : List ℕ) → IsTrue (same_bytes x x)
-same_bytes_self [] = refl
-same_bytes_self (c ∷ cs) = and_both _ _ ((Decides-eqb c c).1 refl) (same_bytes_self cs)
-
 literal_takes : (o : Options) (c : ℕ) (b : List ℕ) → o.case_insensitive ≡ false → IsTrue (takes o (Literal c) b) ↔ (b ≡ encode_utf8 c)
 literal_takes o c b i =
-    rw (i, takes, compared) (same_bytes_are b (encode_utf8 c), λ e. subst (λ x. IsTrue (same_bytes x (encode_utf8 c))) (sym e) (same_bytes_self (encode_utf8 c)))
+    rw (i, takes, compared) (bytes_eq-Decides b (encode_utf8 c))
 
 -- a class of one ASCII character, of which `alone` are the bytes
 one_byte_takes : (k : ℕ) (test : ℕ → Bool) (b : List ℕ) → ((byte : ℕ) → test byte ≡ (byte == k)) → IsTrue (is_one_byte test b) ↔ (b ≡ k ∷ [])

@@ -157,7 +157,7 @@ whole_kept : (cs : List ℕ) → whole (map kept cs) ≡ tokens_for cs
 unfolding whole
 whole_kept cs = rw (not_whole_run cs, whole) (rw (levels_kept cs true) refl)
 
--- an escaped text has one token for each character
+-- an escaped text has one token for each character of the text
 pub escaped_reads : (o : Options) (cs : List ℕ) → NoEscape o cs → reading o (escaped_chars cs) ≡ Ok (tokens_for cs)
 unfolding reading
 escaped_reads o cs h = ap whole_or_fault (marks_kept o cs h) ∙ ap (λ ts. Ok ts) (whole_kept cs)

@@ -1,4 +1,4 @@
--- The text of a glob's tokens has a tree, which denotes what they mean: a lemma for each kind of token, and induction.
+-- The text of a glob's tokens has a tree, which denotes what they match: a lemma for each kind of token, and induction.
 use Rattle.std.proofs.Common.{◌≡◌, ℕ, ◌≤◌, ◌⊎◌, inl, inr, Bool, true, false, true≢false, ◌&&◌, ◌||◌, not, List, [], ◌∷◌, ◌++◌, length, IsTrue, refl, ap, sym, ◌∙◌, subst, arith}
 use Rattle.std.specs.Prelude.{◌↔◌, encode_utf8, if◌then◌else◌, codes}
 use Rattle.std.specs.Char.{to_ascii_lowercase, to_ascii_uppercase}
@@ -33,7 +33,7 @@ module _ (o : Options) where
   abbrev HasRow : List ℕ → (List ℕ → Type 0) → Type 0
   HasRow t P = (r : Row) × SpellsRow r t × ((b : List ℕ) → DenotesRow o.case_insensitive r b ↔ P b)
 
-  -- the same for the rows of a group, each behind a `|`
+  -- the same for the rows of a group, each with a `|` before it
   abbrev HasSome : List (List ℕ) → (List ℕ → Type 0) → Type 0
   HasSome ts P = (rs : Rows) × SpellsOthers rs (others_text ts) × ((b : List ℕ) → DenotesSome o.case_insensitive rs b ↔ P b)
 
@@ -151,7 +151,7 @@ module _ (o : Options) where
   spells_wild true = (codes "/", refl, (codes "/", [], refl, spells_byte slash (omega arith), refl), omega arith)
   spells_wild false = refl
 
-  -- it is what `?` takes
+  -- it is what `?` matches
   wild_is : (q : Bool) → o.literal_separator ≡ q → (b : List ℕ) → DenotesAtom o.case_insensitive (wild q) b ↔ OneByte (is_wild o) b
   wild_is true e b = rw e (
     λ (c, is, h). (c, is, sym (ap not (slash_alone o.case_insensitive c)) ∙ h),
@@ -366,7 +366,7 @@ module _ (o : Options) where
   abbrev Means : Tokens → List ℕ → Type 0
   Means ts b = IsTrue (means o ts b)
 
-  -- the body denotes what the tokens mean
+  -- the body denotes what the tokens match
   body_has : (ts : Tokens) → AreWellFormed ts → (alone : Bool) → is_prefix_alone ts ≡ alone → HasRow (if alone then codes ".*" else tokens_text o ts) (Means ts)
   body_has ts w true e = has_same (codes ".*") Everything (Means ts) (λ b. (λ h. or_first (is_prefix_alone ts) (takes_all o ts b) e, λ h. tt)) has_everything
   body_has ts w false e = has_same (tokens_text o ts) (TakesAll o ts) (Means ts)
@@ -376,7 +376,7 @@ module _ (o : Options) where
       ))
       (tokens_have ts w)
 
-  -- the text of well-formed tokens denotes what they mean
+  -- the text of well-formed tokens denotes what they match
   pub regex_has : (ts : Tokens) → AreWellFormed ts → HasExpression (means o ts) (regex_text o ts)
   regex_has ts w = let (r, spelled, same) = body_has ts w (is_prefix_alone ts) refl in (
     expression o.case_insensitive r,

@@ -1,4 +1,4 @@
--- What a glob means, by its tokens.
+-- Which paths a glob matches, by its tokens.
 use Rattle.std.proofs.Common.{◌≡◌, ℕ, List, Result, Ok, Err, ap, sym}
 use Rattle.std.specs.Str.{chars}
 use Rattle.glob_syntax.specs.declared.fault.Fault.{Fault}
@@ -10,7 +10,7 @@ pub tokens_are : (g : GlobValue) (ts : Tokens) → reading g.options (chars g.te
 unfolding tokens_of_glob
 tokens_are g ts h = ap (λ (r : Result Tokens Fault). elim r as (λ _. Tokens) [ Ok us ↦ us | Err f ↦ end ]) h
 
--- the glob means what the tokens of its text mean
+-- the glob matches what the tokens of its text match
 pub means_is : (g : GlobValue) (ts : Tokens) (path : List ℕ) → reading g.options (chars g.text) ≡ Ok ts → means g.options ts path ≡ glob_means g path
 unfolding glob_means
 means_is g ts path h = ap (λ us. means g.options us path) (sym (tokens_are g ts h))

@@ -4,7 +4,7 @@ use Rattle.glob_syntax.specs.Token.{end, Branches, none, branch}
 use Rattle.globset_glob.specs.Blank.{is_blank, are_blank, is_kept, any_kept}
 use Rattle.glob_syntax.specs.declared.options.Options.{Options}
 
--- a group has a kept branch exactly where a branch of this group alone is kept, if it has a branch
+-- if a group has a branch, it has a kept branch exactly if a branch of this group alone is kept
 pub any_kept_is : (o : Options) (bs : Branches) → (o.empty_alternates || any_kept o bs) ≡ (o.empty_alternates || not (are_blank bs))
 any_kept_is o none = refl
 any_kept_is o (branch ts bs) = both_ways o.empty_alternates (is_blank ts) (any_kept o bs) (are_blank bs) (any_kept_is o bs)
@@ -14,7 +14,7 @@ any_kept_is o (branch ts bs) = both_ways o.empty_alternates (is_blank ts) (any_k
     both_ways false true k bs' h = h
     both_ways false false k bs' h = refl
 
--- with no tokens left, whether they are kept is known
+-- with no tokens left, it is known whether a branch of them is kept
 pub kept_at_end : (o : Options) (so_far : Bool) → (o.empty_alternates || so_far) ≡ so_far → (so_far || is_kept o end) ≡ so_far
 kept_at_end o true h = refl
 kept_at_end o false h = h

@@ -1,23 +1,25 @@
--- What tokens take, by how the bytes are put together.
+-- What tokens match, by how the bytes are put together.
 use Rattle.std.proofs.Common.{◌≡◌, ℕ, ◌⊎◌, inl, inr, Bool, true≢false, ◌&&◌, List, [], ◌∷◌, ◌++◌, IsTrue, refl, ap, sym, subst}
 use Rattle.std.specs.Prelude.{◌==◌, ◌↔◌}
+use Rattle.std.specs.Str.{bytes_eq}
+use Rattle.std.proofs.lemmas.Slice.Eq.{bytes_eq-Decides}
 use Rattle.std.proofs.lemmas.Bool.{eqb-true, eq-eqb}
 use Rattle.std.proofs.Math.Logic.{⊎_elim}
 use Rattle.glob_syntax.specs.Token.{Token, RecursivePrefix, RecursiveSuffix, RecursiveZeroOrMore, Tokens, and_then}
-use Rattle.globset_glob.specs.Takes.{takes, takes_all, is_empty, same_bytes, is_one_byte, begins_with_slash, ends_with_slash, slash}
+use Rattle.globset_glob.specs.Takes.{takes, takes_all, is_empty, is_one_byte, begins_with_slash, ends_with_slash, slash}
 use Rattle.glob_syntax.specs.declared.options.Options.{Options}
 use Rattle.globset_glob.proofs.lemmas.Booleans.{and_both, and_first, and_second, or_first, or_second, or_either}
 use Rattle.globset_glob.proofs.lemmas.Cuts.{cut_of, some_cut-append, empty_is}
 
--- the token takes the bytes
+-- the token matches the bytes
 abbrev pub Takes : Options → Token → List ℕ → Type 0
 Takes o t b = IsTrue (takes o t b)
 
--- the tokens take the bytes
+-- the tokens match the bytes, one after another
 abbrev pub TakesAll : Options → Tokens → List ℕ → Type 0
 TakesAll o ts b = IsTrue (takes_all o ts b)
 
--- it can be cut in two, so that P holds of the first part and Q of the second
+-- the list can be cut in two, so that P holds of the first part and Q of the second
 abbrev pub Then : (List ℕ → Type 0) → (List ℕ → Type 0) → List ℕ → Type 0
 Then P Q b = (x y : List ℕ) × (b ≡ x ++ y) × P x × Q y
 
@@ -25,19 +27,9 @@ Then P Q b = (x y : List ℕ) × (b ≡ x ++ y) × P x × Q y
 pub empty_same : (b : List ℕ) → (b ≡ []) ↔ IsTrue (is_empty b)
 empty_same b = (λ nil. ap is_empty nil, empty_is b)
 
-same_is : (x y : List ℕ) → IsTrue (same_bytes x y) → x ≡ y
-same_is [] [] h = refl
-same_is [] (d ∷ ds) h = absurd (true≢false (sym h))
-same_is (c ∷ cs) [] h = absurd (true≢false (sym h))
-same_is (c ∷ cs) (d ∷ ds) h = (λ i. eqb-true c d (and_first (c == d) (same_bytes cs ds) h) i ∷ same_is cs ds (and_second (c == d) (same_bytes cs ds) h) i)
-
-same_self : (x : List ℕ) → IsTrue (same_bytes x x)
-same_self [] = refl
-same_self (c ∷ cs) = and_both (c == c) (same_bytes cs cs) (eq-eqb c c refl) (same_self cs)
-
 -- equal, as a test and as an equation
-pub equal_bytes : (x y : List ℕ) → (x ≡ y) ↔ IsTrue (same_bytes x y)
-equal_bytes x y = (λ is. subst (λ l. IsTrue (same_bytes x l)) is (same_self x), same_is x y)
+pub equal_bytes : (x y : List ℕ) → (x ≡ y) ↔ IsTrue (bytes_eq x y)
+equal_bytes x y = ((bytes_eq-Decides x y).1, (bytes_eq-Decides x y).0)
 
 -- one byte, of which the test holds
 abbrev pub OneByte : (ℕ → Bool) → List ℕ → Type 0
@@ -54,19 +46,19 @@ one_byte test b = (λ (c, is, h). subst (λ l. IsTrue (is_one_byte test l)) (sym
 
 -- ---- recursive stars
 
--- it ends in `/` where a `/` stands last
+-- a list whose last byte is `/` ends with `/`
 ends_push : (x : List ℕ) → IsTrue (ends_with_slash (x ++ slash ∷ []))
 ends_push [] = refl
 ends_push (c ∷ []) = refl
 ends_push (c ∷ d ∷ ds) = ends_push (d ∷ ds)
 
--- and only there
+-- and no other list does
 ends_at : (b : List ℕ) → IsTrue (ends_with_slash b) → (x : List ℕ) × (b ≡ x ++ slash ∷ [])
 ends_at [] h = absurd (true≢false (sym h))
 ends_at (c ∷ []) h = ([], ap (λ d. d ∷ []) (eqb-true c slash h))
 ends_at (c ∷ d ∷ ds) h = let (x, is) = ends_at (d ∷ ds) h in (c ∷ x, ap (λ l. c ∷ l) is)
 
--- it begins with `/` where a `/` stands first
+-- a list begins with `/` if its first byte is `/`
 begins_at : (b : List ℕ) → IsTrue (begins_with_slash b) → (x : List ℕ) × (b ≡ slash ∷ x)
 begins_at [] h = absurd (true≢false (sym h))
 begins_at (c ∷ cs) h = (cs, ap (λ d. d ∷ cs) (eqb-true c slash h))
@@ -83,7 +75,7 @@ prefix_takes o b = (
 pub suffix_takes : (o : Options) (b : List ℕ) → ((x : List ℕ) × (b ≡ slash ∷ x)) ↔ Takes o RecursiveSuffix b
 suffix_takes o b = (λ (x, is). ap begins_with_slash is, begins_at b)
 
--- both: one `/`, or two with anything between them
+-- both: one `/`, or two with any bytes between them
 between_at : (b : List ℕ) → IsTrue (begins_with_slash b && ends_with_slash b) → (b ≡ slash ∷ []) ⊎ ((x : List ℕ) × (b ≡ slash ∷ (x ++ slash ∷ [])))
 between_at [] h = absurd (true≢false (sym h))
 between_at (c ∷ []) h = inl (ap (λ d. d ∷ []) (eqb-true c slash (and_first (c == slash) (c == slash) h)))

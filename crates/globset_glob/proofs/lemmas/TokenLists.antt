@@ -1,4 +1,4 @@
--- Tokens from the first on, at the values that the program holds.
+-- Lists of tokens from one index on, at the values that the program holds.
 use Rattle.std.proofs.Common.{◌≡◌, ℕ, ◌+◌, ◌<◌, ◌≤◌, false, List, [], ◌∷◌, length, get_or, drop, refl, sym, ap, ◌∙◌, arith}
 use Rattle.std.proofs.lemmas.List.{drop_more, drop_all}
 use Rattle.std.specs.declared.alloc.Global.{Global}
@@ -13,11 +13,11 @@ more_than_one [] h = absurd (omega arith)
 more_than_one (t ∷ []) h = absurd (omega arith)
 more_than_one (t ∷ u ∷ us) h = refl
 
--- the token at i stands before the others
+-- the token at index i is followed by the others
 pub tokens_here : (ts : List held.Token) (i : ℕ) (t : held.Token) → i < length ts → t ≡ get_or ts i t → tokens_of (drop i ts) ≡ and_then (token_of t) (tokens_of (drop (i + 1) ts))
 tokens_here ts i t lt is = ap tokens_of (drop_more ts i t lt ∙ ap (λ u. u ∷ drop (i + 1) ts) (sym is))
 
--- and so does the branch at i
+-- and so is the branch at index i
 pub branches_here : (vs : List (Vec held.Token Global)) (i : ℕ) (v : Vec held.Token Global) → i < length vs → v ≡ get_or vs i v → branches_of (drop i vs) ≡ branch (tokens_of v.items) (branches_of (drop (i + 1) vs))
 branches_here vs i v lt is = ap branches_of (drop_more vs i v lt ∙ ap (λ u. u ∷ drop (i + 1) vs) (sym is))
 

@@ -1,4 +1,4 @@
--- A glob's value, read back.
+-- The JSON value of a glob is read as that glob.
 use Rattle.std.proofs.Common.{◌≡◌, ap, sym, ◌∙◌, refl, Result, Ok, Err}
 use Rattle.std.proofs.lemmas.Bool.{true≢false}
 use Rattle.std.specs.Prelude.{IsOk}

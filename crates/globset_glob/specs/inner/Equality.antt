@@ -1,17 +1,39 @@
--- `==` of errors and of their kinds as tests, and that each is an equivalence.
-use Rattle.std.specs.Prelude.{ℕ, Bool, List, [], Option, Some, None, string_bytes, nat_eq}
+-- `==` of globs, errors and kinds of errors as tests, and that those of errors are equivalences.
+--
+-- The contract of each `==` says what its test decides: that two globs are one `GlobValue`, and `SameError` and the like.
+use Rattle.std.specs.Prelude.{ℕ, Bool, ◌&&◌, List, [], Option, Some, None, string_bytes, nat_eq}
+use Rattle.std.specs.Bool.{beq}
 use Rattle.std.specs.Str.{bytes_eq}
 use Rattle.std.specs.Option.{option_eq}
 use Rattle.std.specs.Ordering.{on, eq_of_both}
 use Rattle.std.specs.Cmp.{IsEquivalence}
 use Rattle.std.specs.Cmp.Lexicographic.{options_equiv}
 use Rattle.std.proofs.lemmas.Cmp.{and_equiv, on_equiv, nat_eq_equiv, nat_list_eq_equiv}
+use Rattle.glob_syntax.specs.declared.options.Options.{Options}
 use Rattle.globset_glob.specs.declared.error.kind.ErrorKind.{ErrorKind}
 use Rattle.globset_glob.specs.declared.error.kind.ErrorKind.TheVariants as kinds
 use Rattle.globset_glob.specs.declared.json.error.ValueErrorKind.{ValueErrorKind}
 use Rattle.globset_glob.specs.declared.json.error.ValueErrorKind.TheVariants as causes
+use Rattle.globset_glob.specs.Means.{GlobValue}
 use Rattle.globset_glob.specs.Errors.{ErrorValue}
 use Rattle.globset_glob.specs.Values.{ValueErrorValue}
+
+-- ---- globs
+
+-- both have the same value of each option
+abbrev pub same_options : Options → Options → Bool
+same_options o p =
+    beq o.case_insensitive p.case_insensitive
+    && (beq o.literal_separator p.literal_separator
+    && (beq o.backslash_escape p.backslash_escape
+    && (beq o.empty_alternates p.empty_alternates
+    && beq o.allow_unclosed_class p.allow_unclosed_class)))
+
+-- `==` of globs: the same text, and the same options
+abbrev pub same_glob : GlobValue → GlobValue → Bool
+same_glob g h = bytes_eq g.text h.text && same_options g.options h.options
+
+-- ---- errors
 
 -- a number for each variant
 abbrev pub variant : ErrorKind → ℕ

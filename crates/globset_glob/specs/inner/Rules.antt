@@ -2,13 +2,14 @@
 use Rattle.std.specs.Prelude.{◌≡◌, ℕ, Bool, true, false, not, ◌&&◌, ◌||◌, ◌==◌, List, [], ◌∷◌}
 use Rattle.std.specs.Char.{to_ascii_lowercase}
 use Rattle.std.specs.List.{list_all}
+use Rattle.std.specs.Str.{bytes_eq}
 use Rattle.glob_syntax.specs.declared.options.Options.{Options}
 use Rattle.globset_glob.specs.declared.matching.row.rule.Bytes.{Bytes}
 use Rattle.globset_glob.specs.declared.matching.row.rule.Bytes.TheVariants.{Nothing, Everything, Only, AllBut, Folded, Class}
 use Rattle.globset_glob.specs.declared.matching.row.rule.Rule.{Rule}
 use Rattle.glob_syntax.specs.Token.{Token}
 use Rattle.glob_syntax.specs.ClassBytes.{class_has}
-use Rattle.globset_glob.specs.Takes.{takes, is_empty, same_bytes, compared}
+use Rattle.globset_glob.specs.Takes.{takes, is_empty, compared}
 
 abbrev pub has_byte : Bytes → ℕ → Bool
 has_byte Nothing c = false
@@ -43,4 +44,4 @@ IsRuleOf o t r = (y : List ℕ) → allows r y ≡ takes o t y
 
 -- what these bytes of a literal take
 abbrev pub spells : Options → List ℕ → List ℕ → Bool
-spells o bytes y = same_bytes (compared o y) (compared o bytes)
+spells o bytes y = bytes_eq (compared o y) (compared o bytes)

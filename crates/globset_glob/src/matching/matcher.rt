@@ -1,4 +1,4 @@
-//! A matcher of one glob.
+//! Matchers of one glob.
 
 ghost use Rattle.std.specs.Prelude.{◌≡◌, ◌+◌, ◌≤◌, IfOk, IfErr};
 ghost use Rattle.globset_glob.specs.Errors.{out_of_memory};
@@ -8,10 +8,13 @@ use crate::error::Error;
 use crate::glob::Glob;
 use crate::matching::row::walk::is_match;
 use crate::path::{AsPath, Candidate};
+use std::alloc::AllocError;
 use std::marker::Model;
 use visits::Visits;
 
-/// Tells which paths one glob means. Contracts see its glob.
+/// Tells whether a glob matches a path.
+///
+/// Contracts see a matcher as its glob. Nothing is prepared and nothing is kept from one call to the next.
 #[derive(Debug, Drop)]
 pub struct GlobMatcher {
     glob: Glob,
@@ -34,16 +37,16 @@ impl GlobMatcher {
         GlobMatcher { glob }
     }
 
-    /// The glob. It takes no memory.
+    /// Returns the glob.
     pub fn glob(&self) -> &Glob
         ensures { result.now ≡ self.now }
     {
         &self.glob
     }
 
-    /// Whether the glob means a path, given as text. The only error is want of memory.
+    /// Returns whether the glob matches a path, or an error if memory runs out.
     ///
-    /// To ask several matchers about one path, or about bytes that are no text, make a [`Candidate`] of it.
+    /// For a path that is not UTF-8, or that several matchers are tried on, make a [`Candidate`].
     pub fn is_match<P: AsPath>(&self, path: P) -> Result<bool, Error>
         ensures ok { IfOk result (λ yes. yes ≡ glob_means self.now (P.text path)) }
         ensures err { IfErr result (λ e. e ≡ out_of_memory) }
@@ -51,7 +54,7 @@ impl GlobMatcher {
         self.is_match_candidate(&Candidate::new(path.path_text()))
     }
 
-    /// Whether the glob means a candidate's path. The only error is want of memory.
+    /// Returns whether the glob matches a candidate's path, or an error if memory runs out.
     pub fn is_match_candidate(&self, path: &Candidate<'_>) -> Result<bool, Error>
         ensures ok { IfOk result (λ yes. yes ≡ glob_means self.now path.now) }
         ensures err { IfErr result (λ e. e ≡ out_of_memory) }
@@ -60,8 +63,10 @@ impl GlobMatcher {
         self.is_match_visits(path, &mut visits)
     }
 
-    /// The same, and counts the visits: at most `(path bytes + 1) * (4 * glob bytes + 4)` more, also where memory ran
-    /// out. It takes memory for one row of the path's places, and for two more for each group that is open at once.
+    /// Does what [`is_match_candidate`](GlobMatcher::is_match_candidate) does, and adds its visits to `visits`.
+    ///
+    /// These are at most `(path bytes + 1) * (4 * glob bytes + 4)` visits, also if memory runs out. The call allocates a
+    /// row of `path bytes + 1` entries, and two more such rows for each level of nested groups.
     pub fn is_match_visits(&self, path: &Candidate<'_>, visits: &mut Visits) -> Result<bool, Error>
         ensures ok { IfOk result (λ yes. yes ≡ glob_means self.now path.now) }
         ensures err { IfErr result (λ e. e ≡ out_of_memory) }
@@ -78,11 +83,20 @@ impl GlobMatcher {
         Ok(yes)
     }
 
-    /// A matcher of an equal glob, or want of memory.
+    /// Returns a matcher for an equal glob, or an error if memory runs out.
     pub fn clone(&self) -> Result<GlobMatcher, Error>
         ensures ok { IfOk result (λ m. m ≡ self.now) }
         ensures err { IfErr result (λ e. e ≡ out_of_memory) }
     {
-        Ok(GlobMatcher::new(self.glob.clone()?))
+        Ok(Clone::clone(self)?)
+    }
+}
+
+/// A matcher for an equal glob. The error says that memory ran out.
+impl Clone for GlobMatcher {
+    ghost is_clone = { λ m n. n ≡ m };
+
+    fn clone(&self) -> Result<GlobMatcher, AllocError> {
+        Ok(GlobMatcher::new(Clone::clone(&self.glob)?))
     }
 }

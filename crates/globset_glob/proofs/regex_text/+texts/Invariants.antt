@@ -7,14 +7,14 @@ use Rattle.globset_glob.specs.RegexText.{token_text, tokens_text, kept_texts}
 use Rattle.globset_glob.specs.inner.RegexWriting.{rest_text}
 use Rattle.globset_glob.proofs.regex_text.+texts.Given as goal
 
--- the text so far, and that of the branches that are left; whether a branch was kept, or will be
+-- the text so far and that of the branches that are left; whether a branch is kept, of those so far or of those left
 abbrev pub invariant-push_group-loop-branch : goal.invariant-push_group-loop-branch
 invariant-push_group-loop-branch l = record {
   text : string_bytes l.text ++ rest_text l.first (kept_texts l.options (branches_of (drop l.branch-index l.branches))) ≡ string_bytes l.fn.text ++ token_text l.options (Group (branches_of l.branches));
   kept : (not l.first || any_kept l.options (branches_of (drop l.branch-index l.branches))) ≡ any_kept l.options (branches_of l.branches);
 }
 
--- the text so far, and that of the tokens that are left; whether they are kept by those so far, or will be; under
+-- the text so far and that of the tokens that are left; whether a branch of them is kept, by those so far or those left; under
 -- `empty_alternates` they are from the start
 abbrev pub invariant-push_tokens-loop-token : goal.invariant-push_tokens-loop-token
 invariant-push_tokens-loop-token l = record {

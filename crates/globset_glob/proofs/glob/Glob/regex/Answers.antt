@@ -14,7 +14,7 @@ use Rattle.globset_glob.proofs.glob.Glob.regex.Goals as goal
 text_is : (g : GlobValue) (ts : Tokens) (text : List ℕ) → reading g.options (chars g.text) ≡ Ok ts → text ≡ regex_text g.options ts → text ≡ regex_text g.options (tokens_of_glob g)
 text_is g ts text read is = is ∙ ap (regex_text g.options) (sym (tokens_are g ts read))
 
--- the text of a glob denotes what the glob means
+-- the text of a glob denotes what the glob matches
 has_expression : (g : GlobValue) (ts : Tokens) (text : List ℕ) → AreWellFormed ts → reading g.options (chars g.text) ≡ Ok ts → text ≡ regex_text g.options ts → HasExpression (glob_means g) text
 unfolding glob_means
 has_expression g ts text formed read is =
