@@ -19,13 +19,15 @@ pub fn returned(
 ) -> Result<String, RowError> {
     let kind = columns.next()?;
     let call = columns.next()?;
+    if kind == "Candidate" {
+        return candidate(alloc, call, &columns.bytes(alloc)?);
+    }
     let with = columns.text(alloc)?;
     let with = with.as_str();
     match kind {
         "Glob" => glob(alloc, call, with),
         "GlobBuilder" => builder(alloc, call, with),
         "GlobMatcher" => matcher(alloc, call, with),
-        "Candidate" => candidate(alloc, call, with),
         "Visits" => visits(alloc, call),
         "Error" => errors::error(alloc, call, with),
         "ErrorKind" => errors::kind(alloc, call, with),
@@ -92,16 +94,20 @@ fn matcher(alloc: Global, call: &str, with: &str) -> Result<String, RowError> {
 }
 
 /// On a candidate of this path.
-fn candidate(alloc: Global, call: &str, with: &str) -> Result<String, RowError> {
-    let candidate = Candidate::new(with);
+fn candidate(alloc: Global, call: &str, with: &[u8]) -> Result<String, RowError> {
+    let candidate = Candidate::from_bytes(with);
     let copy = candidate.clone()?;
     let bytes = match call {
-        "new" => candidate.path(),
-        "from_bytes" => Candidate::from_bytes(with.as_bytes()).path(),
+        "new" => match str::from_utf8(with) {
+            Ok(text) => Candidate::new(text).path(),
+            Err(_) => return Err(RowError::NotUtf8),
+        },
+        "from_bytes" => candidate.path(),
         "clone" => copy.path(),
-        "basename" => copy.basename(),
-        "ext" => copy.ext(),
-        "Debug" => return text(alloc, format!(in alloc; "{candidate:?}")?.as_str()),
+        "Debug" => {
+            let shown = format!(in alloc; "{candidate:?}")?;
+            return Ok(escaped(alloc, shown.as_bytes())?);
+        }
         _ => return Err(RowError::UnknownCall),
     };
     Ok(escaped(alloc, bytes)?)

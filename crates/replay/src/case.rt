@@ -1,5 +1,7 @@
 //! Rows about globs, sets, paths and JSON values.
 
+ghost use Rattle.std.specs.Prelude.{◌≡◌, ◌↔◌, IsNone, IfSome, string_bytes};
+
 use crate::calls;
 use crate::column::{Columns, escaped};
 use crate::error::RowError;
@@ -41,13 +43,7 @@ impl Case {
 
     fn replay_columns(&mut self, columns: &mut Columns<'_>) -> Result<Option<String>, AllocError> {
         match self.returned(columns) {
-            Ok(returned) => {
-                if returned.as_str() == columns.rest() {
-                    Ok(None)
-                } else {
-                    Ok(Some(returned))
-                }
-            }
+            Ok(returned) => Ok(unless_equal(returned, columns.rest())),
             Err(error) => Ok(Some(error.to_string(self.alloc)?)),
         }
     }
@@ -177,10 +173,13 @@ impl Case {
         let value = self.json(columns)?;
         match Glob::from_value(self.alloc, &value) {
             Ok(glob) => {
-                let text = escaped(self.alloc, glob.glob().as_bytes())?;
-                let written = glob.to_value()?.to_string(self.alloc)?;
-                let written = escaped(self.alloc, written.as_bytes())?;
-                Ok(format!(in self.alloc; "reads\t{text}\t{written}")?)
+                let value = glob.to_value()?;
+                if Glob::from_value(self.alloc, &value)? != glob {
+                    return text(self.alloc, "another glob is read back");
+                }
+                let glob = escaped(self.alloc, glob.glob().as_bytes())?;
+                let written = escaped(self.alloc, value.to_string(self.alloc)?.as_bytes())?;
+                Ok(format!(in self.alloc; "reads\t{glob}\t{written}")?)
             }
             Err(error) => shown::value_error(self.alloc, &error),
         }
@@ -205,6 +204,18 @@ impl Case {
             Ok(value) => Ok(value),
             Err(_) => Err(RowError::NotJson),
         }
+    }
+}
+
+/// What was returned, unless it is what should be returned.
+fn unless_equal(returned: String, want: &str) -> Option<String>
+    ensures same { IsNone result ↔ (string_bytes returned ≡ want.now) }
+    ensures other { IfSome result (λ text. text ≡ returned) }
+{
+    if returned.as_str() == want {
+        None
+    } else {
+        Some(returned)
     }
 }
 

@@ -1,5 +1,9 @@
 //! Columns of a row: bytes as printable text.
 
+ghost use Rattle.std.specs.Prelude.{◌≡◌, IfOk};
+ghost use Rattle.std.specs.Str.{chars};
+ghost use Rattle.bstr.specs.Escape.{unescaped};
+
 use crate::error::RowError;
 use bstr::{ByteSlice, ByteVec};
 use std::alloc::{AllocError, Global};
@@ -53,7 +57,9 @@ impl<'a> Columns<'a> {
 
 /// The bytes that a column stands for. Each byte string is written in one way, and a column that is written in another
 /// is an error.
-pub fn unescaped(alloc: Global, column: &str) -> Result<Vec<u8>, RowError> {
+pub fn unescaped(alloc: Global, column: &str) -> Result<Vec<u8>, RowError>
+    ensures { IfOk result (λ bytes. bytes.items ≡ unescaped (chars column.now)) }
+{
     let bytes = Vec::unescape_bytes(alloc, column)?;
     if escaped(alloc, &bytes)?.as_str() != column {
         return Err(RowError::BadColumn);

@@ -46,7 +46,8 @@ fn replay_file(rt: &HostRuntime, file: &str) -> Result<Report> {
     }
     let report = replay(rt.alloc(), &lines)?;
     for failure in &report.failures {
-        println!(rt; "{file}:{}: {}", failure.line, failure.row)?;
+        let row = lines[failure.index];
+        println!(rt; "{file}:{}: {row}", failure.index + 1)?;
         println!(rt; "    returned: {}", failure.returned)?;
     }
     println!(rt;

@@ -1,13 +1,16 @@
 //! What the rows of a file come to.
 
+ghost use Rattle.std.specs.Prelude.{◌≡◌, ◌+◌, ◌<◌, length, IfOk};
+ghost use Rattle.std.specs.List.{All, count_by};
+ghost use Rattle.replay.specs.Rows.{is_row};
+
 use crate::case::Case;
 use std::alloc::{AllocError, Global};
 
-/// A row for which something else was returned than it says.
+/// The index of a line whose row failed, and what was returned instead.
 #[derive(Drop)]
 pub struct Failure {
-    pub line: usize,
-    pub row: String,
+    pub index: usize,
     pub returned: String,
 }
 
@@ -18,34 +21,36 @@ pub struct Report {
     pub failures: Vec<Failure>,
 }
 
-/// Replays the rows of a file. A line that begins with `#` is a comment, and an empty line ends a case.
-pub fn replay(alloc: Global, lines: &[&str]) -> Result<Report, AllocError> {
+/// Replays the rows of a file: the lines that are neither empty nor a comment. An empty line ends a case.
+pub fn replay(alloc: Global, lines: &[&str]) -> Result<Report, AllocError>
+    ensures rows { IfOk result (λ r. r.passed + length r.failures.items ≡ count_by (λ line. is_row line.now) lines.now) }
+    ensures failures { IfOk result (λ r. All (λ f. f.index < length lines.now) r.failures.items) }
+{
     let mut case = Case::new(alloc);
     let mut report = Report {
         passed: 0,
         failures: Vec::new(alloc),
     };
-    for (i, line) in lines.iter().enumerate() {
+    for (index, line) in lines.iter().enumerate() {
         if line.is_empty() {
             case = Case::new(alloc);
-        } else if !line.starts_with('#') {
-            report.add(i, line, case.replay(line)?)?;
+        }
+        if is_row(line) {
+            match case.replay(line)? {
+                None => report.passed += 1,
+                Some(returned) => report.failures.push(Failure { index, returned })?,
+            }
         }
     }
     Ok(report)
 }
 
-impl Report {
-    /// Adds the row of this index, which passed if nothing else was returned.
-    fn add(&mut self, i: usize, row: &str, returned: Option<String>) -> Result<(), AllocError> {
-        match returned {
-            None => self.passed = self.passed.saturating_add(1),
-            Some(returned) => self.failures.push(Failure {
-                line: i.saturating_add(1),
-                row: String::from_str(*self.failures.allocator(), row)?,
-                returned,
-            })?,
-        }
-        Ok(())
+/// Whether a line is a row.
+fn is_row(line: &str) -> bool
+    ensures { result ≡ is_row line.now }
+{
+    match line.as_bytes() {
+        [] => false,
+        [first, ..] => *first != b'#',
     }
 }

@@ -41,13 +41,16 @@ fn text_of<E: std::error::Error>(alloc: Global, error: &E) -> Result<String, Row
 /// On the kind of this name.
 pub fn kind(alloc: Global, call: &str, with: &str) -> Result<String, RowError> {
     let kind = kind_of(alloc, with)?;
-    let other = ErrorKind::InvalidRange('z', 'b');
     let shown = match call {
         "Display" => format!(in alloc; "{kind}")?,
         "Debug" => format!(in alloc; "{kind:?}")?,
         "clone" => format!(in alloc; "{:?}", kind.clone()?)?,
         "== clone" => text(alloc, yes_or_no(kind == kind.clone()?))?,
-        "== other" => text(alloc, yes_or_no(kind == other))?,
+        "== z > b" => text(alloc, yes_or_no(kind == ErrorKind::InvalidRange('z', 'b')))?,
+        "== too small" => {
+            let other = ErrorKind::Regex(String::from_str(alloc, "too small")?);
+            text(alloc, yes_or_no(kind == other))?
+        }
         _ => return Err(RowError::UnknownCall),
     };
     Ok(escaped(alloc, shown.as_bytes())?)
