@@ -28,6 +28,7 @@ pub fn set(
         "matches_candidate" => list(alloc, &set.matches_candidate(alloc, &Candidate::new(path))?),
         "len" => Ok(format!(in alloc; "{}", set.len())?),
         "clone" => list(alloc, &set.clone()?.matches(alloc, path)?),
+        "Clone" => list(alloc, &Clone::clone(set)?.matches(alloc, path)?),
         "new" => list(alloc, &GlobSet::new(alloc, globs)?.matches(alloc, path)?),
         "new rev" => list(
             alloc,
@@ -98,6 +99,11 @@ pub fn builder(alloc: Global, call: &str, globs: &[Glob]) -> Result<String, RowE
         }
         "clone" => {
             let copy = builder.clone()?;
+            builder.add(Glob::new(alloc, "a")?)?;
+            length(alloc, &copy)
+        }
+        "Clone" => {
+            let copy = Clone::clone(&builder)?;
             builder.add(Glob::new(alloc, "a")?)?;
             length(alloc, &copy)
         }
