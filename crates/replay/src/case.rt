@@ -42,10 +42,15 @@ impl Case {
     }
 
     fn replay_columns(&mut self, columns: &mut Columns<'_>) -> Result<Option<String>, AllocError> {
-        match self.returned(columns) {
-            Ok(returned) => Ok(unless_equal(returned, columns.rest())),
+        match self.compared(columns) {
+            Ok(other) => Ok(other),
             Err(error) => Ok(Some(error.to_string(self.alloc)?)),
         }
+    }
+
+    fn compared(&mut self, columns: &mut Columns<'_>) -> Result<Option<String>, RowError> {
+        let returned = self.returned(columns)?;
+        Ok(unless_equal(returned, columns.rest()?))
     }
 
     /// What the call of a row returns, as columns. The columns that are left are those that it should return.
@@ -86,11 +91,11 @@ impl Case {
         }
     }
 
-    /// Adds a glob to the set, and returns no columns.
+    /// Adds a glob to the set: the length of the set.
     fn add(&mut self, columns: &mut Columns<'_>) -> Result<String, RowError> {
         let glob = read(self.alloc, columns)??;
         self.push(glob)?;
-        Ok(String::new(self.alloc))
+        Ok(format!(in self.alloc; "{}", self.set.len())?)
     }
 
     fn push(&mut self, glob: Glob) -> Result<(), RowError> {

@@ -49,9 +49,9 @@ impl<'a> Columns<'a> {
         }
     }
 
-    /// The columns that were not read, as they are written.
-    pub fn rest(&self) -> &'a str {
-        self.rest.unwrap_or("")
+    /// The columns that were not read, as they are written. There is at least one, which may be empty.
+    pub fn rest(&self) -> Result<&'a str, RowError> {
+        self.rest.ok_or(RowError::MissingColumn)
     }
 }
 

@@ -1,6 +1,6 @@
 //! What the rows of a file come to.
 
-ghost use Rattle.std.specs.Prelude.{◌≡◌, ◌+◌, ◌<◌, length, IfOk};
+ghost use Rattle.std.specs.Prelude.{◌≡◌, ◌+◌, ◌<◌, ◌^◌, ◌++◌, ◌∷◌, [], length, IfOk, OnOk, MatchOption};
 ghost use Rattle.std.specs.List.{All, count_by};
 ghost use Rattle.replay.specs.Rows.{is_row};
 
@@ -36,10 +36,8 @@ pub fn replay(alloc: Global, lines: &[&str]) -> Result<Report, AllocError>
             case = Case::new(alloc);
         }
         if is_row(line) {
-            match case.replay(line)? {
-                None => report.passed += 1,
-                Some(returned) => report.failures.push(Failure { index, returned })?,
-            }
+            let returned = case.replay(line)?;
+            report.add(index, returned)?;
         }
     }
     Ok(report)
@@ -52,5 +50,21 @@ fn is_row(line: &str) -> bool
     match line.as_bytes() {
         [] => false,
         [first, ..] => *first != b'#',
+    }
+}
+
+impl Report {
+    /// Adds the row of this line: it passed if nothing else was returned.
+    fn add(&mut self, index: usize, returned: Option<String>) -> Result<(), AllocError>
+        requires { self.old.passed + 1 < 2 ^ 64 }
+        ensures passed { OnOk result (MatchOption returned (self.new.passed ≡ self.old.passed + 1) (λ _. self.new.passed ≡ self.old.passed)) }
+        ensures failures { OnOk result (MatchOption returned (self.new.failures.items ≡ self.old.failures.items)
+            (λ text. self.new.failures.items ≡ self.old.failures.items ++ record { index = index; returned = text } ∷ [])) }
+    {
+        match returned {
+            None => self.passed += 1,
+            Some(returned) => self.failures.push(Failure { index, returned })?,
+        }
+        Ok(())
     }
 }
