@@ -28,6 +28,3 @@ pub use globset_glob::{
     ValueErrorKind, Visits, escape,
 };
 pub use set::GlobSet;
-
-#[cfg(test)]
-mod tests;

@@ -1,0 +1,81 @@
+//! Columns of a row: bytes as printable text.
+
+ghost use Rattle.std.specs.Prelude.{◌≡◌, IfOk};
+ghost use Rattle.std.specs.Str.{chars};
+ghost use Rattle.bstr.specs.Escape.{unescaped};
+
+use crate::error::RowError;
+use bstr::{ByteSlice, ByteVec};
+use std::alloc::{AllocError, Global};
+
+/// The columns of a row that were not read yet. Tabs separate them.
+#[derive(Drop)]
+pub struct Columns<'a> {
+    rest: Option<&'a str>,
+}
+
+impl<'a> Columns<'a> {
+    pub fn new(row: &'a str) -> Columns<'a> {
+        Columns { rest: Some(row) }
+    }
+
+    /// The next column, as it is written.
+    pub fn next(&mut self) -> Result<&'a str, RowError> {
+        let Some(rest) = self.rest else {
+            return Err(RowError::MissingColumn);
+        };
+        match rest.split_once('\t') {
+            Some((column, after)) => {
+                self.rest = Some(after);
+                Ok(column)
+            }
+            None => {
+                self.rest = None;
+                Ok(rest)
+            }
+        }
+    }
+
+    /// The bytes of the next column.
+    pub fn bytes(&mut self, alloc: Global) -> Result<Vec<u8>, RowError> {
+        unescaped(alloc, self.next()?)
+    }
+
+    /// The text of the next column.
+    pub fn text(&mut self, alloc: Global) -> Result<String, RowError> {
+        match String::from_utf8(self.bytes(alloc)?) {
+            Ok(text) => Ok(text),
+            Err(_) => Err(RowError::NotUtf8),
+        }
+    }
+
+    /// The columns that were not read, as they are written. There is at least one, which may be empty.
+    pub fn rest(&self) -> Result<&'a str, RowError> {
+        self.rest.ok_or(RowError::MissingColumn)
+    }
+}
+
+/// The bytes that a column stands for. Each byte string is written in one way, and a column that is written in another
+/// is an error.
+pub fn unescaped(alloc: Global, column: &str) -> Result<Vec<u8>, RowError>
+    ensures { IfOk result (λ bytes. bytes.items ≡ unescaped (chars column.now)) }
+{
+    let bytes = Vec::unescape_bytes(alloc, column)?;
+    if escaped(alloc, &bytes)?.as_str() != column {
+        return Err(RowError::BadColumn);
+    }
+    Ok(bytes)
+}
+
+/// The column that stands for these bytes: printable characters and spaces are themselves, a backslash is `\\`, and other
+/// bytes are `\0`, `\t`, `\n`, `\r` or `\xNN`.
+pub fn escaped(alloc: Global, bytes: &[u8]) -> Result<String, AllocError> {
+    let mut column = String::new(alloc);
+    for (i, word) in bytes.split_str(b" ").enumerate() {
+        if i > 0 {
+            column.push(' ')?;
+        }
+        column.push_str(&format!(in alloc; "{}", word.escape_bytes())?)?;
+    }
+    Ok(column)
+}

@@ -1,0 +1,70 @@
+//! What the rows of a file come to.
+
+ghost use Rattle.std.specs.Prelude.{◌≡◌, ◌+◌, ◌<◌, ◌^◌, ◌++◌, ◌∷◌, [], length, IfOk, OnOk, MatchOption};
+ghost use Rattle.std.specs.List.{All, count_by};
+ghost use Rattle.replay.specs.Rows.{is_row};
+
+use crate::case::Case;
+use std::alloc::{AllocError, Global};
+
+/// The index of a line whose row failed, and what was returned instead.
+#[derive(Drop)]
+pub struct Failure {
+    pub index: usize,
+    pub returned: String,
+}
+
+/// How many rows passed, and the rows that failed.
+#[derive(Drop)]
+pub struct Report {
+    pub passed: usize,
+    pub failures: Vec<Failure>,
+}
+
+/// Replays the rows of a file: the lines that are neither empty nor a comment. An empty line ends a case.
+pub fn replay(alloc: Global, lines: &[&str]) -> Result<Report, AllocError>
+    ensures rows { IfOk result (λ r. r.passed + length r.failures.items ≡ count_by (λ line. is_row line.now) lines.now) }
+    ensures failures { IfOk result (λ r. All (λ f. f.index < length lines.now) r.failures.items) }
+{
+    let mut case = Case::new(alloc);
+    let mut report = Report {
+        passed: 0,
+        failures: Vec::new(alloc),
+    };
+    for (index, line) in lines.iter().enumerate() {
+        if line.is_empty() {
+            case = Case::new(alloc);
+        }
+        if is_row(line) {
+            let returned = case.replay(line)?;
+            report.add(index, returned)?;
+        }
+    }
+    Ok(report)
+}
+
+/// Whether a line is a row.
+fn is_row(line: &str) -> bool
+    ensures { result ≡ is_row line.now }
+{
+    match line.as_bytes() {
+        [] => false,
+        [first, ..] => *first != b'#',
+    }
+}
+
+impl Report {
+    /// Adds the row of this line: it passed if nothing else was returned.
+    fn add(&mut self, index: usize, returned: Option<String>) -> Result<(), AllocError>
+        requires { self.old.passed + 1 < 2 ^ 64 }
+        ensures passed { OnOk result (MatchOption returned (self.new.passed ≡ self.old.passed + 1) (λ _. self.new.passed ≡ self.old.passed)) }
+        ensures failures { OnOk result (MatchOption returned (self.new.failures.items ≡ self.old.failures.items)
+            (λ text. self.new.failures.items ≡ self.old.failures.items ++ record { index = index; returned = text } ∷ [])) }
+    {
+        match returned {
+            None => self.passed += 1,
+            Some(returned) => self.failures.push(Failure { index, returned })?,
+        }
+        Ok(())
+    }
+}
