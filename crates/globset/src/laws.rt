@@ -5,9 +5,6 @@ ghost use Rattle.globset_glob.specs.Errors.{out_of_memory};
 ghost use Rattle.globset.specs.Laws.{AddKeeps, OneGlobSet, OrderRenames};
 ghost use Rattle.globset.specs.SetValue.{builder_globs};
 
-#[cfg(test)]
-mod tests;
-
 use crate::builder::GlobSetBuilder;
 use globset_glob::{Error, Glob};
 

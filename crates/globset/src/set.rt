@@ -10,8 +10,6 @@ ghost use Rattle.globset.specs.SetValue.{set_globs, builder_globs};
 mod all;
 mod any;
 mod matches;
-#[cfg(test)]
-mod tests;
 mod value;
 
 use crate::builder::GlobSetBuilder;

@@ -2,6 +2,7 @@
 
 use crate::error::RowError;
 use crate::shown::{list, text, yes_or_no};
+use globset::laws::{add_after_error, failed_add_keeps};
 use globset::{Candidate, Glob, GlobSet, GlobSetBuilder, Visits};
 use std::alloc::Global;
 
@@ -92,6 +93,14 @@ pub fn builder(alloc: Global, call: &str, globs: &[Glob]) -> Result<String, RowE
             length(alloc, &builder)
         }
         "build" => length(alloc, &builder),
+        "add_after_error" => {
+            add_after_error(&mut builder, Glob::new(alloc, "a")?, Glob::new(alloc, "b")?)?;
+            length(alloc, &builder)
+        }
+        "failed_add_keeps" => {
+            failed_add_keeps(&mut builder, Glob::new(alloc, "a")?)?;
+            length(alloc, &builder)
+        }
         "build and add" => {
             let set = builder.build()?;
             builder.add(Glob::new(alloc, "a")?)?;
