@@ -1,4 +1,5 @@
 pub mod Classes
+pub mod FlatTokens
 pub mod Groups
 pub mod Levels
 pub mod Lists
