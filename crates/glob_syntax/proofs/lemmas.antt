@@ -1,11 +1,11 @@
 pub mod Classes
 pub mod FaultsStay
+pub mod FlatTokens
+pub mod FlatTrees
 pub mod Groups
-pub mod Levels
 pub mod Lists
 pub mod Marks
 pub mod Nesting
-pub mod TokenViews
 pub mod UnclosedClasses
 pub mod Weights
 pub mod WellFormed

@@ -4,7 +4,7 @@ pub mod copy;
 
 use crate::class::Class;
 
-/// A token of a glob.
+/// A token of a glob. A group is an `Open`, its branches with a `Comma` between each two, and a `Close`.
 #[derive(Debug, Drop)]
 pub enum Token {
     /// A plain character.
@@ -21,6 +21,10 @@ pub enum Token {
     RecursiveZeroOrMore,
     /// A character class, `[..]`.
     Class(Class),
-    /// A group, `{..}`, by its branches.
-    Alternates(Vec<Vec<Token>>),
+    /// The `{` of a group.
+    Open,
+    /// A `,` between two branches of a group.
+    Comma,
+    /// The `}` of a group.
+    Close,
 }

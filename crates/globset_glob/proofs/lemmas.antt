@@ -8,9 +8,9 @@ pub mod EscapeReading
 pub mod Expressions
 pub mod Globs
 pub mod GroupUnions
-pub mod KeptBranches
 pub mod KindEqualities
 pub mod LastPositions
+pub mod RegexWriting
 pub mod RowPasses
 pub mod RowSteps
 pub mod Rules

@@ -5,7 +5,8 @@ ghost use Rattle.std.specs.Str.{chars};
 ghost use Rattle.glob_syntax.specs.Reading.{reading};
 ghost use Rattle.globset_glob.specs.Means.{tokens_of_glob};
 ghost use Rattle.globset_glob.specs.Values.{of_element};
-ghost use Rattle.glob_syntax.specs.Views.{tokens_of};
+ghost use Rattle.glob_syntax.specs.FlatTokens.{IsNested};
+ghost use Rattle.glob_syntax.specs.Views.{flats, tokens_of};
 
 use crate::glob::Glob;
 use crate::json::error::ValueError;
@@ -17,6 +18,7 @@ use glob_syntax::{Options, Token};
 pub fn tokens_of(glob: &Glob) -> &[Token]
     ensures read { reading glob.now.options (chars glob.now.text) ≡ Ok (tokens_of result.now) }
     ensures tokens { tokens_of_glob glob.now ≡ tokens_of result.now }
+    ensures nested { IsNested (flats result.now) }
 {
     glob.tokens()
 }
