@@ -2,13 +2,13 @@ pub mod Booleans
 pub mod ByteTexts
 pub mod ClassTexts
 pub mod Cuts
-pub mod Equalities
+pub mod ErrorEquality
 pub mod EscapeMeaning
 pub mod EscapeReading
 pub mod Expressions
+pub mod GlobEquality
 pub mod Globs
 pub mod GroupUnions
-pub mod KindEqualities
 pub mod LastPositions
 pub mod RegexWriting
 pub mod RowPasses

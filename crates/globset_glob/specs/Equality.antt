@@ -1,13 +1,9 @@
 -- Equality of errors. Globs need no definition: two are equal if they have one `GlobValue`.
-use Rattle.std.specs.Prelude.{◌≡◌, Bool, ◌&&◌, string_bytes}
-use Rattle.std.specs.Bool.{beq}
-use Rattle.std.specs.Str.{bytes_eq}
-use Rattle.glob_syntax.specs.declared.options.Options.{Options}
+use Rattle.std.specs.Prelude.{◌≡◌, string_bytes}
 use Rattle.globset_glob.specs.declared.error.kind.ErrorKind.{ErrorKind}
 use Rattle.globset_glob.specs.declared.error.kind.ErrorKind.TheVariants as kinds
 use Rattle.globset_glob.specs.declared.json.error.ValueErrorKind.{ValueErrorKind}
 use Rattle.globset_glob.specs.declared.json.error.ValueErrorKind.TheVariants as causes
-use Rattle.globset_glob.specs.Means.{GlobValue}
 use Rattle.globset_glob.specs.Errors.{ErrorValue}
 use Rattle.globset_glob.specs.Values.{ValueErrorValue}
 

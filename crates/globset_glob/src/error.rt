@@ -108,7 +108,7 @@ impl PartialEq for Error {
 
     ghost laws = { partial_equiv_from_equiv same_error_laws };
 
-    #[tactic(auto, using(crate::proofs::lemmas::KindEqualities::equal_errors))]
+    #[tactic(auto, using(crate::proofs::lemmas::ErrorEquality::equal_errors))]
     fn eq(&self, other: &Error) -> bool
         ensures result { result ≡ same_error self.now other.now }
         ensures same { IsTrue result ↔ SameError self.now other.now }

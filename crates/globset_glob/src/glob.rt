@@ -198,7 +198,7 @@ impl PartialEq for Glob {
 
     ghost laws = { partial_equiv_from_equiv (and_equiv (on_equiv (λ g. g.text) nat_list_eq_equiv) (on_equiv (λ g. g.options) laws-law)) };
 
-    #[tactic(auto, using(crate::proofs::lemmas::Equalities::equal_globs))]
+    #[tactic(auto, using(crate::proofs::lemmas::GlobEquality::equal_globs))]
     fn eq(&self, other: &Glob) -> bool
         ensures result { result ≡ same_glob self.now other.now }
         ensures fields { IsTrue result ↔ (self.now ≡ other.now) }

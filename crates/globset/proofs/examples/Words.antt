@@ -4,14 +4,12 @@ use Rattle.std.specs.Char.{encode_utf8}
 use Rattle.std.specs.List.{list_all}
 use Rattle.std.specs.Str.{chars}
 use Prim.Native.String.{String}
-use Rattle.glob_syntax.specs.declared.options.Options.{Options}
-use Rattle.glob_syntax.specs.declared.options.TheConstants.Options.{DEFAULT}
 use Rattle.globset_glob.specs.Ranges.{ranges, bad_range}
 use Rattle.globset_glob.specs.Marks.{marks, mark_at}
 use Rattle.globset_glob.specs.Nesting.{nested}
 use Rattle.globset_glob.specs.Stars.{piece}
 use Rattle.globset_glob.specs.Reading.{reading, whole, levels}
-use Rattle.globset_glob.specs.Means.{GlobValue, tokens_of_glob, glob_means}
+use Rattle.globset_glob.specs.Means.{GlobValue, default_options, default_glob, tokens_of_glob, glob_means}
 use Rattle.globset.specs.Answer.{answer}
 use Rattle.globset.specs.Silent.{silent}
 
@@ -26,20 +24,17 @@ globs_on_literals = tt
 abbrev pub utf8 : String → List ℕ
 utf8 text = encode_utf8_all (codes text)
 
-abbrev pub glob_under : Options → String → GlobValue
-glob_under o text = record { text = utf8 text; options = o }
-
 -- the glob of a text under the default options
 abbrev pub glob : String → GlobValue
-glob = glob_under DEFAULT
+glob text = default_glob (utf8 text)
 
 -- under `case_insensitive`
 abbrev pub insensitive : String → GlobValue
-insensitive = glob_under (record DEFAULT { case_insensitive = true })
+insensitive text = record { text = utf8 text; options = record default_options { case_insensitive = true } }
 
 -- under `literal_separator`
 abbrev pub separated : String → GlobValue
-separated = glob_under (record DEFAULT { literal_separator = true })
+separated text = record { text = utf8 text; options = record default_options { literal_separator = true } }
 
 -- the globs of these texts under the default options
 abbrev pub globs : List String → List GlobValue

@@ -1,5 +1,5 @@
 -- Examples of JSON values, and what they are read as. Each row computes.
-use Rattle.std.specs.Prelude.{◌≡◌, true, Some, Ok, Err, codes, refl}
+use Rattle.std.specs.Prelude.{◌≡◌, true, Ok, Err, codes, refl}
 use Rattle.std.specs.Fmt.{digits}
 use Rattle.serde_json.specs.Data.{null, boolean, number, unsigned, string, array, object, no_items, item, no_members}
 use Rattle.glob_syntax.specs.declared.fault.Fault.TheVariants.{UnclosedClass}

@@ -85,7 +85,7 @@ impl PartialEq for ErrorKind {
 
     ghost laws = { partial_equiv_from_equiv same_kind_laws };
 
-    #[tactic(auto, using(crate::proofs::lemmas::KindEqualities::equal_kinds))]
+    #[tactic(auto, using(crate::proofs::lemmas::ErrorEquality::equal_kinds))]
     fn eq(&self, other: &ErrorKind) -> bool
         ensures result { result ≡ same_kind self.now other.now }
         ensures same { IsTrue result ↔ SameKind self.now other.now }

@@ -41,7 +41,7 @@ impl PartialEq for ValueErrorKind {
 
     ghost laws = { partial_equiv_from_equiv same_value_kind_laws };
 
-    #[tactic(auto, using(crate::proofs::lemmas::KindEqualities::equal_value_kinds))]
+    #[tactic(auto, using(crate::proofs::lemmas::ErrorEquality::equal_value_kinds))]
     fn eq(&self, other: &ValueErrorKind) -> bool
         ensures result { result ≡ same_value_kind self.now other.now }
         ensures same { IsTrue result ↔ SameValueKind self.now other.now }
@@ -111,7 +111,7 @@ impl PartialEq for ValueError {
 
     ghost laws = { partial_equiv_from_equiv same_value_error_laws };
 
-    #[tactic(auto, using(crate::proofs::lemmas::KindEqualities::equal_value_errors))]
+    #[tactic(auto, using(crate::proofs::lemmas::ErrorEquality::equal_value_errors))]
     fn eq(&self, other: &ValueError) -> bool
         ensures result { result ≡ same_value_error self.now other.now }
         ensures same { IsTrue result ↔ SameValueError self.now other.now }

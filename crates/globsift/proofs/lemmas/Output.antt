@@ -51,17 +51,17 @@ pub has_match-rest : (globs : List GlobValue) (x : ℕ) (xs : List ℕ) → list
 unfolding has_match
 has_match-rest globs x xs e = ap (list_any (is_matched globs)) (lines_rest x xs e) ∙ or_nothing (is_matched globs (x ∷ xs))
 
--- a line whose answer is empty
+-- a line that is not matched
 pub line_output-none : (globs : List GlobValue) (numbered : Bool) (line : List ℕ) → is_matched globs line ≡ false → line_output globs numbered line ≡ []
 unfolding line_output
 line_output-none globs numbered line e = ap (λ b. cond b (index_column numbered (answer globs line) ++ line ++ 10 ∷ []) []) e
 
--- a line whose answer is not empty
+-- a line that is matched
 pub line_output-some : (globs : List GlobValue) (numbered : Bool) (line : List ℕ) → is_matched globs line ≡ true → line_output globs numbered line ≡ index_column numbered (answer globs line) ++ line ++ 10 ∷ []
 unfolding line_output
 line_output-some globs numbered line e = ap (λ b. cond b (index_column numbered (answer globs line) ++ line ++ 10 ∷ []) []) e
 
--- nothing was added for a line whose answer is empty
+-- nothing was appended for a line that is not matched
 pub line_skipped : (globs : List GlobValue) (numbered : Bool) (line pending pending' : List ℕ) (o o' b : Bool) → b ≡ is_matched globs line → o' ≡ o → pending' ≡ pending → b ≡ false →
     (pending' ≡ pending ++ line_output globs numbered line) × (o' ≡ (o || is_matched globs line))
 line_skipped globs numbered line pending pending' o o' b is p e f = (
@@ -69,7 +69,7 @@ line_skipped globs numbered line pending pending' o o' b is p e f = (
   p ∙ sym (ap (λ m. o || m) (sym is ∙ f) ∙ or_nothing o),
 )
 
--- a line whose answer is not empty was added after what stands before it, with LF
+-- a line that is matched was appended after its index column, with LF
 pub line_pushed : (globs : List GlobValue) (numbered : Bool) (line pending h1 h2 h3 : List ℕ) (o b : Bool) → b ≡ is_matched globs line → h1 ≡ pending ++ index_column numbered (answer globs line) → b ≡ true →
     h2 ≡ h1 ++ line → h3 ≡ h2 ++ 10 ∷ [] → (h3 ≡ pending ++ line_output globs numbered line) × (true ≡ (o || is_matched globs line))
 line_pushed globs numbered line pending h1 h2 h3 o b is e f p q = (

@@ -79,7 +79,7 @@ pub fn value_error(alloc: Global, call: &str, with: &str) -> Result<String, RowE
     let shown = match call {
         "kind" => format!(in alloc; "{:?}", error.kind())?,
         "kind Display" => format!(in alloc; "{}", error.kind())?,
-        "Display" => format!(in alloc; "{error}")?,
+        "Display" => text_of(alloc, &error)?,
         "Debug" => format!(in alloc; "{error:?}")?,
         "Clone" => format!(in alloc; "{:?}", error.clone()?)?,
         "kind Clone" => format!(in alloc; "{:?}", error.kind().clone()?)?,

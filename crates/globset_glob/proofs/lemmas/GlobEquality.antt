@@ -1,4 +1,4 @@
--- Tests that decide equality.
+-- `==` of globs is that of their texts and options.
 use Rattle.std.proofs.Common.{◌≡◌, Bool, true, ◌↔◌, ap, sym, ◌∙◌}
 use Rattle.std.specs.Bool.{Decides}
 use Rattle.std.specs.Cmp.{booleans_Decides}
