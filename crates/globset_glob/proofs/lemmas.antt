@@ -17,3 +17,5 @@ pub mod Rules
 pub mod Takes
 pub mod TokenLists
 pub mod Values
+pub mod Spelling
+pub mod TokenStates

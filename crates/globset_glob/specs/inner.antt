@@ -1,3 +1,4 @@
 pub mod RegexWriting
 pub mod Rows
 pub mod Rules
+pub mod TokenStates

@@ -55,19 +55,19 @@ one_byte test b = (λ (c, is, h). subst (λ l. IsTrue (is_one_byte test l)) (sym
 -- ---- recursive stars
 
 -- it ends in `/` where a `/` stands last
-ends_push : (x : List ℕ) → IsTrue (ends_with_slash (x ++ slash ∷ []))
+pub ends_push : (x : List ℕ) → IsTrue (ends_with_slash (x ++ slash ∷ []))
 ends_push [] = refl
 ends_push (c ∷ []) = refl
 ends_push (c ∷ d ∷ ds) = ends_push (d ∷ ds)
 
 -- and only there
-ends_at : (b : List ℕ) → IsTrue (ends_with_slash b) → (x : List ℕ) × (b ≡ x ++ slash ∷ [])
+pub ends_at : (b : List ℕ) → IsTrue (ends_with_slash b) → (x : List ℕ) × (b ≡ x ++ slash ∷ [])
 ends_at [] h = absurd (true≢false (sym h))
 ends_at (c ∷ []) h = ([], ap (λ d. d ∷ []) (eqb-true c slash h))
 ends_at (c ∷ d ∷ ds) h = let (x, is) = ends_at (d ∷ ds) h in (c ∷ x, ap (λ l. c ∷ l) is)
 
 -- it begins with `/` where a `/` stands first
-begins_at : (b : List ℕ) → IsTrue (begins_with_slash b) → (x : List ℕ) × (b ≡ slash ∷ x)
+pub begins_at : (b : List ℕ) → IsTrue (begins_with_slash b) → (x : List ℕ) × (b ≡ slash ∷ x)
 begins_at [] h = absurd (true≢false (sym h))
 begins_at (c ∷ cs) h = (cs, ap (λ d. d ∷ cs) (eqb-true c slash h))
 
