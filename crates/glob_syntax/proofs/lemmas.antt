@@ -1,10 +1,9 @@
 pub mod Classes
+pub mod FlatTokens
 pub mod Groups
-pub mod Levels
 pub mod Lists
 pub mod Marks
 pub mod Nesting
-pub mod TokenViews
 pub mod UnclosedClasses
 pub mod Weights
 pub mod WellFormed

@@ -4,6 +4,7 @@ pub mod Marks
 pub mod Nesting
 pub mod Stars
 pub mod Reading
+pub mod FlatTokens
 pub mod ClassBytes
 pub mod Views
 pub mod inner

@@ -1,46 +1,33 @@
 -- Tokens and results of reading as contracts see them, apart from how memory holds them.
-use Rattle.std.specs.Prelude.{◌≡◌, ℕ, ◌++◌, List, map, Result, Ok, Err}
+use Rattle.std.specs.Prelude.{◌≡◌, List, map, Result, Ok, Err}
 use Rattle.glob_syntax.specs.declared.fault.Fault.{Fault}
 use Rattle.glob_syntax.specs.declared.fault.ReadError.{ReadError}
 use Rattle.glob_syntax.specs.declared.fault.ReadError.TheVariants as errors
-use Rattle.glob_syntax.specs.declared.token.Token as tokens
-use Rattle.std.specs.declared.alloc.Global.{Global}
-use Rattle.std.specs.declared.vec.Vec.{Vec}
-use Rattle.glob_syntax.specs.Token.{Token, Tokens, Branches, Literal, Any, ZeroOrMore, RecursivePrefix, RecursiveSuffix, RecursiveZeroOrMore, Class, Group, end, and_then, none, branch, before, ahead}
+use Rattle.glob_syntax.specs.declared.token.Token.{Token}
+use Rattle.glob_syntax.specs.declared.token.Token.TheVariants as held
+use Rattle.glob_syntax.specs.Token as tree
+use Rattle.glob_syntax.specs.FlatTokens.{Flat, simple, opening, comma, closing, tree_of}
 
 -- ---- tokens
 
-abbrev mutual
-  pub token_of : tokens.Token → Token
-  token_of (tokens.Literal c) = Literal c
-  token_of tokens.Any = Any
-  token_of tokens.ZeroOrMore = ZeroOrMore
-  token_of tokens.RecursivePrefix = RecursivePrefix
-  token_of tokens.RecursiveSuffix = RecursiveSuffix
-  token_of tokens.RecursiveZeroOrMore = RecursiveZeroOrMore
-  token_of (tokens.Class class) = Class class.negated class.ranges
-  token_of (tokens.Alternates' shape rows) = Group (row_branches rows)
+abbrev pub flat_of : Token → Flat
+flat_of (held.Literal c) = simple (tree.Literal c)
+flat_of held.Any = simple tree.Any
+flat_of held.ZeroOrMore = simple tree.ZeroOrMore
+flat_of held.RecursivePrefix = simple tree.RecursivePrefix
+flat_of held.RecursiveSuffix = simple tree.RecursiveSuffix
+flat_of held.RecursiveZeroOrMore = simple tree.RecursiveZeroOrMore
+flat_of (held.Class class) = simple (tree.Class class.negated class.ranges)
+flat_of held.Open = opening
+flat_of held.Comma = comma
+flat_of held.Close = closing
 
-  pub row_branches : {n : _} → tokens.Row_of-Token-Alternates-0-1 n → Branches
-  row_branches tokens.end_of-Token-Alternates-0-1 = none
-  row_branches (tokens.more_of-Token-Alternates-0-1 shape row rows) = branch (row_tokens row) (row_branches rows)
+abbrev pub flats : List Token → List Flat
+flats ts = map flat_of ts
 
-  pub row_tokens : {n : _} → tokens.Row_of-Token n → Tokens
-  row_tokens tokens.end_of-Token = end
-  row_tokens (tokens.more_of-Token t row) = and_then (token_of t) (row_tokens row)
-
--- the tokens of a branch, in a list
-abbrev pub token_list : List tokens.Token → List Token
-token_list ts = map token_of ts
-
-abbrev pub tokens_of : List tokens.Token → Tokens
-tokens_of ts = before (token_list ts) end
-
-abbrev pub branch_list : List (Vec tokens.Token Global) → List Tokens
-branch_list vs = map (λ v. tokens_of v.items) vs
-
-abbrev pub branches_of : List (Vec tokens.Token Global) → Branches
-branches_of vs = ahead (branch_list vs) none
+-- the tree of the tokens of a glob
+abbrev pub tokens_of : List Token → tree.Tokens
+tokens_of ts = tree_of (flats ts)
 
 -- ---- results
 

@@ -1,6 +1,6 @@
 pub mod ClassTable
 pub mod MarkViews
 pub mod Nests
-pub mod TreeBuilder
+pub mod TokenReading
 pub mod Weight
 pub mod WellFormed

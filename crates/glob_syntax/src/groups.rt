@@ -1,144 +1,70 @@
 //! Braces: the tokens of marks, with their groups.
 
-ghost use Rattle.std.specs.Prelude.{◌≡◌, ◌<◌, ◌≤◌, true, ◌+◌, ◌∷◌, zero, Ok, IfOk, OnOk, List, drop, length};
-ghost use Rattle.glob_syntax.specs.Marks as marks;
-ghost use Rattle.glob_syntax.specs.inner.Nests.{Nests, is_inner};
-ghost use Rattle.glob_syntax.specs.Reading.{whole, levels};
-ghost use Rattle.glob_syntax.specs.Views.{tokens_of};
+ghost use Rattle.std.specs.Prelude.{◌≡◌, ◌≤◌, ◌∷◌, [], zero, true, IfOk, drop, length};
+ghost use Rattle.glob_syntax.specs.inner.Nests.{Nests, starts_branch};
+ghost use Rattle.glob_syntax.specs.inner.TokenReading.{Follows, ReadsTo};
+ghost use Rattle.glob_syntax.specs.Reading.{whole};
+ghost use Rattle.glob_syntax.specs.FlatTokens.{IsNested};
+ghost use Rattle.glob_syntax.specs.Views.{flats, tokens_of};
 ghost use Rattle.glob_syntax.specs.inner.MarkViews.{mark_of, marks_of};
-ghost use Rattle.glob_syntax.specs.inner.TreeBuilder.{joined, depth};
 
 use crate::marks::mark::Mark;
 use crate::stars::is_whole_run;
 use crate::stars::piece::push_piece;
 use crate::token::Token;
 use std::alloc::{AllocError, Global};
-use std::mem;
 
-/// A group that is being read.
-#[derive(Drop)]
-struct Group {
-    /// The tokens before it in its branch.
-    before: Vec<Token>,
-    /// Its branches that are done.
-    branches: Vec<Vec<Token>>,
+/// Whether a branch starts after the mark.
+fn starts_branch(mark: Mark<'_>) -> bool
+    ensures { result ≡ starts_branch (mark_of mark.entry) }
+{
+    match mark {
+        Mark::Open => true,
+        Mark::Comma => true,
+        Mark::Close => false,
+        Mark::Char { .. } => false,
+        Mark::One => false,
+        Mark::Stars(_) => false,
+        Mark::Class { .. } => false,
+        Mark::Bad(_) => false,
+    }
 }
 
-/// The tokens of the marks that were read so far.
-#[derive(Drop)]
-struct TreeBuilder {
-    /// The groups that are open, the outermost first.
-    groups: Vec<Group>,
-    /// The tokens of the branch that is being read.
-    branch: Vec<Token>,
-    /// Whether that branch starts here.
+/// Pushes the tokens of the piece that starts with `mark`, the first of `rest`, before `after`. Returns how many marks the
+/// piece has after its first.
+fn push_mark(
+    alloc: Global,
+    tokens: &mut Vec<Token>,
     start: bool,
-}
-
-impl TreeBuilder {
-    /// A `{` is read.
-    fn open(&mut self, alloc: Global) -> Result<(), AllocError>
-        ensures read { OnOk result ((ms : List marks.Mark) → joined self.new (levels zero self.new.start ms) ≡ joined self.old (levels zero self.old.start (marks.Open ∷ ms))) }
-        ensures groups { OnOk result (depth self.new ≡ depth self.old + 1) }
-    {
-        let before = mem::replace(&mut self.branch, Vec::new(alloc));
-        self.groups.push(Group {
-            before,
-            branches: Vec::new(alloc),
-        })?;
-        self.start = true;
-        Ok(())
-    }
-
-    /// A `,` is read.
-    fn comma(&mut self, alloc: Global) -> Result<(), AllocError>
-        requires { 0 < depth self.old }
-        ensures read { OnOk result ((ms : List marks.Mark) → joined self.new (levels zero self.new.start ms) ≡ joined self.old (levels zero self.old.start (marks.Comma ∷ ms))) }
-        ensures groups { OnOk result (depth self.new ≡ depth self.old) }
-    {
-        let branch = mem::replace(&mut self.branch, Vec::new(alloc));
-        let Some(group) = self.groups.last_mut() else {
-            unreachable!()
-        };
-        group.branches.push(branch)?;
-        self.start = true;
-        Ok(())
-    }
-
-    /// A `}` is read.
-    fn close(&mut self) -> Result<(), AllocError>
-        requires { 0 < depth self.old }
-        ensures read { OnOk result ((ms : List marks.Mark) → joined self.new (levels zero self.new.start ms) ≡ joined self.old (levels zero self.old.start (marks.Close ∷ ms))) }
-        ensures groups { OnOk result (depth self.new + 1 ≡ depth self.old) }
-    {
-        let Some(mut group) = self.groups.pop() else {
-            unreachable!()
-        };
-        let branch = mem::replace(&mut self.branch, group.before);
-        group.branches.push(branch)?;
-        self.branch.push(Token::Alternates(group.branches))?;
-        self.start = false;
-        Ok(())
-    }
-
-    /// A mark inside a branch is read, the first of `rest`. Answers how many marks its piece takes besides.
-    fn piece(
-        &mut self,
-        alloc: Global,
-        mark: Mark<'_>,
-        rest: &[Mark<'_>],
-        after: &[Mark<'_>],
-    ) -> Result<usize, AllocError>
-        requires cell { marks_of rest.now ≡ mark_of mark ∷ marks_of after.now }
-        requires inner { is_inner (mark_of mark) ≡ true }
-        requires nests { Nests (depth self.old) (mark_of mark ∷ marks_of after.now) }
-        ensures read { IfOk result (λ more. joined self.new (levels zero self.new.start (drop more (marks_of after.now))) ≡ joined self.old (levels zero self.old.start (mark_of mark.entry ∷ marks_of after.now))) }
-        ensures nests { IfOk result (λ more. Nests (depth self.new) (drop more (marks_of after.now))) }
-        ensures within { IfOk result (λ more. more ≤ length after.now) }
-    {
-        let more = push_piece(alloc, &mut self.branch, self.start, mark, rest, after)?;
-        self.start = false;
-        Ok(more)
-    }
-
-    /// The mark `mark`, the first of `rest`, is read. Answers how many marks its piece takes besides.
-    fn read(
-        &mut self,
-        alloc: Global,
-        mark: Mark<'_>,
-        rest: &[Mark<'_>],
-        after: &[Mark<'_>],
-    ) -> Result<usize, AllocError>
-        requires cell { marks_of rest.now ≡ mark_of mark ∷ marks_of after.now }
-        requires nests { Nests (depth self.old) (mark_of mark ∷ marks_of after.now) }
-        ensures read { IfOk result (λ more. joined self.new (levels zero self.new.start (drop more (marks_of after.now))) ≡ joined self.old (levels zero self.old.start (mark_of mark.entry ∷ marks_of after.now))) }
-        ensures nests { IfOk result (λ more. Nests (depth self.new) (drop more (marks_of after.now))) }
-        ensures within { IfOk result (λ more. more ≤ length after.now) }
-    {
-        match mark {
-            Mark::Open => {
-                self.open(alloc)?;
-                Ok(0)
-            }
-            Mark::Comma => {
-                self.comma(alloc)?;
-                Ok(0)
-            }
-            Mark::Close => {
-                self.close()?;
-                Ok(0)
-            }
-            Mark::Char { .. } => self.piece(alloc, mark, rest, after),
-            Mark::One => self.piece(alloc, mark, rest, after),
-            Mark::Stars(_) => self.piece(alloc, mark, rest, after),
-            Mark::Class { .. } => self.piece(alloc, mark, rest, after),
-            Mark::Bad(_) => unreachable!(),
+    mark: Mark<'_>,
+    rest: &[Mark<'_>],
+    after: &[Mark<'_>],
+) -> Result<usize, AllocError>
+    requires cell { marks_of rest.now ≡ mark_of mark ∷ marks_of after.now }
+    requires follows { Follows (flats tokens.old.items) (mark_of mark ∷ marks_of after.now) }
+    ensures read { IfOk result (λ more. ReadsTo (flats tokens.old.items) start (mark_of mark.entry ∷ marks_of after.now) (flats tokens.new.items) (starts_branch (mark_of mark.entry)) (drop more (marks_of after.now))) }
+    ensures within { IfOk result (λ more. more ≤ length after.now) }
+{
+    match mark {
+        Mark::Open => {
+            tokens.push(Token::Open)?;
+            Ok(0)
         }
+        Mark::Comma => {
+            tokens.push(Token::Comma)?;
+            Ok(0)
+        }
+        Mark::Close => {
+            tokens.push(Token::Close)?;
+            Ok(0)
+        }
+        Mark::Bad(_) => unreachable!(),
+        _ => push_piece(alloc, tokens, start, mark, rest, after),
     }
 }
 
-/// The marks behind the first `n`.
-fn behind<'a, 'b>(marks: &'a [Mark<'b>], n: usize) -> &'a [Mark<'b>]
+/// The marks after the first `n`.
+fn after<'a, 'b>(marks: &'a [Mark<'b>], n: usize) -> &'a [Mark<'b>]
     requires { n ≤ length marks.now }
     ensures { result.now ≡ drop n marks.now }
 {
@@ -148,21 +74,20 @@ fn behind<'a, 'b>(marks: &'a [Mark<'b>], n: usize) -> &'a [Mark<'b>]
 /// The tokens of marks whose groups are closed.
 pub fn tokens(alloc: Global, marks: &[Mark<'_>]) -> Result<Vec<Token>, AllocError>
     requires { Nests zero (marks_of marks.now) }
-    ensures { IfOk result (λ v. tokens_of v.items ≡ whole (marks_of marks.now)) }
+    ensures value { IfOk result (λ v. tokens_of v.items ≡ whole (marks_of marks.now)) }
+    ensures nested { IfOk result (λ v. IsNested (flats v.items)) }
 {
-    let mut builder = TreeBuilder {
-        groups: Vec::new(alloc),
-        branch: Vec::new(alloc),
-        start: true,
-    };
+    let mut tokens = Vec::new(alloc);
     if is_whole_run(marks) {
-        builder.branch.push(Token::RecursivePrefix)?;
-        return Ok(builder.branch);
+        tokens.push(Token::RecursivePrefix)?;
+        return Ok(tokens);
     }
+    let mut start = true;
     let mut rest = marks;
-    while let [mark, after @ ..] = rest {
-        let more = builder.read(alloc, *mark, rest, after)?;
-        rest = behind(after, more);
+    while let [mark, others @ ..] = rest {
+        let more = push_mark(alloc, &mut tokens, start, *mark, rest, others)?;
+        start = starts_branch(*mark);
+        rest = after(others, more);
     }
-    Ok(builder.branch)
+    Ok(tokens)
 }

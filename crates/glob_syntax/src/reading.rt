@@ -3,7 +3,8 @@
 ghost use Rattle.std.specs.Prelude.{◌≡◌, ◌*◌, ◌≤◌, length, IfOk};
 ghost use Rattle.std.specs.Str.{chars};
 ghost use Rattle.glob_syntax.specs.Reading.{reading};
-ghost use Rattle.glob_syntax.specs.Views.{Gives, tokens_of};
+ghost use Rattle.glob_syntax.specs.FlatTokens.{IsNested};
+ghost use Rattle.glob_syntax.specs.Views.{Gives, flats, tokens_of};
 ghost use Rattle.glob_syntax.specs.inner.Weight.{weight};
 ghost use Rattle.glob_syntax.specs.inner.WellFormed.{AreWellFormed};
 
@@ -25,6 +26,7 @@ fn characters(alloc: Global, text: &str) -> Result<Vec<char>, AllocError>
 #[tactic(auto, unfolding(crate::specs::Reading::reading))]
 pub fn read_tokens(alloc: Global, options: Options, text: &str) -> Result<Vec<Token>, ReadError>
     ensures value { Gives (λ v. tokens_of v.items) result (reading options (chars text.now)) }
+    ensures nested { IfOk result (λ v. IsNested (flats v.items)) }
     ensures well_formed { IfOk result (λ v. AreWellFormed (tokens_of v.items)) }
     ensures weight { IfOk result (λ v. weight (tokens_of v.items) ≤ 4 * length text.now) }
 {

@@ -4,7 +4,7 @@ pub mod copy;
 
 use crate::class::Class;
 
-/// A token of a glob.
+/// A token of a glob. A group is an `Open`, its branches with a `Comma` between each two, and a `Close`.
 #[derive(Debug, Drop)]
 pub enum Token {
     /// A character.
@@ -21,6 +21,10 @@ pub enum Token {
     RecursiveZeroOrMore,
     /// `[..]`
     Class(Class),
-    /// `{..}`, by its branches.
-    Alternates(Vec<Vec<Token>>),
+    /// `{`
+    Open,
+    /// A `,` between two branches of a group.
+    Comma,
+    /// `}`
+    Close,
 }

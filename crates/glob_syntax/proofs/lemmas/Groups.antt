@@ -1,83 +1,148 @@
--- The steps of reading groups, at the values that the program holds.
-use Rattle.std.proofs.Common.{◌≡◌, ℕ, zero, suc, List, [], ◌∷◌, ◌++◌, Bool, true, false, drop, length, refl, sym, ap, subst, ◌∙◌}
-use Rattle.std.proofs.lemmas.List.{map_push}
-use Rattle.std.specs.declared.alloc.Global.{Global}
-use Rattle.std.specs.declared.vec.Vec.{Vec}
-use Rattle.glob_syntax.specs.declared.token.Token as held
-use Rattle.glob_syntax.specs.declared.groups.Group.{Group}
-use Rattle.glob_syntax.specs.Token.{before, ahead, Token, Tokens, none, end}
-use Rattle.glob_syntax.specs.Token as spec
-use Rattle.glob_syntax.specs.Marks.{Mark, Open, Comma, Close}
-use Rattle.glob_syntax.specs.Reading.{in_level, levels, whole, is_whole_run}
-use Rattle.glob_syntax.specs.Views.{token_of, token_list, tokens_of, branch_list}
-use Rattle.glob_syntax.specs.inner.MarkViews.{marks_of, Adds}
-use Rattle.glob_syntax.specs.inner.Nests.{Nests, is_inner}
-use Rattle.glob_syntax.specs.declared.marks.mark.Mark as held_mark
-use Rattle.glob_syntax.specs.Stars.{piece}
-use Rattle.glob_syntax.specs.inner.TreeBuilder.{Frame, in_frames, frame, frames}
-use Rattle.glob_syntax.proofs.lemmas.TokenViews.{group_is}
-use Rattle.glob_syntax.proofs.lemmas.Levels.{open_step, comma_step, close_step, piece_step, end_step}
-use Rattle.glob_syntax.proofs.lemmas.Nesting.{nests_end}
+-- The steps of reading tokens, by the marks that are left.
+use Rattle.std.proofs.Common.{◌≡◌, ℕ, zero, suc, ◌-◌, ◌<◌, List, [], ◌∷◌, ◌++◌, Bool, true, false, map, drop, length, arith, refl, sym, ap, subst, ◌∙◌}
 use Rattle.std.proofs.lemmas.List.{nil_from_length}
+use Rattle.glob_syntax.specs.Token.{Token, RecursivePrefix, none, branch}
+use Rattle.glob_syntax.specs.Marks.{Mark, Char, One, Stars, Class, Open, Comma, Close}
+use Rattle.glob_syntax.specs.Stars.{piece}
+use Rattle.glob_syntax.specs.Reading.{Levels, in_level, levels, whole, is_whole_run, first_branch}
+use Rattle.glob_syntax.specs.FlatTokens as flat
+use Rattle.glob_syntax.specs.FlatTokens.{Flat, simple, opening, comma, closing, onto, levels_of, tree_of, IsNested}
+use Rattle.glob_syntax.specs.inner.Nests.{Nests, is_inner}
+use Rattle.glob_syntax.specs.inner.TokenReading.{Follows, ReadsTo}
+use Rattle.glob_syntax.specs.inner.MarkViews.{marks_of}
+use Rattle.glob_syntax.specs.declared.marks.mark.Mark as held
+use Rattle.glob_syntax.proofs.lemmas.FlatTokens.{onto_append, onto_push, nests_append}
+use Rattle.glob_syntax.proofs.lemmas.FlatTokens as flat_lemmas
+use Rattle.glob_syntax.proofs.lemmas.Nesting.{nests_open, nests_comma, nests_close, nests_piece, nests_end}
 
-framed : (gs hs : List Group) (g : Group) (f : Frame) → gs ≡ hs ++ g ∷ [] → frame g ≡ f → frames gs ≡ frames hs ++ f ∷ []
-framed gs hs g f e h = ap frames e ∙ map_push frame hs g ∙ ap (λ (x : Frame). frames hs ++ x ∷ []) h
+-- ---- a piece
 
-pub open_law : (gs hs : List Group) (g : Group) (branch branch' : List held.Token) (start : Bool) → gs ≡ hs ++ g ∷ [] → g.before.items ≡ branch → g.branches.items ≡ [] → branch' ≡ []
-    → (ms : List Mark) → in_frames (frames gs) (in_level (token_list branch') (levels zero true ms)) ≡ in_frames (frames hs) (in_level (token_list branch) (levels zero start (Open ∷ ms)))
-open_law gs hs g branch branch' start e b n n' ms =
-    let f : frames gs ≡ frames hs ++ (token_list branch, []) ∷ [] = framed gs hs g (token_list branch, []) e (λ i. (token_list (b i), branch_list (n i))) in
-    (λ i. in_frames (f i) (in_level (token_list (n' i)) (levels zero true ms))) ∙ open_step (frames hs) (token_list branch) start ms _ refl
+-- its tokens, and then some levels
+in_level_nil : (l : Levels) → l ≡ in_level [] l
+in_level_nil (none, more) = refl
+in_level_nil (branch ts bs, more) = refl
 
-branch_pushed : (vs ws : List (Vec held.Token Global)) (v : Vec held.Token Global) (branch : List held.Token) → ws ≡ vs ++ v ∷ [] → v.items ≡ branch → branch_list ws ≡ branch_list vs ++ before (token_list branch) end ∷ []
-branch_pushed vs ws v branch e h = ap branch_list e ∙ map_push (λ u. tokens_of u.items) vs v ∙ ap (λ (x : List held.Token). branch_list vs ++ tokens_of x ∷ []) h
+in_level_cons : (t : Token) (ts : List Token) (l : Levels) → in_level (t ∷ []) (in_level ts l) ≡ in_level (t ∷ ts) l
+in_level_cons t ts (none, more) = refl
+in_level_cons t ts (branch us bs, more) = refl
 
-pub comma_law : (gs hs ks : List Group) (g g' : Group) (v : Vec held.Token Global) (branch branch' : List held.Token) (start : Bool)
-    → gs ≡ ks ++ g ∷ [] → hs ≡ ks ++ g' ∷ [] → g'.before.items ≡ g.before.items → g'.branches.items ≡ g.branches.items ++ v ∷ [] → v.items ≡ branch → branch' ≡ []
-    → (ms : List Mark) → in_frames (frames hs) (in_level (token_list branch') (levels zero true ms)) ≡ in_frames (frames gs) (in_level (token_list branch) (levels zero start (Comma ∷ ms)))
-comma_law gs hs ks g g' v branch branch' start e e' b p n n' ms =
-    let q = branch_pushed g.branches.items g'.branches.items v branch p n in
-    let f = framed hs ks g' (token_list g.before.items, branch_list g.branches.items ++ before (token_list branch) end ∷ []) e' (λ i. (token_list (b i), q i)) in
-    let h = framed gs ks g (frame g) e refl in
-    (λ i. in_frames (f i) (in_level (token_list (n' i)) (levels zero true ms)))
-    ∙ comma_step (frames ks) (token_list branch) start ms _ (token_list g.before.items) (branch_list g.branches.items) refl
-    ∙ ap (λ (fs : List Frame). in_frames fs (in_level (token_list branch) (levels zero start (Comma ∷ ms)))) (sym h)
+onto_simples : (ts : List Token) (l : Levels) → onto (map simple ts) l ≡ in_level ts l
+onto_simples [] l = in_level_nil l
+onto_simples (t ∷ ts) l = ap (in_level (t ∷ [])) (onto_simples ts l) ∙ in_level_cons t ts l
 
-pub close_law : (gs hs : List Group) (g : Group) (v : Vec held.Token Global) (vs : Vec (Vec held.Token Global) Global) (branch branch' : List held.Token) (start : Bool)
-    → gs ≡ hs ++ g ∷ [] → vs.items ≡ g.branches.items ++ v ∷ [] → v.items ≡ branch → branch' ≡ g.before.items ++ held.TheVariants.Alternates vs ∷ []
-    → (ms : List Mark) → in_frames (frames hs) (in_level (token_list branch') (levels zero false ms)) ≡ in_frames (frames gs) (in_level (token_list branch) (levels zero start (Close ∷ ms)))
-close_law gs hs g v vs branch branch' start e p n b ms =
-    let q = branch_pushed g.branches.items vs.items v branch p n in
-    let h = framed gs hs g (frame g) e refl in
-    let t : token_list branch' ≡ token_list g.before.items ++ spec.Group (ahead (branch_list g.branches.items ++ before (token_list branch) end ∷ []) none) ∷ [] =
-    ap token_list b ∙ map_push token_of g.before.items (held.TheVariants.Alternates vs)
-    ∙ ap (λ (x : Token). token_list g.before.items ++ x ∷ []) (group_is vs ∙ ap (λ (l : List Tokens). spec.Group (ahead l none)) q) in
-    ap (λ (ts : List Token). in_frames (frames hs) (in_level ts (levels zero false ms))) t
-    ∙ close_step (frames hs) (token_list branch) start ms _ (token_list g.before.items) (branch_list g.branches.items) refl
-    ∙ ap (λ (fs : List Frame). in_frames fs (in_level (token_list branch) (levels zero start (Close ∷ ms)))) (sym h)
+-- they open and close no group
+nests_simples : (ts : List Token) (n : ℕ) → flat.Nests n (map simple ts) n
+nests_simples [] n = refl
+nests_simples (t ∷ ts) n = nests_simples ts n
 
-pub piece_law : (fs : List Frame) (branch branch' : List held.Token) (start : Bool) (m : Mark) (ms : List Mark) (more : ℕ) → is_inner m ≡ true → Adds branch branch' (piece start m ms) more
-    → in_frames fs (in_level (token_list branch') (levels zero false (drop more ms))) ≡ in_frames fs (in_level (token_list branch) (levels zero start (m ∷ ms)))
-piece_law fs branch branch' start m ms more i a = piece_step fs (token_list branch) start ms _ m (token_list branch') more i a.tokens a.takes refl
+levels_skip : (n : ℕ) (start : Bool) (ms : List Mark) → levels n start ms ≡ levels zero start (drop n ms)
+unfolding levels
+levels_skip zero start ms = refl
+levels_skip (suc n) start [] = refl
+levels_skip (suc n) start (m ∷ ms) = levels_skip n start ms
 
-pub marks_behind : (n : ℕ) (ms : List held_mark.Mark) → marks_of (drop n ms) ≡ drop n (marks_of ms)
-marks_behind zero ms = refl
-marks_behind (suc n) [] = refl
-marks_behind (suc n) (m ∷ ms) = marks_behind n ms
+levels_piece : (start : Bool) (m : Mark) (ms : List Mark) → is_inner m ≡ true → levels zero start (m ∷ ms) ≡ in_level (piece start m ms).0 (levels (piece start m ms).1 false ms)
+unfolding levels
+levels_piece start (Char e c) ms i = refl
+levels_piece start One ms i = refl
+levels_piece start (Stars n) ms i = refl
+levels_piece start (Class negated rs) ms i = refl
+levels_piece start m ms i = absurd (cc)
 
-pub whole_run : (branch : List held.Token) (ms : List Mark) → branch ≡ held.TheVariants.RecursivePrefix ∷ [] → is_whole_run ms ≡ true → tokens_of branch ≡ whole ms
+module _ (ts later : List Flat) (start : Bool) (ms : List Mark) where
+  -- a mark that is no brace or comma, at the tokens and the length of its piece
+  pub read_piece : (m : Mark) (more : ℕ) → is_inner m ≡ true → later ≡ ts ++ map simple (piece start m ms).0 → more ≡ (piece start m ms).1
+      → Follows ts (m ∷ ms) → ReadsTo ts start (m ∷ ms) later false (drop more ms)
+  read_piece m more i grown takes h =
+      let p = piece start m ms in
+      let nested : flat.Nests 0 later h.depth = subst (λ us. flat.Nests 0 us h.depth) (sym grown) (nests_append ts (map simple p.0) 0 h.depth h.depth h.opened (nests_simples p.0 h.depth)) in
+      record {
+        same = ap (λ (us : List Flat). onto us (levels zero false (drop more ms))) grown
+            ∙ ap (λ (n : ℕ). onto (ts ++ map simple p.0) (levels zero false (drop n ms))) takes
+            ∙ onto_append ts (map simple p.0) (levels zero false (drop p.1 ms))
+            ∙ ap (onto ts) (onto_simples p.0 (levels zero false (drop p.1 ms)) ∙ ap (in_level p.0) (sym (levels_skip p.1 false ms)) ∙ sym (levels_piece start m ms i));
+        follows = record {
+          depth = h.depth;
+          opened = nested;
+          closed = subst (λ n. Nests h.depth (drop n ms)) (sym takes) (nests_piece h.depth start m ms i h.closed);
+        };
+      }
+
+  -- ---- braces and commas
+
+  pub read_open : later ≡ ts ++ opening ∷ [] → Follows ts (Open ∷ ms) → ReadsTo ts start (Open ∷ ms) later true ms
+  unfolding levels
+  read_open grown h = record {
+    same = ap (λ (us : List Flat). onto us (levels zero true ms)) grown ∙ onto_push ts opening (levels zero true ms);
+    follows = record {
+      depth = suc h.depth;
+      opened = subst (λ us. flat.Nests 0 us (suc h.depth)) (sym grown) (flat_lemmas.nests_open ts 0 h.depth h.opened);
+      closed = nests_open h.depth ms h.closed;
+    };
+  }
+
+  nests_comma_at : (d : ℕ) → 0 < d → flat.Nests 0 ts d → flat.Nests 0 (ts ++ comma ∷ []) d
+  nests_comma_at zero some h = absurd (omega arith)
+  nests_comma_at (suc d) some h = flat_lemmas.nests_comma ts 0 d h
+
+  pub read_comma : later ≡ ts ++ comma ∷ [] → Follows ts (Comma ∷ ms) → ReadsTo ts start (Comma ∷ ms) later true ms
+  unfolding levels
+  read_comma grown h =
+      let r = nests_comma h.depth ms h.closed in
+      record {
+        same = ap (λ (us : List Flat). onto us (levels zero true ms)) grown ∙ onto_push ts comma (levels zero true ms);
+        follows = record {
+          depth = h.depth;
+          opened = subst (λ us. flat.Nests 0 us h.depth) (sym grown) (nests_comma_at h.depth r.0 h.opened);
+          closed = r.1;
+        };
+      }
+
+  nests_close_at : (d : ℕ) → 0 < d → flat.Nests 0 ts d → flat.Nests 0 (ts ++ closing ∷ []) (d - 1)
+  nests_close_at zero some h = absurd (omega arith)
+  nests_close_at (suc d) some h = let e : d ≡ suc d - 1 = omega arith in subst (λ n. flat.Nests 0 (ts ++ closing ∷ []) n) e (flat_lemmas.nests_close ts 0 d h)
+
+  pub read_close : later ≡ ts ++ closing ∷ [] → Follows ts (Close ∷ ms) → ReadsTo ts start (Close ∷ ms) later false ms
+  unfolding levels
+  read_close grown h =
+      let r = nests_close h.depth ms h.closed in
+      record {
+        same = ap (λ (us : List Flat). onto us (levels zero false ms)) grown ∙ onto_push ts closing (levels zero false ms);
+        follows = record {
+          depth = h.depth - 1;
+          opened = subst (λ us. flat.Nests 0 us (h.depth - 1)) (sym grown) (nests_close_at h.depth r.0 h.opened);
+          closed = r.1;
+        };
+      }
+
+-- ---- the whole glob
+
+pub marks_after : (n : ℕ) (ms : List held.Mark) → marks_of (drop n ms) ≡ drop n (marks_of ms)
+marks_after zero ms = refl
+marks_after (suc n) [] = refl
+marks_after (suc n) (m ∷ ms) = marks_after n ms
+
+pub reads_none : (ms : List Mark) → Nests zero ms → ReadsTo [] true ms [] true ms
+reads_none ms h = record { same = refl; follows = record { depth = 0; opened = refl; closed = h } }
+
+-- two steps, one after the other
+pub reads_both : (all : List Mark) (ts us : List Flat) (start next : Bool) (ms ks : List Mark) → ReadsTo [] true all ts start ms → ReadsTo ts start ms us next ks → ReadsTo [] true all us next ks
+reads_both all ts us start next ms ks h g = record { same = g.same ∙ h.same; follows = g.follows }
+
+pub whole_run : (ts : List Flat) (ms : List Mark) → ts ≡ simple RecursivePrefix ∷ [] → is_whole_run ms ≡ true → tree_of ts ≡ whole ms
 unfolding whole
-whole_run branch ms e h = ap tokens_of e ∙ sym (rw (h, whole) refl)
-
-no_groups : (gs : List Group) → length gs ≡ 0 → gs ≡ []
-no_groups gs h = nil_from_length gs h
+whole_run ts ms e h = ap tree_of e ∙ sym (rw (h, whole) refl)
 
 -- the end of the marks
-pub finish : (gs : List Group) (branch : List held.Token) (start : Bool) (rest ms : List Mark) → length rest ≡ 0 → Nests (length gs) rest
-    → in_frames (frames gs) (in_level (token_list branch) (levels zero start rest)) ≡ levels zero true ms → is_whole_run ms ≡ false → tokens_of branch ≡ whole ms
-unfolding whole
-finish gs branch start rest ms nil n h w =
+pub finish : (ts : List Flat) (start : Bool) (rest ms : List Mark) → length rest ≡ 0 → ReadsTo [] true ms ts start rest → is_whole_run ms ≡ false → tree_of ts ≡ whole ms
+unfolding whole levels
+finish ts start rest ms nil h w =
     let r = nil_from_length rest nil in
-    let g = no_groups gs (nests_end (length gs) (subst (Nests (length gs)) r n)) in
-    let e : in_level (token_list branch) (levels zero start []) ≡ levels zero true ms = (λ i. in_frames (frames (sym g i)) (in_level (token_list branch) (levels zero start (sym r i)))) ∙ h in
-    sym (end_step (token_list branch) start (levels zero true ms) e) ∙ sym (rw (w, whole) refl)
+    let e : levels_of ts ≡ levels zero true ms = ap (λ (ks : List Mark). onto ts (levels zero start ks)) (sym r) ∙ h.same in
+    ap (λ (l : Levels). first_branch l.0) e ∙ sym (rw (w, whole) refl)
+
+pub nested_at_end : (ts : List Flat) (start : Bool) (rest ms : List Mark) → length rest ≡ 0 → ReadsTo [] true ms ts start rest → IsNested ts
+nested_at_end ts start rest ms nil h =
+    let r = nil_from_length rest nil in
+    let d : h.follows.depth ≡ 0 = nests_end h.follows.depth (subst (Nests h.follows.depth) r h.follows.closed) in
+    subst (flat.Nests 0 ts) d h.follows.opened

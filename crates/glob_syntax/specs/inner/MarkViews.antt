@@ -6,7 +6,8 @@ use Rattle.glob_syntax.specs.declared.token.Token as tokens
 use Rattle.glob_syntax.specs.Token.{Token}
 use Rattle.glob_syntax.specs.Marks as marks
 use Rattle.glob_syntax.specs.Ranges.{ranges}
-use Rattle.glob_syntax.specs.Views.{token_list}
+use Rattle.glob_syntax.specs.FlatTokens.{simple}
+use Rattle.glob_syntax.specs.Views.{flats}
 
 abbrev pub mark_of : Mark → marks.Mark
 mark_of (held.Char escaped c) = marks.Char escaped c
@@ -23,7 +24,7 @@ marks_of ms = map mark_of ms
 
 -- The tokens grew by those of a piece, which takes so many marks besides its first.
 pub record Adds (old new : List tokens.Token) (p : List Token × ℕ) (more : ℕ) : Type 0 where
-  pub tokens : token_list new ≡ token_list old ++ p.0
+  pub tokens : flats new ≡ flats old ++ map simple p.0
   pub takes : more ≡ p.1
 
 -- a result with its value, if it has one, seen by a function

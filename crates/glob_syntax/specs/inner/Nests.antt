@@ -14,3 +14,9 @@ is_inner Comma = false
 is_inner Close = false
 is_inner (Bad f) = false
 is_inner m = true
+
+-- a branch starts after the mark
+abbrev pub starts_branch : Mark → Bool
+starts_branch Open = true
+starts_branch Comma = true
+starts_branch m = false

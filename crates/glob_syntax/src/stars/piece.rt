@@ -1,9 +1,10 @@
 //! The tokens of a piece.
 
-ghost use Rattle.std.specs.Prelude.{◌≡◌, ◌≤◌, ◌<◌, ◌+◌, ◌∷◌, length, replicate, ◌++◌, IfOk, OnOk};
+ghost use Rattle.std.specs.Prelude.{◌≡◌, ◌≤◌, ◌<◌, ◌+◌, ◌∷◌, length, map, replicate, ◌++◌, IfOk, OnOk};
 ghost use Rattle.glob_syntax.specs.Token.{ZeroOrMore};
 ghost use Rattle.glob_syntax.specs.Stars.{run_piece, slash_piece, piece};
-ghost use Rattle.glob_syntax.specs.Views.{token_list};
+ghost use Rattle.glob_syntax.specs.FlatTokens.{simple};
+ghost use Rattle.glob_syntax.specs.Views.{flats};
 ghost use Rattle.glob_syntax.specs.inner.MarkViews.{mark_of, marks_of, Adds};
 
 use crate::class::{Class, ranges};
@@ -38,7 +39,7 @@ fn push_run(
 }
 
 fn push_stars(out: &mut Vec<Token>, n: usize) -> Result<(), AllocError>
-    ensures { OnOk result (token_list out.new.items ≡ token_list out.old.items ++ replicate n ZeroOrMore) }
+    ensures { OnOk result (flats out.new.items ≡ flats out.old.items ++ map simple (replicate n ZeroOrMore)) }
 {
     for _i in 0..n {
         out.push(Token::ZeroOrMore)?;

@@ -1,15 +1,14 @@
 //! Copies of tokens.
 
 ghost use Rattle.std.specs.Prelude.{◌≡◌, IfOk};
-ghost use Rattle.glob_syntax.specs.Views.{token_of, tokens_of};
+ghost use Rattle.glob_syntax.specs.Views.{flat_of, flats};
 
 use crate::token::Token;
 use std::alloc::{AllocError, Global};
 
 /// Equal tokens, with memory of their own.
-#[cycle(copies)]
 pub fn copy_of(alloc: Global, tokens: &[Token]) -> Result<Vec<Token>, AllocError>
-    ensures { IfOk result (λ v. tokens_of v.items ≡ tokens_of tokens.now) }
+    ensures { IfOk result (λ v. flats v.items ≡ flats tokens.now) }
 {
     let mut copies = Vec::with_capacity(alloc, tokens.len())?;
     for token in tokens {
@@ -19,9 +18,8 @@ pub fn copy_of(alloc: Global, tokens: &[Token]) -> Result<Vec<Token>, AllocError
 }
 
 /// An equal token, with memory of its own.
-#[cycle(copies)]
 fn copy_of_token(alloc: Global, token: &Token) -> Result<Token, AllocError>
-    ensures { IfOk result (λ t. token_of t ≡ token_of token.now) }
+    ensures { IfOk result (λ t. flat_of t ≡ flat_of token.now) }
 {
     match token {
         Token::Literal(c) => Ok(Token::Literal(*c)),
@@ -31,12 +29,8 @@ fn copy_of_token(alloc: Global, token: &Token) -> Result<Token, AllocError>
         Token::RecursiveSuffix => Ok(Token::RecursiveSuffix),
         Token::RecursiveZeroOrMore => Ok(Token::RecursiveZeroOrMore),
         Token::Class(class) => Ok(Token::Class(class.clone(alloc)?)),
-        Token::Alternates(branches) => {
-            let mut copies = Vec::with_capacity(alloc, branches.len())?;
-            for branch in branches {
-                copies.push(copy_of(alloc, branch)?)?;
-            }
-            Ok(Token::Alternates(copies))
-        }
+        Token::Open => Ok(Token::Open),
+        Token::Comma => Ok(Token::Comma),
+        Token::Close => Ok(Token::Close),
     }
 }

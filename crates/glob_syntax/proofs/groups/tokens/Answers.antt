@@ -1,29 +1,37 @@
-use Rattle.std.proofs.Common.{◌∷◌, ◌++◌, [], ◌-◌, zero, length, take, drop, sym, ap, subst, ◌∙◌, arith}
+use Rattle.std.proofs.Common.{◌≡◌, true, get_or, ◌∷◌, ◌++◌, [], ◌-◌, length, take, drop, sym, ap, ◌∙◌, arith}
 use Rattle.glob_syntax.specs.declared.token.Token.TheVariants.{RecursivePrefix}
-use Rattle.glob_syntax.specs.Reading.{levels}
-use Rattle.glob_syntax.specs.inner.Nests.{Nests}
-use Rattle.glob_syntax.specs.inner.TreeBuilder.{joined, depth}
-use Rattle.glob_syntax.specs.inner.MarkViews.{marks_of}
+use Rattle.glob_syntax.specs.Views.{flats}
+use Rattle.glob_syntax.specs.inner.MarkViews.{mark_of, marks_of}
+use Rattle.glob_syntax.specs.inner.TokenReading.{ReadsTo}
 use Rattle.std.proofs.lemmas.List.{length-map}
 use Rattle.glob_syntax.proofs.lemmas.Lists.{head_cell}
-use Rattle.glob_syntax.proofs.lemmas.Groups.{marks_behind, whole_run, finish}
+use Rattle.glob_syntax.proofs.lemmas.Groups.{marks_after, reads_both, whole_run, finish, nested_at_end}
 use Rattle.glob_syntax.proofs.groups.tokens.Goals as goal
 
-pub returns-then-is_whole_run : goal.returns-then-is_whole_run
-returns-then-is_whole_run c =
-    whole_run c.push.new.self.items (marks_of c.args.marks.now) (c.in_ok-push.ensures.items ∙ ap (λ l. l ++ RecursivePrefix ∷ []) c.new-2.ensures.items)
+pub returns-then-is_whole_run-clause-value : goal.returns-then-is_whole_run-clause-value
+returns-then-is_whole_run-clause-value c =
+    whole_run (flats c.push.new.self.items) (marks_of c.args.marks.now) (ap flats (c.in_ok-push.ensures.items ∙ ap (λ l. l ++ RecursivePrefix ∷ []) c.new-tokens.ensures.items))
     (sym c.is_whole_run.ensures ∙ c.if-is_whole_run.true)
 
 pub loop-rest-preserved : goal.loop-rest-preserved
 loop-rest-preserved c =
+    let all = marks_of c.args.marks.now in
+    let ts = flats c.loop-rest.tokens.items in
+    let us = flats c.push_mark.new.tokens.items in
     let rest = c.loop-rest.rest.now in
-    let behind = ap marks_of c.behind-rest.ensures ∙ marks_behind c.in_ok-more.more (take (length rest - 1) (drop 1 rest)) in
-    record {
-      read = rw behind (c.in_ok-more.ensures.read ∙ ap (λ l. joined c.loop-rest.builder (levels zero c.loop-rest.builder.start (marks_of l))) (sym (head_cell rest _ c.in-len1-up.len_at_least)) ∙ c.loop-rest.invariant.read);
-      nests = subst (Nests (depth c.read.new.self)) (sym behind) c.in_ok-more.ensures.nests;
-    }
+    let mark = get_or rest 0 _ in
+    let others = take (length rest - 1) (drop 1 rest) in
+    let more = c.in_ok-more.more in
+    let left : marks_of c.after-rest.result.now ≡ drop more (marks_of others) = ap marks_of c.after-rest.ensures ∙ marks_after more others in
+    let cell : marks_of rest ≡ mark_of mark ∷ marks_of others = ap marks_of (head_cell rest _ c.in-len1-up.len_at_least) in
+    let was : ReadsTo [] true all ts c.loop-rest.start (mark_of mark ∷ marks_of others) = rw cell at c.loop-rest.invariant in
+    rw (left, c.starts_branch-start.ensures) (reads_both all ts us c.loop-rest.start _ _ _ was c.in_ok-more.ensures.read)
 
-pub returns : goal.returns
-returns c =
-    finish c.loop-rest.builder.groups.items c.loop-rest.builder.branch.items c.loop-rest.builder.start (marks_of c.loop-rest.rest.now) (marks_of c.args.marks.now) (rw length-map (omega arith)) c.loop-rest.invariant.nests c.loop-rest.invariant.read
+pub returns-clause-value : goal.returns-clause-value
+returns-clause-value c =
+    finish (flats c.loop-rest.tokens.items) c.loop-rest.start (marks_of c.loop-rest.rest.now) (marks_of c.args.marks.now) (rw length-map (omega arith)) c.loop-rest.invariant
     (sym c.is_whole_run.ensures ∙ c.if-is_whole_run.false)
+
+pub returns-clause-nested : goal.returns-clause-nested
+returns-clause-nested c =
+    nested_at_end (flats c.loop-rest.tokens.items) c.loop-rest.start (marks_of c.loop-rest.rest.now) (marks_of c.args.marks.now) (rw length-map (omega arith)) c.loop-rest.invariant
