@@ -1,5 +1,6 @@
 pub mod Classes
 pub mod FlatTokens
+pub mod FlatTrees
 pub mod Groups
 pub mod Lists
 pub mod Marks

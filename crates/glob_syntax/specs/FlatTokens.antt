@@ -29,6 +29,10 @@ onto (t ∷ ts) l = level t (onto ts l)
 abbrev pub levels_of : List Flat → Levels
 levels_of ts = onto ts (branch end none, [])
 
+-- the innermost level, and those around it
+abbrev pub all_levels : Levels → List Branches
+all_levels l = l.0 ∷ l.1
+
 -- the tree of a whole list
 abbrev pub tree_of : List Flat → Tokens
 tree_of ts = first_branch (levels_of ts).0
