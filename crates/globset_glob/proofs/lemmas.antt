@@ -1,4 +1,5 @@
 pub mod Booleans
+pub mod Building
 pub mod ByteTexts
 pub mod ClassTexts
 pub mod Cuts
@@ -6,16 +7,14 @@ pub mod Equalities
 pub mod EscapeMeaning
 pub mod EscapeReading
 pub mod Expressions
+pub mod Frames
+pub mod GlobStates
 pub mod Globs
-pub mod GroupUnions
 pub mod KeptBranches
 pub mod KindEqualities
 pub mod LastPositions
-pub mod RowPasses
-pub mod RowSteps
-pub mod Rules
+pub mod Spelling
 pub mod Takes
 pub mod TokenLists
-pub mod Values
-pub mod Spelling
 pub mod TokenStates
+pub mod Values

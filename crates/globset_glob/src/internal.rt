@@ -1,12 +1,14 @@
 //! What `globset` alone needs: what a glob is read as, its matcher without a copy, and errors of elements.
 
-ghost use Rattle.std.specs.Prelude.{◌≡◌, Ok};
+ghost use Rattle.std.specs.Prelude.{◌≡◌, Ok, IfOk, IfErr};
 ghost use Rattle.std.specs.Str.{chars};
 ghost use Rattle.glob_syntax.specs.Reading.{reading};
+ghost use Rattle.globset_glob.specs.Errors.{out_of_memory};
 ghost use Rattle.globset_glob.specs.Means.{tokens_of_glob};
 ghost use Rattle.globset_glob.specs.Values.{of_element};
 ghost use Rattle.glob_syntax.specs.Views.{tokens_of};
 
+use crate::error::Error;
 use crate::glob::Glob;
 use crate::json::error::ValueError;
 use crate::matching::matcher::GlobMatcher;
@@ -28,9 +30,10 @@ pub fn options_of(glob: &Glob) -> Options
     glob.options()
 }
 
-/// The matcher of a glob that is given away. It takes no memory.
-pub fn matcher_of(glob: Glob) -> GlobMatcher
-    ensures { result ≡ glob }
+/// The matcher of a glob that is given away. Returns an error if memory runs out.
+pub fn matcher_of(glob: Glob) -> Result<GlobMatcher, Error>
+    ensures ok { IfOk result (λ m. m ≡ glob) }
+    ensures err { IfErr result (λ e. e ≡ out_of_memory) }
 {
     GlobMatcher::new(glob)
 }

@@ -1,10 +1,11 @@
 -- What tokens take, by how the bytes are put together.
-use Rattle.std.proofs.Common.{◌≡◌, ℕ, ◌⊎◌, inl, inr, Bool, true≢false, ◌&&◌, List, [], ◌∷◌, ◌++◌, IsTrue, refl, ap, sym, subst}
+use Rattle.std.proofs.Common.{◌≡◌, ℕ, ◌⊎◌, inl, inr, Bool, true≢false, ◌&&◌, ◌||◌, List, [], ◌∷◌, ◌++◌, IsTrue, refl, ap, sym, subst}
 use Rattle.std.specs.Prelude.{◌==◌, ◌↔◌}
 use Rattle.std.proofs.lemmas.Bool.{eqb-true, eq-eqb}
 use Rattle.std.proofs.Math.Logic.{⊎_elim}
-use Rattle.glob_syntax.specs.Token.{Token, RecursivePrefix, RecursiveSuffix, RecursiveZeroOrMore, Tokens, and_then}
-use Rattle.globset_glob.specs.Takes.{takes, takes_all, is_empty, same_bytes, is_one_byte, begins_with_slash, ends_with_slash, slash}
+use Rattle.glob_syntax.specs.Token.{Token, RecursivePrefix, RecursiveSuffix, RecursiveZeroOrMore, Tokens, and_then, Branches, none, branch}
+use Rattle.globset_glob.specs.Blank.{is_kept, any_kept}
+use Rattle.globset_glob.specs.Takes.{takes, some_takes, takes_all, is_empty, same_bytes, is_one_byte, begins_with_slash, ends_with_slash, slash}
 use Rattle.glob_syntax.specs.declared.options.Options.{Options}
 use Rattle.globset_glob.proofs.lemmas.Booleans.{and_both, and_first, and_second, or_first, or_second, or_either}
 use Rattle.globset_glob.proofs.lemmas.Cuts.{cut_of, some_cut-append, empty_is}
@@ -111,3 +112,13 @@ then_takes o t ts b = (there, back)
 
     back : TakesAll o (and_then t ts) b → Then (Takes o t) (TakesAll o ts) b
     back h = let (x, y, cut, both) = cut_of (λ x y. takes o t x && takes_all o ts y) b h in (x, y, cut, and_first (takes o t x) (takes_all o ts y) both, and_second (takes o t x) (takes_all o ts y) both)
+
+-- ---- groups
+
+-- what takes something is kept
+pub some_any : (o : Options) (bs : Branches) (y : List ℕ) → IsTrue (some_takes o bs y) → any_kept o bs ≡ true
+some_any o none y h = absurd (true≢false (sym h))
+some_any o (branch ts bs) y h = ⊎_elim {C = IsTrue (any_kept o (branch ts bs))}
+    (λ here. or_first (is_kept o ts) (any_kept o bs) (and_first (is_kept o ts) (takes_all o ts y) here))
+    (λ later. or_second (is_kept o ts) (any_kept o bs) (some_any o bs y later))
+    (or_either (is_kept o ts && takes_all o ts y) (some_takes o bs y) h)

@@ -17,7 +17,7 @@ use Rattle.globset_glob.specs.inner.TokenStates.{AllBytes, IsSetOf, is_any_byte,
 use Rattle.globset_glob.proofs.lemmas.Booleans.{and_both, and_first, and_second, or_first, or_second, or_either}
 use Rattle.globset_glob.proofs.lemmas.Cuts.{both, cut_of, some_cut-append, empty_is}
 use Rattle.globset_glob.proofs.lemmas.Spelling.{letter_is, spells_none, spells_more}
-use Rattle.globset_glob.proofs.lemmas.Takes.{one_byte, ends_at, ends_push, begins_at}
+use Rattle.globset_glob.proofs.lemmas.Takes.{some_any, one_byte, ends_at, ends_push, begins_at}
 
 -- ---- bytes
 
@@ -218,14 +218,6 @@ module _ (a : List State) where
       → ((k : ℕ) (w : List ℕ) → AllBytes w → ((t : ℕ) × IsIn t ss × Accepts a k t w) ↔ ((y z : List ℕ) × (w ≡ y ++ z) × IsTrue (takes o (Group bs) y) × Accepts a k e z))
       → Does s (takes o (Group bs)) e
   group_does o bs ss s e is all k w bytes = (λ h. (all k w bytes).0 (skips_goes k s ss w is h), λ d. let (t, m, h) = (all k w bytes).1 d in by_skip s t w ss is m h)
-
-  -- what takes something is kept
-  some_any : (o : Options) (bs : Branches) (y : List ℕ) → IsTrue (some_takes o bs y) → IsTrue (any_kept o bs)
-  some_any o none y h = absurd (true≢false (sym h))
-  some_any o (branch ts bs) y h = ⊎_elim {C = IsTrue (any_kept o (branch ts bs))}
-      (λ here. or_first (is_kept o ts) (any_kept o bs) (and_first (is_kept o ts) (takes_all o ts y) here))
-      (λ later. or_second (is_kept o ts) (any_kept o bs) (some_any o bs y later))
-      (or_either (is_kept o ts && takes_all o ts y) (some_takes o bs y) h)
 
   some_only : (o : Options) (bs : Branches) (y : List ℕ) → IsTrue (any_kept o bs) → IsTrue (takes o (Group bs) y) → IsTrue (some_takes o bs y)
   some_only o bs y any h = ⊎_elim {C = IsTrue (some_takes o bs y)}
