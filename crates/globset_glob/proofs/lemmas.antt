@@ -10,9 +10,9 @@ pub mod Expressions
 pub mod Frames
 pub mod GlobStates
 pub mod Globs
-pub mod KeptBranches
 pub mod KindEqualities
 pub mod LastPositions
+pub mod RegexWriting
 pub mod Spelling
 pub mod Takes
 pub mod TokenLists

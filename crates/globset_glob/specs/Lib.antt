@@ -17,5 +17,6 @@ pub use Rattle.glob_syntax.specs.Marks
 pub use Rattle.glob_syntax.specs.Nesting
 pub use Rattle.glob_syntax.specs.Stars
 pub use Rattle.glob_syntax.specs.Reading
+pub use Rattle.glob_syntax.specs.FlatTokens
 pub use Rattle.glob_syntax.specs.ClassBytes
 pub use Rattle.glob_syntax.specs.Views

@@ -31,7 +31,8 @@ impl Model for Glob {
     ghost use Rattle.globset_glob.specs.Means.{GlobValue};
     ghost use Rattle.glob_syntax.specs.Reading.{reading};
     ghost use Rattle.globset_glob.specs.RegexText.{regex_text};
-    ghost use Rattle.glob_syntax.specs.Views.{tokens_of};
+    ghost use Rattle.glob_syntax.specs.FlatTokens.{IsNested};
+    ghost use Rattle.glob_syntax.specs.Views.{flats, tokens_of};
     ghost use Rattle.glob_syntax.specs.inner.Weight.{weight};
     ghost use Rattle.glob_syntax.specs.inner.WellFormed.{AreWellFormed};
 
@@ -41,6 +42,7 @@ impl Model for Glob {
 
     ghost invariant = { λ g. record {
       read : reading g.options (chars (string_bytes g.text)) ≡ Ok (tokens_of g.tokens.items);
+      nested : IsNested (flats g.tokens.items);
       well_formed : AreWellFormed (tokens_of g.tokens.items);
       weight : weight (tokens_of g.tokens.items) ≤ 4 * length (string_bytes g.text);
       regex : string_bytes g.regex ≡ regex_text g.options (tokens_of g.tokens.items);
@@ -127,7 +129,8 @@ impl Glob {
     ghost use Rattle.std.specs.Str.{chars};
     ghost use Rattle.globset_glob.specs.Means.{IsRead};
     ghost use Rattle.glob_syntax.specs.Reading.{reading};
-    ghost use Rattle.glob_syntax.specs.Views.{tokens_of};
+    ghost use Rattle.glob_syntax.specs.FlatTokens.{IsNested};
+    ghost use Rattle.glob_syntax.specs.Views.{flats, tokens_of};
     ghost use Rattle.glob_syntax.specs.inner.Weight.{weight};
 
     /// Reads a text under these options.
@@ -154,6 +157,7 @@ impl Glob {
     /// What the glob is read as. It takes no memory.
     pub(crate) fn tokens(&self) -> &[Token]
         ensures read { reading self.now.options (chars self.now.text) ≡ Ok (tokens_of result.now) }
+        ensures nested { IsNested (flats result.now) }
         ensures weight { weight (tokens_of result.now) ≤ 4 * length self.now.text }
     {
         &self.tokens

@@ -6,7 +6,8 @@ ghost use Rattle.glob_syntax.specs.Reading.{reading};
 ghost use Rattle.globset_glob.specs.Errors.{out_of_memory};
 ghost use Rattle.globset_glob.specs.Means.{tokens_of_glob};
 ghost use Rattle.globset_glob.specs.Values.{of_element};
-ghost use Rattle.glob_syntax.specs.Views.{tokens_of};
+ghost use Rattle.glob_syntax.specs.FlatTokens.{IsNested};
+ghost use Rattle.glob_syntax.specs.Views.{flats, tokens_of};
 
 use crate::error::Error;
 use crate::glob::Glob;
@@ -19,6 +20,7 @@ use glob_syntax::{Options, Token};
 pub fn tokens_of(glob: &Glob) -> &[Token]
     ensures read { reading glob.now.options (chars glob.now.text) ≡ Ok (tokens_of result.now) }
     ensures tokens { tokens_of_glob glob.now ≡ tokens_of result.now }
+    ensures nested { IsNested (flats result.now) }
 {
     glob.tokens()
 }

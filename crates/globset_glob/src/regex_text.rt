@@ -1,24 +1,25 @@
 //! The text that a glob has as a regular expression.
 
-ghost use Rattle.std.specs.Prelude.{◌≡◌, ◌<◌, ◌++◌, [], ◌∷◌, ◌||◌, not, List, ℕ, IfOk, OnOk, string_bytes};
-ghost use Rattle.glob_syntax.specs.Token.{Group};
-ghost use Rattle.globset_glob.specs.Blank.{is_kept, is_blank_token};
+ghost use Rattle.std.specs.Prelude.{◌≡◌, ◌<◌, ◌++◌, [], ◌∷◌, ◌&&◌, ◌||◌, not, ℕ, IfOk, OnOk, take, string_bytes, string_len};
+ghost use Rattle.std.specs.String.Boundary.{IsSplitPoint};
+ghost use Rattle.glob_syntax.specs.FlatTokens.{IsNested, IsSimple};
 ghost use Rattle.globset_glob.specs.Means.{is_prefix_alone};
-ghost use Rattle.glob_syntax.specs.Views.{token_of, tokens_of, branches_of};
-ghost use Rattle.globset_glob.specs.RegexText.{is_escaped, hexadecimal_digit, byte_text, bytes_text, char_text, range_text, ranges_text, class_text, with_text, token_text, tokens_text, flags_text, body_text, regex_text};
-ghost use Rattle.globset_glob.specs.inner.RegexWriting.{rest_text};
+ghost use Rattle.glob_syntax.specs.Views.{flat_of, flats, tokens_of};
+ghost use Rattle.globset_glob.specs.RegexText.{is_escaped, hexadecimal_digit, byte_text, bytes_text, char_text, range_text, ranges_text, class_text, token_text, tokens_text, flags_text, body_text, regex_text};
+ghost use Rattle.globset_glob.specs.inner.RegexWriting.{chosen, opener, closer, simple_text};
 
 use glob_syntax::{Class, Options, Token};
 use std::alloc::{AllocError, Global};
 
 /// The text of a glob's tokens. It takes time linear in the tokens.
 pub fn regex_text(alloc: Global, options: Options, tokens: &[Token]) -> Result<String, AllocError>
+    requires { IsNested (flats tokens.now) }
     ensures { IfOk result (λ text. string_bytes text ≡ regex_text options (tokens_of tokens.now)) }
 {
     let mut text = String::new(alloc);
     push_flags(&mut text, options)?;
     text.push_str("^")?;
-    push_body(&mut text, options, tokens)?;
+    push_body(alloc, &mut text, options, tokens)?;
     text.push_str("$")?;
     Ok(text)
 }
@@ -35,42 +36,129 @@ fn push_flags(text: &mut String, options: Options) -> Result<(), AllocError>
 }
 
 /// What stands between the `^` and the `$`.
-fn push_body(text: &mut String, options: Options, tokens: &[Token]) -> Result<(), AllocError>
+fn push_body(
+    alloc: Global,
+    text: &mut String,
+    options: Options,
+    tokens: &[Token],
+) -> Result<(), AllocError>
+    requires { IsNested (flats tokens.now) }
     ensures { OnOk result (string_bytes text.new ≡ string_bytes text.old ++ body_text options (tokens_of tokens.now)) }
 {
     if is_prefix_alone(tokens) {
         text.push_str(".*")?;
     } else {
-        push_tokens(text, options, tokens)?;
+        push_tokens(alloc, text, options, tokens)?;
     }
     Ok(())
 }
 
 /// Whether the only token is `RecursivePrefix`.
 fn is_prefix_alone(tokens: &[Token]) -> bool
+    requires { IsNested (flats tokens.now) }
     ensures { result ≡ is_prefix_alone (tokens_of tokens.now) }
 {
     matches!(tokens, [Token::RecursivePrefix])
 }
 
-/// The tokens' texts, one after another. Answers whether they are kept as a branch.
-#[cycle(texts)]
-fn push_tokens(text: &mut String, options: Options, tokens: &[Token]) -> Result<bool, AllocError>
-    ensures text { OnOk result (string_bytes text.new ≡ string_bytes text.old ++ tokens_text options (tokens_of tokens.now)) }
-    ensures kept { IfOk result (λ kept. kept ≡ is_kept options (tokens_of tokens.now)) }
-{
-    let mut kept = options.empty_alternates;
-    for token in tokens {
-        kept |= push_token(text, options, token)?;
-    }
-    Ok(kept)
+/// A group whose text is being written.
+#[derive(Clone, Copy, Drop)]
+struct OpenGroup {
+    /// The length of the text before the branch that is being written.
+    len: usize,
+    /// Whether no branch of the group has been written.
+    first: bool,
+    /// Whether the branch around the group is kept by what it has before the group.
+    outer_kept: bool,
 }
 
-/// The text of one token. Answers whether a branch of this token alone is kept.
-#[cycle(texts)]
-fn push_token(text: &mut String, options: Options, token: &Token) -> Result<bool, AllocError>
-    ensures text { OnOk result (string_bytes text.new ≡ string_bytes text.old ++ token_text options (token_of token.now)) }
-    ensures kept { IfOk result (λ kept. kept ≡ (options.empty_alternates || not (is_blank_token (token_of token.now)))) }
+/// The texts of the tokens, one after another.
+///
+/// Only its tokens tell whether a branch is kept, so its text is written, and removed if it is not.
+fn push_tokens(
+    alloc: Global,
+    text: &mut String,
+    options: Options,
+    tokens: &[Token],
+) -> Result<(), AllocError>
+    requires { IsNested (flats tokens.now) }
+    ensures { OnOk result (string_bytes text.new ≡ string_bytes text.old ++ tokens_text options (tokens_of tokens.now)) }
+{
+    let mut kept = false;
+    let mut groups = Vec::new(alloc);
+    for token in tokens {
+        match token {
+            Token::Open => {
+                groups.push(start_branch(text, true, kept)?)?;
+                kept = false;
+            }
+            Token::Comma => {
+                let Some(group) = groups.pop() else {
+                    unreachable!()
+                };
+                let first = end_branch(text, options, group, kept);
+                groups.push(start_branch(text, first, group.outer_kept)?)?;
+                kept = false;
+            }
+            Token::Close => {
+                let Some(group) = groups.pop() else {
+                    unreachable!()
+                };
+                let none = end_branch(text, options, group, kept);
+                kept = end_group(text, group, none)?;
+            }
+            _ => {
+                push_simple(text, options, token)?;
+                kept = true;
+            }
+        }
+    }
+    Ok(())
+}
+
+/// The text before a branch of a group: the first that is written, or another.
+fn start_branch(text: &mut String, first: bool, outer_kept: bool) -> Result<OpenGroup, AllocError>
+    ensures text { OnOk result (string_bytes text.new ≡ string_bytes text.old ++ opener first) }
+    ensures group { IfOk result (λ g. g ≡ record { len = string_len text.old; first = first; outer_kept = outer_kept }) }
+{
+    let len = text.len();
+    text.push_str(if first { "(?:" } else { "|" })?;
+    Ok(OpenGroup {
+        len,
+        first,
+        outer_kept,
+    })
+}
+
+/// The end of a branch, which is kept under `empty_alternates` and where `kept` says so. Returns whether no branch of the
+/// group has been written.
+fn end_branch(text: &mut String, options: Options, group: OpenGroup, kept: bool) -> bool
+    requires { IsSplitPoint (string_bytes text.old) group.len }
+    ensures text { string_bytes text.new ≡ chosen (options.empty_alternates || kept) (string_bytes text.old) (take group.len (string_bytes text.old)) }
+    ensures none { result ≡ (group.first && not (options.empty_alternates || kept)) }
+{
+    if options.empty_alternates || kept {
+        return false;
+    }
+    text.truncate(group.len);
+    group.first
+}
+
+/// The text after the last branch of a group, if one was written. Returns whether the branch around it is kept so far.
+fn end_group(text: &mut String, group: OpenGroup, none: bool) -> Result<bool, AllocError>
+    ensures text { OnOk result (string_bytes text.new ≡ string_bytes text.old ++ closer none) }
+    ensures kept { IfOk result (λ kept. kept ≡ (group.outer_kept || not none)) }
+{
+    if !none {
+        text.push_str(")")?;
+    }
+    Ok(group.outer_kept || !none)
+}
+
+/// The text of a token that is no brace or comma.
+fn push_simple(text: &mut String, options: Options, token: &Token) -> Result<(), AllocError>
+    requires { IsSimple (flat_of token.now) }
+    ensures { OnOk result (string_bytes text.new ≡ string_bytes text.old ++ simple_text options (flat_of token.now)) }
 {
     match token {
         Token::Literal(c) => push_char(text, *c)?,
@@ -82,52 +170,9 @@ fn push_token(text: &mut String, options: Options, token: &Token) -> Result<bool
         Token::RecursiveSuffix => text.push_str("/.*")?,
         Token::RecursiveZeroOrMore => text.push_str("(?:/|/.*/)")?,
         Token::Class(class) => push_class(text, class)?,
-        Token::Alternates(branches) => return push_group(text, options, branches),
+        Token::Open | Token::Comma | Token::Close => unreachable!(),
     }
-    Ok(true)
-}
-
-/// The text of a group. Answers whether a branch of this group alone is kept.
-#[cycle(texts)]
-fn push_group(
-    text: &mut String,
-    options: Options,
-    branches: &[Vec<Token>],
-) -> Result<bool, AllocError>
-    ensures text { OnOk result (string_bytes text.new ≡ string_bytes text.old ++ token_text options (Group (branches_of branches.now))) }
-    ensures kept { IfOk result (λ kept. kept ≡ (options.empty_alternates || not (is_blank_token (Group (branches_of branches.now))))) }
-{
-    let mut first = true;
-    for branch in branches {
-        first = push_branch(text, options, branch, first)?;
-    }
-    if !first {
-        text.push_str(")")?;
-    }
-    Ok(options.empty_alternates || !first)
-}
-
-/// A branch of a group, if it is kept, behind `(?:` or `|`. Answers whether none has been written yet.
-///
-/// Only its tokens tell whether it is kept, so what was written before them is taken back if it is not.
-#[cycle(texts)]
-fn push_branch(
-    text: &mut String,
-    options: Options,
-    branch: &[Token],
-    first: bool,
-) -> Result<bool, AllocError>
-    ensures text { IfOk result (λ none. (ts : List (List ℕ)) → string_bytes text.new ++ rest_text none ts
-        ≡ string_bytes text.old ++ rest_text first (with_text (is_kept options (tokens_of branch.now)) (tokens_text options (tokens_of branch.now)) ts)) }
-    ensures none { IfOk result (λ none. not none ≡ (not first || is_kept options (tokens_of branch.now))) }
-{
-    let len = text.len();
-    text.push_str(if first { "(?:" } else { "|" })?;
-    if push_tokens(text, options, branch)? {
-        return Ok(false);
-    }
-    text.truncate(len);
-    Ok(first)
+    Ok(())
 }
 
 /// The text of a class.

@@ -1,28 +1,34 @@
--- Tokens from the first on, at the values that the program holds.
-use Rattle.std.proofs.Common.{◌≡◌, ℕ, ◌+◌, ◌<◌, ◌≤◌, false, List, [], ◌∷◌, length, get_or, drop, refl, sym, ap, ◌∙◌, arith}
-use Rattle.std.proofs.lemmas.List.{drop_more, drop_all}
-use Rattle.std.specs.declared.alloc.Global.{Global}
-use Rattle.std.specs.declared.vec.Vec.{Vec}
+-- Lists of tokens, at the values that the program holds.
+use Rattle.std.proofs.Common.{◌≡◌, ◌≤◌, Bool, true, false, List, length, refl, ap, arith}
+use Rattle.std.proofs.lemmas.List.{length-map}
 use Rattle.glob_syntax.specs.declared.token.Token as held
-use Rattle.glob_syntax.specs.Token.{and_then, end, branch, none}
-use Rattle.globset_glob.specs.Means.{is_prefix_alone}
-use Rattle.glob_syntax.specs.Views.{token_of, tokens_of, branches_of}
+use Rattle.glob_syntax.specs.Token.{Token, Literal, Any, ZeroOrMore, RecursivePrefix, RecursiveSuffix, RecursiveZeroOrMore, Class, Group, Tokens, end, and_then}
+use Rattle.glob_syntax.specs.FlatTokens.{IsNested}
+use Rattle.glob_syntax.specs.Views.{flat_of, flats, tokens_of}
+use Rattle.glob_syntax.proofs.lemmas.FlatTrees.{two_are_more}
+use Rattle.globset_glob.specs.Means.{is_prefix, is_prefix_alone}
 
-pub more_than_one : (ts : List held.Token) → 2 ≤ length ts → false ≡ is_prefix_alone (tokens_of ts)
-more_than_one [] h = absurd (omega arith)
-more_than_one (t ∷ []) h = absurd (omega arith)
-more_than_one (t ∷ u ∷ us) h = refl
+pub prefix_is : (t : Token) → is_prefix t ≡ true → t ≡ RecursivePrefix
+prefix_is RecursivePrefix e = refl
+prefix_is (Literal c) e = absurd cc
+prefix_is Any e = absurd cc
+prefix_is ZeroOrMore e = absurd cc
+prefix_is RecursiveSuffix e = absurd cc
+prefix_is RecursiveZeroOrMore e = absurd cc
+prefix_is (Class negated rs) e = absurd cc
+prefix_is (Group bs) e = absurd cc
 
--- the token at i stands before the others
-pub tokens_here : (ts : List held.Token) (i : ℕ) (t : held.Token) → i < length ts → t ≡ get_or ts i t → tokens_of (drop i ts) ≡ and_then (token_of t) (tokens_of (drop (i + 1) ts))
-tokens_here ts i t lt is = ap tokens_of (drop_more ts i t lt ∙ ap (λ u. u ∷ drop (i + 1) ts) (sym is))
+pub alone_is : (ts : Tokens) → is_prefix_alone ts ≡ true → ts ≡ and_then RecursivePrefix end
+alone_is end e = absurd cc
+alone_is (and_then t end) e = ap (λ (u : Token). and_then u end) (prefix_is t e)
+alone_is (and_then t (and_then u ts)) e = absurd cc
 
--- and so does the branch at i
-pub branches_here : (vs : List (Vec held.Token Global)) (i : ℕ) (v : Vec held.Token Global) → i < length vs → v ≡ get_or vs i v → branches_of (drop i vs) ≡ branch (tokens_of v.items) (branches_of (drop (i + 1) vs))
-branches_here vs i v lt is = ap branches_of (drop_more vs i v lt ∙ ap (λ u. u ∷ drop (i + 1) vs) (sym is))
-
-pub tokens_past : (ts : List held.Token) (i : ℕ) → length ts ≤ i → tokens_of (drop i ts) ≡ end
-tokens_past ts i h = ap tokens_of (drop_all i ts h)
-
-pub branches_past : (vs : List (Vec held.Token Global)) (i : ℕ) → length vs ≤ i → branches_of (drop i vs) ≡ none
-branches_past vs i h = ap branches_of (drop_all i vs h)
+-- two tokens or more are not RecursivePrefix alone
+pub more_than_one : (ts : List held.Token) → IsNested (flats ts) → 2 ≤ length ts → false ≡ is_prefix_alone (tokens_of ts)
+more_than_one ts nested some = by_case (is_prefix_alone (tokens_of ts)) refl
+  where
+    by_case : (b : Bool) → is_prefix_alone (tokens_of ts) ≡ b → false ≡ b
+    by_case true e =
+        let len = length-map ts flat_of in
+        absurd (two_are_more (flats ts) nested (omega arith) (alone_is (tokens_of ts) e))
+    by_case false e = refl
