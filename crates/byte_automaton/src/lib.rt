@@ -9,8 +9,11 @@ mod automaton;
 mod builder;
 mod byte_set;
 mod index_set;
+mod run;
 mod state;
 mod state_set;
+#[cfg(test)]
+mod tests;
 mod words;
 
 pub use automaton::Automaton;

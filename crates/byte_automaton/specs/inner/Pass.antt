@@ -1,5 +1,5 @@
 -- One pass over the states at one position of a text.
-use Rattle.std.specs.Prelude.{◌≡◌, ℕ, ◌<◌, ◌⊎◌, Bool, false, ◌&&◌, ◌||◌, ◌==◌, List, [], ◌∷◌, Option, Some, None, IsTrue}
+use Rattle.std.specs.Prelude.{◌≡◌, ℕ, ◌<◌, ◌⊎◌, Bool, false, ◌&&◌, ◌||◌, ◌==◌, List, [], ◌∷◌, length, Option, Some, None, IsTrue}
 use Rattle.byte_automaton.specs.Sets.{has_byte}
 use Rattle.byte_automaton.specs.Steps.{State, reads, skips, stays, final, Accepts}
 
@@ -42,7 +42,7 @@ Alive a now upto y k = (t : ℕ) × (t < upto) × IsTrue (now t) × Accepts a k 
 
 -- a state of the next set accepts what follows the first byte
 abbrev pub Later : List State → (ℕ → Bool) → List ℕ → ℕ → Type 0
-Later a next y k = (c : ℕ) × (z : List ℕ) × (t : ℕ) × (y ≡ c ∷ z) × IsTrue (next t) × Accepts a k t z
+Later a next y k = (c : ℕ) × (z : List ℕ) × (t : ℕ) × (y ≡ c ∷ z) × (t < length a) × IsTrue (next t) × Accepts a k t z
 
 -- the text is at its end, and k was found
 abbrev pub Named : (ℕ → Bool) → List ℕ → ℕ → Type 0
