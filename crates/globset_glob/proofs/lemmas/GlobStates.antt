@@ -1,20 +1,25 @@
 -- Several globs in one automaton.
-use Rattle.std.proofs.Common.{◌≡◌, ℕ, suc, ◌<◌, ◌≤◌, ◌+◌, ◌⊎◌, inl, inr, Bool, true, false, ◌||◌, List, [], ◌∷◌, ◌++◌, length, slice_index, IsTrue, refl, ap, sym, ◌∙◌, subst, arith}
+use Rattle.std.proofs.Common.{◌≡◌, ℕ, suc, ◌<◌, ◌≤◌, ◌+◌, ◌*◌, Ok, ◌⊎◌, inl, inr, Bool, true, false, ◌||◌, List, [], ◌∷◌, ◌++◌, length, slice_index, IsTrue, refl, ap, sym, ◌∙◌, subst, arith}
 use Rattle.std.specs.Prelude.{◌↔◌}
+use Rattle.std.specs.Str.{chars}
 use Rattle.std.proofs.Math.Logic.{⊎_elim}
 use Rattle.glob_syntax.specs.declared.options.Options.{Options}
 use Rattle.glob_syntax.specs.Token.{Tokens}
+use Rattle.glob_syntax.specs.Reading.{reading}
 use Rattle.glob_syntax.specs.inner.Weight.{weight}
 use Rattle.globset_glob.specs.Takes.{takes_all}
-use Rattle.globset_glob.specs.Means.{GlobValue, means, is_prefix_alone, tokens_of_glob, glob_means}
+use Rattle.globset_glob.specs.Means.{GlobValue, means, is_prefix_alone, glob_means}
+use Rattle.globset_glob.specs.Cost.{cost}
 use Rattle.byte_automaton.specs.Steps.{State, state, stays, final, IsIn, Accepts, Machine, IsReached}
 use Rattle.byte_automaton.specs.Building.{Agrees, Pushes}
+use Rattle.byte_automaton.specs.Runs.{size}
 use Rattle.byte_automaton.specs.declared.byte_set.ByteSet.{ByteSet}
 use Rattle.globset_glob.specs.inner.TokenStates.{AllBytes, IsSetOf, is_any_byte}
 use Rattle.globset_glob.specs.inner.Building.{Grows, Builds}
 use Rattle.globset_glob.specs.inner.GlobStates.{IndexedGlob, indexed, SomeMatches, BuildsGlob, IsFor, IsAutomatonOf}
 use Rattle.globset_glob.proofs.lemmas.Booleans.{or_first, same_truth}
 use Rattle.globset_glob.proofs.lemmas.Building.{agrees_old, agrees_higher}
+use Rattle.globset_glob.proofs.lemmas.Globs.{means_is}
 use Rattle.globset_glob.proofs.lemmas.TokenLists.{alone_is}
 use Rattle.globset_glob.proofs.lemmas.TokenStates.{glob_accepts, everything_accepts}
 
@@ -62,7 +67,7 @@ in_push t s (x ∷ xs) = (
 )
 
 abbrev Matches : IndexedGlob → List ℕ → ℕ → Type 0
-Matches g path k = (g.index ≡ k) × IsTrue (means g.options g.tokens path)
+Matches g path k = (g.index ≡ k) × IsTrue (glob_means g.glob path)
 
 some_push : (g : IndexedGlob) (gs : List IndexedGlob) (path : List ℕ) (k : ℕ) → SomeMatches (gs ++ g ∷ []) path k ↔ (SomeMatches gs path k ⊎ Matches g path k)
 some_push g [] path k = (λ h. ⊎_elim {C = ⊥ ⊎ Matches g path k} (λ this. inr this) (λ no. absurd no) h, λ h. ⊎_elim {C = Matches g path k ⊎ ⊥} (λ no. absurd no) (λ this. inl this) h)
@@ -78,23 +83,24 @@ some_push g (x ∷ gs) path k = (
 pub none_for : (m : Machine) → m.starts ≡ [] → IsFor m []
 none_for m is = λ a agrees path k bytes. (λ (s, at, h). subst (IsIn s) is at, λ h. absurd h)
 
-pub one_more : (o : Options) (ts : Tokens) (j : ℕ) (old mid new : Machine) (s : ℕ) (gs : List IndexedGlob)
-    → Grows old mid → BuildsGlob o ts j old.states mid.states s → new.states ≡ mid.states → new.starts ≡ mid.starts ++ s ∷ []
-    → IsFor old gs → IsFor new (gs ++ indexed o ts j ∷ [])
-one_more o ts j old mid new s gs grows built states starts before = λ a agrees' path k bytes.
+pub one_more : (g : GlobValue) (o : Options) (ts : Tokens) (j : ℕ) (old mid new : Machine) (s : ℕ) (gs : List IndexedGlob)
+    → o ≡ g.options → reading g.options (chars g.text) ≡ Ok ts → Grows old mid → BuildsGlob o ts j old.states mid.states s → new.states ≡ mid.states → new.starts ≡ mid.starts ++ s ∷ []
+    → IsFor old gs → IsFor new (gs ++ indexed g j ∷ [])
+one_more g o ts j old mid new s gs options read grows built states starts before = λ a agrees' path k bytes.
     let agrees : Agrees a mid.states 0 (length mid.states) = subst (λ l. Agrees a l 0 (length l)) states agrees' in
     let starts' : new.starts ≡ old.starts ++ s ∷ [] = starts ∙ ap (λ l. l ++ s ∷ []) grows.starts in
     let one = built a (agrees_higher a mid.states 0 (length old.states) (omega arith) agrees) path k bytes in
     let others = before a (agrees_old a old.states mid.states 0 grows.keeps agrees) path k bytes in
-    let g = indexed o ts j in (
-      λ (t, at, h). ⊎_elim {C = SomeMatches (gs ++ g ∷ []) path k}
-          (λ earlier. (some_push g gs path k).1 (inl (others.0 (t, earlier, h))))
-          (λ is. (some_push g gs path k).1 (inr (one.0 (subst (λ u. Accepts a k u path) is h))))
+    let same : means o ts path ≡ glob_means g path = ap (λ (p : Options). means p ts path) options ∙ means_is g ts path read in
+    let this = indexed g j in (
+      λ (t, at, h). ⊎_elim {C = SomeMatches (gs ++ this ∷ []) path k}
+          (λ earlier. (some_push this gs path k).1 (inl (others.0 (t, earlier, h))))
+          (λ is. let (at_j, m) = one.0 (subst (λ u. Accepts a k u path) is h) in (some_push this gs path k).1 (inr (at_j, sym same ∙ m)))
           ((in_push t s old.starts).0 (subst (IsIn t) starts' at)),
       λ some. ⊎_elim {C = (t : ℕ) × IsIn t new.starts × Accepts a k t path}
           (λ earlier. let (t, at, h) = others.1 earlier in (t, subst (IsIn t) (sym starts') ((in_push t s old.starts).1 (inl at)), h))
-          (λ this. (s, subst (IsIn s) (sym starts') ((in_push s s old.starts).1 (inr refl)), one.1 this))
-          ((some_push g gs path k).0 some),
+          (λ (at_j, m). (s, subst (IsIn s) (sym starts') ((in_push s s old.starts).1 (inr refl)), one.1 (at_j, same ∙ m)))
+          ((some_push this gs path k).0 some),
     )
 
 -- what it reaches is what its globs match
@@ -107,9 +113,15 @@ pub all_bytes : (path : List ℕ) → ((i : ℕ) → slice_index path i < 256) �
 all_bytes [] h = tt
 all_bytes (c ∷ cs) h = (h 0, all_bytes cs (λ i. h (suc i)))
 
-pub one_matches : (g : GlobValue) (m : Machine) (path : List ℕ) (yes : Bool) → IsAutomatonOf g m → AllBytes path → IsTrue yes ↔ ((k : ℕ) × IsReached m path k) → yes ≡ glob_means g path
-unfolding glob_means
-one_matches g m path yes is bytes h = same_truth yes (means g.options (tokens_of_glob g) path) (
-  λ y. let (k, reached) = h.0 y in ⊎_elim {C = IsTrue (means g.options (tokens_of_glob g) path)} (λ this. this.1) (λ no. absurd no) ((reached_matches m (indexed g.options (tokens_of_glob g) 0 ∷ []) path k is.globs bytes).0 reached),
-  λ y. h.1 (0, (reached_matches m (indexed g.options (tokens_of_glob g) 0 ∷ []) path 0 is.globs bytes).1 (inl (refl, y))),
+pub one_glob : (g : GlobValue) (old new : Machine) → old.states ≡ [] → old.starts ≡ [] → ((gs : List IndexedGlob) → IsFor old gs → IsFor new (gs ++ indexed g 0 ∷ [])) → size new + 2 ≤ size old + cost g
+    → IsAutomatonOf g new
+one_glob g old new states starts globs count = record {
+  globs = globs [] (none_for old starts);
+  size = let none : size old ≡ 0 = ap length states in omega (arith, count);
+}
+
+pub one_matches : (g : GlobValue) (m : Machine) (path : List ℕ) (found : Bool) → IsAutomatonOf g m → AllBytes path → IsTrue found ↔ ((k : ℕ) × IsReached m path k) → found ≡ glob_means g path
+one_matches g m path found is bytes h = same_truth found (glob_means g path) (
+  λ y. let (k, reached) = h.0 y in ⊎_elim {C = IsTrue (glob_means g path)} (λ this. this.1) (λ no. absurd no) ((reached_matches m (indexed g 0 ∷ []) path k is.globs bytes).0 reached),
+  λ y. h.1 (0, (reached_matches m (indexed g 0 ∷ []) path 0 is.globs bytes).1 (inl (refl, y))),
 )

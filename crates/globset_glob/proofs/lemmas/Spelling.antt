@@ -38,7 +38,7 @@ spells_none o [] = rw (compared-none o) refl
 spells_none o (d ∷ ds) = rw (compared-none o, compared-cons o d ds) refl
 
 -- one byte, and then the others
-spells_more : (o : Options) (c : ℕ) (cs y : List ℕ) → spells o (c ∷ cs) y ≡ both (spells o (c ∷ [])) (spells o cs) y
+pub spells_more : (o : Options) (c : ℕ) (cs y : List ℕ) → spells o (c ∷ cs) y ≡ both (spells o (c ∷ [])) (spells o cs) y
 spells_more o c cs y = same_truth (spells o (c ∷ cs) y) (both (spells o (c ∷ [])) (spells o cs) y) (there y, back)
   where
     there : (y : List ℕ) → IsTrue (spells o (c ∷ cs) y) → IsTrue (both (spells o (c ∷ [])) (spells o cs) y)

@@ -2,30 +2,28 @@
 use Rattle.std.specs.Prelude.{◌≡◌, ℕ, ◌+◌, ◌≤◌, ◌⊎◌, ◌↔◌, List, [], ◌∷◌, length, IsTrue}
 use Rattle.glob_syntax.specs.declared.options.Options.{Options}
 use Rattle.glob_syntax.specs.Token.{Tokens}
-use Rattle.globset_glob.specs.Means.{GlobValue, means, tokens_of_glob}
+use Rattle.globset_glob.specs.Means.{GlobValue, means, glob_means}
 use Rattle.globset_glob.specs.Cost.{cost}
 use Rattle.byte_automaton.specs.Steps.{State, Accepts, IsIn, Machine}
 use Rattle.byte_automaton.specs.Building.{Agrees}
 use Rattle.byte_automaton.specs.Runs.{size}
 use Rattle.globset_glob.specs.inner.TokenStates.{AllBytes}
 
--- a glob by its tokens, and the index that it has in the automaton
+-- a glob, and the index that it has in the automaton
 pub record IndexedGlob : Type 0 where
-  pub options : Options
-  pub tokens : Tokens
+  pub glob : GlobValue
   pub index : ℕ
 
-abbrev pub indexed : Options → Tokens → ℕ → IndexedGlob
-indexed o ts j = record {
-  options = o;
-  tokens = ts;
+abbrev pub indexed : GlobValue → ℕ → IndexedGlob
+indexed g j = record {
+  glob = g;
   index = j;
 }
 
 -- some glob of the index k matches the path
 abbrev pub SomeMatches : List IndexedGlob → List ℕ → ℕ → Type 0
 SomeMatches [] path k = ⊥
-SomeMatches (g ∷ gs) path k = ((g.index ≡ k) × IsTrue (means g.options g.tokens path)) ⊎ SomeMatches gs path k
+SomeMatches (g ∷ gs) path k = ((g.index ≡ k) × IsTrue (glob_means g.glob path)) ⊎ SomeMatches gs path k
 
 -- from s the states that were added accept the paths that the glob matches, for its index alone
 abbrev pub BuildsGlob : Options → Tokens → ℕ → List State → List State → ℕ → Type 0
@@ -41,5 +39,5 @@ IsFor m gs = (a : List State) → Agrees a m.states 0 (length m.states) → (pat
 -- From its starts it accepts the paths that the glob matches. It has fewer states than the glob may have visits for each
 -- byte of a path.
 pub record IsAutomatonOf (g : GlobValue) (m : Machine) : Type 0 where
-  pub globs : IsFor m (indexed g.options (tokens_of_glob g) 0 ∷ [])
+  pub globs : IsFor m (indexed g 0 ∷ [])
   pub size : size m + 2 ≤ cost g

@@ -6,7 +6,7 @@ ghost use Rattle.globset_glob.specs.Cost.{most_visits};
 
 use crate::error::Error;
 use crate::glob::Glob;
-use crate::matching::auto::automaton_of;
+use crate::matching::auto::{automaton_of, is_match};
 use crate::path::{AsPath, Candidate};
 use byte_automaton::{Automaton, StateSet};
 use std::fmt;
@@ -79,7 +79,7 @@ impl GlobMatcher {
         let alloc = self.glob.allocator();
         let mut now = StateSet::new(alloc, self.automaton.state_count())?;
         let mut next = StateSet::new(alloc, self.automaton.state_count())?;
-        Ok(self.automaton.is_match(path.path(), &mut now, &mut next, visits))
+        Ok(is_match(&self.automaton, path.path(), &mut now, &mut next, visits))
     }
 
     /// A matcher of an equal glob, or an error if memory runs out.

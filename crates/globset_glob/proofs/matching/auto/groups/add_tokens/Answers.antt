@@ -1,4 +1,4 @@
-use Rattle.std.proofs.Common.{◌≡◌, ◌+◌, ◌-◌, ◌<◌, ◌||◌, not, [], ◌∷◌, ◌++◌, length, drop, arith, sym, ap, ◌∙◌}
+use Rattle.std.proofs.Common.{◌≡◌, ◌+◌, ◌-◌, ◌<◌, ◌||◌, not, [], ◌∷◌, ◌++◌, length, drop, arith, sym, ap, subst, ◌∙◌}
 use Rattle.std.proofs.lemmas.List.{drop_more}
 use Rattle.glob_syntax.specs.Reading.{next_branch}
 use Rattle.glob_syntax.specs.FlatTokens.{all_levels, levels_of, opening, comma, closing}
@@ -7,7 +7,7 @@ use Rattle.glob_syntax.proofs.lemmas.FlatTokens.{levels_more, open_around, depth
 use Rattle.byte_automaton.specs.Steps.{skips}
 use Rattle.byte_automaton.specs.Building.{AreBelow, Pushes}
 use Rattle.byte_automaton.specs.Runs.{size}
-use Rattle.globset_glob.specs.inner.Frames.{frame_of, frames_of, ended, nexts_of, Stands}
+use Rattle.globset_glob.specs.inner.Frames.{Frame, frame_of, frames_of, ended, nexts_of, Stands}
 use Rattle.globset_glob.proofs.lemmas.Frames.{frames_push, frames_length, below_nexts, within_ended, stands_flat, not_blank, stands_close, stands_comma, stands_group, stands_whole, weight_whole}
 use Rattle.globset_glob.proofs.matching.auto.groups.add_tokens.Goals as goal
 use Rattle.globset_glob.proofs.matching.auto.groups.add_tokens.Goals.{in-Close+in_ok-push-in-Close, in-Comma+in_ok-frame-in-Comma, in-Open+in_ok-group-in-Open+in_ok-nexts-in-Open+in_ok-start-in-Open+in-Some, in_default+in_ok-start-in_default}
@@ -43,7 +43,7 @@ push_skip-requires c =
     let done : frame_of c.in_ok-group-in-Open.group ≡ ended o f = c.in_ok-group-in-Open.ensures in
     let n = inv.within in
     let below : AreBelow (size mid) (nexts_of (frame_of c.in_ok-group-in-Open.group).starts (frame_of c.in_ok-group-in-Open.group).exit) =
-    rw done (below_nexts (size mid) (ended o f).starts (ended o f).exit (within_ended (size mid) (o.empty_alternates || not f.blank) f.start f.starts n.0 n.2) n.1) in
+    subst (λ (g : Frame). AreBelow (size mid) (nexts_of g.starts g.exit)) (sym done) (below_nexts (size mid) (ended o f).starts (ended o f).exit (within_ended (size mid) (o.empty_alternates || not f.blank) f.start f.starts n.0 n.2) n.1) in
     rw (c.deref.ensures.value, c.in_ok-nexts-in-Open.ensures) below
 
 pub loop-i-preserved : goal.loop-i-preserved
