@@ -44,15 +44,16 @@ impl Member {
         })
     }
 
-    /// Of this glob, which is given away. It takes no memory.
-    pub fn of(glob: Glob) -> Member
-        ensures { result ≡ glob }
+    /// Of this glob, which is given away, or an error if memory runs out.
+    pub fn of(glob: Glob) -> Result<Member, Error>
+        ensures ok { IfOk result (λ m. m ≡ glob) }
+        ensures err { IfErr result (λ e. e ≡ out_of_memory) }
     {
         let is_silent = is_silent(&glob);
-        Member {
-            matcher: matcher_of(glob),
+        Ok(Member {
+            matcher: matcher_of(glob)?,
             is_silent,
-        }
+        })
     }
 
     /// Whether the glob is not silent and means the path. A silent glob is not asked.

@@ -1,4 +1,4 @@
 //! Which paths a glob matches.
 
-mod auto;
+pub mod auto;
 pub mod matcher;

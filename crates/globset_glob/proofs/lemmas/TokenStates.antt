@@ -244,7 +244,7 @@ module _ (a : List State) where
       there : ((v : ℕ) × IsIn v ss × Accepts a k v w) → (y z : List ℕ) × (w ≡ y ++ z) × IsTrue (some_takes o (branch ts bs) y) × Accepts a k e z
       there (v, m, h) = ⊎_elim {C = (y z : List ℕ) × (w ≡ y ++ z) × IsTrue (some_takes o (branch ts bs) y) × Accepts a k e z}
           (λ same. let (y, z, cut, all, after) = (this k w bytes).0 (subst (λ x. Accepts a k x w) same h) in
-              (y, z, cut, or_first (is_kept o ts && takes_all o ts y) (some_takes o bs y) (and_both (is_kept o ts) (takes_all o ts y) kept all), after))
+          (y, z, cut, or_first (is_kept o ts && takes_all o ts y) (some_takes o bs y) (and_both (is_kept o ts) (takes_all o ts y) kept all), after))
           (λ other. let (y, z, cut, some, after) = others.0 (v, other, h) in (y, z, cut, or_second (is_kept o ts && takes_all o ts y) (some_takes o bs y) some, after))
           (subst (IsIn v) is m)
 

@@ -93,7 +93,7 @@ pub fn is_match(
 
 /// Puts the indexes of the globs of an automaton that match a path into a set, beside what it holds. It takes no memory.
 /// What the sets of states held has no effect.
-pub fn find(
+pub fn find_globs(
     automaton: &Automaton,
     path: &[u8],
     now: &mut StateSet,

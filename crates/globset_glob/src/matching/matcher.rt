@@ -94,6 +94,8 @@ impl GlobMatcher {
 /// `GlobMatcher { glob: Glob("<text>") }`
 impl fmt::Debug for GlobMatcher {
     fn fmt<W: fmt::Write>(&self, f: &mut fmt::Formatter<W>) -> fmt::Result {
-        f.debug_struct("GlobMatcher").field("glob", &self.glob).finish()
+        f.debug_struct("GlobMatcher")
+            .field("glob", &self.glob)
+            .finish()
     }
 }

@@ -5,7 +5,7 @@ use Rattle.byte_automaton.specs.Sets.{has_index}
 use Rattle.byte_automaton.specs.Steps.{IsReached}
 use Rattle.globset_glob.specs.inner.GlobStates.{SomeMatches}
 use Rattle.globset_glob.proofs.lemmas.GlobStates.{all_bytes, reached_matches}
-use Rattle.globset_glob.proofs.matching.auto.find.Goals as goal
+use Rattle.globset_glob.proofs.matching.auto.find_globs.Goals as goal
 
 pub returns-clause-found : goal.returns-clause-found
 returns-clause-found c = λ gs is k.
