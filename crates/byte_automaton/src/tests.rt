@@ -45,16 +45,18 @@ const ROWS: [(&str, Option<usize>); 10] = [
 ];
 
 /// The first index that a text leads to.
-fn index_of(
-    alloc: Global,
-    automaton: &Automaton,
-    text: &str,
-) -> Result<Option<usize>, AllocError> {
+fn index_of(alloc: Global, automaton: &Automaton, text: &str) -> Result<Option<usize>, AllocError> {
     let mut now = StateSet::new(alloc, automaton.state_count())?;
     let mut next = StateSet::new(alloc, automaton.state_count())?;
     let mut found = IndexSet::new(alloc, automaton.index_count())?;
     let mut visits = Visits::new();
-    automaton.find(text.as_bytes(), &mut now, &mut next, &mut found, &mut visits);
+    automaton.find(
+        text.as_bytes(),
+        &mut now,
+        &mut next,
+        &mut found,
+        &mut visits,
+    );
     Ok(found.first_from(0))
 }
 
@@ -103,8 +105,14 @@ fn debug(rt: HostRuntime) -> Result<(), Fail> {
     assert_eq!(rt; builder.state_count(), 0);
     let _end = builder.push_end(0)?;
     let shown = format!(in alloc; "{builder:?}")?;
-    assert_eq!(rt; shown.as_str(), "Builder { states: [End(0)], nexts: [], starts: [], index_count: 1 }");
+    assert_eq!(rt;
+        shown.as_str(),
+        "Builder { states: [End(0)], nexts: [], starts: [], index_count: 1 }"
+    );
     let shown = format!(in alloc; "{:?}", builder.finish())?;
-    assert_eq!(rt; shown.as_str(), "Automaton { states: [End(0)], nexts: [], starts: [], index_count: 1 }");
+    assert_eq!(rt;
+        shown.as_str(),
+        "Automaton { states: [End(0)], nexts: [], starts: [], index_count: 1 }"
+    );
     Ok(())
 }

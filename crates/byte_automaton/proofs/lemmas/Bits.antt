@@ -1,5 +1,5 @@
 -- Bits of machine words.
-use Rattle.std.proofs.Common.{zero, suc, min, ◌++◌, ◌+◌, ◌-◌, ◌∷◌, [], ◌≡◌, ℕ, ◌*◌, ◌/◌, ◌%◌, ◌^◌, ◌<◌, ◌≤◌, Bool, true, false, not, eqb, ltb, List, length, replicate, get_or, set, refl, sym, subst, ◌∙◌, ap, inl, inr, arith, get_or-set_same, get_or-set_other, eq-eqb, ne_eqb, w64}
+use Rattle.std.proofs.Common.{suc, min, ◌++◌, ◌+◌, ◌-◌, ◌≡◌, ℕ, ◌*◌, ◌/◌, ◌%◌, ◌^◌, ◌<◌, ◌≤◌, Bool, true, false, not, eqb, ltb, List, length, replicate, get_or, set, refl, sym, subst, ◌∙◌, ap, inl, inr, arith, get_or-set_same, get_or-set_other, eq-eqb, ne_eqb, w64}
 use Rattle.std.proofs.lemmas.List.{get_or_append_left, get_or-replicate, get_or_past, length-replicate}
 use Rattle.std.proofs.lemmas.Bool.{cases_eq, cases_lt}
 use Rattle.std.proofs.lemmas.Nat.{leading_top, and_le_l}

@@ -1,10 +1,10 @@
 -- What a push does to the parts of an automaton.
-use Rattle.std.proofs.Common.{◌≡◌, ℕ, zero, suc, ◌+◌, ◌-◌, ◌<◌, ◌≤◌, inl, inr, List, [], ◌∷◌, ◌++◌, length, map, take, drop, slice_range, arith, refl, ap, sym, subst, ◌∙◌}
-use Rattle.std.proofs.lemmas.Bool.{cases_lt, cases_order}
+use Rattle.std.proofs.Common.{◌≡◌, ℕ, ◌+◌, ◌-◌, ◌<◌, ◌≤◌, inl, inr, List, [], ◌∷◌, ◌++◌, length, take, drop, slice_range, arith, refl, ap, sym, subst, ◌∙◌}
+use Rattle.std.proofs.lemmas.Bool.{cases_lt}
 use Rattle.std.proofs.lemmas.List.{length-map, length-append, map-append, get_or_append_left, get_or_push, get_or_past, length-drop, take-append-le, drop-append-le, take_all}
 use Rattle.std.proofs.Math.Seq.{drop-append_seam}
-use Rattle.byte_automaton.specs.Steps.{State, reads, skips, stays, final, state, Machine}
-use Rattle.byte_automaton.specs.Building.{AreBelow, Keeps, Agrees, Adds, Pushes}
+use Rattle.byte_automaton.specs.Steps.{State, skips, stays, state, Machine}
+use Rattle.byte_automaton.specs.Building.{Pushes}
 use Rattle.byte_automaton.specs.inner.Views.{of_state, of_states, IsHeld, AreHeld, GoesBelow, NamesBelow, AreSound, machine}
 use Rattle.std.specs.Prelude.{Result, Ok, Err, OnErr}
 use Rattle.byte_automaton.specs.declared.byte_set.ByteSet.{ByteSet}

@@ -1,5 +1,5 @@
 -- A state that is read from the parts of an automaton.
-use Rattle.std.proofs.Common.{◌≡◌, ℕ, zero, suc, ◌<◌, List, [], ◌∷◌, length, get_or, arith, ap, sym, subst, ◌∙◌, Bool, false, true≢false, ◌||◌, IsTrue}
+use Rattle.std.proofs.Common.{◌≡◌, ℕ, zero, suc, ◌<◌, List, [], ◌∷◌, length, get_or, arith, ap, sym, subst, ◌∙◌, Bool, false, true≢false, ◌||◌}
 use Rattle.std.specs.Prelude.{◌↔◌}
 use Rattle.std.proofs.lemmas.Bool.{or_cases}
 use Rattle.std.proofs.Math.Logic.{⊎_elim}
@@ -8,7 +8,7 @@ use Rattle.byte_automaton.specs.Building.{AreBelow}
 use Rattle.byte_automaton.specs.Runs.{size}
 use Rattle.byte_automaton.specs.inner.Pass.{is_listed, Alive}
 use Rattle.byte_automaton.proofs.lemmas.Pass.{listed_in, in_listed, listed_below, or_first}
-use Rattle.byte_automaton.specs.inner.Views.{of_state, of_states, IsHeld, AreHeld, machine}
+use Rattle.byte_automaton.specs.inner.Views.{of_state, of_states, IsHeld, AreHeld}
 use Rattle.byte_automaton.specs.declared.state.State as declared
 
 pub held_at : (n : ℕ) (xs : List declared.State) (s : ℕ) (x : declared.State) → AreHeld n xs → s < length xs → x ≡ get_or xs s x → IsHeld n x

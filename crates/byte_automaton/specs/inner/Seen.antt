@@ -1,5 +1,5 @@
 -- What was seen in a set of bits.
-use Rattle.std.specs.Prelude.{◌≡◌, ℕ, ◌<◌, ◌≤◌, false, List}
+use Rattle.std.specs.Prelude.{◌≡◌, ℕ, ◌<◌, false, List}
 use Rattle.byte_automaton.specs.Sets.{bit_of}
 use Rattle.byte_automaton.specs.declared.words.Seen.{Seen}
 

@@ -1,5 +1,5 @@
 -- The states as an automaton keeps them: the states that they go on to without a byte lie in one list.
-use Rattle.std.specs.Prelude.{◌≡◌, ℕ, ◌<◌, ◌≤◌, List, [], ◌∷◌, map, length, slice_range}
+use Rattle.std.specs.Prelude.{ℕ, ◌<◌, ◌≤◌, List, [], ◌∷◌, map, length, slice_range}
 use Rattle.byte_automaton.specs.Steps.{State, reads, skips, stays, final, state, Machine}
 use Rattle.byte_automaton.specs.Building.{AreBelow}
 use Rattle.byte_automaton.specs.declared.state.State as declared

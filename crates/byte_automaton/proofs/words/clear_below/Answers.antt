@@ -1,5 +1,5 @@
 use Rattle.std.proofs.Common.{◌≡◌, ◌/◌, ◌<◌, length, replicate, take, drop, ap, ◌∙◌, arith}
-use Rattle.std.proofs.lemmas.List.{length-replicate, length-take-le}
+use Rattle.std.proofs.lemmas.List.{length-take-le}
 use Rattle.byte_automaton.specs.Sets.{bit_of}
 use Rattle.byte_automaton.proofs.lemmas.Bits.{bit_front, bit_zeros}
 use Rattle.byte_automaton.proofs.words.clear_below.Goals as goal

@@ -1,4 +1,4 @@
-use Rattle.std.proofs.Common.{◌≡◌, ◌*◌, ◌/◌, ◌-◌, ◌+◌, ◌%◌, refl, arith}
+use Rattle.std.proofs.Common.{◌*◌, ◌%◌, refl, arith}
 use Rattle.std.proofs.lemmas.Nat.Bits.{bit_at_ones}
 use Rattle.byte_automaton.proofs.lemmas.Bits.{none_from, lowest_from, high_kept, high_cut, bit_past}
 use Rattle.std.proofs.lemmas.Bool.{cases_lt}

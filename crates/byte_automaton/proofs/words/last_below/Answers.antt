@@ -1,8 +1,4 @@
-use Rattle.std.proofs.Common.{◌≡◌, ◌*◌, ◌/◌, ◌-◌, ◌+◌, ◌%◌, true, refl, sym, ap, ◌∙◌, arith, subst}
-use Rattle.std.specs.Prelude.{bit_and}
-use Rattle.std.specs.Int.{leading_zeros, w64}
-use Rattle.byte_automaton.specs.Sets.{bit_of}
-use Rattle.byte_automaton.specs.inner.Seen.{IsLastBelow}
+use Rattle.std.proofs.Common.{◌*◌, ◌/◌, ◌-◌, refl, sym, arith}
 use Rattle.byte_automaton.proofs.lemmas.Bits.{none_below, top_below}
 use Rattle.byte_automaton.proofs.words.last_below.Goals as goal
 

@@ -1,4 +1,4 @@
-use Rattle.std.proofs.Common.{◌≡◌, true≢false, sym, inr, ◌⊎◌, IsTrue, ℕ, ◌+◌, ◌<◌, ◌∷◌, [], length, get_or, drop, arith, ap, ◌∙◌}
+use Rattle.std.proofs.Common.{◌≡◌, true≢false, sym, inr, IsTrue, ℕ, ◌+◌, ◌<◌, ◌∷◌, [], length, get_or, drop, arith, ap, ◌∙◌}
 use Rattle.std.proofs.lemmas.List.{drop_more, drop_all}
 use Rattle.std.proofs.Math.Logic.{⊎_elim}
 use Rattle.byte_automaton.specs.Sets.{state_room, has_index}

@@ -1,4 +1,4 @@
-use Rattle.std.proofs.Common.{◌≡◌, ℕ, ◌+◌, ◌*◌, ◌≤◌, drop, length}
+use Rattle.std.proofs.Common.{ℕ, ◌+◌, ◌*◌, ◌≤◌, drop}
 use Rattle.std.specs.Prelude.{◌↔◌}
 use Rattle.byte_automaton.specs.Sets.{state_room}
 use Rattle.byte_automaton.specs.Steps.{IsReached}

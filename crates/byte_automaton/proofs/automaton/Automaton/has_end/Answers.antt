@@ -1,4 +1,4 @@
-use Rattle.std.proofs.Common.{◌≡◌, ◌∷◌, [], ◌<◌, Some, None, false, true≢false, ◌||◌, arith, sym, ◌∙◌, refl, inl}
+use Rattle.std.proofs.Common.{◌≡◌, [], false, true≢false, arith, sym, ◌∙◌, refl, inl}
 use Rattle.byte_automaton.specs.Sets.{has_state}
 use Rattle.byte_automaton.specs.Steps.{state, Accepts}
 use Rattle.byte_automaton.specs.Runs.{size}

@@ -1,6 +1,5 @@
-use Rattle.std.proofs.Common.{◌≡◌, ◌<◌, length, arith, ap, sym, subst, ◌∙◌}
+use Rattle.std.proofs.Common.{◌<◌, length, arith, ap, subst}
 use Rattle.std.proofs.lemmas.List.{length-map}
-use Rattle.byte_automaton.specs.Steps.{Machine, state}
 use Rattle.byte_automaton.specs.Runs.{size}
 use Rattle.byte_automaton.specs.inner.Views.{GoesBelow, of_state}
 use Rattle.byte_automaton.proofs.lemmas.Reading.{held_at, state_at}

@@ -1,10 +1,9 @@
-use Rattle.std.proofs.Common.{◌≡◌, length, ap, sym, ◌∙◌, ◌||◌, arith, ℕ}
+use Rattle.std.proofs.Common.{◌≡◌, length, ap, sym, ◌∙◌, arith}
 use Rattle.std.proofs.lemmas.List.{length-map}
 use Rattle.byte_automaton.specs.Sets.{has_state}
 use Rattle.byte_automaton.specs.Steps.{Machine}
 use Rattle.byte_automaton.specs.Runs.{size}
 use Rattle.byte_automaton.specs.inner.Views.{of_state}
-use Rattle.byte_automaton.specs.inner.Pass.{is_listed}
 use Rattle.byte_automaton.proofs.lemmas.Reading.{starts_put}
 use Rattle.byte_automaton.proofs.automaton.Automaton.start.Goals as goal
 

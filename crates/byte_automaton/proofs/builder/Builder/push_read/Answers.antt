@@ -1,4 +1,4 @@
-use Rattle.std.proofs.Common.{length, ap, ◌∙◌, arith}
+use Rattle.std.proofs.Common.{ap, arith}
 use Rattle.std.proofs.lemmas.List.{length-map}
 use Rattle.byte_automaton.specs.inner.Views.{of_state}
 use Rattle.byte_automaton.specs.declared.state.State.TheVariants.{Reads}

@@ -1,6 +1,6 @@
-use Rattle.std.proofs.Common.{◌≡◌, ◌<◌, ◌++◌, length, slice_index, arith, ap, ◌∙◌, sym}
+use Rattle.std.proofs.Common.{◌≡◌, ◌++◌, length, arith, ap, ◌∙◌, sym}
 use Rattle.std.proofs.lemmas.List.{length-map, length-append}
-use Rattle.byte_automaton.specs.Steps.{State, skips, stays}
+use Rattle.byte_automaton.specs.Steps.{skips}
 use Rattle.byte_automaton.specs.Runs.{size}
 use Rattle.byte_automaton.specs.inner.Views.{of_state}
 use Rattle.byte_automaton.specs.declared.state.State.TheVariants.{Skips}

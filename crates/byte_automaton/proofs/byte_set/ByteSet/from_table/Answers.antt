@@ -1,5 +1,4 @@
-use Rattle.std.proofs.Common.{◌∙◌, ap, sym, false, get_or}
-use Rattle.std.specs.Prelude.{◌&&◌}
+use Rattle.std.proofs.Common.{◌∙◌, false, get_or}
 use Rattle.byte_automaton.proofs.lemmas.Bits.{bit_zeros, none_yet}
 use Rattle.byte_automaton.proofs.byte_set.ByteSet.from_table.Goals as goal
 

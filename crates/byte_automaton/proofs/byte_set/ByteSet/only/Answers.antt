@@ -1,4 +1,4 @@
-use Rattle.std.proofs.Common.{false, ◌||◌, Bool, true, ◌≡◌, refl, ◌∙◌, ap, eqb}
+use Rattle.std.proofs.Common.{◌||◌, ◌∙◌, ap, eqb}
 use Rattle.byte_automaton.proofs.lemmas.Bits.{bit_zeros, or_false}
 use Rattle.byte_automaton.proofs.byte_set.ByteSet.only.Goals as goal
 

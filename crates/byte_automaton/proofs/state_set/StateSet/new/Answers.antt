@@ -1,4 +1,4 @@
-use Rattle.std.proofs.Common.{◌≡◌, replicate, arith}
+use Rattle.std.proofs.Common.{◌≡◌, replicate}
 use Rattle.std.proofs.Math.Seq.{take-nil}
 use Rattle.std.proofs.Math.Nat.{sub-zero}
 use Rattle.byte_automaton.proofs.lemmas.Bits.{bit_zeros}
