@@ -1,5 +1,5 @@
 -- States that are added to an automaton.
-use Rattle.std.proofs.Common.{◌≡◌, ℕ, ◌≤◌, List, ◌∷◌, length, refl, ◌∙◌, arith}
+use Rattle.std.proofs.Common.{ℕ, ◌≤◌, List, ◌∷◌, length, refl, ◌∙◌, arith}
 use Rattle.glob_syntax.specs.declared.options.Options.{Options}
 use Rattle.byte_automaton.specs.Steps.{State, reads, Machine}
 use Rattle.byte_automaton.specs.Building.{Agrees, Keeps, Pushes}

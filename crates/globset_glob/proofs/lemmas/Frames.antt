@@ -12,7 +12,7 @@ use Rattle.glob_syntax.specs.FlatTokens.{all_levels, Flat, simple, opening, comm
 use Rattle.glob_syntax.specs.Views.{flat_of}
 use Rattle.glob_syntax.specs.inner.Weight.{weight, token_weight, branches_weight}
 use Rattle.glob_syntax.proofs.lemmas.FlatTokens.{IsSole}
-use Rattle.globset_glob.specs.Blank.{is_blank, is_blank_token, is_kept, any_kept}
+use Rattle.globset_glob.specs.Blank.{is_blank_token, is_kept, any_kept}
 use Rattle.byte_automaton.specs.Steps.{State, skips, state, Machine}
 use Rattle.byte_automaton.specs.Building.{AreBelow, Pushes}
 use Rattle.byte_automaton.specs.Runs.{size}

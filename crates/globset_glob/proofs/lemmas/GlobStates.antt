@@ -1,5 +1,5 @@
 -- Several globs in one automaton.
-use Rattle.std.proofs.Common.{◌≡◌, ℕ, suc, ◌<◌, ◌≤◌, ◌+◌, ◌*◌, Ok, ◌⊎◌, inl, inr, Bool, true, false, ◌||◌, List, [], ◌∷◌, ◌++◌, length, slice_index, IsTrue, refl, ap, sym, ◌∙◌, subst, arith}
+use Rattle.std.proofs.Common.{◌≡◌, ℕ, suc, ◌<◌, ◌≤◌, ◌+◌, Ok, ◌⊎◌, inl, inr, Bool, true, false, ◌||◌, List, [], ◌∷◌, ◌++◌, length, slice_index, IsTrue, refl, ap, sym, ◌∙◌, subst, arith}
 use Rattle.std.specs.Prelude.{◌↔◌}
 use Rattle.std.specs.Str.{chars}
 use Rattle.std.proofs.Math.Logic.{⊎_elim}
@@ -10,7 +10,7 @@ use Rattle.glob_syntax.specs.inner.Weight.{weight}
 use Rattle.globset_glob.specs.Takes.{takes_all}
 use Rattle.globset_glob.specs.Means.{GlobValue, means, is_prefix_alone, glob_means}
 use Rattle.globset_glob.specs.Cost.{cost}
-use Rattle.byte_automaton.specs.Steps.{State, state, stays, final, IsIn, Accepts, Machine, IsReached}
+use Rattle.byte_automaton.specs.Steps.{state, stays, final, IsIn, Accepts, Machine, IsReached}
 use Rattle.byte_automaton.specs.Building.{Agrees, Pushes}
 use Rattle.byte_automaton.specs.Runs.{size}
 use Rattle.byte_automaton.specs.declared.byte_set.ByteSet.{ByteSet}

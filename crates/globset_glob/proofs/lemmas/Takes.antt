@@ -1,5 +1,5 @@
 -- What tokens take, by how the bytes are put together.
-use Rattle.std.proofs.Common.{◌≡◌, ℕ, ◌⊎◌, inl, inr, Bool, true, true≢false, ◌&&◌, ◌||◌, List, [], ◌∷◌, ◌++◌, IsTrue, refl, ap, sym, subst}
+use Rattle.std.proofs.Common.{◌≡◌, ℕ, ◌⊎◌, inl, inr, Bool, true, true≢false, ◌&&◌, List, [], ◌∷◌, ◌++◌, IsTrue, refl, ap, sym, subst}
 use Rattle.std.specs.Prelude.{◌==◌, ◌↔◌}
 use Rattle.std.proofs.lemmas.Bool.{eqb-true, eq-eqb}
 use Rattle.std.proofs.Math.Logic.{⊎_elim}

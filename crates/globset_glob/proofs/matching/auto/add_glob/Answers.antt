@@ -1,4 +1,3 @@
-use Rattle.std.proofs.Common.{arith}
 use Rattle.glob_syntax.specs.Views.{tokens_of}
 use Rattle.globset_glob.proofs.lemmas.GlobStates.{one_more}
 use Rattle.globset_glob.proofs.matching.auto.add_glob.Goals as goal

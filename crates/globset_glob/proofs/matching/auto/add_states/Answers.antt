@@ -1,4 +1,4 @@
-use Rattle.std.proofs.Common.{◌≡◌, true, false, sym, ◌∙◌, arith}
+use Rattle.std.proofs.Common.{◌≡◌, true, sym, ◌∙◌, arith}
 use Rattle.glob_syntax.specs.Views.{tokens_of}
 use Rattle.globset_glob.specs.Means.{is_prefix_alone}
 use Rattle.byte_automaton.specs.Steps.{final}
