@@ -44,15 +44,16 @@ impl Member {
         })
     }
 
-    /// Returns the member for the glob. It allocates nothing.
-    pub fn from_glob(glob: Glob) -> Member
-        ensures { result ≡ glob }
+    /// Returns the member for the glob, or an error if memory runs out.
+    pub fn from_glob(glob: Glob) -> Result<Member, Error>
+        ensures ok { IfOk result (λ m. m ≡ glob) }
+        ensures err { IfErr result (λ e. e ≡ out_of_memory) }
     {
         let is_silent = is_silent(&glob);
-        Member {
-            matcher: matcher_of(glob),
+        Ok(Member {
+            matcher: matcher_of(glob)?,
             is_silent,
-        }
+        })
     }
 
     /// Returns whether the glob is not silent and matches the path. A silent glob is not tried.

@@ -1,4 +1,5 @@
 pub mod Booleans
+pub mod Building
 pub mod ByteTexts
 pub mod ClassTexts
 pub mod Cuts
@@ -6,14 +7,14 @@ pub mod ErrorEquality
 pub mod EscapeMeaning
 pub mod EscapeReading
 pub mod Expressions
+pub mod Frames
 pub mod GlobEquality
+pub mod GlobStates
 pub mod Globs
-pub mod GroupUnions
 pub mod LastPositions
 pub mod RegexWriting
-pub mod RowPasses
-pub mod RowSteps
-pub mod Rules
+pub mod Spelling
 pub mod Takes
 pub mod TokenLists
+pub mod TokenStates
 pub mod Values

@@ -1,4 +1,6 @@
+pub mod Building
 pub mod Equality
+pub mod Frames
+pub mod GlobStates
 pub mod RegexWriting
-pub mod Rows
-pub mod Rules
+pub mod TokenStates

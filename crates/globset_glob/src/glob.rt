@@ -121,7 +121,7 @@ impl Glob {
         ensures ok { IfOk result (λ m. m ≡ self.now) }
         ensures err { IfErr result (λ e. e ≡ out_of_memory) }
     {
-        Ok(GlobMatcher::new(self.clone()?))
+        GlobMatcher::new(self.clone()?)
     }
 }
 

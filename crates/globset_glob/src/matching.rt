@@ -1,4 +1,4 @@
 //! Which paths a glob matches.
 
+pub mod auto;
 pub mod matcher;
-mod row;

@@ -54,7 +54,7 @@ fn push_body(
 }
 
 /// Whether the only token is `RecursivePrefix`.
-fn is_prefix_alone(tokens: &[Token]) -> bool
+pub fn is_prefix_alone(tokens: &[Token]) -> bool
     requires { IsNested (flats tokens.now) }
     ensures { result ≡ is_prefix_alone (tokens_of tokens.now) }
 {

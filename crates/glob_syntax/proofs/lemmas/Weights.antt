@@ -56,13 +56,13 @@ bytes_drop (suc n) (c ∷ cs) = omega (arith, bytes_drop n cs)
 
 -- as much as the tokens of a mark weigh
 abbrev mark_weight : Mark → ℕ
-mark_weight (Char escaped c) = 1 + length (encode_utf8 c)
-mark_weight One = 2
-mark_weight (Stars n) = 2 + 2 * n
-mark_weight (Class negated rs) = 2
+mark_weight (Char escaped c) = 4 * length (encode_utf8 c)
+mark_weight One = 1
+mark_weight (Stars n) = 3 + n
+mark_weight (Class negated rs) = 1
 mark_weight Open = 1
-mark_weight Comma = 2
-mark_weight Close = 2
+mark_weight Comma = 4
+mark_weight Close = 0
 mark_weight (Bad f) = 0
 
 abbrev marks_weight : List Mark → ℕ
@@ -135,14 +135,13 @@ marks_bounded o zero (c ∷ cs) = let p = mark_at o c cs in omega (arith, mark_a
 
 -- ---- nesting
 
--- nesting keeps the weight
 nested_mark_weight : (d : ℕ) (m : Mark) (s : ℕ × Mark) → nested_mark d m ≡ Ok s → mark_weight s.1 ≡ mark_weight m
 nested_mark_weight d (Char escaped c) s e = let g : s ≡ (d, Char escaped c) = cc in ap (λ (p : ℕ × Mark). mark_weight p.1) g
 nested_mark_weight d One s e = let g : s ≡ (d, One) = cc in ap (λ (p : ℕ × Mark). mark_weight p.1) g
 nested_mark_weight d (Stars n) s e = let g : s ≡ (d, Stars n) = cc in ap (λ (p : ℕ × Mark). mark_weight p.1) g
 nested_mark_weight d (Class negated rs) s e = let g : s ≡ (d, Class negated rs) = cc in ap (λ (p : ℕ × Mark). mark_weight p.1) g
 nested_mark_weight d Open s e = let g : s ≡ (suc d, Open) = cc in ap (λ (p : ℕ × Mark). mark_weight p.1) g
-nested_mark_weight zero Comma s e = let g : s ≡ (zero, Char false 44) = cc in ap (λ (p : ℕ × Mark). mark_weight p.1) g ∙ ap (λ n. 1 + n) comma_byte
+nested_mark_weight zero Comma s e = let g : s ≡ (zero, Char false 44) = cc in ap (λ (p : ℕ × Mark). mark_weight p.1) g ∙ ap (λ n. 4 * n) comma_byte
 nested_mark_weight (suc d) Comma s e = let g : s ≡ (suc d, Comma) = cc in ap (λ (p : ℕ × Mark). mark_weight p.1) g
 nested_mark_weight zero Close s e = absurd cc
 nested_mark_weight (suc d) Close s e = let g : s ≡ (d, Close) = cc in ap (λ (p : ℕ × Mark). mark_weight p.1) g
@@ -168,16 +167,16 @@ abbrev list_weight : List Token → ℕ
 list_weight [] = 0
 list_weight (t ∷ ts) = token_weight t + list_weight ts
 
-stars_weight : (n : ℕ) → list_weight (replicate n ZeroOrMore) ≡ 2 * n
+stars_weight : (n : ℕ) → list_weight (replicate n ZeroOrMore) ≡ n
 stars_weight zero = refl
 stars_weight (suc n) = omega (arith, stars_weight n)
 
-run_cut_weight : (starts ends : Bool) (n k : ℕ) → list_weight (run_cut starts ends n k).0 ≤ 2 + 2 * n
+run_cut_weight : (starts ends : Bool) (n k : ℕ) → list_weight (run_cut starts ends n k).0 ≤ 3 + n
 run_cut_weight false ends n k = omega (arith, stars_weight n)
 run_cut_weight true true n k = omega arith
 run_cut_weight true false n k = omega arith
 
-slash_cut_weight : (ends some : Bool) (k : ℕ) → list_weight (slash_cut ends some k).0 ≤ 2
+slash_cut_weight : (ends some : Bool) (k : ℕ) → list_weight (slash_cut ends some k).0 ≤ 4
 slash_cut_weight true some k = omega arith
 slash_cut_weight false true k = omega arith
 slash_cut_weight false false k = omega (arith, slash_byte)
@@ -185,7 +184,7 @@ slash_cut_weight false false k = omega (arith, slash_byte)
 abbrev char_cut : Bool → ℕ → List Mark → List Token × ℕ
 char_cut b c ms = elim b [ true ↦ slash_piece ms | false ↦ (Literal c ∷ [], 0) ]
 
-char_cut_weight : (b : Bool) (c : ℕ) (ms : List Mark) → list_weight (char_cut b c ms).0 ≤ 1 + length (encode_utf8 c)
+char_cut_weight : (b : Bool) (c : ℕ) (ms : List Mark) → list_weight (char_cut b c ms).0 ≤ 4 * length (encode_utf8 c)
 char_cut_weight true c ms = omega (arith, some_byte c, slash_cut_weight (last_run (drop (pairs ms) ms)) (nat_lt 0 (pairs ms)) (pairs ms))
 char_cut_weight false c ms = omega arith
 
@@ -227,29 +226,29 @@ open_weight (bs, outer ∷ more) = omega (arith, in_branch_weight (Group bs ∷ 
 piece_level_weight : (start : Bool) (m : Mark) (ms : List Mark) (w : ℕ) → levels_weight (levels (piece start m ms).1 false ms) ≤ w → levels_weight (in_level (piece start m ms).0 (levels (piece start m ms).1 false ms)) ≤ mark_weight m + w
 piece_level_weight start m ms w h = let p = piece start m ms in omega (arith, piece_weight start m ms, in_branch_weight p.0 (levels p.1 false ms).0)
 
--- the levels of marks weigh no more than the marks and one branch
-levels_light : (n : ℕ) (start : Bool) (ms : List Mark) → levels_weight (levels n start ms) ≤ 2 + marks_weight ms
+-- the levels of marks weigh no more than the marks
+levels_light : (n : ℕ) (start : Bool) (ms : List Mark) → levels_weight (levels n start ms) ≤ marks_weight ms
 unfolding levels
 levels_light n start [] = omega arith
 levels_light (suc n) start (m ∷ ms) = omega (arith, levels_light n start ms)
 levels_light zero start (Open ∷ ms) = omega (arith, open_weight (levels zero true ms), levels_light zero true ms)
 levels_light zero start (Comma ∷ ms) = omega (arith, levels_light zero true ms)
 levels_light zero start (Close ∷ ms) = omega (arith, levels_light zero false ms)
-levels_light zero start (Char escaped c ∷ ms) = let h = piece_level_weight start (Char escaped c) ms (2 + marks_weight ms) (levels_light (piece start (Char escaped c) ms).1 false ms) in omega (arith, h)
-levels_light zero start (One ∷ ms) = let h = piece_level_weight start One ms (2 + marks_weight ms) (levels_light (piece start One ms).1 false ms) in omega (arith, h)
-levels_light zero start (Stars k ∷ ms) = let h = piece_level_weight start (Stars k) ms (2 + marks_weight ms) (levels_light (piece start (Stars k) ms).1 false ms) in omega (arith, h)
-levels_light zero start (Class negated rs ∷ ms) = let h = piece_level_weight start (Class negated rs) ms (2 + marks_weight ms) (levels_light (piece start (Class negated rs) ms).1 false ms) in omega (arith, h)
-levels_light zero start (Bad f ∷ ms) = let h = piece_level_weight start (Bad f) ms (2 + marks_weight ms) (levels_light (piece start (Bad f) ms).1 false ms) in omega (arith, h)
+levels_light zero start (Char escaped c ∷ ms) = let h = piece_level_weight start (Char escaped c) ms (marks_weight ms) (levels_light (piece start (Char escaped c) ms).1 false ms) in omega (arith, h)
+levels_light zero start (One ∷ ms) = let h = piece_level_weight start One ms (marks_weight ms) (levels_light (piece start One ms).1 false ms) in omega (arith, h)
+levels_light zero start (Stars k ∷ ms) = let h = piece_level_weight start (Stars k) ms (marks_weight ms) (levels_light (piece start (Stars k) ms).1 false ms) in omega (arith, h)
+levels_light zero start (Class negated rs ∷ ms) = let h = piece_level_weight start (Class negated rs) ms (marks_weight ms) (levels_light (piece start (Class negated rs) ms).1 false ms) in omega (arith, h)
+levels_light zero start (Bad f ∷ ms) = let h = piece_level_weight start (Bad f) ms (marks_weight ms) (levels_light (piece start (Bad f) ms).1 false ms) in omega (arith, h)
 
-first_weight : (bs : Branches) (w : ℕ) → branches_weight bs ≤ 2 + w → weight (first_branch bs) ≤ w
+first_weight : (bs : Branches) (w : ℕ) → branches_weight bs ≤ w → weight (first_branch bs) ≤ w
 first_weight none w h = omega arith
 first_weight (branch ts bs) w h = omega arith
 
-run_weight : (m : Mark) → is_run m ≡ true → 2 ≤ mark_weight m
+run_weight : (m : Mark) → is_run m ≡ true → 3 ≤ mark_weight m
 run_weight (Stars n) e = omega arith
 run_weight m e = absurd cc
 
-whole_run_weight : (ms : List Mark) → is_whole_run ms ≡ true → 2 ≤ marks_weight ms
+whole_run_weight : (ms : List Mark) → is_whole_run ms ≡ true → 3 ≤ marks_weight ms
 whole_run_weight [] e = absurd cc
 whole_run_weight (m ∷ []) e = omega (arith, run_weight m e)
 whole_run_weight (m ∷ n ∷ ms) e = absurd cc

@@ -40,7 +40,10 @@ fn read_members(alloc: Global, values: &[Value]) -> Result<Vec<Member>, ValueErr
     let mut members = Vec::with_capacity(alloc, values.len())?;
     for (index, value) in values.iter().enumerate() {
         match Glob::from_value(alloc, value) {
-            Ok(glob) => members.push(Member::from_glob(glob))?,
+            Ok(glob) => {
+                let member = Member::from_glob(glob)?;
+                members.push(member)?;
+            }
             Err(error) => return Err(error_of_element(index, error)),
         }
     }

@@ -1,5 +1,5 @@
 -- Lists cut in two.
-use Rattle.std.proofs.Common.{◌≡◌, ℕ, ◌⊎◌, inl, inr, Bool, false, true≢false, ◌||◌, List, [], ◌∷◌, ◌++◌, IsTrue, refl, ap, sym}
+use Rattle.std.proofs.Common.{◌≡◌, ℕ, ◌⊎◌, inl, inr, Bool, false, true≢false, ◌&&◌, ◌||◌, List, [], ◌∷◌, ◌++◌, IsTrue, refl, ap, sym}
 use Rattle.std.proofs.Math.Logic.{⊎_elim}
 use Rattle.globset_glob.specs.Takes.{some_cut, is_empty}
 use Rattle.globset_glob.proofs.lemmas.Booleans.{or_first, or_second, or_either}
@@ -43,3 +43,7 @@ some_cut-append test (c ∷ cs) y h =
 pub some_cut-same : (f g : List ℕ → List ℕ → Bool) → ((x y : List ℕ) → f x y ≡ g x y) → (b : List ℕ) → some_cut f b ≡ some_cut g b
 some_cut-same f g same [] = same [] []
 some_cut-same f g same (c ∷ cs) = (λ i. same [] (c ∷ cs) i || some_cut-same (λ front back. f (c ∷ front) back) (λ front back. g (c ∷ front) back) (λ x y. same (c ∷ x) y) cs i)
+
+-- a part that passes P, and then one that passes Q
+abbrev pub both : (List ℕ → Bool) → (List ℕ → Bool) → List ℕ → Bool
+both P Q y = some_cut (λ front back. P front && Q back) y

@@ -15,9 +15,8 @@ use Rattle.globset_glob.specs.RegexText.{byte_text, bytes_text, ranges_text, cla
 use Rattle.globset_glob.specs.RegexDenotes.{HasExpression}
 use Rattle.glob_syntax.specs.declared.options.Options.{Options}
 use Rattle.globset_glob.proofs.lemmas.Booleans.{and_both, and_first, and_second, or_first, or_second, or_either, iff_trans}
-use Rattle.globset_glob.proofs.lemmas.GroupUnions.{some_any}
 use Rattle.glob_syntax.specs.inner.WellFormed.{AreScalars, IsWellFormed, AreWellFormed, AllWellFormed}
-use Rattle.globset_glob.proofs.lemmas.Takes.{Takes, TakesAll, Then, OneByte, empty_same, one_byte, equal_bytes, prefix_takes, suffix_takes, between_takes, then_takes}
+use Rattle.globset_glob.proofs.lemmas.Takes.{some_any, Takes, TakesAll, Then, OneByte, empty_same, one_byte, equal_bytes, prefix_takes, suffix_takes, between_takes, then_takes}
 use Rattle.globset_glob.proofs.lemmas.ByteTexts.{Below, IsSpelled, spells_byte, encode_below, slash_byte, byte_slash, slash_alone, spelled_more, spelled_none, spelled_one}
 use Rattle.globset_glob.proofs.lemmas.ClassTexts.{has_ranges}
 

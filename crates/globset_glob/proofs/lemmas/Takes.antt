@@ -1,12 +1,13 @@
 -- What tokens match, by how the bytes are put together.
-use Rattle.std.proofs.Common.{◌≡◌, ℕ, ◌⊎◌, inl, inr, Bool, true≢false, ◌&&◌, List, [], ◌∷◌, ◌++◌, IsTrue, refl, ap, sym, subst}
+use Rattle.std.proofs.Common.{◌≡◌, ℕ, ◌⊎◌, inl, inr, Bool, true, true≢false, ◌&&◌, List, [], ◌∷◌, ◌++◌, IsTrue, refl, ap, sym, subst}
 use Rattle.std.specs.Prelude.{◌==◌, ◌↔◌}
 use Rattle.std.specs.Str.{bytes_eq}
 use Rattle.std.proofs.lemmas.Slice.Eq.{bytes_eq-Decides}
 use Rattle.std.proofs.lemmas.Bool.{eqb-true}
 use Rattle.std.proofs.Math.Logic.{⊎_elim}
-use Rattle.glob_syntax.specs.Token.{Token, RecursivePrefix, RecursiveSuffix, RecursiveZeroOrMore, Tokens, and_then}
-use Rattle.globset_glob.specs.Takes.{takes, takes_all, is_empty, is_one_byte, begins_with_slash, ends_with_slash, slash}
+use Rattle.glob_syntax.specs.Token.{Token, RecursivePrefix, RecursiveSuffix, RecursiveZeroOrMore, Tokens, and_then, Branches, none, branch}
+use Rattle.globset_glob.specs.Blank.{is_kept, any_kept}
+use Rattle.globset_glob.specs.Takes.{takes, some_takes, takes_all, is_empty, same_bytes, is_one_byte, begins_with_slash, ends_with_slash, slash}
 use Rattle.glob_syntax.specs.declared.options.Options.{Options}
 use Rattle.globset_glob.proofs.lemmas.Booleans.{and_both, and_first, and_second, or_first, or_second, or_either}
 use Rattle.globset_glob.proofs.lemmas.Cuts.{cut_of, some_cut-append, empty_is}
@@ -47,19 +48,19 @@ one_byte test b = (λ (c, is, h). subst (λ l. IsTrue (is_one_byte test l)) (sym
 -- ---- recursive stars
 
 -- a list whose last byte is `/` ends with `/`
-ends_push : (x : List ℕ) → IsTrue (ends_with_slash (x ++ slash ∷ []))
+pub ends_push : (x : List ℕ) → IsTrue (ends_with_slash (x ++ slash ∷ []))
 ends_push [] = refl
 ends_push (c ∷ []) = refl
 ends_push (c ∷ d ∷ ds) = ends_push (d ∷ ds)
 
 -- and no other list does
-ends_at : (b : List ℕ) → IsTrue (ends_with_slash b) → (x : List ℕ) × (b ≡ x ++ slash ∷ [])
+pub ends_at : (b : List ℕ) → IsTrue (ends_with_slash b) → (x : List ℕ) × (b ≡ x ++ slash ∷ [])
 ends_at [] h = absurd (true≢false (sym h))
 ends_at (c ∷ []) h = ([], ap (λ d. d ∷ []) (eqb-true c slash h))
 ends_at (c ∷ d ∷ ds) h = let (x, is) = ends_at (d ∷ ds) h in (c ∷ x, ap (λ l. c ∷ l) is)
 
 -- a list begins with `/` if its first byte is `/`
-begins_at : (b : List ℕ) → IsTrue (begins_with_slash b) → (x : List ℕ) × (b ≡ slash ∷ x)
+pub begins_at : (b : List ℕ) → IsTrue (begins_with_slash b) → (x : List ℕ) × (b ≡ slash ∷ x)
 begins_at [] h = absurd (true≢false (sym h))
 begins_at (c ∷ cs) h = (cs, ap (λ d. d ∷ cs) (eqb-true c slash h))
 
@@ -103,3 +104,13 @@ then_takes o t ts b = (there, back)
 
     back : TakesAll o (and_then t ts) b → Then (Takes o t) (TakesAll o ts) b
     back h = let (x, y, cut, both) = cut_of (λ x y. takes o t x && takes_all o ts y) b h in (x, y, cut, and_first (takes o t x) (takes_all o ts y) both, and_second (takes o t x) (takes_all o ts y) both)
+
+-- ---- groups
+
+-- what takes something is kept
+pub some_any : (o : Options) (bs : Branches) (y : List ℕ) → IsTrue (some_takes o bs y) → any_kept o bs ≡ true
+some_any o none y h = absurd (true≢false (sym h))
+some_any o (branch ts bs) y h = ⊎_elim {C = IsTrue (any_kept o (branch ts bs))}
+    (λ here. or_first (is_kept o ts) (any_kept o bs) (and_first (is_kept o ts) (takes_all o ts y) here))
+    (λ later. or_second (is_kept o ts) (any_kept o bs) (some_any o bs y later))
+    (or_either (is_kept o ts && takes_all o ts y) (some_takes o bs y) h)

@@ -6,35 +6,45 @@ ghost use Rattle.globset_glob.specs.Cost.{most_visits};
 
 use crate::error::Error;
 use crate::glob::Glob;
-use crate::matching::row::walk::is_match;
+use crate::matching::auto::{automaton_of, is_match};
 use crate::path::{AsPath, Candidate};
+use byte_automaton::{Automaton, StateSet};
 use std::alloc::AllocError;
+use std::fmt;
 use std::marker::Model;
 use visits::Visits;
 
 /// Tells whether a glob matches a path.
 ///
-/// Contracts see a matcher as its glob. Nothing is prepared and nothing is kept from one call to the next.
-#[derive(Debug, Drop)]
+/// Contracts see a matcher as its glob. It has an automaton for the glob, which is made with it; nothing is kept from one
+/// call to the next.
+#[derive(Drop)]
 pub struct GlobMatcher {
     glob: Glob,
+    automaton: Automaton,
 }
 
 impl Model for GlobMatcher {
     ghost use Rattle.globset_glob.specs.Means.{GlobValue};
+    ghost use Rattle.globset_glob.specs.inner.GlobStates.{IsAutomatonOf};
 
     ghost Value = { GlobValue };
 
     ghost view = { λ m. m.glob };
+
+    ghost invariant = { λ m. IsAutomatonOf m.glob m.automaton };
 }
 
 impl GlobMatcher {
     ghost use Rattle.globset_glob.specs.Means.{glob_means};
 
-    pub(crate) fn new(glob: Glob) -> GlobMatcher
-        ensures { result ≡ glob }
+    /// Returns a matcher of a glob. Returns an error if memory runs out. It takes time and memory linear in the glob's text.
+    pub(crate) fn new(glob: Glob) -> Result<GlobMatcher, Error>
+        ensures ok { IfOk result (λ m. m ≡ glob) }
+        ensures err { IfErr result (λ e. e ≡ out_of_memory) }
     {
-        GlobMatcher { glob }
+        let automaton = automaton_of(&glob)?;
+        Ok(GlobMatcher { glob, automaton })
     }
 
     /// Returns the glob.
@@ -65,22 +75,17 @@ impl GlobMatcher {
 
     /// Does what [`is_match_candidate`](GlobMatcher::is_match_candidate) does, and adds its visits to `visits`.
     ///
-    /// These are at most `(path bytes + 1) * (4 * glob bytes + 4)` visits, also if memory runs out. The call allocates a
-    /// row of `path bytes + 1` entries, and two more such rows for each level of nested groups.
+    /// These are at most `(path bytes + 1) * (4 * glob bytes + 4)` visits, also if memory runs out. The call allocates two
+    /// sets of states, of one bit for each state of the automaton.
     pub fn is_match_visits(&self, path: &Candidate<'_>, visits: &mut Visits) -> Result<bool, Error>
         ensures ok { IfOk result (λ yes. yes ≡ glob_means self.now path.now) }
         ensures err { IfErr result (λ e. e ≡ out_of_memory) }
         ensures visits { visits.new ≤ visits.old + most_visits self.now path.now }
     {
         let alloc = self.glob.allocator();
-        let yes = is_match(
-            alloc,
-            self.glob.options(),
-            self.glob.tokens(),
-            path.path(),
-            visits,
-        )?;
-        Ok(yes)
+        let mut now = StateSet::new(alloc, self.automaton.state_count())?;
+        let mut next = StateSet::new(alloc, self.automaton.state_count())?;
+        Ok(is_match(&self.automaton, path.path(), &mut now, &mut next, visits))
     }
 
     /// Returns a matcher for an equal glob, or an error if memory runs out.
@@ -88,7 +93,7 @@ impl GlobMatcher {
         ensures ok { IfOk result (λ m. m ≡ self.now) }
         ensures err { IfErr result (λ e. e ≡ out_of_memory) }
     {
-        Ok(Clone::clone(self)?)
+        GlobMatcher::new(self.glob.clone()?)
     }
 }
 
@@ -97,6 +102,18 @@ impl Clone for GlobMatcher {
     ghost is_clone = { λ m n. n ≡ m };
 
     fn clone(&self) -> Result<GlobMatcher, AllocError> {
-        Ok(GlobMatcher::new(Clone::clone(&self.glob)?))
+        match self.clone() {
+            Ok(matcher) => Ok(matcher),
+            Err(_) => Err(AllocError),
+        }
+    }
+}
+
+/// `GlobMatcher { glob: Glob("<text>") }`
+impl fmt::Debug for GlobMatcher {
+    fn fmt<W: fmt::Write>(&self, f: &mut fmt::Formatter<W>) -> fmt::Result {
+        f.debug_struct("GlobMatcher")
+            .field("glob", &self.glob)
+            .finish()
     }
 }

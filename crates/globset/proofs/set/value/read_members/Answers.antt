@@ -10,8 +10,8 @@ returns-in-Err c =
 
 pub loop-index-preserved : goal.loop-index-preserved
 loop-index-preserved c =
-    one_glob c.args.values.now c.loop-index.index c.index-values-index.result c.loop-index.members.items c.push.new.self.items c.in-Ok.glob c.from_glob.result
-    (globs_from 0 (items_view c.args.values.now)) c.loop-index-test.true c.index-values-index.is c.loop-index.invariant c.in-Ok.ensures.ok c.from_glob.ensures
+    one_glob c.args.values.now c.loop-index.index c.index-values-index.result c.loop-index.members.items c.push.new.self.items c.in-Ok.glob c.in_ok-member-in-Ok.member
+    (globs_from 0 (items_view c.args.values.now)) c.loop-index-test.true c.index-values-index.is c.loop-index.invariant c.in-Ok.ensures.ok c.in_ok-member-in-Ok.ensures.ok
     c.in_ok-push-in-Ok.ensures.items
 
 pub returns : goal.returns

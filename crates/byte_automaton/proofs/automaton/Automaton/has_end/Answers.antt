@@ -1,0 +1,59 @@
+use Rattle.std.proofs.Common.{◌≡◌, [], false, true≢false, arith, sym, ◌∙◌, refl, inl}
+use Rattle.byte_automaton.specs.Sets.{has_state}
+use Rattle.byte_automaton.specs.Steps.{state, Accepts}
+use Rattle.byte_automaton.specs.Runs.{size}
+use Rattle.byte_automaton.proofs.lemmas.Pass.{iff_trans, none_swept, read_passed, read_taken, stays_at_end, names_none, no_end, some_end, last_position}
+use Rattle.byte_automaton.proofs.automaton.Automaton.has_end.Goals as goal
+
+pub loop-upto-init : goal.loop-upto-init
+loop-upto-init c = record {
+  within = omega arith;
+  room = refl;
+  holds = λ k. let start = none_swept c.args.self.now.states (size c.args.self.now) (has_state c.args.from.now) (λ _. false) (λ _. false) [] k
+      (λ t lt. refl) (λ _. refl) in rw c.state_count-upto.ensures (start.1, start.0);
+  visits = omega arith;
+}
+
+pub loop-upto-preserved : goal.loop-upto-preserved
+loop-upto-preserved c =
+    let inv = c.loop-upto.invariant in
+    let last = c.read_below-seen.ensures.seen in
+    let s = c.read_below-seen.result.at in
+    record {
+      within = omega (arith, last.below);
+      room = inv.room;
+      holds = λ k. iff_trans (inv.holds k) (read_passed c.args.self.now.states s c.loop-upto.upto k [] (has_state c.loop-upto.from) (λ _. false) (λ _. false)
+          last.below last.between (sym last.marked ∙ c.if-seen.false));
+      visits = omega (arith, last.below);
+    }
+
+pub loop-upto-preserved-else-is_some : goal.loop-upto-preserved-else-is_some
+loop-upto-preserved-else-is_some c =
+    let inv = c.loop-upto.invariant in
+    let last = c.read_below-seen.ensures.seen in
+    let s = c.read_below-seen.result.at in
+    let st = state c.args.self.now.states s in
+    let left = c.leave.ensures in
+    record {
+      within = omega (arith, last.below);
+      room = left.room ∙ inv.room;
+      holds = λ k. iff_trans (inv.holds k) (read_taken c.args.self.now.states s c.loop-upto.upto k [] (has_state c.loop-upto.from) (λ _. false) (λ _. false)
+          (has_state c.leave.new.from) (λ _. false) (λ _. false)
+          last.below last.between (sym last.marked ∙ c.if-seen.true) left.below left.from (λ t. stays_at_end st s t)
+          (λ t. names_none st t false (no_end _ _ c.leave.result left.end (sym c.is_some.ensures ∙ c.if-is_some.false) t)));
+      visits = omega (arith, last.below);
+    }
+
+pub returns-then-is_some-clause-some : goal.returns-then-is_some-clause-some
+returns-then-is_some-clause-some c =
+    let last = c.read_below-seen.ensures.seen in
+    let s = c.read_below-seen.result.at in
+    let (k, is) = some_end _ _ c.leave.result c.leave.ensures.end (sym c.is_some.ensures ∙ c.if-is_some.true) in
+    (λ _. (k, (c.loop-upto.invariant.holds k).1 (inl (s, last.below, sym last.marked ∙ c.if-seen.true, Accepts.ends s is.0))), λ _. refl)
+
+pub returns-clause-some : goal.returns-clause-some
+returns-clause-some c =
+    let past : c.loop-upto.upto ≡ 0 = omega arith in (
+      λ h. absurd (true≢false (sym h)),
+      λ (k, h). absurd (true≢false (sym ((last_position c.args.self.now.states (has_state c.loop-upto.from) (λ _. false) (λ _. false) k).0 ((rw past at c.loop-upto.invariant.holds k).0 h)))),
+    )

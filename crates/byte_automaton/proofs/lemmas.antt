@@ -1,0 +1,4 @@
+pub mod Bits
+pub mod Pushing
+pub mod Pass
+pub mod Reading

@@ -1,0 +1,5 @@
+pub mod Sets
+pub mod Steps
+pub mod Building
+pub mod Runs
+pub mod inner

@@ -1,0 +1,17 @@
+-- What a set of states accepts.
+use Rattle.std.specs.Prelude.{ℕ, ◌<◌, List, length, IsTrue}
+use Rattle.byte_automaton.specs.Sets.{has_state}
+use Rattle.byte_automaton.specs.Steps.{Accepts, Machine}
+use Rattle.byte_automaton.specs.declared.state_set.StateSet.{StateSet}
+
+-- the number of states
+abbrev pub size : Machine → ℕ
+size m = length m.states
+
+-- from some state of the set the text leads to an end of the index k
+abbrev pub AcceptsFrom : Machine → StateSet → List ℕ → ℕ → Type 0
+AcceptsFrom m set y k = (t : ℕ) × (t < size m) × IsTrue (has_state set t) × Accepts m.states k t y
+
+-- some state of the automaton is in the set
+abbrev pub HasSome : Machine → StateSet → Type 0
+HasSome m set = (t : ℕ) × (t < size m) × IsTrue (has_state set t)

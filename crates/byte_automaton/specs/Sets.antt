@@ -1,0 +1,30 @@
+-- Sets of bytes, of states and of indexes.
+use Rattle.std.specs.Prelude.{ℕ, ◌*◌, ◌/◌, ◌%◌, ◌==◌, Bool, List, length, slice_index}
+use Rattle.std.specs.Int.{bit_at}
+use Rattle.byte_automaton.specs.declared.byte_set.ByteSet.{ByteSet}
+use Rattle.byte_automaton.specs.declared.state_set.StateSet.{StateSet}
+use Rattle.byte_automaton.specs.declared.index_set.IndexSet.{IndexSet}
+
+-- whether bit k of the words is set, counted from the lowest bit of the first word
+unfoldable pub bit_of : List ℕ → ℕ → Bool
+bit_of words k = bit_at (slice_index words (k / 64)) (k % 64) == 1
+
+-- the set has the byte c
+abbrev pub has_byte : ByteSet → ℕ → Bool
+has_byte set c = bit_of set.words c
+
+-- the set has the state s
+abbrev pub has_state : StateSet → ℕ → Bool
+has_state set s = bit_of set.words.items s
+
+-- the set has the index k
+abbrev pub has_index : IndexSet → ℕ → Bool
+has_index set k = bit_of set.words.items k
+
+-- a set has room for the states below this
+abbrev pub state_room : StateSet → ℕ
+state_room set = 64 * length set.words.items
+
+-- a set has room for the indexes below this
+abbrev pub index_room : IndexSet → ℕ
+index_room set = 64 * length set.words.items

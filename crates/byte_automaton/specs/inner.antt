@@ -1,0 +1,3 @@
+pub mod Seen
+pub mod Views
+pub mod Pass

@@ -1,0 +1,53 @@
+-- One pass over the states at one position of a text.
+use Rattle.std.specs.Prelude.{◌≡◌, ℕ, ◌<◌, ◌⊎◌, Bool, false, ◌&&◌, ◌||◌, ◌==◌, List, [], ◌∷◌, length, Option, Some, None, IsTrue}
+use Rattle.byte_automaton.specs.Sets.{has_byte}
+use Rattle.byte_automaton.specs.Steps.{State, reads, skips, stays, final, Accepts}
+
+abbrev pub is_listed : ℕ → List ℕ → Bool
+is_listed t [] = false
+is_listed t (x ∷ xs) = (t == x) || is_listed t xs
+
+-- the next byte, if there is one
+abbrev pub head : List ℕ → Option ℕ
+head [] = None
+head (c ∷ cs) = Some c
+
+-- t is one of the states that the state goes on to without a byte
+abbrev pub goes_now : State → ℕ → Bool
+goes_now (reads w u) t = false
+goes_now (skips us) t = is_listed t us
+goes_now (stays w us) t = is_listed t us
+goes_now (final k) t = false
+
+-- t is the state after the byte, from the state s
+abbrev pub goes_next : State → ℕ → Option ℕ → ℕ → Bool
+goes_next (reads w u) s None t = false
+goes_next (reads w u) s (Some c) t = has_byte w c && (t == u)
+goes_next (skips us) s o t = false
+goes_next (stays w us) s None t = false
+goes_next (stays w us) s (Some c) t = has_byte w c && (t == s)
+goes_next (final k) s o t = false
+
+-- at the end of the text the state names k
+abbrev pub names : State → Option ℕ → ℕ → Bool
+names (final j) None k = k == j
+names (final j) (Some c) k = false
+names (reads w u) o k = false
+names (skips us) o k = false
+names (stays w us) o k = false
+
+-- a state of the set below the bound accepts y
+abbrev pub Alive : List State → (ℕ → Bool) → ℕ → List ℕ → ℕ → Type 0
+Alive a now upto y k = (t : ℕ) × (t < upto) × IsTrue (now t) × Accepts a k t y
+
+-- a state of the next set accepts what follows the first byte
+abbrev pub Later : List State → (ℕ → Bool) → List ℕ → ℕ → Type 0
+Later a next y k = (c : ℕ) × (z : List ℕ) × (t : ℕ) × (y ≡ c ∷ z) × (t < length a) × IsTrue (next t) × Accepts a k t z
+
+-- the text is at its end, and k was found
+abbrev pub Named : (ℕ → Bool) → List ℕ → ℕ → Type 0
+Named found y k = (y ≡ []) × IsTrue (found k)
+
+-- k is accepted from what is not read yet, from the next set, or was found: what a pass keeps
+abbrev pub Holds : List State → (ℕ → Bool) → ℕ → (ℕ → Bool) → (ℕ → Bool) → List ℕ → ℕ → Type 0
+Holds a now upto next found y k = Alive a now upto y k ⊎ (Later a next y k ⊎ Named found y k)

@@ -1,0 +1,204 @@
+//! An automaton, and the steps of its runs.
+
+ghost use Rattle.std.specs.Prelude.{◌≡◌, ℕ, ◌+◌, ◌*◌, ◌<◌, ◌≤◌, ◌||◌, ◌⊎◌, ◌↔◌, ◌∷◌, [], List, length, true, false, Some, None, IsTrue, IsFalse, IfOk, OnErr, MatchOption};
+ghost use Rattle.byte_automaton.specs.Sets.{has_state, has_index, state_room, index_room};
+ghost use Rattle.byte_automaton.specs.Steps.{Machine, IsReached, state, final};
+ghost use Rattle.byte_automaton.specs.Runs.{size, AcceptsFrom, HasSome};
+ghost use Rattle.byte_automaton.specs.inner.Views.{AreSound, GoesBelow, machine};
+ghost use Rattle.byte_automaton.specs.inner.Pass.{goes_now, goes_next, names};
+
+use crate::index_set::IndexSet;
+use crate::state::State;
+use crate::state_set::StateSet;
+use std::alloc::AllocError;
+use std::marker::Model;
+use visits::Visits;
+
+/// States over bytes, and those of them that a run begins in.
+///
+/// A text leads from state to state: see [`Builder`](crate::Builder). Several things that are looked for in a text can
+/// share an automaton, with an end for each that names its index.
+#[derive(Debug, Drop)]
+pub struct Automaton {
+    states: Vec<State>,
+    nexts: Vec<usize>,
+    starts: Vec<usize>,
+    index_count: usize,
+}
+
+impl Model for Automaton {
+    ghost Value = { Machine };
+
+    ghost view = { λ a. machine a.nexts.items a.states.items a.starts.items a.index_count };
+
+    ghost invariant = { λ a. AreSound a.nexts.items a.states.items a.starts.items a.index_count };
+}
+
+impl Clone for Automaton {
+    ghost is_clone = { λ a b. b ≡ a };
+
+    /// Returns a copy. Returns an error if memory runs out.
+    fn clone(&self) -> Result<Automaton, AllocError> {
+        let alloc = *self.states.allocator();
+        Ok(Automaton {
+            states: Vec::from_slice(alloc, &self.states)?,
+            nexts: Vec::from_slice(alloc, &self.nexts)?,
+            starts: Vec::from_slice(alloc, &self.starts)?,
+            index_count: self.index_count,
+        })
+    }
+}
+
+impl Automaton {
+    /// Returns an automaton of these parts.
+    pub(crate) fn from_parts(
+        states: Vec<State>,
+        nexts: Vec<usize>,
+        starts: Vec<usize>,
+        index_count: usize,
+    ) -> Automaton
+        requires { AreSound nexts.items states.items starts.items index_count }
+        ensures { result ≡ machine nexts.items states.items starts.items index_count }
+    {
+        Automaton {
+            states,
+            nexts,
+            starts,
+            index_count,
+        }
+    }
+
+    /// Returns the number of states. A set of states has room for each.
+    pub fn state_count(&self) -> usize
+        ensures { result ≡ size self.now }
+    {
+        self.states.len()
+    }
+
+    /// Returns a number that the index of each end is below. A set of indexes has room for each.
+    pub fn index_count(&self) -> usize
+        ensures { result ≡ self.now.index_count }
+    {
+        self.index_count
+    }
+
+    /// Puts the states that a run begins in into a set. What the set held has no effect.
+    pub fn start(&self, into: &mut StateSet)
+        requires { size self.now ≤ state_room into.old }
+        ensures room { state_room into.new ≡ state_room into.old }
+        ensures starts { (y : List ℕ) (k : ℕ) → AcceptsFrom self.now into.new y k ↔ IsReached self.now y k }
+    {
+        into.clear(self.states.len());
+        into.put_all(&self.starts);
+    }
+
+    /// Puts the states that a byte leads to from the states of a set into another set. Returns whether there are any. What
+    /// the other set held has no effect.
+    ///
+    /// It reads each state at most once, in one pass, and is one visit for each. What a state of `from` goes on to without
+    /// a byte is put into `from`, before the pass comes to it.
+    pub fn step(
+        &self,
+        from: &mut StateSet,
+        byte: u8,
+        to: &mut StateSet,
+        visits: &mut Visits,
+    ) -> bool
+        requires from_room { size self.now ≤ state_room from.old }
+        requires to_room { size self.now ≤ state_room to.old }
+        ensures from_room { state_room from.new ≡ state_room from.old }
+        ensures to_room { state_room to.new ≡ state_room to.old }
+        ensures steps { (y : List ℕ) (k : ℕ) → AcceptsFrom self.now from.old (byte ∷ y) k ↔ AcceptsFrom self.now to.new y k }
+        ensures some { IsTrue result ↔ HasSome self.now to.new }
+        ensures visits { visits.new ≤ visits.old + size self.now }
+    {
+        to.clear(self.state_count());
+        let mut some = false;
+        let mut upto = self.state_count();
+        while upto > 0 {
+            let seen = from.read_below(upto, visits);
+            let s = seen.at;
+            if seen.is_set {
+                if self.take_steps(s, byte, from, to) {
+                    some = true;
+                }
+            }
+            upto = s;
+        }
+        some
+    }
+
+    /// Puts the index of each end that the states of a set lead to without a byte into a set of indexes, beside what it
+    /// holds. It is at most one visit for each state.
+    pub fn ends(&self, from: &mut StateSet, into: &mut IndexSet, visits: &mut Visits)
+        requires from_room { size self.now ≤ state_room from.old }
+        requires into_room { self.now.index_count ≤ index_room into.old }
+        ensures from_room { state_room from.new ≡ state_room from.old }
+        ensures into_room { index_room into.new ≡ index_room into.old }
+        ensures ends { (k : ℕ) → IsTrue (has_index into.new k) ↔ (AcceptsFrom self.now from.old [] k ⊎ IsTrue (has_index into.old k)) }
+        ensures visits { visits.new ≤ visits.old + size self.now }
+    {
+        let mut upto = self.state_count();
+        while upto > 0 {
+            let seen = from.read_below(upto, visits);
+            let s = seen.at;
+            if seen.is_set {
+                if let Some(index) = self.leave(s, from) {
+                    into.put(index);
+                }
+            }
+            upto = s;
+        }
+    }
+
+    /// Returns whether the states of a set lead to some end without a byte. It is at most one visit for each state.
+    pub fn has_end(&self, from: &mut StateSet, visits: &mut Visits) -> bool
+        requires { size self.now ≤ state_room from.old }
+        ensures room { state_room from.new ≡ state_room from.old }
+        ensures some { IsTrue result ↔ ((k : ℕ) × AcceptsFrom self.now from.old [] k) }
+        ensures visits { visits.new ≤ visits.old + size self.now }
+    {
+        let mut upto = self.state_count();
+        while upto > 0 {
+            let seen = from.read_below(upto, visits);
+            let s = seen.at;
+            if seen.is_set {
+                if self.leave(s, from).is_some() {
+                    return true;
+                }
+            }
+            upto = s;
+        }
+        false
+    }
+
+    /// Takes the steps of a state of `from`: puts into `from` what it goes on to without a byte, and into `to` what it goes
+    /// on to by the byte. Returns whether it put a state into `to`.
+    fn take_steps(&self, s: usize, byte: u8, from: &mut StateSet, to: &mut StateSet) -> bool
+        requires exists { s < size self.now }
+        requires from_room { size self.now ≤ state_room from.old }
+        requires to_room { size self.now ≤ state_room to.old }
+        ensures from_room { state_room from.new ≡ state_room from.old }
+        ensures to_room { state_room to.new ≡ state_room to.old }
+        ensures from { (t : ℕ) → has_state from.new t ≡ (goes_now (state self.now.states s) t || has_state from.old t) }
+        ensures below { GoesBelow s (state self.now.states s) }
+        ensures to { (t : ℕ) → has_state to.new t ≡ (goes_next (state self.now.states s) s (Some byte) t || has_state to.old t) }
+        ensures some { IsTrue result → (t : ℕ) × (t ≤ s) × IsTrue (goes_next (state self.now.states s) s (Some byte) t) }
+        ensures none { IsFalse result → (t : ℕ) → goes_next (state self.now.states s) s (Some byte) t ≡ false }
+    {
+        self.states[s].take_steps(s, &self.nexts, byte, from, to)
+    }
+
+    /// Takes the steps of a state of `from` at the end of a text: puts into `from` what it goes on to without a byte.
+    /// Returns its index if it is an end.
+    fn leave(&self, s: usize, from: &mut StateSet) -> Option<usize>
+        requires exists { s < size self.now }
+        requires room { size self.now ≤ state_room from.old }
+        ensures room { state_room from.new ≡ state_room from.old }
+        ensures from { (t : ℕ) → has_state from.new t ≡ (goes_now (state self.now.states s) t || has_state from.old t) }
+        ensures below { GoesBelow s (state self.now.states s) }
+        ensures end { MatchOption result ((k : ℕ) → names (state self.now.states s) None k ≡ false) (λ k. (state self.now.states s ≡ final k) × (k < self.now.index_count)) }
+    {
+        self.states[s].leave(s, &self.nexts, from)
+    }
+}

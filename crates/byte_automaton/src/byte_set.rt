@@ -1,0 +1,75 @@
+//! Sets of bytes.
+
+ghost use Rattle.std.specs.Prelude.{◌≡◌, ℕ, ◌<◌, ◌&&◌, ◌||◌, ◌==◌, not, true, false, slice_index_or};
+ghost use Rattle.byte_automaton.specs.Sets.{has_byte};
+
+use crate::words::{clear_bit, has_bit, set_bit};
+
+/// A set of bytes, as 256 bits.
+///
+/// ```
+/// let digits_but_zero = ByteSet::from_table(&is_digit).without(b'0');
+/// let either_case = ByteSet::only(b'a').with(b'A');
+/// ```
+#[derive(Clone, Copy, Debug)]
+pub struct ByteSet {
+    words: [u64; 4],
+}
+
+impl ByteSet {
+    /// Returns the set of all bytes.
+    pub fn everything() -> ByteSet
+        ensures { (c : ℕ) → c < 256 → has_byte result c ≡ true }
+    {
+        ByteSet {
+            words: [u64::MAX; 4],
+        }
+    }
+
+    /// Returns the set of one byte.
+    pub fn only(byte: u8) -> ByteSet
+        ensures { (c : ℕ) → has_byte result c ≡ (c == byte) }
+    {
+        let mut words = [0u64; 4];
+        set_bit(&mut words, byte as usize);
+        ByteSet { words }
+    }
+
+    /// Returns the set of the bytes that a table has `true` for.
+    pub fn from_table(table: &[bool; 256]) -> ByteSet
+        ensures { (c : ℕ) → has_byte result c ≡ slice_index_or table.now c false }
+    {
+        let mut words = [0u64; 4];
+        for i in 0..256usize {
+            if table[i] {
+                set_bit(&mut words, i);
+            }
+        }
+        ByteSet { words }
+    }
+
+    /// Returns the set with one byte more.
+    pub fn with(self, byte: u8) -> ByteSet
+        ensures { (c : ℕ) → has_byte result c ≡ ((c == byte) || has_byte self c) }
+    {
+        let mut words = self.words;
+        set_bit(&mut words, byte as usize);
+        ByteSet { words }
+    }
+
+    /// Returns the set without a byte.
+    pub fn without(self, byte: u8) -> ByteSet
+        ensures { (c : ℕ) → has_byte result c ≡ (not (c == byte) && has_byte self c) }
+    {
+        let mut words = self.words;
+        clear_bit(&mut words, byte as usize);
+        ByteSet { words }
+    }
+
+    /// Returns whether the set has a byte.
+    pub fn has(&self, byte: u8) -> bool
+        ensures { result ≡ has_byte self.now byte }
+    {
+        has_bit(&self.words, byte as usize)
+    }
+}

@@ -1,0 +1,23 @@
+//! Automata over bytes: which of several ends a text leads to.
+//!
+//! A [`Builder`] makes an [`Automaton`] from states. A state reads a byte and goes on to another state, goes on to others
+//! without a byte, or is an end, which names an index. A run over a text keeps the set of states that the text so far
+//! leads to, and takes no memory.
+#![tactic(auto)]
+
+mod automaton;
+mod builder;
+mod byte_set;
+mod index_set;
+mod run;
+mod state;
+mod state_set;
+#[cfg(test)]
+mod tests;
+mod words;
+
+pub use automaton::Automaton;
+pub use builder::Builder;
+pub use byte_set::ByteSet;
+pub use index_set::IndexSet;
+pub use state_set::StateSet;

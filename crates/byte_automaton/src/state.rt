@@ -1,0 +1,97 @@
+//! States, as an automaton keeps them.
+
+ghost use Rattle.std.specs.Prelude.{◌≡◌, ℕ, ◌<◌, ◌≤◌, ◌||◌, length, true, false, Some, None, IsTrue, IsFalse, MatchOption};
+ghost use Rattle.byte_automaton.specs.Sets.{has_state, state_room};
+ghost use Rattle.byte_automaton.specs.Steps.{final};
+ghost use Rattle.byte_automaton.specs.inner.Views.{of_state, IsHeld, GoesBelow};
+ghost use Rattle.byte_automaton.specs.inner.Pass.{goes_now, goes_next, names};
+
+use crate::byte_set::ByteSet;
+use crate::state_set::StateSet;
+
+/// A state. What it goes on to without a byte is a range of the automaton's list of next states.
+///
+/// States are numbered in the order in which they were pushed, and what a state goes on to was there before it. So numbers
+/// go down along each step.
+#[derive(Clone, Copy, Debug)]
+pub enum State {
+    /// Reads a byte of the set and goes on.
+    Reads(ByteSet, usize),
+    /// Goes on without a byte.
+    Skips(usize, usize),
+    /// Stays on each byte of the set, and goes on without a byte.
+    Stays(ByteSet, usize, usize),
+    /// Is the end of an index.
+    End(usize),
+}
+
+impl State {
+    /// Takes the steps of a state: puts into `from` what it goes on to without a byte, and into `to` what it goes on to by the
+    /// byte. Returns whether it put a state into `to`.
+    pub fn take_steps(
+        &self,
+        s: usize,
+        nexts: &[usize],
+        byte: u8,
+        from: &mut StateSet,
+        to: &mut StateSet,
+    ) -> bool
+        requires held { IsHeld (length nexts.now) self.now }
+        requires below { GoesBelow s (of_state nexts.now self.now) }
+        requires from_room { s < state_room from.old }
+        requires to_room { s < state_room to.old }
+        ensures from_room { state_room from.new ≡ state_room from.old }
+        ensures to_room { state_room to.new ≡ state_room to.old }
+        ensures from { (t : ℕ) → has_state from.new t ≡ (goes_now (of_state nexts.now self.now) t || has_state from.old t) }
+        ensures to { (t : ℕ) → has_state to.new t ≡ (goes_next (of_state nexts.now self.now) s (Some byte) t || has_state to.old t) }
+        ensures some { IsTrue result → (t : ℕ) × (t ≤ s) × IsTrue (goes_next (of_state nexts.now self.now) s (Some byte) t) }
+        ensures none { IsFalse result → (t : ℕ) → goes_next (of_state nexts.now self.now) s (Some byte) t ≡ false }
+    {
+        match self {
+            State::Reads(bytes, next) => {
+                if bytes.has(byte) {
+                    to.put(*next);
+                    return true;
+                }
+                false
+            }
+            State::Skips(i, j) => {
+                from.put_all(&nexts[*i..*j]);
+                false
+            }
+            State::Stays(bytes, i, j) => {
+                from.put_all(&nexts[*i..*j]);
+                if bytes.has(byte) {
+                    to.put(s);
+                    return true;
+                }
+                false
+            }
+            State::End(_) => false,
+        }
+    }
+
+    /// Takes the steps of a state at the end of the text: puts into `from` what it goes on to without a byte. Returns its index
+    /// if it is an end.
+    pub fn leave(&self, s: usize, nexts: &[usize], from: &mut StateSet) -> Option<usize>
+        requires held { IsHeld (length nexts.now) self.now }
+        requires below { GoesBelow s (of_state nexts.now self.now) }
+        requires room { s < state_room from.old }
+        ensures room { state_room from.new ≡ state_room from.old }
+        ensures from { (t : ℕ) → has_state from.new t ≡ (goes_now (of_state nexts.now self.now) t || has_state from.old t) }
+        ensures end { MatchOption result ((k : ℕ) → names (of_state nexts.now self.now) None k ≡ false) (λ k. of_state nexts.now self.now ≡ final k) }
+    {
+        match self {
+            State::Reads(_, _) => None,
+            State::Skips(i, j) => {
+                from.put_all(&nexts[*i..*j]);
+                None
+            }
+            State::Stays(_, i, j) => {
+                from.put_all(&nexts[*i..*j]);
+                None
+            }
+            State::End(index) => Some(*index),
+        }
+    }
+}

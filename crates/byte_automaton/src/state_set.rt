@@ -1,0 +1,74 @@
+//! Sets of states.
+
+ghost use Rattle.std.specs.Prelude.{◌≡◌, ℕ, ◌+◌, ◌<◌, ◌≤◌, ◌||◌, ◌==◌, false, IfOk};
+ghost use Rattle.byte_automaton.specs.Sets.{has_state, state_room};
+ghost use Rattle.byte_automaton.specs.Building.{AreBelow};
+ghost use Rattle.byte_automaton.specs.inner.Seen.{IsLastBelow};
+ghost use Rattle.byte_automaton.specs.inner.Pass.{is_listed};
+
+use crate::words::{Seen, clear_below, last_below, set_bit, words_for};
+use std::alloc::{AllocError, Global};
+use visits::Visits;
+
+/// A set of states, as a bit for each.
+///
+/// It is made once, and holds sets of states of any automaton that has at most as many states as it has room for. No
+/// call but those of an automaton reads it.
+#[derive(Debug, Drop)]
+pub struct StateSet {
+    words: Vec<u64>,
+}
+
+impl StateSet {
+    /// Returns an empty set with room for so many states. It takes a bit of memory for each. Returns an error if memory
+    /// runs out.
+    pub fn new(alloc: Global, states: usize) -> Result<StateSet, AllocError>
+        ensures room { IfOk result (λ set. states ≤ state_room set) }
+        ensures none { IfOk result (λ set. (s : ℕ) → has_state set s ≡ false) }
+    {
+        let mut words = Vec::new(alloc);
+        words.resize(words_for(states), 0)?;
+        Ok(StateSet { words })
+    }
+
+    /// Takes the states below a number out.
+    pub(crate) fn clear(&mut self, upto: usize)
+        requires { upto ≤ state_room self.old }
+        ensures room { state_room self.new ≡ state_room self.old }
+        ensures none { (s : ℕ) → s < upto → has_state self.new s ≡ false }
+    {
+        clear_below(&mut self.words, upto);
+    }
+
+    /// Puts a state in.
+    pub(crate) fn put(&mut self, state: usize)
+        requires { state < state_room self.old }
+        ensures room { state_room self.new ≡ state_room self.old }
+        ensures has { (t : ℕ) → has_state self.new t ≡ ((t == state) || has_state self.old t) }
+    {
+        set_bit(&mut self.words, state);
+    }
+
+    /// Puts several states in.
+    pub(crate) fn put_all(&mut self, states: &[usize])
+        requires { AreBelow (state_room self.old) states.now }
+        ensures room { state_room self.new ≡ state_room self.old }
+        ensures has { (t : ℕ) → has_state self.new t ≡ (is_listed t states.now || has_state self.old t) }
+    {
+        for state in states {
+            self.put(*state);
+        }
+    }
+
+    /// Reads the next state below a bound: the highest that is in the set, or one that is not where a word of the set has
+    /// none. It is one visit.
+    pub(crate) fn read_below(&self, upto: usize, visits: &mut Visits) -> Seen
+        requires some { 0 < upto }
+        requires within { upto ≤ state_room self.now }
+        ensures seen { IsLastBelow self.now.words.items upto result }
+        ensures visits { visits.new ≡ visits.old + 1 }
+    {
+        visits.tick();
+        last_below(&self.words, upto)
+    }
+}

@@ -1,0 +1,99 @@
+//! Sets of numbers, as the bits of machine words.
+
+ghost use Rattle.std.specs.Prelude.{◌≡◌, ℕ, ◌+◌, ◌-◌, ◌*◌, ◌/◌, ◌^◌, ◌<◌, ◌≤◌, ◌&&◌, ◌||◌, ◌==◌, not, true, false, length, MatchOption};
+ghost use Rattle.byte_automaton.specs.Sets.{bit_of};
+ghost use Rattle.byte_automaton.specs.inner.Seen.{IsLastBelow};
+
+/// A bit that was read, and whether it is set.
+#[derive(Clone, Copy)]
+pub struct Seen {
+    pub at: usize,
+    pub is_set: bool,
+}
+
+/// Returns how many words have room for so many bits.
+pub fn words_for(bits: usize) -> usize
+    ensures room { bits ≤ 64 * result }
+    ensures least { 64 * result < bits + 64 }
+    ensures fits { 64 * result ≤ 2 ^ 64 }
+{
+    if bits % 64 == 0 {
+        bits / 64
+    } else {
+        bits / 64 + 1
+    }
+}
+
+/// Returns whether a bit is set.
+pub fn has_bit(words: &[u64], k: usize) -> bool
+    requires { k < 64 * length words.now }
+    ensures { result ≡ bit_of words.now k }
+{
+    (words[k / 64] >> (k % 64)) & 1 == 1
+}
+
+/// Sets a bit.
+pub fn set_bit(words: &mut [u64], k: usize)
+    requires { k < 64 * length words.old }
+    ensures { (j : ℕ) → bit_of words.new j ≡ ((j == k) || bit_of words.old j) }
+{
+    let word = words[k / 64];
+    words[k / 64] = word | (1u64 << (k % 64));
+}
+
+/// Clears a bit.
+pub fn clear_bit(words: &mut [u64], k: usize)
+    requires { k < 64 * length words.old }
+    ensures { (j : ℕ) → bit_of words.new j ≡ (not (j == k) && bit_of words.old j) }
+{
+    let word = words[k / 64];
+    words[k / 64] = word & !(1u64 << (k % 64));
+}
+
+/// Clears the bits below a bound, and those of the bound's word.
+pub fn clear_below(words: &mut [u64], upto: usize)
+    requires { upto ≤ 64 * length words.old }
+    ensures { (k : ℕ) → k < upto → bit_of words.new k ≡ false }
+{
+    words[..words_for(upto)].fill(0);
+}
+
+/// Returns the highest bit that is set below the bound, or the lowest bit of the last word below the bound where nothing
+/// in this word is set below the bound.
+pub fn last_below(words: &[u64], upto: usize) -> Seen
+    requires some { 0 < upto }
+    requires within { upto ≤ 64 * length words.now }
+    ensures { IsLastBelow words.now upto result }
+{
+    let last = upto - 1;
+    let mask = words[last / 64] & (u64::MAX >> (63 - last % 64));
+    if mask == 0 {
+        Seen {
+            at: last / 64 * 64,
+            is_set: false,
+        }
+    } else {
+        Seen {
+            at: last / 64 * 64 + (63 - mask.leading_zeros() as usize),
+            is_set: true,
+        }
+    }
+}
+
+/// Returns the lowest bit that is set from a bit on.
+pub fn first_from(words: &[u64], from: usize) -> Option<usize>
+    requires { 64 * length words.now ≤ 2 ^ 64 }
+    ensures { MatchOption result ((k : ℕ) → from ≤ k → bit_of words.now k ≡ false) (λ at. (from ≤ at) × (bit_of words.now at ≡ true) × ((k : ℕ) → from ≤ k → k < at → bit_of words.now k ≡ false)) }
+{
+    let mut at = from / 64;
+    let mut mask = u64::MAX << (from % 64);
+    while at < words.len() {
+        let word = words[at] & mask;
+        if word != 0 {
+            return Some(at * 64 + word.trailing_zeros() as usize);
+        }
+        mask = u64::MAX;
+        at += 1;
+    }
+    None
+}
