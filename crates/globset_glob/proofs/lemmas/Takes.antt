@@ -7,7 +7,7 @@ use Rattle.std.proofs.lemmas.Bool.{eqb-true}
 use Rattle.std.proofs.Math.Logic.{⊎_elim}
 use Rattle.glob_syntax.specs.Token.{Token, RecursivePrefix, RecursiveSuffix, RecursiveZeroOrMore, Tokens, and_then, Branches, none, branch}
 use Rattle.globset_glob.specs.Blank.{is_kept, any_kept}
-use Rattle.globset_glob.specs.Takes.{takes, some_takes, takes_all, is_empty, same_bytes, is_one_byte, begins_with_slash, ends_with_slash, slash}
+use Rattle.globset_glob.specs.Takes.{takes, some_takes, takes_all, is_empty, is_one_byte, begins_with_slash, ends_with_slash, slash}
 use Rattle.glob_syntax.specs.declared.options.Options.{Options}
 use Rattle.globset_glob.proofs.lemmas.Booleans.{and_both, and_first, and_second, or_first, or_second, or_either}
 use Rattle.globset_glob.proofs.lemmas.Cuts.{cut_of, some_cut-append, empty_is}

@@ -3,7 +3,8 @@ use Rattle.std.specs.Prelude.{◌≡◌, ℕ, ◌<◌, Bool, true, ◌==◌, ◌
 use Rattle.glob_syntax.specs.declared.options.Options.{Options}
 use Rattle.glob_syntax.specs.Token.{Token, Literal, Any, ZeroOrMore, RecursivePrefix, RecursiveSuffix, RecursiveZeroOrMore, Class, Group, Tokens, end, and_then, Branches, none, branch}
 use Rattle.glob_syntax.specs.ClassBytes.{class_has}
-use Rattle.globset_glob.specs.Takes.{slash, is_wild, same_bytes, compared}
+use Rattle.std.specs.Str.{bytes_eq}
+use Rattle.globset_glob.specs.Takes.{slash, is_wild, compared}
 use Rattle.globset_glob.specs.Blank.{is_kept, any_kept}
 use Rattle.byte_automaton.specs.Sets.{has_byte}
 use Rattle.byte_automaton.specs.Steps.{State, reads, skips, stays, state}
@@ -38,7 +39,7 @@ Stays a s test e = (w : ByteSet) × (state a s ≡ stays w (e ∷ [])) × IsSetO
 
 -- what these bytes of a literal match
 abbrev pub spells : Options → List ℕ → List ℕ → Bool
-spells o bytes y = same_bytes (compared o y) (compared o bytes)
+spells o bytes y = bytes_eq (compared o y) (compared o bytes)
 
 -- what one byte of a literal matches
 abbrev pub is_letter : Options → ℕ → ℕ → Bool
