@@ -4,9 +4,10 @@ ghost use Rattle.std.specs.Prelude.{◌≡◌, ◌+◌, ◌≤◌, IfOk, IfErr};
 ghost use Rattle.globset_glob.specs.Cost.{most_visits};
 ghost use Rattle.globset_glob.specs.Errors.{out_of_memory};
 ghost use Rattle.globset_glob.specs.Means.{is_prefix};
-ghost use Rattle.globset_glob.specs.Views.{token_of};
+ghost use Rattle.globset_glob.specs.Views.{flat_of};
 ghost use Rattle.globset.specs.Answer.{is_listed};
 ghost use Rattle.globset.specs.Silent.{is_dot, silent};
+ghost use Rattle.globset.specs.inner.TokenTests.{is_simple_that};
 
 use globset_glob::{
     Candidate, Error, Glob, GlobMatcher, Token, Visits, matcher_of, options_of, tokens_of,
@@ -94,13 +95,13 @@ fn is_silent(glob: &Glob) -> bool
 }
 
 fn is_recursive_prefix(token: &Token) -> bool
-    ensures { result ≡ is_prefix (token_of token.now) }
+    ensures { result ≡ is_simple_that is_prefix (flat_of token.now) }
 {
     matches!(token, Token::RecursivePrefix)
 }
 
 fn is_dot(token: &Token) -> bool
-    ensures { result ≡ is_dot (token_of token.now) }
+    ensures { result ≡ is_simple_that is_dot (flat_of token.now) }
 {
     matches!(token, Token::Literal('.'))
 }

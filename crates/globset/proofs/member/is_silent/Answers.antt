@@ -1,8 +1,9 @@
 use Rattle.std.proofs.Common.{◌≡◌, ◌&&◌, arith, sym, ◌∙◌}
 use Rattle.globset_glob.specs.Means.{is_prefix}
-use Rattle.globset_glob.specs.Views.{token_of, tokens_of}
+use Rattle.globset_glob.specs.Views.{flat_of, tokens_of}
 use Rattle.globset.specs.Silent.{is_dot, is_prefix_dot_dot, silent}
-use Rattle.globset.proofs.lemmas.Silent.{not_insensitive, not_other, by_tokens, too_few, too_many, of_three, first_two_hold, first_fails, second_fails}
+use Rattle.globset.specs.inner.TokenTests.{is_simple_that}
+use Rattle.globset.proofs.lemmas.Silent.{not_insensitive, not_other, by_tokens, other_length, of_three, first_two_hold, first_fails, second_fails}
 use Rattle.globset.proofs.member.is_silent.Goals as goal
 use Rattle.globset.proofs.member.is_silent.Goals.{then-is_recursive_prefix, else-is_recursive_prefix}
 
@@ -10,16 +11,16 @@ pub returns-then-options_of : goal.returns-then-options_of
 returns-then-options_of c = not_insensitive c.args.glob.now (rw (← c.options_of.ensures) c.if-options_of.true)
 
 pub returns-in_default : goal.returns-in_default
-returns-in_default c = not_other _ _ c.tokens_of.ensures.tokens (too_few c.tokens_of.result.now c.in_default.len_below)
+returns-in_default c = not_other _ _ c.tokens_of.ensures.tokens (other_length c.tokens_of.result.now c.tokens_of.ensures.nested (λ three. omega (arith, c.in_default.len_below)))
 
 pub returns-in_default-2 : goal.returns-in_default-2
-returns-in_default-2 c = not_other _ _ c.tokens_of.ensures.tokens (too_many c.tokens_of.result.now c.in_default.len_at_least)
+returns-in_default-2 c = not_other _ _ c.tokens_of.ensures.tokens (other_length c.tokens_of.result.now c.tokens_of.ensures.nested (λ three. omega (arith, c.in_default.len_at_least)))
 
 pub returns-then-is_dot : goal.returns-then-is_dot
 returns-then-is_dot c =
     let ts = c.tokens_of.result.now in
-    let p = is_prefix (token_of c.first-item.result) in let q = is_dot (token_of c.second-item.result) in let r = is_dot (token_of c.third-item.result) in
-    let tests : (p && (q && r)) ≡ is_prefix_dot_dot (tokens_of ts) = of_three ts _ _ _ (omega arith) c.first-item.is c.second-item.is c.third-item.is in
+    let p = is_simple_that is_prefix (flat_of c.first-item.result) in let q = is_simple_that is_dot (flat_of c.second-item.result) in let r = is_simple_that is_dot (flat_of c.third-item.result) in
+    let tests : (p && (q && r)) ≡ is_prefix_dot_dot (tokens_of ts) = of_three ts _ _ _ c.tokens_of.ensures.nested (omega arith) c.first-item.is c.second-item.is c.third-item.is in
     let told : is_prefix_dot_dot (tokens_of ts) ≡ silent c.args.glob.now = by_tokens _ _ c.tokens_of.ensures.tokens (rw (← c.options_of.ensures) c.if-options_of.false) in
     elim c.if-is_recursive_prefix.branch [
       | then-is_recursive_prefix w ↦
@@ -30,8 +31,8 @@ returns-then-is_dot c =
 pub returns-else-is_dot : goal.returns-else-is_dot
 returns-else-is_dot c =
     let ts = c.tokens_of.result.now in
-    let p = is_prefix (token_of c.first-item.result) in let q = is_dot (token_of c.second-item.result) in let r = is_dot (token_of c.third-item.result) in
-    let tests : (p && (q && r)) ≡ is_prefix_dot_dot (tokens_of ts) = of_three ts _ _ _ (omega arith) c.first-item.is c.second-item.is c.third-item.is in
+    let p = is_simple_that is_prefix (flat_of c.first-item.result) in let q = is_simple_that is_dot (flat_of c.second-item.result) in let r = is_simple_that is_dot (flat_of c.third-item.result) in
+    let tests : (p && (q && r)) ≡ is_prefix_dot_dot (tokens_of ts) = of_three ts _ _ _ c.tokens_of.ensures.nested (omega arith) c.first-item.is c.second-item.is c.third-item.is in
     let told : is_prefix_dot_dot (tokens_of ts) ≡ silent c.args.glob.now = by_tokens _ _ c.tokens_of.ensures.tokens (rw (← c.options_of.ensures) c.if-options_of.false) in
     c.if-is_dot.false ∙ elim c.if-is_recursive_prefix.branch [
       | then-is_recursive_prefix w ↦ second_fails p q r (sym w.is_dot.ensures ∙ sym w.value-is ∙ c.if-is_dot.false)
