@@ -1,2 +1,3 @@
 pub mod StoredGlobs
+pub mod JointAutomaton
 pub mod TokenTests

@@ -19,8 +19,8 @@
 
 mod builder;
 pub mod laws;
-mod member;
 mod set;
+mod silence;
 
 pub use builder::GlobSetBuilder;
 pub use globset_glob::{

@@ -10,13 +10,14 @@ ghost use Rattle.globset.specs.SetValue.{set_globs, builder_globs};
 mod all;
 mod any;
 mod matches;
+mod stored;
 mod value;
 
 use crate::builder::GlobSetBuilder;
-use crate::member::Member;
 use globset_glob::{Error, Glob};
 use std::alloc::{AllocError, Global};
 use std::marker::Model;
+use stored::Stored;
 
 /// Globs that are matched against a path together. Each has an index, from 0, in the order in which they were given.
 ///
@@ -33,7 +34,7 @@ use std::marker::Model;
 /// ```
 #[derive(Debug, Drop)]
 pub struct GlobSet {
-    members: Option<Vec<Member>>,
+    stored: Option<Stored>,
 }
 
 impl Model for GlobSet {
@@ -42,7 +43,7 @@ impl Model for GlobSet {
 
     ghost Value = { SetValue };
 
-    ghost view = { λ s. stored_globs s.members };
+    ghost view = { λ s. stored_globs s.stored };
 }
 
 impl GlobSet {
@@ -59,21 +60,24 @@ impl GlobSet {
     pub fn empty() -> GlobSet
         ensures { set_globs result ≡ [] }
     {
-        GlobSet { members: None }
+        GlobSet { stored: None }
     }
 
     /// Returns whether the set has no globs. It allocates nothing.
     pub fn is_empty(&self) -> bool
         ensures { IsTrue result ↔ (set_globs self.now ≡ []) }
     {
-        self.members().is_empty()
+        self.len() == 0
     }
 
     /// Returns the number of globs in the set, silent globs included. It allocates nothing.
     pub fn len(&self) -> usize
         ensures { result ≡ length (set_globs self.now) }
     {
-        self.members().len()
+        match &self.stored {
+            Some(stored) => stored.len(),
+            None => 0,
+        }
     }
 
     /// Returns the set of these globs, in order, each with its own options. The globs are copied.
@@ -92,13 +96,11 @@ impl GlobSet {
             × Drains I.IntoIter.next_gives s xs × (set_globs set ≡ map (λ g. g.now) xs)) }
         ensures err { IfErr result (λ e. e ≡ out_of_memory) }
     {
-        let mut members = Vec::new(alloc);
+        let mut copies = Vec::new(alloc);
         for glob in globs {
-            members.push(Member::new(glob)?)?;
+            copies.push(glob.clone()?)?;
         }
-        Ok(GlobSet {
-            members: Some(members),
-        })
+        GlobSet::from_globs(copies)
     }
 
     /// Returns an equal set, with memory of its own. Returns an error if memory runs out, and no other.
@@ -106,34 +108,22 @@ impl GlobSet {
         ensures ok { IfOk result (λ s. s ≡ self.now) }
         ensures err { IfErr result (λ e. e ≡ out_of_memory) }
     {
-        let Some(members) = &self.members else {
+        let Some(stored) = &self.stored else {
             return Ok(GlobSet::empty());
         };
-        let mut copies = Vec::with_capacity(*members.allocator(), members.len())?;
-        for member in members {
-            copies.push(member.clone()?)?;
-        }
         Ok(GlobSet {
-            members: Some(copies),
+            stored: Some(stored.clone()?),
         })
     }
 
-    /// Returns the set of these members.
-    fn from_members(members: Vec<Member>) -> GlobSet
-        ensures { set_globs result ≡ members.items }
+    /// Returns the set of these globs. Returns an error if memory runs out, and no other.
+    fn from_globs(globs: Vec<Glob>) -> Result<GlobSet, Error>
+        ensures ok { IfOk result (λ set. set_globs set ≡ globs.items) }
+        ensures err { IfErr result (λ e. e ≡ out_of_memory) }
     {
-        GlobSet {
-            members: Some(members),
-        }
-    }
-
-    fn members(&self) -> &[Member]
-        ensures { result.now ≡ set_globs self.now }
-    {
-        match &self.members {
-            Some(members) => members,
-            None => &[],
-        }
+        Ok(GlobSet {
+            stored: Some(Stored::new(globs)?),
+        })
     }
 }
 

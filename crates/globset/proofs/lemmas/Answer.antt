@@ -1,8 +1,8 @@
 -- The indexes that a set returns for a path.
-use Rattle.std.proofs.Common.{◌≡◌, ℕ, zero, suc, ◌+◌, ◌<◌, List, [], ◌∷◌, ◌++◌, append-nil, length, get_or, Bool, true, false, cond, Option, refl, ap, sym, subst, ◌∙◌, arith}
-use Rattle.std.specs.Prelude.{◌≢◌, ◌↔◌, filter, Contains, IsTrue}
+use Rattle.std.proofs.Common.{◌≡◌, ℕ, zero, suc, ◌+◌, ◌<◌, ◌≤◌, ◌-◌, List, [], ◌∷◌, ◌++◌, append-nil, length, get_or, Bool, true, false, cond, Option, Some, None, refl, ap, sym, subst, ◌∙◌, arith}
+use Rattle.std.specs.Prelude.{◌≢◌, ◌↔◌, filter, Contains, IsTrue, MatchOption}
 use Rattle.std.specs.List.{range_with_len}
-use Rattle.std.specs.Option.{option_map_or}
+use Rattle.std.specs.Option.{option_map_or, is_some}
 use Rattle.std.proofs.lemmas.List.Elements.{filter-append, filter_passes, All-filter, All-contains, All-from_get_or}
 use Rattle.std.proofs.lemmas.List.FromFn.{length-range_with_len, get_or-range_with_len}
 use Rattle.std.proofs.lemmas.Option.{slice_get_read}
@@ -102,3 +102,54 @@ all_listed globs path h = (λ y i l. listed_is_contained globs path i l (h i l),
 pub one_not_listed : (globs : List GlobValue) (path : List ℕ) (i : ℕ) → i < length globs → is_listed_at globs path i ≡ false
     → IsTrue false ↔ ContainsAllBelow (answer globs path) (length globs)
 one_not_listed globs path i l h = (λ y. absurd (cc), λ all. let p = (contained_is_listed globs path i (all i l)).1 in cc)
+
+pub none_of_none : (globs : List GlobValue) (path : List ℕ) → globs ≡ [] → IsTrue false ↔ (answer globs path ≢ [])
+none_of_none globs path e = none_listed globs path (λ i h. let n : length globs ≡ 0 = ap length e in absurd (omega (arith, h, n)))
+
+pub answer_of_none : (globs : List GlobValue) (path : List ℕ) → globs ≡ [] → [] ≡ answer globs path
+unfolding answer
+answer_of_none globs path e = rw e refl
+
+-- ---- the listed indexes, found one after another
+
+-- a listed index is below the number of globs
+pub listed_within : (globs : List GlobValue) (path : List ℕ) (k : ℕ) → is_listed_at globs path k ≡ true → k < length globs
+listed_within [] path k h = absurd (cc)
+listed_within (x ∷ xs) path zero h = omega arith
+listed_within (x ∷ xs) path (suc k) h = let e = listed_within xs path k h in omega (arith, e)
+
+pub any_found : (globs : List GlobValue) (path : List ℕ) (has : ℕ → Bool) (first : Option ℕ) → ((k : ℕ) → has k ≡ is_listed_at globs path k)
+    → MatchOption first ((k : ℕ) → 0 ≤ k → has k ≡ false) (λ at. (0 ≤ at) × (has at ≡ true) × ((k : ℕ) → 0 ≤ k → k < at → has k ≡ false))
+    → IsTrue (is_some first) ↔ (answer globs path ≢ [])
+any_found globs path has None same none = none_listed globs path (λ i l. sym (same i) ∙ none i (omega arith))
+any_found globs path has (Some at) same (from, this, before) = let yes = sym (same at) ∙ this in some_listed globs path at (listed_within globs path at yes) yes
+
+filter_skips : (test : ℕ → Bool) (from d : ℕ) → ((k : ℕ) → from ≤ k → k < from + d → test k ≡ false) → filter test (range_with_len 0 from) ≡ filter test (range_with_len 0 (from + d))
+filter_skips test from zero none = let e : from ≡ from + 0 = omega arith in ap (λ (n : ℕ). filter test (range_with_len 0 n)) e
+filter_skips test from (suc d) none =
+    let e : from + d + 1 ≡ from + suc d = omega arith in
+    let xs = filter test (range_with_len 0 from) in
+    index_dropped test (from + d) xs xs (filter_skips test from d (λ k low high. none k low (omega (arith, high)))) (none (from + d) (omega arith) (omega arith)) refl
+    ∙ ap (λ (n : ℕ). filter test (range_with_len 0 n)) e
+
+-- no number from `from` on and below `at` passes
+pub filter_between : (test : ℕ → Bool) (from at : ℕ) → from ≤ at → ((k : ℕ) → from ≤ k → k < at → test k ≡ false) → filter test (range_with_len 0 from) ≡ filter test (range_with_len 0 at)
+filter_between test from at h none =
+    let e : from + (at - from) ≡ at = omega (arith, h) in
+    filter_skips test from (at - from) (λ k low high. none k low (rw e at high)) ∙ ap (λ (n : ℕ). filter test (range_with_len 0 n)) e
+
+-- the next listed index was pushed
+pub next_pushed : (globs : List GlobValue) (path : List ℕ) (has : ℕ → Bool) (from at : ℕ) (xs ys : List ℕ) → ((k : ℕ) → has k ≡ is_listed_at globs path k)
+    → xs ≡ filter (is_listed_at globs path) (range_with_len 0 from)
+    → (from ≤ at) × (has at ≡ true) × ((k : ℕ) → from ≤ k → k < at → has k ≡ false) → ys ≡ xs ++ at ∷ []
+    → ys ≡ filter (is_listed_at globs path) (range_with_len 0 (at + 1))
+next_pushed globs path has from at xs ys same e (h, this, before) put =
+    let test = is_listed_at globs path in
+    index_kept test at xs ys (e ∙ filter_between test from at h (λ k low high. sym (same k) ∙ before k low high)) (sym (same at) ∙ this) put
+
+-- no other index is listed
+pub no_more : (globs : List GlobValue) (path : List ℕ) (has : ℕ → Bool) (from : ℕ) (xs : List ℕ) → ((k : ℕ) → has k ≡ is_listed_at globs path k) → from ≤ length globs
+    → xs ≡ filter (is_listed_at globs path) (range_with_len 0 from) → ((k : ℕ) → from ≤ k → has k ≡ false) → xs ≡ answer globs path
+no_more globs path has from xs same h e none =
+    let test = is_listed_at globs path in
+    whole_answer globs path (length globs) xs refl (e ∙ filter_between test from (length globs) h (λ k low high. sym (same k) ∙ none k low))

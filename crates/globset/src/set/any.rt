@@ -40,8 +40,8 @@ impl GlobSet {
     /// The same as [`GlobSet::is_match_candidate`], which calls it, with a count of the visits.
     ///
     /// It adds at most `path bytes + 1` times the sum of `4 * glob bytes + 4` over the globs, also if memory runs out.
-    /// It tries the globs in order and stops at the first that is not silent and matches. It holds the memory of one
-    /// matcher at a time.
+    /// It runs one automaton over the path, once, for all globs. It takes a bit of memory for each glob, and two for each
+    /// state of the automaton.
     ///
     /// Returns an error if memory runs out, and no other. A set of no globs needs no memory.
     pub fn is_match_visits(&self, path: &Candidate<'_>, visits: &mut Visits) -> Result<bool, Error>
@@ -50,11 +50,13 @@ impl GlobSet {
         ensures empty { set_globs self.now ≡ [] → IsOk result }
         ensures visits { visits.new ≤ visits.old + most_set_visits (set_globs self.now) path.now }
     {
-        for member in self.members() {
-            if member.matches(path, visits)? {
-                return Ok(true);
-            }
+        if self.is_empty() {
+            return Ok(false);
         }
-        Ok(false)
+        let Some(stored) = &self.stored else {
+            return Ok(false);
+        };
+        let found = stored.find(path, visits)?;
+        Ok(found.first_from(0).is_some())
     }
 }

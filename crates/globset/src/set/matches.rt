@@ -68,8 +68,8 @@ impl GlobSet {
     /// The same as [`GlobSet::matches_candidate_into`], which calls it, with a count of the visits.
     ///
     /// It adds at most `path bytes + 1` times the sum of `4 * glob bytes + 4` over the globs, also if memory runs out.
-    /// It tries every glob, in order. It holds the memory of one matcher at a time, and grows the vector for the
-    /// indexes.
+    /// It runs one automaton over the path, once, for all globs. It takes a bit of memory for each glob, and two for each
+    /// state of the automaton, and grows the vector for the indexes.
     ///
     /// Returns an error if memory runs out, and no other. The vector is then empty.
     pub fn matches_visits(
@@ -103,10 +103,14 @@ impl GlobSet {
         ensures err { IfErr result (λ e. e ≡ out_of_memory) }
         ensures visits { visits.new ≤ visits.old + most_set_visits (set_globs self.now) path.now }
     {
-        for (index, member) in self.members().iter().enumerate() {
-            if member.matches(path, visits)? {
-                into.push(index)?;
-            }
+        let Some(stored) = &self.stored else {
+            return Ok(());
+        };
+        let found = stored.find(path, visits)?;
+        let mut from = 0;
+        while let Some(index) = found.first_from(from) {
+            into.push(index)?;
+            from = index + 1;
         }
         Ok(())
     }

@@ -6,7 +6,6 @@ ghost use Rattle.globset_glob.specs.Values.{IsValueErrorOf};
 ghost use Rattle.globset.specs.SetFromValue.{globs_from, globs_of_value};
 ghost use Rattle.globset.specs.SetValue.{set_globs};
 
-use crate::member::Member;
 use crate::set::GlobSet;
 use globset_glob::{Glob, ValueError, ValueErrorKind, error_of_element};
 use serde_json::Value;
@@ -26,26 +25,23 @@ impl GlobSet {
         ensures err { IfErr result (IsValueErrorOf (globs_of_value (view value.now))) }
     {
         match value {
-            Value::Array(values) => Ok(GlobSet::from_members(read_members(alloc, values)?)),
+            Value::Array(values) => Ok(GlobSet::from_globs(read_globs(alloc, values)?)?),
             _ => Err(ValueError::from(ValueErrorKind::NotArray)),
         }
     }
 }
 
-/// Returns the members for these elements of an array.
-fn read_members(alloc: Global, values: &[Value]) -> Result<Vec<Member>, ValueError>
-    ensures { MatchResult result (λ members. globs_from 0 (items_view values.now) ≡ Ok members.items)
+/// Returns the globs of these elements of an array.
+fn read_globs(alloc: Global, values: &[Value]) -> Result<Vec<Glob>, ValueError>
+    ensures { MatchResult result (λ globs. globs_from 0 (items_view values.now) ≡ Ok globs.items)
         (IsValueErrorOf (globs_from 0 (items_view values.now))) }
 {
-    let mut members = Vec::with_capacity(alloc, values.len())?;
+    let mut globs = Vec::with_capacity(alloc, values.len())?;
     for (index, value) in values.iter().enumerate() {
         match Glob::from_value(alloc, value) {
-            Ok(glob) => {
-                let member = Member::from_glob(glob)?;
-                members.push(member)?;
-            }
+            Ok(glob) => globs.push(glob)?,
             Err(error) => return Err(error_of_element(index, error)),
         }
     }
-    Ok(members)
+    Ok(globs)
 }

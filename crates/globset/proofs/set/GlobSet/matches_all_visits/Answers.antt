@@ -1,33 +1,20 @@
-use Rattle.std.proofs.Common.{◌≡◌, ℕ, arith, sym, ◌∙◌, below_more, true}
+use Rattle.std.proofs.Common.{◌≡◌, ◌<◌, length, ap, sym, ◌∙◌, false, arith}
 use Rattle.globset.specs.Answer.{is_listed_at}
-use Rattle.globset.proofs.lemmas.Answer.{is_listed_here, one_not_listed, all_listed}
-use Rattle.globset.proofs.lemmas.Work.{visits_more, visits_within}
+use Rattle.globset.specs.inner.StoredGlobs.{stored_globs}
+use Rattle.globset.proofs.lemmas.Answer.{one_not_listed, all_listed}
 use Rattle.globset.proofs.set.GlobSet.matches_all_visits.Goals as goal
 
-pub returns-in_err-matches-clause-visits : goal.returns-in_err-matches-clause-visits
-returns-in_err-matches-clause-visits c =
-    rw (← c.members-member-items.ensures) (visits_within c.members-member-items.result.now c.args.path.now c.loop-member.member-index c.member-item.result _ c.loop-member.visits _
-    c.loop-member-test.true c.member-item.is c.loop-member.invariant.within c.matches.ensures.visits)
-
-pub returns-then-not-branch-clause-ok : goal.returns-then-not-branch-clause-ok
-returns-then-not-branch-clause-ok c =
-    let globs = c.members-member-items.result.now in let path = c.args.path.now in let i = c.loop-member.member-index in
-    let is : c.in_ok-matches.field-0 ≡ is_listed_at globs path i = c.in_ok-matches.ensures.ok ∙ sym (is_listed_here globs path i c.member-item.result c.loop-member-test.true c.member-item.is) in
-    rw (← c.members-member-items.ensures) (one_not_listed globs path i c.loop-member-test.true (sym is ∙ c.if-not-branch.true))
-
-pub returns-then-not-branch-clause-visits : goal.returns-then-not-branch-clause-visits
-returns-then-not-branch-clause-visits c =
-    rw (← c.members-member-items.ensures) (visits_within c.members-member-items.result.now c.args.path.now c.loop-member.member-index c.member-item.result _ c.loop-member.visits _
-    c.loop-member-test.true c.member-item.is c.loop-member.invariant.within c.matches.ensures.visits)
-
-pub loop-member-preserved : goal.loop-member-preserved
-loop-member-preserved c =
-    let globs = c.members-member-items.result.now in let path = c.args.path.now in let i = c.loop-member.member-index in
-    let is : c.in_ok-matches.field-0 ≡ is_listed_at globs path i = c.in_ok-matches.ensures.ok ∙ sym (is_listed_here globs path i c.member-item.result c.loop-member-test.true c.member-item.is) in
-    let more = visits_more globs path i c.member-item.result c.loop-member-test.true c.member-item.is in
-    record { all = below_more (λ (k : ℕ). is_listed_at globs path k ≡ true) i c.loop-member.invariant.all (sym is ∙ c.if-not-branch.false); within = omega arith }
+pub returns-then-not-has-clause-ok : goal.returns-then-not-has-clause-ok
+returns-then-not-has-clause-ok c =
+    let same : c.in-Some.stored ≡ c.args.self.now = sym (ap stored_globs c.in-Some.is) ∙ c.self.view_is in
+    let i = c.loop-index.index in
+    let found = rw same at c.in_ok-found.ensures.found in
+    let len : c.len-index-end.result ≡ length c.args.self.now = rw same at c.len-index-end.ensures in
+    let within : i < length c.args.self.now = omega (arith, c.loop-index-test.true, len) in
+    one_not_listed c.args.self.now c.args.path.now i within (sym (found i) ∙ sym c.has.ensures ∙ c.if-not-has.true)
 
 pub returns-clause-ok : goal.returns-clause-ok
 returns-clause-ok c =
-    let globs = c.members-member-items.result.now in
-    rw (← c.members-member-items.ensures) (all_listed globs c.args.path.now (λ i h. c.loop-member.invariant.all i (omega (arith, h))))
+    let same : c.in-Some.stored ≡ c.args.self.now = sym (ap stored_globs c.in-Some.is) ∙ c.self.view_is in
+    let len : c.len-index-end.result ≡ length c.args.self.now = rw same at c.len-index-end.ensures in
+    all_listed c.args.self.now c.args.path.now (λ i h. c.loop-index.invariant i (omega (arith, h, c.loop-index-test.false, len)))

@@ -1,10 +1,6 @@
-use Rattle.std.proofs.Common.{◌≡◌, ℕ, ◌<◌, ◌≤◌, ◌+◌, take, true}
+use Rattle.std.proofs.Common.{◌≡◌, ℕ, ◌<◌, true}
 use Rattle.globset.specs.Answer.{is_listed_at}
-use Rattle.globset.specs.Work.{most_set_visits}
 use Rattle.globset.proofs.set.GlobSet.matches_all_visits.Given as goal
 
-abbrev pub invariant-loop-member : goal.invariant-loop-member
-invariant-loop-member l = record {
-  all : (i : ℕ) → i < l.member-index → is_listed_at l.member-items l.path i ≡ true;
-  within : l.visits ≤ l.initial.visits + most_set_visits (take l.member-index l.member-items) l.path;
-}
+abbrev pub invariant-loop-index : goal.invariant-loop-index
+invariant-loop-index l = (i : ℕ) → i < l.index → is_listed_at l.self l.path i ≡ true

@@ -1,33 +1,45 @@
-use Rattle.std.proofs.Common.{◌≡◌, arith, ap, sym, ◌∙◌}
+use Rattle.std.proofs.Common.{◌≡◌, ℕ, ◌<◌, ◌≤◌, length, true, ap, sym, ◌∙◌, refl, arith}
+use Rattle.byte_automaton.specs.Sets.{has_index}
 use Rattle.globset.specs.Answer.{is_listed_at}
-use Rattle.globset.proofs.lemmas.Answer.{is_listed_here, index_kept, index_dropped, whole_answer}
-use Rattle.globset.proofs.lemmas.Work.{visits_more, visits_within}
+use Rattle.globset.specs.inner.StoredGlobs.{stored_globs}
+use Rattle.globset.proofs.lemmas.Answer.{answer_of_none, listed_within, next_pushed, no_more}
 use Rattle.globset.proofs.set.GlobSet.push_matches.Goals as goal
-use Rattle.globset.proofs.set.GlobSet.push_matches.Goals.{then-branch+in_ok-push, else-branch}
 
-pub returns-in_err-matches-clause-visits : goal.returns-in_err-matches-clause-visits
-returns-in_err-matches-clause-visits c =
-    rw (← c.members-member-items.ensures) (visits_within c.members-member-items.result.now c.args.path.now c.loop-index.index c.member-item.result _ c.loop-index.visits _
-    c.loop-index-test.true c.member-item.is c.loop-index.invariant.within c.matches.ensures.visits)
+pub returns-in_default-clause-ok : goal.returns-in_default-clause-ok
+returns-in_default-clause-ok c = c.requires ∙ answer_of_none c.args.self.now c.args.path.now (sym c.self.view_is ∙ ap stored_globs c.in_default.is)
 
-pub returns-in_err-push-clause-visits : goal.returns-in_err-push-clause-visits
-returns-in_err-push-clause-visits c =
-    rw (← c.members-member-items.ensures) (visits_within c.members-member-items.result.now c.args.path.now c.loop-index.index c.member-item.result _ c.loop-index.visits _
-    c.loop-index-test.true c.member-item.is c.loop-index.invariant.within c.matches.ensures.visits)
+pub overflow_add-from : goal.overflow_add-from
+overflow_add-from c =
+    let same : c.in-Some.stored ≡ c.args.self.now = sym (ap stored_globs c.in-Some.is) ∙ c.self.view_is in
+    let i = c.in-Some-first_from.index in
+    let has = rw same at c.in_ok-found.ensures.found in
+    let within : i < length c.args.self.now = listed_within c.args.self.now c.args.path.now i (sym (has i) ∙ c.in-Some-first_from.ensures.1) in
+    let few = rw same at c.find.ensures.len in
+    omega (arith, within, few)
+
+pub loop-index-smaller : goal.loop-index-smaller
+loop-index-smaller c =
+    let same : c.in-Some.stored ≡ c.args.self.now = sym (ap stored_globs c.in-Some.is) ∙ c.self.view_is in
+    let i = c.in-Some-first_from.index in
+    let has = rw same at c.in_ok-found.ensures.found in
+    let within : i < length c.args.self.now = listed_within c.args.self.now c.args.path.now i (sym (has i) ∙ c.in-Some-first_from.ensures.1) in
+    let from = c.in-Some-first_from.ensures.0 in
+    omega (arith, within, from)
 
 pub loop-index-preserved : goal.loop-index-preserved
 loop-index-preserved c =
-    let globs = c.members-member-items.result.now in let path = c.args.path.now in let i = c.loop-index.index in
-    let is : c.in_ok-matches.field-0 ≡ is_listed_at globs path i = c.in_ok-matches.ensures.ok ∙ sym (is_listed_here globs path i c.member-item.result c.loop-index-test.true c.member-item.is) in
-    let more = visits_more globs path i c.member-item.result c.loop-index-test.true c.member-item.is in
+    let same : c.in-Some.stored ≡ c.args.self.now = sym (ap stored_globs c.in-Some.is) ∙ c.self.view_is in
+    let i = c.in-Some-first_from.index in
+    let has = rw same at c.in_ok-found.ensures.found in
+    let within : i < length c.args.self.now = listed_within c.args.self.now c.args.path.now i (sym (has i) ∙ c.in-Some-first_from.ensures.1) in
     record {
-      sofar = elim c.if-branch.branch [
-        | then-branch+in_ok-push w ↦ index_kept (is_listed_at globs path) i _ _ c.loop-index.invariant.sofar (sym is ∙ w.if-branch.true) (ap (λ v. v.items) w.into-is ∙ w.in_ok-push.ensures.items)
-        | else-branch w ↦ index_dropped (is_listed_at globs path) i _ _ c.loop-index.invariant.sofar (sym is ∙ w.if-branch.false) (ap (λ v. v.items) w.into-is)
-      ];
-      within = omega arith;
+      sofar = next_pushed c.args.self.now c.args.path.now (has_index c.in_ok-found.found) c.loop-index.from i c.loop-index.into.items c.push.new.self.items has
+          c.loop-index.invariant.sofar c.in-Some-first_from.ensures c.in_ok-push.ensures.items;
+      within = omega (arith, within);
     }
 
 pub returns-clause-ok : goal.returns-clause-ok
 returns-clause-ok c =
-    rw (← c.members-member-items.ensures) (whole_answer c.members-member-items.result.now c.args.path.now c.loop-index.index _ (omega arith) c.loop-index.invariant.sofar)
+    let same : c.in-Some.stored ≡ c.args.self.now = sym (ap stored_globs c.in-Some.is) ∙ c.self.view_is in
+    no_more c.args.self.now c.args.path.now (has_index c.in_ok-found.found) c.loop-index.from c.loop-index.into.items (rw same at c.in_ok-found.ensures.found)
+    c.loop-index.invariant.within c.loop-index.invariant.sofar c.in_default-first_from.ensures

@@ -1,0 +1,94 @@
+//! What a set stores.
+
+ghost use Rattle.std.specs.Prelude.{◌≡◌, ℕ, ◌+◌, ◌^◌, ◌<◌, ◌≤◌, IfOk, IfErr, length};
+ghost use Rattle.byte_automaton.specs.Sets.{has_index, index_room};
+ghost use Rattle.globset_glob.specs.Errors.{out_of_memory};
+ghost use Rattle.globset.specs.Answer.{is_listed_at};
+ghost use Rattle.globset.specs.Work.{most_set_visits};
+
+use crate::silence::is_silent;
+use byte_automaton::{Automaton, Builder, IndexSet, StateSet};
+use globset_glob::{Candidate, Error, Glob, Visits, add_glob, find_globs};
+use std::marker::Model;
+
+/// The globs of a set, and one automaton for all of them that are not silent. The index of a glob is its position.
+#[derive(Debug, Drop)]
+pub struct Stored {
+    globs: Vec<Glob>,
+    automaton: Automaton,
+}
+
+impl Model for Stored {
+    ghost use Rattle.std.specs.Prelude.{◌≡◌, List, length};
+    ghost use Rattle.globset_glob.specs.Means.{GlobValue};
+    ghost use Rattle.globset.specs.inner.JointAutomaton.{IsJoint};
+
+    ghost Value = { List GlobValue };
+
+    ghost view = { λ s. s.globs.items };
+
+    ghost invariant = { λ s. record {
+      count : s.automaton.index_count ≡ length s.globs.items;
+      joint : IsJoint s.globs.items s.automaton;
+    } };
+}
+
+impl Stored {
+    /// Makes the automaton of these globs. Returns an error if memory runs out, and no other.
+    pub fn new(globs: Vec<Glob>) -> Result<Stored, Error>
+        ensures ok { IfOk result (λ s. s ≡ globs.items) }
+        ensures err { IfErr result (λ e. e ≡ out_of_memory) }
+    {
+        let mut builder = Builder::new(*globs.allocator(), globs.len());
+        for (index, glob) in globs.iter().enumerate() {
+            if !is_silent(glob) {
+                add_glob(&mut builder, glob, index)?;
+            }
+        }
+        Ok(Stored {
+            automaton: builder.finish(),
+            globs,
+        })
+    }
+
+    /// Returns the number of globs.
+    pub fn len(&self) -> usize
+        ensures { result ≡ length self.now }
+    {
+        self.globs.len()
+    }
+
+    /// Returns the indexes of the globs that are not silent and match the path.
+    ///
+    /// It runs the automaton over the path once. It takes a bit of memory for each glob, and two for each state.
+    /// Returns an error if memory runs out, and no other.
+    pub fn find(&self, path: &Candidate<'_>, visits: &mut Visits) -> Result<IndexSet, Error>
+        ensures len { length self.now < 2 ^ 64 }
+        ensures room { IfOk result (λ set. length self.now ≤ index_room set) }
+        ensures found { IfOk result (λ set. (k : ℕ) → has_index set k ≡ is_listed_at self.now path.now k) }
+        ensures err { IfErr result (λ e. e ≡ out_of_memory) }
+        ensures visits { visits.new ≤ visits.old + most_set_visits self.now path.now }
+    {
+        let alloc = *self.globs.allocator();
+        let mut now = StateSet::new(alloc, self.automaton.state_count())?;
+        let mut next = StateSet::new(alloc, self.automaton.state_count())?;
+        let mut found = IndexSet::new(alloc, self.globs.len())?;
+        find_globs(&self.automaton, path.path(), &mut now, &mut next, &mut found, visits);
+        Ok(found)
+    }
+
+    /// Returns an equal value, with memory of its own. Returns an error if memory runs out, and no other.
+    pub fn clone(&self) -> Result<Stored, Error>
+        ensures ok { IfOk result (λ s. s ≡ self.now) }
+        ensures err { IfErr result (λ e. e ≡ out_of_memory) }
+    {
+        let mut globs = Vec::with_capacity(*self.globs.allocator(), self.globs.len())?;
+        for glob in &self.globs {
+            globs.push(glob.clone()?)?;
+        }
+        Ok(Stored {
+            globs,
+            automaton: self.automaton.clone()?,
+        })
+    }
+}

@@ -1,0 +1,34 @@
+//! Which globs are silent.
+
+ghost use Rattle.std.specs.Prelude.{◌≡◌};
+ghost use Rattle.globset_glob.specs.Means.{is_prefix};
+ghost use Rattle.globset_glob.specs.Views.{flat_of};
+ghost use Rattle.globset.specs.Silent.{is_dot, silent};
+ghost use Rattle.globset.specs.inner.TokenTests.{is_simple_that};
+
+use globset_glob::{Glob, Token, options_of, tokens_of};
+
+/// Returns whether every set leaves the glob out.
+pub fn is_silent(glob: &Glob) -> bool
+    ensures { result ≡ silent glob.now }
+{
+    if options_of(glob).case_insensitive {
+        return false;
+    }
+    let [first, second, third] = tokens_of(glob) else {
+        return false;
+    };
+    is_recursive_prefix(first) && is_dot(second) && is_dot(third)
+}
+
+fn is_recursive_prefix(token: &Token) -> bool
+    ensures { result ≡ is_simple_that is_prefix (flat_of token.now) }
+{
+    matches!(token, Token::RecursivePrefix)
+}
+
+fn is_dot(token: &Token) -> bool
+    ensures { result ≡ is_simple_that is_dot (flat_of token.now) }
+{
+    matches!(token, Token::Literal('.'))
+}
