@@ -1,6 +1,5 @@
 pub mod Silent
 pub mod Answer
-pub mod Work
 pub mod JointAutomaton
 pub mod Laws
 pub mod SetFromValue

@@ -2,12 +2,11 @@
 use Rattle.std.proofs.Common.{◌≡◌, ℕ, zero, suc, ◌+◌, ◌<◌, ◌≤◌, ◌-◌, List, [], ◌∷◌, ◌++◌, append-nil, length, get_or, Bool, true, false, cond, Option, Some, None, refl, ap, sym, subst, ◌∙◌, arith}
 use Rattle.std.specs.Prelude.{◌≢◌, ◌↔◌, filter, Contains, IsTrue, MatchOption}
 use Rattle.std.specs.List.{range_with_len}
-use Rattle.std.specs.Option.{option_map_or, is_some}
+use Rattle.std.specs.Option.{is_some}
 use Rattle.std.proofs.lemmas.List.Elements.{filter-append, filter_passes, All-filter, All-contains, All-from_get_or}
 use Rattle.std.proofs.lemmas.List.FromFn.{length-range_with_len, get_or-range_with_len}
-use Rattle.std.proofs.lemmas.Option.{slice_get_read}
 use Rattle.globset_glob.specs.Means.{GlobValue}
-use Rattle.globset.specs.Answer.{is_listed, is_listed_at, answer, ContainsAllBelow}
+use Rattle.globset.specs.Answer.{is_listed_at, answer, ContainsAllBelow}
 
 -- ---- consecutive numbers
 
@@ -72,10 +71,6 @@ contained_is_listed globs path i h =
           (λ k l. let within : k < n = rw length-range_with_len at l in rw (get_or-range_with_len 0 n k 0 within) (omega arith)))) h,
       All-contains (λ j. test j ≡ true) (filter test (range_with_len 0 n)) i (filter_passes test (range_with_len 0 n)) h,
     )
-
--- the glob at an index is listed if and only if the index is
-pub is_listed_here : (globs : List GlobValue) (path : List ℕ) (i : ℕ) (g : GlobValue) → i < length globs → g ≡ get_or globs i g → is_listed_at globs path i ≡ is_listed g path
-is_listed_here globs path i g h e = ap (λ (o : Option GlobValue). option_map_or (λ x. is_listed x path) o false) (slice_get_read globs (length globs) i g refl h e)
 
 -- ---- any and all
 

@@ -1,5 +1,5 @@
 -- One automaton for the globs of a set, glob by glob.
-use Rattle.std.proofs.Common.{◌≡◌, ℕ, zero, suc, ◌+◌, ◌<◌, ◌≤◌, ◌⊎◌, inl, inr, Bool, true, false, not, ◌&&◌, List, [], ◌∷◌, ◌++◌, length, get_or, take, IsTrue, refl, ap, sym, ◌∙◌, subst, arith}
+use Rattle.std.proofs.Common.{◌≡◌, ℕ, zero, suc, ◌+◌, ◌<◌, ◌≤◌, ◌⊎◌, inl, inr, Bool, true, false, not, ◌&&◌, List, [], ◌∷◌, ◌++◌, length, get_or, take, IsTrue, refl, ap, sym, ◌∙◌, arith}
 use Rattle.std.specs.Prelude.{◌↔◌, sum_by}
 use Rattle.std.proofs.Math.Logic.{⊎_elim}
 use Rattle.std.proofs.lemmas.List.{take_more}
@@ -9,8 +9,6 @@ use Rattle.byte_automaton.specs.Runs.{size}
 use Rattle.globset_glob.specs.Means.{GlobValue, glob_means}
 use Rattle.globset_glob.specs.Cost.{cost}
 use Rattle.globset_glob.specs.inner.GlobStates.{IndexedGlob, indexed, SomeMatches, IsFor}
-use Rattle.globset_glob.proofs.lemmas.GlobStates.{none_for}
-use Rattle.globset_glob.proofs.lemmas.Booleans.{same_truth}
 use Rattle.globset.specs.Silent.{silent}
 use Rattle.globset.specs.Answer.{is_listed, is_listed_at}
 use Rattle.globset.specs.inner.JointAutomaton.{IsJoint}
@@ -61,14 +59,6 @@ cost_push globs g = sum_by-append cost globs (g ∷ []) ∙ omega arith
 
 -- ---- the automaton, as globs are added
 
-pub joint_none : (m : Machine) → m.states ≡ [] → m.starts ≡ [] → IsJoint [] m
-joint_none m states starts = record {
-  added = [];
-  is_for = none_for m starts;
-  same = λ path k. (λ no. absurd no, λ no. absurd (cc));
-  size = let none : size m ≡ 0 = ap length states in omega (arith, none);
-}
-
 -- a silent glob is left out
 pub joint_left_out : (globs : List GlobValue) (g : GlobValue) (m : Machine) → silent g ≡ true → IsJoint globs m → IsJoint (globs ++ g ∷ []) m
 joint_left_out globs g m is before = record {
@@ -89,23 +79,12 @@ joint_added globs g n old new at is adds few before = record {
   added = before.added ++ indexed g n ∷ [];
   is_for = adds before.added before.is_for;
   same = λ path k.
-    let push = listed_push globs g path k in let some = some_push (indexed g n) before.added path k in let same = before.same path k in
-    let loud : is_listed g path ≡ glob_means g path = loud_is (silent g) (glob_means g path) is in (
-      λ h. push.1 (⊎_elim {C = IsTrue (is_listed_at globs path k) ⊎ ((length globs ≡ k) × IsTrue (is_listed g path))}
-          (λ earlier. inl (same.0 earlier)) (λ last. inr (sym at ∙ last.0, loud ∙ last.1)) (some.0 h)),
-      λ h. some.1 (⊎_elim {C = SomeMatches before.added path k ⊎ ((n ≡ k) × IsTrue (glob_means g path))}
-          (λ earlier. inl (same.1 earlier)) (λ last. inr (at ∙ last.0, sym loud ∙ last.1)) (push.0 h)),
-    );
+      let push = listed_push globs g path k in let some = some_push (indexed g n) before.added path k in let same = before.same path k in
+      let loud : is_listed g path ≡ glob_means g path = loud_is (silent g) (glob_means g path) is in (
+        λ h. push.1 (⊎_elim {C = IsTrue (is_listed_at globs path k) ⊎ ((length globs ≡ k) × IsTrue (is_listed g path))}
+            (λ earlier. inl (same.0 earlier)) (λ last. inr (sym at ∙ last.0, loud ∙ last.1)) (some.0 h)),
+        λ h. some.1 (⊎_elim {C = SomeMatches before.added path k ⊎ ((n ≡ k) × IsTrue (glob_means g path))}
+            (λ earlier. inl (same.1 earlier)) (λ last. inr (at ∙ last.0, sym loud ∙ last.1)) (push.0 h)),
+      );
   size = rw (cost_push globs g) (omega (arith, few, before.size));
 }
-
--- ---- what a run finds
-
-pub found_is_listed : (globs : List GlobValue) (m : Machine) (path : List ℕ) (k : ℕ) (now old : Bool) (joint : IsJoint globs m)
-    → IsTrue now ↔ (SomeMatches joint.added path k ⊎ IsTrue old) → old ≡ false → now ≡ is_listed_at globs path k
-found_is_listed globs m path k now old joint found none =
-    let same = joint.same path k in
-    same_truth now (is_listed_at globs path k) (
-      λ h. ⊎_elim {C = IsTrue (is_listed_at globs path k)} (λ some. same.0 some) (λ no. let yes : old ≡ true = no in absurd (cc)) (found.0 h),
-      λ h. found.1 (inl (same.1 h)),
-    )

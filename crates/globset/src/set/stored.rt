@@ -73,7 +73,14 @@ impl Stored {
         let mut now = StateSet::new(alloc, self.automaton.state_count())?;
         let mut next = StateSet::new(alloc, self.automaton.state_count())?;
         let mut found = IndexSet::new(alloc, self.globs.len())?;
-        find_globs(&self.automaton, path.path(), &mut now, &mut next, &mut found, visits);
+        find_globs(
+            &self.automaton,
+            path.path(),
+            &mut now,
+            &mut next,
+            &mut found,
+            visits,
+        );
         Ok(found)
     }
 

@@ -1,4 +1,4 @@
-use Rattle.std.proofs.Common.{◌≡◌, ap, sym, ◌∙◌, refl}
+use Rattle.std.proofs.Common.{◌≡◌, ap, sym, ◌∙◌}
 use Rattle.byte_automaton.specs.Sets.{has_index}
 use Rattle.globset.specs.inner.StoredGlobs.{stored_globs}
 use Rattle.globset.proofs.lemmas.Answer.{none_of_none, any_found}

@@ -1,5 +1,4 @@
-use Rattle.std.proofs.Common.{◌≡◌, ◌<◌, length, ap, sym, ◌∙◌, false, arith}
-use Rattle.globset.specs.Answer.{is_listed_at}
+use Rattle.std.proofs.Common.{◌≡◌, ◌<◌, length, ap, sym, ◌∙◌, arith}
 use Rattle.globset.specs.inner.StoredGlobs.{stored_globs}
 use Rattle.globset.proofs.lemmas.Answer.{one_not_listed, all_listed}
 use Rattle.globset.proofs.set.GlobSet.matches_all_visits.Goals as goal

@@ -1,6 +1,5 @@
-use Rattle.std.proofs.Common.{◌≡◌, ℕ, ◌<◌, ◌≤◌, length, true, ap, sym, ◌∙◌, refl, arith}
+use Rattle.std.proofs.Common.{◌≡◌, ◌<◌, length, ap, sym, ◌∙◌, arith}
 use Rattle.byte_automaton.specs.Sets.{has_index}
-use Rattle.globset.specs.Answer.{is_listed_at}
 use Rattle.globset.specs.inner.StoredGlobs.{stored_globs}
 use Rattle.globset.proofs.lemmas.Answer.{answer_of_none, listed_within, next_pushed, no_more}
 use Rattle.globset.proofs.set.GlobSet.push_matches.Goals as goal

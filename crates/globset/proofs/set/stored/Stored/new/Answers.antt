@@ -1,5 +1,5 @@
 use Rattle.std.proofs.Common.{◌≡◌, ◌+◌, ◌<◌, ◌∷◌, [], ◌++◌, take, length, arith, sym, ◌∙◌}
-use Rattle.std.proofs.lemmas.List.{take_more, length-take-le}
+use Rattle.std.proofs.lemmas.List.{length-take-le}
 use Rattle.globset.proofs.lemmas.JointAutomaton.{joint_left_out, joint_added, first_more}
 use Rattle.globset.proofs.set.stored.Stored.new.Goals as goal
 use Rattle.globset.proofs.set.stored.Stored.new.Goals.{then-not-is_silent+in_ok-add_glob, else-not-is_silent}
