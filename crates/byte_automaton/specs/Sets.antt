@@ -1,13 +1,9 @@
 -- Sets of bytes, of states and of indexes.
-use Rattle.std.specs.Prelude.{ℕ, ◌*◌, ◌/◌, ◌%◌, ◌==◌, Bool, List, length, slice_index}
-use Rattle.std.specs.Int.{bit_at}
+use Rattle.std.specs.Prelude.{ℕ, ◌*◌, Bool, length}
+use Rattle.byte_automaton.specs.Bits.{bit_of}
 use Rattle.byte_automaton.specs.declared.byte_set.ByteSet.{ByteSet}
 use Rattle.byte_automaton.specs.declared.state_set.StateSet.{StateSet}
 use Rattle.byte_automaton.specs.declared.index_set.IndexSet.{IndexSet}
-
--- whether bit k of the words is set, counted from the lowest bit of the first word
-unfoldable pub bit_of : List ℕ → ℕ → Bool
-bit_of words k = bit_at (slice_index words (k / 64)) (k % 64) == 1
 
 -- the set has the byte c
 abbrev pub has_byte : ByteSet → ℕ → Bool

@@ -1,3 +1,4 @@
+pub mod Bounds
 pub mod Seen
 pub mod Views
 pub mod Pass

@@ -88,7 +88,7 @@ impl Automaton {
         ensures room { state_room into.new ≡ state_room into.old }
         ensures starts { (y : List ℕ) (k : ℕ) → AcceptsFrom self.now into.new y k ↔ IsReached self.now y k }
     {
-        into.clear(self.states.len());
+        into.clear();
         into.put_all(&self.starts);
     }
 
@@ -112,7 +112,7 @@ impl Automaton {
         ensures some { IsTrue result ↔ HasSome self.now to.new }
         ensures visits { visits.new ≤ visits.old + size self.now }
     {
-        to.clear(self.state_count());
+        to.clear();
         let mut some = false;
         let mut upto = self.state_count();
         while upto > 0 {

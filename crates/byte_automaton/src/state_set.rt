@@ -1,12 +1,8 @@
 //! Sets of states.
 
-ghost use Rattle.std.specs.Prelude.{◌≡◌, ℕ, ◌+◌, ◌<◌, ◌≤◌, ◌||◌, ◌==◌, false, IfOk};
-ghost use Rattle.byte_automaton.specs.Sets.{has_state, state_room};
-ghost use Rattle.byte_automaton.specs.Building.{AreBelow};
-ghost use Rattle.byte_automaton.specs.inner.Seen.{IsLastBelow};
-ghost use Rattle.byte_automaton.specs.inner.Pass.{is_listed};
+ghost use Rattle.byte_automaton.specs.inner.Bounds.{AreBounds};
 
-use crate::words::{Seen, clear_below, last_below, set_bit, words_for};
+use crate::words::{Seen, clear_between, last_below, set_bit, words_for};
 use std::alloc::{AllocError, Global};
 use visits::Visits;
 
@@ -14,12 +10,24 @@ use visits::Visits;
 ///
 /// It is made once, and holds sets of states of any automaton that has at most as many states as it has room for. No
 /// call but those of an automaton reads it.
+///
+/// No state below `first` or above `last` is in the set, so words outside these bounds are neither read nor cleared: a set
+/// of few states that are close to each other takes little time, however many states the automaton has.
 #[derive(Debug, Drop)]
 pub struct StateSet {
     words: Vec<u64>,
+    first: usize,
+    last: usize,
+    ghost bounds: { AreBounds words.items first last },
 }
 
 impl StateSet {
+    ghost use Rattle.std.specs.Prelude.{◌≡◌, ℕ, ◌+◌, ◌<◌, ◌≤◌, ◌||◌, ◌==◌, false, IfOk};
+    ghost use Rattle.byte_automaton.specs.Sets.{has_state, state_room};
+    ghost use Rattle.byte_automaton.specs.Building.{AreBelow};
+    ghost use Rattle.byte_automaton.specs.inner.Seen.{IsLastBelow};
+    ghost use Rattle.byte_automaton.specs.inner.Pass.{is_listed};
+
     /// Returns an empty set with room for so many states. It takes a bit of memory for each. Returns an error if memory
     /// runs out.
     pub fn new(alloc: Global, states: usize) -> Result<StateSet, AllocError>
@@ -28,16 +36,23 @@ impl StateSet {
     {
         let mut words = Vec::new(alloc);
         words.resize(words_for(states), 0)?;
-        Ok(StateSet { words })
+        Ok(StateSet {
+            words,
+            first: usize::MAX,
+            last: 0,
+        })
     }
 
-    /// Takes the states below a number out.
-    pub(crate) fn clear(&mut self, upto: usize)
-        requires { upto ≤ state_room self.old }
+    /// Takes every state out.
+    pub(crate) fn clear(&mut self)
         ensures room { state_room self.new ≡ state_room self.old }
-        ensures none { (s : ℕ) → s < upto → has_state self.new s ≡ false }
+        ensures none { (s : ℕ) → has_state self.new s ≡ false }
     {
-        clear_below(&mut self.words, upto);
+        if self.first <= self.last {
+            clear_between(&mut self.words, self.first, self.last);
+        }
+        self.first = usize::MAX;
+        self.last = 0;
     }
 
     /// Puts a state in.
@@ -47,6 +62,8 @@ impl StateSet {
         ensures has { (t : ℕ) → has_state self.new t ≡ ((t == state) || has_state self.old t) }
     {
         set_bit(&mut self.words, state);
+        self.first = self.first.min(state);
+        self.last = self.last.max(state);
     }
 
     /// Puts several states in.
@@ -69,6 +86,17 @@ impl StateSet {
         ensures visits { visits.new ≡ visits.old + 1 }
     {
         visits.tick();
+        let upto = if self.last < upto - 1 {
+            self.last + 1
+        } else {
+            upto
+        };
+        if upto <= self.first {
+            return Seen {
+                at: 0,
+                is_set: false,
+            };
+        }
         last_below(&self.words, upto)
     }
 }

@@ -1,7 +1,7 @@
 //! Sets of numbers, as the bits of machine words.
 
 ghost use Rattle.std.specs.Prelude.{◌≡◌, ℕ, ◌+◌, ◌-◌, ◌*◌, ◌/◌, ◌^◌, ◌<◌, ◌≤◌, ◌&&◌, ◌||◌, ◌==◌, not, true, false, length, MatchOption};
-ghost use Rattle.byte_automaton.specs.Sets.{bit_of};
+ghost use Rattle.byte_automaton.specs.Bits.{bit_of};
 ghost use Rattle.byte_automaton.specs.inner.Seen.{IsLastBelow};
 
 /// A bit that was read, and whether it is set.
@@ -50,12 +50,14 @@ pub fn clear_bit(words: &mut [u64], k: usize)
     words[k / 64] = word & !(1u64 << (k % 64));
 }
 
-/// Clears the bits below a bound, and those of the bound's word.
-pub fn clear_below(words: &mut [u64], upto: usize)
-    requires { upto ≤ 64 * length words.old }
-    ensures { (k : ℕ) → k < upto → bit_of words.new k ≡ false }
+/// Clears the bits between these two, and all others of their words.
+pub fn clear_between(words: &mut [u64], first: usize, last: usize)
+    requires order { first ≤ last }
+    requires within { last < 64 * length words.old }
+    ensures between { (k : ℕ) → first ≤ k → k ≤ last → bit_of words.new k ≡ false }
+    ensures others { (k : ℕ) → bit_of words.new k ≡ true → bit_of words.old k ≡ true }
 {
-    words[..words_for(upto)].fill(0);
+    words[first / 64..last / 64 + 1].fill(0);
 }
 
 /// Returns the highest bit that is set below the bound, or the lowest bit of the last word below the bound where nothing

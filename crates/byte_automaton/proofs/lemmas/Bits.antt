@@ -1,13 +1,14 @@
 -- Bits of machine words.
-use Rattle.std.proofs.Common.{suc, min, ◌++◌, ◌+◌, ◌-◌, ◌≡◌, ℕ, ◌*◌, ◌/◌, ◌%◌, ◌^◌, ◌<◌, ◌≤◌, Bool, true, false, not, eqb, ltb, List, length, replicate, get_or, set, refl, sym, subst, ◌∙◌, ap, inl, inr, arith, get_or-set_same, get_or-set_other, eq-eqb, ne_eqb, w64}
-use Rattle.std.proofs.lemmas.List.{get_or_append_left, get_or-replicate, get_or_past, length-replicate}
+use Rattle.std.proofs.Common.{suc, min, ◌++◌, ◌+◌, ◌-◌, ◌≡◌, ℕ, ◌*◌, ◌/◌, ◌%◌, ◌^◌, ◌<◌, ◌≤◌, ◌⊎◌, Bool, true, false, true≢false, not, eqb, ltb, List, length, replicate, get_or, set, refl, sym, subst, ◌∙◌, ap, inl, inr, arith, get_or-set_same, get_or-set_other, eq-eqb, ne_eqb, w64, rules}
+use borrow.Rule.Slice.PartMut.{put_mid}
+use Rattle.std.proofs.lemmas.List.{places, get_or_append_left, get_or-replicate, get_or_past, length-replicate}
 use Rattle.std.proofs.lemmas.Bool.{cases_eq, cases_lt}
 use Rattle.std.proofs.lemmas.Nat.{leading_top, and_le_l}
 use Rattle.std.proofs.Math.Nat.{div-eq_of_lt-le, pow-suc}
 use Rattle.std.proofs.lemmas.Nat.Bits.{bit_at_set_same, bit_at_set_other, bit_at_clear_same, bit_at_clear_other, bit_at-zero, bit_at-lt, bit_at_and, bit_at_ones, bit_at_ones_above, bit_at_above, shr_and_one, ones_shr, ones_shl, bit_at_mask_inside, bit_at_mask_below, bit_at-trailing_zeros}
 use Rattle.std.specs.Prelude.{bit_and, bit_or, ◌||◌, ◌&&◌}
 use Rattle.std.specs.Int.{bit_at, bit_not, leading_zeros, trailing_zeros}
-use Rattle.byte_automaton.specs.Sets.{bit_of}
+use Rattle.byte_automaton.specs.Bits.{bit_of}
 
 -- the test `(word >> i) & 1 == 1`
 pub bit_read : (words : List ℕ) (k word : ℕ) → word ≡ get_or words (k / 64) 0 → eqb (bit_and (word / 2 ^ (k % 64)) 1) 1 ≡ bit_of words k
@@ -227,3 +228,36 @@ bit_front xs ys k lt = ap (λ x. eqb (bit_at x (k % 64)) 1) (get_or_append_left 
 
 pub none_yet : (k : ℕ) (q : Bool) → false ≡ (ltb k 0 && q)
 none_yet k q = grind arith
+
+-- n words from `a` on are set to zero
+
+pub cleared_inside : (words : List ℕ) (a n k : ℕ) → a + n ≤ length words → 0 < n → a ≤ k / 64 → k / 64 < a + n → bit_of (put_mid a n words (replicate n 0)) k ≡ false
+unfolding bit_of
+cleared_inside words a n k within some low high =
+    let zeros : List ℕ = replicate n 0 in
+    let len : length zeros ≡ n = length-replicate {A = ℕ} n 0 in
+    let there : get_or (put_mid a n words zeros) (k / 64) 0 ≡ get_or zeros (k / 64 - a) 0 = search (rules, places) in
+    let zero : get_or (put_mid a n words zeros) (k / 64) 0 ≡ 0 = there ∙ get_or-replicate n (k / 64 - a) 0 0 (omega arith) in
+    ap (λ x. eqb (bit_at x (k % 64)) 1) zero ∙ ap (λ x. eqb x 1) (bit_at-zero (k % 64))
+
+kept_outside : (words : List ℕ) (a n k : ℕ) → a + n ≤ length words → ((k / 64 < a) ⊎ (a + n ≤ k / 64)) → bit_of (put_mid a n words (replicate n 0)) k ≡ bit_of words k
+unfolding bit_of
+kept_outside words a n k within outside =
+    let zeros : List ℕ = replicate n 0 in
+    let len : length zeros ≡ n = length-replicate {A = ℕ} n 0 in
+    let there : get_or (put_mid a n words zeros) (k / 64) 0 ≡ get_or words (k / 64) 0 = elim outside [
+      | inl before ↦ search (rules, places)
+      | inr after ↦ search (rules, places)
+    ] in
+    ap (λ x. eqb (bit_at x (k % 64)) 1) there
+
+pub cleared_outside : (words : List ℕ) (a n k : ℕ) → a + n ≤ length words → 0 < n → bit_of (put_mid a n words (replicate n 0)) k ≡ true → bit_of words k ≡ true
+cleared_outside words a n k within some bit =
+    elim (cases_lt (k / 64) a) [
+      | inl before ↦ sym (kept_outside words a n k within (inl before)) ∙ bit
+      | inr low ↦
+          elim (cases_lt (k / 64) (a + n)) [
+            | inl high ↦ absurd (true≢false (sym bit ∙ cleared_inside words a n k within some low high))
+            | inr after ↦ sym (kept_outside words a n k within (inr after)) ∙ bit
+          ]
+    ]

@@ -1,6 +1,6 @@
 -- What was seen in a set of bits.
 use Rattle.std.specs.Prelude.{◌≡◌, ℕ, ◌<◌, false, List}
-use Rattle.byte_automaton.specs.Sets.{bit_of}
+use Rattle.byte_automaton.specs.Bits.{bit_of}
 use Rattle.byte_automaton.specs.declared.words.Seen.{Seen}
 
 -- the highest bit below the bound, or a lower one where nothing up to the bound is set

@@ -1,6 +1,6 @@
 use Rattle.std.proofs.Common.{◌≡◌, ◌≤◌, ◌<◌, ◌*◌, ◌+◌, ◌-◌, ℕ, false, length}
 use Rattle.std.specs.Int.{bit_at}
-use Rattle.byte_automaton.specs.Sets.{bit_of}
+use Rattle.byte_automaton.specs.Bits.{bit_of}
 use Rattle.byte_automaton.proofs.words.first_from.Given as goal
 
 abbrev pub invariant-loop-at : goal.invariant-loop-at

@@ -1,4 +1,4 @@
-use Rattle.std.proofs.Common.{◌≡◌, length, ap, sym, ◌∙◌, arith}
+use Rattle.std.proofs.Common.{◌≡◌, length, ap, sym, ◌∙◌}
 use Rattle.std.proofs.lemmas.List.{length-map}
 use Rattle.byte_automaton.specs.Sets.{has_state}
 use Rattle.byte_automaton.specs.Steps.{Machine}
@@ -13,5 +13,5 @@ returns-clause-starts c =
     let count : length inside.states.items ≡ size c.args.self.now = sym (length-map inside.states.items (of_state inside.nexts.items)) ∙ ap size c.self.view_is in
     starts_put c.args.self.now inside.starts.items (length inside.states.items) (has_state c.clear.new.self) (has_state c.put_all.new.self)
     (ap (λ (m : Machine). m.starts) c.self.view_is) count c.self.invariant.begun
-    (λ t lt. c.clear.ensures.none t (omega (arith, c.len.ensures, inside.states.ok.0)))
+    (λ t lt. c.clear.ensures.none t)
     (λ t. let has = c.put_all.ensures.has t in rw c.deref.ensures.value at has)

@@ -12,9 +12,9 @@ loop-upto-init c = record {
   from_room = refl;
   to_room = c.clear.ensures.room;
   holds = λ y k. let start = none_swept c.args.self.now.states (size c.args.self.now) (has_state c.args.from.now) (has_state c.clear.new.self) (λ _. false) (c.args.byte ∷ y) k
-      (λ t lt. c.clear.ensures.none t (omega arith)) (λ _. refl) in rw c.state_count-upto.ensures (start.1, start.0);
+      (λ t lt. c.clear.ensures.none t) (λ _. refl) in rw c.state_count-upto.ensures (start.1, start.0);
   some = λ h. absurd (true≢false (sym h));
-  none = λ h t lt. c.clear.ensures.none t (omega arith);
+  none = λ h t lt. c.clear.ensures.none t;
   visits = omega arith;
 }
 

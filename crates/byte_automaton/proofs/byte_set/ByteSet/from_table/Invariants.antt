@@ -1,6 +1,6 @@
 use Rattle.std.proofs.Common.{◌≡◌, ℕ, ◌&&◌, false, slice_index_or}
 use Rattle.std.specs.Prelude.{nat_lt}
-use Rattle.byte_automaton.specs.Sets.{bit_of}
+use Rattle.byte_automaton.specs.Bits.{bit_of}
 use Rattle.byte_automaton.proofs.byte_set.ByteSet.from_table.Given as goal
 
 abbrev pub invariant-loop-i : goal.invariant-loop-i
