@@ -100,7 +100,7 @@ fn debug(rt: HostRuntime) -> Result<(), Fail> {
     let shown = format!(in alloc; "{:?}", IndexSet::new(alloc, 65)?)?;
     assert_eq!(rt; shown.as_str(), "IndexSet { words: [0, 0] }");
     let shown = format!(in alloc; "{:?}", StateSet::new(alloc, 64)?)?;
-    assert_eq!(rt; shown.as_str(), "StateSet { words: [0] }");
+    assert_eq!(rt; shown.as_str(), "StateSet { words: [0], first: 18446744073709551615, last: 0 }");
     let mut builder = Builder::new(alloc, 1);
     assert_eq!(rt; builder.state_count(), 0);
     let _end = builder.push_end(0)?;

@@ -10,69 +10,98 @@ use globset::{Error, Glob, GlobSet};
 use std::alloc::{AllocError, Global};
 
 fn main(rt: HostRuntime) -> Result<()> {
-    let alloc = rt.alloc();
-    println!(rt; "1,000,000 groups, each in the one before")?;
-    show(&rt, nested(alloc, 1_000_000, 1_000_000)?, "a")?;
-    println!(rt; "without the last brace")?;
-    show(&rt, nested(alloc, 1_000_000, 999_999)?, "a")?;
-    println!(rt; "with one more brace")?;
-    show(&rt, nested(alloc, 1_000_000, 1_000_001)?, "a")?;
-    println!(rt; "500,000 groups, one after another")?;
-    show(&rt, copies(alloc, "{a,b}", 500_000)?, "a")?;
-    println!(rt; "100,000 literals")?;
-    let path = copies(alloc, "a", 100_000)?;
-    show(&rt, copies(alloc, "a", 100_000)?, path.as_str())?;
-    Ok(())
-}
-
-/// Reads a glob, and writes whether it matches a path; or writes the error's kind.
-fn show(rt: &HostRuntime, text: String, path: &str) -> Result<()> {
-    match Glob::new(rt.alloc(), text.as_str()) {
-        Ok(glob) => show_glob(rt, glob, path),
-        Err(error) => {
-            println!(rt; "    {:?}", error.kind())?;
-            Ok(())
-        }
+    for case in CASES {
+        show(&rt, case)?;
     }
-}
-
-/// Writes whether a glob matches a path: by a matcher, by a set, and by copies of these.
-fn show_glob(rt: &HostRuntime, glob: Glob, path: &str) -> Result<()> {
-    println!(rt; "    regex: {} bytes", glob.regex().len())?;
-    let by_matcher = by_matcher(&glob, path)?;
-    println!(rt; "    by a matcher: {by_matcher}")?;
-    let by_set = by_set(rt.alloc(), &glob, path)?;
-    println!(rt; "    by a set: {by_set}")?;
     Ok(())
 }
 
-/// Whether the glob matches the path, by a matcher and a copy of it.
+/// A glob and a path, each of copies of shorter texts.
+#[derive(Clone, Copy)]
+struct Case {
+    name: &'static str,
+    glob: [(usize, &'static str); 3],
+    path: [(usize, &'static str); 2],
+}
+
+const CASES: [Case; 6] = [
+    Case {
+        name: "1,000,000 groups, each inside the one before",
+        glob: [(1_000_000, "{"), (1, "a"), (1_000_000, "}")],
+        path: [(1, "a"), (0, "")],
+    },
+    Case {
+        name: "the same without the last brace",
+        glob: [(1_000_000, "{"), (1, "a"), (999_999, "}")],
+        path: [(1, "a"), (0, "")],
+    },
+    Case {
+        name: "the same with one more brace",
+        glob: [(1_000_000, "{"), (1, "a"), (1_000_001, "}")],
+        path: [(1, "a"), (0, "")],
+    },
+    Case {
+        name: "500,000 groups, one after another",
+        glob: [(500_000, "{a,b}"), (0, ""), (0, "")],
+        path: [(500_000, "a"), (0, "")],
+    },
+    Case {
+        name: "100,000 literals",
+        glob: [(100_000, "a"), (0, ""), (0, "")],
+        path: [(100_000, "a"), (0, "")],
+    },
+    Case {
+        name: "100,000 literals, a star and a literal",
+        glob: [(100_000, "a"), (1, "*"), (1, "b")],
+        path: [(200_000, "a"), (1, "b")],
+    },
+];
+
+/// Reads the glob of a case, and writes whether it matches the path; or writes the error's kind.
+fn show(rt: &HostRuntime, case: Case) -> Result<()> {
+    let glob = text_of(rt.alloc(), &case.glob)?;
+    let path = text_of(rt.alloc(), &case.path)?;
+    let name = case.name;
+    match Glob::new(rt.alloc(), glob.as_str()) {
+        Ok(glob) => {
+            let yes = matches(rt.alloc(), &glob, path.as_str())?;
+            println!(rt;
+                "{name}: regex of {} bytes, matches: {yes}",
+                glob.regex().len()
+            )?;
+        }
+        Err(error) => println!(rt; "{name}: {:?}", error.kind())?,
+    }
+    Ok(())
+}
+
+/// Whether a glob matches a path, by its matcher and by a set; false if they differ.
+fn matches(alloc: Global, glob: &Glob, path: &str) -> Result<bool, Error> {
+    let by_matcher = by_matcher(glob, path)?;
+    let by_set = by_set(alloc, glob, path)?;
+    Ok(by_matcher && by_set)
+}
+
+/// Whether a glob matches a path, by a matcher and by a copy of it.
 fn by_matcher(glob: &Glob, path: &str) -> Result<bool, Error> {
     let matcher = glob.compile_matcher()?;
     let copy = matcher.clone()?;
     Ok(matcher.is_match(path)? && copy.is_match(path)?)
 }
 
-/// Whether the glob matches the path, by a set of it and of a copy of it, and by a copy of the set.
+/// Whether a glob matches a path, by a set of a copy of it, and by a copy of the set.
 fn by_set(alloc: Global, glob: &Glob, path: &str) -> Result<bool, Error> {
-    let other = glob.clone()?;
-    let set = GlobSet::new(alloc, [glob, &other])?;
+    let set = GlobSet::new(alloc, [&glob.clone()?])?;
     let copy = set.clone()?;
-    Ok(set.matches_all(path)? && copy.matches_all(path)?)
+    Ok(set.is_match(path)? && copy.is_match(path)?)
 }
 
-/// `a` between braces.
-fn nested(alloc: Global, opening: usize, closing: usize) -> Result<String, AllocError> {
-    let mut text = String::new(alloc);
-    push_copies(&mut text, "{", opening)?;
-    text.push('a')?;
-    push_copies(&mut text, "}", closing)?;
-    Ok(text)
-}
-
-fn copies(alloc: Global, text: &str, count: usize) -> Result<String, AllocError> {
+/// The text of so many copies of each of these.
+fn text_of(alloc: Global, parts: &[(usize, &'static str)]) -> Result<String, AllocError> {
     let mut all = String::new(alloc);
-    push_copies(&mut all, text, count)?;
+    for (count, text) in parts {
+        push_copies(&mut all, *text, *count)?;
+    }
     Ok(all)
 }
 

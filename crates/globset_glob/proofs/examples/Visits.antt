@@ -1,7 +1,7 @@
 -- Examples of the bound on visits: four for each byte of the glob, and four, at each position of the path. Each row computes.
-use Rattle.std.specs.Prelude.{◌≡◌, refl}
+use Rattle.std.specs.Prelude.{◌≡◌, ◌+◌, ◌*◌, refl}
 use Rattle.glob_syntax.specs.declared.options.TheConstants.Options.{DEFAULT}
-use Rattle.globset_glob.specs.Cost.{most_visits}
+use Rattle.globset_glob.specs.Cost.{cost, most_visits}
 use Rattle.globset_glob.proofs.examples.Unfoldings.{glob_on_literals}
 use Rattle.globset_glob.proofs.examples.Words.{utf8, glob_of}
 
@@ -16,3 +16,7 @@ visits_count_bytes = refl
 visits_of_empty_texts : most_visits (glob_of DEFAULT "") (utf8 "") ≡ 4
 unfolding glob_on_literals
 visits_of_empty_texts = refl
+
+visits_of_many_stars : (1000 + 1) * cost (glob_of DEFAULT "*a*a*a*a*a*a*a*b") ≡ 68068
+unfolding glob_on_literals
+visits_of_many_stars = refl
