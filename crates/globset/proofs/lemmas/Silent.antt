@@ -8,7 +8,7 @@ use Rattle.globset_glob.specs.FlatTokens.{Flat, simple, opening, comma, closing,
 use Rattle.globset_glob.specs.Means.{GlobValue, is_prefix, tokens_of_glob}
 use Rattle.globset_glob.specs.Views.{flat_of, flats, tokens_of}
 use Rattle.glob_syntax.proofs.lemmas.FlatTrees.{spelled}
-use Rattle.globset_glob.proofs.lemmas.TokenLists.{prefix_is}
+use Rattle.glob_automaton.proofs.lemmas.TokenLists.{prefix_is}
 use Rattle.globset.specs.Silent.{silent, is_dot, is_prefix_dot_dot}
 use Rattle.globset.specs.inner.TokenTests.{is_simple_that}
 
