@@ -5,7 +5,8 @@ use Rattle.std.proofs.lemmas.List.{length-map}
 use Rattle.glob_syntax.specs.declared.token.Token as held
 use Rattle.globset_glob.specs.Token.{Token, Literal, Any, ZeroOrMore, RecursivePrefix, RecursiveSuffix, RecursiveZeroOrMore, Class, Group, Tokens, end, and_then, before}
 use Rattle.globset_glob.specs.FlatTokens.{Flat, simple, opening, comma, closing, tree_of, IsNested}
-use Rattle.globset_glob.specs.Means.{GlobValue, is_prefix, tokens_of_glob}
+use Rattle.globset_glob.specs.Means.{GlobValue, tokens_of_glob}
+use Rattle.globset_glob.specs.TokenMeans.{is_prefix}
 use Rattle.globset_glob.specs.Views.{flat_of, flats, tokens_of}
 use Rattle.glob_syntax.proofs.lemmas.FlatTrees.{spelled}
 use Rattle.glob_automaton.proofs.lemmas.TokenLists.{prefix_is}

@@ -1,13 +1,12 @@
 -- What tokens match, by how the bytes are put together.
-use Rattle.std.proofs.Common.{◌≡◌, ℕ, ◌⊎◌, inl, inr, Bool, true, true≢false, ◌&&◌, List, [], ◌∷◌, ◌++◌, IsTrue, refl, ap, sym, subst}
+use Rattle.std.proofs.Common.{◌≡◌, ℕ, ◌⊎◌, inl, inr, true≢false, ◌&&◌, List, [], ◌∷◌, ◌++◌, IsTrue, refl, ap, sym, subst}
 use Rattle.std.specs.Prelude.{◌==◌, ◌↔◌}
 use Rattle.std.specs.Str.{bytes_eq}
 use Rattle.std.proofs.lemmas.Slice.Eq.{bytes_eq-Decides}
 use Rattle.std.proofs.lemmas.Bool.{eqb-true}
 use Rattle.std.proofs.Math.Logic.{⊎_elim}
-use Rattle.glob_syntax.specs.Token.{Token, RecursivePrefix, RecursiveSuffix, RecursiveZeroOrMore, Tokens, and_then, Branches, none, branch}
-use Rattle.glob_automaton.specs.Blank.{is_kept, any_kept}
-use Rattle.glob_automaton.specs.Takes.{takes, some_takes, takes_all, is_empty, is_one_byte, begins_with_slash, ends_with_slash, slash}
+use Rattle.glob_syntax.specs.Token.{Token, RecursivePrefix, RecursiveSuffix, RecursiveZeroOrMore, Tokens, and_then}
+use Rattle.glob_automaton.specs.Takes.{takes, takes_all, is_empty, begins_with_slash, ends_with_slash, slash}
 use Rattle.glob_syntax.specs.declared.options.Options.{Options}
 use Rattle.glob_automaton.proofs.lemmas.Booleans.{and_both, and_first, and_second, or_first, or_second, or_either}
 use Rattle.glob_automaton.proofs.lemmas.Takes.{ends_push, ends_at, begins_at}

@@ -1,5 +1,5 @@
 -- The automaton of one glob.
-use Rattle.std.specs.Prelude.{ℕ, ◌≤◌, [], ◌∷◌}
+use Rattle.std.specs.Prelude.{◌≤◌, [], ◌∷◌}
 use Rattle.byte_automaton.specs.Steps.{Machine}
 use Rattle.byte_automaton.specs.Runs.{size}
 use Rattle.glob_automaton.specs.IndexedTokens.{indexed, IsFor}

@@ -1,8 +1,8 @@
-use Rattle.std.proofs.Common.{◌≤◌, ◌+◌, ◌*◌, length, ap, ◌∙◌, arith}
+use Rattle.std.proofs.Common.{[], ◌∷◌, ◌≤◌, ◌+◌, ◌*◌, length, ap, ◌∙◌, arith}
 use Rattle.std.proofs.Math.Nat.{mul-le-mul_left}
 use Rattle.byte_automaton.specs.Runs.{size}
 use Rattle.glob_automaton.specs.IndexedTokens.{indexed}
-use Rattle.globset_glob.specs.Means.{GlobValue, glob_means}
+use Rattle.globset_glob.specs.Means.{GlobValue, tokens_of_glob, glob_means}
 use Rattle.globset_glob.specs.Cost.{cost, most_visits}
 use Rattle.globset_glob.proofs.lemmas.GlobAutomaton.{one_matches}
 use Rattle.globset_glob.proofs.matcher.GlobMatcher.is_match_visits.Goals as goal
@@ -10,7 +10,7 @@ use Rattle.globset_glob.proofs.matcher.GlobMatcher.is_match_visits.Goals as goal
 pub returns-clause-ok : goal.returns-clause-ok
 returns-clause-ok c =
     let g = c.self.inside.glob in
-    one_matches g c.path.result.now c.is_match.result (c.is_match.ensures.some _ c.self.invariant.tokens)
+    one_matches g c.path.result.now c.is_match.result (c.is_match.ensures.some (indexed g.options (tokens_of_glob g) 0 ∷ []) c.self.invariant.tokens)
     ∙ ap (λ p. glob_means g p) c.path.ensures
     ∙ ap (λ (h : GlobValue). glob_means h c.args.path.now) c.self.view_is
 
