@@ -112,7 +112,7 @@ pub fn add_sequence(
     requires exit { exit < size builder.old }
     ensures within { IfOk result (λ s. s < size builder.new) }
     ensures count { OnOk result (size builder.new ≤ size builder.old + weight (tokens_of tokens.now)) }
-    ensures grows { OnOk result (Grows builder.old builder.new) }
+    ensures grows { Grows builder.old builder.new }
     ensures builds { IfOk result (λ s. Builds options (tokens_of tokens.now) builder.old.states builder.new.states s exit) }
 {
     let mut frame = Frame::new(alloc, exit);

@@ -57,7 +57,7 @@ fn add_text(
     requires { exit < size builder.old }
     ensures within { IfOk result (λ s. s < size builder.new) }
     ensures count { OnOk result (size builder.new ≡ size builder.old + length bytes.now) }
-    ensures grows { OnOk result (Grows builder.old builder.new) }
+    ensures grows { Grows builder.old builder.new }
     ensures builds { IfOk result (λ s. BuildsText options bytes.now builder.old.states builder.new.states s exit) }
 {
     let mut at = exit;
@@ -72,7 +72,7 @@ fn add_to_slash(builder: &mut Builder, exit: usize) -> Result<usize, AllocError>
     requires { exit < size builder.old }
     ensures within { IfOk result (λ s. s < size builder.new) }
     ensures count { OnOk result (size builder.new ≡ size builder.old + 3) }
-    ensures grows { OnOk result (Grows builder.old builder.new) }
+    ensures grows { Grows builder.old builder.new }
     ensures builds { IfOk result (λ s. BuildsToSlash builder.old.states builder.new.states s exit) }
 {
     let slash = builder.push_read(ByteSet::only(b'/'), exit)?;
@@ -93,7 +93,7 @@ pub fn add_token(
     requires exit { exit < size builder.old }
     ensures within { IfOk result (λ s. s < size builder.new) }
     ensures count { OnOk result (size builder.new ≤ size builder.old + flat_weight (flat_of token.now)) }
-    ensures grows { OnOk result (Grows builder.old builder.new) }
+    ensures grows { Grows builder.old builder.new }
     ensures builds { IfOk result (λ s. BuildsFlat options (flat_of token.now) builder.old.states builder.new.states s exit) }
 {
     match token {

@@ -1,6 +1,6 @@
 //! The states of the tokens of a whole glob.
 
-ghost use Rattle.std.specs.Prelude.{◌≡◌, ℕ, ◌+◌, ◌<◌, ◌≤◌, ◌++◌, ◌∷◌, [], List, OnOk, IfOk};
+ghost use Rattle.std.specs.Prelude.{◌≡◌, ℕ, ◌+◌, ◌<◌, ◌≤◌, ◌++◌, ◌∷◌, [], List, OnOk, OnErr, IfOk};
 ghost use Rattle.glob_syntax.specs.FlatTokens.{IsNested};
 ghost use Rattle.glob_syntax.specs.Views.{flats, tokens_of};
 ghost use Rattle.glob_syntax.specs.inner.Weight.{weight};
@@ -44,7 +44,7 @@ fn add_whole(
     requires index { index < builder.old.index_count }
     ensures within { IfOk result (λ s. s < size builder.new) }
     ensures count { OnOk result (size builder.new ≤ size builder.old + (weight (tokens_of tokens.now) + 1)) }
-    ensures grows { OnOk result (Grows builder.old builder.new) }
+    ensures grows { Grows builder.old builder.new }
     ensures builds { IfOk result (λ s. BuildsWhole options (tokens_of tokens.now) index builder.old.states builder.new.states s) }
 {
     let end = builder.push_end(index)?;
@@ -60,7 +60,8 @@ fn add_whole(
 /// Adds tokens to an automaton that is being built, as those of a whole glob. They get an index, which a run finds where
 /// they match the path under the options.
 ///
-/// It takes time and memory linear in the tokens. Returns an error if memory runs out.
+/// It takes time and memory linear in the tokens. Returns an error if memory runs out. Then the automaton is for the same
+/// tokens as before, although it may have more states.
 pub fn add_tokens(
     alloc: Global,
     builder: &mut Builder,
@@ -71,7 +72,8 @@ pub fn add_tokens(
     requires nested { IsNested (flats tokens.now) }
     requires index { index < builder.old.index_count }
     ensures tokens { OnOk result ((xs : List IndexedTokens) → IsFor builder.old xs → IsFor builder.new (xs ++ indexed options (tokens_of tokens.now) index ∷ [])) }
-    ensures index_count { OnOk result (builder.new.index_count ≡ builder.old.index_count) }
+    ensures kept { OnErr result ((xs : List IndexedTokens) → IsFor builder.old xs → IsFor builder.new xs) }
+    ensures index_count { builder.new.index_count ≡ builder.old.index_count }
     ensures size { OnOk result (size builder.new ≤ size builder.old + (weight (tokens_of tokens.now) + 1)) }
 {
     let start = add_whole(alloc, builder, options, tokens, index)?;

@@ -1,6 +1,6 @@
 -- Tokens that share an automaton.
 use Rattle.std.proofs.Common.{◌≡◌, ℕ, suc, ◌<◌, ◌≤◌, ◌⊎◌, inl, inr, true, false, ◌||◌, List, [], ◌∷◌, ◌++◌, length, slice_index, IsTrue, refl, ap, sym, ◌∙◌, subst, arith}
-use Rattle.std.specs.Prelude.{◌↔◌}
+use Rattle.std.specs.Prelude.{◌↔◌, Result, Ok, Err, OnErr}
 use Rattle.std.proofs.Math.Logic.{⊎_elim}
 use Rattle.glob_syntax.specs.declared.options.Options.{Options}
 use Rattle.glob_syntax.specs.Token.{Tokens}
@@ -77,6 +77,18 @@ some_push x (y ∷ ys) path k = (
 
 pub none_for : (m : Machine) → m.starts ≡ [] → IsFor m []
 none_for m is = λ a agrees path k bytes. (λ (s, at, h). subst (IsIn s) is at, λ h. absurd h)
+
+-- states that were added and that nothing leads to change nothing
+pub still_for : (old new : Machine) (xs : List IndexedTokens) → Grows old new → IsFor old xs → IsFor new xs
+still_for old new xs grows is = λ a agrees path k bytes.
+    let before = is a (agrees_old a old.states new.states 0 grows.keeps agrees) path k bytes in (
+      λ (s, at, h). before.0 (s, subst (IsIn s) grows.starts at, h),
+      λ some. let (s, at, h) = before.1 some in (s, subst (IsIn s) (sym grows.starts) at, h),
+    )
+
+pub on_err : {X E P : Type 0} (r : Result X E) → P → OnErr r P
+on_err (Ok x) p = tt
+on_err (Err e) p = p
 
 pub one_more : (o : Options) (ts : Tokens) (j : ℕ) (old mid new : Machine) (s : ℕ) (xs : List IndexedTokens)
     → Grows old mid → BuildsWhole o ts j old.states mid.states s → new.states ≡ mid.states → new.starts ≡ mid.starts ++ s ∷ []

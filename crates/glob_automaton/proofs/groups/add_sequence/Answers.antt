@@ -93,7 +93,7 @@ loop-i-preserved c =
       | in_default+in_ok-start-in_default w ↦
           rw (down, here, w.builder-is, w.frame-is, w.around-is, w.lead-frame-in_default.ensures)
           (stands_flat o old mid w.add_token.new.builder f fs l (flat_of token) w.in_ok-start-in_default.start e was (not_blank token)
-          w.in_ok-start-in_default.ensures.within w.in_ok-start-in_default.ensures.count w.in_ok-start-in_default.ensures.grows w.in_ok-start-in_default.ensures.builds)
+          w.in_ok-start-in_default.ensures.within w.in_ok-start-in_default.ensures.count w.add_token.ensures.grows w.in_ok-start-in_default.ensures.builds)
     ]
 
 pub returns-clause-count : goal.returns-clause-count

@@ -18,9 +18,9 @@ returns-in_ok-every-clause-builds c =
 
 pub returns-in_ok-start-clause-grows : goal.returns-in_ok-start-clause-grows
 returns-in_ok-start-clause-grows c =
-    grows_then c.args.builder.now c.push_end.new.self c.add_sequence.new.builder (grows_push c.args.builder.now c.push_end.new.self c.in_ok-end.end (final c.args.index) c.in_ok-end.ensures.pushed) c.in_ok-start.ensures.grows
+    grows_then c.args.builder.now c.push_end.new.self c.add_sequence.new.builder (grows_push c.args.builder.now c.push_end.new.self c.in_ok-end.end (final c.args.index) c.in_ok-end.ensures.pushed) c.add_sequence.ensures.grows
 
 pub returns-in_ok-start-clause-builds : goal.returns-in_ok-start-clause-builds
 returns-in_ok-start-clause-builds c =
     whole_built c.args.options (tokens_of c.args.tokens.now) c.args.index c.args.builder.now c.push_end.new.self c.add_sequence.new.builder c.in_ok-start.start c.in_ok-end.end
-    (sym c.is_prefix_alone.ensures ∙ c.if-is_prefix_alone.false) c.in_ok-end.ensures.pushed c.in_ok-start.ensures.grows c.in_ok-start.ensures.builds
+    (sym c.is_prefix_alone.ensures ∙ c.if-is_prefix_alone.false) c.in_ok-end.ensures.pushed c.add_sequence.ensures.grows c.in_ok-start.ensures.builds
