@@ -15,6 +15,7 @@ pub use Rattle.globset_glob.specs.Reading
 pub use Rattle.globset_glob.specs.Blank
 pub use Rattle.globset_glob.specs.ClassBytes
 pub use Rattle.globset_glob.specs.Takes
+pub use Rattle.globset_glob.specs.TokenMeans
 pub use Rattle.globset_glob.specs.Means
 pub use Rattle.globset_glob.specs.SmallRegex
 pub use Rattle.globset_glob.specs.RegexText

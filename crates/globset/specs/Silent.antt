@@ -1,7 +1,8 @@
 -- Silent globs: those that a set leaves out.
 use Rattle.std.specs.Prelude.{Bool, false, ◌&&◌, not, ◌==◌}
 use Rattle.globset_glob.specs.Token.{Token, RecursivePrefix, Literal, Any, ZeroOrMore, RecursiveSuffix, RecursiveZeroOrMore, Class, Group, Tokens, end, and_then}
-use Rattle.globset_glob.specs.Means.{GlobValue, is_prefix, tokens_of_glob}
+use Rattle.globset_glob.specs.Means.{GlobValue, tokens_of_glob}
+use Rattle.globset_glob.specs.TokenMeans.{is_prefix}
 
 -- The token is the literal `.`, whose code is 46. The class `[.]` is another token.
 abbrev pub is_dot : Token → Bool

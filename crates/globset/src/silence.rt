@@ -1,7 +1,7 @@
 //! Which globs are silent.
 
 ghost use Rattle.std.specs.Prelude.{◌≡◌};
-ghost use Rattle.globset_glob.specs.Means.{is_prefix};
+ghost use Rattle.globset_glob.specs.TokenMeans.{is_prefix};
 ghost use Rattle.globset_glob.specs.Views.{flat_of};
 ghost use Rattle.globset.specs.Silent.{is_dot, silent};
 ghost use Rattle.globset.specs.inner.TokenTests.{is_simple_that};

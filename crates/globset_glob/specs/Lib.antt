@@ -1,5 +1,3 @@
-pub mod Blank
-pub mod Takes
 pub mod Means
 pub mod SmallRegex
 pub mod RegexText
@@ -20,3 +18,6 @@ pub use Rattle.glob_syntax.specs.Reading
 pub use Rattle.glob_syntax.specs.FlatTokens
 pub use Rattle.glob_syntax.specs.ClassBytes
 pub use Rattle.glob_syntax.specs.Views
+pub use Rattle.glob_automaton.specs.Blank
+pub use Rattle.glob_automaton.specs.Takes
+pub use Rattle.glob_automaton.specs.TokenMeans

@@ -1,6 +1,3 @@
-pub mod Building
 pub mod Equality
-pub mod Frames
-pub mod GlobStates
+pub mod GlobAutomaton
 pub mod RegexWriting
-pub mod TokenStates

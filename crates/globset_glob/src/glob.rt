@@ -14,7 +14,7 @@ ghost use Rattle.globset_glob.specs.Means.{tokens_of_glob, glob_means};
 
 use crate::builder::GlobBuilder;
 use crate::error::Error;
-use crate::matching::matcher::GlobMatcher;
+use crate::matcher::GlobMatcher;
 use crate::regex_text::regex_text;
 use glob_syntax::{Options, ReadError, Token, copy_of, read_tokens};
 use std::alloc::{AllocError, Global};

@@ -1,12 +1,13 @@
 //! Calls for the crate `globset` alone, which does not re-export them.
 
-ghost use Rattle.std.specs.Prelude.{◌≡◌, Ok};
+ghost use Rattle.std.specs.Prelude.{◌≡◌, ◌≤◌, ◌*◌, Ok, length};
 ghost use Rattle.std.specs.Str.{chars};
 ghost use Rattle.glob_syntax.specs.Reading.{reading};
 ghost use Rattle.globset_glob.specs.Means.{tokens_of_glob};
 ghost use Rattle.globset_glob.specs.Values.{of_element};
 ghost use Rattle.glob_syntax.specs.FlatTokens.{IsNested};
 ghost use Rattle.glob_syntax.specs.Views.{flats, tokens_of};
+ghost use Rattle.glob_syntax.specs.inner.Weight.{weight};
 
 use crate::glob::Glob;
 use crate::json::error::ValueError;
@@ -18,6 +19,7 @@ pub fn tokens_of(glob: &Glob) -> &[Token]
     ensures read { reading glob.now.options (chars glob.now.text) ≡ Ok (tokens_of result.now) }
     ensures tokens { tokens_of_glob glob.now ≡ tokens_of result.now }
     ensures nested { IsNested (flats result.now) }
+    ensures weight { weight (tokens_of result.now) ≤ 4 * length glob.now.text }
 {
     glob.tokens()
 }

@@ -7,7 +7,7 @@ mod escaping;
 mod glob;
 mod internal;
 mod json;
-mod matching;
+mod matcher;
 mod path;
 mod regex_text;
 
@@ -19,7 +19,6 @@ pub use glob::Glob;
 pub use glob_syntax::{Class, Options, Token};
 pub use internal::{error_of_element, options_of, tokens_of};
 pub use json::error::{ValueError, ValueErrorKind};
-pub use matching::auto::{add_glob, find_globs};
-pub use matching::matcher::GlobMatcher;
+pub use matcher::GlobMatcher;
 pub use path::{AsPath, Candidate};
 pub use visits::Visits;

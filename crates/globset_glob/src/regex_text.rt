@@ -3,11 +3,11 @@
 ghost use Rattle.std.specs.Prelude.{◌≡◌, ◌<◌, ◌++◌, [], ◌∷◌, ◌&&◌, ◌||◌, not, ℕ, IfOk, OnOk, take, string_bytes, string_len};
 ghost use Rattle.std.specs.String.Boundary.{IsSplitPoint};
 ghost use Rattle.glob_syntax.specs.FlatTokens.{IsNested, IsSimple};
-ghost use Rattle.globset_glob.specs.Means.{is_prefix_alone};
 ghost use Rattle.glob_syntax.specs.Views.{flat_of, flats, tokens_of};
 ghost use Rattle.globset_glob.specs.RegexText.{is_escaped, hexadecimal_digit, byte_text, bytes_text, char_text, range_text, ranges_text, class_text, token_text, tokens_text, flags_text, body_text, regex_text};
 ghost use Rattle.globset_glob.specs.inner.RegexWriting.{chosen, opener, closer, simple_text};
 
+use glob_automaton::is_prefix_alone;
 use glob_syntax::{Class, Options, Token};
 use std::alloc::{AllocError, Global};
 
@@ -51,14 +51,6 @@ fn push_body(
         push_tokens(alloc, text, options, tokens)?;
     }
     Ok(())
-}
-
-/// Whether the only token is `RecursivePrefix`.
-pub fn is_prefix_alone(tokens: &[Token]) -> bool
-    requires { IsNested (flats tokens.now) }
-    ensures { result ≡ is_prefix_alone (tokens_of tokens.now) }
-{
-    matches!(tokens, [Token::RecursivePrefix])
 }
 
 /// A group whose text is being written.

@@ -1,14 +1,18 @@
 -- One automaton for the globs of a set, glob by glob.
-use Rattle.std.proofs.Common.{◌≡◌, ℕ, zero, suc, ◌+◌, ◌<◌, ◌≤◌, ◌⊎◌, inl, inr, Bool, true, false, not, ◌&&◌, List, [], ◌∷◌, ◌++◌, length, get_or, take, IsTrue, refl, ap, sym, ◌∙◌, arith}
+use Rattle.std.proofs.Common.{◌≡◌, ℕ, zero, suc, ◌+◌, ◌*◌, ◌<◌, ◌≤◌, ◌⊎◌, inl, inr, Bool, true, false, not, ◌&&◌, List, [], ◌∷◌, ◌++◌, length, get_or, take, IsTrue, refl, ap, sym, ◌∙◌, arith}
 use Rattle.std.specs.Prelude.{◌↔◌, sum_by}
 use Rattle.std.proofs.Math.Logic.{⊎_elim}
 use Rattle.std.proofs.lemmas.List.{take_more}
 use Rattle.std.proofs.lemmas.List.Sums.{sum_by-append}
+use Rattle.glob_syntax.specs.declared.options.Options.{Options}
+use Rattle.glob_syntax.specs.Token.{Tokens}
+use Rattle.glob_syntax.specs.inner.Weight.{weight}
 use Rattle.byte_automaton.specs.Steps.{Machine}
 use Rattle.byte_automaton.specs.Runs.{size}
-use Rattle.globset_glob.specs.Means.{GlobValue, glob_means}
+use Rattle.glob_automaton.specs.TokenMeans.{means}
+use Rattle.glob_automaton.specs.IndexedTokens.{IndexedTokens, indexed, SomeMatches, IsFor}
+use Rattle.globset_glob.specs.Means.{GlobValue, tokens_of_glob, glob_means}
 use Rattle.globset_glob.specs.Cost.{cost}
-use Rattle.globset_glob.specs.inner.GlobStates.{IndexedGlob, indexed, SomeMatches, IsFor}
 use Rattle.globset.specs.Silent.{silent}
 use Rattle.globset.specs.Answer.{is_listed, is_listed_at}
 use Rattle.globset.specs.inner.JointAutomaton.{IsJoint}
@@ -28,19 +32,24 @@ listed_push (x ∷ xs) g path (suc k) = (
       (λ earlier. inl earlier) (λ last. let is = last.0 in inr (omega (arith, is), last.1)) h),
 )
 
-abbrev Matches : IndexedGlob → List ℕ → ℕ → Type 0
-Matches g path k = (g.index ≡ k) × IsTrue (glob_means g.glob path)
+abbrev Matches : IndexedTokens → List ℕ → ℕ → Type 0
+Matches x path k = (x.index ≡ k) × IsTrue (means x.options x.tokens path)
 
-some_push : (g : IndexedGlob) (gs : List IndexedGlob) (path : List ℕ) (k : ℕ) → SomeMatches (gs ++ g ∷ []) path k ↔ (SomeMatches gs path k ⊎ Matches g path k)
-some_push g [] path k = (λ h. ⊎_elim {C = ⊥ ⊎ Matches g path k} (λ this. inr this) (λ no. absurd no) h, λ h. ⊎_elim {C = Matches g path k ⊎ ⊥} (λ no. absurd no) (λ this. inl this) h)
-some_push g (x ∷ gs) path k = (
-  λ h. ⊎_elim {C = (Matches x path k ⊎ SomeMatches gs path k) ⊎ Matches g path k}
+some_push : (x : IndexedTokens) (xs : List IndexedTokens) (path : List ℕ) (k : ℕ) → SomeMatches (xs ++ x ∷ []) path k ↔ (SomeMatches xs path k ⊎ Matches x path k)
+some_push x [] path k = (λ h. ⊎_elim {C = ⊥ ⊎ Matches x path k} (λ this. inr this) (λ no. absurd no) h, λ h. ⊎_elim {C = Matches x path k ⊎ ⊥} (λ no. absurd no) (λ this. inl this) h)
+some_push x (y ∷ ys) path k = (
+  λ h. ⊎_elim {C = (Matches y path k ⊎ SomeMatches ys path k) ⊎ Matches x path k}
       (λ here. inl (inl here))
-      (λ later. ⊎_elim {C = (Matches x path k ⊎ SomeMatches gs path k) ⊎ Matches g path k} (λ earlier. inl (inr earlier)) (λ last. inr last) ((some_push g gs path k).0 later)) h,
-  λ h. ⊎_elim {C = Matches x path k ⊎ SomeMatches (gs ++ g ∷ []) path k}
-      (λ front. ⊎_elim {C = Matches x path k ⊎ SomeMatches (gs ++ g ∷ []) path k} (λ here. inl here) (λ earlier. inr ((some_push g gs path k).1 (inl earlier))) front)
-      (λ last. inr ((some_push g gs path k).1 (inr last))) h,
+      (λ later. ⊎_elim {C = (Matches y path k ⊎ SomeMatches ys path k) ⊎ Matches x path k} (λ earlier. inl (inr earlier)) (λ last. inr last) ((some_push x ys path k).0 later)) h,
+  λ h. ⊎_elim {C = Matches y path k ⊎ SomeMatches (ys ++ x ∷ []) path k}
+      (λ front. ⊎_elim {C = Matches y path k ⊎ SomeMatches (ys ++ x ∷ []) path k} (λ here. inl here) (λ earlier. inr ((some_push x ys path k).1 (inl earlier))) front)
+      (λ last. inr ((some_push x ys path k).1 (inr last))) h,
 )
+
+-- the tokens of a glob match what the glob matches
+tokens_mean : (g : GlobValue) (o : Options) (ts : Tokens) (path : List ℕ) → o ≡ g.options → tokens_of_glob g ≡ ts → means o ts path ≡ glob_means g path
+unfolding glob_means
+tokens_mean g o ts path options tokens = ap (λ p. means p ts path) options ∙ ap (λ us. means g.options us path) (sym tokens)
 
 loud_is : (b c : Bool) → b ≡ false → (not b && c) ≡ c
 loud_is false c h = refl
@@ -72,19 +81,20 @@ joint_left_out globs g m is before = record {
   size = rw (cost_push globs g) (omega (arith, before.size));
 }
 
--- any other glob is added
-pub joint_added : (globs : List GlobValue) (g : GlobValue) (n : ℕ) (old new : Machine) → n ≡ length globs → silent g ≡ false
-    → ((gs : List IndexedGlob) → IsFor old gs → IsFor new (gs ++ indexed g n ∷ [])) → size new + 2 ≤ size old + cost g → IsJoint globs old → IsJoint (globs ++ g ∷ []) new
-joint_added globs g n old new at is adds few before = record {
-  added = before.added ++ indexed g n ∷ [];
+-- the tokens of any other glob are added
+pub joint_added : (globs : List GlobValue) (g : GlobValue) (o : Options) (ts : Tokens) (n : ℕ) (old new : Machine) → n ≡ length globs → silent g ≡ false
+    → o ≡ g.options → tokens_of_glob g ≡ ts → weight ts ≤ 4 * length g.text
+    → ((xs : List IndexedTokens) → IsFor old xs → IsFor new (xs ++ indexed o ts n ∷ [])) → size new ≤ size old + (weight ts + 1) → IsJoint globs old → IsJoint (globs ++ g ∷ []) new
+joint_added globs g o ts n old new at is options tokens few adds count before = record {
+  added = before.added ++ indexed o ts n ∷ [];
   is_for = adds before.added before.is_for;
   same = λ path k.
-      let push = listed_push globs g path k in let some = some_push (indexed g n) before.added path k in let same = before.same path k in
-      let loud : is_listed g path ≡ glob_means g path = loud_is (silent g) (glob_means g path) is in (
+      let push = listed_push globs g path k in let some = some_push (indexed o ts n) before.added path k in let same = before.same path k in
+      let loud : is_listed g path ≡ means o ts path = loud_is (silent g) (glob_means g path) is ∙ sym (tokens_mean g o ts path options tokens) in (
         λ h. push.1 (⊎_elim {C = IsTrue (is_listed_at globs path k) ⊎ ((length globs ≡ k) × IsTrue (is_listed g path))}
             (λ earlier. inl (same.0 earlier)) (λ last. inr (sym at ∙ last.0, loud ∙ last.1)) (some.0 h)),
-        λ h. some.1 (⊎_elim {C = SomeMatches before.added path k ⊎ ((n ≡ k) × IsTrue (glob_means g path))}
+        λ h. some.1 (⊎_elim {C = SomeMatches before.added path k ⊎ ((n ≡ k) × IsTrue (means o ts path))}
             (λ earlier. inl (same.1 earlier)) (λ last. inr (at ∙ last.0, sym loud ∙ last.1)) (push.0 h)),
       );
-  size = rw (cost_push globs g) (omega (arith, few, before.size));
+  size = rw (cost_push globs g) (omega (arith, count, few, before.size));
 }

@@ -5,10 +5,11 @@ use Rattle.std.proofs.lemmas.List.{length-map}
 use Rattle.glob_syntax.specs.declared.token.Token as held
 use Rattle.globset_glob.specs.Token.{Token, Literal, Any, ZeroOrMore, RecursivePrefix, RecursiveSuffix, RecursiveZeroOrMore, Class, Group, Tokens, end, and_then, before}
 use Rattle.globset_glob.specs.FlatTokens.{Flat, simple, opening, comma, closing, tree_of, IsNested}
-use Rattle.globset_glob.specs.Means.{GlobValue, is_prefix, tokens_of_glob}
+use Rattle.globset_glob.specs.Means.{GlobValue, tokens_of_glob}
+use Rattle.globset_glob.specs.TokenMeans.{is_prefix}
 use Rattle.globset_glob.specs.Views.{flat_of, flats, tokens_of}
 use Rattle.glob_syntax.proofs.lemmas.FlatTrees.{spelled}
-use Rattle.globset_glob.proofs.lemmas.TokenLists.{prefix_is}
+use Rattle.glob_automaton.proofs.lemmas.TokenLists.{prefix_is}
 use Rattle.globset.specs.Silent.{silent, is_dot, is_prefix_dot_dot}
 use Rattle.globset.specs.inner.TokenTests.{is_simple_that}
 

@@ -7,8 +7,9 @@ ghost use Rattle.globset.specs.Answer.{is_listed_at};
 ghost use Rattle.globset.specs.Work.{most_set_visits};
 
 use crate::silence::is_silent;
-use byte_automaton::{Automaton, Builder, IndexSet, StateSet};
-use globset_glob::{Candidate, Error, Glob, Visits, add_glob, find_globs};
+use byte_automaton::{Automaton, IndexSet, StateSet};
+use glob_automaton::{add_tokens, find, new_builder};
+use globset_glob::{Candidate, Error, Glob, Visits, options_of, tokens_of};
 use std::marker::Model;
 
 /// The globs of a set, and one automaton for all of them that are not silent. The index of a glob is its position.
@@ -39,10 +40,17 @@ impl Stored {
         ensures ok { IfOk result (λ s. s ≡ globs.items) }
         ensures err { IfErr result (λ e. e ≡ out_of_memory) }
     {
-        let mut builder = Builder::new(*globs.allocator(), globs.len());
+        let alloc = *globs.allocator();
+        let mut builder = new_builder(alloc, globs.len());
         for (index, glob) in globs.iter().enumerate() {
             if !is_silent(glob) {
-                add_glob(&mut builder, glob, index)?;
+                add_tokens(
+                    alloc,
+                    &mut builder,
+                    options_of(glob),
+                    tokens_of(glob),
+                    index,
+                )?;
             }
         }
         Ok(Stored {
@@ -73,7 +81,7 @@ impl Stored {
         let mut now = StateSet::new(alloc, self.automaton.state_count())?;
         let mut next = StateSet::new(alloc, self.automaton.state_count())?;
         let mut found = IndexSet::new(alloc, self.globs.len())?;
-        find_globs(
+        find(
             &self.automaton,
             path.path(),
             &mut now,

@@ -4,7 +4,10 @@ use Rattle.std.proofs.Common.{refl, inl, inr, true≢false, sym, ◌∙◌, ap, 
 use Rattle.globset_glob.specs.SmallRegex.{single, span, any_byte, byte, class_of, group_of, once, repeated, optional, Atom, Item, no_item, item, Row, no_row, row, Expression, expression, is_special, class_of_has, SpellsByte, SpellsEntry, SpellsAtom, SpellsItem, SpellsRow, SpellsOthers, Spells, no_piece, one_more, DenotesAtom, DenotesItem, DenotesRow, Denotes}
 use Rattle.std.proofs.lemmas.Bool.{eq-eqb}
 use Rattle.std.proofs.lemmas.List.{append_cancel_right}
-use Rattle.globset_glob.proofs.lemmas.Cuts.{cons_none}
+
+cons_none : (x : List ℕ) (d : ℕ) (ds : List ℕ) → [] ≡ x ++ d ∷ ds → ⊥
+cons_none [] d ds e = cc
+cons_none (a ∷ rest) d ds e = cc
 
 -- ---- the texts of a byte
 

@@ -10,16 +10,25 @@ use Rattle.std.proofs.lemmas.Slice.Eq.{bytes_eq-Decides}
 use Rattle.std.proofs.lemmas.Str.{chars-encodes, encodes-chars, scalars-chars}
 use Rattle.glob_syntax.specs.declared.options.Options.{Options}
 use Rattle.glob_syntax.specs.ClassBytes.{ranges_have, class_has}
-use Rattle.globset_glob.specs.Takes.{is_empty, is_one_byte, takes, takes_all, compared}
+use Rattle.glob_automaton.specs.Takes.{is_empty, is_one_byte, takes, takes_all, compared}
 use Rattle.glob_syntax.specs.Token.{Token, Literal, end, before}
 use Rattle.glob_syntax.specs.Token as token
 use Rattle.glob_syntax.specs.Reading.{reading}
-use Rattle.globset_glob.specs.Means.{default_glob, default_options, is_prefix, is_prefix_alone, glob_means}
+use Rattle.globset_glob.specs.Means.{default_glob, default_options, glob_means}
+use Rattle.glob_automaton.specs.TokenMeans.{is_prefix, is_prefix_alone}
 use Rattle.globset_glob.specs.Escape.{is_special, escaped_chars, escaped, has_no_backslash, plain_options, MeansOnly}
-use Rattle.globset_glob.proofs.lemmas.Booleans.{and_both, and_first, and_second, or_none, and_all, and_none}
-use Rattle.globset_glob.proofs.lemmas.Cuts.{cut_of, some_cut-append, empty_is}
+use Rattle.glob_automaton.proofs.lemmas.Booleans.{and_both, and_first, and_second, and_none}
+use Rattle.glob_automaton.proofs.lemmas.Cuts.{cut_of, some_cut-append, empty_is}
 use Rattle.globset_glob.proofs.lemmas.Globs.{means_is}
 use Rattle.globset_glob.proofs.lemmas.EscapeReading.{by_special, NoEscape, token_as, token_for, tokens_for, escaped_reads}
+
+or_none : (x : Bool) → (x || false) ≡ x
+or_none true = refl
+or_none false = refl
+
+and_all : (x : Bool) → (x && true) ≡ x
+and_all true = refl
+and_all false = refl
 
 -- ---- one token
 

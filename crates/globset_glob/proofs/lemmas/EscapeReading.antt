@@ -14,7 +14,7 @@ use Rattle.glob_syntax.specs.Token.{Token, Literal, Tokens, end, and_then, befor
 use Rattle.glob_syntax.specs.Token as token
 use Rattle.glob_syntax.specs.Reading.{in_level, levels, is_whole_run, whole, reading, whole_or_fault}
 use Rattle.globset_glob.specs.Escape.{is_special, escaped_chars}
-use Rattle.globset_glob.proofs.lemmas.Booleans.{or_either, and_first, and_second}
+use Rattle.glob_automaton.proofs.lemmas.Booleans.{or_either, and_first, and_second}
 
 -- ---- one character in brackets
 

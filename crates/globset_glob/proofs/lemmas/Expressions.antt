@@ -6,19 +6,23 @@ use Rattle.std.specs.List.{list_all}
 use Rattle.std.proofs.lemmas.List.{append-nil, append_assoc}
 use Rattle.std.proofs.Math.Logic.{⊎_elim}
 use Rattle.glob_syntax.specs.Token.{Token, Literal, Any, ZeroOrMore, RecursivePrefix, RecursiveSuffix, RecursiveZeroOrMore, Class, Group, Tokens, end, and_then, Branches, none, branch}
-use Rattle.globset_glob.specs.Blank.{is_kept, any_kept}
+use Rattle.glob_automaton.specs.Blank.{is_kept, any_kept}
 use Rattle.glob_syntax.specs.ClassBytes.{ranges_have, class_has}
-use Rattle.globset_glob.specs.Takes.{some_takes, takes_all, compared, is_wild, is_empty, slash}
-use Rattle.globset_glob.specs.Means.{means, is_prefix_alone}
+use Rattle.glob_automaton.specs.Takes.{some_takes, takes_all, compared, is_wild, is_empty, slash}
+use Rattle.glob_automaton.specs.TokenMeans.{means, is_prefix_alone}
 use Rattle.globset_glob.specs.SmallRegex.{Entry, single, Atom, any_byte, byte, class_of, group_of, Item, once, repeated, optional, Row, no_item, item, Rows, no_row, row, expression, SpellsAtom, SpellsItem, SpellsRow, SpellsOthers, entries_have, class_of_has, Repeats, no_piece, one_more, DenotesAtom, DenotesItem, DenotesRow, DenotesSome}
 use Rattle.globset_glob.specs.RegexText.{byte_text, bytes_text, ranges_text, class_text, others_text, group_text, with_text, token_text, tokens_text, kept_texts, body_text, regex_text}
 use Rattle.globset_glob.specs.RegexDenotes.{HasExpression}
 use Rattle.glob_syntax.specs.declared.options.Options.{Options}
-use Rattle.globset_glob.proofs.lemmas.Booleans.{and_both, and_first, and_second, or_first, or_second, or_either, iff_trans}
+use Rattle.glob_automaton.proofs.lemmas.Booleans.{and_both, and_first, and_second, or_first, or_second, or_either}
 use Rattle.glob_syntax.specs.inner.WellFormed.{AreScalars, IsWellFormed, AreWellFormed, AllWellFormed}
-use Rattle.globset_glob.proofs.lemmas.Takes.{some_any, Takes, TakesAll, Then, OneByte, empty_same, one_byte, equal_bytes, prefix_takes, suffix_takes, between_takes, then_takes}
+use Rattle.glob_automaton.proofs.lemmas.Takes.{some_any, OneByte, one_byte}
+use Rattle.globset_glob.proofs.lemmas.TakesByParts.{Takes, TakesAll, Then, empty_same, equal_bytes, prefix_takes, suffix_takes, between_takes, then_takes}
 use Rattle.globset_glob.proofs.lemmas.ByteTexts.{Below, IsSpelled, spells_byte, encode_below, slash_byte, byte_slash, slash_alone, spelled_more, spelled_none, spelled_one}
 use Rattle.globset_glob.proofs.lemmas.ClassTexts.{has_ranges}
+
+iff_trans : {A B C : Type 0} → A ↔ B → B ↔ C → A ↔ C
+iff_trans f g = (λ a. g.0 (f.0 a), λ c. f.1 (g.1 c))
 
 -- ---- rows
 

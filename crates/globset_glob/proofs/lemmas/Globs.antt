@@ -4,7 +4,8 @@ use Rattle.std.specs.Str.{chars}
 use Rattle.glob_syntax.specs.declared.fault.Fault.{Fault}
 use Rattle.glob_syntax.specs.Token.{Tokens, end}
 use Rattle.glob_syntax.specs.Reading.{reading}
-use Rattle.globset_glob.specs.Means.{GlobValue, means, tokens_of_glob, glob_means}
+use Rattle.globset_glob.specs.Means.{GlobValue, tokens_of_glob, glob_means}
+use Rattle.glob_automaton.specs.TokenMeans.{means}
 
 pub tokens_are : (g : GlobValue) (ts : Tokens) → reading g.options (chars g.text) ≡ Ok ts → tokens_of_glob g ≡ ts
 unfolding tokens_of_glob

@@ -1,5 +1,5 @@
 use Rattle.std.proofs.Common.{◌≡◌, ◌&&◌, arith, sym, ◌∙◌}
-use Rattle.globset_glob.specs.Means.{is_prefix}
+use Rattle.globset_glob.specs.TokenMeans.{is_prefix}
 use Rattle.globset_glob.specs.Views.{flat_of, tokens_of}
 use Rattle.globset.specs.Silent.{is_dot, is_prefix_dot_dot, silent}
 use Rattle.globset.specs.inner.TokenTests.{is_simple_that}

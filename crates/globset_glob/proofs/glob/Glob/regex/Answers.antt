@@ -2,7 +2,8 @@ use Rattle.std.proofs.Common.{◌≡◌, ℕ, List, Ok, ap, sym, ◌∙◌, subs
 use Rattle.std.specs.Str.{chars}
 use Rattle.glob_syntax.specs.Token.{Tokens}
 use Rattle.glob_syntax.specs.Reading.{reading}
-use Rattle.globset_glob.specs.Means.{GlobValue, means, tokens_of_glob, glob_means}
+use Rattle.globset_glob.specs.Means.{GlobValue, tokens_of_glob, glob_means}
+use Rattle.glob_automaton.specs.TokenMeans.{means}
 use Rattle.globset_glob.specs.RegexText.{regex_text}
 use Rattle.globset_glob.specs.RegexDenotes.{HasExpression}
 use Rattle.glob_syntax.specs.Views.{tokens_of}

@@ -1,0 +1,9 @@
+pub mod Booleans
+pub mod Building
+pub mod Cuts
+pub mod Frames
+pub mod IndexedTokens
+pub mod Spelling
+pub mod Takes
+pub mod TokenLists
+pub mod TokenStates

@@ -1,0 +1,74 @@
+-- The states of tokens, in an automaton over bytes.
+use Rattle.std.specs.Prelude.{◌≡◌, ℕ, ◌<◌, Bool, true, ◌==◌, ◌⊎◌, List, [], ◌∷◌, IsTrue, IsFalse, encode_utf8}
+use Rattle.glob_syntax.specs.declared.options.Options.{Options}
+use Rattle.glob_syntax.specs.Token.{Token, Literal, Any, ZeroOrMore, RecursivePrefix, RecursiveSuffix, RecursiveZeroOrMore, Class, Group, Tokens, end, and_then, Branches, none, branch}
+use Rattle.glob_syntax.specs.ClassBytes.{class_has}
+use Rattle.std.specs.Str.{bytes_eq}
+use Rattle.glob_automaton.specs.Takes.{slash, is_wild, compared}
+use Rattle.glob_automaton.specs.Blank.{is_kept, any_kept}
+use Rattle.byte_automaton.specs.Sets.{has_byte}
+use Rattle.byte_automaton.specs.Steps.{State, reads, skips, stays, state}
+use Rattle.byte_automaton.specs.declared.byte_set.ByteSet.{ByteSet}
+
+-- ---- one state
+
+-- the set has the bytes that pass the test
+abbrev pub IsSetOf : (ℕ → Bool) → ByteSet → Type 0
+IsSetOf test w = (c : ℕ) → c < 256 → has_byte w c ≡ test c
+
+abbrev pub is_any_byte : ℕ → Bool
+is_any_byte c = true
+
+abbrev pub is_slash : ℕ → Bool
+is_slash c = c == slash
+
+-- the state s reads a byte that passes the test, and goes on to e
+abbrev pub Reads : List State → ℕ → (ℕ → Bool) → ℕ → Type 0
+Reads a s test e = (w : ByteSet) × (state a s ≡ reads w e) × IsSetOf test w
+
+-- the state s stays on bytes that pass the test, and goes on to e
+abbrev pub Stays : List State → ℕ → (ℕ → Bool) → ℕ → Type 0
+Stays a s test e = (w : ByteSet) × (state a s ≡ stays w (e ∷ [])) × IsSetOf test w
+
+-- ---- tokens
+
+-- what these bytes of a literal match
+abbrev pub spells : Options → List ℕ → List ℕ → Bool
+spells o bytes y = bytes_eq (compared o y) (compared o bytes)
+
+-- what one byte of a literal matches
+abbrev pub is_letter : Options → ℕ → ℕ → Bool
+is_letter o b c = spells o (b ∷ []) (c ∷ [])
+
+-- the states from s on are those of these bytes of a literal, and lead to e
+abbrev pub IsSpelled : Options → List State → ℕ → List ℕ → ℕ → Type 0
+IsSpelled o a s [] e = s ≡ e
+IsSpelled o a s (b ∷ bs) e = (t : ℕ) × Reads a s (is_letter o b) t × IsSpelled o a t bs e
+
+-- nothing, or any bytes that end in `/`
+abbrev pub IsToSlash : List State → ℕ → ℕ → Type 0
+IsToSlash a s e = (t u : ℕ) × (state a s ≡ skips (e ∷ t ∷ [])) × Stays a t is_any_byte u × Reads a u is_slash e
+
+-- the states from s on are those of the tokens, and lead to e
+abbrev mutual
+  pub IsBuilt : Options → List State → ℕ → Tokens → ℕ → Type 0
+  IsBuilt o a s end e = s ≡ e
+  IsBuilt o a s (and_then t ts) e = (u : ℕ) × IsBuiltToken o a s t u × IsBuilt o a u ts e
+
+  pub IsBuiltToken : Options → List State → ℕ → Token → ℕ → Type 0
+  IsBuiltToken o a s (Literal c) e = IsSpelled o a s (encode_utf8 c) e
+  IsBuiltToken o a s Any e = Reads a s (is_wild o) e
+  IsBuiltToken o a s ZeroOrMore e = Stays a s (is_wild o) e
+  IsBuiltToken o a s RecursivePrefix e = IsToSlash a s e
+  IsBuiltToken o a s RecursiveSuffix e = (t : ℕ) × Reads a s is_slash t × Stays a t is_any_byte e
+  IsBuiltToken o a s RecursiveZeroOrMore e = (t : ℕ) × Reads a s is_slash t × IsToSlash a t e
+  IsBuiltToken o a s (Class negated rs) e = Reads a s (class_has o negated rs) e
+  -- it skips to its kept branches, or to e where none is kept
+  IsBuiltToken o a s (Group bs) e = (ss : List ℕ) × (state a s ≡ skips ss) × ((IsTrue (any_kept o bs) × AreBuilt o a ss bs e) ⊎ (IsFalse (any_kept o bs) × (ss ≡ e ∷ [])))
+
+  -- the kept branches begin at these states, and lead to e
+  pub AreBuilt : Options → List State → List ℕ → Branches → ℕ → Type 0
+  AreBuilt o a ss none e = ss ≡ []
+  AreBuilt o a ss (branch ts bs) e =
+      (IsTrue (is_kept o ts) × ((s : ℕ) × (us : List ℕ) × (ss ≡ s ∷ us) × IsBuilt o a s ts e × AreBuilt o a us bs e))
+      ⊎ (IsFalse (is_kept o ts) × AreBuilt o a ss bs e)

@@ -1,0 +1,9 @@
+use Rattle.glob_syntax.specs.Views.{tokens_of}
+use Rattle.globset_glob.proofs.lemmas.GlobAutomaton.{automaton_is}
+use Rattle.globset_glob.proofs.matcher.automaton_of.Goals as goal
+
+pub returns : goal.returns
+returns c =
+    let adds = c.in_ok-add_tokens.ensures in
+    rw c.finish.ensures (automaton_is c.args.glob.now c.options.result (tokens_of c.tokens.result.now) c.new_builder-builder.result c.add_tokens.new.builder c.options.ensures
+    c.tokens.ensures.read c.tokens.ensures.weight c.new_builder-builder.ensures.tokens c.new_builder-builder.ensures.size adds.tokens adds.size)

@@ -1,0 +1,130 @@
+//! Matchers of one glob.
+
+ghost use Rattle.std.specs.Prelude.{◌≡◌, ◌+◌, ◌≤◌, IfOk, IfErr};
+ghost use Rattle.globset_glob.specs.Errors.{out_of_memory};
+ghost use Rattle.globset_glob.specs.Cost.{most_visits};
+ghost use Rattle.globset_glob.specs.inner.GlobAutomaton.{IsAutomatonOf};
+
+use crate::error::Error;
+use crate::glob::Glob;
+use crate::path::{AsPath, Candidate};
+use byte_automaton::{Automaton, StateSet};
+use glob_automaton::{add_tokens, is_match, new_builder};
+use std::alloc::AllocError;
+use std::fmt;
+use std::marker::Model;
+use visits::Visits;
+
+/// Returns the automaton of a glob, whose tokens have the index 0.
+fn automaton_of(glob: &Glob) -> Result<Automaton, AllocError>
+    ensures { IfOk result (λ a. IsAutomatonOf glob.now a) }
+{
+    let alloc = glob.allocator();
+    let mut builder = new_builder(alloc, 1);
+    add_tokens(alloc, &mut builder, glob.options(), glob.tokens(), 0)?;
+    Ok(builder.finish())
+}
+
+/// Tells whether a glob matches a path.
+///
+/// Contracts see a matcher as its glob. It has an automaton for the glob, which is made with it; nothing is kept from one
+/// call to the next.
+#[derive(Drop)]
+pub struct GlobMatcher {
+    glob: Glob,
+    automaton: Automaton,
+}
+
+impl Model for GlobMatcher {
+    ghost use Rattle.globset_glob.specs.Means.{GlobValue};
+    ghost use Rattle.globset_glob.specs.inner.GlobAutomaton.{IsAutomatonOf};
+
+    ghost Value = { GlobValue };
+
+    ghost view = { λ m. m.glob };
+
+    ghost invariant = { λ m. IsAutomatonOf m.glob m.automaton };
+}
+
+impl GlobMatcher {
+    ghost use Rattle.globset_glob.specs.Means.{glob_means};
+
+    /// Returns a matcher of a glob. Returns an error if memory runs out. It takes time and memory linear in the glob's text.
+    pub(crate) fn new(glob: Glob) -> Result<GlobMatcher, Error>
+        ensures ok { IfOk result (λ m. m ≡ glob) }
+        ensures err { IfErr result (λ e. e ≡ out_of_memory) }
+    {
+        let automaton = automaton_of(&glob)?;
+        Ok(GlobMatcher { glob, automaton })
+    }
+
+    /// Returns the glob.
+    pub fn glob(&self) -> &Glob
+        ensures { result.now ≡ self.now }
+    {
+        &self.glob
+    }
+
+    /// Returns whether the glob matches a path, or an error if memory runs out.
+    ///
+    /// For a path that is not UTF-8, or that several matchers are tried on, make a [`Candidate`].
+    pub fn is_match<P: AsPath>(&self, path: P) -> Result<bool, Error>
+        ensures ok { IfOk result (λ yes. yes ≡ glob_means self.now (P.text path)) }
+        ensures err { IfErr result (λ e. e ≡ out_of_memory) }
+    {
+        self.is_match_candidate(&Candidate::new(path.path_text()))
+    }
+
+    /// Returns whether the glob matches a candidate's path, or an error if memory runs out.
+    pub fn is_match_candidate(&self, path: &Candidate<'_>) -> Result<bool, Error>
+        ensures ok { IfOk result (λ yes. yes ≡ glob_means self.now path.now) }
+        ensures err { IfErr result (λ e. e ≡ out_of_memory) }
+    {
+        let mut visits = Visits::new();
+        self.is_match_visits(path, &mut visits)
+    }
+
+    /// Does what [`is_match_candidate`](GlobMatcher::is_match_candidate) does, and adds its visits to `visits`.
+    ///
+    /// These are at most `(path bytes + 1) * (4 * glob bytes + 4)` visits, also if memory runs out. The call allocates two
+    /// sets of states, of one bit for each state of the automaton.
+    pub fn is_match_visits(&self, path: &Candidate<'_>, visits: &mut Visits) -> Result<bool, Error>
+        ensures ok { IfOk result (λ yes. yes ≡ glob_means self.now path.now) }
+        ensures err { IfErr result (λ e. e ≡ out_of_memory) }
+        ensures visits { visits.new ≤ visits.old + most_visits self.now path.now }
+    {
+        let alloc = self.glob.allocator();
+        let mut now = StateSet::new(alloc, self.automaton.state_count())?;
+        let mut next = StateSet::new(alloc, self.automaton.state_count())?;
+        Ok(is_match(&self.automaton, path.path(), &mut now, &mut next, visits))
+    }
+
+    /// Returns a matcher for an equal glob, or an error if memory runs out.
+    pub fn clone(&self) -> Result<GlobMatcher, Error>
+        ensures ok { IfOk result (λ m. m ≡ self.now) }
+        ensures err { IfErr result (λ e. e ≡ out_of_memory) }
+    {
+        GlobMatcher::new(self.glob.clone()?)
+    }
+}
+
+/// A matcher for an equal glob. The error says that memory ran out.
+impl Clone for GlobMatcher {
+    ghost is_clone = { λ m n. n ≡ m };
+
+    fn clone(&self) -> Result<GlobMatcher, AllocError> {
+        match self.clone() {
+            Ok(matcher) => Ok(matcher),
+            Err(_) => Err(AllocError),
+        }
+    }
+}
+
+/// `GlobMatcher { glob: Glob("<text>") }`
+impl fmt::Debug for GlobMatcher {
+    fn fmt<W: fmt::Write>(&self, f: &mut fmt::Formatter<W>) -> fmt::Result {
+        f.debug_struct("GlobMatcher")
+            .field("glob", &self.glob)
+            .finish()
+    }
+}

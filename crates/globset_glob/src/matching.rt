@@ -1,4 +1,0 @@
-//! Which paths a glob matches.
-
-pub mod auto;
-pub mod matcher;
