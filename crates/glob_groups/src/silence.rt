@@ -2,11 +2,12 @@
 
 ghost use Rattle.std.specs.Prelude.{◌≡◌};
 ghost use Rattle.globset_glob.specs.Means.{is_prefix};
-ghost use Rattle.globset_glob.specs.Views.{flat_of};
-ghost use Rattle.globset.specs.Silent.{is_dot, silent};
-ghost use Rattle.globset.specs.inner.TokenTests.{is_simple_that};
+ghost use Rattle.glob_syntax.specs.Views.{flat_of};
+ghost use Rattle.glob_groups.specs.Silent.{is_dot, silent};
+ghost use Rattle.glob_groups.specs.inner.FlatTests.{is_simple_that};
 
-use globset_glob::{Glob, Token, options_of, tokens_of};
+use glob_syntax::Token;
+use globset_glob::{Glob, options_of, tokens_of};
 
 /// Returns whether every set leaves the glob out.
 pub fn is_silent(glob: &Glob) -> bool

@@ -3,14 +3,14 @@ use Rattle.std.proofs.Common.{◌≡◌, List, [], ◌∷◌, length, map, get_o
 use Rattle.std.proofs.lemmas.Bool.{eqb-true}
 use Rattle.std.proofs.lemmas.List.{length-map}
 use Rattle.glob_syntax.specs.declared.token.Token as held
-use Rattle.globset_glob.specs.Token.{Token, Literal, Any, ZeroOrMore, RecursivePrefix, RecursiveSuffix, RecursiveZeroOrMore, Class, Group, Tokens, end, and_then, before}
-use Rattle.globset_glob.specs.FlatTokens.{Flat, simple, opening, comma, closing, tree_of, IsNested}
+use Rattle.glob_syntax.specs.Token.{Token, Literal, Any, ZeroOrMore, RecursivePrefix, RecursiveSuffix, RecursiveZeroOrMore, Class, Group, Tokens, end, and_then, before}
+use Rattle.glob_syntax.specs.FlatTokens.{Flat, simple, opening, comma, closing, tree_of, IsNested}
 use Rattle.globset_glob.specs.Means.{GlobValue, is_prefix, tokens_of_glob}
-use Rattle.globset_glob.specs.Views.{flat_of, flats, tokens_of}
+use Rattle.glob_syntax.specs.Views.{flat_of, flats, tokens_of}
 use Rattle.glob_syntax.proofs.lemmas.FlatTrees.{spelled}
 use Rattle.globset_glob.proofs.lemmas.TokenLists.{prefix_is}
-use Rattle.globset.specs.Silent.{silent, is_dot, is_prefix_dot_dot}
-use Rattle.globset.specs.inner.TokenTests.{is_simple_that}
+use Rattle.glob_groups.specs.Silent.{silent, is_dot, is_prefix_dot_dot}
+use Rattle.glob_groups.specs.inner.FlatTests.{is_simple_that}
 
 silent_is : (g : GlobValue) (ts : Tokens) → tokens_of_glob g ≡ ts → (not g.options.case_insensitive && is_prefix_dot_dot ts) ≡ silent g
 unfolding silent
