@@ -10,7 +10,7 @@ ghost use Rattle.glob_groups.specs.GroupMeaning.{IsGroupOf, group_seen};
 mod key;
 mod tests;
 
-use crate::silence::is_silent;
+use crate::silence::{is_recursive_prefix, is_silent};
 use glob_syntax::{Options, Token};
 use globset_glob::{Glob, options_of, tokens_of};
 use key::{ending, literal_text};
@@ -61,10 +61,14 @@ pub fn tokens_after_prefix(glob: &Glob) -> &[Token]
     ensures tokens { tokens_of result.now ≡ after_prefix (tokens_of_glob glob.now) }
     ensures nested { IsNested (flats result.now) }
 {
-    match tokens_of(glob) {
-        [Token::RecursivePrefix, rest @ ..] => rest,
-        tokens => tokens,
+    let tokens = tokens_of(glob);
+    let Some((first, rest)) = tokens.split_first() else {
+        return tokens;
+    };
+    if is_recursive_prefix(first) {
+        return rest;
     }
+    tokens
 }
 
 /// The group of the tokens of a case-sensitive glob that is not silent.

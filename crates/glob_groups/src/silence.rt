@@ -22,13 +22,15 @@ pub fn is_silent(glob: &Glob) -> bool
     is_recursive_prefix(first) && is_dot(second) && is_dot(third)
 }
 
-fn is_recursive_prefix(token: &Token) -> bool
+/// Returns whether the token is `RecursivePrefix`.
+pub fn is_recursive_prefix(token: &Token) -> bool
     ensures { result ≡ is_simple_that is_prefix (flat_of token.now) }
 {
     matches!(token, Token::RecursivePrefix)
 }
 
-fn is_dot(token: &Token) -> bool
+/// Returns whether the token is the literal `.`.
+pub fn is_dot(token: &Token) -> bool
     ensures { result ≡ is_simple_that is_dot (flat_of token.now) }
 {
     matches!(token, Token::Literal('.'))

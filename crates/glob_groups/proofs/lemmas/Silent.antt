@@ -38,7 +38,7 @@ by_tokens g ts h e = ap (λ b. not b && is_prefix_dot_dot ts) (sym e) ∙ silent
 abbrev pub prefix_dot_dot : List Token
 prefix_dot_dot = RecursivePrefix ∷ Literal 46 ∷ Literal 46 ∷ []
 
-dot_is : (t : Token) → is_dot t ≡ true → t ≡ Literal 46
+pub dot_is : (t : Token) → is_dot t ≡ true → t ≡ Literal 46
 dot_is (Literal c) e = ap Literal (eqb-true c 46 e)
 dot_is Any e = absurd cc
 dot_is ZeroOrMore e = absurd cc
@@ -74,7 +74,7 @@ other_length ts nested other = by_case (is_prefix_dot_dot (tokens_of ts)) refl
     by_case true e = let n = ap length (list_is ts nested e) in let m = length-map ts flat_of in absurd (other (omega arith))
     by_case false e = refl
 
-simple_is : (test : Token → Bool) (t : Token) (f : Flat) → ((u : Token) → test u ≡ true → u ≡ t) → is_simple_that test f ≡ true → f ≡ simple t
+pub simple_is : (test : Token → Bool) (t : Token) (f : Flat) → ((u : Token) → test u ≡ true → u ≡ t) → is_simple_that test f ≡ true → f ≡ simple t
 simple_is test t (simple u) is e = ap simple (is u e)
 simple_is test t opening is e = absurd cc
 simple_is test t comma is e = absurd cc

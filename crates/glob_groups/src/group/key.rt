@@ -5,6 +5,8 @@ ghost use Rattle.std.specs.Option.{option_map};
 ghost use Rattle.glob_syntax.specs.Views.{flats};
 ghost use Rattle.glob_groups.specs.inner.FlatTests.{ending, literal_text};
 
+use crate::group::tests::is_literal_except;
+use crate::silence::is_dot;
 use glob_syntax::Token;
 use std::alloc::{AllocError, Global};
 
@@ -28,11 +30,12 @@ pub fn ending(tokens: &[Token]) -> Option<&[Token]>
 {
     for i in 0..tokens.len() {
         let at = tokens.len() - 1 - i;
-        match &tokens[at] {
-            Token::Literal('.') => return Some(&tokens[at..]),
-            Token::Literal('/') => return None,
-            Token::Literal(_) => {}
-            _ => return None,
+        let token = &tokens[at];
+        if is_dot(token) {
+            return Some(&tokens[at..]);
+        }
+        if !is_literal_except(token, ['.', '/'].as_slice()) {
+            return None;
         }
     }
     None

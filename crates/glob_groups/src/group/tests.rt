@@ -93,7 +93,8 @@ fn are_within(options: Options, tokens: &[Token]) -> bool
     true
 }
 
-fn is_literal_except(token: &Token, excluded: &[char]) -> bool
+/// Whether the token is a literal whose character is not one of these.
+pub fn is_literal_except(token: &Token, excluded: &[char]) -> bool
     ensures { result ≡ is_simple_that (is_literal_except excluded.now) (flat_of token.now) }
 {
     match token {
@@ -102,6 +103,7 @@ fn is_literal_except(token: &Token, excluded: &[char]) -> bool
     }
 }
 
+/// Whether the token matches nothing that has a `/`.
 fn is_within(options: Options, token: &Token) -> bool
     ensures { result ≡ is_simple_that (is_within options) (flat_of token.now) }
 {

@@ -9,8 +9,8 @@ use Rattle.byte_automaton.specs.Runs.{size}
 use Rattle.globset_glob.specs.Means.{GlobValue, glob_means}
 use Rattle.globset_glob.specs.Cost.{cost}
 use Rattle.globset_glob.specs.inner.GlobStates.{IndexedGlob, indexed, SomeMatches, IsFor}
-use Rattle.globset.specs.Silent.{silent}
-use Rattle.globset.specs.Answer.{is_listed, is_listed_at}
+use Rattle.glob_groups.specs.Silent.{silent, is_listed}
+use Rattle.globset.specs.Answer.{is_listed_at}
 use Rattle.globset.specs.inner.JointAutomaton.{IsJoint}
 
 -- ---- one glob more

@@ -6,8 +6,8 @@ ghost use Rattle.globset_glob.specs.Errors.{out_of_memory};
 ghost use Rattle.globset.specs.Answer.{is_listed_at};
 ghost use Rattle.globset.specs.Work.{most_set_visits};
 
-use crate::silence::is_silent;
 use byte_automaton::{Automaton, Builder, IndexSet, StateSet};
+use glob_groups::is_silent;
 use globset_glob::{Candidate, Error, Glob, Visits, add_glob, find_globs};
 use std::marker::Model;
 
