@@ -7,15 +7,15 @@ ghost use Rattle.globset_glob.specs.Means.{tokens_of_glob};
 ghost use Rattle.glob_groups.specs.Groups.{after_prefix, automaton_group, sensitive_group};
 ghost use Rattle.glob_groups.specs.GroupMeaning.{IsGroupOf, group_seen};
 
+mod conditions;
 mod key;
-mod tests;
 
 use crate::silence::{is_recursive_prefix, is_silent};
+use conditions::{is_any_extension, is_by_last_component, is_last_component, is_whole_path};
 use glob_syntax::{Options, Token};
 use globset_glob::{Glob, options_of, tokens_of};
 use key::{ending, literal_text};
 use std::alloc::{AllocError, Global};
-use tests::{is_any_extension, is_by_last_component, is_last_component, is_whole_path};
 
 /// By what a set decides whether a glob matches a path. A key is bytes that the glob has as literals.
 #[derive(Debug, Drop)]

@@ -5,7 +5,7 @@ ghost use Rattle.std.specs.Option.{option_map};
 ghost use Rattle.glob_syntax.specs.Views.{flats};
 ghost use Rattle.glob_groups.specs.inner.FlatTests.{ending, literal_text};
 
-use crate::group::tests::is_literal_except;
+use crate::group::conditions::is_literal_except;
 use crate::silence::is_dot;
 use glob_syntax::Token;
 use std::alloc::{AllocError, Global};

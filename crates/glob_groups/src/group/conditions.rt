@@ -1,4 +1,4 @@
-//! Tests of the tokens of a glob.
+//! What the tokens of a glob must be for it to belong to a group.
 
 ghost use Rattle.std.specs.Prelude.{◌≡◌};
 ghost use Rattle.glob_syntax.specs.Views.{flat_of, flats};

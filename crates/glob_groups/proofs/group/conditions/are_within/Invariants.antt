@@ -2,7 +2,7 @@ use Rattle.std.proofs.Common.{◌≡◌, drop}
 use Rattle.glob_syntax.specs.Views.{flats}
 use Rattle.glob_groups.specs.Groups.{is_within}
 use Rattle.glob_groups.specs.inner.FlatTests.{all_simple_pass}
-use Rattle.glob_groups.proofs.group.tests.are_within.Given as goal
+use Rattle.glob_groups.proofs.group.conditions.are_within.Given as goal
 
 -- all tokens pass if those that are left do
 abbrev pub invariant-loop-token : goal.invariant-loop-token
