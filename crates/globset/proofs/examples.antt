@@ -1,4 +1,3 @@
 pub mod Words
-pub mod SilentGlobs
 pub mod Indexes
 pub mod JsonSets

@@ -1,4 +1,3 @@
-pub mod Silent
 pub mod Answer
 pub mod JointAutomaton
 pub mod Laws

@@ -1,13 +1,9 @@
 -- The indexes that a set returns for a path.
-use Rattle.std.specs.Prelude.{ℕ, Bool, false, ◌&&◌, not, List, length, filter, ◌<◌, Contains, slice_get}
+use Rattle.std.specs.Prelude.{ℕ, Bool, false, List, length, filter, ◌<◌, Contains, slice_get}
 use Rattle.std.specs.List.{range_with_len}
 use Rattle.std.specs.Option.{option_map_or}
-use Rattle.globset_glob.specs.Means.{GlobValue, glob_means}
-use Rattle.globset.specs.Silent.{silent}
-
--- The glob is not silent and matches the path. Only then does a set return its index.
-abbrev pub is_listed : GlobValue → List ℕ → Bool
-is_listed g path = not (silent g) && glob_means g path
+use Rattle.globset_glob.specs.Means.{GlobValue}
+use Rattle.glob_groups.specs.Silent.{is_listed}
 
 -- The list has a glob at this index, and it is listed. `slice_get` is `None` past the end of the list.
 abbrev pub is_listed_at : List GlobValue → List ℕ → ℕ → Bool

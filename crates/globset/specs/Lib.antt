@@ -1,4 +1,3 @@
-pub mod Silent
 pub mod Answer
 pub mod Work
 pub mod SetValue
@@ -6,6 +5,7 @@ pub mod SetFromValue
 pub mod Lending
 pub mod Laws
 pub mod inner
+pub use Rattle.glob_groups.specs.Silent
 pub use Rattle.globset_glob.specs.Token
 pub use Rattle.globset_glob.specs.Ranges
 pub use Rattle.globset_glob.specs.Marks

@@ -1,3 +1,2 @@
 pub mod StoredGlobs
 pub mod JointAutomaton
-pub mod TokenTests

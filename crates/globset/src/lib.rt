@@ -20,7 +20,6 @@
 mod builder;
 pub mod laws;
 mod set;
-mod silence;
 
 pub use builder::GlobSetBuilder;
 pub use globset_glob::{

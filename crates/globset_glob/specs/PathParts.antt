@@ -1,4 +1,4 @@
--- The basename and the extension of a path. A path is a list of bytes.
+-- The last component, the basename and the extension of a path. A path is a list of bytes.
 use Rattle.std.specs.Prelude.{ℕ, suc, ◌+◌, ◌==◌, List, [], ◌∷◌, Bool, true, false, Option, Some, None, drop, codes, if◌then◌else◌}
 use Rattle.std.specs.Str.{bytes_eq}
 
@@ -33,12 +33,12 @@ from_position bytes None = []
 from_position bytes (Some k) = drop k bytes
 
 -- the bytes after the last `/` of a path, or the whole path if it has none
-abbrev pub last_part : List ℕ → List ℕ
-last_part path = after_position path (last_position is_separator path)
+abbrev pub last_component : List ℕ → List ℕ
+last_component path = after_position path (last_position is_separator path)
 
--- The basename of a path: its last part, but nothing if that is `..`.
+-- The basename of a path: its last component, but nothing if that is `..`.
 abbrev pub basename_of : List ℕ → List ℕ
-basename_of path = if bytes_eq (last_part path) (codes "..") then [] else last_part path
+basename_of path = if bytes_eq (last_component path) (codes "..") then [] else last_component path
 
 -- the bytes of a name from its last `.` on, or nothing if it has none
 abbrev pub extension_in : List ℕ → List ℕ
@@ -47,3 +47,7 @@ extension_in name = from_position name (last_position is_dot name)
 -- The extension of a path: the bytes of its basename from the last `.` on.
 abbrev pub extension_of : List ℕ → List ℕ
 extension_of path = extension_in (basename_of path)
+
+-- The bytes of a path's last component from the last `.` on, also if that component is `..`: then they are `.`.
+abbrev pub component_extension : List ℕ → List ℕ
+component_extension path = extension_in (last_component path)

@@ -64,7 +64,7 @@ impl<'a> Model for Candidate<'a> {
 }
 
 impl<'a> Candidate<'a> {
-    ghost use Rattle.globset_glob.specs.PathParts.{basename_of, extension_of};
+    ghost use Rattle.globset_glob.specs.PathParts.{basename_of, component_extension, extension_of, last_component};
 
     /// Returns a candidate for the path with this text. It reads none of the path and allocates nothing.
     pub fn new(path: &'a str) -> Candidate<'a>
@@ -107,6 +107,25 @@ impl<'a> Candidate<'a> {
         ensures { result.now ≡ extension_of self.now }
     {
         parts::extension(self.basename())
+    }
+
+    /// Returns the bytes after the path's last `/`, or the whole path if it has no `/`. They may be `..`.
+    ///
+    /// Each call searches the path from its end to its last `/`, and reads no byte before that.
+    pub(crate) fn last_component(&self) -> &'a [u8]
+        ensures { result.now ≡ last_component self.now }
+    {
+        parts::last_component(self.path)
+    }
+
+    /// Returns the bytes of the last component from its last `.` on, or nothing if it has no `.`. If the component is `..`,
+    /// they are `.`.
+    ///
+    /// Each call finds the last component, and then searches it from its end to its last `.`.
+    pub(crate) fn component_extension(&self) -> &'a [u8]
+        ensures { result.now ≡ component_extension self.now }
+    {
+        parts::extension(self.last_component())
     }
 }
 

@@ -49,17 +49,17 @@ abbrev pub HasNoGroup : List Token → Type 0
 HasNoGroup [] = Unit {0}
 HasNoGroup (t ∷ ts) = IsNoGroup t × HasNoGroup ts
 
-in_first : (t : Token) (l : Levels) → AreShaped (all_levels l) → first_branch (in_branch (t ∷ []) l.0) ≡ and_then t (first_branch l.0)
+pub in_first : (t : Token) (l : Levels) → AreShaped (all_levels l) → first_branch (in_branch (t ∷ []) l.0) ≡ and_then t (first_branch l.0)
 in_first t (none, more) h = absurd h
 in_first t (branch ts bs, more) h = refl
 
-open_first : (l : Levels) → AreShaped (all_levels l) → 0 < length l.1 → (ts : Tokens) × (first_branch (open_level l).0 ≡ and_then (Group l.0) ts)
+pub open_first : (l : Levels) → AreShaped (all_levels l) → 0 < length l.1 → (ts : Tokens) × (first_branch (open_level l).0 ≡ and_then (Group l.0) ts)
 open_first (bs, []) h some = absurd (omega arith)
 open_first (none, outer ∷ more) h some = absurd h
 open_first (branch ts bs, none ∷ more) h some = absurd h
 open_first (branch ts bs, branch us outer ∷ more) h some = (us, refl)
 
-open_here : (ts : List Flat) → IsNested (opening ∷ ts) → (us : Tokens) × (tree_of (opening ∷ ts) ≡ and_then (Group (levels_of ts).0) us)
+pub open_here : (ts : List Flat) → IsNested (opening ∷ ts) → (us : Tokens) × (tree_of (opening ∷ ts) ≡ and_then (Group (levels_of ts).0) us)
 open_here ts h = let d = depth (suc 0) ts h in open_first (levels_of ts) (shaped ts) (omega arith)
 
 pub spelled : (ts : List Flat) (xs : List Token) → IsNested ts → HasNoGroup xs → tree_of ts ≡ before xs end → ts ≡ map simple xs

@@ -11,7 +11,7 @@ use Rattle.globset_glob.specs.Stars.{piece}
 use Rattle.globset_glob.specs.Reading.{reading, whole, levels}
 use Rattle.globset_glob.specs.Means.{GlobValue, default_options, default_glob, tokens_of_glob, glob_means}
 use Rattle.globset.specs.Answer.{answer}
-use Rattle.globset.specs.Silent.{silent}
+use Rattle.glob_groups.specs.Silent.{silent}
 
 -- What a proof unfolds to compute `silent` and `answer` of globs that are written out.
 unfoldable pub globs_on_literals : Unit {0}
@@ -46,10 +46,6 @@ globs (text ∷ texts) = glob text ∷ globs texts
 -- the text has a reading, as that of every `Glob` has
 abbrev pub is_read : GlobValue → Bool
 is_read g = is_ok (reading g.options (chars g.text))
-
--- whether the glob is silent, or `None` if its text is not a glob
-abbrev pub silence : GlobValue → Option Bool
-silence g = if is_read g then Some (silent g) else None
 
 -- the indexes that the set of these globs returns for the path, or `None` if one of the texts is not a glob
 abbrev pub indexes : List GlobValue → String → Option (List ℕ)

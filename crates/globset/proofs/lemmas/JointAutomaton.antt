@@ -13,8 +13,8 @@ use Rattle.glob_automaton.specs.TokenMeans.{means}
 use Rattle.glob_automaton.specs.IndexedTokens.{IndexedTokens, indexed, SomeMatches, IsFor}
 use Rattle.globset_glob.specs.Means.{GlobValue, tokens_of_glob, glob_means}
 use Rattle.globset_glob.specs.Cost.{cost}
-use Rattle.globset.specs.Silent.{silent}
-use Rattle.globset.specs.Answer.{is_listed, is_listed_at}
+use Rattle.glob_groups.specs.Silent.{silent, is_listed}
+use Rattle.globset.specs.Answer.{is_listed_at}
 use Rattle.globset.specs.inner.JointAutomaton.{IsJoint}
 
 -- ---- one glob more

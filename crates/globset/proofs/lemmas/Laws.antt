@@ -4,7 +4,8 @@ use Rattle.std.specs.Prelude.{filter, slice_get}
 use Rattle.std.specs.List.{range_with_len}
 use Rattle.std.specs.Option.{option_map_or}
 use Rattle.globset_glob.specs.Means.{GlobValue}
-use Rattle.globset.specs.Answer.{is_listed, is_listed_at, answer}
+use Rattle.glob_groups.specs.Silent.{is_listed}
+use Rattle.globset.specs.Answer.{is_listed_at, answer}
 use Rattle.globset.specs.Laws.{AddKeeps, OrderRenames, OneGlobSet}
 use Rattle.globset.proofs.lemmas.Answer.{filter_more, listed_is_contained, contained_is_listed}
 

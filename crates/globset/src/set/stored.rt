@@ -6,9 +6,9 @@ ghost use Rattle.globset_glob.specs.Errors.{out_of_memory};
 ghost use Rattle.globset.specs.Answer.{is_listed_at};
 ghost use Rattle.globset.specs.Work.{most_set_visits};
 
-use crate::silence::is_silent;
 use byte_automaton::{Automaton, IndexSet, StateSet};
 use glob_automaton::{add_tokens, find, new_builder};
+use glob_groups::is_silent;
 use globset_glob::{Candidate, Error, Glob, Visits, options_of, tokens_of};
 use std::marker::Model;
 

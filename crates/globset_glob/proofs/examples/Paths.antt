@@ -1,7 +1,7 @@
--- Examples of basenames and extensions. Each row computes.
+-- Examples of basenames and extensions, and of last components and theirs. Each row computes.
 use Rattle.std.specs.Prelude.{◌≡◌, [], ◌∷◌, codes, refl}
 use Prim.Native.String.{String}
-use Rattle.globset_glob.specs.PathParts.{basename_of, extension_of}
+use Rattle.globset_glob.specs.PathParts.{basename_of, extension_of, last_component, component_extension}
 
 -- the path has this basename and this extension
 abbrev HasParts : String → String → String → Type 0
@@ -52,3 +52,24 @@ empty = (refl, refl)
 -- the bytes FF and 2E, which are not UTF-8
 not_utf8 : (basename_of (255 ∷ 46 ∷ []) ≡ 255 ∷ 46 ∷ []) × (extension_of (255 ∷ 46 ∷ []) ≡ 46 ∷ [])
 not_utf8 = (refl, refl)
+
+-- ---- last components
+
+-- the path has this last component, and this is the extension of that
+abbrev HasComponent : String → String → String → Type 0
+HasComponent path component extension = (last_component (codes path) ≡ codes component) × (component_extension (codes path) ≡ codes extension)
+
+component_of_last_dots : HasComponent "a/.." ".." "."
+component_of_last_dots = (refl, refl)
+
+component_of_dots_alone : HasComponent ".." ".." "."
+component_of_dots_alone = (refl, refl)
+
+component_of_file : HasComponent "a.b/c.tar.gz" "c.tar.gz" ".gz"
+component_of_file = (refl, refl)
+
+component_of_no_dot : HasComponent "a.b/c" "c" ""
+component_of_no_dot = (refl, refl)
+
+component_of_last_slash : HasComponent "a.b/" "" ""
+component_of_last_slash = (refl, refl)

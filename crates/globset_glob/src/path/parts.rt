@@ -1,7 +1,7 @@
 //! The parts of a path.
 
 ghost use Rattle.std.specs.Prelude.{◌≡◌, ◌==◌, ◌<◌, length, IfSome};
-ghost use Rattle.globset_glob.specs.PathParts.{last_position, last_part, basename_of, extension_in};
+ghost use Rattle.globset_glob.specs.PathParts.{last_position, last_component, basename_of, extension_in};
 
 use bstr::ByteSlice;
 
@@ -16,8 +16,8 @@ fn last_position(bytes: &[u8], byte: u8) -> Option<usize>
 
 /// The bytes after the last `/` of a path, or the whole path if it has none.
 #[tactic(auto, using(crate::proofs::lemmas::LastPositions::take_rest))]
-fn last_part(path: &[u8]) -> &[u8]
-    ensures { result.now ≡ last_part path.now }
+pub fn last_component(path: &[u8]) -> &[u8]
+    ensures { result.now ≡ last_component path.now }
 {
     match last_position(path, b'/') {
         Some(position) => &path[position + 1..],
@@ -29,15 +29,15 @@ fn last_part(path: &[u8]) -> &[u8]
 pub fn basename(path: &[u8]) -> &[u8]
     ensures { result.now ≡ basename_of path.now }
 {
-    let part = last_part(path);
-    if part == b"..".as_slice() {
-        &part[..0]
+    let component = last_component(path);
+    if component == b"..".as_slice() {
+        &component[..0]
     } else {
-        part
+        component
     }
 }
 
-/// The bytes of a basename from its last `.` on, or nothing if it has none.
+/// The bytes of a component or a basename from its last `.` on, or nothing if it has none.
 #[tactic(auto, using(crate::proofs::lemmas::LastPositions::take_rest))]
 pub fn extension(name: &[u8]) -> &[u8]
     ensures { result.now ≡ extension_in name.now }

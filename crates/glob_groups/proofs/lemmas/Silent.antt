@@ -3,15 +3,15 @@ use Rattle.std.proofs.Common.{◌≡◌, List, [], ◌∷◌, length, map, get_o
 use Rattle.std.proofs.lemmas.Bool.{eqb-true}
 use Rattle.std.proofs.lemmas.List.{length-map}
 use Rattle.glob_syntax.specs.declared.token.Token as held
-use Rattle.globset_glob.specs.Token.{Token, Literal, Any, ZeroOrMore, RecursivePrefix, RecursiveSuffix, RecursiveZeroOrMore, Class, Group, Tokens, end, and_then, before}
-use Rattle.globset_glob.specs.FlatTokens.{Flat, simple, opening, comma, closing, tree_of, IsNested}
+use Rattle.glob_syntax.specs.Token.{Token, Literal, Any, ZeroOrMore, RecursivePrefix, RecursiveSuffix, RecursiveZeroOrMore, Class, Group, Tokens, end, and_then, before}
+use Rattle.glob_syntax.specs.FlatTokens.{Flat, simple, opening, comma, closing, tree_of, IsNested}
+use Rattle.glob_automaton.specs.TokenMeans.{is_prefix}
 use Rattle.globset_glob.specs.Means.{GlobValue, tokens_of_glob}
-use Rattle.globset_glob.specs.TokenMeans.{is_prefix}
-use Rattle.globset_glob.specs.Views.{flat_of, flats, tokens_of}
+use Rattle.glob_syntax.specs.Views.{flat_of, flats, tokens_of}
 use Rattle.glob_syntax.proofs.lemmas.FlatTrees.{spelled}
 use Rattle.glob_automaton.proofs.lemmas.TokenLists.{prefix_is}
-use Rattle.globset.specs.Silent.{silent, is_dot, is_prefix_dot_dot}
-use Rattle.globset.specs.inner.TokenTests.{is_simple_that}
+use Rattle.glob_groups.specs.Silent.{silent, is_dot, is_prefix_dot_dot}
+use Rattle.glob_groups.specs.inner.FlatTests.{is_simple_that}
 
 silent_is : (g : GlobValue) (ts : Tokens) → tokens_of_glob g ≡ ts → (not g.options.case_insensitive && is_prefix_dot_dot ts) ≡ silent g
 unfolding silent
@@ -39,7 +39,7 @@ by_tokens g ts h e = ap (λ b. not b && is_prefix_dot_dot ts) (sym e) ∙ silent
 abbrev pub prefix_dot_dot : List Token
 prefix_dot_dot = RecursivePrefix ∷ Literal 46 ∷ Literal 46 ∷ []
 
-dot_is : (t : Token) → is_dot t ≡ true → t ≡ Literal 46
+pub dot_is : (t : Token) → is_dot t ≡ true → t ≡ Literal 46
 dot_is (Literal c) e = ap Literal (eqb-true c 46 e)
 dot_is Any e = absurd cc
 dot_is ZeroOrMore e = absurd cc
@@ -75,7 +75,7 @@ other_length ts nested other = by_case (is_prefix_dot_dot (tokens_of ts)) refl
     by_case true e = let n = ap length (list_is ts nested e) in let m = length-map ts flat_of in absurd (other (omega arith))
     by_case false e = refl
 
-simple_is : (test : Token → Bool) (t : Token) (f : Flat) → ((u : Token) → test u ≡ true → u ≡ t) → is_simple_that test f ≡ true → f ≡ simple t
+pub simple_is : (test : Token → Bool) (t : Token) (f : Flat) → ((u : Token) → test u ≡ true → u ≡ t) → is_simple_that test f ≡ true → f ≡ simple t
 simple_is test t (simple u) is e = ap simple (is u e)
 simple_is test t opening is e = absurd cc
 simple_is test t comma is e = absurd cc

@@ -1,11 +1,11 @@
 use Rattle.std.proofs.Common.{◌≡◌, ◌&&◌, arith, sym, ◌∙◌}
-use Rattle.globset_glob.specs.TokenMeans.{is_prefix}
-use Rattle.globset_glob.specs.Views.{flat_of, tokens_of}
-use Rattle.globset.specs.Silent.{is_dot, is_prefix_dot_dot, silent}
-use Rattle.globset.specs.inner.TokenTests.{is_simple_that}
-use Rattle.globset.proofs.lemmas.Silent.{not_insensitive, not_other, by_tokens, other_length, of_three, first_two_hold, first_fails, second_fails}
-use Rattle.globset.proofs.silence.is_silent.Goals as goal
-use Rattle.globset.proofs.silence.is_silent.Goals.{then-is_recursive_prefix, else-is_recursive_prefix}
+use Rattle.glob_automaton.specs.TokenMeans.{is_prefix}
+use Rattle.glob_syntax.specs.Views.{flat_of, tokens_of}
+use Rattle.glob_groups.specs.Silent.{is_dot, is_prefix_dot_dot, silent}
+use Rattle.glob_groups.specs.inner.FlatTests.{is_simple_that}
+use Rattle.glob_groups.proofs.lemmas.Silent.{not_insensitive, not_other, by_tokens, other_length, of_three, first_two_hold, first_fails, second_fails}
+use Rattle.glob_groups.proofs.silence.is_silent.Goals as goal
+use Rattle.glob_groups.proofs.silence.is_silent.Goals.{then-is_recursive_prefix, else-is_recursive_prefix}
 
 pub returns-then-options_of : goal.returns-then-options_of
 returns-then-options_of c = not_insensitive c.args.glob.now (rw (← c.options_of.ensures) c.if-options_of.true)

@@ -1,8 +1,8 @@
 -- Silent globs: those that a set leaves out.
-use Rattle.std.specs.Prelude.{Bool, false, ◌&&◌, not, ◌==◌}
-use Rattle.globset_glob.specs.Token.{Token, RecursivePrefix, Literal, Any, ZeroOrMore, RecursiveSuffix, RecursiveZeroOrMore, Class, Group, Tokens, end, and_then}
-use Rattle.globset_glob.specs.Means.{GlobValue, tokens_of_glob}
-use Rattle.globset_glob.specs.TokenMeans.{is_prefix}
+use Rattle.std.specs.Prelude.{ℕ, Bool, false, ◌&&◌, not, ◌==◌, List}
+use Rattle.glob_syntax.specs.Token.{Token, RecursivePrefix, Literal, Any, ZeroOrMore, RecursiveSuffix, RecursiveZeroOrMore, Class, Group, Tokens, end, and_then}
+use Rattle.glob_automaton.specs.TokenMeans.{is_prefix}
+use Rattle.globset_glob.specs.Means.{GlobValue, tokens_of_glob, glob_means}
 
 -- The token is the literal `.`, whose code is 46. The class `[.]` is another token.
 abbrev pub is_dot : Token → Bool
@@ -29,3 +29,7 @@ is_prefix_dot_dot (and_then t (and_then u (and_then v (and_then w ts)))) = false
 -- silent. A matcher of one glob ignores this.
 unfoldable pub silent : GlobValue → Bool
 silent g = not g.options.case_insensitive && is_prefix_dot_dot (tokens_of_glob g)
+
+-- The glob is not silent and matches the path. Only then does a set return its index.
+abbrev pub is_listed : GlobValue → List ℕ → Bool
+is_listed g path = not (silent g) && glob_means g path

@@ -1,6 +1,6 @@
 -- Examples of globs that are silent, and of globs that are not. Each row computes.
 use Rattle.std.specs.Prelude.{◌≡◌, true, false, Some, refl}
-use Rattle.globset.proofs.examples.Words.{globs_on_literals, glob, insensitive, silence}
+use Rattle.glob_groups.proofs.examples.Words.{globs_on_literals, glob, insensitive, silence}
 
 dots_after_prefix : silence (glob "**/..") ≡ Some true
 unfolding globs_on_literals

@@ -1,0 +1,20 @@
+use Rattle.std.proofs.Common.{sym, ◌∙◌}
+use Rattle.std.proofs.lemmas.Result.{IfOk-weaker}
+use Rattle.glob_syntax.specs.Views.{tokens_of}
+use Rattle.glob_groups.proofs.lemmas.Groups.{is_group, silent_found, insensitive_found, sensitive_found}
+use Rattle.glob_groups.proofs.group.group_of.Goals as goal
+
+pub returns-then-is_silent : goal.returns-then-is_silent
+returns-then-is_silent c = is_group c.args.glob.now _ (silent_found c.args.glob.now (sym c.is_silent.ensures ∙ c.if-is_silent.true))
+
+pub returns-then-options : goal.returns-then-options
+returns-then-options c =
+    is_group c.args.glob.now _
+    (insensitive_found c.args.glob.now c.options_of-options.result (tokens_of c.tokens_of-tokens.result.now) _ (sym c.is_silent.ensures ∙ c.if-is_silent.false) c.options_of-options.ensures
+    c.tokens_of-tokens.ensures.tokens c.if-options.true c.automaton_group.ensures)
+
+pub returns : goal.returns
+returns c =
+    IfOk-weaker c.sensitive_group.result _ _ (λ group found. is_group c.args.glob.now group
+    (sensitive_found c.args.glob.now c.options_of-options.result (tokens_of c.tokens_of-tokens.result.now) _ (sym c.is_silent.ensures ∙ c.if-is_silent.false) c.options_of-options.ensures
+    c.tokens_of-tokens.ensures.tokens c.if-options.false found)) c.sensitive_group.ensures

@@ -1,0 +1,4 @@
+pub mod Silent
+pub mod Groups
+pub mod GroupMeaning
+pub mod inner

@@ -1,0 +1,104 @@
+//! The group that a glob belongs to: by what a set decides whether the glob matches.
+
+ghost use Rattle.std.specs.Prelude.{◌≡◌, IfOk};
+ghost use Rattle.glob_syntax.specs.FlatTokens.{IsNested};
+ghost use Rattle.glob_syntax.specs.Views.{flats, tokens_of};
+ghost use Rattle.globset_glob.specs.Means.{tokens_of_glob};
+ghost use Rattle.glob_groups.specs.Groups.{after_prefix, automaton_group, sensitive_group};
+ghost use Rattle.glob_groups.specs.GroupMeaning.{IsGroupOf, group_seen};
+
+mod conditions;
+mod key;
+
+use crate::silence::{is_recursive_prefix, is_silent};
+use conditions::{is_any_extension, is_by_last_component, is_last_component, is_whole_path};
+use glob_syntax::{Options, Token};
+use globset_glob::{Glob, options_of, tokens_of};
+use key::{ending, literal_text};
+use std::alloc::{AllocError, Global};
+
+/// By what a set decides whether a glob matches a path. A key is bytes that the glob has as literals.
+#[derive(Debug, Drop)]
+pub enum Group {
+    /// The glob is silent: no set returns its index.
+    Silent,
+    /// The glob matches the path that is the key, and no other.
+    WholePath(Vec<u8>),
+    /// The glob matches the paths whose last component is the key.
+    LastComponent(Vec<u8>),
+    /// The glob matches the paths whose last component has the key as its extension: its bytes from the last `.` on.
+    Extension(Vec<u8>),
+    /// The glob matches only paths whose last component has the key as its extension. An automaton for the glob tells which
+    /// of them.
+    RequiredExtension(Vec<u8>),
+    /// The glob matches the paths whose last component matches [`tokens_after_prefix`]. An automaton for these tokens tells
+    /// which components do.
+    ByLastComponent,
+    /// An automaton for the glob tells which paths it matches.
+    ByPath,
+}
+
+/// Returns the group of a glob, the first of them that fits. It takes memory for a key, and time linear in the glob.
+///
+/// Returns an error if memory runs out, and no other.
+pub fn group_of(alloc: Global, glob: &Glob) -> Result<Group, AllocError>
+    ensures { IfOk result (λ group. IsGroupOf glob.now group) }
+{
+    if is_silent(glob) {
+        return Ok(Group::Silent);
+    }
+    let options = options_of(glob);
+    let tokens = tokens_of(glob);
+    if options.case_insensitive {
+        return Ok(automaton_group(options, tokens));
+    }
+    sensitive_group(alloc, options, tokens)
+}
+
+/// Returns the tokens that the last component of a path has to match for a glob of the group [`Group::ByLastComponent`]: all
+/// tokens of the glob after `RecursivePrefix`. For a glob that does not begin with it, these are all its tokens.
+pub fn tokens_after_prefix(glob: &Glob) -> &[Token]
+    ensures tokens { tokens_of result.now ≡ after_prefix (tokens_of_glob glob.now) }
+    ensures nested { IsNested (flats result.now) }
+{
+    let tokens = tokens_of(glob);
+    let Some((first, rest)) = tokens.split_first() else {
+        return tokens;
+    };
+    if is_recursive_prefix(first) {
+        return rest;
+    }
+    tokens
+}
+
+/// The group of the tokens of a case-sensitive glob that is not silent.
+fn sensitive_group(alloc: Global, options: Options, tokens: &[Token]) -> Result<Group, AllocError>
+    requires { IsNested (flats tokens.now) }
+    ensures { IfOk result (λ group. group_seen group ≡ sensitive_group options (tokens_of tokens.now)) }
+{
+    if is_whole_path(tokens) {
+        return Ok(Group::WholePath(literal_text(alloc, tokens)?));
+    }
+    if is_last_component(tokens) {
+        return Ok(Group::LastComponent(literal_text(alloc, tokens)?));
+    }
+    if is_any_extension(options, tokens) {
+        return Ok(Group::Extension(literal_text(alloc, tokens)?));
+    }
+    if let Some(last) = ending(tokens) {
+        return Ok(Group::RequiredExtension(literal_text(alloc, last)?));
+    }
+    Ok(automaton_group(options, tokens))
+}
+
+/// The group of tokens that no key decides.
+fn automaton_group(options: Options, tokens: &[Token]) -> Group
+    requires { IsNested (flats tokens.now) }
+    ensures { group_seen result ≡ automaton_group options (tokens_of tokens.now) }
+{
+    if is_by_last_component(options, tokens) {
+        Group::ByLastComponent
+    } else {
+        Group::ByPath
+    }
+}

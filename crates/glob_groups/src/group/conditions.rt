@@ -1,0 +1,116 @@
+//! What the tokens of a glob must be for it to belong to a group.
+
+ghost use Rattle.std.specs.Prelude.{◌≡◌};
+ghost use Rattle.glob_syntax.specs.Views.{flat_of, flats};
+ghost use Rattle.glob_groups.specs.Groups.{is_literal_except, is_within};
+ghost use Rattle.glob_groups.specs.inner.FlatTests.{all_simple_pass, is_any_extension, is_by_last_component, is_extension, is_last_component, is_simple_that, is_star_extension, is_whole_path};
+
+use glob_syntax::{Options, Token};
+
+/// Whether the tokens are one or more literals.
+pub fn is_whole_path(tokens: &[Token]) -> bool
+    ensures { result ≡ is_whole_path (flats tokens.now) }
+{
+    if tokens.is_empty() {
+        return false;
+    }
+    are_literals_except(tokens, [].as_slice())
+}
+
+/// Whether the tokens are `RecursivePrefix` and one or more literals other than `/`.
+pub fn is_last_component(tokens: &[Token]) -> bool
+    ensures { result ≡ is_last_component (flats tokens.now) }
+{
+    match tokens {
+        [Token::RecursivePrefix] => false,
+        [Token::RecursivePrefix, rest @ ..] => are_literals_except(rest, ['/'].as_slice()),
+        _ => false,
+    }
+}
+
+/// Whether the tokens are `RecursivePrefix`, `*` and an extension; or the same without `RecursivePrefix`, if `*` matches `/`.
+pub fn is_any_extension(options: Options, tokens: &[Token]) -> bool
+    ensures { result ≡ is_any_extension options (flats tokens.now) }
+{
+    match tokens {
+        [Token::RecursivePrefix, rest @ ..] => is_star_extension(rest),
+        _ => !options.literal_separator && is_star_extension(tokens),
+    }
+}
+
+/// Whether the tokens are `*` and an extension.
+fn is_star_extension(tokens: &[Token]) -> bool
+    ensures { result ≡ is_star_extension (flats tokens.now) }
+{
+    match tokens {
+        [Token::ZeroOrMore, rest @ ..] => is_extension(rest),
+        _ => false,
+    }
+}
+
+/// Whether the tokens are a literal `.` and any literals other than `.` and `/`.
+fn is_extension(tokens: &[Token]) -> bool
+    ensures { result ≡ is_extension (flats tokens.now) }
+{
+    match tokens {
+        [Token::Literal('.'), rest @ ..] => are_literals_except(rest, ['.', '/'].as_slice()),
+        _ => false,
+    }
+}
+
+/// Whether the tokens are `RecursivePrefix` and one or more tokens of which none matches `/`.
+pub fn is_by_last_component(options: Options, tokens: &[Token]) -> bool
+    ensures { result ≡ is_by_last_component options (flats tokens.now) }
+{
+    match tokens {
+        [Token::RecursivePrefix] => false,
+        [Token::RecursivePrefix, rest @ ..] => are_within(options, rest),
+        _ => false,
+    }
+}
+
+/// Whether each token is a literal whose character is not one of these.
+fn are_literals_except(tokens: &[Token], excluded: &[char]) -> bool
+    ensures { result ≡ all_simple_pass (is_literal_except excluded.now) (flats tokens.now) }
+{
+    for token in tokens {
+        if !is_literal_except(token, excluded) {
+            return false;
+        }
+    }
+    true
+}
+
+/// Whether none of the tokens matches `/`.
+fn are_within(options: Options, tokens: &[Token]) -> bool
+    ensures { result ≡ all_simple_pass (is_within options) (flats tokens.now) }
+{
+    for token in tokens {
+        if !is_within(options, token) {
+            return false;
+        }
+    }
+    true
+}
+
+/// Whether the token is a literal whose character is not one of these.
+pub fn is_literal_except(token: &Token, excluded: &[char]) -> bool
+    ensures { result ≡ is_simple_that (is_literal_except excluded.now) (flat_of token.now) }
+{
+    match token {
+        Token::Literal(c) => !excluded.contains(c),
+        _ => false,
+    }
+}
+
+/// Whether the token matches nothing that has a `/`.
+fn is_within(options: Options, token: &Token) -> bool
+    ensures { result ≡ is_simple_that (is_within options) (flat_of token.now) }
+{
+    match token {
+        Token::Literal(c) => *c != '/',
+        Token::Any | Token::ZeroOrMore => options.literal_separator,
+        Token::Class(class) => !class.has(options, b'/'),
+        _ => false,
+    }
+}

@@ -1,0 +1,42 @@
+//! The keys of globs: bytes of their literals.
+
+ghost use Rattle.std.specs.Prelude.{◌≡◌, IfOk};
+ghost use Rattle.std.specs.Option.{option_map};
+ghost use Rattle.glob_syntax.specs.Views.{flats};
+ghost use Rattle.glob_groups.specs.inner.FlatTests.{ending, literal_text};
+
+use crate::group::conditions::is_literal_except;
+use crate::silence::is_dot;
+use glob_syntax::Token;
+use std::alloc::{AllocError, Global};
+
+/// The bytes of the tokens that are literals, in order.
+pub fn literal_text(alloc: Global, tokens: &[Token]) -> Result<Vec<u8>, AllocError>
+    ensures { IfOk result (λ text. text.items ≡ literal_text (flats tokens.now)) }
+{
+    let mut text = String::new(alloc);
+    for token in tokens {
+        if let Token::Literal(c) = token {
+            text.push(*c)?;
+        }
+    }
+    Ok(text.into_bytes())
+}
+
+/// The last tokens that are a literal `.` and any literals other than `.` and `/`, if they are. It reads the tokens from the
+/// end, up to the first one that is no such literal.
+pub fn ending(tokens: &[Token]) -> Option<&[Token]>
+    ensures { option_map (λ last. literal_text (flats last.now)) result ≡ ending (flats tokens.now) }
+{
+    for i in 0..tokens.len() {
+        let at = tokens.len() - 1 - i;
+        let token = &tokens[at];
+        if is_dot(token) {
+            return Some(&tokens[at..]);
+        }
+        if !is_literal_except(token, ['.', '/'].as_slice()) {
+            return None;
+        }
+    }
+    None
+}

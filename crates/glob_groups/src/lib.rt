@@ -1,0 +1,8 @@
+//! By what a set of globs decides each of its globs.
+#![tactic(auto)]
+
+mod group;
+mod silence;
+
+pub use group::{Group, group_of, tokens_after_prefix};
+pub use silence::is_silent;
