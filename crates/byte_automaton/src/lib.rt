@@ -12,8 +12,6 @@ mod index_set;
 mod run;
 mod state;
 mod state_set;
-#[cfg(test)]
-mod tests;
 mod words;
 
 pub use automaton::Automaton;

@@ -1,60 +1,31 @@
 //! Rows about globs, sets, paths and JSON values.
 
-ghost use Rattle.std.specs.Prelude.{◌≡◌, ◌↔◌, IsNone, IfSome, string_bytes};
-
-use crate::calls;
-use crate::column::{Columns, escaped};
-use crate::error::RowError;
-use crate::repetition::expanded;
-use crate::shown::{self, list, text, yes_or_no};
-use globset::{Candidate, Error, Glob, GlobBuilder, GlobSet, escape};
+use crate::shown;
+use anyhow::Result;
+use globset::{Candidate, Error, Glob, GlobBuilder, GlobSet, ValueError, escape};
+use rows::{Case, Columns, RowError, escaped, list, text, yes_or_no};
 use serde_json::Value;
-use std::alloc::{AllocError, Global};
+use std::alloc::Global;
 use std::hash::{DefaultHasher, Hash, Hasher};
 
 /// The globs that rows so far added, and a set of them.
 #[derive(Drop)]
-pub struct Case {
+pub struct Globs {
     alloc: Global,
     globs: Vec<Glob>,
     set: GlobSet,
 }
 
-impl Case {
-    pub fn new(alloc: Global) -> Case {
-        Case {
+impl Case for Globs {
+    fn new(alloc: Global) -> Globs {
+        Globs {
             alloc,
             globs: Vec::new(alloc),
             set: GlobSet::empty(),
         }
     }
 
-    /// Replays a row. Returns what was returned in place of what the row says, or `None` where it is the same.
-    pub fn replay(&mut self, row: &str) -> Result<Option<String>, AllocError> {
-        let alloc = self.alloc;
-        if let Some(short) = row.strip_prefix("repeat\t") {
-            return match expanded(alloc, short) {
-                Ok(long) => self.replay_columns(&mut Columns::new(long.as_str())),
-                Err(error) => Ok(Some(error.to_string(alloc)?)),
-            };
-        }
-        self.replay_columns(&mut Columns::new(row))
-    }
-
-    fn replay_columns(&mut self, columns: &mut Columns<'_>) -> Result<Option<String>, AllocError> {
-        match self.compared(columns) {
-            Ok(other) => Ok(other),
-            Err(error) => Ok(Some(error.to_string(self.alloc)?)),
-        }
-    }
-
-    fn compared(&mut self, columns: &mut Columns<'_>) -> Result<Option<String>, RowError> {
-        let returned = self.returned(columns)?;
-        Ok(unless_equal(returned, columns.rest()?))
-    }
-
-    /// What the call of a row returns, as columns. The columns that are left are those that it should return.
-    fn returned(&mut self, columns: &mut Columns<'_>) -> Result<String, RowError> {
+    fn returned(&mut self, columns: &mut Columns<'_>) -> Result<String> {
         match columns.next()? {
             "read" => self.read(columns),
             "glob" => self.glob(columns),
@@ -66,66 +37,60 @@ impl Case {
             "escape" => self.escape(columns),
             "value" => self.value(columns),
             "array" => self.array(columns),
-            "call" => calls::returned(self.alloc, columns, &self.globs, &self.set),
-            _ => Err(RowError::UnknownKind),
+            _ => Err(RowError::UnknownKind.into()),
         }
     }
+}
 
+impl Globs {
     /// Reads a glob and copies it: `reads`, and the copy's `regex()`; or `fails`, the error's kind and its text.
-    fn read(&self, columns: &mut Columns<'_>) -> Result<String, RowError> {
+    fn read(&self, columns: &mut Columns<'_>) -> Result<String> {
         match read(self.alloc, columns)? {
-            Ok(glob) => shown::glob(self.alloc, &glob.clone()?),
-            Err(error) => shown::error(self.alloc, &error),
+            Ok(glob) => Ok(shown::glob(self.alloc, &glob.clone()?)?),
+            Err(error) => Ok(shown::error(self.alloc, &error)?),
         }
     }
 
-    /// Reads a glob, as [`Case::read`], and adds it to the set.
-    fn glob(&mut self, columns: &mut Columns<'_>) -> Result<String, RowError> {
+    /// Reads a glob, as [`Globs::read`], and adds it to the set.
+    fn glob(&mut self, columns: &mut Columns<'_>) -> Result<String> {
         match read(self.alloc, columns)? {
             Ok(glob) => {
                 let shown = shown::glob(self.alloc, &glob)?;
                 self.push(glob)?;
                 Ok(shown)
             }
-            Err(error) => shown::error(self.alloc, &error),
+            Err(error) => Ok(shown::error(self.alloc, &error)?),
         }
     }
 
     /// Adds a glob to the set: the length of the set.
-    fn add(&mut self, columns: &mut Columns<'_>) -> Result<String, RowError> {
-        let glob = read(self.alloc, columns)??;
-        self.push(glob)?;
+    fn add(&mut self, columns: &mut Columns<'_>) -> Result<String> {
+        self.push(read(self.alloc, columns)??)?;
         Ok(format!(in self.alloc; "{}", self.set.len())?)
     }
 
-    fn push(&mut self, glob: Glob) -> Result<(), RowError> {
+    fn push(&mut self, glob: Glob) -> Result<(), Error> {
         self.globs.push(glob)?;
         self.set = GlobSet::new(self.alloc, &self.globs)?;
         Ok(())
     }
 
     /// Whether a glob matches a path, by its matcher and by a set of it alone.
-    fn is_match(&self, columns: &mut Columns<'_>) -> Result<String, RowError> {
+    fn is_match(&self, columns: &mut Columns<'_>) -> Result<String> {
         let glob = read(self.alloc, columns)??;
         let path = columns.bytes(self.alloc)?;
-        let path = Candidate::from_bytes(&path);
-        let matcher = glob.compile_matcher()?.is_match_candidate(&path)?;
-        let set = GlobSet::new(self.alloc, [&glob])?.is_match_candidate(&path)?;
-        if matcher == set {
-            text(self.alloc, yes_or_no(matcher))
-        } else {
-            text(self.alloc, "the matcher and the set differ")
-        }
+        let shown = is_match(self.alloc, &glob, &Candidate::from_bytes(&path))?;
+        Ok(text(self.alloc, shown)?)
     }
 
     /// The indexes that the set returns for a path, whether all globs match it, and the indexes of the globs whose own
     /// matchers match it.
-    fn path(&self, columns: &mut Columns<'_>) -> Result<String, RowError> {
+    fn path(&self, columns: &mut Columns<'_>) -> Result<String> {
         let path = columns.bytes(self.alloc)?;
         let path = Candidate::from_bytes(&path);
         let indexes = self.set.matches_candidate(self.alloc, &path)?;
         if self.set.is_match_candidate(&path)? == indexes.is_empty() {
-            return text(self.alloc, "is_match and matches differ");
+            return Ok(text(self.alloc, "is_match and matches differ")?);
         }
         let all = yes_or_no(self.set.matches_all_candidate(&path)?);
         let set = list(self.alloc, &indexes)?;
@@ -137,7 +102,7 @@ impl Case {
     fn matching(&self, path: &Candidate<'_>) -> Result<Vec<usize>, Error> {
         let mut indexes = Vec::new(self.alloc);
         for (i, glob) in self.globs.iter().enumerate() {
-            if glob.compile_matcher()?.is_match_candidate(path)? {
+            if matches_by_itself(glob, path)? {
                 indexes.push(i)?;
             }
         }
@@ -145,21 +110,14 @@ impl Case {
     }
 
     /// Whether two globs are equal, or the errors of two texts that are no globs. Equal globs must hash equally.
-    fn equal(&self, columns: &mut Columns<'_>) -> Result<String, RowError> {
+    fn equal(&self, columns: &mut Columns<'_>) -> Result<String> {
         let one = read(self.alloc, columns)?;
         let other = read(self.alloc, columns)?;
-        match (&one, &other) {
-            (Ok(one), Ok(other)) if one == other && hash_of(one) != hash_of(other) => {
-                text(self.alloc, "the globs are equal, and their hashes differ")
-            }
-            (Ok(one), Ok(other)) => text(self.alloc, yes_or_no(one == other)),
-            (Err(one), Err(other)) => text(self.alloc, yes_or_no(one == other)),
-            _ => text(self.alloc, "a glob and an error"),
-        }
+        Ok(text(self.alloc, compared(&one, &other))?)
     }
 
     /// The basename and the extension of a path.
-    fn parts(&self, columns: &mut Columns<'_>) -> Result<String, RowError> {
+    fn parts(&self, columns: &mut Columns<'_>) -> Result<String> {
         let path = columns.bytes(self.alloc)?;
         let path = Candidate::from_bytes(&path);
         let basename = escaped(self.alloc, path.basename())?;
@@ -168,59 +126,83 @@ impl Case {
     }
 
     /// The escaped text.
-    fn escape(&self, columns: &mut Columns<'_>) -> Result<String, RowError> {
+    fn escape(&self, columns: &mut Columns<'_>) -> Result<String> {
         let glob = escape(self.alloc, columns.text(self.alloc)?.as_str())?;
         Ok(escaped(self.alloc, glob.as_bytes())?)
     }
 
     /// Reads a glob from a JSON text: `reads`, the glob and the JSON text that is written of it; or `fails` and the error.
-    fn value(&self, columns: &mut Columns<'_>) -> Result<String, RowError> {
-        let value = self.json(columns)?;
+    fn value(&self, columns: &mut Columns<'_>) -> Result<String> {
+        let value = json(self.alloc, columns)?;
         match Glob::from_value(self.alloc, &value) {
-            Ok(glob) => {
-                let value = glob.to_value()?;
-                if Glob::from_value(self.alloc, &value)? != glob {
-                    return text(self.alloc, "another glob is read back");
-                }
-                let glob = escaped(self.alloc, glob.glob().as_bytes())?;
-                let written = escaped(self.alloc, value.to_string(self.alloc)?.as_bytes())?;
-                Ok(format!(in self.alloc; "reads\t{glob}\t{written}")?)
-            }
-            Err(error) => shown::value_error(self.alloc, &error),
+            Ok(glob) => written(self.alloc, &glob),
+            Err(error) => Ok(shown::value_error(self.alloc, &error)?),
         }
     }
 
     /// Reads a set from a JSON text, in place of the set: `reads` and its length; or `fails`, the index and the error.
-    fn array(&mut self, columns: &mut Columns<'_>) -> Result<String, RowError> {
-        let value = self.json(columns)?;
+    fn array(&mut self, columns: &mut Columns<'_>) -> Result<String> {
+        let value = json(self.alloc, columns)?;
         match GlobSet::from_value(self.alloc, &value) {
             Ok(set) => {
                 self.globs.clear();
                 self.set = set;
                 Ok(format!(in self.alloc; "reads\t{}", self.set.len())?)
             }
-            Err(error) => shown::value_error(self.alloc, &error),
-        }
-    }
-
-    /// The JSON value of the next column.
-    fn json(&self, columns: &mut Columns<'_>) -> Result<Value, RowError> {
-        match Value::from_str(self.alloc, columns.text(self.alloc)?.as_str()) {
-            Ok(value) => Ok(value),
-            Err(_) => Err(RowError::NotJson),
+            Err(error) => Ok(shown::value_error(self.alloc, &error)?),
         }
     }
 }
 
-/// What was returned, unless it is what should be returned.
-fn unless_equal(returned: String, want: &str) -> Option<String>
-    ensures same { IsNone result ↔ (string_bytes returned ≡ want.now) }
-    ensures other { IfSome result (λ text. text ≡ returned) }
-{
-    if returned.as_str() == want {
-        None
+fn is_match(alloc: Global, glob: &Glob, path: &Candidate<'_>) -> Result<&'static str, Error> {
+    let matcher = matches_by_itself(glob, path)?;
+    let set = matches_in_a_set(alloc, glob, path)?;
+    if matcher == set {
+        Ok(yes_or_no(matcher))
     } else {
-        Some(returned)
+        Ok("the matcher and the set differ")
+    }
+}
+
+fn matches_by_itself(glob: &Glob, path: &Candidate<'_>) -> Result<bool, Error> {
+    glob.compile_matcher()?.is_match_candidate(path)
+}
+
+fn matches_in_a_set(alloc: Global, glob: &Glob, path: &Candidate<'_>) -> Result<bool, Error> {
+    GlobSet::new(alloc, [glob])?.is_match_candidate(path)
+}
+
+fn compared(one: &Result<Glob, Error>, other: &Result<Glob, Error>) -> &'static str {
+    match (one, other) {
+        (Ok(one), Ok(other)) if one == other && hash_of(one) != hash_of(other) => {
+            "the globs are equal, and their hashes differ"
+        }
+        (Ok(one), Ok(other)) => yes_or_no(one == other),
+        (Err(one), Err(other)) => yes_or_no(one == other),
+        _ => "a glob and an error",
+    }
+}
+
+/// `reads`, the glob and the JSON text that is written of it.
+fn written(alloc: Global, glob: &Glob) -> Result<String> {
+    let value = glob.to_value()?;
+    if !is_read_back(alloc, glob, &value)? {
+        return Ok(text(alloc, "another glob is read back")?);
+    }
+    let glob = escaped(alloc, glob.glob().as_bytes())?;
+    let written = escaped(alloc, value.to_string(alloc)?.as_bytes())?;
+    Ok(format!(in alloc; "reads\t{glob}\t{written}")?)
+}
+
+fn is_read_back(alloc: Global, glob: &Glob, value: &Value) -> Result<bool, ValueError> {
+    Ok(Glob::from_value(alloc, value)? == *glob)
+}
+
+/// The JSON value of the next column.
+fn json(alloc: Global, columns: &mut Columns<'_>) -> Result<Value, RowError> {
+    match Value::from_str(alloc, columns.text(alloc)?.as_str()) {
+        Ok(value) => Ok(value),
+        Err(_) => Err(RowError::NotJson),
     }
 }
 

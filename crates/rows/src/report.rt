@@ -2,9 +2,9 @@
 
 ghost use Rattle.std.specs.Prelude.{◌≡◌, ◌+◌, ◌<◌, ◌^◌, ◌++◌, ◌∷◌, [], length, IfOk, OnOk, MatchOption};
 ghost use Rattle.std.specs.List.{All, count_by};
-ghost use Rattle.replay.specs.Rows.{is_row};
+ghost use Rattle.rows.specs.Rows.{is_row};
 
-use crate::case::Case;
+use crate::case::{self, Case};
 use std::alloc::{AllocError, Global};
 
 /// The index of a line whose row failed, and what was returned instead.
@@ -22,21 +22,21 @@ pub struct Report {
 }
 
 /// Replays the rows of a file: the lines that are neither empty nor a comment. An empty line ends a case.
-pub fn replay(alloc: Global, lines: &[&str]) -> Result<Report, AllocError>
+pub fn replay<C: Case>(alloc: Global, lines: &[&str]) -> Result<Report, AllocError>
     ensures rows { IfOk result (λ r. r.passed + length r.failures.items ≡ count_by (λ line. is_row line.now) lines.now) }
     ensures failures { IfOk result (λ r. All (λ f. f.index < length lines.now) r.failures.items) }
 {
-    let mut case = Case::new(alloc);
+    let mut case = C::new(alloc);
     let mut report = Report {
         passed: 0,
         failures: Vec::new(alloc),
     };
     for (index, line) in lines.iter().enumerate() {
         if line.is_empty() {
-            case = Case::new(alloc);
+            case = C::new(alloc);
         }
         if is_row(line) {
-            let returned = case.replay(line)?;
+            let returned = case::replay(alloc, &mut case, line)?;
             report.add(index, returned)?;
         }
     }

@@ -1,9 +1,9 @@
 //! Why a row cannot be replayed.
 
-use globset::{Error, ValueError};
 use std::alloc::AllocError;
 use thiserror::Error as ThisError;
 
+/// Why a row cannot be replayed.
 #[derive(Debug, Drop, ThisError)]
 pub enum RowError {
     #[error("no row is of this kind")]
@@ -24,10 +24,6 @@ pub enum RowError {
     BadRepetition,
     #[error("a column is not JSON")]
     NotJson,
-    #[error(transparent)]
-    Glob(#[from] Error),
-    #[error(transparent)]
-    Value(#[from] ValueError),
     #[error(transparent)]
     Memory(#[from(alloc)] AllocError),
 }

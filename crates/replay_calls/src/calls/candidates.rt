@@ -1,0 +1,30 @@
+//! Calls on candidates.
+
+use anyhow::Result;
+use globset::Candidate;
+use rows::{RowError, escaped};
+use std::alloc::Global;
+
+/// On a candidate of this path.
+pub fn candidate(alloc: Global, call: &str, with: &[u8]) -> Result<String> {
+    let candidate = Candidate::from_bytes(with);
+    match call {
+        "new" => new(alloc, with),
+        "from_bytes" => Ok(escaped(alloc, candidate.path())?),
+        "clone" => Ok(escaped(alloc, candidate.clone()?.path())?),
+        "Debug" => debug(alloc, &candidate),
+        _ => Err(RowError::UnknownCall.into()),
+    }
+}
+
+fn new(alloc: Global, with: &[u8]) -> Result<String> {
+    match str::from_utf8(with) {
+        Ok(text) => Ok(escaped(alloc, Candidate::new(text).path())?),
+        Err(_) => Err(RowError::NotUtf8.into()),
+    }
+}
+
+fn debug(alloc: Global, candidate: &Candidate<'_>) -> Result<String> {
+    let shown = format!(in alloc; "{candidate:?}")?;
+    Ok(escaped(alloc, shown.as_bytes())?)
+}

@@ -1,0 +1,54 @@
+//! What a row means, and whether it passes.
+
+ghost use Rattle.std.specs.Prelude.{◌≡◌, ◌↔◌, IsNone, IfSome, string_bytes};
+
+use crate::column::Columns;
+use crate::repetition::expanded;
+use anyhow::Result;
+use std::alloc::{AllocError, Global};
+
+/// What rows mean, and what the rows of a case so far left behind.
+pub trait Case: Drop {
+    /// A case that has no rows yet.
+    fn new(alloc: Global) -> Self;
+
+    /// What the call of a row returns, as columns. The columns that are left are those that it should return.
+    fn returned(&mut self, columns: &mut Columns<'_>) -> Result<String>;
+}
+
+/// Replays a row. Returns what was returned in place of what the row says, or `None` where it is the same.
+pub fn replay<C: Case>(
+    alloc: Global,
+    case: &mut C,
+    row: &str,
+) -> Result<Option<String>, AllocError> {
+    match compared(alloc, case, row) {
+        Ok(other) => Ok(other),
+        Err(error) => Ok(Some(format!(in alloc; "{error}")?)),
+    }
+}
+
+fn compared<C: Case>(alloc: Global, case: &mut C, row: &str) -> Result<Option<String>> {
+    if let Some(short) = row.strip_prefix("repeat\t") {
+        let long = expanded(alloc, short)?;
+        return compared_columns(case, &mut Columns::new(long.as_str()));
+    }
+    compared_columns(case, &mut Columns::new(row))
+}
+
+fn compared_columns<C: Case>(case: &mut C, columns: &mut Columns<'_>) -> Result<Option<String>> {
+    let returned = case.returned(columns)?;
+    Ok(unless_equal(returned, columns.rest()?))
+}
+
+/// What was returned, unless it is what should be returned.
+fn unless_equal(returned: String, want: &str) -> Option<String>
+    ensures same { IsNone result ↔ (string_bytes returned ≡ want.now) }
+    ensures other { IfSome result (λ text. text ≡ returned) }
+{
+    if returned.as_str() == want {
+        None
+    } else {
+        Some(returned)
+    }
+}
