@@ -81,8 +81,8 @@ literal_text (and_then t ts) = literal_text ts
 abbrev pub is_extension : Tokens → Bool
 is_extension ts = first_and_rest is_dot (all_pass (is_literal_except (46 ∷ slash ∷ []))) ts
 
--- The tokens may have last tokens that are such an extension, and then there is one way only to cut them off. These are
--- their bytes.
+-- The bytes of the last tokens, if these are such an extension. There is only one place where such an extension can begin:
+-- at the last literal `.`.
 abbrev pub ending : Tokens → Option (List ℕ)
 ending end = None
 ending (and_then t ts) = if is_extension (and_then t ts) then Some (literal_text (and_then t ts)) else ending ts

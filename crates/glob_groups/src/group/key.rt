@@ -23,8 +23,8 @@ pub fn literal_text(alloc: Global, tokens: &[Token]) -> Result<Vec<u8>, AllocErr
     Ok(text.into_bytes())
 }
 
-/// The last tokens that are a literal `.` and any literals other than `.` and `/`, if they are. It reads the tokens from the
-/// end, up to the first one that is no such literal.
+/// The tokens from the last literal `.` on, if all tokens after it are literals other than `/`. It reads the tokens from the
+/// end to that `.`, or to the first one that is not such a literal.
 pub fn ending(tokens: &[Token]) -> Option<&[Token]>
     ensures { option_map (λ last. literal_text (flats last.now)) result ≡ ending (flats tokens.now) }
 {
