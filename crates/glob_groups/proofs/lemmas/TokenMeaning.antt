@@ -14,14 +14,18 @@ use Rattle.glob_syntax.specs.ClassBytes.{class_has}
 use Rattle.glob_automaton.specs.Takes.{is_empty, is_one_byte, is_wild, compared, takes_all, slash}
 use Rattle.glob_automaton.specs.TokenMeans.{is_prefix, is_prefix_alone, means}
 use Rattle.globset_glob.specs.PathParts.{is_separator, with_first, last_position, last_component, component_extension}
-use Rattle.glob_automaton.proofs.lemmas.Booleans.{and_both, and_first, and_second, and_none, or_either, iff_trans, same_truth}
+use Rattle.glob_automaton.proofs.lemmas.Booleans.{and_both, and_first, and_second, and_none, or_either, same_truth}
 use Rattle.glob_automaton.proofs.lemmas.Cuts.{empty_is}
-use Rattle.glob_automaton.proofs.lemmas.Takes.{Takes, TakesAll, equal_bytes, one_byte, prefix_takes, then_takes}
+use Rattle.glob_automaton.proofs.lemmas.Takes.{one_byte}
 use Rattle.glob_automaton.proofs.lemmas.TokenLists.{prefix_is}
+use Rattle.globset_glob.proofs.lemmas.TakesByParts.{Takes, TakesAll, equal_bytes, prefix_takes, then_takes}
 use Rattle.glob_groups.specs.Silent as silent
 use Rattle.glob_groups.specs.Groups.{is_star, is_literal_except, is_within, has_tokens, all_pass, first_and_rest, some_all_pass, after_prefix, literal_text, is_extension, ending, is_whole_path, is_last_component, is_star_extension, is_any_extension, is_by_last_component}
 use Rattle.glob_groups.proofs.lemmas.Silent.{dot_is}
 use Rattle.glob_groups.proofs.lemmas.Components.{EndsWith, Lacks, neither, lacks_cons, lacks_append, lacks_front, encode_lacks, EndsComponent, last_component_at, split, IsExtension, extension_ends, extension_parts}
+
+iff_trans : {A B C : Type 0} → A ↔ B → B ↔ C → A ↔ C
+iff_trans f g = (λ a. g.0 (f.0 a), λ c. f.1 (g.1 c))
 
 -- ---- literals
 
