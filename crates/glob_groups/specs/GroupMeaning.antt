@@ -2,7 +2,7 @@
 use Rattle.std.specs.Prelude.{◌≡◌, ◌↔◌, ℕ, false, List, IsTrue}
 use Rattle.glob_automaton.specs.TokenMeans.{means}
 use Rattle.globset_glob.specs.Means.{GlobValue, tokens_of_glob, glob_means}
-use Rattle.globset_glob.specs.PathParts.{last_component, component_extension}
+use Rattle.glob_path.specs.PathParts.{last_component, component_extension}
 use Rattle.glob_groups.specs.declared.group.Group.{Group}
 use Rattle.glob_groups.specs.declared.group.Group.TheVariants as held
 use Rattle.glob_groups.specs.Silent.{is_listed}

@@ -21,7 +21,7 @@ pub use Rattle.globset_glob.specs.SmallRegex
 pub use Rattle.globset_glob.specs.RegexText
 pub use Rattle.globset_glob.specs.RegexDenotes
 pub use Rattle.globset_glob.specs.Cost
-pub use Rattle.globset_glob.specs.PathParts
+pub use Rattle.glob_path.specs.PathParts
 pub use Rattle.globset_glob.specs.Errors
 pub use Rattle.globset_glob.specs.Equality
 pub use Rattle.globset_glob.specs.Values

@@ -7,7 +7,6 @@ mod Escape
 mod Groups
 mod Literals
 mod ParentDirectories
-mod Paths
 mod Recursive
 mod RegexTexts
 mod Separator

@@ -7,7 +7,6 @@ pub mod Expressions
 pub mod GlobAutomaton
 pub mod GlobEquality
 pub mod Globs
-pub mod LastPositions
 pub mod RegexWriting
 pub mod TakesByParts
 pub mod Values

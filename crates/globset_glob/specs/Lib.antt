@@ -2,7 +2,6 @@ pub mod Means
 pub mod SmallRegex
 pub mod RegexText
 pub mod RegexDenotes
-pub mod PathParts
 pub mod Cost
 pub mod Errors
 pub mod Equality
@@ -18,6 +17,7 @@ pub use Rattle.glob_syntax.specs.Reading
 pub use Rattle.glob_syntax.specs.FlatTokens
 pub use Rattle.glob_syntax.specs.ClassBytes
 pub use Rattle.glob_syntax.specs.Views
+pub use Rattle.glob_path.specs.PathParts
 pub use Rattle.glob_automaton.specs.Blank
 pub use Rattle.glob_automaton.specs.Takes
 pub use Rattle.glob_automaton.specs.TokenMeans

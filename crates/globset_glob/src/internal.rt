@@ -4,7 +4,6 @@ ghost use Rattle.std.specs.Prelude.{◌≡◌, ◌≤◌, ◌*◌, Ok, length};
 ghost use Rattle.std.specs.Str.{chars};
 ghost use Rattle.glob_syntax.specs.Reading.{reading};
 ghost use Rattle.globset_glob.specs.Means.{tokens_of_glob};
-ghost use Rattle.globset_glob.specs.PathParts.{component_extension, last_component};
 ghost use Rattle.globset_glob.specs.Values.{of_element};
 ghost use Rattle.glob_syntax.specs.FlatTokens.{IsNested};
 ghost use Rattle.glob_syntax.specs.Views.{flats, tokens_of};
@@ -12,7 +11,6 @@ ghost use Rattle.glob_syntax.specs.inner.Weight.{weight};
 
 use crate::glob::Glob;
 use crate::json::error::ValueError;
-use crate::path::Candidate;
 use glob_syntax::{Options, Token};
 
 /// Returns the tokens that the glob's text was read as under its options.
@@ -39,23 +37,4 @@ pub fn error_of_element(index: usize, error: ValueError) -> ValueError
     ensures { result ≡ of_element index error }
 {
     error.of_element(index)
-}
-
-/// Returns the bytes after the path's last `/`, or the whole path if it has no `/`. They may be `..`, unlike a basename.
-///
-/// Each call searches the path from its end to its last `/`, and reads no byte before that.
-pub fn last_component_of<'a>(path: &Candidate<'a>) -> &'a [u8]
-    ensures { result.now ≡ last_component path.now }
-{
-    path.last_component()
-}
-
-/// Returns the bytes of the path's last component from its last `.` on, or nothing if it has no `.`. If the component is
-/// `..`, they are `.`.
-///
-/// Each call finds the last component, and then searches it from its end to its last `.`.
-pub fn component_extension_of<'a>(path: &Candidate<'a>) -> &'a [u8]
-    ensures { result.now ≡ component_extension path.now }
-{
-    path.component_extension()
 }

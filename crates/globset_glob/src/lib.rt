@@ -8,7 +8,6 @@ mod glob;
 mod internal;
 mod json;
 mod matcher;
-mod path;
 mod regex_text;
 
 pub use builder::GlobBuilder;
@@ -16,11 +15,9 @@ pub use error::Error;
 pub use error::kind::ErrorKind;
 pub use escaping::escape;
 pub use glob::Glob;
+pub use glob_path::{AsPath, Candidate};
 pub use glob_syntax::{Class, Options, Token};
-pub use internal::{
-    component_extension_of, error_of_element, last_component_of, options_of, tokens_of,
-};
+pub use internal::{error_of_element, options_of, tokens_of};
 pub use json::error::{ValueError, ValueErrorKind};
 pub use matcher::GlobMatcher;
-pub use path::{AsPath, Candidate};
 pub use visits::Visits;

@@ -7,9 +7,9 @@ ghost use Rattle.globset_glob.specs.inner.GlobAutomaton.{IsAutomatonOf};
 
 use crate::error::Error;
 use crate::glob::Glob;
-use crate::path::{AsPath, Candidate};
 use byte_automaton::{Automaton, StateSet};
 use glob_automaton::{add_tokens, is_match, new_builder};
+use glob_path::{AsPath, Candidate};
 use std::alloc::AllocError;
 use std::fmt;
 use std::marker::Model;

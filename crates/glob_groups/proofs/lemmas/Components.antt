@@ -8,7 +8,7 @@ use Rattle.std.proofs.lemmas.List.{append-nil, append_assoc, length-append}
 use Rattle.std.proofs.lemmas.List.Prefix.{front_rest}
 use Rattle.std.proofs.lemmas.Str.{inside_one}
 use Rattle.glob_automaton.specs.Takes.{slash}
-use Rattle.globset_glob.specs.PathParts.{is_separator, is_dot, with_first, last_position, after_position, from_position, last_component, extension_in, component_extension}
+use Rattle.glob_path.specs.PathParts.{is_separator, is_dot, with_first, last_position, after_position, from_position, last_component, extension_in, component_extension}
 use Rattle.glob_automaton.proofs.lemmas.Booleans.{or_either}
 
 -- the path ends with the text

@@ -6,7 +6,7 @@ use Rattle.glob_syntax.specs.Token.{Tokens}
 use Rattle.glob_syntax.specs.FlatTokens.{Flat, tree_of, IsNested}
 use Rattle.glob_automaton.specs.TokenMeans.{means}
 use Rattle.globset_glob.specs.Means.{GlobValue, tokens_of_glob, glob_means}
-use Rattle.globset_glob.specs.PathParts.{last_component, component_extension}
+use Rattle.glob_path.specs.PathParts.{last_component, component_extension}
 use Rattle.glob_groups.specs.Silent.{silent, is_listed}
 use Rattle.glob_groups.specs.Groups.{GroupValue, Silent, WholePath, LastComponent, Extension, RequiredExtension, ByLastComponent, ByPath, literal_text, ending, is_whole_path, is_last_component, is_any_extension, is_by_last_component, automaton_group, ending_group, sensitive_group, group_of_glob}
 use Rattle.glob_groups.specs.GroupMeaning.{group_seen, Tells, IsGroupOf}

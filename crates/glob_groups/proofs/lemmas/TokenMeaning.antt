@@ -13,7 +13,7 @@ use Rattle.glob_syntax.specs.Token.{Token, Literal, Any, ZeroOrMore, RecursivePr
 use Rattle.glob_syntax.specs.ClassBytes.{class_has}
 use Rattle.glob_automaton.specs.Takes.{is_empty, is_one_byte, is_wild, compared, takes_all, slash}
 use Rattle.glob_automaton.specs.TokenMeans.{is_prefix, is_prefix_alone, means}
-use Rattle.globset_glob.specs.PathParts.{is_separator, with_first, last_position, last_component, component_extension}
+use Rattle.glob_path.specs.PathParts.{is_separator, with_first, last_position, last_component, component_extension}
 use Rattle.glob_automaton.proofs.lemmas.Booleans.{and_both, and_first, and_second, and_none, or_either, same_truth}
 use Rattle.glob_automaton.proofs.lemmas.Cuts.{empty_is}
 use Rattle.glob_automaton.proofs.lemmas.Takes.{one_byte}

@@ -1,49 +1,13 @@
-//! Paths.
+//! Paths that are matched by globs.
 
-ghost use Rattle.std.specs.Prelude.{◌≡◌, ℕ, List, string_bytes};
+ghost use Rattle.std.specs.Prelude.{◌≡◌};
+ghost use Rattle.glob_path.specs.PathParts.{component_extension, last_component};
 
-mod parts;
-
+use crate::parts;
 use bstr::ByteSlice;
 use std::alloc::AllocError;
 use std::fmt;
 use std::marker::Model;
-
-/// A text that can be matched as a path.
-///
-/// A `Path`, an `OsStr` and the like have no text of their own. Pass their text, or pass their bytes to
-/// [`Candidate::from_bytes`].
-pub trait AsPath: Drop {
-    ghost text: { Self → List ℕ };
-
-    /// Returns the path's text, which is the same at each call.
-    fn path_text(&self) -> &str
-        ensures { result.now ≡ text self.now };
-}
-
-impl AsPath for &str {
-    ghost text = { λ s. s.now };
-
-    fn path_text(&self) -> &str {
-        *self
-    }
-}
-
-impl AsPath for String {
-    ghost text = { λ s. string_bytes s };
-
-    fn path_text(&self) -> &str {
-        self.as_str()
-    }
-}
-
-impl AsPath for &String {
-    ghost text = { λ s. string_bytes s.now };
-
-    fn path_text(&self) -> &str {
-        self.as_str()
-    }
-}
 
 /// A path that can be matched by many globs.
 ///
@@ -64,7 +28,7 @@ impl<'a> Model for Candidate<'a> {
 }
 
 impl<'a> Candidate<'a> {
-    ghost use Rattle.globset_glob.specs.PathParts.{basename_of, component_extension, extension_of, last_component};
+    ghost use Rattle.glob_path.specs.PathParts.{basename_of, extension_of};
 
     /// Returns a candidate for the path with this text. It reads none of the path and allocates nothing.
     pub fn new(path: &'a str) -> Candidate<'a>
@@ -108,25 +72,6 @@ impl<'a> Candidate<'a> {
     {
         parts::extension(self.basename())
     }
-
-    /// Returns the bytes after the path's last `/`, or the whole path if it has no `/`. They may be `..`.
-    ///
-    /// Each call searches the path from its end to its last `/`, and reads no byte before that.
-    pub(crate) fn last_component(&self) -> &'a [u8]
-        ensures { result.now ≡ last_component self.now }
-    {
-        parts::last_component(self.path)
-    }
-
-    /// Returns the bytes of the last component from its last `.` on, or nothing if it has no `.`. If the component is `..`,
-    /// they are `.`.
-    ///
-    /// Each call finds the last component, and then searches it from its end to its last `.`.
-    pub(crate) fn component_extension(&self) -> &'a [u8]
-        ensures { result.now ≡ component_extension self.now }
-    {
-        parts::extension(self.last_component())
-    }
 }
 
 /// A candidate for the same bytes. It allocates nothing, and cannot fail.
@@ -151,4 +96,23 @@ impl<'a> fmt::Debug for Candidate<'a> {
             .field("ext", &self.ext().as_bstr())
             .finish()
     }
+}
+
+/// Returns the bytes after the path's last `/`, or the whole path if it has no `/`. They may be `..`, unlike a basename.
+///
+/// Each call searches the path from its end to its last `/`, and reads no byte before that.
+pub fn last_component_of<'a>(path: &Candidate<'a>) -> &'a [u8]
+    ensures { result.now ≡ last_component path.now }
+{
+    parts::last_component(path.path)
+}
+
+/// Returns the bytes of the path's last component from its last `.` on, or nothing if it has no `.`. If the component is
+/// `..`, they are `.`.
+///
+/// Each call finds the last component, and then searches it from its end to its last `.`.
+pub fn component_extension_of<'a>(path: &Candidate<'a>) -> &'a [u8]
+    ensures { result.now ≡ component_extension path.now }
+{
+    parts::extension(last_component_of(path))
 }

@@ -1,7 +1,7 @@
 -- Examples of basenames and extensions, and of last components and theirs. Each row computes.
 use Rattle.std.specs.Prelude.{◌≡◌, [], ◌∷◌, codes, refl}
 use Prim.Native.String.{String}
-use Rattle.globset_glob.specs.PathParts.{basename_of, extension_of, last_component, component_extension}
+use Rattle.glob_path.specs.PathParts.{basename_of, extension_of, last_component, component_extension}
 
 -- the path has this basename and this extension
 abbrev HasParts : String → String → String → Type 0

@@ -1,7 +1,7 @@
 -- The last position of a byte in a list.
 use Rattle.std.proofs.Common.{◌≡◌, ◌≢◌, ℕ, zero, suc, ◌-◌, List, [], ◌∷◌, Bool, true, false, Option, Some, None, refl, ap, sym, true≢false, arith, length, take, drop, take_all, length-drop}
 use Rattle.bstr.specs.Find.{IsLastByte}
-use Rattle.globset_glob.specs.PathParts.{with_first, last_position}
+use Rattle.glob_path.specs.PathParts.{with_first, last_position}
 
 none : (o : Option ℕ) (b : Bool) → None ≡ o → b ≢ true → None ≡ with_first o b
 none o true e n = absurd (n refl)

@@ -1,7 +1,7 @@
 //! The parts of a path.
 
 ghost use Rattle.std.specs.Prelude.{◌≡◌, ◌==◌, ◌<◌, length, IfSome};
-ghost use Rattle.globset_glob.specs.PathParts.{last_position, last_component, basename_of, extension_in};
+ghost use Rattle.glob_path.specs.PathParts.{last_position, last_component, basename_of, extension_in};
 
 use bstr::ByteSlice;
 
