@@ -6,4 +6,5 @@
 mod entries;
 mod table;
 
+pub use entries::Entries;
 pub use table::Table;

@@ -1,0 +1,8 @@
+pub mod Walks
+pub mod Facing
+pub mod Ranges
+pub mod Children
+pub mod Spans
+pub mod Standing
+pub mod Sorting
+pub mod Laws

@@ -1,0 +1,12 @@
+use Rattle.std.proofs.Common.{ap, ◌∙◌, length, arith}
+use Rattle.byte_trie.specs.Texts.{found}
+use Rattle.byte_trie.proofs.lemmas.Facing.{found_along, found_within}
+use Rattle.byte_trie.proofs.trie.Trie.count_matches.Goals as goal
+
+pub returns-clause-count : goal.returns-clause-count
+returns-clause-count c =
+    c.count.ensures.count ∙ ap length (found_along _ _ _ _ c.self.invariant c.args.path.now ∙ ap (λ t. found t c.args.path.now) c.self.view_is)
+
+pub count-requires-clause-fits : goal.count-requires-clause-fits
+count-requires-clause-fits c =
+    omega (arith, ap length (found_along _ _ _ _ c.self.invariant c.args.path.now), found_within (record { side = c.self.inside.side; entries = c.self.inside.entries }) c.args.path.now, c.self.invariant.counted, c.self.invariant.small)

@@ -1,0 +1,4 @@
+pub mod Facing
+pub mod Nodes
+pub mod Holds
+pub mod Building

@@ -1,0 +1,162 @@
+//! The nodes for texts in order.
+//!
+//! Nodes are made level by level: first the root, then its children, and so on. A node stands for the texts that begin with
+//! the bytes on the way to it. These lie side by side, since the texts are in order, and are looked at once for each byte
+//! that they have; so the time is linear in the bytes of all texts.
+
+ghost use Rattle.std.specs.Prelude.{◌≡◌, ◌≢◌, ℕ, ◌+◌, ◌<◌, ◌≤◌, ◌^◌, ◌++◌, List, map, length, IfOk, OnOk};
+ghost use Rattle.std.specs.List.{AllWithin, HoldsAt};
+ghost use Rattle.byte_table.specs.Entries.{indexes_under};
+ghost use Rattle.byte_trie.specs.Texts.{entry_of};
+ghost use Rattle.byte_trie.specs.inner.Nodes.{under, IsTree};
+ghost use Rattle.byte_trie.specs.declared.tree.build.Span.{Span};
+ghost use Rattle.byte_trie.specs.inner.Building.{rests, rests_of, next_of, IsOrdered, AreWithin, IsSpan, AreSpans, IsSplit, IsAdded, Stands};
+
+use super::{Node, Tree};
+use crate::text::Text;
+use std::alloc::{AllocError, Global};
+
+/// The texts from one on and before another, which begin with the same bytes.
+#[derive(Clone, Copy)]
+struct Span {
+    from: usize,
+    to: usize,
+}
+
+impl Tree {
+    /// Returns a tree of texts, which are in order. Returns an error if memory runs out.
+    pub fn build(alloc: Global, texts: &[Text]) -> Result<Tree, AllocError>
+        requires { IsOrdered texts.now 0 0 (length texts.now) }
+        ensures tree { IfOk result IsTree }
+        ensures leads { IfOk result (λ t. (w : List ℕ) → under t 0 w ≡ indexes_under (map entry_of texts.now) w) }
+    {
+        let longest = longest(texts);
+        let mut tree = Tree {
+            nodes: Vec::new(alloc),
+            bytes: Vec::new(alloc),
+            indexes: indexes_of(alloc, texts)?,
+        };
+        let mut level = Vec::new(alloc);
+        level.push(Span {
+            from: 0,
+            to: texts.len(),
+        })?;
+        for depth in 0..longest + 1 {
+            level = tree.push_level(alloc, texts, depth, &level)?;
+        }
+        Ok(tree)
+    }
+
+    /// Adds the nodes of a level, and returns what the nodes of the next level stand for.
+    fn push_level(
+        &mut self,
+        alloc: Global,
+        texts: &[Text],
+        depth: usize,
+        level: &[Span],
+    ) -> Result<Vec<Span>, AllocError>
+        requires stands { Stands texts.now self.old (map (rests_of texts.now depth) level.now) }
+        requires spans { AreSpans texts.now depth level.now }
+        ensures stands { IfOk result (λ next. Stands texts.now self.new (map (rests_of texts.now (depth + 1)) next.items)) }
+        ensures spans { IfOk result (λ next. AreSpans texts.now (depth + 1) next.items) }
+    {
+        let mut next = Vec::new(alloc);
+        for span in level {
+            self.push_node(texts, depth, *span, &mut next)?;
+        }
+        Ok(next)
+    }
+
+    /// Adds a node with its edges, and to `next` what its children stand for.
+    fn push_node(
+        &mut self,
+        texts: &[Text],
+        depth: usize,
+        span: Span,
+        next: &mut Vec<Span>,
+    ) -> Result<(), AllocError>
+        requires { IsSpan texts.now depth span }
+        ensures { OnOk result (IsAdded texts.now depth span self.old self.new next.old.items next.new.items) }
+    {
+        let own = end_of_run(texts, span, depth, None);
+        let edges = self.bytes.len();
+        let rest = Span {
+            from: own,
+            to: span.to,
+        };
+        push_edges(texts, depth, rest, &mut self.bytes, next)?;
+        self.nodes.push(Node {
+            edges,
+            edges_end: self.bytes.len(),
+            indexes: span.from,
+            indexes_end: own,
+        })?;
+        Ok(())
+    }
+}
+
+/// Returns the indexes of texts, in their order.
+fn indexes_of(alloc: Global, texts: &[Text]) -> Result<Vec<usize>, AllocError>
+    ensures { IfOk result (λ v. v.items ≡ map (λ t. t.index) texts.now) }
+{
+    let mut indexes = Vec::with_capacity(alloc, texts.len())?;
+    for text in texts {
+        indexes.push(text.index)?;
+    }
+    Ok(indexes)
+}
+
+/// Adds an edge for each byte that texts go on with, and what its child stands for.
+fn push_edges(
+    texts: &[Text],
+    depth: usize,
+    span: Span,
+    bytes: &mut Vec<u8>,
+    next: &mut Vec<Span>,
+) -> Result<(), AllocError>
+    requires span { IsSpan texts.now depth span }
+    requires long { AllWithin (λ t. depth < length t.bytes.items) texts.now span.from span.to }
+    ensures { OnOk result ((bs : List ℕ) × (ss : List Span) × (bytes.new.items ≡ bytes.old.items ++ bs) × (next.new.items ≡ next.old.items ++ ss) × IsSplit texts.now depth (rests_of texts.now depth span) bs ss) }
+{
+    let mut from = span.from;
+    while from < span.to {
+        let byte = texts[from].bytes[depth];
+        let rest = Span { from, to: span.to };
+        let to = end_of_run(texts, rest, depth, Some(byte));
+        bytes.push(byte)?;
+        next.push(Span { from, to })?;
+        from = to;
+    }
+    Ok(())
+}
+
+/// Returns how far texts go on with a byte, or end, from the first of them on.
+fn end_of_run(texts: &[Text], span: Span, depth: usize, next: Option<u8>) -> usize
+    requires from { span.from ≤ span.to }
+    requires to { span.to ≤ length texts.now }
+    ensures low { span.from ≤ result }
+    ensures high { result ≤ span.to }
+    ensures run { AllWithin (λ t. next_of depth t ≡ next) texts.now span.from result }
+    ensures stop { result < span.to → HoldsAt (λ t. next_of depth t ≢ next) texts.now result }
+{
+    for at in span.from..span.to {
+        if texts[at].bytes.get(depth).copied() != next {
+            return at;
+        }
+    }
+    span.to
+}
+
+/// Returns the length of the longest text.
+fn longest(texts: &[Text]) -> usize
+    ensures within { AreWithin result texts.now }
+    ensures small { result + 1 < 2 ^ 64 }
+{
+    let mut longest = 0;
+    for text in texts {
+        if text.bytes.len() > longest {
+            longest = text.bytes.len();
+        }
+    }
+    longest
+}

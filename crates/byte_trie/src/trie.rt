@@ -1,0 +1,164 @@
+//! A trie.
+
+ghost use Rattle.std.specs.Prelude.{◌≡◌, ◌≢◌, ℕ, ◌+◌, ◌≤◌, ◌++◌, ◌↔◌, [], List, map, length, IsTrue, IfOk, OnOk, OnErr};
+ghost use Rattle.byte_table.specs.Entries.{indexes_under};
+ghost use Rattle.byte_trie.specs.Texts.{found, entry_of};
+ghost use Rattle.byte_trie.specs.inner.Building.{IsOrdered};
+ghost use Rattle.byte_trie.specs.inner.Facing.{faced};
+
+use crate::side::Side;
+use crate::text::Text;
+use crate::tree::Tree;
+use crate::walk;
+use byte_table::Entries;
+use std::alloc::{AllocError, Global};
+use std::fmt;
+use std::marker::Model;
+use visits::Visits;
+
+/// Texts with indexes, which are looked for at one side of a path.
+#[derive(Drop)]
+pub struct Trie {
+    tree: Tree,
+    side: Side,
+    count: usize,
+    entries: Entries,
+}
+
+impl Model for Trie {
+    ghost use Rattle.byte_trie.specs.Texts.{Texts};
+
+    ghost Value = { Texts };
+
+    ghost use Rattle.byte_trie.specs.inner.Holds.{Holds};
+
+    ghost view = { λ t. record { side = t.side; entries = t.entries } };
+
+    ghost invariant = { λ t. Holds t.tree t.side t.count t.entries };
+}
+
+impl Clone for Trie {
+    ghost is_clone = { λ a b. b ≡ a };
+
+    /// Returns a copy. Returns an error if memory runs out.
+    fn clone(&self) -> Result<Trie, AllocError> {
+        Ok(Trie {
+            tree: self.tree.clone()?,
+            side: self.side,
+            count: self.count,
+            entries: self.entries.copy(),
+        })
+    }
+}
+
+impl fmt::Debug for Trie {
+    fn fmt<W: fmt::Write>(&self, f: &mut fmt::Formatter<W>) -> fmt::Result {
+        let side = self.side;
+        let count = self.count;
+        write!(f, "Trie {{ side: {side:?}, count: {count} }}")
+    }
+}
+
+impl Trie {
+    /// Returns a trie of texts, which are looked for at a side of a path.
+    ///
+    /// Returns an error if memory runs out. The time is linear in the bytes of all texts, except that the texts are sorted.
+    pub fn new(alloc: Global, side: Side, texts: Vec<Text>) -> Result<Trie, AllocError>
+        ensures { IfOk result (λ t. t ≡ record { side = side; entries = map entry_of texts.items }) }
+    {
+        let count = texts.len();
+        let entries = entries_of(&texts);
+        let sorted = sorted(side, texts)?;
+        Ok(Trie {
+            tree: Tree::build(alloc, &sorted)?,
+            side,
+            count,
+            entries,
+        })
+    }
+
+    /// Appends the indexes of the texts that the path begins or ends with: shorter texts first, and those of one text in the
+    /// order in which they were given.
+    ///
+    /// It is at most one visit for each byte of the path, and one more. Returns an error if memory runs out; a front part
+    /// of those indexes is then appended.
+    pub fn find(
+        &self,
+        path: &[u8],
+        into: &mut Vec<usize>,
+        visits: &mut Visits,
+    ) -> Result<(), AllocError>
+        ensures ok { OnOk result (into.new.items ≡ into.old.items ++ found self.now path.now) }
+        ensures err { OnErr result ((rest : List ℕ) × (into.new.items ++ rest ≡ into.old.items ++ found self.now path.now)) }
+        ensures visits { visits.new ≤ visits.old + (length path.now + 1) }
+    {
+        walk::find(&self.tree, self.side, path, into, visits)
+    }
+
+    /// Returns whether the path begins or ends with some text. It stops at the first, and takes no memory.
+    ///
+    /// It is at most one visit for each byte of the path, and one more.
+    pub fn is_match(&self, path: &[u8], visits: &mut Visits) -> bool
+        ensures some { IsTrue result ↔ (found self.now path.now ≢ []) }
+        ensures visits { visits.new ≤ visits.old + (length path.now + 1) }
+    {
+        walk::has_some(&self.tree, self.side, path, visits)
+    }
+
+    /// Returns how many indexes `find` appends. It takes no memory.
+    ///
+    /// It is at most one visit for each byte of the path, and one more.
+    pub fn count_matches(&self, path: &[u8], visits: &mut Visits) -> usize
+        ensures count { result ≡ length (found self.now path.now) }
+        ensures visits { visits.new ≤ visits.old + (length path.now + 1) }
+    {
+        walk::count(&self.tree, self.side, path, visits)
+    }
+
+    /// Returns how many texts there are.
+    pub fn count(&self) -> usize
+        ensures { result ≡ length self.now.entries }
+    {
+        self.count
+    }
+
+    /// Returns whether there are no texts.
+    pub fn is_empty(&self) -> bool
+        ensures { IsTrue result ↔ (self.now.entries ≡ []) }
+    {
+        self.count == 0
+    }
+}
+
+/// Returns the list that contracts see texts as.
+fn entries_of(texts: &[Text]) -> Entries
+    ensures { result ≡ map entry_of texts.now }
+{
+    let mut entries = Entries::new();
+    for text in texts {
+        entries = entries.and(&text.bytes, text.index);
+    }
+    entries
+}
+
+/// Returns texts as they are read from a side of a path, in order.
+fn sorted(side: Side, mut texts: Vec<Text>) -> Result<Vec<Text>, AllocError>
+    ensures order { IfOk result (λ v. IsOrdered v.items 0 0 (length v.items)) }
+    ensures same { IfOk result (λ v. (w : List ℕ) → indexes_under (map entry_of v.items) w ≡ indexes_under (map (faced side) (map entry_of texts.items)) w) }
+{
+    match side {
+        Side::Beginning => {}
+        Side::End => reverse_all(&mut texts),
+    }
+    texts.sort_by(|a, b| a.bytes.cmp(&b.bytes))?;
+    Ok(texts)
+}
+
+/// Turns each text around.
+fn reverse_all(texts: &mut [Text])
+    ensures { map entry_of texts.new ≡ map (faced Side.End) (map entry_of texts.old) }
+{
+    for text in texts.iter_mut() {
+        text.bytes.reverse();
+    }
+}

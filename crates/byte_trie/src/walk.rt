@@ -1,0 +1,75 @@
+//! Walks down a tree along a path.
+
+ghost use Rattle.std.specs.Prelude.{◌≡◌, ◌≢◌, ℕ, ◌+◌, ◌≤◌, ◌<◌, ◌^◌, ◌++◌, ◌↔◌, [], List, length, IsTrue, OnOk, OnErr};
+ghost use Rattle.byte_trie.specs.inner.Facing.{facing};
+ghost use Rattle.byte_trie.specs.inner.Nodes.{under, along, IsTree};
+
+use crate::side::Side;
+use crate::tree::Tree;
+use std::alloc::AllocError;
+use visits::Visits;
+
+/// Appends the indexes of the nodes on the way of a path.
+pub fn find(
+    tree: &Tree,
+    side: Side,
+    path: &[u8],
+    into: &mut Vec<usize>,
+    visits: &mut Visits,
+) -> Result<(), AllocError>
+    requires { IsTree tree.now }
+    ensures ok { OnOk result (into.new.items ≡ into.old.items ++ along (under tree.now 0) (facing side path.now)) }
+    ensures err { OnErr result ((rest : List ℕ) × (into.new.items ++ rest ≡ into.old.items ++ along (under tree.now 0) (facing side path.now))) }
+    ensures visits { visits.new ≤ visits.old + (length path.now + 1) }
+{
+    let mut node = 0;
+    for at in 0..path.len() + 1 {
+        let reading = tree.read(node, side.byte(path, at), visits);
+        into.extend_from_slice(reading.indexes)?;
+        match reading.child {
+            Some(child) => node = child,
+            None => return Ok(()),
+        }
+    }
+    Ok(())
+}
+
+/// Returns whether some node on the way of a path has an index.
+pub fn has_some(tree: &Tree, side: Side, path: &[u8], visits: &mut Visits) -> bool
+    requires { IsTree tree.now }
+    ensures some { IsTrue result ↔ (along (under tree.now 0) (facing side path.now) ≢ []) }
+    ensures visits { visits.new ≤ visits.old + (length path.now + 1) }
+{
+    let mut node = 0;
+    for at in 0..path.len() + 1 {
+        let reading = tree.read(node, side.byte(path, at), visits);
+        if !reading.indexes.is_empty() {
+            return true;
+        }
+        match reading.child {
+            Some(child) => node = child,
+            None => return false,
+        }
+    }
+    false
+}
+
+/// Returns how many indexes the nodes on the way of a path have.
+pub fn count(tree: &Tree, side: Side, path: &[u8], visits: &mut Visits) -> usize
+    requires tree { IsTree tree.now }
+    requires fits { length (along (under tree.now 0) (facing side path.now)) < 2 ^ 64 }
+    ensures count { result ≡ length (along (under tree.now 0) (facing side path.now)) }
+    ensures visits { visits.new ≤ visits.old + (length path.now + 1) }
+{
+    let mut node = 0;
+    let mut count = 0;
+    for at in 0..path.len() + 1 {
+        let reading = tree.read(node, side.byte(path, at), visits);
+        count += reading.indexes.len();
+        match reading.child {
+            Some(child) => node = child,
+            None => return count,
+        }
+    }
+    count
+}
