@@ -1,2 +1,2 @@
 pub mod StoredGlobs
-pub mod JointAutomaton
+pub mod Groups

@@ -39,7 +39,7 @@ impl GlobSet {
     /// The same as [`GlobSet::matches_all_candidate`], which calls it, with a count of the visits.
     ///
     /// It adds at most `path bytes + 1` times the sum of `4 * glob bytes + 4` over the globs, also if memory runs out.
-    /// It looks up the path and its parts, and runs the automata that are needed, each once. It takes a bit of memory for
+    /// It looks up the path and its parts in tables, and runs at most three automata, each once. It takes a bit of memory for
     /// each glob, and two for each state of an automaton that it runs.
     ///
     /// Returns an error if memory runs out, and no other. A set of no globs needs no memory.

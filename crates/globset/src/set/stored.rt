@@ -6,55 +6,43 @@ ghost use Rattle.globset_glob.specs.Errors.{out_of_memory};
 ghost use Rattle.globset.specs.Answer.{is_listed_at};
 ghost use Rattle.globset.specs.Work.{most_set_visits};
 
-use byte_automaton::{Automaton, IndexSet, StateSet};
-use glob_automaton::{add_tokens, find, new_builder};
-use glob_groups::is_silent;
-use globset_glob::{Candidate, Error, Glob, Visits, options_of, tokens_of};
+use crate::set::groups::{Groups, GroupsBuilder};
+use byte_automaton::IndexSet;
+use globset_glob::{Candidate, Error, Glob, Visits};
 use std::marker::Model;
 
-/// The globs of a set, and one automaton for all of them that are not silent. The index of a glob is its position.
+/// The globs of a set, and the groups that decide which of them match a path. The index of a glob is its position.
 #[derive(Debug, Drop)]
 pub struct Stored {
     globs: Vec<Glob>,
-    automaton: Automaton,
+    groups: Groups,
 }
 
 impl Model for Stored {
-    ghost use Rattle.std.specs.Prelude.{◌≡◌, List, length};
+    ghost use Rattle.std.specs.Prelude.{List};
     ghost use Rattle.globset_glob.specs.Means.{GlobValue};
-    ghost use Rattle.globset.specs.inner.JointAutomaton.{IsJoint};
+    ghost use Rattle.globset.specs.inner.Groups.{AreGroupsOf};
 
     ghost Value = { List GlobValue };
 
     ghost view = { λ s. s.globs.items };
 
-    ghost invariant = { λ s. record {
-      count : s.automaton.index_count ≡ length s.globs.items;
-      joint : IsJoint s.globs.items s.automaton;
-    } };
+    ghost invariant = { λ s. AreGroupsOf s.globs.items s.groups };
 }
 
 impl Stored {
-    /// Makes the automaton of these globs. Returns an error if memory runs out, and no other.
+    /// Puts each of these globs into its group. Returns an error if memory runs out, and no other.
     pub fn new(globs: Vec<Glob>) -> Result<Stored, Error>
         ensures ok { IfOk result (λ s. s ≡ globs.items) }
         ensures err { IfErr result (λ e. e ≡ out_of_memory) }
     {
         let alloc = *globs.allocator();
-        let mut builder = new_builder(alloc, globs.len());
+        let mut builder = GroupsBuilder::new(alloc, globs.len());
         for (index, glob) in globs.iter().enumerate() {
-            if !is_silent(glob) {
-                add_tokens(
-                    alloc,
-                    &mut builder,
-                    options_of(glob),
-                    tokens_of(glob),
-                    index,
-                )?;
-            }
+            builder.add(alloc, glob, index)?;
         }
         Ok(Stored {
-            automaton: builder.finish(),
+            groups: builder.finish(alloc)?,
             globs,
         })
     }
@@ -68,7 +56,8 @@ impl Stored {
 
     /// Returns the indexes of the globs that are not silent and match the path.
     ///
-    /// It runs the automaton over the path once. It takes a bit of memory for each glob, and two for each state.
+    /// It looks up the path and its parts in tables, and runs at most three automata, each once. It takes a bit of memory for
+    /// each glob, and two for each state of an automaton that it runs.
     /// Returns an error if memory runs out, and no other.
     pub fn find(&self, path: &Candidate<'_>, visits: &mut Visits) -> Result<IndexSet, Error>
         ensures len { length self.now < 2 ^ 64 }
@@ -78,17 +67,8 @@ impl Stored {
         ensures visits { visits.new ≤ visits.old + most_set_visits self.now path.now }
     {
         let alloc = *self.globs.allocator();
-        let mut now = StateSet::new(alloc, self.automaton.state_count())?;
-        let mut next = StateSet::new(alloc, self.automaton.state_count())?;
         let mut found = IndexSet::new(alloc, self.globs.len())?;
-        find(
-            &self.automaton,
-            path.path(),
-            &mut now,
-            &mut next,
-            &mut found,
-            visits,
-        );
+        self.groups.find(alloc, path, &mut found, visits)?;
         Ok(found)
     }
 
@@ -103,7 +83,7 @@ impl Stored {
         }
         Ok(Stored {
             globs,
-            automaton: self.automaton.clone()?,
+            groups: self.groups.clone()?,
         })
     }
 }
