@@ -1,9 +1,8 @@
 -- Tokens in automata, and runs.
-use Rattle.std.proofs.Common.{◌≡◌, ℕ, zero, suc, ◌+◌, ◌<◌, ◌≤◌, ◌⊎◌, inl, inr, List, [], ◌∷◌, ◌++◌, Option, Some, None, drop, length, IsTrue, refl, ap, sym, subst, ◌∙◌, arith}
+use Rattle.std.proofs.Common.{◌≡◌, ℕ, zero, suc, ◌+◌, ◌≤◌, ◌⊎◌, inl, inr, List, [], ◌∷◌, ◌++◌, Option, Some, None, drop, length, IsTrue, refl, sym, subst, ◌∙◌, arith}
 use Rattle.std.specs.Prelude.{◌↔◌}
 use Rattle.std.proofs.Math.Logic.{⊎_elim}
-use Rattle.glob_syntax.specs.Token.{Tokens, end, and_then}
-use Rattle.byte_automaton.specs.Steps.{State, Machine, state, skips, stays, final, reads, IsIn, Accepts, ends, by_byte, by_skip, by_out, by_stay}
+use Rattle.byte_automaton.specs.Steps.{State, Machine, state, skips, IsIn, Accepts, ends, by_byte, by_skip, by_out, by_stay}
 use Rattle.byte_automaton.specs.Runs.{size}
 use Rattle.glob_automaton.specs.TokenMeans.{means}
 use Rattle.glob_automaton.specs.IndexedTokens.{IndexedTokens, SomeMatches, IsFor, AllBytes}

@@ -1,14 +1,12 @@
 -- The groups of a set, glob by glob.
-use Rattle.std.proofs.Common.{◌≡◌, ◌≢◌, ℕ, zero, suc, ◌+◌, ◌*◌, ◌<◌, ◌≤◌, ◌⊎◌, inl, inr, Bool, true, false, cond, List, [], ◌∷◌, ◌++◌, length, get_or, take, IsTrue, refl, ap, sym, subst, ◌∙◌, arith}
+use Rattle.std.proofs.Common.{◌≡◌, ◌≢◌, ℕ, zero, suc, ◌+◌, ◌<◌, ◌≤◌, ◌⊎◌, inl, inr, Bool, true, false, cond, List, [], ◌∷◌, ◌++◌, length, get_or, take, IsTrue, refl, ap, sym, subst, ◌∙◌, arith}
 use Rattle.std.specs.Prelude.{◌↔◌, sum_by}
 use Rattle.std.proofs.Math.Logic.{⊎_elim}
-use Rattle.std.proofs.lemmas.List.{take_more, length-append}
+use Rattle.std.proofs.lemmas.List.{take_more}
 use Rattle.std.proofs.lemmas.List.Sums.{sum_by-append}
 use Rattle.glob_syntax.specs.declared.options.Options.{Options}
 use Rattle.glob_syntax.specs.Token.{Tokens, end, and_then}
 use Rattle.glob_syntax.specs.inner.Weight.{weight}
-use Rattle.byte_automaton.specs.Steps.{Machine}
-use Rattle.byte_automaton.specs.Runs.{size}
 use Rattle.byte_table.specs.Entries.{Entry, entry}
 use Rattle.glob_automaton.specs.TokenMeans.{means, is_prefix}
 use Rattle.glob_automaton.specs.IndexedTokens.{IndexedTokens, indexed, SomeMatches, IsFor}
@@ -16,10 +14,10 @@ use Rattle.globset_glob.specs.Means.{GlobValue, tokens_of_glob, glob_means}
 use Rattle.glob_path.specs.PathParts.{last_component, component_extension}
 use Rattle.globset_glob.specs.Cost.{cost}
 use Rattle.glob_groups.specs.Groups.{after_prefix}
-use Rattle.glob_groups.specs.Silent.{silent, is_listed}
+use Rattle.glob_groups.specs.Silent.{is_listed}
 use Rattle.globset.specs.Answer.{is_listed_at}
-use Rattle.globset.specs.inner.Groups.{TextParts, ExtensionParts, GroupParts, IsUnder, IsFoundIn, IsFoundWith, IsFound, AreFor, AddsTokens, AreGroups, tokens_under, text_size, extension_size, total}
-use Rattle.globset.proofs.lemmas.Automata.{Matches, some_push}
+use Rattle.globset.specs.inner.Groups.{TextParts, ExtensionParts, GroupParts, IsUnder, IsFoundIn, IsFoundWith, IsFound, AreFor, AddsTokens, AreGroups, tokens_under}
+use Rattle.globset.proofs.lemmas.Automata.{some_push}
 use Rattle.globset.proofs.lemmas.Tables.{under_push}
 
 -- ---- one glob more

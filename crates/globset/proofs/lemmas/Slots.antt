@@ -1,5 +1,5 @@
 -- The slots of extensions, and the tokens in them.
-use Rattle.std.proofs.Common.{◌≡◌, ◌≢◌, ℕ, zero, suc, ◌+◌, ◌<◌, ◌≤◌, ◌⊎◌, inl, inr, Bool, true, false, cond, ◌==◌, List, [], ◌∷◌, ◌++◌, Option, Some, None, length, get_or, set, refl, ap, sym, subst, ◌∙◌, arith}
+use Rattle.std.proofs.Common.{◌≡◌, ◌≢◌, ℕ, ◌+◌, ◌<◌, ◌≤◌, ◌⊎◌, inl, inr, Bool, true, false, cond, ◌==◌, List, [], ◌∷◌, ◌++◌, Option, Some, None, length, get_or, set, refl, ap, sym, subst, ◌∙◌, arith}
 use Rattle.std.specs.Prelude.{◌*◌, sum_by}
 use Rattle.std.proofs.Math.Nat.{mul-le-mul_left, mul-le-mul_right}
 use Rattle.std.proofs.lemmas.List.Sums.{get_or-le-sum_by}
@@ -16,8 +16,7 @@ use Rattle.byte_table.specs.Entries.{Entry, entry, indexes_under}
 use Rattle.byte_table.specs.inner.Lists.{with_index}
 use Rattle.byte_table.proofs.lemmas.Entries.{indexes_added}
 use Rattle.glob_automaton.specs.IndexedTokens.{IndexedTokens, IsFor}
-use Rattle.globset.specs.inner.Groups.{ExtensionParts, IsUnder, AreNamedBelow, AreCounted, AreFor, KeepsTokens, AddsTokens, first, tokens_under}
-use Rattle.globset.proofs.lemmas.Tables.{first_in}
+use Rattle.globset.specs.inner.Groups.{ExtensionParts, AreNamedBelow, AreCounted, AreFor, KeepsTokens, AddsTokens, first, tokens_under}
 
 abbrev pub extension_parts : List Entry → List Entry → List Machine → ℕ → ExtensionParts
 extension_parts keys slots machines n = record {

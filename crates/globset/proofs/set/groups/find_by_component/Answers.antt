@@ -1,4 +1,4 @@
-use Rattle.std.proofs.Common.{◌≡◌, ◌≤◌, ◌+◌, ◌*◌, ℕ, ◌⊎◌, length, inl, inr, List, IsTrue, ap, subst, arith, ◌∙◌}
+use Rattle.std.proofs.Common.{◌≡◌, ◌≤◌, ◌+◌, ◌*◌, ℕ, ◌⊎◌, length, inr, List, IsTrue, ap, subst, arith, ◌∙◌}
 use Rattle.std.specs.Prelude.{◌↔◌, OnOk}
 use Rattle.std.proofs.Math.Nat.{mul-le-mul_right}
 use Rattle.std.proofs.Math.Logic.{⊎_elim}

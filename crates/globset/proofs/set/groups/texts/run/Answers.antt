@@ -1,4 +1,4 @@
-use Rattle.std.proofs.Common.{◌≡◌, inl, inr, IsTrue, arith}
+use Rattle.std.proofs.Common.{◌≡◌, inr, IsTrue, arith}
 use Rattle.std.proofs.Math.Logic.{⊎_elim}
 use Rattle.byte_automaton.specs.Runs.{size}
 use Rattle.byte_automaton.specs.Sets.{has_index}

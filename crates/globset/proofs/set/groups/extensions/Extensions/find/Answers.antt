@@ -1,10 +1,10 @@
-use Rattle.std.proofs.Common.{◌≡◌, ◌<◌, ◌≤◌, ◌+◌, ◌*◌, ℕ, ◌⊎◌, List, Some, length, IsTrue, ap, sym, subst, arith, ◌∙◌}
+use Rattle.std.proofs.Common.{◌≡◌, ◌+◌, ◌*◌, ℕ, ◌⊎◌, List, length, IsTrue, ap, sym, subst, arith, ◌∙◌}
 use Rattle.std.specs.Prelude.{◌↔◌, OnOk, sum_by}
 use Rattle.std.proofs.lemmas.Result.{on_ok_weaker}
 use Rattle.byte_automaton.specs.Sets.{has_index}
 use Rattle.byte_automaton.specs.Steps.{Machine}
 use Rattle.byte_automaton.specs.Runs.{size}
-use Rattle.glob_automaton.specs.IndexedTokens.{IndexedTokens, IsFor}
+use Rattle.glob_automaton.specs.IndexedTokens.{IndexedTokens}
 use Rattle.globset.specs.inner.Groups.{ExtensionParts, AreFor, IsFoundWith, extension_size}
 use Rattle.globset.proofs.lemmas.Tables.{first_in, found_both}
 use Rattle.globset.proofs.lemmas.Slots.{slot_tokens, slot_size, within_size}

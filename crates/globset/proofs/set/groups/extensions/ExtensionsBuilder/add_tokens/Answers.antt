@@ -1,10 +1,10 @@
-use Rattle.std.proofs.Common.{◌≡◌, ◌<◌, ◌++◌, ◌∷◌, [], ℕ, List, Some, length, refl, set, ap, sym, subst, arith, ◌∙◌}
+use Rattle.std.proofs.Common.{◌≡◌, Some, refl, set, ap, sym, subst, arith, ◌∙◌}
 use Rattle.std.proofs.lemmas.List.{length-set}
 use Rattle.std.proofs.lemmas.Result.{on_ok_weaker}
 use Rattle.glob_syntax.specs.Views.{tokens_of}
 use Rattle.byte_automaton.specs.Steps.{Machine}
 use Rattle.byte_table.specs.Entries.{indexes_under}
-use Rattle.glob_automaton.specs.IndexedTokens.{IndexedTokens, IsFor, indexed}
+use Rattle.glob_automaton.specs.IndexedTokens.{IsFor, indexed}
 use Rattle.globset.specs.inner.Groups.{ExtensionParts, AreNamedBelow, KeepsTokens, first}
 use Rattle.globset.proofs.lemmas.Tables.{first_in}
 use Rattle.globset.proofs.lemmas.Slots.{counted_set, extension_parts, slot_adds}
