@@ -5,5 +5,6 @@ pub mod Frames
 pub mod IndexedTokens
 pub mod Spelling
 pub mod Takes
+pub mod TakesByParts
 pub mod TokenLists
 pub mod TokenStates

@@ -6,8 +6,7 @@ use Rattle.glob_syntax.specs.Token.{Token, Literal, Any, ZeroOrMore, RecursivePr
 use Rattle.glob_syntax.specs.ClassBytes.{class_has}
 use Rattle.glob_automaton.specs.Takes.{slash}
 use Rattle.glob_automaton.specs.TokenMeans.{is_prefix}
-use Rattle.globset_glob.specs.Means.{GlobValue, tokens_of_glob}
-use Rattle.glob_groups.specs.Silent.{is_dot, silent}
+use Rattle.glob_groups.specs.Silent.{is_dot, are_silent}
 
 -- ---- tests of tokens
 
@@ -142,8 +141,6 @@ sensitive_group o ts =
     (if is_last_component ts then LastComponent (literal_text ts) else
     (if is_any_extension o ts then Extension (literal_text ts) else ending_group o ts (ending ts)))
 
--- The group of a glob. Keys are compared byte by byte, so only case-sensitive globs have one.
-unfoldable pub group_of_glob : GlobValue → GroupValue
-group_of_glob g =
-    if silent g then Silent else
-    (if g.options.case_insensitive then automaton_group g.options (tokens_of_glob g) else sensitive_group g.options (tokens_of_glob g))
+-- The group of a glob with these tokens. Keys are compared byte by byte, so only case-sensitive globs have one.
+unfoldable pub group_of_tokens : Options → Tokens → GroupValue
+group_of_tokens o ts = if are_silent o ts then Silent else (if o.case_insensitive then automaton_group o ts else sensitive_group o ts)

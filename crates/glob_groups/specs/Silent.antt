@@ -1,8 +1,8 @@
--- Silent globs: those that a set leaves out.
+-- Tokens of silent globs, which a set leaves out.
 use Rattle.std.specs.Prelude.{ℕ, Bool, false, ◌&&◌, not, ◌==◌, List}
 use Rattle.glob_syntax.specs.Token.{Token, RecursivePrefix, Literal, Any, ZeroOrMore, RecursiveSuffix, RecursiveZeroOrMore, Class, Group, Tokens, end, and_then}
-use Rattle.glob_automaton.specs.TokenMeans.{is_prefix}
-use Rattle.globset_glob.specs.Means.{GlobValue, tokens_of_glob, glob_means}
+use Rattle.glob_syntax.specs.declared.options.Options.{Options}
+use Rattle.glob_automaton.specs.TokenMeans.{is_prefix, means}
 
 -- The token is the literal `.`, whose code is 46. The class `[.]` is another token.
 abbrev pub is_dot : Token → Bool
@@ -24,12 +24,11 @@ is_prefix_dot_dot (and_then t (and_then u end)) = false
 is_prefix_dot_dot (and_then t (and_then u (and_then v end))) = is_prefix t && (is_dot u && is_dot v)
 is_prefix_dot_dot (and_then t (and_then u (and_then v (and_then w ts)))) = false
 
--- The glob is silent: no set returns its index, for any path. This depends on the glob's tokens and on
--- `case_insensitive`, and not on how the text is spelled. `**/[.][.]` matches the same paths as `**/..` and is not
--- silent. A matcher of one glob ignores this.
-unfoldable pub silent : GlobValue → Bool
-silent g = not g.options.case_insensitive && is_prefix_dot_dot (tokens_of_glob g)
+-- A glob with these tokens is silent under the options: no set returns its index, for any path. `**/[.][.]` matches the
+-- same paths as `**/..`, but has other tokens, and is not silent.
+unfoldable pub are_silent : Options → Tokens → Bool
+are_silent o ts = not o.case_insensitive && is_prefix_dot_dot ts
 
 -- The glob is not silent and matches the path. Only then does a set return its index.
-abbrev pub is_listed : GlobValue → List ℕ → Bool
-is_listed g path = not (silent g) && glob_means g path
+abbrev pub are_listed : Options → Tokens → List ℕ → Bool
+are_listed o ts path = not (are_silent o ts) && means o ts path

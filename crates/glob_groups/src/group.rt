@@ -3,7 +3,6 @@
 ghost use Rattle.std.specs.Prelude.{◌≡◌, IfOk};
 ghost use Rattle.glob_syntax.specs.FlatTokens.{IsNested};
 ghost use Rattle.glob_syntax.specs.Views.{flats, tokens_of};
-ghost use Rattle.globset_glob.specs.Means.{tokens_of_glob};
 ghost use Rattle.glob_groups.specs.Groups.{after_prefix, automaton_group, sensitive_group};
 ghost use Rattle.glob_groups.specs.GroupMeaning.{IsGroupOf, group_seen};
 
@@ -13,7 +12,6 @@ mod key;
 use crate::silence::{is_recursive_prefix, is_silent};
 use conditions::{is_any_extension, is_by_last_component, is_last_component, is_whole_path};
 use glob_syntax::{Options, Token};
-use globset_glob::{Glob, options_of, tokens_of};
 use key::{ending, literal_text};
 use std::alloc::{AllocError, Global};
 
@@ -38,17 +36,17 @@ pub enum Group {
     ByPath,
 }
 
-/// Returns the group of a glob, the first of them that fits. It takes memory for a key, and time linear in the glob.
+/// Returns the group of a glob with these tokens, the first group that fits. It takes memory for a key, and time linear in the
+/// tokens.
 ///
 /// Returns an error if memory runs out, and no other.
-pub fn group_of(alloc: Global, glob: &Glob) -> Result<Group, AllocError>
-    ensures { IfOk result (λ group. IsGroupOf glob.now group) }
+pub fn group_of(alloc: Global, options: Options, tokens: &[Token]) -> Result<Group, AllocError>
+    requires { IsNested (flats tokens.now) }
+    ensures { IfOk result (λ group. IsGroupOf options (tokens_of tokens.now) group) }
 {
-    if is_silent(glob) {
+    if is_silent(options, tokens) {
         return Ok(Group::Silent);
     }
-    let options = options_of(glob);
-    let tokens = tokens_of(glob);
     if options.case_insensitive {
         return Ok(automaton_group(options, tokens));
     }
@@ -56,12 +54,12 @@ pub fn group_of(alloc: Global, glob: &Glob) -> Result<Group, AllocError>
 }
 
 /// Returns the tokens that the last component of a path has to match for a glob of the group [`Group::ByLastComponent`]: all
-/// tokens of the glob after `RecursivePrefix`. For a glob that does not begin with it, these are all its tokens.
-pub fn tokens_after_prefix(glob: &Glob) -> &[Token]
-    ensures tokens { tokens_of result.now ≡ after_prefix (tokens_of_glob glob.now) }
+/// tokens after `RecursivePrefix`. If they do not begin with it, these are all tokens.
+pub fn tokens_after_prefix(tokens: &[Token]) -> &[Token]
+    requires { IsNested (flats tokens.now) }
+    ensures tokens { tokens_of result.now ≡ after_prefix (tokens_of tokens.now) }
     ensures nested { IsNested (flats result.now) }
 {
-    let tokens = tokens_of(glob);
     let Some((first, rest)) = tokens.split_first() else {
         return tokens;
     };

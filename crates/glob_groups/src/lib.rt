@@ -5,4 +5,3 @@ mod group;
 mod silence;
 
 pub use group::{Group, group_of, tokens_after_prefix};
-pub use silence::is_silent;

@@ -2,21 +2,22 @@
 
 ghost use Rattle.std.specs.Prelude.{◌≡◌};
 ghost use Rattle.glob_automaton.specs.TokenMeans.{is_prefix};
-ghost use Rattle.glob_syntax.specs.Views.{flat_of};
-ghost use Rattle.glob_groups.specs.Silent.{is_dot, silent};
+ghost use Rattle.glob_syntax.specs.FlatTokens.{IsNested};
+ghost use Rattle.glob_syntax.specs.Views.{flat_of, flats, tokens_of};
+ghost use Rattle.glob_groups.specs.Silent.{are_silent, is_dot};
 ghost use Rattle.glob_groups.specs.inner.FlatTests.{is_simple_that};
 
-use glob_syntax::Token;
-use globset_glob::{Glob, options_of, tokens_of};
+use glob_syntax::{Options, Token};
 
-/// Returns whether every set leaves the glob out.
-pub fn is_silent(glob: &Glob) -> bool
-    ensures { result ≡ silent glob.now }
+/// Returns whether every set leaves out a glob with these tokens.
+pub fn is_silent(options: Options, tokens: &[Token]) -> bool
+    requires { IsNested (flats tokens.now) }
+    ensures { result ≡ are_silent options (tokens_of tokens.now) }
 {
-    if options_of(glob).case_insensitive {
+    if options.case_insensitive {
         return false;
     }
-    let [first, second, third] = tokens_of(glob) else {
+    let [first, second, third] = tokens else {
         return false;
     };
     is_recursive_prefix(first) && is_dot(second) && is_dot(third)

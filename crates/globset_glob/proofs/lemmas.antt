@@ -8,5 +8,4 @@ pub mod GlobAutomaton
 pub mod GlobEquality
 pub mod Globs
 pub mod RegexWriting
-pub mod TakesByParts
 pub mod Values

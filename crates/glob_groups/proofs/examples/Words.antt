@@ -1,5 +1,5 @@
 -- The words in which the examples are written.
-use Rattle.std.specs.Prelude.{ℕ, Bool, true, List, is_ok, codes, encode_utf8_all, if◌then◌else◌, Option, None, Some}
+use Rattle.std.specs.Prelude.{ℕ, Bool, true, false, List, Ok, Err, codes, encode_utf8_all, Option, None, Some}
 use Rattle.std.specs.Char.{encode_utf8}
 use Rattle.std.specs.Str.{chars}
 use Prim.Native.String.{String}
@@ -8,43 +8,52 @@ use Rattle.glob_syntax.specs.Marks.{marks, mark_at}
 use Rattle.glob_syntax.specs.Nesting.{nested}
 use Rattle.glob_syntax.specs.Stars.{piece}
 use Rattle.glob_syntax.specs.Reading.{reading, whole, levels}
-use Rattle.globset_glob.specs.Means.{GlobValue, default_options, default_glob, tokens_of_glob, glob_means}
-use Rattle.glob_groups.specs.Groups.{GroupValue, group_of_glob}
-use Rattle.glob_groups.specs.Silent.{silent}
+use Rattle.glob_syntax.specs.declared.options.Options.{Options}
+use Rattle.glob_groups.specs.Groups.{GroupValue, group_of_tokens}
+use Rattle.glob_groups.specs.Silent.{are_silent}
 
 -- What a proof unfolds to compute the group of a glob that is written out.
 unfoldable pub globs_on_literals : Unit {0}
-unfolding chars encode_utf8 ranges bad_range marks mark_at nested piece reading whole levels tokens_of_glob glob_means silent group_of_glob
+unfolding chars encode_utf8 ranges bad_range marks mark_at nested piece reading whole levels are_silent group_of_tokens
 globs_on_literals = tt
 
--- ---- globs
+-- ---- texts under options
 
--- the bytes of a text
-abbrev pub utf8 : String → List ℕ
-utf8 text = encode_utf8_all (codes text)
+pub record Case : Type 0 where
+  pub text : List ℕ
+  pub options : Options
 
--- the glob of a text under the default options
-abbrev pub glob : String → GlobValue
-glob text = default_glob (utf8 text)
+-- these two options; `\` escapes, and the others are off
+abbrev pub case : String → Bool → Bool → Case
+case text insensitive separated = record {
+  text = encode_utf8_all (codes text);
+  options = record {
+    case_insensitive = insensitive;
+    literal_separator = separated;
+    backslash_escape = true;
+    empty_alternates = false;
+    allow_unclosed_class = false;
+  };
+}
+
+-- a glob under the default options
+abbrev pub glob : String → Case
+glob text = case text false false
 
 -- under `case_insensitive`
-abbrev pub insensitive : String → GlobValue
-insensitive text = record { text = utf8 text; options = record default_options { case_insensitive = true } }
+abbrev pub insensitive : String → Case
+insensitive text = case text true false
 
 -- under `literal_separator`
-abbrev pub separated : String → GlobValue
-separated text = record { text = utf8 text; options = record default_options { literal_separator = true } }
+abbrev pub separated : String → Case
+separated text = case text false true
 
 -- ---- results
 
--- the text has a reading, as that of every `Glob` has
-abbrev pub is_read : GlobValue → Bool
-is_read g = is_ok (reading g.options (chars g.text))
-
 -- whether the glob is silent, or `None` if its text is not a glob
-abbrev pub silence : GlobValue → Option Bool
-silence g = if is_read g then Some (silent g) else None
+abbrev pub silence : Case → Option Bool
+silence x = elim (reading x.options (chars x.text)) [ Ok ts ↦ Some (are_silent x.options ts) | Err f ↦ None ]
 
 -- the group of the glob, or `None` if its text is not a glob
-abbrev pub group : GlobValue → Option GroupValue
-group g = if is_read g then Some (group_of_glob g) else None
+abbrev pub group : Case → Option GroupValue
+group x = elim (reading x.options (chars x.text)) [ Ok ts ↦ Some (group_of_tokens x.options ts) | Err f ↦ None ]

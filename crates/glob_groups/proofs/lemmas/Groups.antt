@@ -5,10 +5,9 @@ use Rattle.glob_syntax.specs.declared.options.Options.{Options}
 use Rattle.glob_syntax.specs.Token.{Tokens}
 use Rattle.glob_syntax.specs.FlatTokens.{Flat, tree_of, IsNested}
 use Rattle.glob_automaton.specs.TokenMeans.{means}
-use Rattle.globset_glob.specs.Means.{GlobValue, tokens_of_glob, glob_means}
 use Rattle.glob_path.specs.PathParts.{last_component, component_extension}
-use Rattle.glob_groups.specs.Silent.{silent, is_listed}
-use Rattle.glob_groups.specs.Groups.{GroupValue, Silent, WholePath, LastComponent, Extension, RequiredExtension, ByLastComponent, ByPath, literal_text, ending, is_whole_path, is_last_component, is_any_extension, is_by_last_component, automaton_group, ending_group, sensitive_group, group_of_glob}
+use Rattle.glob_groups.specs.Silent.{are_silent, are_listed}
+use Rattle.glob_groups.specs.Groups.{GroupValue, Silent, WholePath, LastComponent, Extension, RequiredExtension, ByLastComponent, ByPath, literal_text, ending, is_whole_path, is_last_component, is_any_extension, is_by_last_component, automaton_group, ending_group, sensitive_group, group_of_tokens}
 use Rattle.glob_groups.specs.GroupMeaning.{group_seen, Tells, IsGroupOf}
 use Rattle.glob_groups.specs.declared.group.Group.{Group}
 use Rattle.glob_groups.specs.inner.FlatTests as flat
@@ -90,77 +89,58 @@ by_last_component_found o fs b n h = ap (λ x. if x then ByLastComponent else By
 
 -- ---- the group of a glob
 
-pub silent_found : (g : GlobValue) → silent g ≡ true → Silent ≡ group_of_glob g
-unfolding group_of_glob
-silent_found g h = rw h refl
+pub silent_found : (o : Options) (ts : Tokens) → are_silent o ts ≡ true → Silent ≡ group_of_tokens o ts
+unfolding group_of_tokens
+silent_found o ts h = rw h refl
 
-pub insensitive_found : (g : GlobValue) (o : Options) (ts : Tokens) (group : GroupValue) → silent g ≡ false → o ≡ g.options → tokens_of_glob g ≡ ts → o.case_insensitive ≡ true
-    → group ≡ automaton_group o ts → group ≡ group_of_glob g
-unfolding group_of_glob
-insensitive_found g o ts group loud same tokens on e =
-    let is : automaton_group o ts ≡ automaton_group g.options (tokens_of_glob g) = λ i. automaton_group (same i) (sym tokens i) in
-    let set : g.options.case_insensitive ≡ true = ap (λ p. p.case_insensitive) (sym same) ∙ on in
-    e ∙ is ∙ rw (loud, set) refl
+pub insensitive_found : (o : Options) (ts : Tokens) (group : GroupValue) → are_silent o ts ≡ false → o.case_insensitive ≡ true → group ≡ automaton_group o ts → group ≡ group_of_tokens o ts
+unfolding group_of_tokens
+insensitive_found o ts group loud on e = e ∙ rw (loud, on) refl
 
-pub sensitive_found : (g : GlobValue) (o : Options) (ts : Tokens) (group : GroupValue) → silent g ≡ false → o ≡ g.options → tokens_of_glob g ≡ ts → o.case_insensitive ≡ false
-    → group ≡ sensitive_group o ts → group ≡ group_of_glob g
-unfolding group_of_glob
-sensitive_found g o ts group loud same tokens off e =
-    let is : sensitive_group o ts ≡ sensitive_group g.options (tokens_of_glob g) = λ i. sensitive_group (same i) (sym tokens i) in
-    let unset : g.options.case_insensitive ≡ false = ap (λ p. p.case_insensitive) (sym same) ∙ off in
-    e ∙ is ∙ rw (loud, unset) refl
+pub sensitive_found : (o : Options) (ts : Tokens) (group : GroupValue) → are_silent o ts ≡ false → o.case_insensitive ≡ false → group ≡ sensitive_group o ts → group ≡ group_of_tokens o ts
+unfolding group_of_tokens
+sensitive_found o ts group loud off e = e ∙ rw (loud, off) refl
 
 -- ---- what it says
 
 -- a glob that is not silent is listed for the paths that it matches
-listed_is : (g : GlobValue) (path : List ℕ) → silent g ≡ false → is_listed g path ≡ glob_means g path
-listed_is g path loud = ap (λ b. not b && glob_means g path) loud
+listed_means : (o : Options) (ts : Tokens) (path : List ℕ) → are_silent o ts ≡ false → are_listed o ts path ≡ means o ts path
+listed_means o ts path loud = ap (λ b. not b && means o ts path) loud
 
-listed_means : (g : GlobValue) (path : List ℕ) → silent g ≡ false → is_listed g path ≡ means g.options (tokens_of_glob g) path
-unfolding glob_means
-listed_means g path loud = listed_is g path loud
-
-automaton_tells : (g : GlobValue) (path : List ℕ) → silent g ≡ false → Tells (automaton_group g.options (tokens_of_glob g)) g path
-automaton_tells g path loud = by_case (is_by_last_component g.options (tokens_of_glob g)) refl
+automaton_tells : (o : Options) (ts : Tokens) (path : List ℕ) → are_silent o ts ≡ false → Tells (automaton_group o ts) o ts path
+automaton_tells o ts path loud = by_case (is_by_last_component o ts) refl
   where
-    by_case : (b : Bool) → is_by_last_component g.options (tokens_of_glob g) ≡ b → Tells (if b then ByLastComponent else ByPath) g path
-    by_case true h = listed_means g path loud ∙ by_last_component_means g.options path (tokens_of_glob g) h
-    by_case false h = listed_is g path loud
+    by_case : (b : Bool) → is_by_last_component o ts ≡ b → Tells (if b then ByLastComponent else ByPath) o ts path
+    by_case true h = listed_means o ts path loud ∙ by_last_component_means o path ts h
+    by_case false h = listed_means o ts path loud
 
-ending_tells : (g : GlobValue) (path : List ℕ) → silent g ≡ false → g.options.case_insensitive ≡ false → (last : Option (List ℕ)) → ending (tokens_of_glob g) ≡ last
-    → Tells (ending_group g.options (tokens_of_glob g) last) g path
-ending_tells g path loud off (Some key) e =
-    (listed_is g path loud, λ yes. ending_required g.options (tokens_of_glob g) path key off e (sym (listed_means g path loud) ∙ yes))
-ending_tells g path loud off None e = automaton_tells g path loud
+ending_tells : (o : Options) (ts : Tokens) (path : List ℕ) → are_silent o ts ≡ false → o.case_insensitive ≡ false → (last : Option (List ℕ)) → ending ts ≡ last → Tells (ending_group o ts last) o ts path
+ending_tells o ts path loud off (Some key) e = (listed_means o ts path loud, λ yes. ending_required o ts path key off e (sym (listed_means o ts path loud) ∙ yes))
+ending_tells o ts path loud off None e = automaton_tells o ts path loud
 
-sensitive_tells : (g : GlobValue) (path : List ℕ) → silent g ≡ false → g.options.case_insensitive ≡ false → Tells (sensitive_group g.options (tokens_of_glob g)) g path
-sensitive_tells g path loud off =
-    whichever_fits (λ s. Tells s g path) (is_whole_path ts) (is_last_component ts) (is_any_extension g.options ts)
-    (WholePath (literal_text ts)) (LastComponent (literal_text ts)) (Extension (literal_text ts)) (ending_group g.options ts (ending ts))
-    (λ h. subst (λ b. IsTrue b ↔ (path ≡ literal_text ts)) (sym same) (whole_path_means g.options ts path off h))
-    (λ h. subst (λ b. IsTrue b ↔ (last_component path ≡ literal_text ts)) (sym same) (last_component_means g.options path off ts h))
-    (λ h. subst (λ b. IsTrue b ↔ (component_extension path ≡ literal_text ts)) (sym same) (any_extension_means g.options path off ts h))
-    (ending_tells g path loud off (ending ts) refl)
+sensitive_tells : (o : Options) (ts : Tokens) (path : List ℕ) → are_silent o ts ≡ false → o.case_insensitive ≡ false → Tells (sensitive_group o ts) o ts path
+sensitive_tells o ts path loud off =
+    whichever_fits (λ s. Tells s o ts path) (is_whole_path ts) (is_last_component ts) (is_any_extension o ts)
+    (WholePath (literal_text ts)) (LastComponent (literal_text ts)) (Extension (literal_text ts)) (ending_group o ts (ending ts))
+    (λ h. subst (λ b. IsTrue b ↔ (path ≡ literal_text ts)) (sym same) (whole_path_means o ts path off h))
+    (λ h. subst (λ b. IsTrue b ↔ (last_component path ≡ literal_text ts)) (sym same) (last_component_means o path off ts h))
+    (λ h. subst (λ b. IsTrue b ↔ (component_extension path ≡ literal_text ts)) (sym same) (any_extension_means o path off ts h))
+    (ending_tells o ts path loud off (ending ts) refl)
   where
-    ts : Tokens
-    ts = tokens_of_glob g
+    same : are_listed o ts path ≡ means o ts path
+    same = listed_means o ts path loud
 
-    same : is_listed g path ≡ means g.options ts path
-    same = listed_means g path loud
-
-tells_of : (g : GlobValue) (path : List ℕ) → Tells (group_of_glob g) g path
-unfolding group_of_glob
-tells_of g path = by_silence (silent g) refl
+tells_of : (o : Options) (ts : Tokens) (path : List ℕ) → Tells (group_of_tokens o ts) o ts path
+unfolding group_of_tokens
+tells_of o ts path = by_silence (are_silent o ts) refl
   where
-    by_case : (b : Bool) → silent g ≡ false → g.options.case_insensitive ≡ b
-        → Tells (if b then automaton_group g.options (tokens_of_glob g) else sensitive_group g.options (tokens_of_glob g)) g path
-    by_case true loud h = automaton_tells g path loud
-    by_case false loud h = sensitive_tells g path loud h
+    by_case : (b : Bool) → are_silent o ts ≡ false → o.case_insensitive ≡ b → Tells (if b then automaton_group o ts else sensitive_group o ts) o ts path
+    by_case true loud h = automaton_tells o ts path loud
+    by_case false loud h = sensitive_tells o ts path loud h
 
-    by_silence : (b : Bool) → silent g ≡ b
-        → Tells (if b then Silent else (if g.options.case_insensitive then automaton_group g.options (tokens_of_glob g) else sensitive_group g.options (tokens_of_glob g))) g path
-    by_silence true h = ap (λ b. not b && glob_means g path) h
-    by_silence false h = by_case g.options.case_insensitive h refl
+    by_silence : (b : Bool) → are_silent o ts ≡ b → Tells (if b then Silent else (if o.case_insensitive then automaton_group o ts else sensitive_group o ts)) o ts path
+    by_silence true h = ap (λ b. not b && means o ts path) h
+    by_silence false h = by_case o.case_insensitive h refl
 
-pub is_group : (g : GlobValue) (group : Group) → group_seen group ≡ group_of_glob g → IsGroupOf g group
-is_group g group e = record { first = e; tells = λ path. subst (λ s. Tells s g path) (sym e) (tells_of g path) }
+pub is_group : (o : Options) (ts : Tokens) (group : Group) → group_seen group ≡ group_of_tokens o ts → IsGroupOf o ts group
+is_group o ts group e = record { first = e; tells = λ path. subst (λ s. Tells s o ts path) (sym e) (tells_of o ts path) }

@@ -6,33 +6,33 @@ use Rattle.glob_syntax.specs.declared.token.Token as held
 use Rattle.glob_syntax.specs.Token.{Token, Literal, Any, ZeroOrMore, RecursivePrefix, RecursiveSuffix, RecursiveZeroOrMore, Class, Group, Tokens, end, and_then, before}
 use Rattle.glob_syntax.specs.FlatTokens.{Flat, simple, opening, comma, closing, tree_of, IsNested}
 use Rattle.glob_automaton.specs.TokenMeans.{is_prefix}
-use Rattle.globset_glob.specs.Means.{GlobValue, tokens_of_glob}
+use Rattle.glob_syntax.specs.declared.options.Options.{Options}
 use Rattle.glob_syntax.specs.Views.{flat_of, flats, tokens_of}
 use Rattle.glob_syntax.proofs.lemmas.FlatTrees.{spelled}
 use Rattle.glob_automaton.proofs.lemmas.TokenLists.{prefix_is}
-use Rattle.glob_groups.specs.Silent.{silent, is_dot, is_prefix_dot_dot}
+use Rattle.glob_groups.specs.Silent.{are_silent, is_dot, is_prefix_dot_dot}
 use Rattle.glob_groups.specs.inner.FlatTests.{is_simple_that}
 
-silent_is : (g : GlobValue) (ts : Tokens) → tokens_of_glob g ≡ ts → (not g.options.case_insensitive && is_prefix_dot_dot ts) ≡ silent g
-unfolding silent
-silent_is g ts h = ap (λ us. not g.options.case_insensitive && is_prefix_dot_dot us) (sym h)
+silent_is : (o : Options) (ts : Tokens) → (not o.case_insensitive && is_prefix_dot_dot ts) ≡ are_silent o ts
+unfolding are_silent
+silent_is o ts = refl
 
 -- a case-insensitive glob is not silent
-pub not_insensitive : (g : GlobValue) → g.options.case_insensitive ≡ true → false ≡ silent g
-unfolding silent
-not_insensitive g h = rw h refl
+pub not_insensitive : (o : Options) (ts : Tokens) → o.case_insensitive ≡ true → false ≡ are_silent o ts
+unfolding are_silent
+not_insensitive o ts h = rw h refl
 
 never : (b c : Bool) → c ≡ false → false ≡ (b && c)
 never true c h = sym h
 never false c h = refl
 
 -- a glob of other tokens is not silent
-pub not_other : (g : GlobValue) (ts : Tokens) → tokens_of_glob g ≡ ts → is_prefix_dot_dot ts ≡ false → false ≡ silent g
-not_other g ts h e = never (not g.options.case_insensitive) (is_prefix_dot_dot ts) e ∙ silent_is g ts h
+pub not_other : (o : Options) (ts : Tokens) → is_prefix_dot_dot ts ≡ false → false ≡ are_silent o ts
+not_other o ts e = never (not o.case_insensitive) (is_prefix_dot_dot ts) e ∙ silent_is o ts
 
 -- a case-sensitive glob is silent if and only if its tokens are those of `**/..`
-pub by_tokens : (g : GlobValue) (ts : Tokens) → tokens_of_glob g ≡ ts → g.options.case_insensitive ≡ false → is_prefix_dot_dot ts ≡ silent g
-by_tokens g ts h e = ap (λ b. not b && is_prefix_dot_dot ts) (sym e) ∙ silent_is g ts h
+pub by_tokens : (o : Options) (ts : Tokens) → o.case_insensitive ≡ false → is_prefix_dot_dot ts ≡ are_silent o ts
+by_tokens o ts e = ap (λ b. not b && is_prefix_dot_dot ts) (sym e) ∙ silent_is o ts
 
 -- ---- the one list of tokens that is silent
 

@@ -18,7 +18,7 @@ use Rattle.glob_automaton.proofs.lemmas.Booleans.{and_both, and_first, and_secon
 use Rattle.glob_automaton.proofs.lemmas.Cuts.{empty_is}
 use Rattle.glob_automaton.proofs.lemmas.Takes.{one_byte}
 use Rattle.glob_automaton.proofs.lemmas.TokenLists.{prefix_is}
-use Rattle.globset_glob.proofs.lemmas.TakesByParts.{Takes, TakesAll, equal_bytes, prefix_takes, then_takes}
+use Rattle.glob_automaton.proofs.lemmas.TakesByParts.{Takes, TakesAll, equal_bytes, prefix_takes, then_takes}
 use Rattle.glob_groups.specs.Silent as silent
 use Rattle.glob_groups.specs.Groups.{is_star, is_literal_except, is_within, has_tokens, all_pass, first_and_rest, some_all_pass, after_prefix, literal_text, is_extension, ending, is_whole_path, is_last_component, is_star_extension, is_any_extension, is_by_last_component}
 use Rattle.glob_groups.proofs.lemmas.Silent.{dot_is}

@@ -12,7 +12,7 @@ use Rattle.glob_automaton.specs.Takes.{compared, slash}
 use Rattle.globset_glob.specs.SmallRegex.{SpellsByte, is_special, is_hexadecimal, hexadecimal_value, is_same, single, folded_entries_have}
 use Rattle.globset_glob.specs.RegexText.{hexadecimal_digit, is_escaped, byte_text}
 use Rattle.glob_syntax.specs.declared.options.Options.{Options}
-use Rattle.globset_glob.proofs.lemmas.TakesByParts.{Then}
+use Rattle.glob_automaton.proofs.lemmas.TakesByParts.{Then}
 
 -- ---- spelling of a byte
 

@@ -17,7 +17,7 @@ use Rattle.glob_syntax.specs.declared.options.Options.{Options}
 use Rattle.glob_automaton.proofs.lemmas.Booleans.{and_both, and_first, and_second, or_first, or_second, or_either}
 use Rattle.glob_syntax.specs.inner.WellFormed.{AreScalars, IsWellFormed, AreWellFormed, AllWellFormed}
 use Rattle.glob_automaton.proofs.lemmas.Takes.{some_any, OneByte, one_byte}
-use Rattle.globset_glob.proofs.lemmas.TakesByParts.{Takes, TakesAll, Then, empty_same, equal_bytes, prefix_takes, suffix_takes, between_takes, then_takes}
+use Rattle.glob_automaton.proofs.lemmas.TakesByParts.{Takes, TakesAll, Then, empty_same, equal_bytes, prefix_takes, suffix_takes, between_takes, then_takes}
 use Rattle.globset_glob.proofs.lemmas.ByteTexts.{Below, IsSpelled, spells_byte, encode_below, slash_byte, byte_slash, slash_alone, spelled_more, spelled_none, spelled_one}
 use Rattle.globset_glob.proofs.lemmas.ClassTexts.{has_ranges}
 

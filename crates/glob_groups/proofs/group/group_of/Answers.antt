@@ -5,16 +5,14 @@ use Rattle.glob_groups.proofs.lemmas.Groups.{is_group, silent_found, insensitive
 use Rattle.glob_groups.proofs.group.group_of.Goals as goal
 
 pub returns-then-is_silent : goal.returns-then-is_silent
-returns-then-is_silent c = is_group c.args.glob.now _ (silent_found c.args.glob.now (sym c.is_silent.ensures ∙ c.if-is_silent.true))
+returns-then-is_silent c = is_group c.args.options (tokens_of c.args.tokens.now) _ (silent_found c.args.options (tokens_of c.args.tokens.now) (sym c.is_silent.ensures ∙ c.if-is_silent.true))
 
 pub returns-then-options : goal.returns-then-options
 returns-then-options c =
-    is_group c.args.glob.now _
-    (insensitive_found c.args.glob.now c.options_of-options.result (tokens_of c.tokens_of-tokens.result.now) _ (sym c.is_silent.ensures ∙ c.if-is_silent.false) c.options_of-options.ensures
-    c.tokens_of-tokens.ensures.tokens c.if-options.true c.automaton_group.ensures)
+    is_group c.args.options (tokens_of c.args.tokens.now) _
+    (insensitive_found c.args.options (tokens_of c.args.tokens.now) _ (sym c.is_silent.ensures ∙ c.if-is_silent.false) c.if-options.true c.automaton_group.ensures)
 
 pub returns : goal.returns
 returns c =
-    IfOk-weaker c.sensitive_group.result _ _ (λ group found. is_group c.args.glob.now group
-    (sensitive_found c.args.glob.now c.options_of-options.result (tokens_of c.tokens_of-tokens.result.now) _ (sym c.is_silent.ensures ∙ c.if-is_silent.false) c.options_of-options.ensures
-    c.tokens_of-tokens.ensures.tokens c.if-options.false found)) c.sensitive_group.ensures
+    IfOk-weaker c.sensitive_group.result _ _ (λ group found. is_group c.args.options (tokens_of c.args.tokens.now) group
+    (sensitive_found c.args.options (tokens_of c.args.tokens.now) _ (sym c.is_silent.ensures ∙ c.if-is_silent.false) c.if-options.false found)) c.sensitive_group.ensures
