@@ -1,0 +1,12 @@
+use Rattle.std.proofs.Common.{ap, arith}
+use Rattle.group_matching.specs.inner.Groups.{ExtensionParts}
+use Rattle.group_matching.proofs.lemmas.Tables.{named_either_way}
+use Rattle.group_matching.proofs.groups.extensions.ExtensionsBuilder.insert.Goals as goal
+
+pub invariant_of-self : goal.invariant_of-self
+invariant_of-self c = record {
+  named = named_either_way c.insert.result c.self.inside.keys c.insert.new.self c.args.key.items c.args.index c.self.inside.index_count c.insert.ensures.ok c.insert.ensures.err
+      (omega (arith, c.requires, ap (λ (e : ExtensionParts). e.index_count) c.self.view_is)) c.self.invariant.named;
+  held = c.self.invariant.held;
+  counted = c.self.invariant.counted;
+}

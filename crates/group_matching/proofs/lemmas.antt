@@ -1,0 +1,5 @@
+pub mod Automata
+pub mod Groups
+pub mod Indexes
+pub mod Slots
+pub mod Tables
