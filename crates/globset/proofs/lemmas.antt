@@ -1,11 +1,7 @@
 pub mod Answer
-pub mod Automata
-pub mod Groups
 pub mod Laws
 pub mod SetFromValue
 pub mod SliceItems
-pub mod Slots
-pub mod Tables
 pub mod WalkNames
 pub mod WalkParameters
 pub mod WalkResults

@@ -1,7 +1,7 @@
 -- Laws of the indexes that sets return.
 use Rattle.std.specs.Prelude.{◌≡◌, ℕ, ◌<◌, ◌↔◌, false, if◌then◌else◌, List, [], ◌∷◌, ◌++◌, length, Contains, slice_get}
 use Rattle.globset_glob.specs.Means.{GlobValue, glob_means}
-use Rattle.glob_groups.specs.Silent.{silent, is_listed}
+use Rattle.globset.specs.Silent.{silent, is_listed}
 use Rattle.globset.specs.Answer.{answer}
 
 -- One more glob after the others: if it is listed, its index is added at the end, and otherwise nothing changes.

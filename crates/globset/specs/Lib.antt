@@ -1,3 +1,4 @@
+pub mod Silent
 pub mod Answer
 pub mod Work
 pub mod SetValue
@@ -5,7 +6,7 @@ pub mod SetFromValue
 pub mod Lending
 pub mod Laws
 pub mod inner
-pub use Rattle.glob_groups.specs.Silent
+pub use Rattle.group_matching.specs.Indexes
 pub use Rattle.globset_glob.specs.Token
 pub use Rattle.globset_glob.specs.Ranges
 pub use Rattle.globset_glob.specs.Marks

@@ -1,2 +1,1 @@
 pub mod StoredGlobs
-pub mod Groups

@@ -9,7 +9,6 @@ ghost use Rattle.globset.specs.SetValue.{set_globs, builder_globs};
 
 mod all;
 mod any;
-mod groups;
 mod matches;
 mod stored;
 mod value;

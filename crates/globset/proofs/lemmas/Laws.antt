@@ -1,13 +1,29 @@
 -- Laws of the indexes that sets return.
 use Rattle.std.proofs.Common.{◌≡◌, ℕ, zero, suc, ◌+◌, ◌<◌, List, [], ◌∷◌, ◌++◌, length, Bool, true, false, cond, Option, Some, refl, ap, sym, ◌∙◌, arith, length-append}
-use Rattle.std.specs.Prelude.{filter, slice_get}
+use Rattle.std.specs.Prelude.{Contains, filter, slice_get}
 use Rattle.std.specs.List.{range_with_len}
 use Rattle.std.specs.Option.{option_map_or}
 use Rattle.globset_glob.specs.Means.{GlobValue}
-use Rattle.glob_groups.specs.Silent.{is_listed}
-use Rattle.globset.specs.Answer.{is_listed_at, answer}
+use Rattle.globset.specs.Silent.{is_listed}
+use Rattle.globset.specs.Answer.{answer}
+use Rattle.group_matching.specs.Indexes.{passes_at}
 use Rattle.globset.specs.Laws.{AddKeeps, OrderRenames, OneGlobSet}
-use Rattle.globset.proofs.lemmas.Answer.{filter_more, listed_is_contained, contained_is_listed}
+use Rattle.group_matching.proofs.lemmas.Indexes.{filter_more, passing_is_contained, contained_passes, passes_within}
+
+-- the list has a glob at this index, and it is listed
+abbrev is_listed_at : List GlobValue → List ℕ → ℕ → Bool
+is_listed_at globs path i = passes_at (λ g. is_listed g path) globs i
+
+listed_is_contained : (globs : List GlobValue) (path : List ℕ) (i : ℕ) → i < length globs → is_listed_at globs path i ≡ true → Contains (answer globs path) i
+unfolding answer
+listed_is_contained globs path i h p = passing_is_contained (λ g. is_listed g path) globs i h p
+
+contained_is_listed : (globs : List GlobValue) (path : List ℕ) (i : ℕ) → Contains (answer globs path) i → (i < length globs) × (is_listed_at globs path i ≡ true)
+unfolding answer
+contained_is_listed globs path i h = contained_passes (λ g. is_listed g path) globs i h
+
+listed_within : (globs : List GlobValue) (path : List ℕ) (i : ℕ) → is_listed_at globs path i ≡ true → i < length globs
+listed_within globs path i h = passes_within (λ g. is_listed g path) globs i h
 
 -- ---- one more glob at the end
 
@@ -43,11 +59,6 @@ adding_keeps globs g path =
     ∙ (λ i. front i ++ cond (last i) (n ∷ []) [])
 
 -- ---- another order
-
-listed_within : (globs : List GlobValue) (path : List ℕ) (i : ℕ) → is_listed_at globs path i ≡ true → i < length globs
-listed_within [] path i h = absurd (cc)
-listed_within (g ∷ globs) path zero h = omega arith
-listed_within (g ∷ globs) path (suc i) h = omega (arith, listed_within globs path i h)
 
 pub order_only_renames : OrderRenames
 order_only_renames first second to path reordered j = (

@@ -2,7 +2,8 @@
 
 ghost use Rattle.std.specs.Prelude.{◌≡◌, ◌+◌, ◌≤◌, ◌↔◌, [], IfOk, IfErr, IsOk, IsTrue, length};
 ghost use Rattle.globset_glob.specs.Errors.{out_of_memory};
-ghost use Rattle.globset.specs.Answer.{answer, ContainsAllBelow};
+ghost use Rattle.globset.specs.Answer.{answer};
+ghost use Rattle.group_matching.specs.Indexes.{ContainsAllBelow};
 ghost use Rattle.globset.specs.SetValue.{set_globs};
 ghost use Rattle.globset.specs.Work.{most_set_visits};
 
@@ -60,12 +61,6 @@ impl GlobSet {
         let Some(stored) = &self.stored else {
             return Ok(true);
         };
-        let found = stored.find(path, visits)?;
-        for index in 0..stored.len() {
-            if !found.has(index) {
-                return Ok(false);
-            }
-        }
-        Ok(true)
+        stored.matches_all(path, visits)
     }
 }

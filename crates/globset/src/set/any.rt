@@ -56,7 +56,6 @@ impl GlobSet {
         let Some(stored) = &self.stored else {
             return Ok(false);
         };
-        let found = stored.find(path, visits)?;
-        Ok(found.first_from(0).is_some())
+        stored.is_match(path, visits)
     }
 }

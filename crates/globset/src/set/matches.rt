@@ -83,35 +83,10 @@ impl GlobSet {
         ensures cleared { OnErr result (into.new.items ≡ []) }
         ensures visits { visits.new ≤ visits.old + most_set_visits (set_globs self.now) path.now }
     {
-        into.clear();
-        if let Err(error) = self.push_matches(path, into, visits) {
-            into.clear();
-            return Err(error);
-        }
-        Ok(())
-    }
-
-    /// Pushes the indexes onto an empty vector. If memory runs out, the vector has some of them.
-    fn push_matches(
-        &self,
-        path: &Candidate<'_>,
-        into: &mut Vec<usize>,
-        visits: &mut Visits,
-    ) -> Result<(), Error>
-        requires { into.old.items ≡ [] }
-        ensures ok { OnOk result (into.new.items ≡ answer (set_globs self.now) path.now) }
-        ensures err { IfErr result (λ e. e ≡ out_of_memory) }
-        ensures visits { visits.new ≤ visits.old + most_set_visits (set_globs self.now) path.now }
-    {
         let Some(stored) = &self.stored else {
+            into.clear();
             return Ok(());
         };
-        let found = stored.find(path, visits)?;
-        let mut from = 0;
-        while let Some(index) = found.first_from(from) {
-            into.push(index)?;
-            from = index + 1;
-        }
-        Ok(())
+        stored.find(path, into, visits)
     }
 }

@@ -1,14 +1,13 @@
 //! What a set stores.
 
-ghost use Rattle.std.specs.Prelude.{◌≡◌, ℕ, ◌+◌, ◌^◌, ◌<◌, ◌≤◌, IfOk, IfErr, length};
-ghost use Rattle.byte_automaton.specs.Sets.{has_index, index_room};
+ghost use Rattle.std.specs.Prelude.{◌≡◌, ◌≢◌, ◌↔◌, [], ℕ, ◌+◌, ◌≤◌, IfOk, IfErr, OnOk, OnErr, IsTrue, length};
 ghost use Rattle.globset_glob.specs.Errors.{out_of_memory};
-ghost use Rattle.globset.specs.Answer.{is_listed_at};
+ghost use Rattle.globset.specs.Answer.{answer};
 ghost use Rattle.globset.specs.Work.{most_set_visits};
+ghost use Rattle.group_matching.specs.Indexes.{ContainsAllBelow};
 
-use crate::set::groups::{Groups, GroupsBuilder};
-use byte_automaton::IndexSet;
-use globset_glob::{Candidate, Error, Glob, Visits};
+use globset_glob::{Candidate, Error, Glob, Visits, options_of, tokens_of};
+use group_matching::{Groups, GroupsBuilder};
 use std::marker::Model;
 
 /// The globs of a set, and the groups that decide which of them match a path. The index of a glob is its position.
@@ -21,13 +20,13 @@ pub struct Stored {
 impl Model for Stored {
     ghost use Rattle.std.specs.Prelude.{List};
     ghost use Rattle.globset_glob.specs.Means.{GlobValue};
-    ghost use Rattle.globset.specs.inner.Groups.{AreGroupsOf};
+    ghost use Rattle.globset.specs.inner.StoredGlobs.{AreStored};
 
     ghost Value = { List GlobValue };
 
     ghost view = { λ s. s.globs.items };
 
-    ghost invariant = { λ s. AreGroupsOf s.globs.items s.groups };
+    ghost invariant = { λ s. AreStored s.globs.items s.groups };
 }
 
 impl Stored {
@@ -39,7 +38,7 @@ impl Stored {
         let alloc = *globs.allocator();
         let mut builder = GroupsBuilder::new(alloc, globs.len());
         for (index, glob) in globs.iter().enumerate() {
-            builder.add(alloc, glob, index)?;
+            builder.add(alloc, options_of(glob), tokens_of(glob), index)?;
         }
         Ok(Stored {
             groups: builder.finish(alloc)?,
@@ -54,22 +53,47 @@ impl Stored {
         self.globs.len()
     }
 
-    /// Returns the indexes of the globs that are not silent and match the path.
+    /// Replaces the vector's items by the indexes, ascending, of the globs that are not silent and match the path.
     ///
-    /// It looks up the path and its parts in tables, and runs at most three automata, each once. It takes a bit of memory for
-    /// each glob, and two for each state of an automaton that it runs.
+    /// Returns an error if memory runs out, and no other. The vector is then empty.
+    pub fn find(
+        &self,
+        path: &Candidate<'_>,
+        into: &mut Vec<usize>,
+        visits: &mut Visits,
+    ) -> Result<(), Error>
+        ensures ok { OnOk result (into.new.items ≡ answer self.now path.now) }
+        ensures err { IfErr result (λ e. e ≡ out_of_memory) }
+        ensures cleared { OnErr result (into.new.items ≡ []) }
+        ensures visits { visits.new ≤ visits.old + most_set_visits self.now path.now }
+    {
+        let alloc = *self.globs.allocator();
+        self.groups.find(alloc, path, into, visits)?;
+        Ok(())
+    }
+
+    /// Returns whether some glob that is not silent matches the path.
+    ///
     /// Returns an error if memory runs out, and no other.
-    pub fn find(&self, path: &Candidate<'_>, visits: &mut Visits) -> Result<IndexSet, Error>
-        ensures len { length self.now < 2 ^ 64 }
-        ensures room { IfOk result (λ set. length self.now ≤ index_room set) }
-        ensures found { IfOk result (λ set. (k : ℕ) → has_index set k ≡ is_listed_at self.now path.now k) }
+    pub fn is_match(&self, path: &Candidate<'_>, visits: &mut Visits) -> Result<bool, Error>
+        ensures ok { IfOk result (λ yes. IsTrue yes ↔ (answer self.now path.now ≢ [])) }
         ensures err { IfErr result (λ e. e ≡ out_of_memory) }
         ensures visits { visits.new ≤ visits.old + most_set_visits self.now path.now }
     {
         let alloc = *self.globs.allocator();
-        let mut found = IndexSet::new(alloc, self.globs.len())?;
-        self.groups.find(alloc, path, &mut found, visits)?;
-        Ok(found)
+        Ok(self.groups.is_match(alloc, path, visits)?)
+    }
+
+    /// Returns whether every glob matches the path and none is silent.
+    ///
+    /// Returns an error if memory runs out, and no other.
+    pub fn matches_all(&self, path: &Candidate<'_>, visits: &mut Visits) -> Result<bool, Error>
+        ensures ok { IfOk result (λ yes. IsTrue yes ↔ ContainsAllBelow (answer self.now path.now) (length self.now)) }
+        ensures err { IfErr result (λ e. e ≡ out_of_memory) }
+        ensures visits { visits.new ≤ visits.old + most_set_visits self.now path.now }
+    {
+        let alloc = *self.globs.allocator();
+        Ok(self.groups.matches_all(alloc, path, visits)?)
     }
 
     /// Returns an equal value, with memory of its own. Returns an error if memory runs out, and no other.

@@ -1,6 +1,7 @@
 use Rattle.std.proofs.Common.{List, ℕ, IfOk, length, subst, ◌∙◌}
 use Rattle.std.specs.Prelude.{◌↔◌, IsTrue}
-use Rattle.globset.specs.Answer.{answer, ContainsAllBelow}
+use Rattle.globset.specs.Answer.{answer}
+use Rattle.group_matching.specs.Indexes.{ContainsAllBelow}
 use Rattle.globset.proofs.set.GlobSet.matches_all.Goals as goal
 
 pub returns-clause-ok : goal.returns-clause-ok

@@ -1,20 +1,14 @@
-use Rattle.std.proofs.Common.{◌≤◌, ◌+◌, ◌*◌, length, ap, arith}
-use Rattle.std.specs.Prelude.{List, sum_by}
-use Rattle.std.proofs.Math.Nat.{mul-le-mul_left}
+use Rattle.std.proofs.Common.{◌≡◌, List, map, sym, subst, ◌∙◌}
+use Rattle.std.proofs.lemmas.List.{length-map}
 use Rattle.globset_glob.specs.Means.{GlobValue}
-use Rattle.globset_glob.specs.Cost.{cost}
-use Rattle.globset.specs.Work.{most_set_visits}
-use Rattle.globset.specs.inner.Groups.{total}
+use Rattle.globset.specs.Answer.{answer}
+use Rattle.globset.specs.inner.StoredGlobs.{by_tokens}
+use Rattle.globset.proofs.lemmas.Answer.{listed_answer}
 use Rattle.globset.proofs.set.stored.Stored.find.Goals as goal
 
-pub returns-in_err-find-clause-visits : goal.returns-in_err-find-clause-visits
-returns-in_err-find-clause-visits c =
-    let positions = length c.args.path.now + 1 in
-    let all : positions * total c.self.inside.groups ≤ positions * sum_by cost c.self.inside.globs.items = mul-le-mul_left positions c.self.invariant.size in
-    omega (arith, c.find.ensures.visits, all, ap (λ (globs : List GlobValue). most_set_visits globs c.args.path.now) c.self.view_is)
-
-pub returns-clause-visits : goal.returns-clause-visits
-returns-clause-visits c =
-    let positions = length c.args.path.now + 1 in
-    let all : positions * total c.self.inside.groups ≤ positions * sum_by cost c.self.inside.globs.items = mul-le-mul_left positions c.self.invariant.size in
-    omega (arith, c.find.ensures.visits, all, ap (λ (globs : List GlobValue). most_set_visits globs c.args.path.now) c.self.view_is)
+pub returns-clause-ok : goal.returns-clause-ok
+returns-clause-ok c =
+    let globs = c.self.inside.globs.items in
+    let counted = length-map globs by_tokens ∙ sym c.self.invariant.count in
+    subst (λ (gs : List GlobValue). c.find.new.into.items ≡ answer gs c.args.path.now) c.self.view_is
+    (c.in_ok-find.ensures.ok (map by_tokens globs) c.self.invariant.groups counted ∙ listed_answer globs c.args.path.now)

@@ -1,9 +1,14 @@
-use Rattle.std.proofs.Common.{◌≡◌, ◌≤◌, ◌+◌, ◌<◌, ◌∷◌, [], ◌++◌, take, length, arith, ap, sym, subst, ◌∙◌}
-use Rattle.std.specs.Prelude.{sum_by}
-use Rattle.std.proofs.lemmas.List.{length-take-le, take_all}
+use Rattle.std.proofs.Common.{◌≡◌, ◌≤◌, ◌+◌, ◌<◌, ◌∷◌, [], ◌++◌, take, length, map, arith, ap, sym, subst, ◌∙◌}
+use Rattle.std.specs.Prelude.{◌*◌, sum_by}
+use Rattle.std.proofs.lemmas.List.{length-map, length-take-le, take_all}
+use Rattle.glob_syntax.specs.inner.Weight.{weight}
+use Rattle.glob_syntax.specs.Views.{tokens_of}
+use Rattle.globset_glob.specs.Means.{tokens_of_glob}
 use Rattle.globset_glob.specs.Cost.{cost}
-use Rattle.globset.specs.inner.Groups.{AreGroups, total}
-use Rattle.globset.proofs.lemmas.Groups.{cost_push, first_more}
+use Rattle.group_matching.specs.Globs.{TokenGlob, states, token_glob}
+use Rattle.group_matching.specs.inner.Groups.{AreGroupsOf}
+use Rattle.globset.specs.inner.StoredGlobs.{by_tokens}
+use Rattle.globset.proofs.lemmas.Answer.{first_more, map_push, size_push}
 use Rattle.globset.proofs.set.stored.Stored.new.Goals as goal
 
 pub loop-index-preserved : goal.loop-index-preserved
@@ -13,10 +18,13 @@ loop-index-preserved c =
     let g = c.glob-item.result in
     let within : i < length globs = omega (arith, c.loop-index-test.true) in
     let more : take (i + 1) globs ≡ take i globs ++ g ∷ [] = first_more globs i g within c.glob-item.is in
-    let at : i ≡ length (take i globs) = sym (length-take-le i globs (omega arith)) in record {
+    let at : i ≡ length (map by_tokens (take i globs)) = sym (length-map (take i globs) by_tokens ∙ length-take-le i globs (omega arith)) in
+    let same : token_glob c.options_of.result (tokens_of c.tokens_of.result.now) ≡ by_tokens g = (λ j. token_glob (c.options_of.ensures j) (sym c.tokens_of.ensures.tokens j)) in
+    let few : weight (tokens_of_glob g) ≤ 4 * length g.text = omega (arith, ap weight c.tokens_of.ensures.tokens, c.tokens_of.ensures.weight) in
+    let added = c.in_ok-add.ensures.groups (map by_tokens (take i globs)) at c.loop-index.invariant.groups in record {
       count = c.in_ok-add.ensures.count ∙ c.loop-index.invariant.count;
-      groups = rw more (c.in_ok-add.ensures.groups (take i globs) at c.loop-index.invariant.groups);
-      size = rw more (rw (cost_push (take i globs) g) (omega (arith, c.in_ok-add.ensures.total, c.loop-index.invariant.size)));
+      groups = rw more (rw (map_push (take i globs) g) (subst (λ (x : TokenGlob). AreGroupsOf (map by_tokens (take i globs) ++ x ∷ []) c.add.new.self) same added));
+      size = rw more (size_push (take i globs) g few c.loop-index.invariant.size);
     }
 
 pub invariant_of-result : goal.invariant_of-result
@@ -27,7 +35,7 @@ invariant_of-result c =
     let past : length c.deref-glob-items.result.now ≤ i = omega (arith, c.loop-index-test.false) in
     let all : take i c.deref-glob-items.result.now ≡ globs = take_all i c.deref-glob-items.result.now past ∙ same in
     rw c.in_ok-finish.ensures (record {
+      groups = subst (λ gs. AreGroupsOf (map by_tokens gs) c.loop-index.builder) all c.loop-index.invariant.groups;
       count = c.loop-index.invariant.count ∙ ap length same;
-      groups = subst (λ gs. AreGroups gs c.loop-index.builder) all c.loop-index.invariant.groups;
-      size = subst (λ gs. total c.loop-index.builder ≤ sum_by cost gs) all c.loop-index.invariant.size;
+      size = subst (λ gs. sum_by states (map by_tokens gs) ≤ sum_by cost gs) all c.loop-index.invariant.size;
     })

@@ -1,12 +1,14 @@
-use Rattle.std.proofs.Common.{◌≡◌, ◌≤◌, length, take}
+use Rattle.std.proofs.Common.{◌≡◌, ◌≤◌, length, map, take}
 use Rattle.std.specs.Prelude.{sum_by}
 use Rattle.globset_glob.specs.Cost.{cost}
-use Rattle.globset.specs.inner.Groups.{AreGroups, group_count, total}
+use Rattle.group_matching.specs.Globs.{states}
+use Rattle.group_matching.specs.inner.Groups.{AreGroupsOf, group_count}
+use Rattle.globset.specs.inner.StoredGlobs.{by_tokens}
 use Rattle.globset.proofs.set.stored.Stored.new.Given as goal
 
 abbrev pub invariant-loop-index : goal.invariant-loop-index
 invariant-loop-index l = record {
   count : group_count l.builder ≡ length l.glob-items;
-  groups : AreGroups (take l.index l.glob-items) l.builder;
-  size : total l.builder ≤ sum_by cost (take l.index l.glob-items);
+  groups : AreGroupsOf (map by_tokens (take l.index l.glob-items)) l.builder;
+  size : sum_by states (map by_tokens (take l.index l.glob-items)) ≤ sum_by cost (take l.index l.glob-items);
 }
