@@ -26,7 +26,7 @@ is_prefix_dot_dot (and_then t (and_then u (and_then v (and_then w ts)))) = false
 
 -- A glob with these tokens is silent under the options: no set returns its index, for any path. `**/[.][.]` matches the
 -- same paths as `**/..`, but has other tokens, and is not silent.
-unfoldable pub are_silent : Options → Tokens → Bool
+abbrev pub are_silent : Options → Tokens → Bool
 are_silent o ts = not o.case_insensitive && is_prefix_dot_dot ts
 
 -- The glob is not silent and matches the path. Only then does a set return its index.

@@ -14,7 +14,7 @@ use Rattle.glob_groups.specs.Silent.{are_silent}
 
 -- What a proof unfolds to compute the group of a glob that is written out.
 unfoldable pub globs_on_literals : Unit {0}
-unfolding chars encode_utf8 ranges bad_range marks mark_at nested piece reading whole levels are_silent group_of_tokens
+unfolding chars encode_utf8 ranges bad_range marks mark_at nested piece reading whole levels group_of_tokens
 globs_on_literals = tt
 
 -- ---- texts under options

@@ -14,12 +14,10 @@ use Rattle.glob_groups.specs.Silent.{are_silent, is_dot, is_prefix_dot_dot}
 use Rattle.glob_groups.specs.inner.FlatTests.{is_simple_that}
 
 silent_is : (o : Options) (ts : Tokens) → (not o.case_insensitive && is_prefix_dot_dot ts) ≡ are_silent o ts
-unfolding are_silent
 silent_is o ts = refl
 
 -- a case-insensitive glob is not silent
 pub not_insensitive : (o : Options) (ts : Tokens) → o.case_insensitive ≡ true → false ≡ are_silent o ts
-unfolding are_silent
 not_insensitive o ts h = rw h refl
 
 never : (b c : Bool) → c ≡ false → false ≡ (b && c)
