@@ -10,9 +10,12 @@ mod conditions;
 mod key;
 
 use crate::silence::{is_recursive_prefix, is_silent};
-use conditions::{is_any_extension, is_by_last_component, is_last_component, is_whole_path};
+use conditions::{
+    is_any_after, is_any_before, is_any_extension, is_any_inside, is_by_last_component, is_last_component, is_last_components,
+    is_whole_path,
+};
 use glob_syntax::{Options, Token};
-use key::{ending, literal_text};
+use key::{ending, literal_text, literal_text_and_slash};
 use std::alloc::{AllocError, Global};
 
 /// By what a set decides whether a glob matches a path. A key is bytes that the glob has as literals.
@@ -26,6 +29,12 @@ pub enum Group {
     LastComponent(Vec<u8>),
     /// The glob matches the paths whose last component has the key as its extension: its bytes from the last `.` on.
     Extension(Vec<u8>),
+    /// The glob matches the path that is the key, and the paths that end with `/` and the key.
+    LastComponents(Vec<u8>),
+    /// The glob matches the paths that end with the key.
+    End(Vec<u8>),
+    /// The glob matches the paths that begin with the key.
+    Beginning(Vec<u8>),
     /// The glob matches only paths whose last component has the key as its extension. An automaton for the glob tells which
     /// of them.
     RequiredExtension(Vec<u8>),
@@ -80,8 +89,20 @@ fn sensitive_group(alloc: Global, options: Options, tokens: &[Token]) -> Result<
     if is_last_component(tokens) {
         return Ok(Group::LastComponent(literal_text(alloc, tokens)?));
     }
+    if is_last_components(tokens) {
+        return Ok(Group::LastComponents(literal_text(alloc, tokens)?));
+    }
     if is_any_extension(options, tokens) {
         return Ok(Group::Extension(literal_text(alloc, tokens)?));
+    }
+    if is_any_before(options, tokens) {
+        return Ok(Group::End(literal_text(alloc, tokens)?));
+    }
+    if is_any_after(options, tokens) {
+        return Ok(Group::Beginning(literal_text(alloc, tokens)?));
+    }
+    if is_any_inside(tokens) {
+        return Ok(Group::Beginning(literal_text_and_slash(alloc, tokens)?));
     }
     if let Some(last) = ending(tokens) {
         return Ok(Group::RequiredExtension(literal_text(alloc, last)?));

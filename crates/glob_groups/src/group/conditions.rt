@@ -3,7 +3,7 @@
 ghost use Rattle.std.specs.Prelude.{◌≡◌};
 ghost use Rattle.glob_syntax.specs.Views.{flat_of, flats};
 ghost use Rattle.glob_groups.specs.Groups.{is_literal_except, is_within};
-ghost use Rattle.glob_groups.specs.inner.FlatTests.{all_simple_pass, is_any_extension, is_by_last_component, is_extension, is_last_component, is_simple_that, is_star_extension, is_whole_path};
+ghost use Rattle.glob_groups.specs.inner.FlatTests.{all_simple_pass, is_any_after, is_any_before, is_any_extension, is_any_inside, is_by_last_component, is_extension, is_last_component, is_last_components, is_simple_that, is_star_extension, is_star_literals, is_whole_path};
 
 use glob_syntax::{Options, Token};
 
@@ -24,6 +24,16 @@ pub fn is_last_component(tokens: &[Token]) -> bool
     match tokens {
         [Token::RecursivePrefix] => false,
         [Token::RecursivePrefix, rest @ ..] => are_literals_except(rest, ['/'].as_slice()),
+        _ => false,
+    }
+}
+
+/// Whether the tokens are `RecursivePrefix` and one or more literals.
+pub fn is_last_components(tokens: &[Token]) -> bool
+    ensures { result ≡ is_last_components (flats tokens.now) }
+{
+    match tokens {
+        [Token::RecursivePrefix, rest @ ..] => is_whole_path(rest),
         _ => false,
     }
 }
@@ -54,6 +64,50 @@ fn is_extension(tokens: &[Token]) -> bool
 {
     match tokens {
         [Token::Literal('.'), rest @ ..] => are_literals_except(rest, ['.', '/'].as_slice()),
+        _ => false,
+    }
+}
+
+/// Whether the tokens are `*` that matches `/`, and any literals; or `RecursivePrefix` before these.
+pub fn is_any_before(options: Options, tokens: &[Token]) -> bool
+    ensures { result ≡ is_any_before options (flats tokens.now) }
+{
+    if options.literal_separator {
+        return false;
+    }
+    match tokens {
+        [Token::RecursivePrefix, rest @ ..] => is_star_literals(rest),
+        _ => is_star_literals(tokens),
+    }
+}
+
+/// Whether the tokens are `*` and any literals.
+fn is_star_literals(tokens: &[Token]) -> bool
+    ensures { result ≡ is_star_literals (flats tokens.now) }
+{
+    match tokens {
+        [Token::ZeroOrMore, rest @ ..] => are_literals_except(rest, [].as_slice()),
+        _ => false,
+    }
+}
+
+/// Whether the tokens are any literals and a last `*` that matches `/`; or `RecursivePrefix` alone.
+pub fn is_any_after(options: Options, tokens: &[Token]) -> bool
+    ensures { result ≡ is_any_after options (flats tokens.now) }
+{
+    match tokens {
+        [Token::RecursivePrefix] => true,
+        [before @ .., Token::ZeroOrMore] => !options.literal_separator && are_literals_except(before, [].as_slice()),
+        _ => false,
+    }
+}
+
+/// Whether the tokens are any literals and a last `RecursiveSuffix`.
+pub fn is_any_inside(tokens: &[Token]) -> bool
+    ensures { result ≡ is_any_inside (flats tokens.now) }
+{
+    match tokens {
+        [before @ .., Token::RecursiveSuffix] => are_literals_except(before, [].as_slice()),
         _ => false,
     }
 }
