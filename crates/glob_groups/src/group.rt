@@ -3,16 +3,17 @@
 ghost use Rattle.std.specs.Prelude.{◌≡◌, IfOk};
 ghost use Rattle.glob_syntax.specs.FlatTokens.{IsNested};
 ghost use Rattle.glob_syntax.specs.Views.{flats, tokens_of};
-ghost use Rattle.glob_groups.specs.Groups.{after_prefix, automaton_group, sensitive_group};
+ghost use Rattle.glob_groups.specs.Groups.{after_prefix};
 ghost use Rattle.glob_groups.specs.GroupMeaning.{IsGroupOf, group_seen};
+ghost use Rattle.glob_groups.specs.inner.FlatTests.{automaton_group, sensitive_group};
 
 mod conditions;
 mod key;
 
 use crate::silence::{is_recursive_prefix, is_silent};
 use conditions::{
-    is_any_after, is_any_before, is_any_extension, is_any_inside, is_by_last_component, is_last_component, is_last_components,
-    is_whole_path,
+    is_any_after, is_any_before, is_any_extension, is_any_inside, is_by_last_component,
+    is_last_component, is_last_components, is_whole_path,
 };
 use glob_syntax::{Options, Token};
 use key::{ending, literal_text, literal_text_and_slash};
@@ -80,8 +81,7 @@ pub fn tokens_after_prefix(tokens: &[Token]) -> &[Token]
 
 /// The group of the tokens of a case-sensitive glob that is not silent.
 fn sensitive_group(alloc: Global, options: Options, tokens: &[Token]) -> Result<Group, AllocError>
-    requires { IsNested (flats tokens.now) }
-    ensures { IfOk result (λ group. group_seen group ≡ sensitive_group options (tokens_of tokens.now)) }
+    ensures { IfOk result (λ group. group_seen group ≡ sensitive_group options (flats tokens.now)) }
 {
     if is_whole_path(tokens) {
         return Ok(Group::WholePath(literal_text(alloc, tokens)?));
@@ -112,8 +112,7 @@ fn sensitive_group(alloc: Global, options: Options, tokens: &[Token]) -> Result<
 
 /// The group of tokens that no key decides.
 fn automaton_group(options: Options, tokens: &[Token]) -> Group
-    requires { IsNested (flats tokens.now) }
-    ensures { group_seen result ≡ automaton_group options (tokens_of tokens.now) }
+    ensures { group_seen result ≡ automaton_group options (flats tokens.now) }
 {
     if is_by_last_component(options, tokens) {
         Group::ByLastComponent
