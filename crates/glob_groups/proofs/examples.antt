@@ -1,3 +1,4 @@
 pub mod Words
 pub mod SilentGlobs
 pub mod Groups
+pub mod Direct

@@ -1,4 +1,6 @@
 pub mod Components
+pub mod Direct
+pub mod EndMeaning
 pub mod Endings
 pub mod FlatTests
 pub mod Groups

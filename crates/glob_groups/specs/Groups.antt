@@ -5,7 +5,7 @@ use Rattle.glob_syntax.specs.declared.options.Options.{Options}
 use Rattle.glob_syntax.specs.Token.{Token, Literal, Any, ZeroOrMore, RecursivePrefix, RecursiveSuffix, RecursiveZeroOrMore, Class, Group, Tokens, end, and_then}
 use Rattle.glob_syntax.specs.ClassBytes.{class_has}
 use Rattle.glob_automaton.specs.Takes.{slash}
-use Rattle.glob_automaton.specs.TokenMeans.{is_prefix}
+use Rattle.glob_automaton.specs.TokenMeans.{is_prefix, is_prefix_alone}
 use Rattle.glob_groups.specs.Silent.{is_dot, are_silent}
 
 -- ---- tests of tokens
@@ -20,6 +20,17 @@ is_star RecursiveSuffix = false
 is_star RecursiveZeroOrMore = false
 is_star (Class negated rs) = false
 is_star (Group bs) = false
+
+-- the token is RecursiveSuffix
+abbrev pub is_suffix : Token → Bool
+is_suffix RecursiveSuffix = true
+is_suffix (Literal c) = false
+is_suffix Any = false
+is_suffix ZeroOrMore = false
+is_suffix RecursivePrefix = false
+is_suffix RecursiveZeroOrMore = false
+is_suffix (Class negated rs) = false
+is_suffix (Group bs) = false
 
 -- the token is a literal, and its character is not in the list
 abbrev pub is_literal_except : List ℕ → Token → Bool
@@ -63,6 +74,16 @@ first_and_rest test rest (and_then t ts) = test t && rest ts
 abbrev pub some_all_pass : (Token → Bool) → Tokens → Bool
 some_all_pass test ts = has_tokens ts && all_pass test ts
 
+-- literals, perhaps none
+abbrev pub are_literals : Tokens → Bool
+are_literals ts = all_pass (is_literal_except []) ts
+
+-- literals, perhaps none, and then one last token that passes the test
+abbrev pub literals_and_last : (Token → Bool) → Tokens → Bool
+literals_and_last test end = false
+literals_and_last test (and_then t end) = test t
+literals_and_last test (and_then t (and_then u ts)) = is_literal_except [] t && literals_and_last test (and_then u ts)
+
 -- the tokens after RecursivePrefix if it is the first token, and otherwise all tokens
 abbrev pub after_prefix : Tokens → Tokens
 after_prefix end = end
@@ -96,6 +117,10 @@ is_whole_path ts = some_all_pass (is_literal_except []) ts
 abbrev pub is_last_component : Tokens → Bool
 is_last_component ts = first_and_rest is_prefix (some_all_pass (is_literal_except (slash ∷ []))) ts
 
+-- RecursivePrefix, and one or more literals
+abbrev pub is_last_components : Tokens → Bool
+is_last_components ts = first_and_rest is_prefix is_whole_path ts
+
 -- `*` and an extension
 abbrev pub is_star_extension : Tokens → Bool
 is_star_extension ts = first_and_rest is_star is_extension ts
@@ -103,6 +128,22 @@ is_star_extension ts = first_and_rest is_star is_extension ts
 -- RecursivePrefix, `*` and an extension; or the same without RecursivePrefix, if `*` matches `/`
 abbrev pub is_any_extension : Options → Tokens → Bool
 is_any_extension o ts = first_and_rest is_prefix is_star_extension ts || (not o.literal_separator && is_star_extension ts)
+
+-- `*` and any literals, perhaps none
+abbrev pub is_star_literals : Tokens → Bool
+is_star_literals ts = first_and_rest is_star are_literals ts
+
+-- `*` that matches `/`, and any literals; or RecursivePrefix before these
+abbrev pub is_any_before : Options → Tokens → Bool
+is_any_before o ts = not o.literal_separator && (first_and_rest is_prefix is_star_literals ts || is_star_literals ts)
+
+-- any literals and a last `*` that matches `/`; or RecursivePrefix alone
+abbrev pub is_any_after : Options → Tokens → Bool
+is_any_after o ts = is_prefix_alone ts || (not o.literal_separator && literals_and_last is_star ts)
+
+-- any literals and a last RecursiveSuffix, which matches `/` and any bytes after it
+abbrev pub is_any_inside : Tokens → Bool
+is_any_inside ts = literals_and_last is_suffix ts
 
 -- RecursivePrefix, and one or more tokens of which none matches `/`
 abbrev pub is_by_last_component : Options → Tokens → Bool
@@ -118,6 +159,12 @@ pub data GroupValue : Type 0 where
   LastComponent : List ℕ → GroupValue
   -- the extension of the path's last component
   Extension : List ℕ → GroupValue
+  -- the last components of the path, as many as the key has
+  LastComponents : List ℕ → GroupValue
+  -- the end of the path
+  End : List ℕ → GroupValue
+  -- the beginning of the path
+  Beginning : List ℕ → GroupValue
   -- an automaton, but only for paths whose last component has this extension
   RequiredExtension : List ℕ → GroupValue
   -- an automaton that is run on the path's last component
@@ -139,7 +186,11 @@ abbrev pub sensitive_group : Options → Tokens → GroupValue
 sensitive_group o ts =
     if is_whole_path ts then WholePath (literal_text ts) else
     (if is_last_component ts then LastComponent (literal_text ts) else
-    (if is_any_extension o ts then Extension (literal_text ts) else ending_group o ts (ending ts)))
+    (if is_last_components ts then LastComponents (literal_text ts) else
+    (if is_any_extension o ts then Extension (literal_text ts) else
+    (if is_any_before o ts then End (literal_text ts) else
+    (if is_any_after o ts then Beginning (literal_text ts) else
+    (if is_any_inside ts then Beginning (literal_text ts ++ slash ∷ []) else ending_group o ts (ending ts)))))))
 
 -- The group of a glob with these tokens. Keys are compared byte by byte, so only case-sensitive globs have one.
 unfoldable pub group_of_tokens : Options → Tokens → GroupValue

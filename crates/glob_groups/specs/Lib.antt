@@ -1,4 +1,5 @@
 pub mod Silent
 pub mod Groups
+pub mod Direct
 pub mod GroupMeaning
 pub mod inner

@@ -3,16 +3,20 @@
 ghost use Rattle.std.specs.Prelude.{◌≡◌, IfOk};
 ghost use Rattle.glob_syntax.specs.FlatTokens.{IsNested};
 ghost use Rattle.glob_syntax.specs.Views.{flats, tokens_of};
-ghost use Rattle.glob_groups.specs.Groups.{after_prefix, automaton_group, sensitive_group};
+ghost use Rattle.glob_groups.specs.Groups.{after_prefix};
 ghost use Rattle.glob_groups.specs.GroupMeaning.{IsGroupOf, group_seen};
+ghost use Rattle.glob_groups.specs.inner.FlatTests.{automaton_group, sensitive_group};
 
 mod conditions;
 mod key;
 
 use crate::silence::{is_recursive_prefix, is_silent};
-use conditions::{is_any_extension, is_by_last_component, is_last_component, is_whole_path};
+use conditions::{
+    is_any_after, is_any_before, is_any_extension, is_any_inside, is_by_last_component,
+    is_last_component, is_last_components, is_whole_path,
+};
 use glob_syntax::{Options, Token};
-use key::{ending, literal_text};
+use key::{ending, literal_text, literal_text_and_slash};
 use std::alloc::{AllocError, Global};
 
 /// By what a set decides whether a glob matches a path. A key is bytes that the glob has as literals.
@@ -26,6 +30,12 @@ pub enum Group {
     LastComponent(Vec<u8>),
     /// The glob matches the paths whose last component has the key as its extension: its bytes from the last `.` on.
     Extension(Vec<u8>),
+    /// The glob matches the path that is the key, and the paths that end with `/` and the key.
+    LastComponents(Vec<u8>),
+    /// The glob matches the paths that end with the key.
+    End(Vec<u8>),
+    /// The glob matches the paths that begin with the key.
+    Beginning(Vec<u8>),
     /// The glob matches only paths whose last component has the key as its extension. An automaton for the glob tells which
     /// of them.
     RequiredExtension(Vec<u8>),
@@ -71,8 +81,7 @@ pub fn tokens_after_prefix(tokens: &[Token]) -> &[Token]
 
 /// The group of the tokens of a case-sensitive glob that is not silent.
 fn sensitive_group(alloc: Global, options: Options, tokens: &[Token]) -> Result<Group, AllocError>
-    requires { IsNested (flats tokens.now) }
-    ensures { IfOk result (λ group. group_seen group ≡ sensitive_group options (tokens_of tokens.now)) }
+    ensures { IfOk result (λ group. group_seen group ≡ sensitive_group options (flats tokens.now)) }
 {
     if is_whole_path(tokens) {
         return Ok(Group::WholePath(literal_text(alloc, tokens)?));
@@ -80,8 +89,20 @@ fn sensitive_group(alloc: Global, options: Options, tokens: &[Token]) -> Result<
     if is_last_component(tokens) {
         return Ok(Group::LastComponent(literal_text(alloc, tokens)?));
     }
+    if is_last_components(tokens) {
+        return Ok(Group::LastComponents(literal_text(alloc, tokens)?));
+    }
     if is_any_extension(options, tokens) {
         return Ok(Group::Extension(literal_text(alloc, tokens)?));
+    }
+    if is_any_before(options, tokens) {
+        return Ok(Group::End(literal_text(alloc, tokens)?));
+    }
+    if is_any_after(options, tokens) {
+        return Ok(Group::Beginning(literal_text(alloc, tokens)?));
+    }
+    if is_any_inside(tokens) {
+        return Ok(Group::Beginning(literal_text_and_slash(alloc, tokens)?));
     }
     if let Some(last) = ending(tokens) {
         return Ok(Group::RequiredExtension(literal_text(alloc, last)?));
@@ -91,8 +112,7 @@ fn sensitive_group(alloc: Global, options: Options, tokens: &[Token]) -> Result<
 
 /// The group of tokens that no key decides.
 fn automaton_group(options: Options, tokens: &[Token]) -> Group
-    requires { IsNested (flats tokens.now) }
-    ensures { group_seen result ≡ automaton_group options (tokens_of tokens.now) }
+    ensures { group_seen result ≡ automaton_group options (flats tokens.now) }
 {
     if is_by_last_component(options, tokens) {
         Group::ByLastComponent

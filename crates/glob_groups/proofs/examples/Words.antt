@@ -10,11 +10,12 @@ use Rattle.glob_syntax.specs.Stars.{piece}
 use Rattle.glob_syntax.specs.Reading.{reading, whole, levels}
 use Rattle.glob_syntax.specs.declared.options.Options.{Options}
 use Rattle.glob_groups.specs.Groups.{GroupValue, group_of_tokens}
+use Rattle.glob_groups.specs.Direct.{is_direct, needs_automaton}
 use Rattle.glob_groups.specs.Silent.{are_silent}
 
--- What a proof unfolds to compute the group of a glob that is written out.
+-- What a proof unfolds to compute the group of a glob that is written out, and whether it is direct.
 unfoldable pub globs_on_literals : Unit {0}
-unfolding chars encode_utf8 ranges bad_range marks mark_at nested piece reading whole levels group_of_tokens
+unfolding chars encode_utf8 ranges bad_range marks mark_at nested piece reading whole levels group_of_tokens is_direct needs_automaton
 globs_on_literals = tt
 
 -- ---- texts under options
@@ -57,3 +58,11 @@ silence x = elim (reading x.options (chars x.text)) [ Ok ts ↦ Some (are_silent
 -- the group of the glob, or `None` if its text is not a glob
 abbrev pub group : Case → Option GroupValue
 group x = elim (reading x.options (chars x.text)) [ Ok ts ↦ Some (group_of_tokens x.options ts) | Err f ↦ None ]
+
+-- whether the glob is direct, or `None` if its text is not a glob
+abbrev pub directness : Case → Option Bool
+directness x = elim (reading x.options (chars x.text)) [ Ok ts ↦ Some (is_direct x.options ts) | Err f ↦ None ]
+
+-- whether an automaton is needed to decide the glob for a path, or `None` if its text is not a glob
+abbrev pub need : Case → String → Option Bool
+need x path = elim (reading x.options (chars x.text)) [ Ok ts ↦ Some (needs_automaton x.options ts (encode_utf8_all (codes path))) | Err f ↦ None ]

@@ -1,18 +1,20 @@
 -- Tests of flat tokens give the same as those of the tree that the tokens have.
 use Rattle.std.proofs.Common.{◌≡◌, Bool, true, false, true≢false, not, ◌&&◌, ◌||◌, List, [], ◌∷◌, ◌++◌, length, refl, ap, sym, ◌∙◌, subst, arith}
 use Rattle.std.specs.Prelude.{if◌then◌else◌, encode_utf8}
+use Rattle.std.proofs.lemmas.List.{map-append}
 use Rattle.glob_syntax.specs.declared.options.Options.{Options}
 use Rattle.glob_syntax.specs.declared.token.Token as held
-use Rattle.glob_syntax.specs.Token.{Token, Literal, Group, Tokens, and_then, Branches}
+use Rattle.glob_syntax.specs.Token.{Token, Literal, Group, Tokens, end, and_then, Branches}
 use Rattle.glob_syntax.specs.FlatTokens.{Flat, simple, opening, comma, closing, levels_of, tree_of, IsNested, IsSimple}
 use Rattle.glob_syntax.specs.Views.{flat_of, flats, tokens_of}
 use Rattle.glob_syntax.proofs.lemmas.FlatTrees.{shaped, in_first, open_here}
 use Rattle.glob_automaton.specs.Takes.{slash}
 use Rattle.glob_automaton.specs.TokenMeans.{is_prefix}
-use Rattle.glob_automaton.proofs.lemmas.Booleans.{and_first, and_second}
+use Rattle.glob_automaton.specs.TokenMeans.{is_prefix_alone as tree_alone}
+use Rattle.glob_automaton.proofs.lemmas.Booleans.{and_first, and_second, and_none}
 use Rattle.glob_groups.specs.Silent.{is_dot}
 use Rattle.glob_groups.specs.Groups as tree
-use Rattle.glob_groups.specs.Groups.{is_literal_except, is_star, is_within, has_tokens, all_pass, some_all_pass}
+use Rattle.glob_groups.specs.Groups.{is_literal_except, is_star, is_suffix, is_within, has_tokens, all_pass, some_all_pass}
 use Rattle.glob_groups.specs.inner.FlatTests as flat
 use Rattle.glob_groups.specs.inner.FlatTests.{is_simple_that, all_simple_pass, some_all_simple_pass}
 
@@ -58,6 +60,9 @@ last_component_same =
     first_same is_prefix (λ bs. refl) (some_all_simple_pass (is_literal_except (slash ∷ []))) (some_all_pass (is_literal_except (slash ∷ [])))
     (some_same (is_literal_except (slash ∷ [])) (λ bs. refl))
 
+pub last_components_same : (ts : List Flat) → IsNested ts → flat.is_last_components ts ≡ tree.is_last_components (tree_of ts)
+last_components_same = first_same is_prefix (λ bs. refl) flat.is_whole_path tree.is_whole_path whole_path_same
+
 -- the test for what follows the `.` of an extension
 abbrev pub is_plain : Token → Bool
 is_plain t = is_literal_except (46 ∷ slash ∷ []) t
@@ -71,6 +76,54 @@ star_extension_same = first_same is_star (λ bs. refl) flat.is_extension tree.is
 pub any_extension_same : (o : Options) (ts : List Flat) → IsNested ts → flat.is_any_extension o ts ≡ tree.is_any_extension o (tree_of ts)
 any_extension_same o ts n = λ i.
     first_same is_prefix (λ bs. refl) flat.is_star_extension tree.is_star_extension star_extension_same ts n i || (not o.literal_separator && star_extension_same ts n i)
+
+star_literals_same : (ts : List Flat) → IsNested ts → flat.is_star_literals ts ≡ tree.is_star_literals (tree_of ts)
+star_literals_same = first_same is_star (λ bs. refl) flat.are_literals tree.are_literals (all_same (is_literal_except []) (λ bs. refl))
+
+pub any_before_same : (o : Options) (ts : List Flat) → IsNested ts → flat.is_any_before o ts ≡ tree.is_any_before o (tree_of ts)
+any_before_same o ts n = λ i.
+    not o.literal_separator && (first_same is_prefix (λ bs. refl) flat.is_star_literals tree.is_star_literals star_literals_same ts n i || star_literals_same ts n i)
+
+more_tokens : (test : Token → Bool) (t : Token) (ts : Tokens) → has_tokens ts ≡ true → tree.literals_and_last test (and_then t ts) ≡ (is_literal_except [] t && tree.literals_and_last test ts)
+more_tokens test t end h = absurd (true≢false (sym h))
+more_tokens test t (and_then u us) h = refl
+
+group_first : (test : Token → Bool) → RejectsGroups test → (bs : Branches) (ts : Tokens) → tree.literals_and_last test (and_then (Group bs) ts) ≡ false
+group_first test r bs end = r bs
+group_first test r bs (and_then u us) = refl
+
+last_same : (test : Token → Bool) → RejectsGroups test → (ts : List Flat) → IsNested ts → flat.literals_and_last test ts ≡ tree.literals_and_last test (tree_of ts)
+last_same test r [] n = refl
+last_same test r (simple t ∷ []) n = sym (ap (tree.literals_and_last test) (tree_simple t []))
+last_same test r (simple t ∷ (u ∷ us)) n =
+    ap (λ b. is_literal_except [] t && b) (last_same test r (u ∷ us) n) ∙ sym (ap (tree.literals_and_last test) (tree_simple t (u ∷ us)) ∙ more_tokens test t (tree_of (u ∷ us)) (filled u us n))
+last_same test r (opening ∷ []) n = let (us, e) = open_here [] n in sym (ap (tree.literals_and_last test) e ∙ group_first test r (levels_of []).0 us)
+last_same test r (opening ∷ (u ∷ us)) n = let (vs, e) = open_here (u ∷ us) n in sym (ap (tree.literals_and_last test) e ∙ group_first test r (levels_of (u ∷ us)).0 vs)
+last_same test r (comma ∷ ts) n = absurd n
+last_same test r (closing ∷ ts) n = absurd n
+
+more_than_one : (t : Token) (ts : Tokens) → has_tokens ts ≡ true → tree_alone (and_then t ts) ≡ false
+more_than_one t end h = absurd (true≢false (sym h))
+more_than_one t (and_then u us) h = refl
+
+group_alone : (bs : Branches) (ts : Tokens) → tree_alone (and_then (Group bs) ts) ≡ false
+group_alone bs end = refl
+group_alone bs (and_then u us) = refl
+
+alone_same : (ts : List Flat) → IsNested ts → flat.is_prefix_alone ts ≡ tree_alone (tree_of ts)
+alone_same [] n = refl
+alone_same (simple t ∷ []) n = sym (ap tree_alone (tree_simple t []))
+alone_same (simple t ∷ (u ∷ us)) n = sym (ap tree_alone (tree_simple t (u ∷ us)) ∙ more_than_one t (tree_of (u ∷ us)) (filled u us n))
+alone_same (opening ∷ []) n = let (us, e) = open_here [] n in sym (ap tree_alone e ∙ group_alone (levels_of []).0 us)
+alone_same (opening ∷ (u ∷ us)) n = let (vs, e) = open_here (u ∷ us) n in sym (ap tree_alone e ∙ group_alone (levels_of (u ∷ us)).0 vs)
+alone_same (comma ∷ ts) n = absurd n
+alone_same (closing ∷ ts) n = absurd n
+
+pub any_after_same : (o : Options) (ts : List Flat) → IsNested ts → flat.is_any_after o ts ≡ tree.is_any_after o (tree_of ts)
+any_after_same o ts n = λ i. alone_same ts n i || (not o.literal_separator && last_same is_star (λ bs. refl) ts n i)
+
+pub any_inside_same : (ts : List Flat) → IsNested ts → flat.is_any_inside ts ≡ tree.is_any_inside (tree_of ts)
+any_inside_same = last_same is_suffix (λ bs. refl)
 
 pub by_last_component_same : (o : Options) (ts : List Flat) → IsNested ts → flat.is_by_last_component o ts ≡ tree.is_by_last_component o (tree_of ts)
 by_last_component_same o = first_same is_prefix (λ bs. refl) (some_all_simple_pass (is_within o)) (some_all_pass (is_within o)) (some_same (is_within o) (λ bs. refl))
@@ -160,6 +213,9 @@ pub last_component_text : (ts : List Flat) → flat.is_last_component ts ≡ tru
 last_component_text ts h =
     text_same ts (first_simple is_prefix (some_all_simple_pass (is_literal_except (slash ∷ []))) (some_simple (is_literal_except (slash ∷ []))) ts h)
 
+pub last_components_text : (ts : List Flat) → flat.is_last_components ts ≡ true → flat.literal_text ts ≡ tree.literal_text (tree_of ts)
+last_components_text ts h = text_same ts (first_simple is_prefix flat.is_whole_path (some_simple (is_literal_except [])) ts h)
+
 either_simple : (x y z : Bool) (ts : List Flat) → (x ≡ true → AreSimple ts) → (z ≡ true → AreSimple ts) → (x || (y && z)) ≡ true → AreSimple ts
 either_simple true y z ts first second h = first refl
 either_simple false y z ts first second h = second (and_second y z h)
@@ -168,3 +224,61 @@ pub any_extension_text : (o : Options) (ts : List Flat) → flat.is_any_extensio
 any_extension_text o ts h =
     text_same ts (either_simple (flat.first_and_rest is_prefix flat.is_star_extension ts) (not o.literal_separator) (flat.is_star_extension ts) ts
     (first_simple is_prefix flat.is_star_extension star_extension_simple ts) (star_extension_simple ts) h)
+
+star_literals_simple : (ts : List Flat) → flat.is_star_literals ts ≡ true → AreSimple ts
+star_literals_simple = first_simple is_star flat.are_literals (all_simple (is_literal_except []))
+
+pub any_before_text : (o : Options) (ts : List Flat) → flat.is_any_before o ts ≡ true → flat.literal_text ts ≡ tree.literal_text (tree_of ts)
+any_before_text o ts h =
+    text_same ts (either_simple (flat.first_and_rest is_prefix flat.is_star_literals ts) true (flat.is_star_literals ts) ts
+    (first_simple is_prefix flat.is_star_literals star_literals_simple ts) (star_literals_simple ts)
+    (and_second (not o.literal_separator) (flat.first_and_rest is_prefix flat.is_star_literals ts || flat.is_star_literals ts) h))
+
+last_simple : (test : Token → Bool) (ts : List Flat) → flat.literals_and_last test ts ≡ true → AreSimple ts
+last_simple test [] h = tt
+last_simple test (t ∷ []) h = (simple_that test t h, tt)
+last_simple test (t ∷ (u ∷ us)) h =
+    let rest = flat.literals_and_last test (u ∷ us) in
+    (simple_that (is_literal_except []) t (and_first (is_simple_that (is_literal_except []) t) rest h), last_simple test (u ∷ us) (and_second (is_simple_that (is_literal_except []) t) rest h))
+
+alone_simple : (ts : List Flat) → flat.is_prefix_alone ts ≡ true → AreSimple ts
+alone_simple [] h = tt
+alone_simple (t ∷ []) h = (simple_that is_prefix t h, tt)
+alone_simple (t ∷ (u ∷ us)) h = absurd (true≢false (sym h))
+
+pub any_after_text : (o : Options) (ts : List Flat) → flat.is_any_after o ts ≡ true → flat.literal_text ts ≡ tree.literal_text (tree_of ts)
+any_after_text o ts h =
+    text_same ts (either_simple (flat.is_prefix_alone ts) (not o.literal_separator) (flat.literals_and_last is_star ts) ts (alone_simple ts) (last_simple is_star ts) h)
+
+pub any_inside_text : (ts : List Flat) → flat.is_any_inside ts ≡ true → flat.literal_text ts ≡ tree.literal_text (tree_of ts)
+any_inside_text ts h = text_same ts (last_simple is_suffix ts h)
+
+-- ---- literals and one last token, as the program finds them
+
+more_flat : (test : Token → Bool) (f : Flat) (front : List Flat) (t : Flat)
+    → flat.literals_and_last test (f ∷ (front ++ t ∷ [])) ≡ (is_simple_that (is_literal_except []) f && flat.literals_and_last test (front ++ t ∷ []))
+more_flat test f [] t = refl
+more_flat test f (g ∷ front) t = refl
+
+grouped : (a b c : Bool) → (a && (b && c)) ≡ ((a && b) && c)
+grouped true b c = refl
+grouped false b c = refl
+
+front_and_last : (test : Token → Bool) (front : List Flat) (t : Flat) → flat.literals_and_last test (front ++ t ∷ []) ≡ (flat.are_literals front && is_simple_that test t)
+front_and_last test [] t = refl
+front_and_last test (f ∷ front) t =
+    more_flat test f front t ∙ ap (λ b. is_simple_that (is_literal_except []) f && b) (front_and_last test front t) ∙ grouped (is_simple_that (is_literal_except []) f) (flat.are_literals front) (is_simple_that test t)
+
+and_all : (a : Bool) → (a && true) ≡ a
+and_all true = refl
+and_all false = refl
+
+pub last_passes : (test : Token → Bool) (ts front : List held.Token) (t : held.Token) → ts ≡ front ++ t ∷ [] → is_simple_that test (flat_of t) ≡ true → flat.are_literals (flats front) ≡ flat.literals_and_last test (flats ts)
+last_passes test ts front t e h =
+    sym (and_all (flat.are_literals (flats front)))
+    ∙ sym (ap (λ l. flat.literals_and_last test (flats l)) e ∙ ap (flat.literals_and_last test) (map-append flat_of front (t ∷ [])) ∙ front_and_last test (flats front) (flat_of t) ∙ ap (λ b. flat.are_literals (flats front) && b) h)
+
+pub last_fails : (test : Token → Bool) (ts front : List held.Token) (t : held.Token) → ts ≡ front ++ t ∷ [] → is_simple_that test (flat_of t) ≡ false → false ≡ flat.literals_and_last test (flats ts)
+last_fails test ts front t e h =
+    sym (and_none (flat.are_literals (flats front)))
+    ∙ sym (ap (λ l. flat.literals_and_last test (flats l)) e ∙ ap (flat.literals_and_last test) (map-append flat_of front (t ∷ [])) ∙ front_and_last test (flats front) (flat_of t) ∙ ap (λ b. flat.are_literals (flats front) && b) h)

@@ -24,12 +24,12 @@ use Rattle.glob_groups.specs.Groups.{is_star, is_literal_except, is_within, has_
 use Rattle.glob_groups.proofs.lemmas.Silent.{dot_is}
 use Rattle.glob_groups.proofs.lemmas.Components.{EndsWith, Lacks, neither, lacks_cons, lacks_append, lacks_front, encode_lacks, EndsComponent, last_component_at, split, IsExtension, extension_ends, extension_parts}
 
-iff_trans : {A B C : Type 0} → A ↔ B → B ↔ C → A ↔ C
+pub iff_trans : {A B C : Type 0} → A ↔ B → B ↔ C → A ↔ C
 iff_trans f g = (λ a. g.0 (f.0 a), λ c. f.1 (g.1 c))
 
 -- ---- literals
 
-literal_is : (o : Options) (c : ℕ) (b : List ℕ) → o.case_insensitive ≡ false → (b ≡ encode_utf8 c) ↔ Takes o (Literal c) b
+pub literal_is : (o : Options) (c : ℕ) (b : List ℕ) → o.case_insensitive ≡ false → (b ≡ encode_utf8 c) ↔ Takes o (Literal c) b
 literal_is o c b e = rw e (equal_bytes b (encode_utf8 c))
 
 -- literals match their own bytes
@@ -62,18 +62,18 @@ text_lacks byte excluded (and_then t ts) small is h = absurd (true≢false (sym 
 
 -- ---- RecursivePrefix before other tokens
 
-means_taken : (o : Options) (ts : Tokens) (b : List ℕ) → is_prefix_alone ts ≡ false → IsTrue (means o ts b) ↔ TakesAll o ts b
+pub means_taken : (o : Options) (ts : Tokens) (b : List ℕ) → is_prefix_alone ts ≡ false → IsTrue (means o ts b) ↔ TakesAll o ts b
 means_taken o ts b e = subst (λ t. IsTrue (t || takes_all o ts b) ↔ TakesAll o ts b) (sym e) (λ h. h, λ h. h)
 
-more_after : (t : Token) (ts : Tokens) → has_tokens ts ≡ true → is_prefix_alone (and_then t ts) ≡ false
+pub more_after : (t : Token) (ts : Tokens) → has_tokens ts ≡ true → is_prefix_alone (and_then t ts) ≡ false
 more_after t end h = absurd (true≢false (sym h))
 more_after t (and_then u us) h = refl
 
-no_prefix : (t : Token) (ts : Tokens) → is_prefix t ≡ false → is_prefix_alone (and_then t ts) ≡ false
+pub no_prefix : (t : Token) (ts : Tokens) → is_prefix t ≡ false → is_prefix_alone (and_then t ts) ≡ false
 no_prefix t end h = h
 no_prefix t (and_then u us) h = refl
 
-after_component : (o : Options) (ts : Tokens) (b : List ℕ)
+pub after_component : (o : Options) (ts : Tokens) (b : List ℕ)
     → TakesAll o (and_then RecursivePrefix ts) b ↔ ((x y : List ℕ) × (b ≡ x ++ y) × EndsComponent x × TakesAll o ts y)
 after_component o ts b = (
   λ h. let (x, y, cut, p, q) = (then_takes o RecursivePrefix ts b).1 h in (x, y, cut, (prefix_takes o x).1 p, q),
@@ -104,7 +104,7 @@ whole_path_means o (and_then t ts) b off h =
     (literals_take o [] (and_then t ts) b off h)
 
 -- tokens of which the first passes a test that only one token passes
-by_first : (C : Tokens → Type 0) (test : Token → Bool) (first : Token) (rest : Tokens → Bool) → ((t : Token) → test t ≡ true → t ≡ first)
+pub by_first : (C : Tokens → Type 0) (test : Token → Bool) (first : Token) (rest : Tokens → Bool) → ((t : Token) → test t ≡ true → t ≡ first)
     → ((us : Tokens) → rest us ≡ true → C (and_then first us)) → (ts : Tokens) → first_and_rest test rest ts ≡ true → C ts
 by_first C test first rest is holds end h = absurd (true≢false (sym h))
 by_first C test first rest is holds (and_then t ts) h =
@@ -185,29 +185,29 @@ dot_bytes : encode_utf8 46 ≡ 46 ∷ []
 unfolding char.encode_utf8
 dot_bytes = refl
 
-star_is : (t : Token) → is_star t ≡ true → t ≡ ZeroOrMore
+pub star_is : (t : Token) → is_star t ≡ true → t ≡ ZeroOrMore
 star_is ZeroOrMore h = refl
 star_is t h = absurd (true≢false (sym h))
 
--- tokens that are an extension match their own bytes, and these are an extension
-abbrev MatchesExtension : Options → Tokens → Type 0
-MatchesExtension o ts = IsExtension (literal_text ts) × ((b : List ℕ) → TakesAll o ts b ↔ (b ≡ literal_text ts))
+literals_any : (excluded : List ℕ) (ts : Tokens) → all_pass (is_literal_except excluded) ts ≡ true → all_pass (is_literal_except []) ts ≡ true
+literals_any excluded end h = refl
+literals_any excluded (and_then (Literal c) ts) h = literals_any excluded ts (and_second (is_literal_except excluded (Literal c)) (all_pass (is_literal_except excluded) ts) h)
+literals_any excluded (and_then t ts) h = absurd (true≢false (sym h))
 
-extension_takes : (o : Options) → o.case_insensitive ≡ false → (ts : Tokens) → is_extension ts ≡ true → MatchesExtension o ts
-extension_takes o off = by_first (MatchesExtension o) silent.is_dot (Literal 46) (all_pass (is_literal_except (46 ∷ slash ∷ []))) dot_is (λ us all. (
+-- tokens that are an extension are literals, and their bytes are an extension
+abbrev AreExtension : Tokens → Type 0
+AreExtension ts = IsExtension (literal_text ts) × (all_pass (is_literal_except []) ts ≡ true)
+
+extension_literals : (ts : Tokens) → is_extension ts ≡ true → AreExtension ts
+extension_literals = by_first AreExtension silent.is_dot (Literal 46) (all_pass (is_literal_except (46 ∷ slash ∷ []))) dot_is (λ us all. (
   record {
     after = literal_text us;
     dot = ap (λ l. l ++ literal_text us) dot_bytes;
     no_dot = text_lacks 46 (46 ∷ slash ∷ []) us (omega arith) refl all;
     no_slash = text_lacks slash (46 ∷ slash ∷ []) us (omega arith) refl all;
   },
-  λ b. literals_take o [] (and_then (Literal 46) us) b off (literals_any (46 ∷ slash ∷ []) us all),
+  literals_any (46 ∷ slash ∷ []) us all,
 ))
-  where
-    literals_any : (excluded : List ℕ) (ts : Tokens) → all_pass (is_literal_except excluded) ts ≡ true → all_pass (is_literal_except []) ts ≡ true
-    literals_any excluded end h = refl
-    literals_any excluded (and_then (Literal c) ts) h = literals_any excluded ts (and_second (is_literal_except excluded (Literal c)) (all_pass (is_literal_except excluded) ts) h)
-    literals_any excluded (and_then t ts) h = absurd (true≢false (sym h))
 
 -- a path ends with the extension of its last component
 extension_end : (b : List ℕ) → EndsWith b (component_extension b)
@@ -220,7 +220,7 @@ wild : (o : Options) (c : ℕ) → o.literal_separator ≡ false → is_wild o c
 wild o c e = ap (λ t. not (t && (c == slash))) e
 
 -- without `literal_separator` a star matches everything
-star_takes : (o : Options) (b : List ℕ) → o.literal_separator ≡ false → Takes o ZeroOrMore b
+pub star_takes : (o : Options) (b : List ℕ) → o.literal_separator ≡ false → Takes o ZeroOrMore b
 star_takes o [] e = refl
 star_takes o (c ∷ cs) e = and_both (is_wild o c) (list_all (is_wild o) cs) (wild o c e) (star_takes o cs e)
 
@@ -231,15 +231,15 @@ star_within o (c ∷ cs) h =
     let n = neither (last_position is_separator cs) (c == slash) h in
     and_both (is_wild o c) (list_all (is_wild o) cs) (ap (λ t. not (o.literal_separator && t)) n.1 ∙ ap not (and_none o.literal_separator)) (star_within o cs n.0)
 
--- a star and an extension
-star_extension_takes : (o : Options) (b : List ℕ) → o.case_insensitive ≡ false → (ts : Tokens) → is_extension ts ≡ true
+-- a star and literals
+pub star_literals_take : (o : Options) (b : List ℕ) → o.case_insensitive ≡ false → (ts : Tokens) → all_pass (is_literal_except []) ts ≡ true
     → TakesAll o (and_then ZeroOrMore ts) b ↔ ((x : List ℕ) × (b ≡ x ++ literal_text ts) × Takes o ZeroOrMore x)
-star_extension_takes o b off ts h = (
+star_literals_take o b off ts h = (
   λ p.
       let (x, y, cut, q, r) = (then_takes o ZeroOrMore ts b).1 p in
-      let same : y ≡ literal_text ts = ((extension_takes o off ts h).1 y).0 r in
+      let same : y ≡ literal_text ts = (literals_take o [] ts y off h).0 r in
       (x, cut ∙ ap (λ l. x ++ l) same, q),
-  λ (x, is, p). (then_takes o ZeroOrMore ts b).0 (x, literal_text ts, is, p, ((extension_takes o off ts h).1 (literal_text ts)).1 refl),
+  λ (x, is, p). (then_takes o ZeroOrMore ts b).0 (x, literal_text ts, is, p, (literals_take o [] ts (literal_text ts) off h).1 refl),
 )
 
 abbrev HasThisExtension : Options → List ℕ → Tokens → Type 0
@@ -249,8 +249,8 @@ HasThisExtension o b ts = IsTrue (means o ts b) ↔ (component_extension b ≡ l
 star_extension_means : (o : Options) (b : List ℕ) → o.case_insensitive ≡ false → o.literal_separator ≡ false → (ts : Tokens) → is_star_extension ts ≡ true → HasThisExtension o b ts
 star_extension_means o b off all = by_first (HasThisExtension o b) is_star ZeroOrMore is_extension star_is (λ us h.
     iff_trans (means_taken o (and_then ZeroOrMore us) b (no_prefix ZeroOrMore us refl)) (
-      λ p. let (x, is, q) = (star_extension_takes o b off us h).0 p in extension_ends b (literal_text us) (extension_takes o off us h).0 (x, is),
-      λ is. let (x, cut) = extension_end b in (star_extension_takes o b off us h).1 (x, cut ∙ ap (λ l. x ++ l) is, star_takes o x all),
+      λ p. let (x, is, q) = (star_literals_take o b off us (extension_literals us h).1).0 p in extension_ends b (literal_text us) (extension_literals us h).0 (x, is),
+      λ is. let (x, cut) = extension_end b in (star_literals_take o b off us (extension_literals us h).1).1 (x, cut ∙ ap (λ l. x ++ l) is, star_takes o x all),
     ))
 
 -- RecursivePrefix, a star and an extension
@@ -258,7 +258,7 @@ prefix_star_means : (o : Options) (b : List ℕ) → o.case_insensitive ≡ fals
 prefix_star_means o b off us h = iff_trans (means_taken o (and_then RecursivePrefix (and_then ZeroOrMore us)) b refl) (
   λ p.
       let (x, y, cut, ends, q) = (after_component o (and_then ZeroOrMore us) b).0 p in
-      let (w, is, r) = (star_extension_takes o y off us h).0 q in
+      let (w, is, r) = (star_literals_take o y off us literals).0 q in
       extension_ends b t k (x ++ w, cut ∙ ap (λ l. x ++ l) is ∙ sym (append_assoc x w t)),
   λ is. ⊎_elim {C = TakesAll o (and_then RecursivePrefix (and_then ZeroOrMore us)) b}
       (λ none. absurd (let no_text : t ≡ [] = sym is ∙ none in let dot = k.dot in cc))
@@ -266,7 +266,7 @@ prefix_star_means o b off us h = iff_trans (means_taken o (and_then RecursivePre
       let p = split b in
       let last : last_component b ≡ has.before ++ t = has.cut ∙ ap (λ l. has.before ++ l) is in
       let within : Takes o ZeroOrMore has.before = star_within o has.before (lacks_front is_separator has.before (component_extension b) (subst (Lacks is_separator) has.cut p.lacks)) in
-      (after_component o (and_then ZeroOrMore us) b).1 (p.front, last_component b, p.cut, p.ends, (star_extension_takes o (last_component b) off us h).1 (has.before, last, within)))
+      (after_component o (and_then ZeroOrMore us) b).1 (p.front, last_component b, p.cut, p.ends, (star_literals_take o (last_component b) off us literals).1 (has.before, last, within)))
       (extension_parts b),
 )
   where
@@ -274,7 +274,10 @@ prefix_star_means o b off us h = iff_trans (means_taken o (and_then RecursivePre
     t = literal_text us
 
     k : IsExtension t
-    k = (extension_takes o off us h).0
+    k = (extension_literals us h).0
+
+    literals : all_pass (is_literal_except []) us ≡ true
+    literals = (extension_literals us h).1
 
 pub any_extension_means : (o : Options) (b : List ℕ) → o.case_insensitive ≡ false → (ts : Tokens) → is_any_extension o ts ≡ true → HasThisExtension o b ts
 any_extension_means o b off ts h = ⊎_elim {C = HasThisExtension o b ts}
@@ -294,8 +297,8 @@ ending_taken o (and_then t ts) b k off e h = by_case (λ y later q. ending_taken
     by_case rest true is =
         let found : Some (literal_text (and_then t ts)) ≡ Some k = sym (ap (λ x. if x then Some (literal_text (and_then t ts)) else ending ts) is) ∙ e in
         let same : literal_text (and_then t ts) ≡ k = cc in
-        let own = extension_takes o off (and_then t ts) is in
-        (subst IsExtension same own.0, ([], (own.1 b).0 h ∙ same))
+        let own = extension_literals (and_then t ts) is in
+        (subst IsExtension same own.0, ([], (literals_take o [] (and_then t ts) b off own.1).0 h ∙ same))
     by_case rest false is =
         let later : ending ts ≡ Some k = sym (ap (λ x. if x then Some (literal_text (and_then t ts)) else ending ts) is) ∙ e in
         let (x, y, cut, p, q) = (then_takes o t ts b).1 h in

@@ -2,8 +2,8 @@
 
 ghost use Rattle.std.specs.Prelude.{◌≡◌};
 ghost use Rattle.glob_syntax.specs.Views.{flat_of, flats};
-ghost use Rattle.glob_groups.specs.Groups.{is_literal_except, is_within};
-ghost use Rattle.glob_groups.specs.inner.FlatTests.{all_simple_pass, is_any_extension, is_by_last_component, is_extension, is_last_component, is_simple_that, is_star_extension, is_whole_path};
+ghost use Rattle.glob_groups.specs.Groups.{is_literal_except, is_star, is_suffix, is_within};
+ghost use Rattle.glob_groups.specs.inner.FlatTests.{all_simple_pass, is_any_after, is_any_before, is_any_extension, is_any_inside, is_by_last_component, is_extension, is_last_component, is_last_components, is_simple_that, is_star_extension, is_star_literals, is_whole_path, literals_and_last};
 
 use glob_syntax::{Options, Token};
 
@@ -24,6 +24,16 @@ pub fn is_last_component(tokens: &[Token]) -> bool
     match tokens {
         [Token::RecursivePrefix] => false,
         [Token::RecursivePrefix, rest @ ..] => are_literals_except(rest, ['/'].as_slice()),
+        _ => false,
+    }
+}
+
+/// Whether the tokens are `RecursivePrefix` and one or more literals.
+pub fn is_last_components(tokens: &[Token]) -> bool
+    ensures { result ≡ is_last_components (flats tokens.now) }
+{
+    match tokens {
+        [Token::RecursivePrefix, rest @ ..] => is_whole_path(rest),
         _ => false,
     }
 }
@@ -56,6 +66,59 @@ fn is_extension(tokens: &[Token]) -> bool
         [Token::Literal('.'), rest @ ..] => are_literals_except(rest, ['.', '/'].as_slice()),
         _ => false,
     }
+}
+
+/// Whether the tokens are `*` that matches `/`, and any literals; or `RecursivePrefix` before these.
+pub fn is_any_before(options: Options, tokens: &[Token]) -> bool
+    ensures { result ≡ is_any_before options (flats tokens.now) }
+{
+    if options.literal_separator {
+        return false;
+    }
+    match tokens {
+        [Token::RecursivePrefix, rest @ ..] => is_star_literals(rest),
+        _ => is_star_literals(tokens),
+    }
+}
+
+/// Whether the tokens are `*` and any literals.
+fn is_star_literals(tokens: &[Token]) -> bool
+    ensures { result ≡ is_star_literals (flats tokens.now) }
+{
+    match tokens {
+        [Token::ZeroOrMore, rest @ ..] => are_literals_except(rest, [].as_slice()),
+        _ => false,
+    }
+}
+
+/// Whether the tokens are any literals and a last `*` that matches `/`; or `RecursivePrefix` alone.
+pub fn is_any_after(options: Options, tokens: &[Token]) -> bool
+    ensures { result ≡ is_any_after options (flats tokens.now) }
+{
+    match tokens {
+        [Token::RecursivePrefix] => true,
+        _ => !options.literal_separator && is_literals_star(tokens),
+    }
+}
+
+/// Whether the tokens are any literals and a last `*`.
+fn is_literals_star(tokens: &[Token]) -> bool
+    ensures { result ≡ literals_and_last is_star (flats tokens.now) }
+{
+    let Some((last, before)) = tokens.split_last() else {
+        return false;
+    };
+    is_star(last) && are_literals_except(before, [].as_slice())
+}
+
+/// Whether the tokens are any literals and a last `RecursiveSuffix`.
+pub fn is_any_inside(tokens: &[Token]) -> bool
+    ensures { result ≡ is_any_inside (flats tokens.now) }
+{
+    let Some((last, before)) = tokens.split_last() else {
+        return false;
+    };
+    is_recursive_suffix(last) && are_literals_except(before, [].as_slice())
 }
 
 /// Whether the tokens are `RecursivePrefix` and one or more tokens of which none matches `/`.
@@ -101,6 +164,20 @@ pub fn is_literal_except(token: &Token, excluded: &[char]) -> bool
         Token::Literal(c) => !excluded.contains(c),
         _ => false,
     }
+}
+
+/// Whether the token is `*`.
+fn is_star(token: &Token) -> bool
+    ensures { result ≡ is_simple_that is_star (flat_of token.now) }
+{
+    matches!(token, Token::ZeroOrMore)
+}
+
+/// Whether the token is `RecursiveSuffix`.
+fn is_recursive_suffix(token: &Token) -> bool
+    ensures { result ≡ is_simple_that is_suffix (flat_of token.now) }
+{
+    matches!(token, Token::RecursiveSuffix)
 }
 
 /// Whether the token matches nothing that has a `/`.

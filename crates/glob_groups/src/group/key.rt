@@ -1,8 +1,9 @@
 //! The keys of globs: bytes of their literals.
 
-ghost use Rattle.std.specs.Prelude.{◌≡◌, IfOk};
+ghost use Rattle.std.specs.Prelude.{◌≡◌, IfOk, [], ◌∷◌, ◌++◌};
 ghost use Rattle.std.specs.Option.{option_map};
 ghost use Rattle.glob_syntax.specs.Views.{flats};
+ghost use Rattle.glob_automaton.specs.Takes.{slash};
 ghost use Rattle.glob_groups.specs.inner.FlatTests.{ending, literal_text};
 
 use crate::group::conditions::is_literal_except;
@@ -21,6 +22,15 @@ pub fn literal_text(alloc: Global, tokens: &[Token]) -> Result<Vec<u8>, AllocErr
         }
     }
     Ok(text.into_bytes())
+}
+
+/// The bytes of the tokens that are literals, in order, and `/`.
+pub fn literal_text_and_slash(alloc: Global, tokens: &[Token]) -> Result<Vec<u8>, AllocError>
+    ensures { IfOk result (λ text. text.items ≡ literal_text (flats tokens.now) ++ slash ∷ []) }
+{
+    let mut text = literal_text(alloc, tokens)?;
+    text.push(b'/')?;
+    Ok(text)
 }
 
 /// The tokens from the last literal `.` on, if all tokens after it are literals other than `/`. It reads the tokens from the
