@@ -10,13 +10,13 @@ use Rattle.byte_trie.specs.declared.side.Side.{Side}
 use Rattle.byte_trie.specs.declared.side.Side.TheVariants.{Beginning, End}
 use Rattle.byte_trie.specs.declared.tree.Tree.{Tree}
 use Rattle.byte_trie.specs.Texts.{Texts, beginnings, endings, parts, found}
-use Rattle.byte_trie.specs.inner.Facing.{facing, faced}
+use Rattle.byte_trie.specs.inner.Sides.{from_side, entry_from_side}
 use Rattle.byte_trie.specs.inner.Nodes.{under, along}
 use Rattle.byte_trie.specs.inner.Holds.{Holds}
 
-pub length-facing : (side : Side) (p : List ℕ) → length (facing side p) ≡ length p
-length-facing Beginning p = refl
-length-facing End p = length-reverse p
+pub length-from_side : (side : Side) (p : List ℕ) → length (from_side side p) ≡ length p
+length-from_side Beginning p = refl
+length-from_side End p = length-reverse p
 
 along_beginnings : (f : List ℕ → List ℕ) (p : List ℕ) → along f p ≡ flat_map f (beginnings p)
 along_beginnings f [] = sym (append-nil (f []))
@@ -28,19 +28,19 @@ same_tests true y f g = sym (f refl)
 same_tests false true f g = g refl
 same_tests false false f g = refl
 
-turned : (k w : List ℕ) → bytes_eq (reverse k) w ≡ bytes_eq k (reverse w)
-turned k w =
+reversed_key : (k w : List ℕ) → bytes_eq (reverse k) w ≡ bytes_eq k (reverse w)
+reversed_key k w =
     same_tests (bytes_eq (reverse k) w) (bytes_eq k (reverse w))
     (λ y. (bytes_decides k (reverse w)).1 (sym (reverse-reverse k) ∙ ap reverse ((bytes_decides (reverse k) w).0 y)))
     (λ y. (bytes_decides (reverse k) w).1 (ap reverse ((bytes_decides k (reverse w)).0 y) ∙ reverse-reverse w))
 
-under_turned : (es : List Entry) (w : List ℕ) → indexes_under (map (faced End) es) w ≡ indexes_under es (reverse w)
-under_turned [] w = refl
-under_turned (e ∷ es) w =
-    ap (λ l. cond (bytes_eq (reverse e.key) w) (e.index ∷ l) l) (under_turned es w)
-    ∙ ap (λ b. cond b (e.index ∷ indexes_under es (reverse w)) (indexes_under es (reverse w))) (turned e.key w)
+under_reversed : (es : List Entry) (w : List ℕ) → indexes_under (map (entry_from_side End) es) w ≡ indexes_under es (reverse w)
+under_reversed [] w = refl
+under_reversed (e ∷ es) w =
+    ap (λ l. cond (bytes_eq (reverse e.key) w) (e.index ∷ l) l) (under_reversed es w)
+    ∙ ap (λ b. cond b (e.index ∷ indexes_under es (reverse w)) (indexes_under es (reverse w))) (reversed_key e.key w)
 
-pub under_as_is : (es : List Entry) (w : List ℕ) → indexes_under (map (faced Beginning) es) w ≡ indexes_under es w
+pub under_as_is : (es : List Entry) (w : List ℕ) → indexes_under (map (entry_from_side Beginning) es) w ≡ indexes_under es w
 under_as_is [] w = refl
 under_as_is (e ∷ es) w = ap (λ l. cond (bytes_eq e.key w) (e.index ∷ l) l) (under_as_is es w)
 
@@ -49,32 +49,32 @@ beginnings_push [] b = refl
 beginnings_push (x ∷ q) b =
     ap (λ l. [] ∷ map (λ y. x ∷ y) l) (beginnings_push q b) ∙ ap (λ l. [] ∷ l) (map-append (λ y. x ∷ y) (beginnings q) ((q ++ b ∷ []) ∷ []))
 
-turned_endings : (p : List ℕ) → map reverse (beginnings (reverse p)) ≡ endings p
-turned_endings [] = refl
-turned_endings (b ∷ p) =
+reversed_endings : (p : List ℕ) → map reverse (beginnings (reverse p)) ≡ endings p
+reversed_endings [] = refl
+reversed_endings (b ∷ p) =
     ap (λ q. map reverse (beginnings q)) (reverse-append (b ∷ []) p)
     ∙ ap (map reverse) (beginnings_push (reverse p) b)
     ∙ map-append reverse (beginnings (reverse p)) ((reverse p ++ b ∷ []) ∷ [])
-    ∙ ap (λ l. l ++ reverse (reverse p ++ b ∷ []) ∷ []) (turned_endings p)
+    ∙ ap (λ l. l ++ reverse (reverse p ++ b ∷ []) ∷ []) (reversed_endings p)
     ∙ ap (λ q. endings p ++ q ∷ []) (reverse-append (reverse p) (b ∷ []) ∙ ap (λ q. b ∷ q) (reverse-reverse p))
 
-along_faced : (side : Side) (es : List Entry) (p : List ℕ) → along (indexes_under (map (faced side) es)) (facing side p) ≡ flat_map (indexes_under es) (parts side p)
-along_faced Beginning es p =
+along_side : (side : Side) (es : List Entry) (p : List ℕ) → along (indexes_under (map (entry_from_side side) es)) (from_side side p) ≡ flat_map (indexes_under es) (parts side p)
+along_side Beginning es p =
     ap (λ f. along f p) (λ i w. under_as_is es w i) ∙ along_beginnings (indexes_under es) p
-along_faced End es p =
-    ap (λ f. along f (reverse p)) (λ i w. under_turned es w i)
+along_side End es p =
+    ap (λ f. along f (reverse p)) (λ i w. under_reversed es w i)
     ∙ along_beginnings (λ w. indexes_under es (reverse w)) (reverse p)
     ∙ sym (flat_map-map (indexes_under es) reverse (beginnings (reverse p)))
-    ∙ ap (flat_map (indexes_under es)) (turned_endings p)
+    ∙ ap (flat_map (indexes_under es)) (reversed_endings p)
 
 pub found_along : (t : Tree) (side : Side) (count : ℕ) (es : List Entry) → Holds t side count es → (p : List ℕ) →
-    along (under t 0) (facing side p) ≡ found (record { side = side; entries = es }) p
-found_along t side count es h p = ap (λ f. along f (facing side p)) (λ i w. h.leads w i) ∙ along_faced side es p
+    along (under t 0) (from_side side p) ≡ found (record { side = side; entries = es }) p
+found_along t side count es h p = ap (λ f. along f (from_side side p)) (λ i w. h.leads w i) ∙ along_side side es p
 
 -- how often a text is in a list
-hits : List ℕ → List (List ℕ) → ℕ
-hits k [] = 0
-hits k (x ∷ xs) = cond (bytes_eq k x) (hits k xs + 1) (hits k xs)
+occurrences : List ℕ → List (List ℕ) → ℕ
+occurrences k [] = 0
+occurrences k (x ∷ xs) = cond (bytes_eq k x) (occurrences k xs + 1) (occurrences k xs)
 
 nothing_found : (xs : List (List ℕ)) → length (flat_map (λ x. indexes_under [] x) xs) ≡ 0
 nothing_found [] = refl
@@ -86,50 +86,50 @@ one_more true i us fs n h e m d = omega (arith, length-append us fs)
 one_more false i us fs n h e m d = omega (arith, length-append us fs)
 
 found_more : (e : Entry) (es : List Entry) (xs : List (List ℕ)) →
-    length (flat_map (indexes_under (e ∷ es)) xs) ≡ length (flat_map (indexes_under es) xs) + hits e.key xs
-unfolding hits
+    length (flat_map (indexes_under (e ∷ es)) xs) ≡ length (flat_map (indexes_under es) xs) + occurrences e.key xs
+unfolding occurrences
 found_more e es [] = refl
 found_more e es (x ∷ xs) =
-    one_more (bytes_eq e.key x) e.index (indexes_under es x) (flat_map (indexes_under (e ∷ es)) xs) (length (flat_map (indexes_under es) xs)) (hits e.key xs) (found_more e es xs)
+    one_more (bytes_eq e.key x) e.index (indexes_under es x) (flat_map (indexes_under (e ∷ es)) xs) (length (flat_map (indexes_under es) xs)) (occurrences e.key xs) (found_more e es xs)
     (length (indexes_under es x ++ flat_map (indexes_under es) xs)) (length-append (indexes_under es x) (flat_map (indexes_under es) xs))
 
-found_at_most : (xs : List (List ℕ)) → ((k : List ℕ) → hits k xs ≤ 1) → (es : List Entry) → length (flat_map (indexes_under es) xs) ≤ length es
+found_at_most : (xs : List (List ℕ)) → ((k : List ℕ) → occurrences k xs ≤ 1) → (es : List Entry) → length (flat_map (indexes_under es) xs) ≤ length es
 found_at_most xs h [] = omega (arith, nothing_found xs)
 found_at_most xs h (e ∷ es) = omega (arith, found_more e es xs, h e.key, found_at_most xs h es)
 
-no_hits : (b : ℕ) (xs : List (List ℕ)) → hits [] (map (λ x. b ∷ x) xs) ≡ 0
-unfolding hits
-no_hits b [] = refl
-no_hits b (x ∷ xs) = no_hits b xs
+no_occurrences : (b : ℕ) (xs : List (List ℕ)) → occurrences [] (map (λ x. b ∷ x) xs) ≡ 0
+unfolding occurrences
+no_occurrences b [] = refl
+no_occurrences b (x ∷ xs) = no_occurrences b xs
 
-less_hit : (b c : Bool) (m n : ℕ) → m ≤ n → cond (b && c) (m + 1) m ≤ cond c (n + 1) n
-less_hit true true m n h = omega arith
-less_hit true false m n h = h
-less_hit false true m n h = omega arith
-less_hit false false m n h = h
+less_often : (b c : Bool) (m n : ℕ) → m ≤ n → cond (b && c) (m + 1) m ≤ cond c (n + 1) n
+less_often true true m n h = omega arith
+less_often true false m n h = h
+less_often false true m n h = omega arith
+less_often false false m n h = h
 
-fewer_hits : (c : ℕ) (k : List ℕ) (b : ℕ) (xs : List (List ℕ)) → hits (c ∷ k) (map (λ x. b ∷ x) xs) ≤ hits k xs
-unfolding hits
-fewer_hits c k b [] = omega arith
-fewer_hits c k b (x ∷ xs) = less_hit _ (bytes_eq k x) (hits (c ∷ k) (map (λ x. b ∷ x) xs)) (hits k xs) (fewer_hits c k b xs)
+fewer_occurrences : (c : ℕ) (k : List ℕ) (b : ℕ) (xs : List (List ℕ)) → occurrences (c ∷ k) (map (λ x. b ∷ x) xs) ≤ occurrences k xs
+unfolding occurrences
+fewer_occurrences c k b [] = omega arith
+fewer_occurrences c k b (x ∷ xs) = less_often _ (bytes_eq k x) (occurrences (c ∷ k) (map (λ x. b ∷ x) xs)) (occurrences k xs) (fewer_occurrences c k b xs)
 
-one_hit : (p k : List ℕ) → hits k (beginnings p) ≤ 1
-unfolding hits
-one_hit [] [] = omega arith
-one_hit [] (c ∷ k) = omega arith
-one_hit (b ∷ p) [] = omega (arith, no_hits b (beginnings p))
-one_hit (b ∷ p) (c ∷ k) = omega (arith, fewer_hits c k b (beginnings p), one_hit p k)
+one_occurrence : (p k : List ℕ) → occurrences k (beginnings p) ≤ 1
+unfolding occurrences
+one_occurrence [] [] = omega arith
+one_occurrence [] (c ∷ k) = omega arith
+one_occurrence (b ∷ p) [] = omega (arith, no_occurrences b (beginnings p))
+one_occurrence (b ∷ p) (c ∷ k) = omega (arith, fewer_occurrences c k b (beginnings p), one_occurrence p k)
 
-turned_hits : (k : List ℕ) (xs : List (List ℕ)) → hits k (map reverse xs) ≡ hits (reverse k) xs
-unfolding hits
-turned_hits k [] = refl
-turned_hits k (x ∷ xs) =
-    ap (λ b. cond b (hits k (map reverse xs) + 1) (hits k (map reverse xs))) (sym (turned k x))
-    ∙ ap (λ n. cond (bytes_eq (reverse k) x) (n + 1) n) (turned_hits k xs)
+occurrences_reversed : (k : List ℕ) (xs : List (List ℕ)) → occurrences k (map reverse xs) ≡ occurrences (reverse k) xs
+unfolding occurrences
+occurrences_reversed k [] = refl
+occurrences_reversed k (x ∷ xs) =
+    ap (λ b. cond b (occurrences k (map reverse xs) + 1) (occurrences k (map reverse xs))) (sym (reversed_key k x))
+    ∙ ap (λ n. cond (bytes_eq (reverse k) x) (n + 1) n) (occurrences_reversed k xs)
 
-one_part : (side : Side) (p k : List ℕ) → hits k (parts side p) ≤ 1
-one_part Beginning p k = one_hit p k
-one_part End p k = omega (arith, ap (hits k) (turned_endings p), turned_hits k (beginnings (reverse p)), one_hit (reverse p) (reverse k))
+one_part : (side : Side) (p k : List ℕ) → occurrences k (parts side p) ≤ 1
+one_part Beginning p k = one_occurrence p k
+one_part End p k = omega (arith, ap (occurrences k) (reversed_endings p), occurrences_reversed k (beginnings (reverse p)), one_occurrence (reverse p) (reverse k))
 
 -- no text is found twice
 pub found_within : (t : Texts) (p : List ℕ) → length (found t p) ≤ length t.entries
