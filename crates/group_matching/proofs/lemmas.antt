@@ -1,5 +1,1 @@
-pub mod Automata
-pub mod Groups
 pub mod Indexes
-pub mod Slots
-pub mod Tables

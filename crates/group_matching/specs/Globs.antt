@@ -1,9 +1,10 @@
 -- Globs by their tokens, and which of a list are listed for a path.
-use Rattle.std.specs.Prelude.{ℕ, ◌+◌, ◌*◌, Bool, List, length, sum_by}
+use Rattle.std.specs.Prelude.{ℕ, ◌+◌, ◌*◌, Bool, List, cond, length, sum_by}
 use Rattle.glob_syntax.specs.declared.options.Options.{Options}
 use Rattle.glob_syntax.specs.Token.{Tokens}
 use Rattle.glob_syntax.specs.inner.Weight.{weight}
 use Rattle.glob_groups.specs.Silent.{are_listed}
+use Rattle.glob_groups.specs.Direct.{needs_automaton}
 use Rattle.group_matching.specs.Indexes.{passes_at, passing_indexes}
 
 -- a glob: its tokens, and the options that they are matched under
@@ -26,10 +27,15 @@ is_listed_at globs path i = passes_at (λ g. is_listed g path) globs i
 abbrev pub listed : List TokenGlob → List ℕ → List ℕ
 listed globs path = passing_indexes (λ g. is_listed g path) globs
 
--- the most states of a glob, and one for its place in a table
-abbrev pub states : TokenGlob → ℕ
-states g = weight g.tokens + 2
+-- the most states of the glob that are run over the path
+abbrev pub states : TokenGlob → List ℕ → ℕ
+states g path = cond (needs_automaton g.options g.tokens path) (weight g.tokens + 1) 0
 
--- The most visits for a path. A path of n bytes has n + 1 positions.
+-- the same of all globs of a list
+abbrev pub load : List TokenGlob → List ℕ → ℕ
+load globs path = sum_by (λ g. states g path) globs
+
+-- The most visits for a path: one lookup in each of four tables; in each of two tries a node for each byte, and one more;
+-- and each state that is run at each position of the path, which are one more than its bytes.
 abbrev pub most_visits : List TokenGlob → List ℕ → ℕ
-most_visits globs path = (length path + 1) * sum_by states globs
+most_visits globs path = 4 + 2 * (length path + 1) + (length path + 1) * load globs path

@@ -1,1 +1,3 @@
+pub mod Keys
+pub mod Automata
 pub mod Groups

@@ -5,7 +5,9 @@
 //! text of a glob.
 #![tactic(auto)]
 
+mod automata;
 mod groups;
+mod keys;
 mod matching;
 
 pub use groups::{Groups, GroupsBuilder};

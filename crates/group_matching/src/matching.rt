@@ -1,9 +1,10 @@
 //! Which globs of a list match a path.
 
-ghost use Rattle.std.specs.Prelude.{◌≡◌, ◌≢◌, ◌+◌, ◌≤◌, ◌↔◌, [], List, ℕ, ◌-◌, IfOk, OnOk, OnErr, IsTrue, filter, length};
+ghost use Rattle.std.specs.Prelude.{◌≡◌, ◌≢◌, ◌+◌, ◌≤◌, ◌<◌, ◌↔◌, ◌⊎◌, [], List, ℕ, IfOk, IsOk, OnOk, OnErr, IsTrue, Contains, filter, length};
 ghost use Rattle.std.specs.List.{range_with_len};
-ghost use Rattle.byte_automaton.specs.Sets.{has_index};
-ghost use Rattle.group_matching.specs.Globs.{TokenGlob, listed, most_visits};
+ghost use Rattle.std.specs.List.Sorted.{IsStrictlyIncreasing};
+ghost use Rattle.byte_automaton.specs.Sets.{has_index, index_room};
+ghost use Rattle.group_matching.specs.Globs.{TokenGlob, listed, load, most_visits};
 ghost use Rattle.group_matching.specs.Indexes.{ContainsAllBelow};
 ghost use Rattle.group_matching.specs.inner.Groups.{AreGroupsOf, group_count};
 
@@ -16,9 +17,8 @@ use visits::Visits;
 impl Groups {
     /// Replaces the vector's items by the indexes, ascending, of the globs that are not silent and match the path.
     ///
-    /// It looks up the path and its parts in tables, and runs at most three automata, each once. It takes a bit of memory for
-    /// each glob, and two for each state of an automaton that it runs, and grows the vector for the indexes. Returns an error
-    /// if memory runs out. The vector is then empty.
+    /// It grows the vector for the indexes. If an automaton has to be run, it takes a bit of memory for each glob, and two for
+    /// each state that is run. Returns an error if memory runs out. The vector is then empty.
     pub fn find(
         &self,
         alloc: Global,
@@ -31,29 +31,38 @@ impl Groups {
         ensures visits { (globs : List TokenGlob) → AreGroupsOf globs self.now → visits.new ≤ visits.old + most_visits globs path.now }
     {
         into.clear();
-        let found = self.found(alloc, path, visits)?;
-        if let Err(error) = push_indexes(&found, self.count(), into) {
+        if let Err(error) = self.push_found(alloc, path, into, visits) {
             into.clear();
             return Err(error);
         }
+        merge(into);
         Ok(())
     }
 
-    /// Returns whether some glob that is not silent matches the path. Returns an error if memory runs out.
+    /// Returns whether some glob that is not silent matches the path.
+    ///
+    /// If an automaton has to be run, it takes two bits of memory for each state that is run. Returns an error if memory runs
+    /// out, and so none if no glob needs an automaton for the path.
     pub fn is_match(
         &self,
         alloc: Global,
         path: &Candidate<'_>,
         visits: &mut Visits,
     ) -> Result<bool, AllocError>
-        ensures some { IfOk result (λ yes. (globs : List TokenGlob) → AreGroupsOf globs self.now → length globs ≡ group_count self.now → IsTrue yes ↔ (listed globs path.now ≢ [])) }
+        ensures some { IfOk result (λ yes. (globs : List TokenGlob) → AreGroupsOf globs self.now → IsTrue yes ↔ (listed globs path.now ≢ [])) }
+        ensures memory { (globs : List TokenGlob) → AreGroupsOf globs self.now → load globs path.now ≡ 0 → IsOk result }
         ensures visits { (globs : List TokenGlob) → AreGroupsOf globs self.now → visits.new ≤ visits.old + most_visits globs path.now }
     {
-        let found = self.found(alloc, path, visits)?;
-        Ok(found.first_from(0).is_some())
+        if self.keys.is_match(path, visits) {
+            return Ok(true);
+        }
+        self.automata.is_match(alloc, path, visits)
     }
 
-    /// Returns whether every glob matches the path and none is silent. Returns an error if memory runs out.
+    /// Returns whether every glob matches the path and none is silent.
+    ///
+    /// If an automaton has to be run, it takes a bit of memory for each glob, two for each state that is run, and a vector for
+    /// indexes. Returns an error if memory runs out, and so none if no glob needs an automaton for the path.
     pub fn matches_all(
         &self,
         alloc: Global,
@@ -61,16 +70,46 @@ impl Groups {
         visits: &mut Visits,
     ) -> Result<bool, AllocError>
         ensures all { IfOk result (λ yes. (globs : List TokenGlob) → AreGroupsOf globs self.now → length globs ≡ group_count self.now → IsTrue yes ↔ ContainsAllBelow (listed globs path.now) (length globs)) }
+        ensures memory { (globs : List TokenGlob) → AreGroupsOf globs self.now → load globs path.now ≡ 0 → IsOk result }
         ensures visits { (globs : List TokenGlob) → AreGroupsOf globs self.now → visits.new ≤ visits.old + most_visits globs path.now }
     {
-        let found = self.found(alloc, path, visits)?;
-        for index in 0..self.count() {
-            if !found.has(index) {
-                return Ok(false);
-            }
-        }
-        Ok(true)
+        let count = self.automata.index_count();
+        let Some(found) = self.automata.found(alloc, path, visits)? else {
+            return Ok(self.keys.count_found(path, visits) == Some(count));
+        };
+        let mut indexes = Vec::new(alloc);
+        push_indexes(&found, count, &mut indexes)?;
+        self.keys.push_found(path, &mut indexes, visits)?;
+        merge(&mut indexes);
+        Ok(indexes.len() == count)
     }
+
+    /// Pushes the indexes onto an empty vector, in no order. If memory runs out, some of them are pushed.
+    fn push_found(
+        &self,
+        alloc: Global,
+        path: &Candidate<'_>,
+        into: &mut Vec<usize>,
+        visits: &mut Visits,
+    ) -> Result<(), AllocError>
+        requires { into.old.items ≡ [] }
+        ensures found { OnOk result ((globs : List TokenGlob) → AreGroupsOf globs self.now → length globs ≡ group_count self.now → (k : ℕ) → Contains into.new.items k ↔ Contains (listed globs path.now) k) }
+        ensures visits { (globs : List TokenGlob) → AreGroupsOf globs self.now → visits.new ≤ visits.old + most_visits globs path.now }
+    {
+        if let Some(found) = self.automata.found(alloc, path, visits)? {
+            push_indexes(&found, self.automata.index_count(), into)?;
+        }
+        self.keys.push_found(path, into, visits)
+    }
+}
+
+/// Puts indexes in order, each once. It takes no memory.
+fn merge(indexes: &mut Vec<usize>)
+    ensures order { IsStrictlyIncreasing indexes.new.items }
+    ensures same { (k : ℕ) → Contains indexes.new.items k ↔ Contains indexes.old.items k }
+{
+    indexes.sort_unstable();
+    indexes.dedup();
 }
 
 /// Pushes the indexes of a set that are below `count`, ascending. If memory runs out, some of them are pushed.

@@ -1,0 +1,102 @@
+-- Automata of tokens, for the globs that no key decides.
+use Rattle.std.specs.Prelude.{◌≡◌, ◌≢◌, ◌⊎◌, ◌↔◌, ℕ, ◌+◌, ◌<◌, ◌≤◌, IsTrue, List, [], ◌∷◌, ◌++◌, Option, Some, None, length, get_or, slice_get}
+use Rattle.std.specs.Option.{option_map_or}
+use Rattle.byte_automaton.specs.Steps.{IsIn, Machine}
+use Rattle.byte_automaton.specs.Runs.{size}
+use Rattle.byte_automaton.specs.Sets.{has_index, index_room}
+use Rattle.byte_automaton.specs.declared.index_set.IndexSet.{IndexSet}
+use Rattle.byte_table.specs.Entries.{Entry, indexes_under}
+use Rattle.glob_automaton.specs.IndexedTokens.{IndexedTokens, SomeMatches, IsFor}
+use Rattle.glob_path.specs.PathParts.{last_component, component_extension}
+
+-- ---- automata for globs that match only paths with one extension
+
+-- the first of some indexes
+abbrev pub first : List ℕ → Option ℕ
+first indexes = slice_get indexes 0
+
+-- For each such extension its slot, which is the position of an automaton; and an automaton without states for the others.
+pub record SlotParts : Type 0 where
+  pub slots : List Entry
+  pub machines : List Machine
+  pub none : Machine
+  pub index_count : ℕ
+
+-- the slot of an extension, if it has one
+abbrev pub slot_of : List Entry → List ℕ → Option ℕ
+slot_of slots extension = first (indexes_under slots extension)
+
+-- what is true of the parts of each such value
+pub record AreSlots (slots : List Entry) (machines : List Machine) (none : Machine) (n : ℕ) : Type 0 where
+  -- each slot is a position of an automaton
+  pub held : (extension : List ℕ) (s : ℕ) → IsIn s (indexes_under slots extension) → s < length machines
+  -- no two extensions have the same slot
+  pub apart : (a b : List ℕ) (s : ℕ) → slot_of slots a ≡ Some s → slot_of slots b ≡ Some s → a ≡ b
+  -- each automaton names indexes below n
+  pub counted : (s : ℕ) (d : Machine) → s < length machines → (get_or machines s d).index_count ≡ n
+  pub none_counted : none.index_count ≡ n
+  -- the automaton for the others has no states
+  pub empty : size none ≡ 0
+  pub for_none : IsFor none []
+
+-- each automaton is for the tokens of its slot
+abbrev pub AreFor : List Machine → (ℕ → List IndexedTokens) → Type 0
+AreFor machines tokens = (s : ℕ) (d : Machine) → s < length machines → IsFor (get_or machines s d) (tokens s)
+
+-- the tokens of an extension, or none if it has no slot
+abbrev pub tokens_under : (ℕ → List IndexedTokens) → List Entry → List ℕ → List IndexedTokens
+tokens_under tokens slots extension = option_map_or tokens (slot_of slots extension) []
+
+-- the automaton of an extension; one without states if it has no slot
+abbrev pub machine_under : SlotParts → List ℕ → Machine
+machine_under e extension = option_map_or (λ s. get_or e.machines s e.none) (slot_of e.slots extension) e.none
+
+-- each extension has the tokens that it had
+pub record KeepsTokens (slots : List Entry) (before : ℕ → List IndexedTokens) (new : SlotParts) : Type 0 where
+  pub tokens : ℕ → List IndexedTokens
+  pub are_for : AreFor new.machines tokens
+  pub same : (extension : List ℕ) → tokens_under tokens new.slots extension ≡ tokens_under before slots extension
+
+-- one extension has these tokens in addition, and the others have those that they had
+pub record AddsTokens (slots : List Entry) (before : ℕ → List IndexedTokens) (new : SlotParts) (key : List ℕ) (x : IndexedTokens) : Type 0 where
+  pub tokens : ℕ → List IndexedTokens
+  pub are_for : AreFor new.machines tokens
+  pub added : (extension : List ℕ) → (extension ≡ key) → tokens_under tokens new.slots extension ≡ tokens_under before slots extension ++ x ∷ []
+  pub others : (extension : List ℕ) → (extension ≢ key) → tokens_under tokens new.slots extension ≡ tokens_under before slots extension
+
+-- ---- all of them
+
+-- automata that are run on the whole path, on its last component, and on paths with an extension
+pub record AutomataParts : Type 0 where
+  pub by_path : Machine
+  pub by_component : Machine
+  pub extensions : SlotParts
+
+-- the number that each index is below is the same for all of them
+pub record HaveOneCount (by_path by_component : Machine) (extensions : SlotParts) : Type 0 where
+  pub of_path : by_path.index_count ≡ extensions.index_count
+  pub of_component : by_component.index_count ≡ extensions.index_count
+
+-- the tokens that automata are for
+pub record TokenLists : Type 0 where
+  pub by_path : List IndexedTokens
+  pub by_component : List IndexedTokens
+  pub by_slot : ℕ → List IndexedTokens
+
+pub record AreForLists (a : AutomataParts) (t : TokenLists) : Type 0 where
+  pub path : IsFor a.by_path t.by_path
+  pub component : IsFor a.by_component t.by_component
+  pub slots : AreFor a.extensions.machines t.by_slot
+
+-- tokens of the index k match the part of the path that they are run on
+abbrev pub AreFound : List Entry → TokenLists → List ℕ → ℕ → Type 0
+AreFound slots t path k = SomeMatches t.by_path path k ⊎ (SomeMatches t.by_component (last_component path) k ⊎ SomeMatches (tokens_under t.by_slot slots (component_extension path)) path k)
+
+-- the states that are run for a path
+abbrev pub states_for : AutomataParts → List ℕ → ℕ
+states_for a path = size a.by_path + (size a.by_component + size (machine_under a.extensions (component_extension path)))
+
+-- The set has the indexes that are found for a path, and room for every index.
+pub record IsFoundSet (a : AutomataParts) (path : List ℕ) (found : IndexSet) : Type 0 where
+  pub room : a.extensions.index_count ≤ index_room found
+  pub same : (t : TokenLists) → AreForLists a t → (k : ℕ) → IsTrue (has_index found k) ↔ AreFound a.extensions.slots t path k

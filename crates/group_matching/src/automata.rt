@@ -1,0 +1,295 @@
+//! Globs that no text decides: automata of their tokens.
+
+ghost use Rattle.std.specs.Prelude.{◌≡◌, ◌+◌, ◌*◌, ◌<◌, ◌≤◌, ◌++◌, ◌∷◌, ◌↔◌, ◌⊎◌, [], ℕ, List, length, IsTrue, IsOk, OnOk, IfOk, MatchOption, cond};
+ghost use Rattle.std.specs.Str.{bytes_eq};
+ghost use Rattle.byte_automaton.specs.Runs.{size};
+ghost use Rattle.byte_automaton.specs.Sets.{has_index, index_room};
+ghost use Rattle.glob_automaton.specs.IndexedTokens.{IndexedTokens, IsFor, SomeMatches, indexed};
+ghost use Rattle.glob_path.specs.PathParts.{component_extension, last_component};
+ghost use Rattle.glob_syntax.specs.FlatTokens.{IsNested};
+ghost use Rattle.glob_syntax.specs.Views.{flats, tokens_of};
+ghost use Rattle.glob_syntax.specs.inner.Weight.{weight};
+ghost use Rattle.group_matching.specs.inner.Automata.{AddsTokens, AreFor, AreForLists, AreFound, IsFoundSet, TokenLists, machine_under, states_for, tokens_under};
+
+mod run;
+mod slots;
+
+use byte_automaton::{Automaton, Builder, IndexSet};
+use glob_automaton::{add_tokens, new_builder};
+use glob_path::{Candidate, component_extension_of, last_component_of};
+use glob_syntax::{Options, Token};
+use run::{is_match, run};
+use slots::{Slots, SlotsBuilder};
+use std::alloc::{AllocError, Global};
+use std::marker::Model;
+use visits::Visits;
+
+/// Automata for globs, by the part of a path that they are run on: the whole path, its last component, or the whole path if its
+/// last component has some extension.
+#[derive(Debug, Drop)]
+pub struct Automata {
+    by_path: Automaton,
+    by_component: Automaton,
+    extensions: Slots,
+}
+
+impl Model for Automata {
+    ghost use Rattle.group_matching.specs.inner.Automata.{AutomataParts, HaveOneCount};
+
+    ghost Value = { AutomataParts };
+
+    ghost view = { λ a. record {
+      by_path = a.by_path;
+      by_component = a.by_component;
+      extensions = a.extensions;
+    } };
+
+    ghost invariant = { λ a. HaveOneCount a.by_path a.by_component a.extensions };
+}
+
+impl Clone for Automata {
+    ghost use Rattle.std.specs.Prelude.{◌≡◌};
+
+    ghost is_clone = { λ a b. b ≡ a };
+
+    /// Returns a copy. Returns an error if memory runs out.
+    fn clone(&self) -> Result<Automata, AllocError> {
+        Ok(Automata {
+            by_path: self.by_path.clone()?,
+            by_component: self.by_component.clone()?,
+            extensions: self.extensions.clone()?,
+        })
+    }
+}
+
+impl Automata {
+    /// Returns the number that each index is below.
+    pub fn index_count(&self) -> usize
+        ensures { result ≡ self.now.extensions.index_count }
+    {
+        self.extensions.index_count()
+    }
+
+    /// Returns the indexes of the globs that match the path, or `None` if no automaton has to be run.
+    ///
+    /// It takes a bit of memory for each index, and two for each state that is run; but none if no automaton has to be run.
+    /// Returns an error if memory runs out.
+    pub fn found(
+        &self,
+        alloc: Global,
+        path: &Candidate<'_>,
+        visits: &mut Visits,
+    ) -> Result<Option<IndexSet>, AllocError>
+        ensures found { IfOk result (λ set. MatchOption set (states_for self.now path.now ≡ 0) (λ found. IsFoundSet self.now path.now found)) }
+        ensures memory { states_for self.now path.now ≡ 0 → IsOk result }
+        ensures visits { visits.new ≤ visits.old + (1 + (length path.now + 1) * states_for self.now path.now) }
+    {
+        let by_extension = self.by_extension(path, visits);
+        if self.by_path.state_count() == 0
+            && self.by_component.state_count() == 0
+            && by_extension.state_count() == 0
+        {
+            return Ok(None);
+        }
+        let mut found = IndexSet::new(alloc, self.index_count())?;
+        run(alloc, &self.by_path, path.path(), &mut found, visits)?;
+        self.run_by_component(alloc, path, &mut found, visits)?;
+        run(alloc, by_extension, path.path(), &mut found, visits)?;
+        Ok(Some(found))
+    }
+
+    /// Returns whether some glob matches the path.
+    ///
+    /// It takes two bits of memory for each state of an automaton that it runs. Returns an error if memory runs out.
+    pub fn is_match(
+        &self,
+        alloc: Global,
+        path: &Candidate<'_>,
+        visits: &mut Visits,
+    ) -> Result<bool, AllocError>
+        ensures some { IfOk result (λ yes. (t : TokenLists) → AreForLists self.now t → IsTrue yes ↔ ((k : ℕ) × AreFound self.now.extensions.slots t path.now k)) }
+        ensures memory { states_for self.now path.now ≡ 0 → IsOk result }
+        ensures visits { visits.new ≤ visits.old + (1 + (length path.now + 1) * states_for self.now path.now) }
+    {
+        if is_match(alloc, &self.by_path, path.path(), visits)? {
+            return Ok(true);
+        }
+        if self.is_match_by_component(alloc, path, visits)? {
+            return Ok(true);
+        }
+        let by_extension = self.by_extension(path, visits);
+        is_match(alloc, by_extension, path.path(), visits)
+    }
+
+    /// Returns the automaton of the extension of the path's last component, or one without states if it has none. The extension
+    /// is only searched for if some extension has an automaton.
+    fn by_extension(&self, path: &Candidate<'_>, visits: &mut Visits) -> &Automaton
+        ensures automaton { result.now ≡ machine_under self.now.extensions (component_extension path.now) }
+        ensures count { result.now.index_count ≡ self.now.extensions.index_count }
+        ensures tokens { (by_slot : ℕ → List IndexedTokens) → AreFor self.now.extensions.machines by_slot → IsFor result.now (tokens_under by_slot self.now.extensions.slots (component_extension path.now)) }
+        ensures visits { visits.new ≤ visits.old + 1 }
+    {
+        if self.extensions.is_empty() {
+            return self.extensions.none();
+        }
+        self.extensions
+            .automaton_of(component_extension_of(path), visits)
+    }
+
+    /// Puts the indexes of the globs that the path's last component matches into a set. The component is only searched for if
+    /// there are states.
+    fn run_by_component(
+        &self,
+        alloc: Global,
+        path: &Candidate<'_>,
+        found: &mut IndexSet,
+        visits: &mut Visits,
+    ) -> Result<(), AllocError>
+        requires { self.now.extensions.index_count ≤ index_room found.old }
+        ensures room { index_room found.new ≡ index_room found.old }
+        ensures found { OnOk result ((xs : List IndexedTokens) → IsFor self.now.by_component xs → (k : ℕ) → IsTrue (has_index found.new k) ↔ (SomeMatches xs (last_component path.now) k ⊎ IsTrue (has_index found.old k))) }
+        ensures memory { size self.now.by_component ≡ 0 → IsOk result }
+        ensures visits { visits.new ≤ visits.old + (length path.now + 1) * size self.now.by_component }
+    {
+        if self.by_component.state_count() == 0 {
+            return Ok(());
+        }
+        run(
+            alloc,
+            &self.by_component,
+            last_component_of(path),
+            found,
+            visits,
+        )
+    }
+
+    /// Returns whether the path's last component matches tokens. It is only searched for if there are states.
+    fn is_match_by_component(
+        &self,
+        alloc: Global,
+        path: &Candidate<'_>,
+        visits: &mut Visits,
+    ) -> Result<bool, AllocError>
+        ensures some { IfOk result (λ yes. (xs : List IndexedTokens) → IsFor self.now.by_component xs → IsTrue yes ↔ ((k : ℕ) × SomeMatches xs (last_component path.now) k)) }
+        ensures memory { size self.now.by_component ≡ 0 → IsOk result }
+        ensures visits { visits.new ≤ visits.old + (length path.now + 1) * size self.now.by_component }
+    {
+        if self.by_component.state_count() == 0 {
+            return Ok(false);
+        }
+        is_match(alloc, &self.by_component, last_component_of(path), visits)
+    }
+}
+
+/// Makes [`Automata`].
+#[derive(Drop)]
+pub struct AutomataBuilder {
+    by_path: Builder,
+    by_component: Builder,
+    extensions: SlotsBuilder,
+}
+
+impl Model for AutomataBuilder {
+    ghost use Rattle.group_matching.specs.inner.Automata.{AutomataParts, HaveOneCount};
+
+    ghost Value = { AutomataParts };
+
+    ghost view = { λ a. record {
+      by_path = a.by_path;
+      by_component = a.by_component;
+      extensions = a.extensions;
+    } };
+
+    ghost invariant = { λ a. HaveOneCount a.by_path a.by_component a.extensions };
+}
+
+impl AutomataBuilder {
+    /// Returns a builder that nothing was added to. Indexes have to be below `index_count`. It allocates nothing.
+    pub fn new(alloc: Global, index_count: usize) -> AutomataBuilder
+        ensures path { IsFor result.by_path [] }
+        ensures component { IsFor result.by_component [] }
+        ensures slots { result.extensions.slots ≡ [] }
+        ensures machines { result.extensions.machines ≡ [] }
+        ensures none { size result.extensions.none ≡ 0 }
+        ensures count { result.extensions.index_count ≡ index_count }
+        ensures path_size { size result.by_path ≡ 0 }
+        ensures component_size { size result.by_component ≡ 0 }
+    {
+        AutomataBuilder {
+            by_path: new_builder(alloc, index_count),
+            by_component: new_builder(alloc, index_count),
+            extensions: SlotsBuilder::new(alloc, index_count),
+        }
+    }
+
+    /// Adds tokens that the whole path has to match. It takes time and memory linear in the tokens. Returns an error if memory
+    /// runs out.
+    pub fn add_by_path(
+        &mut self,
+        alloc: Global,
+        options: Options,
+        tokens: &[Token],
+        index: usize,
+    ) -> Result<(), AllocError>
+        requires nested { IsNested (flats tokens.now) }
+        requires index { index < self.old.extensions.index_count }
+        ensures tokens { OnOk result ((xs : List IndexedTokens) → IsFor self.old.by_path xs → IsFor self.new.by_path (xs ++ indexed options (tokens_of tokens.now) index ∷ [])) }
+        ensures size { OnOk result (size self.new.by_path ≤ size self.old.by_path + (weight (tokens_of tokens.now) + 1)) }
+        ensures component { self.new.by_component ≡ self.old.by_component }
+        ensures extensions { self.new.extensions ≡ self.old.extensions }
+    {
+        add_tokens(alloc, &mut self.by_path, options, tokens, index)
+    }
+
+    /// Adds tokens that the last component of a path has to match. It takes time and memory linear in the tokens. Returns an
+    /// error if memory runs out.
+    pub fn add_by_component(
+        &mut self,
+        alloc: Global,
+        options: Options,
+        tokens: &[Token],
+        index: usize,
+    ) -> Result<(), AllocError>
+        requires nested { IsNested (flats tokens.now) }
+        requires index { index < self.old.extensions.index_count }
+        ensures tokens { OnOk result ((xs : List IndexedTokens) → IsFor self.old.by_component xs → IsFor self.new.by_component (xs ++ indexed options (tokens_of tokens.now) index ∷ [])) }
+        ensures size { OnOk result (size self.new.by_component ≤ size self.old.by_component + (weight (tokens_of tokens.now) + 1)) }
+        ensures path { self.new.by_path ≡ self.old.by_path }
+        ensures extensions { self.new.extensions ≡ self.old.extensions }
+    {
+        add_tokens(alloc, &mut self.by_component, options, tokens, index)
+    }
+
+    /// Adds tokens that a path has to match whose last component has an extension. It takes time and memory linear in the
+    /// tokens. Returns an error if memory runs out.
+    pub fn add_by_extension(
+        &mut self,
+        alloc: Global,
+        key: Vec<u8>,
+        options: Options,
+        tokens: &[Token],
+        index: usize,
+    ) -> Result<(), AllocError>
+        requires nested { IsNested (flats tokens.now) }
+        requires index { index < self.old.extensions.index_count }
+        ensures tokens { OnOk result ((before : ℕ → List IndexedTokens) → AreFor self.old.extensions.machines before → AddsTokens self.old.extensions.slots before self.new.extensions key.items (indexed options (tokens_of tokens.now) index)) }
+        ensures size { OnOk result ((extension : List ℕ) → size (machine_under self.new.extensions extension) ≤ size (machine_under self.old.extensions extension) + cond (bytes_eq key.items extension) (weight (tokens_of tokens.now) + 1) 0) }
+        ensures count { self.new.extensions.index_count ≡ self.old.extensions.index_count }
+        ensures path { self.new.by_path ≡ self.old.by_path }
+        ensures component { self.new.by_component ≡ self.old.by_component }
+    {
+        self.extensions
+            .add_tokens(alloc, key, options, tokens, index)
+    }
+
+    /// Returns what was added. Returns an error if memory runs out.
+    pub fn finish(self, alloc: Global) -> Result<Automata, AllocError>
+        ensures { IfOk result (λ automata. automata ≡ self) }
+    {
+        Ok(Automata {
+            by_path: self.by_path.finish(),
+            by_component: self.by_component.finish(),
+            extensions: self.extensions.finish(alloc)?,
+        })
+    }
+}

@@ -1,0 +1,208 @@
+//! Automata for globs that match only paths whose last component has one extension.
+
+ghost use Rattle.std.specs.Prelude.{◌≡◌, ◌+◌, ◌<◌, ◌≤◌, ◌↔◌, [], ℕ, List, length, IsTrue, OnOk, IfOk, Some, cond};
+ghost use Rattle.byte_automaton.specs.Runs.{size};
+ghost use Rattle.std.specs.Str.{bytes_eq};
+ghost use Rattle.glob_automaton.specs.IndexedTokens.{IndexedTokens, IsFor, indexed};
+ghost use Rattle.glob_syntax.specs.FlatTokens.{IsNested};
+ghost use Rattle.glob_syntax.specs.Views.{flats, tokens_of};
+ghost use Rattle.glob_syntax.specs.inner.Weight.{weight};
+ghost use Rattle.group_matching.specs.inner.Automata.{AddsTokens, AreFor, KeepsTokens, machine_under, slot_of, tokens_under};
+
+use byte_automaton::{Automaton, Builder};
+use byte_table::Table;
+use glob_automaton::{add_tokens, new_builder};
+use glob_syntax::{Options, Token};
+use std::alloc::{AllocError, Global};
+use std::marker::Model;
+use visits::Visits;
+
+/// An automaton for each extension that some glob requires. The slot of an extension is the position of its automaton.
+#[derive(Debug, Drop)]
+pub struct Slots {
+    slots: Table,
+    automata: Vec<Automaton>,
+    none: Automaton,
+    index_count: usize,
+}
+
+impl Model for Slots {
+    ghost use Rattle.group_matching.specs.inner.Automata.{SlotParts, AreSlots};
+
+    ghost Value = { SlotParts };
+
+    ghost view = { λ e. record {
+      slots = e.slots;
+      machines = e.automata.items;
+      none = e.none;
+      index_count = e.index_count;
+    } };
+
+    ghost invariant = { λ e. AreSlots e.slots e.automata.items e.none e.index_count };
+}
+
+impl Clone for Slots {
+    ghost use Rattle.std.specs.Prelude.{◌≡◌};
+
+    ghost is_clone = { λ a b. b ≡ a };
+
+    /// Returns a copy. Returns an error if memory runs out.
+    fn clone(&self) -> Result<Slots, AllocError> {
+        Ok(Slots {
+            slots: self.slots.clone()?,
+            automata: copy_of(&self.automata)?,
+            none: self.none.clone()?,
+            index_count: self.index_count,
+        })
+    }
+}
+
+/// Returns copies of automata. Returns an error if memory runs out.
+fn copy_of(automata: &Vec<Automaton>) -> Result<Vec<Automaton>, AllocError>
+    ensures { IfOk result (λ copies. copies.items ≡ automata.now.items) }
+{
+    let mut copies = Vec::with_capacity(*automata.allocator(), automata.len())?;
+    for automaton in automata {
+        copies.push(automaton.clone()?)?;
+    }
+    Ok(copies)
+}
+
+impl Slots {
+    /// Returns the number that each index is below.
+    pub fn index_count(&self) -> usize
+        ensures { result ≡ self.now.index_count }
+    {
+        self.index_count
+    }
+
+    /// Returns whether no extension has an automaton.
+    pub fn is_empty(&self) -> bool
+        ensures { IsTrue result → self.now.slots ≡ [] }
+    {
+        self.slots.is_empty()
+    }
+
+    /// Returns an automaton without states.
+    pub fn none(&self) -> &Automaton
+        ensures none { result.now ≡ self.now.none }
+        ensures count { result.now.index_count ≡ self.now.index_count }
+        ensures tokens { IsFor result.now [] }
+    {
+        &self.none
+    }
+
+    /// Returns the automaton of an extension, or one without states if it has none. It is one visit.
+    pub fn automaton_of(&self, extension: &[u8], visits: &mut Visits) -> &Automaton
+        ensures automaton { result.now ≡ machine_under self.now extension.now }
+        ensures count { result.now.index_count ≡ self.now.index_count }
+        ensures tokens { (by_slot : ℕ → List IndexedTokens) → AreFor self.now.machines by_slot → IsFor result.now (tokens_under by_slot self.now.slots extension.now) }
+        ensures visits { visits.new ≡ visits.old + 1 }
+    {
+        match self.slots.get(extension, visits) {
+            [slot, ..] => &self.automata[*slot],
+            [] => &self.none,
+        }
+    }
+}
+
+/// Makes [`Slots`].
+#[derive(Drop)]
+pub struct SlotsBuilder {
+    slots: Table,
+    builders: Vec<Builder>,
+    none: Builder,
+    index_count: usize,
+}
+
+impl Model for SlotsBuilder {
+    ghost use Rattle.group_matching.specs.inner.Automata.{SlotParts, AreSlots};
+
+    ghost Value = { SlotParts };
+
+    ghost view = { λ e. record {
+      slots = e.slots;
+      machines = e.builders.items;
+      none = e.none;
+      index_count = e.index_count;
+    } };
+
+    ghost invariant = { λ e. AreSlots e.slots e.builders.items e.none e.index_count };
+}
+
+impl SlotsBuilder {
+    /// Returns a builder that nothing was added to. Indexes have to be below `index_count`. It allocates nothing.
+    pub fn new(alloc: Global, index_count: usize) -> SlotsBuilder
+        ensures slots { result.slots ≡ [] }
+        ensures machines { result.machines ≡ [] }
+        ensures count { result.index_count ≡ index_count }
+        ensures none { size result.none ≡ 0 }
+    {
+        SlotsBuilder {
+            slots: Table::new(alloc),
+            builders: Vec::new(alloc),
+            none: new_builder(alloc, index_count),
+            index_count,
+        }
+    }
+
+    /// Adds the tokens of a glob that matches only paths with one extension. It takes time and memory linear in the tokens.
+    /// Returns an error if memory runs out.
+    pub fn add_tokens(
+        &mut self,
+        alloc: Global,
+        key: Vec<u8>,
+        options: Options,
+        tokens: &[Token],
+        index: usize,
+    ) -> Result<(), AllocError>
+        requires nested { IsNested (flats tokens.now) }
+        requires index { index < self.old.index_count }
+        ensures tokens { OnOk result ((before : ℕ → List IndexedTokens) → AreFor self.old.machines before → AddsTokens self.old.slots before self.new key.items (indexed options (tokens_of tokens.now) index)) }
+        ensures size { OnOk result ((extension : List ℕ) → size (machine_under self.new extension) ≤ size (machine_under self.old extension) + cond (bytes_eq key.items extension) (weight (tokens_of tokens.now) + 1) 0) }
+        ensures count { self.new.index_count ≡ self.old.index_count }
+    {
+        let slot = self.slot_of(alloc, key)?;
+        add_tokens(alloc, &mut self.builders[slot], options, tokens, index)
+    }
+
+    /// Returns the slot of an extension, which is a new one if it has none.
+    fn slot_of(&mut self, alloc: Global, key: Vec<u8>) -> Result<usize, AllocError>
+        ensures slot { IfOk result (λ slot. slot_of self.new.slots key.items ≡ Some slot) }
+        ensures tokens { OnOk result ((before : ℕ → List IndexedTokens) → AreFor self.old.machines before → KeepsTokens self.old.slots before self.new) }
+        ensures size { OnOk result ((extension : List ℕ) → size (machine_under self.new extension) ≡ size (machine_under self.old extension)) }
+        ensures count { self.new.index_count ≡ self.old.index_count }
+    {
+        // These lookups are no part of matching a path, so nobody counts them.
+        if let [slot, ..] = self.slots.get(&key, &mut Visits::new()) {
+            return Ok(*slot);
+        }
+        let slot = self.builders.len();
+        self.builders.push(new_builder(alloc, self.index_count))?;
+        self.slots.insert(key, slot)?;
+        Ok(slot)
+    }
+
+    /// Returns what was added. Returns an error if memory runs out.
+    pub fn finish(self, alloc: Global) -> Result<Slots, AllocError>
+        ensures { IfOk result (λ slots. slots ≡ self) }
+    {
+        Ok(Slots {
+            slots: self.slots,
+            automata: finished(alloc, self.builders)?,
+            none: self.none.finish(),
+            index_count: self.index_count,
+        })
+    }
+}
+
+/// Returns the automata of builders. Returns an error if memory runs out.
+fn finished(alloc: Global, builders: Vec<Builder>) -> Result<Vec<Automaton>, AllocError>
+    ensures { IfOk result (λ automata. automata.items ≡ builders.items) }
+{
+    let mut automata = Vec::with_capacity(alloc, builders.len())?;
+    for builder in builders {
+        automata.push(builder.finish())?;
+    }
+    Ok(automata)
+}

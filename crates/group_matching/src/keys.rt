@@ -1,0 +1,259 @@
+//! Globs that a text decides: the whole path, a part of it, or what it begins or ends with.
+
+ghost use Rattle.std.specs.Prelude.{◌≡◌, ◌≢◌, ◌+◌, ◌*◌, ◌≤◌, ◌++◌, ◌∷◌, ◌↔◌, ◌<◌, ◌^◌, [], ℕ, List, length, map, IsTrue, MatchOption, OnOk, IfOk};
+ghost use Rattle.byte_table.specs.Entries.{indexes_under};
+ghost use Rattle.byte_trie.specs.Texts.{entry_of};
+ghost use Rattle.glob_automaton.specs.Takes.{slash};
+ghost use Rattle.glob_path.specs.PathParts.{component_extension, last_component};
+ghost use Rattle.group_matching.specs.inner.Keys.{keys_found, no_keys, tables_count, with_beginning, with_component, with_end, with_extension, with_path};
+
+use byte_table::Table;
+use byte_trie::{Side, Text, Trie};
+use glob_path::{Candidate, component_extension_of, last_component_of};
+use std::alloc::{AllocError, Global};
+use std::marker::Model;
+use visits::Visits;
+
+/// Indexes of globs, under the texts that decide the globs.
+#[derive(Debug, Drop)]
+pub struct Keys {
+    paths: Table,
+    components: Table,
+    extensions: Table,
+    beginnings: Trie,
+    ends: Trie,
+}
+
+impl Model for Keys {
+    ghost use Rattle.group_matching.specs.inner.Keys.{KeyParts, HaveSides};
+
+    ghost Value = { KeyParts };
+
+    ghost view = { λ k. record {
+      paths = k.paths;
+      components = k.components;
+      extensions = k.extensions;
+      beginnings = k.beginnings.entries;
+      ends = k.ends.entries;
+    } };
+
+    ghost invariant = { λ k. HaveSides k.beginnings k.ends };
+}
+
+impl Clone for Keys {
+    ghost use Rattle.std.specs.Prelude.{◌≡◌};
+
+    ghost is_clone = { λ a b. b ≡ a };
+
+    /// Returns a copy. Returns an error if memory runs out.
+    fn clone(&self) -> Result<Keys, AllocError> {
+        Ok(Keys {
+            paths: self.paths.clone()?,
+            components: self.components.clone()?,
+            extensions: self.extensions.clone()?,
+            beginnings: self.beginnings.clone()?,
+            ends: self.ends.clone()?,
+        })
+    }
+}
+
+impl Keys {
+    /// Pushes the indexes that the path finds: those under it, under its last component and under the extension of that, and
+    /// those of the texts that it begins or ends with. A part of the path is only searched for if there are keys for it.
+    ///
+    /// Returns an error if memory runs out. Some of the indexes are then pushed.
+    pub fn push_found(
+        &self,
+        path: &Candidate<'_>,
+        into: &mut Vec<usize>,
+        visits: &mut Visits,
+    ) -> Result<(), AllocError>
+        ensures ok { OnOk result (into.new.items ≡ into.old.items ++ keys_found self.now path.now) }
+        ensures visits { visits.new ≤ visits.old + (3 + 2 * (length path.now + 1)) }
+    {
+        into.extend_from_slice(self.by_path(path, visits))?;
+        into.extend_from_slice(self.by_component(path, visits))?;
+        into.extend_from_slice(self.by_extension(path, visits))?;
+        self.beginnings.find(path.path(), into, visits)?;
+        self.ends.find(path.path(), into, visits)
+    }
+
+    /// Returns whether the path finds an index. It takes no memory.
+    pub fn is_match(&self, path: &Candidate<'_>, visits: &mut Visits) -> bool
+        ensures some { IsTrue result ↔ (keys_found self.now path.now ≢ []) }
+        ensures visits { visits.new ≤ visits.old + (3 + 2 * (length path.now + 1)) }
+    {
+        if !self.by_path(path, visits).is_empty() {
+            return true;
+        }
+        if !self.by_component(path, visits).is_empty() {
+            return true;
+        }
+        if !self.by_extension(path, visits).is_empty() {
+            return true;
+        }
+        if self.beginnings.is_match(path.path(), visits) {
+            return true;
+        }
+        self.ends.is_match(path.path(), visits)
+    }
+
+    /// Returns how many indexes the path finds, or `None` if these are more than a `usize` can count. It takes no memory.
+    pub fn count_found(&self, path: &Candidate<'_>, visits: &mut Visits) -> Option<usize>
+        ensures count { MatchOption result (2 ^ 64 ≤ length (keys_found self.now path.now)) (λ count. count ≡ length (keys_found self.now path.now)) }
+        ensures visits { visits.new ≤ visits.old + (3 + 2 * (length path.now + 1)) }
+    {
+        let in_tables = self.count_in_tables(path, visits);
+        let at_beginning = self.beginnings.count_matches(path.path(), visits);
+        let at_end = self.ends.count_matches(path.path(), visits);
+        in_tables?.checked_add(at_beginning)?.checked_add(at_end)
+    }
+
+    /// Returns how many indexes the path finds in tables.
+    fn count_in_tables(&self, path: &Candidate<'_>, visits: &mut Visits) -> Option<usize>
+        ensures count { MatchOption result (2 ^ 64 ≤ tables_count self.now path.now) (λ count. count ≡ tables_count self.now path.now) }
+        ensures visits { visits.new ≤ visits.old + 3 }
+    {
+        let by_path = self.by_path(path, visits).len();
+        let by_component = self.by_component(path, visits).len();
+        let by_extension = self.by_extension(path, visits).len();
+        by_path.checked_add(by_component)?.checked_add(by_extension)
+    }
+
+    /// Returns the indexes under the path.
+    fn by_path(&self, path: &Candidate<'_>, visits: &mut Visits) -> &[usize]
+        ensures found { result.now ≡ indexes_under self.now.paths path.now }
+        ensures visits { visits.new ≤ visits.old + 1 }
+    {
+        if self.paths.is_empty() {
+            return &[];
+        }
+        self.paths.get(path.path(), visits)
+    }
+
+    /// Returns the indexes under the path's last component.
+    fn by_component(&self, path: &Candidate<'_>, visits: &mut Visits) -> &[usize]
+        ensures found { result.now ≡ indexes_under self.now.components (last_component path.now) }
+        ensures visits { visits.new ≤ visits.old + 1 }
+    {
+        if self.components.is_empty() {
+            return &[];
+        }
+        self.components.get(last_component_of(path), visits)
+    }
+
+    /// Returns the indexes under the extension of the path's last component.
+    fn by_extension(&self, path: &Candidate<'_>, visits: &mut Visits) -> &[usize]
+        ensures found { result.now ≡ indexes_under self.now.extensions (component_extension path.now) }
+        ensures visits { visits.new ≤ visits.old + 1 }
+    {
+        if self.extensions.is_empty() {
+            return &[];
+        }
+        self.extensions.get(component_extension_of(path), visits)
+    }
+}
+
+/// Makes [`Keys`].
+#[derive(Drop)]
+pub struct KeysBuilder {
+    paths: Table,
+    components: Table,
+    extensions: Table,
+    beginnings: Vec<Text>,
+    ends: Vec<Text>,
+}
+
+impl Model for KeysBuilder {
+    ghost use Rattle.std.specs.Prelude.{map};
+    ghost use Rattle.byte_trie.specs.Texts.{entry_of};
+    ghost use Rattle.group_matching.specs.inner.Keys.{KeyParts};
+
+    ghost Value = { KeyParts };
+
+    ghost view = { λ k. record {
+      paths = k.paths;
+      components = k.components;
+      extensions = k.extensions;
+      beginnings = map entry_of k.beginnings.items;
+      ends = map entry_of k.ends.items;
+    } };
+}
+
+impl KeysBuilder {
+    /// Returns a builder that nothing was added to. It allocates nothing.
+    pub fn new(alloc: Global) -> KeysBuilder
+        ensures { result ≡ no_keys }
+    {
+        KeysBuilder {
+            paths: Table::new(alloc),
+            components: Table::new(alloc),
+            extensions: Table::new(alloc),
+            beginnings: Vec::new(alloc),
+            ends: Vec::new(alloc),
+        }
+    }
+
+    /// Adds the index of a glob that matches the path that is the key. Returns an error if memory runs out.
+    pub fn add_path(&mut self, key: Vec<u8>, index: usize) -> Result<(), AllocError>
+        ensures { OnOk result (self.new ≡ with_path self.old key.items index) }
+    {
+        self.paths.insert(key, index)
+    }
+
+    /// Adds the index of a glob that matches the paths with this last component. Returns an error if memory runs out.
+    pub fn add_component(&mut self, key: Vec<u8>, index: usize) -> Result<(), AllocError>
+        ensures { OnOk result (self.new ≡ with_component self.old key.items index) }
+    {
+        self.components.insert(key, index)
+    }
+
+    /// Adds the index of a glob that matches the paths whose last component has this extension. Returns an error if memory runs
+    /// out.
+    pub fn add_extension(&mut self, key: Vec<u8>, index: usize) -> Result<(), AllocError>
+        ensures { OnOk result (self.new ≡ with_extension self.old key.items index) }
+    {
+        self.extensions.insert(key, index)
+    }
+
+    /// Adds the index of a glob that matches the paths that begin with the key. Returns an error if memory runs out.
+    pub fn add_beginning(&mut self, key: Vec<u8>, index: usize) -> Result<(), AllocError>
+        ensures { OnOk result (self.new ≡ with_beginning self.old key.items index) }
+    {
+        self.beginnings.push(Text { bytes: key, index })?;
+        Ok(())
+    }
+
+    /// Adds the index of a glob that matches the paths that end with the key. Returns an error if memory runs out.
+    pub fn add_end(&mut self, key: Vec<u8>, index: usize) -> Result<(), AllocError>
+        ensures { OnOk result (self.new ≡ with_end self.old key.items index) }
+    {
+        self.ends.push(Text { bytes: key, index })?;
+        Ok(())
+    }
+
+    /// Adds the index of a glob that matches the path that is the key, and the paths that end with `/` and the key. Returns an
+    /// error if memory runs out.
+    pub fn add_components(&mut self, key: Vec<u8>, index: usize) -> Result<(), AllocError>
+        ensures { OnOk result (self.new ≡ with_end (with_path self.old key.items index) (slash ∷ key.items) index) }
+    {
+        let mut end = Vec::new(*key.allocator());
+        end.push(b'/')?;
+        end.extend_from_slice(&key)?;
+        self.add_path(key, index)?;
+        self.add_end(end, index)
+    }
+
+    /// Returns what was added. Returns an error if memory runs out.
+    pub fn finish(self, alloc: Global) -> Result<Keys, AllocError>
+        ensures { IfOk result (λ keys. keys ≡ self) }
+    {
+        Ok(Keys {
+            paths: self.paths,
+            components: self.components,
+            extensions: self.extensions,
+            beginnings: Trie::new(alloc, Side::Beginning, self.beginnings)?,
+            ends: Trie::new(alloc, Side::End, self.ends)?,
+        })
+    }
+}
