@@ -1,9 +1,16 @@
 -- How many visits a set may make.
-use Rattle.std.specs.Prelude.{ℕ, ◌+◌, ◌*◌, List, length, sum_by}
-use Rattle.globset_glob.specs.Means.{GlobValue}
+use Rattle.std.specs.Prelude.{ℕ, ◌+◌, ◌*◌, List, cond, length, sum_by}
+use Rattle.glob_groups.specs.Direct.{needs_automaton}
+use Rattle.globset_glob.specs.Means.{GlobValue, tokens_of_glob}
 use Rattle.globset_glob.specs.Cost.{cost}
 
--- The most visits for a path. A path of n bytes has n + 1 positions. At each of them every glob makes at most `cost`
--- visits, which is 4 * m + 4 for a glob of m bytes.
+-- The sum of `cost` over the globs that need an automaton for the path: those that are not direct and require no extension
+-- that the path lacks.
+abbrev pub load : List GlobValue → List ℕ → ℕ
+load globs path = sum_by (λ g. cond (needs_automaton g.options (tokens_of_glob g) path) (cost g) 0) globs
+
+-- The most visits for a path of n bytes: one lookup in each of four tables, n + 1 nodes in each of two tries, and at each of
+-- n + 1 positions the states of the globs that need an automaton, which are at most `cost` for each. Other globs cost
+-- nothing more, however many they are.
 abbrev pub most_set_visits : List GlobValue → List ℕ → ℕ
-most_set_visits globs path = (length path + 1) * sum_by cost globs
+most_set_visits globs path = 4 + 2 * (length path + 1) + (length path + 1) * load globs path

@@ -1,1 +1,4 @@
+pub mod Groups
 pub mod Indexes
+pub mod Matching
+pub mod More

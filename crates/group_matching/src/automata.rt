@@ -9,7 +9,7 @@ ghost use Rattle.glob_path.specs.PathParts.{component_extension, last_component}
 ghost use Rattle.glob_syntax.specs.FlatTokens.{IsNested};
 ghost use Rattle.glob_syntax.specs.Views.{flats, tokens_of};
 ghost use Rattle.glob_syntax.specs.inner.Weight.{weight};
-ghost use Rattle.group_matching.specs.inner.Automata.{AddsTokens, AreFor, AreForLists, AreFound, IsFoundSet, TokenLists, machine_under, states_for, tokens_under};
+ghost use Rattle.group_matching.specs.inner.Automata.{AddsTokens, AreFor, AreForLists, AreFound, AreIdle, IsFoundSet, TokenLists, machine_under, states_for, tokens_under};
 
 mod run;
 mod slots;
@@ -80,7 +80,7 @@ impl Automata {
         path: &Candidate<'_>,
         visits: &mut Visits,
     ) -> Result<Option<IndexSet>, AllocError>
-        ensures found { IfOk result (λ set. MatchOption set (states_for self.now path.now ≡ 0) (λ found. IsFoundSet self.now path.now found)) }
+        ensures found { IfOk result (λ set. MatchOption set (AreIdle self.now path.now) (λ found. IsFoundSet self.now path.now found)) }
         ensures memory { states_for self.now path.now ≡ 0 → IsOk result }
         ensures visits { visits.new ≤ visits.old + (1 + (length path.now + 1) * states_for self.now path.now) }
     {

@@ -1,11 +1,12 @@
 -- The indexes that a set returns for a path.
-use Rattle.std.proofs.Common.{◌≡◌, ℕ, zero, suc, ◌+◌, ◌<◌, ◌≤◌, List, [], ◌∷◌, ◌++◌, Bool, length, take, get_or, refl, ap, sym, ◌∙◌, arith}
+use Rattle.std.proofs.Common.{◌≡◌, ℕ, zero, suc, ◌+◌, ◌<◌, ◌≤◌, List, [], ◌∷◌, ◌++◌, Bool, true, cond, length, take, get_or, refl, ap, sym, ◌∙◌, arith}
 use Rattle.std.specs.Prelude.{◌*◌, ◌≢◌, ◌↔◌, map, IsTrue, filter, false, sum_by}
 use Rattle.std.specs.List.{range_with_len}
 use Rattle.std.proofs.lemmas.List.{take_more, length-map}
 use Rattle.std.proofs.lemmas.List.Sums.{sum_by-append}
 use Rattle.std.proofs.Math.Nat.{mul-le-mul_left}
 use Rattle.glob_syntax.specs.inner.Weight.{weight}
+use Rattle.glob_groups.specs.Direct.{needs_automaton}
 use Rattle.globset_glob.specs.Means.{GlobValue, tokens_of_glob, glob_means}
 use Rattle.globset_glob.specs.Cost.{cost}
 use Rattle.group_matching.specs.Globs.{TokenGlob, states, listed, most_visits}
@@ -13,7 +14,7 @@ use Rattle.group_matching.specs.Globs as tokens
 use Rattle.group_matching.specs.Indexes.{passes_at}
 use Rattle.globset.specs.Silent.{silent, is_listed}
 use Rattle.globset.specs.Answer.{answer}
-use Rattle.globset.specs.Work.{most_set_visits}
+use Rattle.globset.specs.Work.{load, most_set_visits}
 use Rattle.globset.specs.inner.StoredGlobs.{by_tokens}
 
 -- ---- globs by their tokens
@@ -53,13 +54,18 @@ pub map_push : (globs : List GlobValue) (g : GlobValue) → map by_tokens (globs
 map_push [] g = refl
 map_push (x ∷ xs) g = ap (λ (l : List TokenGlob). by_tokens x ∷ l) (map_push xs g)
 
-pub size_push : (globs : List GlobValue) (g : GlobValue) → weight (tokens_of_glob g) ≤ 4 * length g.text → sum_by states (map by_tokens globs) ≤ sum_by cost globs
-    → sum_by states (map by_tokens (globs ++ g ∷ [])) ≤ sum_by cost (globs ++ g ∷ [])
-size_push globs g few before =
-    let one = sum_by-append cost globs (g ∷ []) in
-    let two = ap (sum_by states) (map_push globs g) ∙ sum_by-append states (map by_tokens globs) (by_tokens g ∷ []) in
-    omega (arith, one, two, few, before)
+of_states : (b : Bool) (n m : ℕ) → n ≤ m → cond b n 0 ≤ cond b m 0
+of_states true n m le = le
+of_states false n m le = omega arith
+
+pub size_push : (globs : List GlobValue) (g : GlobValue) (path : List ℕ) → weight (tokens_of_glob g) ≤ 4 * length g.text → tokens.load (map by_tokens globs) path ≤ load globs path
+    → tokens.load (map by_tokens (globs ++ g ∷ [])) path ≤ load (globs ++ g ∷ []) path
+size_push globs g path few before =
+    let one = sum_by-append (λ x. cond (needs_automaton x.options (tokens_of_glob x) path) (cost x) 0) globs (g ∷ []) in
+    let two = ap (λ xs. tokens.load xs path) (map_push globs g) ∙ sum_by-append (λ x. states x path) (map by_tokens globs) (by_tokens g ∷ []) in
+    let more = of_states (needs_automaton g.options (tokens_of_glob g) path) (weight (tokens_of_glob g) + 1) (cost g) (omega (arith, few)) in
+    omega (arith, one, two, more, before)
 
 -- the visits of groups, within those of the set
-pub visits_within : (globs : List GlobValue) (path : List ℕ) → sum_by states (map by_tokens globs) ≤ sum_by cost globs → most_visits (map by_tokens globs) path ≤ most_set_visits globs path
-visits_within globs path size = mul-le-mul_left (length path + 1) size
+pub visits_within : (globs : List GlobValue) (path : List ℕ) → tokens.load (map by_tokens globs) path ≤ load globs path → most_visits (map by_tokens globs) path ≤ most_set_visits globs path
+visits_within globs path size = let most = mul-le-mul_left (length path + 1) size in omega (arith, most)

@@ -1,8 +1,9 @@
 -- The globs of a set, by what the set stores. No contract cites this: contracts see a set as its list of globs.
-use Rattle.std.specs.Prelude.{◌≡◌, ◌≤◌, List, [], Option, None, Some, length, map, sum_by}
+use Rattle.std.specs.Prelude.{◌≡◌, ◌≤◌, ℕ, List, [], Option, None, Some, length, map}
 use Rattle.globset_glob.specs.Means.{GlobValue, tokens_of_glob}
-use Rattle.globset_glob.specs.Cost.{cost}
-use Rattle.group_matching.specs.Globs.{TokenGlob, token_glob, states}
+use Rattle.group_matching.specs.Globs as tokens
+use Rattle.group_matching.specs.Globs.{TokenGlob, token_glob}
+use Rattle.globset.specs.Work.{load}
 use Rattle.group_matching.specs.inner.Groups.{GroupParts, AreGroupsOf, group_count}
 
 -- None where nothing is stored, as in `GlobSet::empty`, and otherwise the globs that are stored
@@ -14,8 +15,8 @@ stored_globs (Some globs) = globs
 abbrev pub by_tokens : GlobValue → TokenGlob
 by_tokens g = token_glob g.options (tokens_of_glob g)
 
--- The groups are those of the globs, which have no more states than their costs allow.
+-- The groups are those of the globs, of which no more states are run than their costs allow.
 pub record AreStored (globs : List GlobValue) (g : GroupParts) : Type 0 where
   pub groups : AreGroupsOf (map by_tokens globs) g
   pub count : group_count g ≡ length globs
-  pub size : sum_by states (map by_tokens globs) ≤ sum_by cost globs
+  pub size : (path : List ℕ) → tokens.load (map by_tokens globs) path ≤ load globs path

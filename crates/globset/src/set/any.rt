@@ -4,7 +4,7 @@ ghost use Rattle.std.specs.Prelude.{◌≡◌, ◌≢◌, ◌+◌, ◌≤◌, �
 ghost use Rattle.globset_glob.specs.Errors.{out_of_memory};
 ghost use Rattle.globset.specs.Answer.{answer};
 ghost use Rattle.globset.specs.SetValue.{set_globs};
-ghost use Rattle.globset.specs.Work.{most_set_visits};
+ghost use Rattle.globset.specs.Work.{load, most_set_visits};
 
 use crate::set::GlobSet;
 use globset_glob::{AsPath, Candidate, Error, Visits};
@@ -16,22 +16,26 @@ impl GlobSet {
     /// To match several sets against one path, or against bytes that are not UTF-8, create a [`Candidate`] and call
     /// [`GlobSet::is_match_candidate`].
     ///
-    /// Returns an error if memory runs out, and no other. A set of no globs needs no memory.
+    /// Returns an error if memory runs out, and no other. It needs no memory if no glob needs an automaton for
+    /// the path: if each of them is direct, or requires an extension that the path lacks.
     pub fn is_match<P: AsPath>(&self, path: P) -> Result<bool, Error>
         ensures ok { IfOk result (λ yes. IsTrue yes ↔ (answer (set_globs self.now) (P.text path) ≢ [])) }
         ensures err { IfErr result (λ e. e ≡ out_of_memory) }
         ensures empty { set_globs self.now ≡ [] → IsOk result }
+        ensures memory { load (set_globs self.now) (P.text path) ≡ 0 → IsOk result }
     {
         self.is_match_candidate(&Candidate::new(path.path_text()))
     }
 
     /// Returns whether some glob that is not silent matches the candidate's path, as [`GlobSet::is_match`] does.
     ///
-    /// Returns an error if memory runs out, and no other. A set of no globs needs no memory.
+    /// Returns an error if memory runs out, and no other. It needs no memory if no glob needs an automaton for
+    /// the path: if each of them is direct, or requires an extension that the path lacks.
     pub fn is_match_candidate(&self, path: &Candidate<'_>) -> Result<bool, Error>
         ensures ok { IfOk result (λ yes. IsTrue yes ↔ (answer (set_globs self.now) path.now ≢ [])) }
         ensures err { IfErr result (λ e. e ≡ out_of_memory) }
         ensures empty { set_globs self.now ≡ [] → IsOk result }
+        ensures memory { load (set_globs self.now) path.now ≡ 0 → IsOk result }
     {
         let mut visits = Visits::new();
         self.is_match_visits(path, &mut visits)
@@ -39,15 +43,17 @@ impl GlobSet {
 
     /// The same as [`GlobSet::is_match_candidate`], which calls it, with a count of the visits.
     ///
-    /// It adds at most `path bytes + 1` times the sum of `4 * glob bytes + 4` over the globs, also if memory runs out.
-    /// It looks up the path and its parts in tables, and runs at most three automata, each once. It takes a bit of memory for
-    /// each glob, and two for each state of an automaton that it runs.
+    /// It adds at most `4 + 2 * (path bytes + 1)`, and `path bytes + 1` times `4 * glob bytes + 4` for each glob that needs an
+    /// automaton for the path, also if memory runs out. It looks up the path and its parts in four tables and two tries, and
+    /// runs at most three automata, each once. These take two bits of memory for each state that is run.
     ///
-    /// Returns an error if memory runs out, and no other. A set of no globs needs no memory.
+    /// Returns an error if memory runs out, and no other. It needs no memory if no glob needs an automaton for
+    /// the path: if each of them is direct, or requires an extension that the path lacks.
     pub fn is_match_visits(&self, path: &Candidate<'_>, visits: &mut Visits) -> Result<bool, Error>
         ensures ok { IfOk result (λ yes. IsTrue yes ↔ (answer (set_globs self.now) path.now ≢ [])) }
         ensures err { IfErr result (λ e. e ≡ out_of_memory) }
         ensures empty { set_globs self.now ≡ [] → IsOk result }
+        ensures memory { load (set_globs self.now) path.now ≡ 0 → IsOk result }
         ensures visits { visits.new ≤ visits.old + most_set_visits (set_globs self.now) path.now }
     {
         if self.is_empty() {

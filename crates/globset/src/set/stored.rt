@@ -1,9 +1,9 @@
 //! What a set stores.
 
-ghost use Rattle.std.specs.Prelude.{◌≡◌, ◌≢◌, ◌↔◌, [], ℕ, ◌+◌, ◌≤◌, IfOk, IfErr, OnOk, OnErr, IsTrue, length};
+ghost use Rattle.std.specs.Prelude.{◌≡◌, ◌≢◌, ◌↔◌, [], ℕ, ◌+◌, ◌≤◌, IfOk, IfErr, IsOk, OnOk, OnErr, IsTrue, length};
 ghost use Rattle.globset_glob.specs.Errors.{out_of_memory};
 ghost use Rattle.globset.specs.Answer.{answer};
-ghost use Rattle.globset.specs.Work.{most_set_visits};
+ghost use Rattle.globset.specs.Work.{load, most_set_visits};
 ghost use Rattle.group_matching.specs.Indexes.{ContainsAllBelow};
 
 use globset_glob::{Candidate, Error, Glob, Visits, options_of, tokens_of};
@@ -78,6 +78,7 @@ impl Stored {
     pub fn is_match(&self, path: &Candidate<'_>, visits: &mut Visits) -> Result<bool, Error>
         ensures ok { IfOk result (λ yes. IsTrue yes ↔ (answer self.now path.now ≢ [])) }
         ensures err { IfErr result (λ e. e ≡ out_of_memory) }
+        ensures memory { load self.now path.now ≡ 0 → IsOk result }
         ensures visits { visits.new ≤ visits.old + most_set_visits self.now path.now }
     {
         let alloc = *self.globs.allocator();
@@ -90,6 +91,7 @@ impl Stored {
     pub fn matches_all(&self, path: &Candidate<'_>, visits: &mut Visits) -> Result<bool, Error>
         ensures ok { IfOk result (λ yes. IsTrue yes ↔ ContainsAllBelow (answer self.now path.now) (length self.now)) }
         ensures err { IfErr result (λ e. e ≡ out_of_memory) }
+        ensures memory { load self.now path.now ≡ 0 → IsOk result }
         ensures visits { visits.new ≤ visits.old + most_set_visits self.now path.now }
     {
         let alloc = *self.globs.allocator();

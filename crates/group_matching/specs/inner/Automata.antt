@@ -96,7 +96,13 @@ AreFound slots t path k = SomeMatches t.by_path path k ⊎ (SomeMatches t.by_com
 abbrev pub states_for : AutomataParts → List ℕ → ℕ
 states_for a path = size a.by_path + (size a.by_component + size (machine_under a.extensions (component_extension path)))
 
--- The set has the indexes that are found for a path, and room for every index.
+-- No state is run for a path, and nothing is found.
+pub record AreIdle (a : AutomataParts) (path : List ℕ) : Type 0 where
+  pub size : states_for a path ≡ 0
+  pub none : (t : TokenLists) → AreForLists a t → (k : ℕ) → AreFound a.extensions.slots t path k → ⊥
+
+-- Some state is run for a path. The set has the indexes that are found, and room for every index.
 pub record IsFoundSet (a : AutomataParts) (path : List ℕ) (found : IndexSet) : Type 0 where
+  pub size : 1 ≤ states_for a path
   pub room : a.extensions.index_count ≤ index_room found
   pub same : (t : TokenLists) → AreForLists a t → (k : ℕ) → IsTrue (has_index found k) ↔ AreFound a.extensions.slots t path k

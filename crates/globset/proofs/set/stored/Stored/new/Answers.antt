@@ -1,11 +1,12 @@
 use Rattle.std.proofs.Common.{◌≡◌, ◌≤◌, ◌+◌, ◌<◌, ◌∷◌, [], ◌++◌, take, length, map, arith, ap, sym, subst, ◌∙◌}
-use Rattle.std.specs.Prelude.{◌*◌, sum_by}
+use Rattle.std.specs.Prelude.{◌*◌}
 use Rattle.std.proofs.lemmas.List.{length-map, length-take-le, take_all}
 use Rattle.glob_syntax.specs.inner.Weight.{weight}
 use Rattle.glob_syntax.specs.Views.{tokens_of}
 use Rattle.globset_glob.specs.Means.{tokens_of_glob}
-use Rattle.globset_glob.specs.Cost.{cost}
-use Rattle.group_matching.specs.Globs.{TokenGlob, states, token_glob}
+use Rattle.group_matching.specs.Globs as tokens
+use Rattle.group_matching.specs.Globs.{TokenGlob, token_glob}
+use Rattle.globset.specs.Work.{load}
 use Rattle.group_matching.specs.inner.Groups.{AreGroupsOf}
 use Rattle.globset.specs.inner.StoredGlobs.{by_tokens}
 use Rattle.globset.proofs.lemmas.Answer.{first_more, map_push, size_push}
@@ -24,7 +25,7 @@ loop-index-preserved c =
     let added = c.in_ok-add.ensures.groups (map by_tokens (take i globs)) at c.loop-index.invariant.groups in record {
       count = c.in_ok-add.ensures.count ∙ c.loop-index.invariant.count;
       groups = rw more (rw (map_push (take i globs) g) (subst (λ (x : TokenGlob). AreGroupsOf (map by_tokens (take i globs) ++ x ∷ []) c.add.new.self) same added));
-      size = rw more (size_push (take i globs) g few c.loop-index.invariant.size);
+      size = λ path. rw more (size_push (take i globs) g path few (c.loop-index.invariant.size path));
     }
 
 pub invariant_of-result : goal.invariant_of-result
@@ -37,5 +38,5 @@ invariant_of-result c =
     rw c.in_ok-finish.ensures (record {
       groups = subst (λ gs. AreGroupsOf (map by_tokens gs) c.loop-index.builder) all c.loop-index.invariant.groups;
       count = c.loop-index.invariant.count ∙ ap length same;
-      size = subst (λ gs. sum_by states (map by_tokens gs) ≤ sum_by cost gs) all c.loop-index.invariant.size;
+      size = λ path. subst (λ gs. tokens.load (map by_tokens gs) path ≤ load gs path) all (c.loop-index.invariant.size path);
     })

@@ -1,7 +1,7 @@
 use Rattle.std.proofs.Common.{◌≡◌, ◌≤◌, length, map, take}
-use Rattle.std.specs.Prelude.{sum_by}
-use Rattle.globset_glob.specs.Cost.{cost}
-use Rattle.group_matching.specs.Globs.{states}
+use Rattle.std.specs.Prelude.{ℕ, List}
+use Rattle.group_matching.specs.Globs as tokens
+use Rattle.globset.specs.Work.{load}
 use Rattle.group_matching.specs.inner.Groups.{AreGroupsOf, group_count}
 use Rattle.globset.specs.inner.StoredGlobs.{by_tokens}
 use Rattle.globset.proofs.set.stored.Stored.new.Given as goal
@@ -10,5 +10,5 @@ abbrev pub invariant-loop-index : goal.invariant-loop-index
 invariant-loop-index l = record {
   count : group_count l.builder ≡ length l.glob-items;
   groups : AreGroupsOf (map by_tokens (take l.index l.glob-items)) l.builder;
-  size : sum_by states (map by_tokens (take l.index l.glob-items)) ≤ sum_by cost (take l.index l.glob-items);
+  size : (path : List ℕ) → tokens.load (map by_tokens (take l.index l.glob-items)) path ≤ load (take l.index l.glob-items) path;
 }

@@ -1,0 +1,20 @@
+use Rattle.std.proofs.Common.{IsTrue, sym, subst}
+use Rattle.std.specs.Prelude.{◌≡◌, ◌≢◌, ◌↔◌, []}
+use Rattle.std.proofs.lemmas.Result.{IfOk-weaker}
+use Rattle.group_matching.specs.Globs.{listed}
+use Rattle.group_matching.specs.inner.Keys.{keys_found}
+use Rattle.group_matching.specs.inner.Groups.{GroupParts, AreGroupsOf}
+use Rattle.group_matching.proofs.lemmas.Groups.{group_parts}
+use Rattle.group_matching.proofs.lemmas.Matching.{some_found, some_key}
+use Rattle.group_matching.proofs.groups.Groups.is_match.Goals as goal
+
+pub returns-then-is_match-clause-some : goal.returns-then-is_match-clause-some
+returns-then-is_match-clause-some c = λ globs are.
+    some_key globs (group_parts c.self.inside.keys c.self.inside.automata) c.args.path.now (subst (λ (p : GroupParts). AreGroupsOf globs p) (sym c.self.view_is) are) (c.is_match.ensures.some.0 c.if-is_match.true)
+
+pub returns-clause-some : goal.returns-clause-some
+returns-clause-some c =
+    let off : (keys_found c.self.inside.keys c.args.path.now ≢ []) → ⊥ = (λ some. let on = c.is_match.ensures.some.1 some in let none = c.if-is_match.false in absurd (cc)) in
+    IfOk-weaker c.is_match-2.result _ _ (λ found same globs are.
+    let groups = subst (λ (p : GroupParts). AreGroupsOf globs p) (sym c.self.view_is) are in
+    some_found globs (group_parts c.self.inside.keys c.self.inside.automata) c.args.path.now found groups off (same groups.tokens groups.are_for)) c.is_match-2.ensures.some

@@ -1,0 +1,117 @@
+use Rattle.std.proofs.Common.{◌≡◌, ◌∷◌, ℕ, true, List, refl, sym, ap, subst, ◌∙◌}
+use Rattle.std.proofs.lemmas.Result.{on_ok_weaker}
+use Rattle.glob_automaton.specs.Takes.{slash}
+use Rattle.glob_syntax.specs.Views.{tokens_of}
+use Rattle.glob_groups.specs.declared.group.Group.{Group}
+use Rattle.glob_groups.specs.Direct.{needs_automaton}
+use Rattle.glob_groups.specs.GroupMeaning.{Tells, group_seen, runs_automaton}
+use Rattle.group_matching.specs.Globs.{token_glob}
+use Rattle.group_matching.specs.inner.Keys.{with_path, with_component, with_extension, with_beginning, with_end}
+use Rattle.group_matching.specs.inner.Groups.{GroupParts, AreGroupsOf}
+use Rattle.group_matching.proofs.lemmas.Groups.{group_parts, key_added, silent_added, both_on_ok, by_path_added, by_component_added, by_extension_added}
+use Rattle.group_matching.proofs.lemmas.More.{path_more, component_more, extension_more, beginning_more, end_more, components_more}
+use Rattle.group_matching.proofs.groups.GroupsBuilder.add.Goals as goal
+
+pub returns-in-Silent-clause-groups : goal.returns-in-Silent-clause-groups
+returns-in-Silent-clause-groups c = λ globs at before.
+    let tells = subst (λ (group : Group). (path : List ℕ) → Tells (group_seen group) c.args.options (tokens_of c.args.tokens.now) path) c.in-Silent.is c.in_ok-group_of.ensures.tells in
+    silent_added globs (token_glob c.args.options (tokens_of c.args.tokens.now)) c.args.index c.args.self.now at tells before
+
+pub returns-in-WholePath-clause-groups : goal.returns-in-WholePath-clause-groups
+returns-in-WholePath-clause-groups c =
+    let tells = subst (λ (group : Group). (path : List ℕ) → Tells (group_seen group) c.args.options (tokens_of c.args.tokens.now) path) c.in-WholePath.is c.in_ok-group_of.ensures.tells in
+    let keys = c.self.inside.keys in
+    let key = c.in-WholePath.key.items in
+    on_ok_weaker c.add_path.result
+    (λ is globs at before.
+    key_added globs (token_glob c.args.options (tokens_of c.args.tokens.now)) c.args.index keys c.add_path.new.self (with_path keys key c.args.index) c.self.inside.automata at is
+    (λ path. path_more keys key c.args.index path _ (tells path)) (subst (λ (p : GroupParts). AreGroupsOf globs p) (sym c.self.view_is) before))
+    c.add_path.ensures
+
+pub returns-in-LastComponent-clause-groups : goal.returns-in-LastComponent-clause-groups
+returns-in-LastComponent-clause-groups c =
+    let tells = subst (λ (group : Group). (path : List ℕ) → Tells (group_seen group) c.args.options (tokens_of c.args.tokens.now) path) c.in-LastComponent.is c.in_ok-group_of.ensures.tells in
+    let keys = c.self.inside.keys in
+    let key = c.in-LastComponent.key.items in
+    on_ok_weaker c.add_component.result
+    (λ is globs at before.
+    key_added globs (token_glob c.args.options (tokens_of c.args.tokens.now)) c.args.index keys c.add_component.new.self (with_component keys key c.args.index) c.self.inside.automata at is
+    (λ path. component_more keys key c.args.index path _ (tells path)) (subst (λ (p : GroupParts). AreGroupsOf globs p) (sym c.self.view_is) before))
+    c.add_component.ensures
+
+pub returns-in-Extension-clause-groups : goal.returns-in-Extension-clause-groups
+returns-in-Extension-clause-groups c =
+    let tells = subst (λ (group : Group). (path : List ℕ) → Tells (group_seen group) c.args.options (tokens_of c.args.tokens.now) path) c.in-Extension.is c.in_ok-group_of.ensures.tells in
+    let keys = c.self.inside.keys in
+    let key = c.in-Extension.key.items in
+    on_ok_weaker c.add_extension.result
+    (λ is globs at before.
+    key_added globs (token_glob c.args.options (tokens_of c.args.tokens.now)) c.args.index keys c.add_extension.new.self (with_extension keys key c.args.index) c.self.inside.automata at is
+    (λ path. extension_more keys key c.args.index path _ (tells path)) (subst (λ (p : GroupParts). AreGroupsOf globs p) (sym c.self.view_is) before))
+    c.add_extension.ensures
+
+pub returns-in-LastComponents-clause-groups : goal.returns-in-LastComponents-clause-groups
+returns-in-LastComponents-clause-groups c =
+    let tells = subst (λ (group : Group). (path : List ℕ) → Tells (group_seen group) c.args.options (tokens_of c.args.tokens.now) path) c.in-LastComponents.is c.in_ok-group_of.ensures.tells in
+    let keys = c.self.inside.keys in
+    let key = c.in-LastComponents.key.items in
+    on_ok_weaker c.add_components.result
+    (λ is globs at before.
+    key_added globs (token_glob c.args.options (tokens_of c.args.tokens.now)) c.args.index keys c.add_components.new.self (with_end (with_path keys key c.args.index) (slash ∷ key) c.args.index) c.self.inside.automata at is
+    (λ path. components_more keys key c.args.index path _ (tells path)) (subst (λ (p : GroupParts). AreGroupsOf globs p) (sym c.self.view_is) before))
+    c.add_components.ensures
+
+pub returns-in-End-clause-groups : goal.returns-in-End-clause-groups
+returns-in-End-clause-groups c =
+    let tells = subst (λ (group : Group). (path : List ℕ) → Tells (group_seen group) c.args.options (tokens_of c.args.tokens.now) path) c.in-End.is c.in_ok-group_of.ensures.tells in
+    let keys = c.self.inside.keys in
+    let key = c.in-End.key.items in
+    on_ok_weaker c.add_end.result
+    (λ is globs at before.
+    key_added globs (token_glob c.args.options (tokens_of c.args.tokens.now)) c.args.index keys c.add_end.new.self (with_end keys key c.args.index) c.self.inside.automata at is
+    (λ path. end_more keys key c.args.index path _ (tells path)) (subst (λ (p : GroupParts). AreGroupsOf globs p) (sym c.self.view_is) before))
+    c.add_end.ensures
+
+pub returns-in-Beginning-clause-groups : goal.returns-in-Beginning-clause-groups
+returns-in-Beginning-clause-groups c =
+    let tells = subst (λ (group : Group). (path : List ℕ) → Tells (group_seen group) c.args.options (tokens_of c.args.tokens.now) path) c.in-Beginning.is c.in_ok-group_of.ensures.tells in
+    let keys = c.self.inside.keys in
+    let key = c.in-Beginning.key.items in
+    on_ok_weaker c.add_beginning.result
+    (λ is globs at before.
+    key_added globs (token_glob c.args.options (tokens_of c.args.tokens.now)) c.args.index keys c.add_beginning.new.self (with_beginning keys key c.args.index) c.self.inside.automata at is
+    (λ path. beginning_more keys key c.args.index path _ (tells path)) (subst (λ (p : GroupParts). AreGroupsOf globs p) (sym c.self.view_is) before))
+    c.add_beginning.ensures
+
+pub returns-in-RequiredExtension-clause-groups : goal.returns-in-RequiredExtension-clause-groups
+returns-in-RequiredExtension-clause-groups c =
+    let tells = subst (λ (group : Group). (path : List ℕ) → Tells (group_seen group) c.args.options (tokens_of c.args.tokens.now) path) c.in-RequiredExtension.is c.in_ok-group_of.ensures.tells in
+    let needs = subst (λ (group : Group). (path : List ℕ) → runs_automaton (group_seen group) path ≡ true → needs_automaton c.args.options (tokens_of c.args.tokens.now) path ≡ true) c.in-RequiredExtension.is c.in_ok-group_of.ensures.automaton in
+    let g = token_glob c.args.options (tokens_of c.args.tokens.now) in
+    let old = group_parts c.self.inside.keys c.self.inside.automata in
+    let new = group_parts c.self.inside.keys c.add_by_extension.new.self in
+    both_on_ok c.add_by_extension.result
+    (λ adds few globs at before. by_extension_added globs g c.args.index c.in-RequiredExtension.key.items old new at refl tells needs adds few c.add_by_extension.ensures.path c.add_by_extension.ensures.component (subst (λ (p : GroupParts). AreGroupsOf globs p) (sym c.self.view_is) before))
+    c.add_by_extension.ensures.tokens c.add_by_extension.ensures.size
+
+pub returns-in-ByLastComponent-clause-groups : goal.returns-in-ByLastComponent-clause-groups
+returns-in-ByLastComponent-clause-groups c =
+    let tells = subst (λ (group : Group). (path : List ℕ) → Tells (group_seen group) c.args.options (tokens_of c.args.tokens.now) path) c.in-ByLastComponent.is c.in_ok-group_of.ensures.tells in
+    let needs = subst (λ (group : Group). (path : List ℕ) → runs_automaton (group_seen group) path ≡ true → needs_automaton c.args.options (tokens_of c.args.tokens.now) path ≡ true) c.in-ByLastComponent.is c.in_ok-group_of.ensures.automaton in
+    let g = token_glob c.args.options (tokens_of c.args.tokens.now) in
+    let old = group_parts c.self.inside.keys c.self.inside.automata in
+    let new = group_parts c.self.inside.keys c.add_by_component.new.self in
+    both_on_ok c.add_by_component.result
+    (λ adds few globs at before. by_component_added globs g c.args.index (tokens_of c.tokens_after_prefix-rest.result.now) old new at refl c.tokens_after_prefix-rest.ensures.tokens tells (λ path. needs path refl) adds few c.add_by_component.ensures.path c.add_by_component.ensures.extensions (subst (λ (p : GroupParts). AreGroupsOf globs p) (sym c.self.view_is) before))
+    c.add_by_component.ensures.tokens c.add_by_component.ensures.size
+
+pub returns-in-ByPath-clause-groups : goal.returns-in-ByPath-clause-groups
+returns-in-ByPath-clause-groups c =
+    let tells = subst (λ (group : Group). (path : List ℕ) → Tells (group_seen group) c.args.options (tokens_of c.args.tokens.now) path) c.in-ByPath.is c.in_ok-group_of.ensures.tells in
+    let needs = subst (λ (group : Group). (path : List ℕ) → runs_automaton (group_seen group) path ≡ true → needs_automaton c.args.options (tokens_of c.args.tokens.now) path ≡ true) c.in-ByPath.is c.in_ok-group_of.ensures.automaton in
+    let g = token_glob c.args.options (tokens_of c.args.tokens.now) in
+    let old = group_parts c.self.inside.keys c.self.inside.automata in
+    let new = group_parts c.self.inside.keys c.add_by_path.new.self in
+    both_on_ok c.add_by_path.result
+    (λ adds few globs at before. by_path_added globs g c.args.index old new at refl tells (λ path. needs path refl) adds few c.add_by_path.ensures.component c.add_by_path.ensures.extensions (subst (λ (p : GroupParts). AreGroupsOf globs p) (sym c.self.view_is) before))
+    c.add_by_path.ensures.tokens c.add_by_path.ensures.size

@@ -1,0 +1,286 @@
+-- The groups of a list, glob by glob.
+use Rattle.std.proofs.Common.{◌≡◌, ◌≢◌, ℕ, zero, suc, ◌+◌, ◌<◌, ◌≤◌, ◌⊎◌, inl, inr, Bool, true, false, cond, List, [], ◌∷◌, ◌++◌, Option, Some, None, Result, Ok, Err, length, get_or, IsTrue, refl, ap, sym, subst, ◌∙◌, arith}
+use Rattle.std.specs.Prelude.{◌↔◌, Contains, OnOk, sum_by}
+use Rattle.std.specs.Option.{option_map_or}
+use Rattle.std.specs.Str.{bytes_eq}
+use Rattle.std.specs.Cmp.Lexicographic.{bytes_decides}
+use Rattle.std.proofs.Math.Logic.{⊎_elim}
+use Rattle.std.proofs.lemmas.Bool.{cases_Bool}
+use Rattle.std.proofs.lemmas.List.Sums.{sum_by-append}
+use Rattle.glob_syntax.specs.Token.{Tokens, end, and_then}
+use Rattle.glob_syntax.specs.inner.Weight.{weight}
+use Rattle.byte_automaton.specs.Steps.{Machine}
+use Rattle.byte_automaton.specs.Runs.{size}
+use Rattle.glob_automaton.specs.TokenMeans.{means, is_prefix}
+use Rattle.glob_automaton.specs.IndexedTokens.{IndexedTokens, SomeMatches, IsFor, indexed}
+use Rattle.glob_automaton.proofs.lemmas.IndexedTokens.{some_push}
+use Rattle.glob_path.specs.PathParts.{last_component, component_extension}
+use Rattle.glob_groups.specs.Direct.{needs_automaton}
+use Rattle.glob_groups.specs.Groups.{after_prefix}
+use Rattle.group_matching.specs.Globs.{TokenGlob, is_listed, is_listed_at, states, load}
+use Rattle.std.specs.List.{flat_map}
+use Rattle.byte_table.specs.Entries.{indexes_under}
+use Rattle.byte_trie.specs.Texts.{beginnings, endings}
+use Rattle.group_matching.specs.inner.Keys.{KeyParts, keys_found, no_keys}
+use Rattle.group_matching.specs.inner.Automata.{AutomataParts, SlotParts, TokenLists, AreForLists, AreFor, AreFound, AddsTokens, first, machine_under, states_for, tokens_under}
+use Rattle.group_matching.specs.inner.Groups.{GroupParts, AreGroupsOf, listed_count}
+use Rattle.group_matching.proofs.lemmas.More.{MoreIn, none_more}
+
+-- ---- one glob more
+
+-- the glob that was pushed has the last index
+listed_push : (globs : List TokenGlob) (g : TokenGlob) (path : List ℕ) (k : ℕ)
+    → IsTrue (is_listed_at (globs ++ g ∷ []) path k) ↔ (IsTrue (is_listed_at globs path k) ⊎ ((length globs ≡ k) × IsTrue (is_listed g path)))
+listed_push [] g path zero = (λ h. inr (refl, h), λ h. ⊎_elim {C = IsTrue (is_listed g path)} (λ none. absurd (cc)) (λ this. this.1) h)
+listed_push [] g path (suc k) = (λ none. absurd (cc), λ h. ⊎_elim {C = IsTrue false} (λ none. none) (λ this. let is = this.0 in absurd (omega (arith, is))) h)
+listed_push (x ∷ xs) g path zero = (λ h. inl h, λ h. ⊎_elim {C = IsTrue (is_listed x path)} (λ this. this) (λ last. let is = last.0 in absurd (omega (arith, is))) h)
+listed_push (x ∷ xs) g path (suc k) = (
+  λ h. ⊎_elim {C = IsTrue (is_listed_at xs path k) ⊎ ((suc (length xs) ≡ suc k) × IsTrue (is_listed g path))}
+      (λ earlier. inl earlier) (λ last. let is = last.0 in inr (omega (arith, is), last.1)) ((listed_push xs g path k).0 h),
+  λ h. (listed_push xs g path k).1 (⊎_elim {C = IsTrue (is_listed_at xs path k) ⊎ ((length xs ≡ k) × IsTrue (is_listed g path))}
+      (λ earlier. inl earlier) (λ last. let is = last.0 in inr (omega (arith, is), last.1)) h),
+)
+
+-- the glob of the index n is listed, and k is its index
+abbrev pub IsNew : ℕ → TokenGlob → List ℕ → ℕ → Type 0
+IsNew n g path k = (n ≡ k) × IsTrue (is_listed g path)
+
+new_listed : {F G : Type 0} (globs : List TokenGlob) (g : TokenGlob) (n : ℕ) (path : List ℕ) (k : ℕ) → n ≡ length globs
+    → F ↔ (G ⊎ IsNew n g path k) → G ↔ IsTrue (is_listed_at globs path k) → F ↔ IsTrue (is_listed_at (globs ++ g ∷ []) path k)
+new_listed {F} {G} globs g n path k at more before =
+    let push = listed_push globs g path k in (
+      λ f. push.1 (⊎_elim {C = IsTrue (is_listed_at globs path k) ⊎ IsNew (length globs) g path k} (λ old. inl (before.0 old)) (λ new. inr (sym at ∙ new.0, new.1)) (more.0 f)),
+      λ h. more.1 (⊎_elim {C = G ⊎ IsNew n g path k} (λ old. inl (before.1 old)) (λ new. inr (at ∙ new.0, new.1)) (push.0 h)),
+    )
+
+count_push : (globs : List TokenGlob) (g : TokenGlob) (path : List ℕ) → listed_count (globs ++ g ∷ []) path ≡ listed_count globs path + cond (is_listed g path) 1 0
+count_push globs g path = sum_by-append (λ x. cond (is_listed x path) 1 0) globs (g ∷ []) ∙ omega arith
+
+load_push : (globs : List TokenGlob) (g : TokenGlob) (path : List ℕ) → load (globs ++ g ∷ []) path ≡ load globs path + states g path
+load_push globs g path = sum_by-append (λ x. states x path) globs (g ∷ []) ∙ omega arith
+
+-- what follows from both, if a call succeeds
+pub both_on_ok : {T E P Q R : Type 0} (r : Result T E) → (P → Q → R) → OnOk r P → OnOk r Q → OnOk r R
+both_on_ok (Ok x) both p q = both p q
+both_on_ok (Err e) both p q = p
+
+-- ---- one alternative more
+
+left_more : {A B D X : Type 0} → D ↔ (A ⊎ X) → (D ⊎ B) ↔ ((A ⊎ B) ⊎ X)
+left_more {A} {B} {D} {X} more = (
+  λ h. ⊎_elim {C = (A ⊎ B) ⊎ X} (λ d. ⊎_elim {C = (A ⊎ B) ⊎ X} (λ a. inl (inl a)) (λ x. inr x) (more.0 d)) (λ b. inl (inr b)) h,
+  λ h. ⊎_elim {C = D ⊎ B} (λ ab. ⊎_elim {C = D ⊎ B} (λ a. inl (more.1 (inl a))) (λ b. inr b) ab) (λ x. inl (more.1 (inr x))) h,
+)
+
+right_more : {A B D X : Type 0} → D ↔ (B ⊎ X) → (A ⊎ D) ↔ ((A ⊎ B) ⊎ X)
+right_more {A} {B} {D} {X} more = (
+  λ h. ⊎_elim {C = (A ⊎ B) ⊎ X} (λ a. inl (inl a)) (λ d. ⊎_elim {C = (A ⊎ B) ⊎ X} (λ b. inl (inr b)) (λ x. inr x) (more.0 d)) h,
+  λ h. ⊎_elim {C = A ⊎ D} (λ ab. ⊎_elim {C = A ⊎ D} (λ a. inl a) (λ b. inr (more.1 (inl b))) ab) (λ x. inr (more.1 (inr x))) h,
+)
+
+-- ---- a key more
+
+pub keys_added : (globs : List TokenGlob) (g : TokenGlob) (n : ℕ) (old new : GroupParts) → n ≡ length globs → new.automata ≡ old.automata
+    → ((path : List ℕ) → MoreIn (keys_found old.keys path) (keys_found new.keys path) n (is_listed g path)) → AreGroupsOf globs old → AreGroupsOf (globs ++ g ∷ []) new
+keys_added globs g n old new at automata more before = record {
+  tokens = before.tokens;
+  are_for = subst (λ a. AreForLists a before.tokens) (sym automata) before.are_for;
+  same = λ path k. new_listed globs g n path k at
+      (subst (λ (a : AutomataParts). (Contains (keys_found new.keys path) k ⊎ AreFound a.extensions.slots before.tokens path k)
+      ↔ ((Contains (keys_found old.keys path) k ⊎ AreFound old.automata.extensions.slots before.tokens path k) ⊎ IsNew n g path k)) (sym automata) (left_more ((more path).has k)))
+      (before.same path k);
+  once = λ path. omega (arith, (more path).count, before.once path, count_push globs g path);
+  size = λ path. let same = ap (λ a. states_for a path) automata in omega (arith, same, before.size path, load_push globs g path);
+}
+
+abbrev pub group_parts : KeyParts → AutomataParts → GroupParts
+group_parts keys automata = record { keys = keys; automata = automata }
+
+pub key_added : (globs : List TokenGlob) (g : TokenGlob) (n : ℕ) (old new made : KeyParts) (a : AutomataParts) → n ≡ length globs → new ≡ made
+    → ((path : List ℕ) → MoreIn (keys_found old path) (keys_found made path) n (is_listed g path)) → AreGroupsOf globs (group_parts old a) → AreGroupsOf (globs ++ g ∷ []) (group_parts new a)
+key_added globs g n old new made a at is more before =
+    keys_added globs g n (group_parts old a) (group_parts new a) at refl
+    (λ path. subst (λ t. MoreIn (keys_found old path) (keys_found t path) n (is_listed g path)) (sym is) (more path)) before
+
+pub silent_added : (globs : List TokenGlob) (g : TokenGlob) (n : ℕ) (old : GroupParts) → n ≡ length globs → ((path : List ℕ) → is_listed g path ≡ false)
+    → AreGroupsOf globs old → AreGroupsOf (globs ++ g ∷ []) old
+silent_added globs g n old at tells before = keys_added globs g n old old at refl (λ path. subst (MoreIn (keys_found old.keys path) (keys_found old.keys path) n) (sym (tells path)) (none_more (keys_found old.keys path) n)) before
+
+-- ---- tokens more
+
+pub tokens_added : (globs : List TokenGlob) (g : TokenGlob) (n : ℕ) (old new : GroupParts) (before : AreGroupsOf globs old) (tokens : TokenLists) → n ≡ length globs → new.keys ≡ old.keys → AreForLists new.automata tokens
+    → ((path : List ℕ) (k : ℕ) → AreFound new.automata.extensions.slots tokens path k ↔ (AreFound old.automata.extensions.slots before.tokens path k ⊎ IsNew n g path k))
+    → ((path : List ℕ) → states_for new.automata path ≤ states_for old.automata path + states g path) → AreGroupsOf (globs ++ g ∷ []) new
+tokens_added globs g n old new before tokens at keys are more size = record {
+  tokens = tokens;
+  are_for = are;
+  same = λ path k. new_listed globs g n path k at
+      (subst (λ (t : KeyParts). (Contains (keys_found t path) k ⊎ AreFound new.automata.extensions.slots tokens path k)
+      ↔ ((Contains (keys_found old.keys path) k ⊎ AreFound old.automata.extensions.slots before.tokens path k) ⊎ IsNew n g path k)) (sym keys) (right_more (more path k)))
+      (before.same path k);
+  once = λ path. let same = ap (λ t. length (keys_found t path)) keys in omega (arith, same, before.once path, count_push globs g path);
+  size = λ path. omega (arith, size path, before.size path, load_push globs g path);
+}
+
+true_as : (a b : Bool) → a ≡ b → IsTrue b ↔ IsTrue a
+true_as a b same = (λ h. same ∙ h, λ h. sym same ∙ h)
+
+-- tokens more, which match the part of the path just if the glob is listed
+some_added : (x : IndexedTokens) (xs : List IndexedTokens) (g : TokenGlob) (n : ℕ) (text path : List ℕ) (k : ℕ) → x.index ≡ n → is_listed g path ≡ means x.options x.tokens text
+    → SomeMatches (xs ++ x ∷ []) text k ↔ (SomeMatches xs text k ⊎ IsNew n g path k)
+some_added x xs g n text path k at tells =
+    let push = some_push x xs text k in (
+      λ h. ⊎_elim {C = SomeMatches xs text k ⊎ IsNew n g path k} (λ old. inl old) (λ new. inr (sym at ∙ new.0, tells ∙ new.1)) (push.0 h),
+      λ h. push.1 (⊎_elim {C = SomeMatches xs text k ⊎ ((x.index ≡ k) × IsTrue (means x.options x.tokens text))} (λ old. inl old) (λ new. inr (at ∙ new.0, sym tells ∙ new.1)) h),
+    )
+
+needed : (g : TokenGlob) (path : List ℕ) → needs_automaton g.options g.tokens path ≡ true → states g path ≡ weight g.tokens + 1
+needed g path on = ap (λ b. cond b (weight g.tokens + 1) 0) on
+
+pub weight_after : (ts : Tokens) → weight (after_prefix ts) ≤ weight ts
+weight_after end = omega arith
+weight_after (and_then t ts) = choice (is_prefix t)
+  where
+    choice : (b : Bool) → weight (cond b ts (and_then t ts)) ≤ weight (and_then t ts)
+    choice true = omega arith
+    choice false = omega arith
+
+pub by_path_added : (globs : List TokenGlob) (g : TokenGlob) (n : ℕ) (old new : GroupParts) → n ≡ length globs → new.keys ≡ old.keys
+    → ((path : List ℕ) → is_listed g path ≡ means g.options g.tokens path) → ((path : List ℕ) → needs_automaton g.options g.tokens path ≡ true)
+    → ((xs : List IndexedTokens) → IsFor old.automata.by_path xs → IsFor new.automata.by_path (xs ++ indexed g.options g.tokens n ∷ [])) → size new.automata.by_path ≤ size old.automata.by_path + (weight g.tokens + 1)
+    → new.automata.by_component ≡ old.automata.by_component → new.automata.extensions ≡ old.automata.extensions → AreGroupsOf globs old → AreGroupsOf (globs ++ g ∷ []) new
+by_path_added globs g n old new at keys tells needs adds few component extensions before =
+    tokens_added globs g n old new before tokens at keys
+    (record {
+      path = adds before.tokens.by_path before.are_for.path;
+      component = subst (λ m. IsFor m before.tokens.by_component) (sym component) before.are_for.component;
+      slots = subst (λ (e : SlotParts). AreFor e.machines before.tokens.by_slot) (sym extensions) before.are_for.slots;
+    })
+    (λ path k. subst (λ (e : SlotParts). AreFound e.slots tokens path k ↔ (AreFound old.automata.extensions.slots before.tokens path k ⊎ IsNew n g path k)) (sym extensions)
+    (left_more (some_added (indexed g.options g.tokens n) before.tokens.by_path g n path path k refl (tells path))))
+    (λ path. let one = ap size component in let two = ap (λ (e : SlotParts). size (machine_under e (component_extension path))) extensions in let most = needed g path (needs path) in omega (arith, few, one, two, most))
+  where
+    tokens : TokenLists
+    tokens = record {
+      by_path = before.tokens.by_path ++ indexed g.options g.tokens n ∷ [];
+      by_component = before.tokens.by_component;
+      by_slot = before.tokens.by_slot;
+    }
+
+pub by_component_added : (globs : List TokenGlob) (g : TokenGlob) (n : ℕ) (ts : Tokens) (old new : GroupParts) → n ≡ length globs → new.keys ≡ old.keys → ts ≡ after_prefix g.tokens
+    → ((path : List ℕ) → is_listed g path ≡ means g.options (after_prefix g.tokens) (last_component path)) → ((path : List ℕ) → needs_automaton g.options g.tokens path ≡ true)
+    → ((xs : List IndexedTokens) → IsFor old.automata.by_component xs → IsFor new.automata.by_component (xs ++ indexed g.options ts n ∷ [])) → size new.automata.by_component ≤ size old.automata.by_component + (weight ts + 1)
+    → new.automata.by_path ≡ old.automata.by_path → new.automata.extensions ≡ old.automata.extensions → AreGroupsOf globs old → AreGroupsOf (globs ++ g ∷ []) new
+by_component_added globs g n ts old new at keys rest tells needs adds few by_path extensions before =
+    tokens_added globs g n old new before tokens at keys
+    (record {
+      path = subst (λ m. IsFor m before.tokens.by_path) (sym by_path) before.are_for.path;
+      component = adds before.tokens.by_component before.are_for.component;
+      slots = subst (λ (e : SlotParts). AreFor e.machines before.tokens.by_slot) (sym extensions) before.are_for.slots;
+    })
+    (λ path k. subst (λ (e : SlotParts). AreFound e.slots tokens path k ↔ (AreFound old.automata.extensions.slots before.tokens path k ⊎ IsNew n g path k)) (sym extensions)
+    (right_more (left_more (some_added (indexed g.options ts n) before.tokens.by_component g n (last_component path) path k refl (tells path ∙ ap (λ us. means g.options us (last_component path)) (sym rest))))))
+    (λ path. let one = ap size by_path in let two = ap (λ (e : SlotParts). size (machine_under e (component_extension path))) extensions in let most = needed g path (needs path) in
+    let fewer = weight_after g.tokens in let same = ap weight rest in omega (arith, few, one, two, most, fewer, same))
+  where
+    tokens : TokenLists
+    tokens = record {
+      by_path = before.tokens.by_path;
+      by_component = before.tokens.by_component ++ indexed g.options ts n ∷ [];
+      by_slot = before.tokens.by_slot;
+    }
+
+pub by_extension_added : (globs : List TokenGlob) (g : TokenGlob) (n : ℕ) (key : List ℕ) (old new : GroupParts) → n ≡ length globs → new.keys ≡ old.keys
+    → ((path : List ℕ) → (is_listed g path ≡ means g.options g.tokens path) × (IsTrue (is_listed g path) → component_extension path ≡ key))
+    → ((path : List ℕ) → bytes_eq key (component_extension path) ≡ true → needs_automaton g.options g.tokens path ≡ true)
+    → ((before : ℕ → List IndexedTokens) → AreFor old.automata.extensions.machines before → AddsTokens old.automata.extensions.slots before new.automata.extensions key (indexed g.options g.tokens n))
+    → ((extension : List ℕ) → size (machine_under new.automata.extensions extension) ≤ size (machine_under old.automata.extensions extension) + cond (bytes_eq key extension) (weight g.tokens + 1) 0)
+    → new.automata.by_path ≡ old.automata.by_path → new.automata.by_component ≡ old.automata.by_component → AreGroupsOf globs old → AreGroupsOf (globs ++ g ∷ []) new
+by_extension_added globs g n key old new at keys tells needs adds few by_path component before =
+    tokens_added globs g n old new before tokens at keys
+    (record {
+      path = subst (λ m. IsFor m before.tokens.by_path) (sym by_path) before.are_for.path;
+      component = subst (λ m. IsFor m before.tokens.by_component) (sym component) before.are_for.component;
+      slots = now.are_for;
+    })
+    (λ path k. right_more (right_more (by_key path k (cases_Bool (bytes_eq key (component_extension path))))))
+    (λ path. by_size path (cases_Bool (bytes_eq key (component_extension path))))
+  where
+    now : AddsTokens old.automata.extensions.slots before.tokens.by_slot new.automata.extensions key (indexed g.options g.tokens n)
+    now = adds before.tokens.by_slot before.are_for.slots
+
+    tokens : TokenLists
+    tokens = record {
+      by_path = before.tokens.by_path;
+      by_component = before.tokens.by_component;
+      by_slot = now.tokens;
+    }
+
+    by_key : (path : List ℕ) (k : ℕ) → (bytes_eq key (component_extension path) ≡ true) ⊎ (bytes_eq key (component_extension path) ≡ false)
+        → SomeMatches (tokens_under now.tokens new.automata.extensions.slots (component_extension path)) path k
+        ↔ (SomeMatches (tokens_under before.tokens.by_slot old.automata.extensions.slots (component_extension path)) path k ⊎ IsNew n g path k)
+    by_key path k h =
+        let e = component_extension path in
+        let was = tokens_under before.tokens.by_slot old.automata.extensions.slots e in
+        ⊎_elim {C = SomeMatches (tokens_under now.tokens new.automata.extensions.slots e) path k ↔ (SomeMatches was path k ⊎ IsNew n g path k)}
+        (λ y. subst (λ xs. SomeMatches xs path k ↔ (SomeMatches was path k ⊎ IsNew n g path k)) (sym (now.added e (sym ((bytes_decides key e).0 y))))
+        (some_added (indexed g.options g.tokens n) was g n path path k refl (tells path).0))
+        (λ off. subst (λ xs. SomeMatches xs path k ↔ (SomeMatches was path k ⊎ IsNew n g path k)) (sym (now.others e (λ is. let y = (bytes_decides key e).1 (sym is) in absurd (cc)))) (
+          (λ some. inl some),
+          (λ either. ⊎_elim {C = SomeMatches was path k} (λ some. some) (λ new. let is = (tells path).1 new.1 in let y = (bytes_decides key e).1 (sym is) in absurd (cc)) either),
+        )) h
+
+    by_size : (path : List ℕ) → (bytes_eq key (component_extension path) ≡ true) ⊎ (bytes_eq key (component_extension path) ≡ false)
+        → states_for new.automata path ≤ states_for old.automata path + states g path
+    by_size path h =
+        let e = component_extension path in
+        let one = ap size by_path in let two = ap size component in let most = few e in
+        ⊎_elim {C = states_for new.automata path ≤ states_for old.automata path + states g path}
+        (λ y. let run = needed g path (needs path y) in let three = ap (λ b. cond b (weight g.tokens + 1) 0) y in omega (arith, one, two, most, run, three))
+        (λ off. let three = ap (λ b. cond b (weight g.tokens + 1) 0) off in omega (arith, one, two, most, three)) h
+
+-- ---- no globs
+
+none_found : (path : List ℕ) (k : ℕ) → Contains (keys_found no_keys path) k → ⊥
+none_found path k h = no_index (keys_found no_keys path) k (nothing path) h
+  where
+    no_index : (xs : List ℕ) (k : ℕ) → xs ≡ [] → Contains xs k → ⊥
+    no_index xs k e (i, lt, is) = let n = ap length e in omega (arith, lt, n)
+
+    nothing : (path : List ℕ) → keys_found no_keys path ≡ []
+    nothing path = λ i. none_of (beginnings path) i ++ none_of (endings path) i
+      where
+        none_of : (qs : List (List ℕ)) → flat_map (indexes_under []) qs ≡ []
+        none_of [] = refl
+        none_of (q ∷ qs) = none_of qs
+
+none_listed : (path : List ℕ) (k : ℕ) → IsTrue (is_listed_at [] path k) → ⊥
+none_listed path zero h = absurd (cc)
+none_listed path (suc k) h = absurd (cc)
+
+pub no_globs : (keys : KeyParts) (a : AutomataParts) → keys ≡ no_keys → IsFor a.by_path [] → IsFor a.by_component [] → a.extensions.slots ≡ [] → a.extensions.machines ≡ []
+    → size a.by_path ≡ 0 → size a.by_component ≡ 0 → size a.extensions.none ≡ 0 → AreGroupsOf [] (group_parts keys a)
+no_globs keys a nil path component slots machines path_size component_size none_size = record {
+  tokens = record { by_path = []; by_component = []; by_slot = λ s. [] };
+  are_for = record {
+    path = path;
+    component = component;
+    slots = subst (λ ms. AreFor ms (λ s. [])) (sym machines) (λ s d lt. absurd (omega (arith, lt)));
+  };
+  same = λ path k. (
+    λ h. absurd (⊎_elim {C = ⊥} (λ key. none_found path k (subst (λ t. Contains (keys_found t path) k) nil key))
+        (λ some. ⊎_elim {C = ⊥} (λ none. none) (λ later. ⊎_elim {C = ⊥} (λ none. none)
+        (λ under. subst (λ es. SomeMatches (tokens_under (λ s. []) es (component_extension path)) path k) slots under) later) some) h),
+    λ h. absurd (none_listed path k h),
+  );
+  once = λ path. none_once path;
+  size = λ path. let e = ap (λ es. option_map_or (λ s. get_or a.extensions.machines s a.extensions.none) (first (indexes_under es (component_extension path))) a.extensions.none) slots in
+      let last = ap size e in omega (arith, path_size, component_size, none_size, last);
+}
+  where
+    none_once : (path : List ℕ) → length (keys_found keys path) ≤ 0
+    none_once path = subst (λ t. length (keys_found t path) ≤ 0) (sym nil) (few (keys_found no_keys path) (λ k h. none_found path k h))
+      where
+        few : (xs : List ℕ) → ((k : ℕ) → Contains xs k → ⊥) → length xs ≤ 0
+        few [] h = omega arith
+        few (x ∷ xs) h = absurd (h x (0, omega arith, refl))

@@ -1,0 +1,139 @@
+-- What is found for a path, by keys and by automata.
+use Rattle.std.proofs.Common.{◌≡◌, ◌≢◌, ℕ, zero, suc, ◌+◌, ◌<◌, ◌≤◌, ◌⊎◌, inl, inr, Bool, true, false, cond, ◌||◌, ◌==◌, List, [], ◌∷◌, ◌++◌, Option, Some, None, length, IsTrue, refl, ap, sym, subst, ◌∙◌, arith}
+use Rattle.std.specs.Prelude.{◌↔◌, ◌^◌, Contains, MatchOption, filter, sum_by}
+use Rattle.std.specs.List.{list_any, range_with_len}
+use Rattle.std.specs.List.Sorted.{IsStrictlyIncreasing}
+use Rattle.std.specs.Option.{option_eq}
+use Rattle.std.proofs.Math.Logic.{⊎_elim}
+use Rattle.std.proofs.lemmas.Bool.{eqb-true, eq-eqb}
+use Rattle.std.proofs.lemmas.List.Elements.{Contains-append_left, Contains-append_right, Contains-append_cases}
+use Rattle.std.proofs.lemmas.List.Sums.{sum_by-append}
+use Rattle.std.proofs.lemmas.Map.Steps.{le-length_from_below}
+use Rattle.group_matching.specs.Globs.{TokenGlob, is_listed, is_listed_at, listed}
+use Rattle.group_matching.specs.Indexes.{ContainsAllBelow}
+use Rattle.group_matching.specs.inner.Keys.{keys_found}
+use Rattle.group_matching.specs.inner.Automata.{TokenLists, AreForLists, AreFound, AreIdle}
+use Rattle.group_matching.specs.inner.Groups.{GroupParts, AreGroupsOf, listed_count}
+use Rattle.group_matching.proofs.lemmas.Indexes.{in_filter, passing_is_contained, contained_passes, passes_within, all_pass, all_by_length, ascending_is}
+
+-- a listed glob is in the list
+in_listed : (globs : List TokenGlob) (path : List ℕ) (k : ℕ) → IsTrue (is_listed_at globs path k) → Contains (listed globs path) k
+in_listed globs path k h = passing_is_contained (λ g. is_listed g path) globs k (passes_within (λ g. is_listed g path) globs k h) h
+
+listed_in : (globs : List TokenGlob) (path : List ℕ) (k : ℕ) → Contains (listed globs path) k → IsTrue (is_listed_at globs path k)
+listed_in globs path k h = (contained_passes (λ g. is_listed g path) globs k h).1
+
+-- ---- all indexes
+
+pub found_listed : (globs : List TokenGlob) (g : GroupParts) (path : List ℕ) (n : ℕ) (has : ℕ → Bool) (are : AreGroupsOf globs g) → length globs ≡ n
+    → ((k : ℕ) → IsTrue (has k) ↔ AreFound g.automata.extensions.slots are.tokens path k)
+    → (k : ℕ) → Contains (filter has (range_with_len 0 n) ++ keys_found g.keys path) k ↔ Contains (listed globs path) k
+found_listed globs g path n has are count same k = (
+  λ h. in_listed globs path k ((are.same path k).0 (⊎_elim {C = Contains (keys_found g.keys path) k ⊎ AreFound g.automata.extensions.slots are.tokens path k}
+      (λ front. inr ((same k).0 ((in_filter has n k).0 front).1)) (λ back. inl back) (Contains-append_cases (filter has (range_with_len 0 n)) (keys_found g.keys path) k h))),
+  λ h. let yes_at = listed_in globs path k h in
+      ⊎_elim {C = Contains (filter has (range_with_len 0 n) ++ keys_found g.keys path) k}
+      (λ key. Contains-append_right (filter has (range_with_len 0 n)) (keys_found g.keys path) k key)
+      (λ found. let within = passes_within (λ x. is_listed x path) globs k yes_at in
+      Contains-append_left (filter has (range_with_len 0 n)) (keys_found g.keys path) k ((in_filter has n k).1 (omega (arith, within, count), (same k).1 found)))
+      ((are.same path k).1 yes_at),
+)
+
+-- no automaton is run
+pub keys_listed : (globs : List TokenGlob) (g : GroupParts) (path : List ℕ) → AreGroupsOf globs g → AreIdle g.automata path → (k : ℕ) → Contains (keys_found g.keys path) k ↔ Contains (listed globs path) k
+keys_listed globs g path are idle k = (
+  λ h. in_listed globs path k ((are.same path k).0 (inl h)),
+  λ h. ⊎_elim {C = Contains (keys_found g.keys path) k} (λ key. key) (λ found. absurd (idle.none are.tokens are.are_for k found)) ((are.same path k).1 (listed_in globs path k h)),
+)
+
+-- ---- some index
+
+some_of : (xs : List ℕ) → xs ≢ [] → (k : ℕ) × Contains xs k
+some_of [] h = absurd (h refl)
+some_of (x ∷ xs) h = (x, (0, omega arith, refl))
+
+not_none : (xs : List ℕ) (k : ℕ) → Contains xs k → xs ≢ []
+not_none xs k (i, lt, is) e = let n = ap length e in omega (arith, lt, n)
+
+pub none_from : (xs : List ℕ) → (xs ≢ [] → ⊥) → xs ≡ []
+none_from [] h = refl
+none_from (x ∷ xs) h = absurd (h (λ e. let n = ap length e in omega (arith, n)))
+
+pub some_key : (globs : List TokenGlob) (g : GroupParts) (path : List ℕ) → AreGroupsOf globs g → keys_found g.keys path ≢ [] → IsTrue true ↔ (listed globs path ≢ [])
+some_key globs g path are some =
+    let (k, key) = some_of (keys_found g.keys path) some in
+    (λ t. not_none (listed globs path) k (in_listed globs path k ((are.same path k).0 (inl key))), λ h. refl)
+
+pub some_found : (globs : List TokenGlob) (g : GroupParts) (path : List ℕ) (r : Bool) (are : AreGroupsOf globs g) → (keys_found g.keys path ≢ [] → ⊥)
+    → (IsTrue r ↔ ((k : ℕ) × AreFound g.automata.extensions.slots are.tokens path k)) → IsTrue r ↔ (listed globs path ≢ [])
+some_found globs g path r are off same = (
+  λ h. let (k, found) = same.0 h in not_none (listed globs path) k (in_listed globs path k ((are.same path k).0 (inr found))),
+  λ h. let (k, in_all) = some_of (listed globs path) h in
+      same.1 (k, ⊎_elim {C = AreFound g.automata.extensions.slots are.tokens path k} (λ key. absurd (off (not_none (keys_found g.keys path) k key))) (λ found. found) ((are.same path k).1 (listed_in globs path k in_all))),
+)
+
+-- ---- every index
+
+as_number : (b : Bool) → cond b 1 0 ≤ 1
+as_number true = omega arith
+as_number false = omega arith
+
+split : (g : TokenGlob) (gs : List TokenGlob) (path : List ℕ) → listed_count (g ∷ gs) path ≡ cond (is_listed g path) 1 0 + listed_count gs path
+split g gs path = sum_by-append (λ x. cond (is_listed x path) 1 0) (g ∷ []) gs ∙ omega arith
+
+listed_few : (globs : List TokenGlob) (path : List ℕ) → listed_count globs path ≤ length globs
+listed_few [] path = omega arith
+listed_few (g ∷ gs) path = let rest = listed_few gs path in let one = as_number (is_listed g path) in omega (arith, rest, one, split g gs path)
+
+all_by_count : (globs : List TokenGlob) (path : List ℕ) → length globs ≤ listed_count globs path → (i : ℕ) → i < length globs → is_listed_at globs path i ≡ true
+all_by_count [] path full i lt = absurd (omega (arith, lt))
+all_by_count (g ∷ gs) path full zero lt = by_case (is_listed g path) refl
+  where
+    by_case : (b : Bool) → is_listed g path ≡ b → is_listed g path ≡ true
+    by_case true h = h
+    by_case false h = let z : ◌≡◌ {A = ℕ} (cond (is_listed g path) 1 0) 0 = ap (λ x. cond x 1 0) h in let few = listed_few gs path in absurd (omega (arith, full, z, few, split g gs path))
+all_by_count (g ∷ gs) path full (suc i) lt = let one = as_number (is_listed g path) in all_by_count gs path (omega (arith, full, one, split g gs path)) i (omega (arith, lt))
+
+contains_any : (xs : List ℕ) (q : ℕ) → Contains xs q → list_any (λ x. q == x) xs ≡ true
+contains_any [] q (i, lt, is) = absurd (omega (arith, lt))
+contains_any (x ∷ xs) q (zero, lt, is) = ap (λ b. b || list_any (λ y. q == y) xs) (eq-eqb q x (sym is))
+contains_any (x ∷ xs) q (suc i, lt, is) = or_right (q == x) (list_any (λ y. q == y) xs) (contains_any xs q (i, omega (arith, lt), is))
+  where
+    or_right : (a b : Bool) → b ≡ true → (a || b) ≡ true
+    or_right true b h = refl
+    or_right false b h = h
+
+-- there are as many keys as globs just if every glob is listed
+keys_full : (globs : List TokenGlob) (g : GroupParts) (path : List ℕ) → AreGroupsOf globs g → AreIdle g.automata path
+    → (length (keys_found g.keys path) ≡ length globs) ↔ ContainsAllBelow (listed globs path) (length globs)
+keys_full globs g path are idle = (
+  λ full. (all_pass (λ x. is_listed x path) globs (all_by_count globs path (let few = are.once path in omega (arith, full, few)))).0 refl,
+  λ all. let many = le-length_from_below (keys_found g.keys path) (length globs) (λ q lt. contains_any (keys_found g.keys path) q ((keys_listed globs g path are idle q).1 (all q lt))) in
+      let few = are.once path in let most = listed_few globs path in omega (arith, many, few, most),
+)
+
+pub all_by_keys : (globs : List TokenGlob) (g : GroupParts) (path : List ℕ) (n : ℕ) (counted : Option ℕ) → AreGroupsOf globs g → AreIdle g.automata path → length globs ≡ n → n < 2 ^ 64
+    → MatchOption counted (2 ^ 64 ≤ length (keys_found g.keys path)) (λ count. count ≡ length (keys_found g.keys path))
+    → IsTrue (option_eq (λ a b. a == b) counted (Some n)) ↔ ContainsAllBelow (listed globs path) (length globs)
+all_by_keys globs g path n None are idle count fits over =
+    (λ h. absurd (cc), λ all. let few = are.once path in let most = listed_few globs path in absurd (omega (arith, few, most, over, count, fits)))
+all_by_keys globs g path n (Some m) are idle count fits is = (
+  λ h. let same = eqb-true m n h in (keys_full globs g path are idle).0 (omega (arith, same, is, count)),
+  λ all. let full = (keys_full globs g path are idle).1 all in eq-eqb m n (omega (arith, full, is, count)),
+)
+
+-- a merged list is as long as there are globs just if every glob is listed
+pub all_by_found : (globs : List TokenGlob) (g : GroupParts) (path : List ℕ) (n len : ℕ) (has : ℕ → Bool) (pushed merged : List ℕ) (are : AreGroupsOf globs g) → length globs ≡ n
+    → ((k : ℕ) → IsTrue (has k) ↔ AreFound g.automata.extensions.slots are.tokens path k) → pushed ≡ filter has (range_with_len 0 n) ++ keys_found g.keys path
+    → IsStrictlyIncreasing merged → ((k : ℕ) → Contains merged k ↔ Contains pushed k) → len ≡ length merged → IsTrue (len == n) ↔ ContainsAllBelow (listed globs path) (length globs)
+all_by_found globs g path n len has pushed merged are count same is rise kept long =
+    let all = all_by_length (λ x. is_listed x path) globs in (
+      λ h. all.0 (let e = eqb-true len n h in let m = ap length merged_is in omega (arith, e, long, m, count)),
+      λ h. eq-eqb len n (let full = all.1 h in let m = ap length merged_is in omega (arith, full, long, m, count)),
+    )
+  where
+    merged_is : merged ≡ listed globs path
+    merged_is = ascending_is (λ x. is_listed x path) globs merged rise (λ k. (
+      λ m. (found_listed globs g path n has are count same k).0 (subst (λ xs. Contains xs k) is ((kept k).0 m)),
+      λ m. (kept k).1 (subst (λ xs. Contains xs k) (sym is) ((found_listed globs g path n has are count same k).1 m)),
+    ))
