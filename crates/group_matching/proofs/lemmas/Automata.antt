@@ -1,0 +1,63 @@
+-- Tokens in automata, and runs.
+use Rattle.std.proofs.Common.{◌≡◌, ℕ, zero, suc, ◌+◌, ◌≤◌, ◌⊎◌, inl, inr, List, [], ◌∷◌, ◌++◌, Option, Some, None, drop, length, IsTrue, refl, sym, subst, ◌∙◌, arith}
+use Rattle.std.specs.Prelude.{◌↔◌}
+use Rattle.std.proofs.Math.Logic.{⊎_elim}
+use Rattle.byte_automaton.specs.Steps.{State, Machine, state, skips, IsIn, Accepts, ends, by_byte, by_skip, by_out, by_stay}
+use Rattle.byte_automaton.specs.Runs.{size}
+use Rattle.glob_automaton.specs.TokenMeans.{means}
+use Rattle.glob_automaton.specs.IndexedTokens.{IndexedTokens, Matches, SomeMatches, IsFor, AllBytes}
+use Rattle.glob_path.specs.PathParts.{after_position, last_component, last_position, is_separator}
+
+-- ---- one list of tokens more
+
+pub some_push : (x : IndexedTokens) (xs : List IndexedTokens) (path : List ℕ) (k : ℕ) → SomeMatches (xs ++ x ∷ []) path k ↔ (SomeMatches xs path k ⊎ Matches x path k)
+some_push x [] path k = (λ h. ⊎_elim {C = ⊥ ⊎ Matches x path k} (λ this. inr this) (λ no. absurd no) h, λ h. ⊎_elim {C = Matches x path k ⊎ ⊥} (λ no. absurd no) (λ this. inl this) h)
+some_push x (y ∷ ys) path k = (
+  λ h. ⊎_elim {C = (Matches y path k ⊎ SomeMatches ys path k) ⊎ Matches x path k}
+      (λ here. inl (inl here))
+      (λ later. ⊎_elim {C = (Matches y path k ⊎ SomeMatches ys path k) ⊎ Matches x path k} (λ earlier. inl (inr earlier)) (λ last. inr last) ((some_push x ys path k).0 later)) h,
+  λ h. ⊎_elim {C = Matches y path k ⊎ SomeMatches (ys ++ x ∷ []) path k}
+      (λ front. ⊎_elim {C = Matches y path k ⊎ SomeMatches (ys ++ x ∷ []) path k} (λ here. inl here) (λ earlier. inr ((some_push x ys path k).1 (inl earlier))) front)
+      (λ last. inr ((some_push x ys path k).1 (inr last))) h,
+)
+
+-- ---- an automaton without states
+
+no_state : (k s : ℕ) (y : List ℕ) → state [] s ≡ skips [] → Accepts [] k s y → ⊥
+no_state k s y e (ends s' f) = absurd (let g = sym e ∙ f in cc)
+no_state k s y e (by_byte s' t c z w f has rest) = absurd (let g = sym e ∙ f in cc)
+no_state k s y e (by_skip s' t z ts f m rest) = let g = sym e ∙ f in let same : ts ≡ [] = cc in absurd (subst (IsIn t) same m)
+no_state k s y e (by_out s' t z w ts f m rest) = absurd (let g = sym e ∙ f in cc)
+no_state k s y e (by_stay s' c z w ts f has rest) = absurd (let g = sym e ∙ f in cc)
+
+none_accepted : (states : List State) (k s : ℕ) (y : List ℕ) → length states ≡ 0 → Accepts states k s y → ⊥
+none_accepted [] k s y e h = no_state k s y refl h
+none_accepted (x ∷ xs) k s y e h = absurd (omega (arith, e))
+
+-- it is for tokens that match nothing
+pub no_matches : (m : Machine) (xs : List IndexedTokens) (path : List ℕ) (k : ℕ) → size m ≡ 0 → IsFor m xs → AllBytes path → SomeMatches xs path k → ⊥
+no_matches m xs path k none is bytes some =
+    let (s, at, accepts) = (is m.states (λ s low high. refl) path k bytes).1 some in none_accepted m.states k s path none accepts
+
+-- ---- the last component of a path
+
+bytes_dropped : (n : ℕ) (path : List ℕ) → AllBytes path → AllBytes (drop n path)
+bytes_dropped zero path h = h
+bytes_dropped (suc n) [] h = tt
+bytes_dropped (suc n) (c ∷ cs) h = bytes_dropped n cs h.1
+
+pub bytes_after : (o : Option ℕ) (path : List ℕ) → AllBytes path → AllBytes (after_position path o)
+bytes_after None path h = h
+bytes_after (Some k) path h = bytes_dropped (k + 1) path h
+
+length_dropped : (n : ℕ) (path : List ℕ) → length (drop n path) ≤ length path
+length_dropped zero path = omega arith
+length_dropped (suc n) [] = omega arith
+length_dropped (suc n) (c ∷ cs) = let shorter = length_dropped n cs in omega (arith, shorter)
+
+length_after : (o : Option ℕ) (path : List ℕ) → length (after_position path o) ≤ length path
+length_after None path = omega arith
+length_after (Some k) path = length_dropped (k + 1) path
+
+pub component_length : (path : List ℕ) → length (last_component path) ≤ length path
+component_length path = length_after (last_position is_separator path) path
