@@ -1,2 +1,4 @@
 pub mod Indexes
 pub mod Automata
+pub mod Tables
+pub mod Slots

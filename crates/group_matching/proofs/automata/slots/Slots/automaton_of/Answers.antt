@@ -1,0 +1,1 @@
+use Rattle.group_matching.proofs.automata.slots.Slots.automaton_of.Goals as goal
