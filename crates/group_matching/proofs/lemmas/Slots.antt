@@ -1,5 +1,5 @@
 -- The slots of extensions, and the tokens in them.
-use Rattle.std.proofs.Common.{◌≡◌, ◌≢◌, ℕ, ◌+◌, ◌<◌, ◌≤◌, ◌⊎◌, inl, inr, Bool, true, false, cond, ◌==◌, List, [], ◌∷◌, ◌++◌, Option, Some, None, length, get_or, set, refl, ap, sym, subst, ◌∙◌, arith}
+use Rattle.std.proofs.Common.{◌≡◌, ◌≢◌, ℕ, zero, suc, ◌+◌, ◌<◌, ◌≤◌, ◌⊎◌, inl, inr, Bool, true, false, cond, ◌==◌, List, [], ◌∷◌, ◌++◌, Option, Some, None, length, get_or, set, refl, ap, sym, subst, ◌∙◌, arith}
 use Rattle.std.specs.Option.{option_map_or}
 use Rattle.std.specs.Str.{bytes_eq}
 use Rattle.std.specs.Cmp.Lexicographic.{bytes_decides}
@@ -195,6 +195,11 @@ slot_adds old mid new key s x d now is_mid at lt slots machines adds before kept
     after : ℕ → List IndexedTokens
     after = replaced s (kept.tokens s ++ x ∷ []) kept.tokens
 
+any_default : (machines : List Machine) (s : ℕ) (d e : Machine) → s < length machines → get_or machines s d ≡ get_or machines s e
+any_default [] s d e lt = absurd (omega (arith, lt))
+any_default (m ∷ ms) zero d e lt = refl
+any_default (m ∷ ms) (suc s) d e lt = any_default ms s d e (omega (arith, lt))
+
 -- one automaton has at most so many states more
 set_size : (machines : List Machine) (none : Machine) (s more : ℕ) (now : Machine) (o : Option ℕ) (b : Bool) → s < length machines → size now ≤ size (get_or machines s none) + more → (o ≡ Some s → b ≡ true)
     → size (option_map_or (λ t. get_or (set machines s now) t none) o none) ≤ size (option_map_or (λ t. get_or machines t none) o none) + cond b more 0
@@ -208,15 +213,17 @@ set_size machines none s more now (Some t) b lt few tells =
     (λ other. let same = ap size other.1 in omega (arith, same))
     (set_at_slot machines s now t none lt)
 
-pub slot_size_added : (mid new : SlotParts) (key : List ℕ) (s more : ℕ) (now : Machine) → AreSlots mid.slots mid.machines mid.none mid.index_count → slot_of mid.slots key ≡ Some s → s < length mid.machines
-    → new.slots ≡ mid.slots → new.machines ≡ set mid.machines s now → new.none ≡ mid.none → size now ≤ size (get_or mid.machines s mid.none) + more
+pub slot_size_added : (mid new : SlotParts) (key : List ℕ) (s more : ℕ) (d now : Machine) → AreSlots mid.slots mid.machines mid.none mid.index_count → slot_of mid.slots key ≡ Some s → s < length mid.machines
+    → new.slots ≡ mid.slots → new.machines ≡ set mid.machines s now → new.none ≡ mid.none → size now ≤ size (get_or mid.machines s d) + more
     → (extension : List ℕ) → size (machine_under new extension) ≤ size (machine_under mid extension) + cond (bytes_eq key extension) more 0
-slot_size_added mid new key s more now is_mid at lt slots machines none few extension =
+slot_size_added mid new key s more d now is_mid at lt slots machines none few extension =
     let is : size (machine_under new extension) ≡ size (option_map_or (λ t. get_or (set mid.machines s now) t mid.none) (slot_of mid.slots extension) mid.none) =
     ap (λ es. size (option_map_or (λ t. get_or new.machines t new.none) (slot_of es extension) new.none)) slots
     ∙ ap (λ ms. size (option_map_or (λ t. get_or ms t new.none) (slot_of mid.slots extension) new.none)) machines
     ∙ ap (λ d. size (option_map_or (λ t. get_or (set mid.machines s now) t d) (slot_of mid.slots extension) d)) none in
-    let le = set_size mid.machines mid.none s more now (slot_of mid.slots extension) (bytes_eq key extension) lt few (λ e. (bytes_decides key extension).1 (is_mid.apart key extension s at e)) in
+    let d_is = ap size (any_default mid.machines s d mid.none lt) in
+    let within : size now ≤ size (get_or mid.machines s mid.none) + more = omega (arith, few, d_is) in
+    let le = set_size mid.machines mid.none s more now (slot_of mid.slots extension) (bytes_eq key extension) lt within (λ e. (bytes_decides key extension).1 (is_mid.apart key extension s at e)) in
     omega (arith, is, le)
 
 -- ---- the automaton of a slot

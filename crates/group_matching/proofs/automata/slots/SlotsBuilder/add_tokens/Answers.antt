@@ -1,5 +1,4 @@
-use Rattle.std.proofs.Common.{◌≡◌, ◌≤◌, ◌+◌, ℕ, List, Some, cond, refl, set, ap, sym, subst, arith, ◌∙◌}
-use Rattle.std.specs.Str.{bytes_eq}
+use Rattle.std.proofs.Common.{◌≡◌, ◌≤◌, ◌+◌, ℕ, List, Some, get_or, refl, set, ap, sym, subst, arith, ◌∙◌}
 use Rattle.std.proofs.lemmas.Result.{on_ok_weaker}
 use Rattle.glob_syntax.specs.Views.{tokens_of}
 use Rattle.glob_syntax.specs.inner.Weight.{weight}
@@ -65,6 +64,7 @@ returns-clause-size c =
     (λ few extension.
     let kept : size (machine_under mid extension) ≡ size (machine_under c.args.self.now extension) =
     ap (λ (e : SlotParts). size (machine_under e extension)) c.self.view_is ∙ c.in_ok-slot.ensures.size extension in
-    let added = slot_size_added mid new c.args.key.items slot more c.add_tokens.new.builder c.self.invariant at lt refl refl refl
-    (ap size c.index_mut.ensures.value) few extension in omega (arith, kept, added))
+    let value = ap size c.index_mut.ensures.value in
+    let within : size c.add_tokens.new.builder ≤ size (get_or machines slot c.index_mut.result.now) + more = omega (arith, few, value) in
+    let added = slot_size_added mid new c.args.key.items slot more c.index_mut.result.now c.add_tokens.new.builder c.self.invariant at lt refl refl refl within extension in omega (arith, kept, added))
     c.add_tokens.ensures.size
