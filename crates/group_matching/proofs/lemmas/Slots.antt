@@ -195,7 +195,7 @@ slot_adds old mid new key s x d now is_mid at lt slots machines adds before kept
     after : ℕ → List IndexedTokens
     after = replaced s (kept.tokens s ++ x ∷ []) kept.tokens
 
-any_default : (machines : List Machine) (s : ℕ) (d e : Machine) → s < length machines → get_or machines s d ≡ get_or machines s e
+pub any_default : (machines : List Machine) (s : ℕ) (d e : Machine) → s < length machines → get_or machines s d ≡ get_or machines s e
 any_default [] s d e lt = absurd (omega (arith, lt))
 any_default (m ∷ ms) zero d e lt = refl
 any_default (m ∷ ms) (suc s) d e lt = any_default ms s d e (omega (arith, lt))
