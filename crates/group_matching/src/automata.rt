@@ -93,7 +93,7 @@ impl Automata {
         }
         let mut found = IndexSet::new(alloc, self.index_count())?;
         run(alloc, &self.by_path, path.path(), &mut found, visits)?;
-        self.run_by_component(alloc, path, &mut found, visits)?;
+        self.run_by_component(alloc, path.path(), &mut found, visits)?;
         run(alloc, by_extension, path.path(), &mut found, visits)?;
         Ok(Some(found))
     }
@@ -114,7 +114,7 @@ impl Automata {
         if is_match(alloc, &self.by_path, path.path(), visits)? {
             return Ok(true);
         }
-        if self.is_match_by_component(alloc, path, visits)? {
+        if self.is_match_by_component(alloc, path.path(), visits)? {
             return Ok(true);
         }
         let by_extension = self.by_extension(path, visits);
@@ -141,7 +141,7 @@ impl Automata {
     fn run_by_component(
         &self,
         alloc: Global,
-        path: &Candidate<'_>,
+        path: &[u8],
         found: &mut IndexSet,
         visits: &mut Visits,
     ) -> Result<(), AllocError>
@@ -154,20 +154,15 @@ impl Automata {
         if self.by_component.state_count() == 0 {
             return Ok(());
         }
-        run(
-            alloc,
-            &self.by_component,
-            last_component_of(path),
-            found,
-            visits,
-        )
+        let component = last_component_of(&Candidate::from_bytes(path));
+        run(alloc, &self.by_component, component, found, visits)
     }
 
     /// Returns whether the path's last component matches tokens. It is only searched for if there are states.
     fn is_match_by_component(
         &self,
         alloc: Global,
-        path: &Candidate<'_>,
+        path: &[u8],
         visits: &mut Visits,
     ) -> Result<bool, AllocError>
         ensures some { IfOk result (λ yes. (xs : List IndexedTokens) → IsFor self.now.by_component xs → IsTrue yes ↔ ((k : ℕ) × SomeMatches xs (last_component path.now) k)) }
@@ -177,7 +172,8 @@ impl Automata {
         if self.by_component.state_count() == 0 {
             return Ok(false);
         }
-        is_match(alloc, &self.by_component, last_component_of(path), visits)
+        let component = last_component_of(&Candidate::from_bytes(path));
+        is_match(alloc, &self.by_component, component, visits)
     }
 }
 

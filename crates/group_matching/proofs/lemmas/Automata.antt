@@ -46,9 +46,12 @@ bytes_dropped zero path h = h
 bytes_dropped (suc n) [] h = tt
 bytes_dropped (suc n) (c ∷ cs) h = bytes_dropped n cs h.1
 
-pub bytes_after : (o : Option ℕ) (path : List ℕ) → AllBytes path → AllBytes (after_position path o)
+bytes_after : (o : Option ℕ) (path : List ℕ) → AllBytes path → AllBytes (after_position path o)
 bytes_after None path h = h
 bytes_after (Some k) path h = bytes_dropped (k + 1) path h
+
+pub component_bytes : (path : List ℕ) → AllBytes path → AllBytes (last_component path)
+component_bytes path h = bytes_after (last_position is_separator path) path h
 
 length_dropped : (n : ℕ) (path : List ℕ) → length (drop n path) ≤ length path
 length_dropped zero path = omega arith
