@@ -64,3 +64,21 @@ length_after (Some k) path = length_dropped (k + 1) path
 
 pub component_length : (path : List ℕ) → length (last_component path) ≤ length path
 component_length path = length_after (last_position is_separator path) path
+
+-- ---- three runs
+
+-- one after another puts what it finds into a set that was empty
+pub three_runs : {A B C P Q R S : Type 0} → (S → ⊥) → P ↔ (A ⊎ S) → Q ↔ (B ⊎ P) → R ↔ (C ⊎ Q) → R ↔ (A ⊎ (B ⊎ C))
+three_runs {A} {B} {C} {P} {Q} {R} {S} empty one two three = (
+  λ r. ⊎_elim {C = A ⊎ (B ⊎ C)} (λ c. inr (inr c))
+      (λ q. ⊎_elim {C = A ⊎ (B ⊎ C)} (λ b. inr (inl b)) (λ p. ⊎_elim {C = A ⊎ (B ⊎ C)} (λ a. inl a) (λ s. absurd (empty s)) (one.0 p)) (two.0 q)) (three.0 r),
+  λ h. ⊎_elim {C = R} (λ a. three.1 (inr (two.1 (inr (one.1 (inl a))))))
+      (λ bc. ⊎_elim {C = R} (λ b. three.1 (inr (two.1 (inl b)))) (λ c. three.1 (inl c)) bc) h,
+)
+
+-- the last of them alone tells whether something is found, if the others find nothing
+pub last_run : {N R : Type 0} {A B C : N → Type 0} → ((k : N) → A k → ⊥) → ((k : N) → B k → ⊥) → R ↔ ((k : N) × C k) → R ↔ ((k : N) × (A k ⊎ (B k ⊎ C k)))
+last_run {N} {R} {A} {B} {C} no_a no_b last = (
+  λ r. let some = last.0 r in (some.0, inr (inr some.1)),
+  λ h. ⊎_elim {C = R} (λ a. absurd (no_a h.0 a)) (λ bc. ⊎_elim {C = R} (λ b. absurd (no_b h.0 b)) (λ c. last.1 (h.0, c)) bc) h.1,
+)
