@@ -1,25 +1,11 @@
 -- Tokens in automata, and runs.
-use Rattle.std.proofs.Common.{◌≡◌, ℕ, zero, suc, ◌+◌, ◌≤◌, ◌⊎◌, inl, inr, List, [], ◌∷◌, ◌++◌, Option, Some, None, drop, length, IsTrue, refl, sym, subst, ◌∙◌, arith}
+use Rattle.std.proofs.Common.{◌≡◌, ℕ, zero, suc, ◌+◌, ◌⊎◌, inl, inr, List, [], ◌∷◌, Option, Some, None, drop, length, refl, sym, subst, ◌∙◌, arith}
 use Rattle.std.specs.Prelude.{◌↔◌}
 use Rattle.std.proofs.Math.Logic.{⊎_elim}
 use Rattle.byte_automaton.specs.Steps.{State, Machine, state, skips, IsIn, Accepts, ends, by_byte, by_skip, by_out, by_stay}
 use Rattle.byte_automaton.specs.Runs.{size}
-use Rattle.glob_automaton.specs.TokenMeans.{means}
-use Rattle.glob_automaton.specs.IndexedTokens.{IndexedTokens, Matches, SomeMatches, IsFor, AllBytes}
+use Rattle.glob_automaton.specs.IndexedTokens.{IndexedTokens, SomeMatches, IsFor, AllBytes}
 use Rattle.glob_path.specs.PathParts.{after_position, last_component, last_position, is_separator}
-
--- ---- one list of tokens more
-
-pub some_push : (x : IndexedTokens) (xs : List IndexedTokens) (path : List ℕ) (k : ℕ) → SomeMatches (xs ++ x ∷ []) path k ↔ (SomeMatches xs path k ⊎ Matches x path k)
-some_push x [] path k = (λ h. ⊎_elim {C = ⊥ ⊎ Matches x path k} (λ this. inr this) (λ no. absurd no) h, λ h. ⊎_elim {C = Matches x path k ⊎ ⊥} (λ no. absurd no) (λ this. inl this) h)
-some_push x (y ∷ ys) path k = (
-  λ h. ⊎_elim {C = (Matches y path k ⊎ SomeMatches ys path k) ⊎ Matches x path k}
-      (λ here. inl (inl here))
-      (λ later. ⊎_elim {C = (Matches y path k ⊎ SomeMatches ys path k) ⊎ Matches x path k} (λ earlier. inl (inr earlier)) (λ last. inr last) ((some_push x ys path k).0 later)) h,
-  λ h. ⊎_elim {C = Matches y path k ⊎ SomeMatches (ys ++ x ∷ []) path k}
-      (λ front. ⊎_elim {C = Matches y path k ⊎ SomeMatches (ys ++ x ∷ []) path k} (λ here. inl here) (λ earlier. inr ((some_push x ys path k).1 (inl earlier))) front)
-      (λ last. inr ((some_push x ys path k).1 (inr last))) h,
-)
 
 -- ---- an automaton without states
 
@@ -52,18 +38,6 @@ bytes_after (Some k) path h = bytes_dropped (k + 1) path h
 
 pub component_bytes : (path : List ℕ) → AllBytes path → AllBytes (last_component path)
 component_bytes path h = bytes_after (last_position is_separator path) path h
-
-length_dropped : (n : ℕ) (path : List ℕ) → length (drop n path) ≤ length path
-length_dropped zero path = omega arith
-length_dropped (suc n) [] = omega arith
-length_dropped (suc n) (c ∷ cs) = let shorter = length_dropped n cs in omega (arith, shorter)
-
-length_after : (o : Option ℕ) (path : List ℕ) → length (after_position path o) ≤ length path
-length_after None path = omega arith
-length_after (Some k) path = length_dropped (k + 1) path
-
-pub component_length : (path : List ℕ) → length (last_component path) ≤ length path
-component_length path = length_after (last_position is_separator path) path
 
 -- ---- three runs
 

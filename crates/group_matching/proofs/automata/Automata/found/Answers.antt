@@ -1,4 +1,4 @@
-use Rattle.std.proofs.Common.{◌≡◌, ◌⊎◌, ℕ, IsTrue, ap, sym, subst, arith}
+use Rattle.std.proofs.Common.{◌⊎◌, IsTrue, sym, subst, arith}
 use Rattle.std.specs.Prelude.{◌↔◌}
 use Rattle.byte_automaton.specs.Sets.{has_index}
 use Rattle.glob_automaton.specs.IndexedTokens.{SomeMatches, IsFor}

@@ -1,4 +1,4 @@
-use Rattle.std.proofs.Common.{◌≡◌, ◌<◌, length, Some, None, [], ap, sym, subst, arith, ◌∙◌}
+use Rattle.std.proofs.Common.{◌≡◌, Some, None, [], ap, sym, subst, arith, ◌∙◌}
 use Rattle.std.specs.Prelude.{get_or, slice_index_or}
 use Rattle.std.specs.Option.{option_map_or}
 use Rattle.byte_automaton.specs.Steps.{Machine}
