@@ -1,4 +1,7 @@
+pub mod Automata
 pub mod Groups
 pub mod Indexes
 pub mod Matching
 pub mod More
+pub mod Slots
+pub mod Tables

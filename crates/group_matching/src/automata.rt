@@ -84,6 +84,7 @@ impl Automata {
         ensures memory { states_for self.now path.now ≡ 0 → IsOk result }
         ensures visits { visits.new ≤ visits.old + (1 + (length path.now + 1) * states_for self.now path.now) }
     {
+        let text = path.path();
         let by_extension = self.by_extension(path, visits);
         if self.by_path.state_count() == 0
             && self.by_component.state_count() == 0
@@ -92,9 +93,9 @@ impl Automata {
             return Ok(None);
         }
         let mut found = IndexSet::new(alloc, self.index_count())?;
-        run(alloc, &self.by_path, path.path(), &mut found, visits)?;
-        self.run_by_component(alloc, path, &mut found, visits)?;
-        run(alloc, by_extension, path.path(), &mut found, visits)?;
+        run(alloc, &self.by_path, text, &mut found, visits)?;
+        self.run_by_component(alloc, text, &mut found, visits)?;
+        run(alloc, by_extension, text, &mut found, visits)?;
         Ok(Some(found))
     }
 
@@ -114,7 +115,7 @@ impl Automata {
         if is_match(alloc, &self.by_path, path.path(), visits)? {
             return Ok(true);
         }
-        if self.is_match_by_component(alloc, path, visits)? {
+        if self.is_match_by_component(alloc, path.path(), visits)? {
             return Ok(true);
         }
         let by_extension = self.by_extension(path, visits);
@@ -141,7 +142,7 @@ impl Automata {
     fn run_by_component(
         &self,
         alloc: Global,
-        path: &Candidate<'_>,
+        path: &[u8],
         found: &mut IndexSet,
         visits: &mut Visits,
     ) -> Result<(), AllocError>
@@ -154,20 +155,15 @@ impl Automata {
         if self.by_component.state_count() == 0 {
             return Ok(());
         }
-        run(
-            alloc,
-            &self.by_component,
-            last_component_of(path),
-            found,
-            visits,
-        )
+        let component = last_component_of(&Candidate::from_bytes(path));
+        run(alloc, &self.by_component, component, found, visits)
     }
 
     /// Returns whether the path's last component matches tokens. It is only searched for if there are states.
     fn is_match_by_component(
         &self,
         alloc: Global,
-        path: &Candidate<'_>,
+        path: &[u8],
         visits: &mut Visits,
     ) -> Result<bool, AllocError>
         ensures some { IfOk result (λ yes. (xs : List IndexedTokens) → IsFor self.now.by_component xs → IsTrue yes ↔ ((k : ℕ) × SomeMatches xs (last_component path.now) k)) }
@@ -177,7 +173,8 @@ impl Automata {
         if self.by_component.state_count() == 0 {
             return Ok(false);
         }
-        is_match(alloc, &self.by_component, last_component_of(path), visits)
+        let component = last_component_of(&Candidate::from_bytes(path));
+        is_match(alloc, &self.by_component, component, visits)
     }
 }
 

@@ -1,0 +1,36 @@
+use Rattle.std.proofs.Common.{inl, inr, ℕ, refl, sym, subst}
+use Rattle.std.specs.Prelude.{◌↔◌, IsTrue, List}
+use Rattle.std.proofs.lemmas.Result.{IfOk-weaker}
+use Rattle.glob_automaton.specs.IndexedTokens.{IndexedTokens, SomeMatches, IsFor}
+use Rattle.glob_path.specs.PathParts.{last_component, component_extension}
+use Rattle.group_matching.specs.inner.Automata.{AutomataParts, TokenLists, AreForLists, AreFound, tokens_under}
+use Rattle.group_matching.proofs.lemmas.Automata.{last_run}
+use Rattle.group_matching.proofs.automata.Automata.is_match.Goals as goal
+
+pub returns-then-branch-clause-some : goal.returns-then-branch-clause-some
+returns-then-branch-clause-some c = λ t are.
+    let by_path = subst (λ (a : AutomataParts). IsFor a.by_path t.by_path) (sym c.self.view_is) are.path in
+    let some = (c.in_ok-is_match.ensures.some t.by_path by_path).0 c.if-branch.true in
+    (λ yes. (some.0, inl (subst (λ text. SomeMatches t.by_path text some.0) c.path.ensures some.1)), λ found. refl)
+
+pub returns-then-branch-2-clause-some : goal.returns-then-branch-2-clause-some
+returns-then-branch-2-clause-some c = λ t are.
+    let some = (c.in_ok-is_match_by_component.ensures.some t.by_component are.component).0 c.if-branch-2.true in
+    (λ yes. (some.0, inr (inl (subst (λ text. SomeMatches t.by_component (last_component text) some.0) c.path-2.ensures some.1))), λ found. refl)
+
+pub returns-clause-some : goal.returns-clause-some
+returns-clause-some c =
+    let path = c.args.path.now in
+    let automaton = c.by_extension-by_extension.result.now in
+    IfOk-weaker c.is_match-2.result (λ yes. (xs : List IndexedTokens) → IsFor automaton xs → IsTrue yes ↔ ((k : ℕ) × SomeMatches xs c.path-3.result.now k))
+    (λ yes. (t : TokenLists) → AreForLists c.args.self.now t → IsTrue yes ↔ ((k : ℕ) × AreFound c.args.self.now.extensions.slots t path k))
+    (λ yes tells t are.
+    let by_path = subst (λ (a : AutomataParts). IsFor a.by_path t.by_path) (sym c.self.view_is) are.path in
+    let extension_tokens = tokens_under t.by_slot c.args.self.now.extensions.slots (component_extension path) in
+    last_run
+    (λ k some. let found = (c.in_ok-is_match.ensures.some t.by_path by_path).1 (k, subst (λ text. SomeMatches t.by_path text k) (sym c.path.ensures) some) in let none = c.if-branch.false in absurd (cc))
+    (λ k some.
+    let found = (c.in_ok-is_match_by_component.ensures.some t.by_component are.component).1 (k, subst (λ text. SomeMatches t.by_component (last_component text) k) (sym c.path-2.ensures) some) in
+    let none = c.if-branch-2.false in absurd (cc))
+    (subst (λ text. IsTrue yes ↔ ((k : ℕ) × SomeMatches extension_tokens text k)) c.path-3.ensures (tells extension_tokens (c.by_extension-by_extension.ensures.tokens t.by_slot are.slots))))
+    c.is_match-2.ensures.some

@@ -1,0 +1,58 @@
+-- Tokens in automata, and runs.
+use Rattle.std.proofs.Common.{◌≡◌, ℕ, zero, suc, ◌+◌, ◌⊎◌, inl, inr, List, [], ◌∷◌, Option, Some, None, drop, length, refl, sym, subst, ◌∙◌, arith}
+use Rattle.std.specs.Prelude.{◌↔◌}
+use Rattle.std.proofs.Math.Logic.{⊎_elim}
+use Rattle.byte_automaton.specs.Steps.{State, Machine, state, skips, IsIn, Accepts, ends, by_byte, by_skip, by_out, by_stay}
+use Rattle.byte_automaton.specs.Runs.{size}
+use Rattle.glob_automaton.specs.IndexedTokens.{IndexedTokens, SomeMatches, IsFor, AllBytes}
+use Rattle.glob_path.specs.PathParts.{after_position, last_component, last_position, is_separator}
+
+-- ---- an automaton without states
+
+no_state : (k s : ℕ) (y : List ℕ) → state [] s ≡ skips [] → Accepts [] k s y → ⊥
+no_state k s y e (ends s' f) = absurd (let g = sym e ∙ f in cc)
+no_state k s y e (by_byte s' t c z w f has rest) = absurd (let g = sym e ∙ f in cc)
+no_state k s y e (by_skip s' t z ts f m rest) = let g = sym e ∙ f in let same : ts ≡ [] = cc in absurd (subst (IsIn t) same m)
+no_state k s y e (by_out s' t z w ts f m rest) = absurd (let g = sym e ∙ f in cc)
+no_state k s y e (by_stay s' c z w ts f has rest) = absurd (let g = sym e ∙ f in cc)
+
+none_accepted : (states : List State) (k s : ℕ) (y : List ℕ) → length states ≡ 0 → Accepts states k s y → ⊥
+none_accepted [] k s y e h = no_state k s y refl h
+none_accepted (x ∷ xs) k s y e h = absurd (omega (arith, e))
+
+-- it is for tokens that match nothing
+pub no_matches : (m : Machine) (xs : List IndexedTokens) (path : List ℕ) (k : ℕ) → size m ≡ 0 → IsFor m xs → AllBytes path → SomeMatches xs path k → ⊥
+no_matches m xs path k none is bytes some =
+    let (s, at, accepts) = (is m.states (λ s low high. refl) path k bytes).1 some in none_accepted m.states k s path none accepts
+
+-- ---- the last component of a path
+
+bytes_dropped : (n : ℕ) (path : List ℕ) → AllBytes path → AllBytes (drop n path)
+bytes_dropped zero path h = h
+bytes_dropped (suc n) [] h = tt
+bytes_dropped (suc n) (c ∷ cs) h = bytes_dropped n cs h.1
+
+bytes_after : (o : Option ℕ) (path : List ℕ) → AllBytes path → AllBytes (after_position path o)
+bytes_after None path h = h
+bytes_after (Some k) path h = bytes_dropped (k + 1) path h
+
+pub component_bytes : (path : List ℕ) → AllBytes path → AllBytes (last_component path)
+component_bytes path h = bytes_after (last_position is_separator path) path h
+
+-- ---- three runs
+
+-- one after another puts what it finds into a set that was empty
+pub three_runs : {A B C P Q R S : Type 0} → (S → ⊥) → P ↔ (A ⊎ S) → Q ↔ (B ⊎ P) → R ↔ (C ⊎ Q) → R ↔ (A ⊎ (B ⊎ C))
+three_runs {A} {B} {C} {P} {Q} {R} {S} empty one two three = (
+  λ r. ⊎_elim {C = A ⊎ (B ⊎ C)} (λ c. inr (inr c))
+      (λ q. ⊎_elim {C = A ⊎ (B ⊎ C)} (λ b. inr (inl b)) (λ p. ⊎_elim {C = A ⊎ (B ⊎ C)} (λ a. inl a) (λ s. absurd (empty s)) (one.0 p)) (two.0 q)) (three.0 r),
+  λ h. ⊎_elim {C = R} (λ a. three.1 (inr (two.1 (inr (one.1 (inl a))))))
+      (λ bc. ⊎_elim {C = R} (λ b. three.1 (inr (two.1 (inl b)))) (λ c. three.1 (inl c)) bc) h,
+)
+
+-- the last of them alone tells whether something is found, if the others find nothing
+pub last_run : {N R : Type 0} {A B C : N → Type 0} → ((k : N) → A k → ⊥) → ((k : N) → B k → ⊥) → R ↔ ((k : N) × C k) → R ↔ ((k : N) × (A k ⊎ (B k ⊎ C k)))
+last_run {N} {R} {A} {B} {C} no_a no_b last = (
+  λ r. let some = last.0 r in (some.0, inr (inr some.1)),
+  λ h. ⊎_elim {C = R} (λ a. absurd (no_a h.0 a)) (λ bc. ⊎_elim {C = R} (λ b. absurd (no_b h.0 b)) (λ c. last.1 (h.0, c)) bc) h.1,
+)

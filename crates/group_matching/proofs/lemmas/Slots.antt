@@ -1,0 +1,235 @@
+-- The slots of extensions, and the tokens in them.
+use Rattle.std.proofs.Common.{◌≡◌, ◌≢◌, ℕ, zero, suc, ◌+◌, ◌<◌, ◌≤◌, ◌⊎◌, inl, inr, Bool, true, false, cond, ◌==◌, List, [], ◌∷◌, ◌++◌, Option, Some, None, length, get_or, set, refl, ap, sym, subst, ◌∙◌, arith}
+use Rattle.std.specs.Option.{option_map_or}
+use Rattle.std.specs.Str.{bytes_eq}
+use Rattle.std.specs.Cmp.Lexicographic.{bytes_decides}
+use Rattle.std.proofs.Math.Logic.{⊎_elim}
+use Rattle.std.proofs.lemmas.Bool.{eq-eqb}
+use Rattle.std.proofs.lemmas.Bool.Decides.{eqb_tells}
+use Rattle.std.proofs.lemmas.List.{get_or_push, get_or_append_left, get_or-set_same, get_or-set_other, length-append, length-set}
+use Rattle.byte_automaton.specs.Steps.{IsIn, Machine}
+use Rattle.byte_automaton.specs.Runs.{size}
+use Rattle.byte_table.specs.Entries.{Entry, entry, indexes_under}
+use Rattle.byte_table.specs.inner.Lists.{with_index}
+use Rattle.byte_table.proofs.lemmas.Entries.{indexes_added}
+use Rattle.glob_automaton.specs.IndexedTokens.{IndexedTokens, IsFor}
+use Rattle.group_matching.specs.inner.Automata.{SlotParts, AreSlots, AreFor, KeepsTokens, AddsTokens, first, slot_of, tokens_under, machine_under}
+use Rattle.group_matching.proofs.lemmas.Tables.{first_in, under_push, first_push}
+
+abbrev pub slot_parts : List Entry → List Machine → Machine → ℕ → SlotParts
+slot_parts slots machines none n = record {
+  slots = slots;
+  machines = machines;
+  none = none;
+  index_count = n;
+}
+
+equal_or_not : (a b : ℕ) → (a ≡ b) ⊎ (a ≢ b)
+equal_or_not a b = ⊎_elim {C = (a ≡ b) ⊎ (a ≢ b)} (λ y. inl y.1) (λ n. inr n.1) (eqb_tells a b)
+
+-- the tokens of each slot, with those of one slot replaced
+abbrev replaced : ℕ → List IndexedTokens → (ℕ → List IndexedTokens) → ℕ → List IndexedTokens
+replaced s xs before t = cond (t == s) xs (before t)
+
+replaced_at : (s : ℕ) (xs : List IndexedTokens) (before : ℕ → List IndexedTokens) (t : ℕ) → t ≡ s → replaced s xs before t ≡ xs
+replaced_at s xs before t e = ap (λ b. cond b xs (before t)) (eq-eqb t s e)
+
+replaced_other : (s : ℕ) (xs : List IndexedTokens) (before : ℕ → List IndexedTokens) (t : ℕ) → t ≢ s → replaced s xs before t ≡ before t
+replaced_other s xs before t n =
+    ⊎_elim {C = replaced s xs before t ≡ before t} (λ y. absurd (n y.1)) (λ no. ap (λ b. cond b xs (before t)) no.0) (eqb_tells t s)
+
+-- ---- one automaton more
+
+pushed_at : (machines : List Machine) (m : Machine) (s : ℕ) (d : Machine) → s < length (machines ++ m ∷ [])
+    → ((s < length machines) × (get_or (machines ++ m ∷ []) s d ≡ get_or machines s d)) ⊎ ((s ≡ length machines) × (get_or (machines ++ m ∷ []) s d ≡ m))
+pushed_at machines m s d lt =
+    let len : length (machines ++ m ∷ []) ≡ length machines + 1 = length-append machines (m ∷ []) in
+    ⊎_elim {C = ((s < length machines) × (get_or (machines ++ m ∷ []) s d ≡ get_or machines s d)) ⊎ ((s ≡ length machines) × (get_or (machines ++ m ∷ []) s d ≡ m))}
+    (λ is. inr (is, get_or_push machines m d s (sym is)))
+    (λ other. let within : s < length machines = omega (arith, lt, len, other) in inl (within, get_or_append_left machines (m ∷ []) d s within))
+    (equal_or_not s (length machines))
+
+-- what is true of the parts stays true
+pub slots_push : (slots : List Entry) (machines : List Machine) (none : Machine) (n : ℕ) (m : Machine) → m.index_count ≡ n → AreSlots slots machines none n → AreSlots slots (machines ++ m ∷ []) none n
+slots_push slots machines none n m is before = record {
+  held = λ extension s there.
+      let lt = before.held extension s there in let len : length (machines ++ m ∷ []) ≡ length machines + 1 = length-append machines (m ∷ []) in omega (arith, lt, len);
+  apart = before.apart;
+  counted = λ s d lt.
+      ⊎_elim {C = (get_or (machines ++ m ∷ []) s d).index_count ≡ n} (λ old. ap (λ (x : Machine). x.index_count) old.1 ∙ before.counted s d old.0)
+      (λ new. ap (λ (x : Machine). x.index_count) new.1 ∙ is) (pushed_at machines m s d lt);
+  none_counted = before.none_counted;
+  empty = before.empty;
+  for_none = before.for_none;
+}
+
+-- ---- a new slot
+
+-- no other extension has it
+pub slots_insert : (slots : List Entry) (machines : List Machine) (none : Machine) (n : ℕ) (m : Machine) (key : List ℕ) (slot : ℕ) → m.index_count ≡ n → slot ≡ length machines
+    → AreSlots slots machines none n → AreSlots (slots ++ entry key slot ∷ []) (machines ++ m ∷ []) none n
+slots_insert slots machines none n m key slot is at before =
+    let more = slots_push slots machines none n m is before in
+    let len : length (machines ++ m ∷ []) ≡ length machines + 1 = length-append machines (m ∷ []) in record {
+      held = λ extension s there.
+          ⊎_elim {C = s < length (machines ++ m ∷ [])} (λ old. more.held extension s old) (λ new. omega (arith, new, at, len)) (under_push slots key slot extension s there);
+      apart = λ a b s of_a of_b.
+          ⊎_elim {C = a ≡ b}
+          (λ old_a. ⊎_elim {C = a ≡ b} (λ old_b. before.apart a b s old_a old_b) (λ new_b. absurd (is_new a s old_a new_b.1)) (first_push slots key slot b s of_b))
+          (λ new_a. ⊎_elim {C = a ≡ b} (λ old_b. absurd (is_new b s old_b new_a.1)) (λ new_b. sym new_a.0 ∙ new_b.0) (first_push slots key slot b s of_b))
+          (first_push slots key slot a s of_a);
+      counted = more.counted;
+      none_counted = more.none_counted;
+      empty = more.empty;
+      for_none = more.for_none;
+    }
+  where
+    is_new : (extension : List ℕ) (s : ℕ) → slot_of slots extension ≡ Some s → slot ≡ s → ⊥
+    is_new extension s old new = let within = before.held extension s (first_in (indexes_under slots extension) s old) in absurd (omega (arith, within, new, at))
+
+-- what the slot of an extension tells, if the new slot tells the same as no slot
+first_new : {X : Type 0} (b : Bool) (n : ℕ) (xs : List ℕ) (now before : ℕ → X) (none : X) → now n ≡ none → ((t : ℕ) → IsIn t xs → now t ≡ before t)
+    → option_map_or now (first (with_index b n xs)) none ≡ option_map_or before (first xs) none
+first_new true n [] now before none new same = new
+first_new false n [] now before none new same = refl
+first_new true n (x ∷ xs) now before none new same = same x (inl refl)
+first_new false n (x ∷ xs) now before none new same = same x (inl refl)
+
+-- no tokens are in it
+pub slot_keeps : (old new : SlotParts) (key : List ℕ) (n : ℕ) (m : Machine) → n ≡ length old.machines → AreSlots old.slots old.machines old.none old.index_count → IsFor m []
+    → new.slots ≡ old.slots ++ entry key n ∷ [] → new.machines ≡ old.machines ++ m ∷ [] → (before : ℕ → List IndexedTokens) → AreFor old.machines before → KeepsTokens old.slots before new
+slot_keeps old new key n m at is_old empty slots machines before are = record {
+  tokens = replaced n [] before;
+  are_for = subst (λ ms. AreFor ms (replaced n [] before)) (sym machines)
+      (λ s d lt. ⊎_elim {C = IsFor (get_or (old.machines ++ m ∷ []) s d) (replaced n [] before s)}
+      (λ o. let other : s ≢ n = (λ e. let within = o.0 in absurd (omega (arith, e, at, within))) in
+      subst (IsFor (get_or (old.machines ++ m ∷ []) s d)) (sym (replaced_other n [] before s other)) (subst (λ x. IsFor x (before s)) (sym o.1) (are s d o.0)))
+      (λ new. let is = new.0 in subst (IsFor (get_or (old.machines ++ m ∷ []) s d)) (sym (replaced_at n [] before s (omega (arith, is, at)))) (subst (λ x. IsFor x []) (sym new.1) empty))
+      (pushed_at old.machines m s d lt));
+  same = λ extension.
+      ap (λ es. tokens_under (replaced n [] before) es extension) slots
+      ∙ ap (λ xs. option_map_or (replaced n [] before) (first xs) []) (indexes_added old.slots key n extension)
+      ∙ first_new (bytes_eq key extension) n (indexes_under old.slots extension) (replaced n [] before) before [] (replaced_at n [] before n refl)
+      (λ t there. let within = is_old.held extension t there in replaced_other n [] before t (λ e. absurd (omega (arith, e, at, within))));
+}
+
+-- ---- the states of the automaton of an extension
+
+abbrev size_at : List Machine → Machine → ℕ → ℕ
+size_at machines none s = size (get_or machines s none)
+
+size_of : (machines : List Machine) (none : Machine) (o : Option ℕ) → size (option_map_or (λ s. get_or machines s none) o none) ≡ option_map_or (size_at machines none) o (size none)
+size_of machines none None = refl
+size_of machines none (Some s) = refl
+
+-- a new slot has none
+pub slot_size : (old new : SlotParts) (key : List ℕ) (n : ℕ) (m : Machine) → n ≡ length old.machines → AreSlots old.slots old.machines old.none old.index_count → size m ≡ 0
+    → new.slots ≡ old.slots ++ entry key n ∷ [] → new.machines ≡ old.machines ++ m ∷ [] → new.none ≡ old.none → (extension : List ℕ) → size (machine_under new extension) ≡ size (machine_under old extension)
+slot_size old new key n m at is_old no_states slots machines none extension =
+    size_of new.machines new.none (slot_of new.slots extension)
+    ∙ ap (λ ms. option_map_or (size_at ms new.none) (slot_of new.slots extension) (size new.none)) machines
+    ∙ ap (λ d. option_map_or (size_at (old.machines ++ m ∷ []) d) (slot_of new.slots extension) (size d)) none
+    ∙ ap (λ es. option_map_or (size_at (old.machines ++ m ∷ []) old.none) (slot_of es extension) (size old.none)) slots
+    ∙ ap (λ xs. option_map_or (size_at (old.machines ++ m ∷ []) old.none) (first xs) (size old.none)) (indexes_added old.slots key n extension)
+    ∙ first_new (bytes_eq key extension) n (indexes_under old.slots extension) (size_at (old.machines ++ m ∷ []) old.none) (size_at old.machines old.none) (size old.none)
+    (ap size (get_or_push old.machines m old.none n (sym at)) ∙ no_states ∙ sym is_old.empty)
+    (λ t there. ap size (get_or_append_left old.machines (m ∷ []) old.none t (is_old.held extension t there)))
+    ∙ sym (size_of old.machines old.none (slot_of old.slots extension))
+
+-- ---- tokens for a slot
+
+set_at_slot : (machines : List Machine) (i : ℕ) (m : Machine) (s : ℕ) (d : Machine) → i < length machines
+    → ((s ≡ i) × (get_or (set machines i m) s d ≡ m)) ⊎ ((s ≢ i) × (get_or (set machines i m) s d ≡ get_or machines s d))
+set_at_slot machines i m s d lt =
+    ⊎_elim {C = ((s ≡ i) × (get_or (set machines i m) s d ≡ m)) ⊎ ((s ≢ i) × (get_or (set machines i m) s d ≡ get_or machines s d))}
+    (λ is. inl (is, ap (λ j. get_or (set machines i m) j d) is ∙ get_or-set_same machines i m d lt))
+    (λ other. inr (other, get_or-set_other machines i s m d other))
+    (equal_or_not s i)
+
+-- what is true of the parts stays true
+pub slots_set : (slots : List Entry) (machines : List Machine) (none : Machine) (n i : ℕ) (m : Machine) → i < length machines → m.index_count ≡ n → AreSlots slots machines none n
+    → AreSlots slots (set machines i m) none n
+slots_set slots machines none n i m lt is before =
+    let len : length (set machines i m) ≡ length machines = length-set machines i m in record {
+      held = λ extension s there. let within = before.held extension s there in omega (arith, within, len);
+      apart = before.apart;
+      counted = λ s d within.
+          ⊎_elim {C = (get_or (set machines i m) s d).index_count ≡ n} (λ this. ap (λ (x : Machine). x.index_count) this.1 ∙ is)
+          (λ other. ap (λ (x : Machine). x.index_count) other.1 ∙ before.counted s d (omega (arith, within, len)))
+          (set_at_slot machines i m s d lt);
+      none_counted = before.none_counted;
+      empty = before.empty;
+      for_none = before.for_none;
+    }
+
+kept_at : (o : Option ℕ) (s : ℕ) (xs : List IndexedTokens) (before : ℕ → List IndexedTokens) → o ≢ Some s → option_map_or (replaced s xs before) o [] ≡ option_map_or before o []
+kept_at None s xs before other = refl
+kept_at (Some t) s xs before other = replaced_other s xs before t (λ e. other (ap Some e))
+
+pub slot_adds : (old mid new : SlotParts) (key : List ℕ) (s : ℕ) (x : IndexedTokens) (d now : Machine)
+    → AreSlots mid.slots mid.machines mid.none mid.index_count → slot_of mid.slots key ≡ Some s → s < length mid.machines → new.slots ≡ mid.slots → new.machines ≡ set mid.machines s now
+    → ((xs : List IndexedTokens) → IsFor (get_or mid.machines s d) xs → IsFor now (xs ++ x ∷ []))
+    → (before : ℕ → List IndexedTokens) → KeepsTokens old.slots before mid → AddsTokens old.slots before new key x
+slot_adds old mid new key s x d now is_mid at lt slots machines adds before kept = record {
+  tokens = after;
+  are_for = subst (λ ms. AreFor ms after) (sym machines)
+      (λ t e within. ⊎_elim {C = IsFor (get_or (set mid.machines s now) t e) (after t)}
+      (λ this. subst (IsFor (get_or (set mid.machines s now) t e)) (sym (replaced_at s (kept.tokens s ++ x ∷ []) kept.tokens t this.0))
+      (subst (λ m. IsFor m (kept.tokens s ++ x ∷ [])) (sym this.1) (adds (kept.tokens s) (kept.are_for s d lt))))
+      (λ other. subst (IsFor (get_or (set mid.machines s now) t e)) (sym (replaced_other s (kept.tokens s ++ x ∷ []) kept.tokens t other.0))
+      (subst (λ m. IsFor m (kept.tokens t)) (sym other.1) (kept.are_for t e (let len : length (set mid.machines s now) ≡ length mid.machines = length-set mid.machines s now in omega (arith, within, len)))))
+      (set_at_slot mid.machines s now t e lt));
+  added = λ extension is.
+      let here : slot_of mid.slots extension ≡ Some s = ap (λ q. slot_of mid.slots q) is ∙ at in
+      ap (λ es. tokens_under after es extension) slots
+      ∙ ap (λ o. option_map_or after o []) here
+      ∙ replaced_at s (kept.tokens s ++ x ∷ []) kept.tokens s refl
+      ∙ ap (λ o. option_map_or kept.tokens o [] ++ x ∷ []) (sym here)
+      ∙ ap (λ ts. ts ++ x ∷ []) (kept.same extension);
+  others = λ extension other.
+      ap (λ es. tokens_under after es extension) slots
+      ∙ kept_at (slot_of mid.slots extension) s (kept.tokens s ++ x ∷ []) kept.tokens (λ e. absurd (other (is_mid.apart extension key s e at)))
+      ∙ kept.same extension;
+}
+  where
+    after : ℕ → List IndexedTokens
+    after = replaced s (kept.tokens s ++ x ∷ []) kept.tokens
+
+pub any_default : (machines : List Machine) (s : ℕ) (d e : Machine) → s < length machines → get_or machines s d ≡ get_or machines s e
+any_default [] s d e lt = absurd (omega (arith, lt))
+any_default (m ∷ ms) zero d e lt = refl
+any_default (m ∷ ms) (suc s) d e lt = any_default ms s d e (omega (arith, lt))
+
+-- one automaton has at most so many states more
+set_size : (machines : List Machine) (none : Machine) (s more : ℕ) (now : Machine) (o : Option ℕ) (b : Bool) → s < length machines → size now ≤ size (get_or machines s none) + more → (o ≡ Some s → b ≡ true)
+    → size (option_map_or (λ t. get_or (set machines s now) t none) o none) ≤ size (option_map_or (λ t. get_or machines t none) o none) + cond b more 0
+set_size machines none s more now None b lt few tells = omega arith
+set_size machines none s more now (Some t) b lt few tells =
+    ⊎_elim {C = size (get_or (set machines s now) t none) ≤ size (get_or machines t none) + cond b more 0}
+    (λ this.
+    let b_is = ap (λ v. cond v more 0) (tells (ap Some this.0)) in
+    let new = ap size this.1 in
+    let old = ap (λ u. size (get_or machines u none)) this.0 in omega (arith, few, b_is, new, old))
+    (λ other. let same = ap size other.1 in omega (arith, same))
+    (set_at_slot machines s now t none lt)
+
+pub slot_size_added : (mid new : SlotParts) (key : List ℕ) (s more : ℕ) (d now : Machine) → AreSlots mid.slots mid.machines mid.none mid.index_count → slot_of mid.slots key ≡ Some s → s < length mid.machines
+    → new.slots ≡ mid.slots → new.machines ≡ set mid.machines s now → new.none ≡ mid.none → size now ≤ size (get_or mid.machines s d) + more
+    → (extension : List ℕ) → size (machine_under new extension) ≤ size (machine_under mid extension) + cond (bytes_eq key extension) more 0
+slot_size_added mid new key s more d now is_mid at lt slots machines none few extension =
+    let is : size (machine_under new extension) ≡ size (option_map_or (λ t. get_or (set mid.machines s now) t mid.none) (slot_of mid.slots extension) mid.none) =
+    ap (λ es. size (option_map_or (λ t. get_or new.machines t new.none) (slot_of es extension) new.none)) slots
+    ∙ ap (λ ms. size (option_map_or (λ t. get_or ms t new.none) (slot_of mid.slots extension) new.none)) machines
+    ∙ ap (λ d. size (option_map_or (λ t. get_or (set mid.machines s now) t d) (slot_of mid.slots extension) d)) none in
+    let d_is = ap size (any_default mid.machines s d mid.none lt) in
+    let within : size now ≤ size (get_or mid.machines s mid.none) + more = omega (arith, few, d_is) in
+    let le = set_size mid.machines mid.none s more now (slot_of mid.slots extension) (bytes_eq key extension) lt within (λ e. (bytes_decides key extension).1 (is_mid.apart key extension s at e)) in
+    omega (arith, is, le)
+
+-- ---- the automaton of a slot
+
+-- it is for the tokens of the extension
+pub slot_tokens : (machines : List Machine) (tokens : ℕ → List IndexedTokens) (slots : List Entry) (extension : List ℕ) (s : ℕ) (m : Machine) → Some s ≡ slot_of slots extension
+    → s < length machines → m ≡ get_or machines s m → AreFor machines tokens → IsFor m (tokens_under tokens slots extension)
+slot_tokens machines tokens slots extension s m at lt is are =
+    subst (λ o. IsFor m (option_map_or tokens o [])) at (subst (λ x. IsFor x (tokens s)) (sym is) (are s m lt))
