@@ -77,25 +77,21 @@ impl Automata {
     pub fn found(
         &self,
         alloc: Global,
-        path: &Candidate<'_>,
+        path: &[u8],
         visits: &mut Visits,
     ) -> Result<Option<IndexSet>, AllocError>
         ensures found { IfOk result (λ set. MatchOption set (AreIdle self.now path.now) (λ found. IsFoundSet self.now path.now found)) }
         ensures memory { states_for self.now path.now ≡ 0 → IsOk result }
         ensures visits { visits.new ≤ visits.old + (1 + (length path.now + 1) * states_for self.now path.now) }
     {
-        let text = path.path();
-        let by_extension = self.by_extension(path, visits);
-        if self.by_path.state_count() == 0
-            && self.by_component.state_count() == 0
-            && by_extension.state_count() == 0
-        {
+        let by_extension = self.by_extension(&Candidate::from_bytes(path), visits);
+        if self.is_idle(by_extension) {
             return Ok(None);
         }
         let mut found = IndexSet::new(alloc, self.index_count())?;
-        run(alloc, &self.by_path, text, &mut found, visits)?;
-        self.run_by_component(alloc, text, &mut found, visits)?;
-        run(alloc, by_extension, text, &mut found, visits)?;
+        run(alloc, &self.by_path, path, &mut found, visits)?;
+        self.run_by_component(alloc, path, &mut found, visits)?;
+        run(alloc, by_extension, path, &mut found, visits)?;
         Ok(Some(found))
     }
 
@@ -135,6 +131,15 @@ impl Automata {
         }
         self.extensions
             .automaton_of(component_extension_of(path), visits)
+    }
+
+    /// Returns whether there are no states, in the automaton of an extension either.
+    fn is_idle(&self, by_extension: &Automaton) -> bool
+        ensures { IsTrue result ↔ (size self.now.by_path + (size self.now.by_component + size by_extension.now) ≡ 0) }
+    {
+        self.by_path.state_count() == 0
+            && self.by_component.state_count() == 0
+            && by_extension.state_count() == 0
     }
 
     /// Puts the indexes of the globs that the path's last component matches into a set. The component is only searched for if

@@ -74,7 +74,7 @@ impl Groups {
         ensures visits { (globs : List TokenGlob) → AreGroupsOf globs self.now → visits.new ≤ visits.old + most_visits globs path.now }
     {
         let count = self.automata.index_count();
-        let Some(found) = self.automata.found(alloc, path, visits)? else {
+        let Some(found) = self.automata.found(alloc, path.path(), visits)? else {
             return Ok(self.keys.count_found(path, visits) == Some(count));
         };
         let mut indexes = Vec::new(alloc);
@@ -96,7 +96,7 @@ impl Groups {
         ensures found { OnOk result ((globs : List TokenGlob) → AreGroupsOf globs self.now → length globs ≡ group_count self.now → (k : ℕ) → Contains into.new.items k ↔ Contains (listed globs path.now) k) }
         ensures visits { (globs : List TokenGlob) → AreGroupsOf globs self.now → visits.new ≤ visits.old + most_visits globs path.now }
     {
-        if let Some(found) = self.automata.found(alloc, path, visits)? {
+        if let Some(found) = self.automata.found(alloc, path.path(), visits)? {
             push_indexes(&found, self.automata.index_count(), into)?;
         }
         self.keys.push_found(path, into, visits)

@@ -32,7 +32,7 @@ bytes_dropped zero path h = h
 bytes_dropped (suc n) [] h = tt
 bytes_dropped (suc n) (c ∷ cs) h = bytes_dropped n cs h.1
 
-bytes_after : (o : Option ℕ) (path : List ℕ) → AllBytes path → AllBytes (after_position path o)
+pub bytes_after : (o : Option ℕ) (path : List ℕ) → AllBytes path → AllBytes (after_position path o)
 bytes_after None path h = h
 bytes_after (Some k) path h = bytes_dropped (k + 1) path h
 

@@ -154,9 +154,11 @@ in_contains (x ∷ xs) i h = ⊎_elim {C = Contains (x ∷ xs) i} (λ e. (0, ome
 
 rises_from : (low x : ℕ) (xs : List ℕ) → low ≤ x → IsStrictlyIncreasing (x ∷ xs) → Rises low (x ∷ xs)
 rises_from low x [] le h = (le, record {})
-rises_from low x (y ∷ ys) le h =
-    (le, rises_from (x + 1) y ys (let l = h 0 (omega arith) in omega (arith, l))
-    (λ k lt. let e : suc k + 1 ≡ suc (k + 1) = omega arith in subst (λ n. slice_index (x ∷ y ∷ ys) (suc k) < slice_index (x ∷ y ∷ ys) n) e (h (suc k) (omega (arith, lt)))))
+rises_from low x (y ∷ ys) le h = (
+  le,
+  rises_from (x + 1) y ys (let l = h 0 (omega arith) in omega (arith, l))
+      (λ k lt. let e : suc k + 1 ≡ suc (k + 1) = omega arith in subst (λ n. slice_index (x ∷ y ∷ ys) (suc k) < slice_index (x ∷ y ∷ ys) n) e (h (suc k) (omega (arith, lt)))),
+)
 
 rises : (xs : List ℕ) → IsStrictlyIncreasing xs → Rises 0 xs
 rises [] h = record {}
