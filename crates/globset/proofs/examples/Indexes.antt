@@ -163,6 +163,34 @@ equal_globs_on_another_path = refl
 
 -- ---- visits
 
-nine_stars_on_nine_letters : most_set_visits (globs ("a*a*a*a*a*a*a*a*a" ∷ [])) (utf8 "aaaaaaaaa") ≡ 720
+nine_stars_on_nine_letters : most_set_visits (globs ("a*a*a*a*a*a*a*a*a" ∷ [])) (utf8 "aaaaaaaaa") ≡ 744
 unfolding globs_on_literals
 nine_stars_on_nine_letters = refl
+
+literal_globs : most_set_visits (globs ("abcdefgh" ∷ "ijklmnop" ∷ "qrstuvwx" ∷ [])) (utf8 "abcdefgx") ≡ 22
+unfolding globs_on_literals
+literal_globs = refl
+
+direct_globs : most_set_visits (globs ("*.rs" ∷ "a*" ∷ "**/x/y" ∷ [])) (utf8 "b/x/y") ≡ 16
+unfolding globs_on_literals
+direct_globs = refl
+
+direct_globs_and_another : most_set_visits (globs ("*.rs" ∷ "a*" ∷ "**/x/y" ∷ "a?c" ∷ [])) (utf8 "b/x/y") ≡ 112
+unfolding globs_on_literals
+direct_globs_and_another = refl
+
+absent_ending : most_set_visits (globs ("a/*.rs" ∷ [])) (utf8 "a/b.c") ≡ 16
+unfolding globs_on_literals
+absent_ending = refl
+
+ending : most_set_visits (globs ("a/*.rs" ∷ [])) (utf8 "a/b.rs") ≡ 214
+unfolding globs_on_literals
+ending = refl
+
+globs_for_every_path : most_set_visits (globs ("**" ∷ "*" ∷ "**/*" ∷ [])) (utf8 "") ≡ 6
+unfolding globs_on_literals
+globs_for_every_path = refl
+
+insensitive_glob : most_set_visits (insensitive "a" ∷ []) (utf8 "a") ≡ 24
+unfolding globs_on_literals
+insensitive_glob = refl

@@ -11,11 +11,12 @@ use Rattle.globset_glob.specs.Stars.{piece}
 use Rattle.globset_glob.specs.Reading.{reading, whole, levels}
 use Rattle.globset_glob.specs.Means.{GlobValue, default_options, default_glob, tokens_of_glob, glob_means}
 use Rattle.globset.specs.Answer.{answer}
+use Rattle.glob_groups.specs.Direct.{is_direct, needs_automaton}
 use Rattle.globset.specs.Silent.{silent}
 
 -- What a proof unfolds to compute `silent` and `answer` of globs that are written out.
 unfoldable pub globs_on_literals : Unit {0}
-unfolding chars encode_utf8 ranges bad_range marks mark_at nested piece reading whole levels tokens_of_glob glob_means silent answer
+unfolding chars encode_utf8 ranges bad_range marks mark_at nested piece reading whole levels tokens_of_glob glob_means silent answer is_direct needs_automaton
 globs_on_literals = tt
 
 -- ---- globs

@@ -1,6 +1,5 @@
-use Rattle.std.proofs.Common.{ℕ, [], List, IsTrue, map, sym, subst, ◌∙◌}
+use Rattle.std.proofs.Common.{ℕ, [], List, IsTrue, map, subst}
 use Rattle.std.specs.Prelude.{◌≢◌, ◌↔◌}
-use Rattle.std.proofs.lemmas.List.{length-map}
 use Rattle.globset_glob.specs.Means.{GlobValue}
 use Rattle.globset.specs.Answer.{answer}
 use Rattle.globset.specs.inner.StoredGlobs.{by_tokens}
@@ -10,7 +9,6 @@ use Rattle.globset.proofs.set.stored.Stored.is_match.Goals as goal
 pub returns-clause-ok : goal.returns-clause-ok
 returns-clause-ok c =
     let globs = c.self.inside.globs.items in
-    let counted = length-map globs by_tokens ∙ sym c.self.invariant.count in
     subst (λ (gs : List GlobValue). IsTrue c.in_ok-is_match.field-0 ↔ (answer gs c.args.path.now ≢ [])) c.self.view_is
     (subst (λ (xs : List ℕ). IsTrue c.in_ok-is_match.field-0 ↔ (xs ≢ [])) (listed_answer globs c.args.path.now)
-    (c.in_ok-is_match.ensures.some (map by_tokens globs) c.self.invariant.groups counted))
+    (c.in_ok-is_match.ensures.some (map by_tokens globs) c.self.invariant.groups))
