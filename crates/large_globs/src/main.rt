@@ -6,7 +6,7 @@
 #![tactic(auto)]
 
 use anyhow::Result;
-use globset::{Error, Glob, GlobSet};
+use globset::{Error, Glob, GlobMatcher, GlobSet};
 use std::alloc::{AllocError, Global};
 
 fn main(rt: HostRuntime) -> Result<()> {
@@ -84,16 +84,32 @@ fn matches(alloc: Global, glob: &Glob, path: &str) -> Result<bool, Error> {
 
 /// Whether a glob matches a path, by a matcher and by a copy of it.
 fn by_matcher(glob: &Glob, path: &str) -> Result<bool, Error> {
-    let matcher = glob.compile_matcher()?;
-    let copy = matcher.clone()?;
-    Ok(matcher.is_match(path)? && copy.is_match(path)?)
+    matcher_and_copy(&glob.compile_matcher()?, path)
+}
+
+fn matcher_and_copy(matcher: &GlobMatcher, path: &str) -> Result<bool, Error> {
+    Ok(matcher.is_match(path)? && copied_matcher(matcher, path)?)
+}
+
+fn copied_matcher(matcher: &GlobMatcher, path: &str) -> Result<bool, Error> {
+    matcher.clone()?.is_match(path)
 }
 
 /// Whether a glob matches a path, by a set of a copy of it, and by a copy of the set.
 fn by_set(alloc: Global, glob: &Glob, path: &str) -> Result<bool, Error> {
-    let set = GlobSet::new(alloc, [&glob.clone()?])?;
-    let copy = set.clone()?;
-    Ok(set.is_match(path)? && copy.is_match(path)?)
+    set_and_copy(&set_of(alloc, &glob.clone()?)?, path)
+}
+
+fn set_of(alloc: Global, glob: &Glob) -> Result<GlobSet, Error> {
+    GlobSet::new(alloc, [glob])
+}
+
+fn set_and_copy(set: &GlobSet, path: &str) -> Result<bool, Error> {
+    Ok(set.is_match(path)? && copied_set(set, path)?)
+}
+
+fn copied_set(set: &GlobSet, path: &str) -> Result<bool, Error> {
+    set.clone()?.is_match(path)
 }
 
 /// The text of so many copies of each of these.

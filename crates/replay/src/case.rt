@@ -5,7 +5,7 @@ use anyhow::Result;
 use globset::{Candidate, Error, Glob, GlobBuilder, GlobSet, ValueError, escape};
 use rows::{Case, Columns, RowError, escaped, list, text, yes_or_no};
 use serde_json::Value;
-use std::alloc::Global;
+use std::alloc::{AllocError, Global};
 use std::hash::{DefaultHasher, Hash, Hasher};
 
 /// The globs that rows so far added, and a set of them.
@@ -45,22 +45,24 @@ impl Case for Globs {
 impl Globs {
     /// Reads a glob and copies it: `reads`, and the copy's `regex()`; or `fails`, the error's kind and its text.
     fn read(&self, columns: &mut Columns<'_>) -> Result<String> {
-        match read(self.alloc, columns)? {
-            Ok(glob) => Ok(shown::glob(self.alloc, &glob.clone()?)?),
-            Err(error) => Ok(shown::error(self.alloc, &error)?),
+        match &read(self.alloc, columns)? {
+            Ok(glob) => Ok(shown_copy(self.alloc, glob)?),
+            Err(error) => Ok(shown::error(self.alloc, error)?),
         }
     }
 
     /// Reads a glob, as [`Globs::read`], and adds it to the set.
     fn glob(&mut self, columns: &mut Columns<'_>) -> Result<String> {
         match read(self.alloc, columns)? {
-            Ok(glob) => {
-                let shown = shown::glob(self.alloc, &glob)?;
-                self.push(glob)?;
-                Ok(shown)
-            }
+            Ok(glob) => Ok(self.push_shown(glob)?),
             Err(error) => Ok(shown::error(self.alloc, &error)?),
         }
+    }
+
+    fn push_shown(&mut self, glob: Glob) -> Result<String, Error> {
+        let shown = shown::glob(self.alloc, &glob)?;
+        self.push(glob)?;
+        Ok(shown)
     }
 
     /// Adds a glob to the set: the length of the set.
@@ -77,9 +79,7 @@ impl Globs {
 
     /// Whether a glob matches a path, by its matcher and by a set of it alone.
     fn is_match(&self, columns: &mut Columns<'_>) -> Result<String> {
-        let glob = read(self.alloc, columns)??;
-        let path = columns.bytes(self.alloc)?;
-        let shown = is_match(self.alloc, &glob, &Candidate::from_bytes(&path))?;
+        let shown = is_match(self.alloc, &read(self.alloc, columns)??, columns)?;
         Ok(text(self.alloc, shown)?)
     }
 
@@ -111,9 +111,8 @@ impl Globs {
 
     /// Whether two globs are equal, or the errors of two texts that are no globs. Equal globs must hash equally.
     fn equal(&self, columns: &mut Columns<'_>) -> Result<String> {
-        let one = read(self.alloc, columns)?;
-        let other = read(self.alloc, columns)?;
-        Ok(text(self.alloc, compared(&one, &other))?)
+        let shown = equal(self.alloc, &read(self.alloc, columns)?, columns)?;
+        Ok(text(self.alloc, shown)?)
     }
 
     /// The basename and the extension of a path.
@@ -133,28 +132,43 @@ impl Globs {
 
     /// Reads a glob from a JSON text: `reads`, the glob and the JSON text that is written of it; or `fails` and the error.
     fn value(&self, columns: &mut Columns<'_>) -> Result<String> {
-        let value = json(self.alloc, columns)?;
-        match Glob::from_value(self.alloc, &value) {
-            Ok(glob) => written(self.alloc, &glob),
-            Err(error) => Ok(shown::value_error(self.alloc, &error)?),
+        match &Glob::from_value(self.alloc, &json(self.alloc, columns)?) {
+            Ok(glob) => written(self.alloc, glob),
+            Err(error) => Ok(shown::value_error(self.alloc, error)?),
         }
     }
 
     /// Reads a set from a JSON text, in place of the set: `reads` and its length; or `fails`, the index and the error.
     fn array(&mut self, columns: &mut Columns<'_>) -> Result<String> {
-        let value = json(self.alloc, columns)?;
-        match GlobSet::from_value(self.alloc, &value) {
-            Ok(set) => {
-                self.globs.clear();
-                self.set = set;
-                Ok(format!(in self.alloc; "reads\t{}", self.set.len())?)
-            }
+        match GlobSet::from_value(self.alloc, &json(self.alloc, columns)?) {
+            Ok(set) => Ok(self.replace(set)?),
             Err(error) => Ok(shown::value_error(self.alloc, &error)?),
         }
     }
+
+    fn replace(&mut self, set: GlobSet) -> Result<String, AllocError> {
+        self.globs.clear();
+        self.set = set;
+        format!(in self.alloc; "reads\t{}", self.set.len())
+    }
 }
 
-fn is_match(alloc: Global, glob: &Glob, path: &Candidate<'_>) -> Result<&'static str, Error> {
+fn shown_copy(alloc: Global, glob: &Glob) -> Result<String, Error> {
+    let copy = glob.clone()?;
+    Ok(shown::glob(alloc, &copy)?)
+}
+
+/// Whether a glob matches the path of the next column.
+fn is_match(alloc: Global, glob: &Glob, columns: &mut Columns<'_>) -> Result<&'static str> {
+    let path = columns.bytes(alloc)?;
+    Ok(compared_matches(alloc, glob, &Candidate::from_bytes(&path))?)
+}
+
+fn compared_matches(
+    alloc: Global,
+    glob: &Glob,
+    path: &Candidate<'_>,
+) -> Result<&'static str, Error> {
     let matcher = matches_by_itself(glob, path)?;
     let set = matches_in_a_set(alloc, glob, path)?;
     if matcher == set {
@@ -172,6 +186,15 @@ fn matches_in_a_set(alloc: Global, glob: &Glob, path: &Candidate<'_>) -> Result<
     GlobSet::new(alloc, [glob])?.is_match_candidate(path)
 }
 
+/// Whether the glob of the next columns, or its error, is equal to this one.
+fn equal(
+    alloc: Global,
+    one: &Result<Glob, Error>,
+    columns: &mut Columns<'_>,
+) -> Result<&'static str, RowError> {
+    Ok(compared(one, &read(alloc, columns)?))
+}
+
 fn compared(one: &Result<Glob, Error>, other: &Result<Glob, Error>) -> &'static str {
     match (one, other) {
         (Ok(one), Ok(other)) if one == other && hash_of(one) != hash_of(other) => {
@@ -185,8 +208,11 @@ fn compared(one: &Result<Glob, Error>, other: &Result<Glob, Error>) -> &'static 
 
 /// `reads`, the glob and the JSON text that is written of it.
 fn written(alloc: Global, glob: &Glob) -> Result<String> {
-    let value = glob.to_value()?;
-    if !is_read_back(alloc, glob, &value)? {
+    written_as(alloc, glob, &glob.to_value()?)
+}
+
+fn written_as(alloc: Global, glob: &Glob, value: &Value) -> Result<String> {
+    if !is_read_back(alloc, glob, value)? {
         return Ok(text(alloc, "another glob is read back")?);
     }
     let glob = escaped(alloc, glob.glob().as_bytes())?;

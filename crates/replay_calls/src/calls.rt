@@ -1,4 +1,7 @@
 //! Calls: each row names a type, a call and what the call is made with.
+//!
+//! A function that makes a value hands a reference to it to another one, in its last expression. So the value is dropped at
+//! one place alone, and the functions are proved in little time.
 
 mod automata;
 mod candidates;
@@ -12,9 +15,9 @@ mod value_errors;
 
 use anyhow::Result;
 use globset::{Glob, GlobSet, Visits};
-use rows::{Columns, RowError};
-use std::alloc::Global;
-use std::mem;
+use rows::{Columns, RowError, escaped};
+use std::alloc::{AllocError, Global};
+use std::{fmt, mem};
 
 /// What the call of a row returns. A call on a set is made with the set of the rows so far, and their globs.
 pub fn returned(
@@ -25,13 +28,22 @@ pub fn returned(
 ) -> Result<String> {
     let kind = columns.next()?;
     let call = columns.next()?;
-    let with = columns.bytes(alloc)?;
     if kind == "Candidate" {
-        return candidates::candidate(alloc, call, &with);
+        return candidates::candidate(alloc, call, &columns.bytes(alloc)?);
     }
-    let Ok(with) = str::from_utf8(&with) else {
-        return Err(RowError::NotUtf8.into());
-    };
+    let with = columns.text(alloc)?;
+    let shown = shown(alloc, kind, call, with.as_str(), globs, set)?;
+    Ok(escaped(alloc, shown.as_bytes())?)
+}
+
+fn shown(
+    alloc: Global,
+    kind: &str,
+    call: &str,
+    with: &str,
+    globs: &[Glob],
+    set: &GlobSet,
+) -> Result<String> {
     match kind {
         "Glob" => globs::glob(alloc, call, with),
         "GlobBuilder" => globs::builder(alloc, call, with),
@@ -42,14 +54,24 @@ pub fn returned(
         "ValueError" => value_errors::value_error(alloc, call, with),
         "GlobSet" => sets::set(alloc, call, globs, set, with),
         "GlobSetBuilder" => set_builders::builder(alloc, call, globs),
-        _ => automata::debug(alloc, kind, call),
+        _ => automata::automaton(alloc, kind, call),
     }
 }
 
 /// A count of visits has no size.
 fn visits(alloc: Global, call: &str) -> Result<String> {
     match call {
-        "size_of" => Ok(format!(in alloc; "{}", mem::size_of::<Visits>())?),
+        "size_of" => Ok(displayed(alloc, &mem::size_of::<Visits>())?),
         _ => Err(RowError::UnknownCall.into()),
     }
+}
+
+/// What `{}` shows.
+fn displayed<T: fmt::Display>(alloc: Global, value: &T) -> Result<String, AllocError> {
+    format!(in alloc; "{value}")
+}
+
+/// What `{:?}` shows.
+fn debugged<T: fmt::Debug>(alloc: Global, value: &T) -> Result<String, AllocError> {
+    format!(in alloc; "{value:?}")
 }

@@ -1,7 +1,9 @@
 //! Texts of errors, and what `Debug` shows of them.
 
-use super::arguments_of;
+use super::{arguments_of, check};
 use crate::command::command;
+use crate::command::fault::CommandFault;
+use crate::command::parsed::Command;
 use crate::fault::Fault;
 use crate::sifting::fault::SiftFault;
 use std::alloc::{AllocError, Global};
@@ -21,8 +23,11 @@ globsift -n * => accepted";
 
 /// What `Debug` shows of a command line's error, and the text of the error; or `accepted`.
 fn error_of(alloc: Global, line: &str) -> Result<String, AllocError> {
-    let arguments = arguments_of(alloc, line)?;
-    match command(alloc, &arguments) {
+    shown(alloc, &command(alloc, &arguments_of(alloc, line)?))
+}
+
+fn shown(alloc: Global, command: &Result<Command, CommandFault>) -> Result<String, AllocError> {
+    match command {
         Ok(_) => String::from_str(alloc, "accepted"),
         Err(fault) => format!(in alloc; "{fault:?}: {fault}"),
     }
@@ -32,9 +37,14 @@ fn error_of(alloc: Global, line: &str) -> Result<String, AllocError> {
 fn of_command(rt: HostRuntime) -> Result<(), Fail> {
     for row in ROWS.lines() {
         let (line, wanted) = row.split_once(" => ").unwrap_or((row, ""));
-        assert_eq!(rt; error_of(rt.alloc(), line)?.as_str(), wanted, "of {row}");
+        check(&rt, error_of(rt.alloc(), line)?.as_str(), wanted, row);
     }
     Ok(())
+}
+
+/// What `Debug` shows of an error, and its text.
+fn text_of(alloc: Global, fault: &Fault) -> Result<String, AllocError> {
+    format!(in alloc; "{fault:?}: {fault}")
 }
 
 /// The errors of `sift`, and what `Debug` shows of them, and their texts.
@@ -46,12 +56,9 @@ const SIFT_FAULTS: [(SiftFault, &str); 3] = [
 
 #[test]
 fn of_sift(rt: HostRuntime) -> Result<(), Fail> {
-    for (fault, wanted) in SIFT_FAULTS {
-        let fault = Fault::from(fault);
-        assert_eq!(rt;
-            format!(in rt.alloc(); "{fault:?}: {fault}")?.as_str(),
-            wanted
-        );
+    for (fault, wanted) in &SIFT_FAULTS {
+        let text = text_of(rt.alloc(), &Fault::from(*fault))?;
+        check(&rt, text.as_str(), *wanted, *wanted);
     }
     Ok(())
 }

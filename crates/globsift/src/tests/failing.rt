@@ -2,12 +2,13 @@
 
 ghost use Rattle.std.specs.Prelude.{Some};
 
-use super::bytes_of;
+use super::{check, text_of};
 use crate::sifting::fault::SiftFault;
 use crate::sifting::sift;
-use globset::{Glob, GlobSet};
+use globset::{Glob, GlobSet, GlobSetBuilder};
 use std::alloc::{AllocError, Global};
 use std::io::{Error, ErrorKind, Read, Result, Write};
+use std::process::Abort;
 use std::test::Fail;
 
 /// Returns one byte at each read, and fails when no read is left.
@@ -69,55 +70,55 @@ impl Write for ByteWriter {
 const INPUT: &[u8] = b"src/a.rs\n\nb.c\nx.rs\ny.rs";
 
 /// How a reader and a writer fail, and what comes of it: the form of the output, how many reads succeed, how many bytes the
-/// writer accepts, what it does then and at a flush, the result, how many flushes there were, and what was written, with `|`
-/// for LF and `:` for a tab.
+/// writer accepts, what it does then and at a flush; and the result, how many flushes there were, and what was written, with
+/// `|` for LF, `:` for a tab and `-` for nothing.
 const CASES: &str = "\
-plain 99 99 fails flushes true 1 src/a.rs|x.rs|y.rs|
-numbered 99 99 fails flushes true 1 0,1:src/a.rs|0:x.rs|0:y.rs|
-plain 0 99 fails flushes Read 0 -
-plain 8 99 fails flushes Read 0 -
-plain 17 99 fails flushes Read 0 src/a.rs|
-plain 23 99 fails flushes Read 0 src/a.rs|x.rs|
-numbered 23 99 fails flushes Read 0 0,1:src/a.rs|0:x.rs|
-plain 99 0 fails flushes Write 0 -
-plain 99 5 fails flushes Write 0 src/a
-plain 99 0 accepts-none flushes Write 0 -
-plain 99 5 accepts-none flushes Write 0 src/a
-numbered 99 2 accepts-none flushes Write 0 0,
-plain 17 5 fails flushes Write 0 src/a
-plain 99 99 fails no-flush Write 1 src/a.rs|x.rs|y.rs|";
+plain 99 99 fails flushes => true 1 src/a.rs|x.rs|y.rs|
+numbered 99 99 fails flushes => true 1 0,1:src/a.rs|0:x.rs|0:y.rs|
+plain 0 99 fails flushes => Read 0 -
+plain 8 99 fails flushes => Read 0 -
+plain 17 99 fails flushes => Read 0 src/a.rs|
+plain 23 99 fails flushes => Read 0 src/a.rs|x.rs|
+numbered 23 99 fails flushes => Read 0 0,1:src/a.rs|0:x.rs|
+plain 99 0 fails flushes => Write 0 -
+plain 99 5 fails flushes => Write 0 src/a
+plain 99 0 accepts-none flushes => Write 0 -
+plain 99 5 accepts-none flushes => Write 0 src/a
+numbered 99 2 accepts-none flushes => Write 0 0,
+plain 17 5 fails flushes => Write 0 src/a
+plain 99 99 fails no-flush => Write 1 src/a.rs|x.rs|y.rs|";
 
-/// A row of `CASES`.
+/// How a reader and a writer fail.
 #[derive(Clone, Copy)]
-struct Case<'a> {
+struct Case {
     numbered: bool,
     reads: u32,
     room: usize,
     write_fails: bool,
     flush_fails: bool,
-    result: &'a str,
-    flushes: u32,
-    output: &'a str,
 }
 
-/// Reads a row.
-fn parse(row: &str) -> Option<Case<'_>> {
-    let mut columns = row.split(' ');
+/// Reads a case.
+fn parse(case: &str) -> Option<Case> {
+    let mut columns = case.split(' ');
     Some(Case {
         numbered: columns.next()? == "numbered",
         reads: columns.next()?.parse().ok()?,
         room: columns.next()?.parse().ok()?,
         write_fails: columns.next()? == "fails",
         flush_fails: columns.next()? == "no-flush",
-        result: columns.next()?,
-        flushes: columns.next()?.parse().ok()?,
-        output: columns.next()?,
     })
 }
 
 /// The set of `*.rs` and `src/**`.
 fn make_set(alloc: Global) -> std::result::Result<GlobSet, globset::Error> {
-    let mut builder = GlobSet::builder(alloc);
+    build(alloc, &mut GlobSet::builder(alloc))
+}
+
+fn build(
+    alloc: Global,
+    builder: &mut GlobSetBuilder,
+) -> std::result::Result<GlobSet, globset::Error> {
     builder.add(Glob::new(alloc, "*.rs")?)?;
     builder.add(Glob::new(alloc, "src/**")?)?;
     builder.build()
@@ -134,12 +135,15 @@ fn name_of(outcome: std::result::Result<bool, SiftFault>) -> &'static str {
     }
 }
 
-/// The result of a case, and the writer after it.
-fn run(alloc: Global, set: &GlobSet, case: &Case<'_>) -> (&'static str, ByteWriter) {
-    let mut reader = ByteReader {
-        rest: INPUT,
-        reads: case.reads,
-    };
+/// What comes of a case, as a row says it.
+fn outcome_of(alloc: Global, set: &GlobSet, case: &str) -> std::result::Result<String, AllocError> {
+    match parse(case) {
+        Some(case) => run(alloc, set, &case),
+        None => String::from_str(alloc, "not a case"),
+    }
+}
+
+fn run(alloc: Global, set: &GlobSet, case: &Case) -> std::result::Result<String, AllocError> {
     let mut writer = ByteWriter {
         bytes: Vec::new(alloc),
         room: case.room,
@@ -147,30 +151,39 @@ fn run(alloc: Global, set: &GlobSet, case: &Case<'_>) -> (&'static str, ByteWrit
         flush_fails: case.flush_fails,
         flushes: 0,
     };
-    let result = sift(alloc, set, case.numbered, &mut reader, &mut writer);
-    (name_of(result), writer)
+    let outcome = run_to(alloc, set, case, &mut writer);
+    shown(alloc, outcome, &writer)
+}
+
+fn run_to(alloc: Global, set: &GlobSet, case: &Case, writer: &mut ByteWriter) -> &'static str {
+    let mut reader = ByteReader {
+        rest: INPUT,
+        reads: case.reads,
+    };
+    name_of(sift(alloc, set, case.numbered, &mut reader, writer))
+}
+
+fn shown(
+    alloc: Global,
+    outcome: &str,
+    writer: &ByteWriter,
+) -> std::result::Result<String, AllocError> {
+    let written = text_of(alloc, &writer.bytes)?;
+    format!(in alloc; "{outcome} {} {written}", writer.flushes)
 }
 
 #[test]
 fn failures(rt: HostRuntime) -> std::result::Result<(), Fail> {
-    let set = make_set(rt.alloc())?;
+    check_cases(&rt, &make_set(rt.alloc())?)
+}
+
+fn check_cases<R: Abort + Alloc<A = Global>>(
+    rt: &R,
+    set: &GlobSet,
+) -> std::result::Result<(), Fail> {
     for row in CASES.lines() {
-        let Some(case) = parse(row) else {
-            assert!(rt; false, "not a row: {row}");
-            continue;
-        };
-        let (result, writer) = run(rt.alloc(), &set, &case);
-        let wanted = bytes_of(
-            rt.alloc(),
-            if case.output == "-" { "" } else { case.output },
-        )?;
-        assert_eq!(rt;
-            writer.bytes.as_slice(),
-            wanted.as_slice(),
-            "written at {row}"
-        );
-        assert_eq!(rt; result, case.result, "result at {row}");
-        assert_eq!(rt; writer.flushes, case.flushes, "flushes at {row}");
+        let (case, wanted) = row.split_once(" => ").unwrap_or((row, ""));
+        check(rt, outcome_of(rt.alloc(), set, case)?.as_str(), wanted, row);
     }
     Ok(())
 }
@@ -180,19 +193,24 @@ fn make_line(alloc: Global, length: usize) -> std::result::Result<Vec<u8>, Alloc
     vec![in alloc; b's'; length]
 }
 
+/// The set of `s*`.
+fn make_s_set(alloc: Global) -> std::result::Result<GlobSet, globset::Error> {
+    GlobSet::new(alloc, [&Glob::new(alloc, "s*")?])
+}
+
 // The line is longer than what is read and what is pending at once.
 #[test]
 fn long_line(rt: HostRuntime) -> std::result::Result<(), Fail> {
     let line = make_line(rt.alloc(), 200000)?;
-    let mut builder = GlobSet::builder(rt.alloc());
-    builder.add(Glob::new(rt.alloc(), "s*")?)?;
-    let set = builder.build()?;
-    let mut reader = line.as_slice();
-    let mut writer = Vec::new(rt.alloc());
-    let result = sift(rt.alloc(), &set, false, &mut reader, &mut writer);
-    assert_eq!(rt; name_of(result), "true");
-    assert_eq!(rt; writer.len(), 200001);
-    assert_eq!(rt; writer.as_slice().starts_with(line.as_slice()), true);
-    assert_eq!(rt; writer.as_slice().ends_with(b"\n"), true);
+    let is_written = is_written(rt.alloc(), &make_s_set(rt.alloc())?, &line);
+    assert!(rt; is_written);
     Ok(())
+}
+
+/// Whether a line is written, followed by LF.
+fn is_written(alloc: Global, set: &GlobSet, line: &[u8]) -> bool {
+    let mut reader = line;
+    let mut written = Vec::new(alloc);
+    sift(alloc, set, false, &mut reader, &mut written) == Ok(true)
+        && written.as_slice().strip_suffix(b"\n") == Some(line)
 }

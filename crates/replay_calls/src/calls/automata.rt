@@ -1,21 +1,22 @@
 //! Calls on automata and their parts.
 
+use crate::calls::debugged;
 use anyhow::Result;
 use byte_automaton::{Builder, ByteSet, IndexSet, StateSet};
 use rows::RowError;
 use std::alloc::{AllocError, Global};
 
 /// On the set of `A`; on an empty set of 65 indexes or 64 states; on a builder of one end, or its automaton.
-pub fn debug(alloc: Global, kind: &str, call: &str) -> Result<String> {
+pub fn automaton(alloc: Global, kind: &str, call: &str) -> Result<String> {
     if call != "Debug" {
         return Err(RowError::UnknownCall.into());
     }
     match kind {
-        "ByteSet" => Ok(format!(in alloc; "{:?}", ByteSet::only(b'A'))?),
-        "IndexSet" => Ok(format!(in alloc; "{:?}", IndexSet::new(alloc, 65)?)?),
-        "StateSet" => Ok(format!(in alloc; "{:?}", StateSet::new(alloc, 64)?)?),
-        "Builder" => Ok(format!(in alloc; "{:?}", one_end(alloc)?)?),
-        "Automaton" => Ok(format!(in alloc; "{:?}", one_end(alloc)?.finish())?),
+        "ByteSet" => Ok(debugged(alloc, &ByteSet::only(b'A'))?),
+        "IndexSet" => Ok(debugged(alloc, &IndexSet::new(alloc, 65)?)?),
+        "StateSet" => Ok(debugged(alloc, &StateSet::new(alloc, 64)?)?),
+        "Builder" => Ok(debugged(alloc, &one_end(alloc)?)?),
+        "Automaton" => Ok(debugged(alloc, &one_end(alloc)?.finish())?),
         _ => Err(RowError::UnknownCall.into()),
     }
 }

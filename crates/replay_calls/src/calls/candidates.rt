@@ -1,9 +1,10 @@
 //! Calls on candidates.
 
+use crate::calls::debugged;
 use anyhow::Result;
 use globset::Candidate;
 use rows::{RowError, escaped};
-use std::alloc::Global;
+use std::alloc::{AllocError, Global};
 
 /// On a candidate of this path.
 pub fn candidate(alloc: Global, call: &str, with: &[u8]) -> Result<String> {
@@ -12,7 +13,7 @@ pub fn candidate(alloc: Global, call: &str, with: &[u8]) -> Result<String> {
         "new" => new(alloc, with),
         "from_bytes" => Ok(escaped(alloc, candidate.path())?),
         "clone" => Ok(escaped(alloc, candidate.clone()?.path())?),
-        "Debug" => debug(alloc, &candidate),
+        "Debug" => Ok(debug(alloc, &candidate)?),
         _ => Err(RowError::UnknownCall.into()),
     }
 }
@@ -24,7 +25,7 @@ fn new(alloc: Global, with: &[u8]) -> Result<String> {
     }
 }
 
-fn debug(alloc: Global, candidate: &Candidate<'_>) -> Result<String> {
-    let shown = format!(in alloc; "{candidate:?}")?;
-    Ok(escaped(alloc, shown.as_bytes())?)
+fn debug(alloc: Global, candidate: &Candidate<'_>) -> Result<String, AllocError> {
+    let shown = debugged(alloc, candidate)?;
+    escaped(alloc, shown.as_bytes())
 }

@@ -1,15 +1,14 @@
 //! Calls on errors.
 
+use crate::calls::debugged;
 use anyhow::Result;
 use globset::{Error, Glob};
-use rows::{RowError, escaped, text, yes_or_no};
+use rows::{RowError, text, yes_or_no};
 use std::alloc::{AllocError, Global};
 
 /// On the error of this text, which is no glob; where the text is `-`, on the error of memory that ran out.
 pub fn error(alloc: Global, call: &str, with: &str) -> Result<String> {
-    let error = rejected(alloc, with)?;
-    let shown = shown(alloc, call, &error)?;
-    Ok(escaped(alloc, shown.as_bytes())?)
+    shown(alloc, call, &rejected(alloc, with)?)
 }
 
 fn rejected(alloc: Global, with: &str) -> Result<Error, RowError> {
@@ -25,9 +24,9 @@ fn rejected(alloc: Global, with: &str) -> Result<Error, RowError> {
 fn shown(alloc: Global, call: &str, error: &Error) -> Result<String> {
     match call {
         "glob" => Ok(text(alloc, error.glob().unwrap_or("none"))?),
-        "kind" => Ok(format!(in alloc; "{:?}", error.kind())?),
+        "kind" => Ok(debugged(alloc, error.kind())?),
         "Display" => Ok(text_of(alloc, error)?),
-        "Debug" => Ok(format!(in alloc; "{error:?}")?),
+        "Debug" => Ok(debugged(alloc, error)?),
         "== clone" => Ok(text(alloc, yes_or_no(equals_copy(error)?))?),
         "== AllocError" => Ok(text(alloc, yes_or_no(is_alloc_error(error)))?),
         _ => copied(alloc, call, error),
@@ -49,8 +48,8 @@ fn is_alloc_error(error: &Error) -> bool {
 
 fn copied(alloc: Global, call: &str, error: &Error) -> Result<String> {
     match call {
-        "clone" => Ok(format!(in alloc; "{:?}", error.clone()?)?),
-        "Clone" => Ok(format!(in alloc; "{:?}", Clone::clone(error)?)?),
+        "clone" => Ok(debugged(alloc, &error.clone()?)?),
+        "Clone" => Ok(debugged(alloc, &Clone::clone(error)?)?),
         _ => Err(RowError::UnknownCall.into()),
     }
 }

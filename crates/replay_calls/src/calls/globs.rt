@@ -1,15 +1,14 @@
 //! Calls on globs and their builders.
 
+use crate::calls::{debugged, displayed};
 use anyhow::Result;
 use globset::{Error, Glob, GlobBuilder};
-use rows::{RowError, escaped, text};
+use rows::{RowError, text};
 use std::alloc::Global;
 
 /// On a glob of this text.
 pub fn glob(alloc: Global, call: &str, with: &str) -> Result<String> {
-    let glob = Glob::new(alloc, with)?;
-    let shown = shown(alloc, call, &glob)?;
-    Ok(escaped(alloc, shown.as_bytes())?)
+    shown(alloc, call, &Glob::new(alloc, with)?)
 }
 
 fn shown(alloc: Global, call: &str, glob: &Glob) -> Result<String> {
@@ -17,8 +16,8 @@ fn shown(alloc: Global, call: &str, glob: &Glob) -> Result<String> {
         "new" => Ok(text(alloc, glob.glob())?),
         "from_str" => Ok(read_again(alloc, glob.glob())?),
         "clone" => Ok(copied(alloc, glob)?),
-        "Debug" => Ok(format!(in alloc; "{glob:?}")?),
-        "Display" => Ok(format!(in alloc; "{glob}")?),
+        "Debug" => Ok(debugged(alloc, glob)?),
+        "Display" => Ok(displayed(alloc, glob)?),
         "Display >6" => Ok(format!(in alloc; "{glob:>6}")?),
         "Display -<6" => Ok(format!(in alloc; "{glob:-<6}|")?),
         "Display .2" => Ok(format!(in alloc; "{glob:.2}")?),
@@ -27,13 +26,15 @@ fn shown(alloc: Global, call: &str, glob: &Glob) -> Result<String> {
 }
 
 fn read_again(alloc: Global, with: &str) -> Result<String, Error> {
-    let glob = Glob::from_str(alloc, with)?;
-    Ok(text(alloc, glob.glob())?)
+    text_of(alloc, &Glob::from_str(alloc, with)?)
 }
 
 fn copied(alloc: Global, glob: &Glob) -> Result<String, Error> {
-    let copy = glob.clone()?;
-    Ok(text(alloc, copy.glob())?)
+    text_of(alloc, &glob.clone()?)
+}
+
+fn text_of(alloc: Global, glob: &Glob) -> Result<String, Error> {
+    Ok(text(alloc, glob.glob())?)
 }
 
 /// On a builder of this text with `case_insensitive` on.
@@ -42,23 +43,23 @@ pub fn builder(alloc: Global, call: &str, with: &str) -> Result<String> {
     builder.case_insensitive(true);
     match call {
         "build" => Ok(built(alloc, &builder)?),
-        "clone" => {
-            let copy = builder.clone()?;
-            builder.case_insensitive(false);
-            Ok(built(alloc, &copy)?)
-        }
-        "Debug" => debug(alloc, &builder),
+        "clone" => Ok(built_of_copy(alloc, &mut builder)?),
+        "Debug" => Ok(debugged(alloc, &builder)?),
         _ => Err(RowError::UnknownCall.into()),
     }
 }
 
 /// The regular expression of the glob.
 fn built(alloc: Global, builder: &GlobBuilder<'_>) -> Result<String, Error> {
-    let glob = builder.build(alloc)?;
-    Ok(escaped(alloc, glob.regex().as_bytes())?)
+    regex_of(alloc, &builder.build(alloc)?)
 }
 
-fn debug(alloc: Global, builder: &GlobBuilder<'_>) -> Result<String> {
-    let shown = format!(in alloc; "{builder:?}")?;
-    Ok(escaped(alloc, shown.as_bytes())?)
+fn built_of_copy(alloc: Global, builder: &mut GlobBuilder<'_>) -> Result<String, Error> {
+    let copy = builder.clone()?;
+    builder.case_insensitive(false);
+    built(alloc, &copy)
+}
+
+fn regex_of(alloc: Global, glob: &Glob) -> Result<String, Error> {
+    Ok(text(alloc, glob.regex())?)
 }

@@ -1,15 +1,14 @@
 //! Calls on kinds of errors.
 
+use crate::calls::{debugged, displayed};
 use anyhow::Result;
 use globset::{Error, ErrorKind};
-use rows::{RowError, escaped, text, yes_or_no};
+use rows::{RowError, text, yes_or_no};
 use std::alloc::{AllocError, Global};
 
 /// On the kind of this name.
 pub fn kind(alloc: Global, call: &str, with: &str) -> Result<String> {
-    let kind = kind_of(alloc, with)?;
-    let shown = shown(alloc, call, &kind)?;
-    Ok(escaped(alloc, shown.as_bytes())?)
+    shown(alloc, call, &kind_of(alloc, with)?)
 }
 
 fn kind_of(alloc: Global, name: &str) -> Result<ErrorKind, RowError> {
@@ -29,10 +28,10 @@ fn kind_of(alloc: Global, name: &str) -> Result<ErrorKind, RowError> {
 
 fn shown(alloc: Global, call: &str, kind: &ErrorKind) -> Result<String> {
     match call {
-        "Display" => Ok(format!(in alloc; "{kind}")?),
-        "Debug" => Ok(format!(in alloc; "{kind:?}")?),
-        "clone" => Ok(format!(in alloc; "{:?}", kind.clone()?)?),
-        "Clone" => Ok(format!(in alloc; "{:?}", Clone::clone(kind)?)?),
+        "Display" => Ok(displayed(alloc, kind)?),
+        "Debug" => Ok(debugged(alloc, kind)?),
+        "clone" => Ok(debugged(alloc, &kind.clone()?)?),
+        "Clone" => Ok(debugged(alloc, &Clone::clone(kind)?)?),
         _ => Ok(text(alloc, yes_or_no(equals(alloc, call, kind)?))?),
     }
 }

@@ -1,5 +1,6 @@
 //! Calls on builders of sets.
 
+use crate::calls::{debugged, displayed};
 use anyhow::Result;
 use globset::laws::{add_after_error, failed_add_keeps};
 use globset::{Error, Glob, GlobSet, GlobSetBuilder};
@@ -8,70 +9,104 @@ use std::alloc::Global;
 
 /// On a builder of these globs.
 pub fn builder(alloc: Global, call: &str, globs: &[Glob]) -> Result<String> {
-    let mut builder = of_globs(alloc, globs)?;
+    shown_of(alloc, call, globs, &mut GlobSetBuilder::new(alloc))
+}
+
+fn shown_of(
+    alloc: Global,
+    call: &str,
+    globs: &[Glob],
+    builder: &mut GlobSetBuilder,
+) -> Result<String> {
+    add_all(builder, globs)?;
+    shown(alloc, call, builder)
+}
+
+fn add_all(builder: &mut GlobSetBuilder, globs: &[Glob]) -> Result<(), Error> {
+    for glob in globs {
+        builder.add(glob.clone()?)?;
+    }
+    Ok(())
+}
+
+fn shown(alloc: Global, call: &str, builder: &mut GlobSetBuilder) -> Result<String> {
     match call {
-        "build" => Ok(length(alloc, &builder)?),
-        "build and add" => Ok(length_before_add(alloc, &mut builder)?),
-        "clone" => Ok(length_of_copy(alloc, &mut builder)?),
-        "Clone" => Ok(length_of_std_copy(alloc, &mut builder)?),
-        "GlobSet::builder" => Ok(length(alloc, &GlobSet::builder(alloc))?),
-        "Debug" => Ok(format!(in alloc; "{builder:?}")?),
+        "build" => Ok(length(alloc, builder)?),
+        "build and add" => Ok(length_before_add(alloc, builder)?),
+        "clone" => Ok(length_of_copy(alloc, builder)?),
+        "Clone" => Ok(length_of_std_copy(alloc, builder)?),
+        "GlobSet::builder" => Ok(length_of_none(alloc)?),
+        "Debug" => Ok(debugged(alloc, builder)?),
         _ => {
-            add(alloc, call, &mut builder)?;
-            Ok(length(alloc, &builder)?)
+            add(alloc, call, builder)?;
+            Ok(length(alloc, builder)?)
         }
     }
 }
 
-fn of_globs(alloc: Global, globs: &[Glob]) -> Result<GlobSetBuilder, Error> {
-    let mut builder = GlobSetBuilder::new(alloc);
-    for glob in globs {
-        builder.add(glob.clone()?)?;
-    }
-    Ok(builder)
-}
-
 /// How many globs the builder's set has.
 fn length(alloc: Global, builder: &GlobSetBuilder) -> Result<String, Error> {
-    let set = builder.build()?;
-    Ok(format!(in alloc; "{}", set.len())?)
+    length_of(alloc, &builder.build()?)
+}
+
+fn length_of_none(alloc: Global) -> Result<String, Error> {
+    length(alloc, &GlobSet::builder(alloc))
+}
+
+fn length_of(alloc: Global, set: &GlobSet) -> Result<String, Error> {
+    Ok(displayed(alloc, &set.len())?)
 }
 
 fn length_before_add(alloc: Global, builder: &mut GlobSetBuilder) -> Result<String, Error> {
-    let set = builder.build()?;
+    after_add_to(alloc, &builder.build()?, builder)
+}
+
+/// The length of a set, after a glob is added to a builder.
+fn after_add_to(
+    alloc: Global,
+    set: &GlobSet,
+    builder: &mut GlobSetBuilder,
+) -> Result<String, Error> {
     builder.add(Glob::new(alloc, "a")?)?;
-    Ok(format!(in alloc; "{}", set.len())?)
+    length_of(alloc, set)
 }
 
 fn length_of_copy(alloc: Global, builder: &mut GlobSetBuilder) -> Result<String, Error> {
-    let copy = builder.clone()?;
-    builder.add(Glob::new(alloc, "a")?)?;
-    length(alloc, &copy)
+    after_add(alloc, &builder.clone()?, builder)
 }
 
 fn length_of_std_copy(alloc: Global, builder: &mut GlobSetBuilder) -> Result<String, Error> {
-    let copy = Clone::clone(builder)?;
+    after_add(alloc, &Clone::clone(builder)?, builder)
+}
+
+/// How many globs the set of a copy has, after a glob is added to the builder.
+fn after_add(
+    alloc: Global,
+    copy: &GlobSetBuilder,
+    builder: &mut GlobSetBuilder,
+) -> Result<String, Error> {
     builder.add(Glob::new(alloc, "a")?)?;
-    length(alloc, &copy)
+    length(alloc, copy)
 }
 
 fn add(alloc: Global, call: &str, builder: &mut GlobSetBuilder) -> Result<()> {
-    let glob = Glob::new(alloc, "a")?;
     match call {
-        "add" => add_two(builder, glob, Glob::new(alloc, "b")?)?,
-        "add_after_error" => add_next(builder, glob, Glob::new(alloc, "b")?)?,
-        "failed_add_keeps" => failed_add_keeps(builder, glob)?,
+        "add" => add_two(alloc, builder)?,
+        "add_after_error" => add_next(alloc, builder)?,
+        "failed_add_keeps" => failed_add_keeps(builder, Glob::new(alloc, "a")?)?,
         _ => return Err(RowError::UnknownCall.into()),
     }
     Ok(())
 }
 
-fn add_two(builder: &mut GlobSetBuilder, one: Glob, other: Glob) -> Result<(), Error> {
-    builder.add(one)?.add(other)?;
+fn add_two(alloc: Global, builder: &mut GlobSetBuilder) -> Result<(), Error> {
+    builder
+        .add(Glob::new(alloc, "a")?)?
+        .add(Glob::new(alloc, "b")?)?;
     Ok(())
 }
 
-fn add_next(builder: &mut GlobSetBuilder, one: Glob, other: Glob) -> Result<(), Error> {
-    add_after_error(builder, one, other)?;
+fn add_next(alloc: Global, builder: &mut GlobSetBuilder) -> Result<(), Error> {
+    add_after_error(builder, Glob::new(alloc, "a")?, Glob::new(alloc, "b")?)?;
     Ok(())
 }

@@ -1,61 +1,63 @@
 //! Calls on sets.
 
+use crate::calls::{debugged, displayed};
 use anyhow::Result;
 use globset::{Candidate, Error, Glob, GlobSet, Visits};
 use rows::{RowError, list, text, yes_or_no};
-use std::alloc::Global;
+use std::alloc::{AllocError, Global};
 
 /// On this set, of these globs, and a path.
 pub fn set(alloc: Global, call: &str, globs: &[Glob], set: &GlobSet, path: &str) -> Result<String> {
     match call {
-        "len" => Ok(format!(in alloc; "{}", set.len())?),
-        "Debug" => debug(alloc, set),
-        "clone" | "Clone" | "new" | "new rev" | "empty" | "default" => {
-            made(alloc, call, globs, set, path)
-        }
-        "matches" | "matches_candidate" => matches(alloc, call, set, path),
+        "len" => Ok(displayed(alloc, &set.len())?),
+        "Debug" => Ok(debug(alloc, set)?),
+        "new" => Ok(matches_of(alloc, GlobSet::new(alloc, globs), path)?),
+        "new rev" => Ok(of_globs_from_last(alloc, globs, path)?),
+        "empty" => Ok(matches_of(alloc, Ok(GlobSet::empty()), path)?),
+        "default" => Ok(matches_of(alloc, Ok(GlobSet::default()), path)?),
+        "clone" => Ok(matches_of(alloc, set.clone(), path)?),
+        "Clone" => Ok(std_copied(alloc, set, path)?),
+        "matches" => Ok(matches(alloc, set, path)?),
+        "matches_candidate" => Ok(matches_candidate(alloc, set, path)?),
         "matches_into" | "matches_candidate_into" | "matches_visits" => {
-            matches_into(alloc, call, set, path)
+            Ok(matches_into(alloc, call, set, path)?)
         }
         _ => Ok(text(alloc, yes_or_no(is_true(call, set, path)?))?),
     }
 }
 
 /// The first word of what is shown.
-fn debug(alloc: Global, set: &GlobSet) -> Result<String> {
-    let shown = format!(in alloc; "{set:?}")?;
-    Ok(text(alloc, shown.as_str().split(' ').next().unwrap_or(""))?)
+fn debug(alloc: Global, set: &GlobSet) -> Result<String, AllocError> {
+    let shown = debugged(alloc, set)?;
+    text(alloc, shown.as_str().split(' ').next().unwrap_or(""))
 }
 
-/// What another set than this one returns for a path.
-fn made(alloc: Global, call: &str, globs: &[Glob], set: &GlobSet, path: &str) -> Result<String> {
-    let other = other(alloc, call, globs, set)?;
-    let indexes = other.matches(alloc, path)?;
+fn of_globs_from_last(alloc: Global, globs: &[Glob], path: &str) -> Result<String, Error> {
+    matches_of(alloc, GlobSet::new(alloc, globs.iter().rev()), path)
+}
+
+/// The indexes that a set returns which was made for this call.
+fn matches_of(alloc: Global, set: Result<GlobSet, Error>, path: &str) -> Result<String, Error> {
+    matches(alloc, &set?, path)
+}
+
+fn std_copied(alloc: Global, set: &GlobSet, path: &str) -> Result<String, Error> {
+    let copy = Clone::clone(set)?;
+    matches_of(alloc, Ok(copy), path)
+}
+
+fn matches(alloc: Global, set: &GlobSet, path: &str) -> Result<String, Error> {
+    let indexes = set.matches(alloc, path)?;
     Ok(list(alloc, &indexes)?)
 }
 
-fn other(alloc: Global, call: &str, globs: &[Glob], set: &GlobSet) -> Result<GlobSet> {
-    match call {
-        "clone" => Ok(set.clone()?),
-        "Clone" => Ok(Clone::clone(set)?),
-        "new" => Ok(GlobSet::new(alloc, globs)?),
-        "new rev" => Ok(GlobSet::new(alloc, globs.iter().rev())?),
-        "empty" => Ok(GlobSet::empty()),
-        "default" => Ok(GlobSet::default()),
-        _ => Err(RowError::UnknownCall.into()),
-    }
-}
-
-fn matches(alloc: Global, call: &str, set: &GlobSet, path: &str) -> Result<String> {
-    let indexes = match call {
-        "matches" => set.matches(alloc, path)?,
-        _ => set.matches_candidate(alloc, &Candidate::new(path))?,
-    };
+fn matches_candidate(alloc: Global, set: &GlobSet, path: &str) -> Result<String, Error> {
+    let indexes = set.matches_candidate(alloc, &Candidate::new(path))?;
     Ok(list(alloc, &indexes)?)
 }
 
 /// The vector that a call leaves, which held other numbers before it.
-fn matches_into(alloc: Global, call: &str, set: &GlobSet, path: &str) -> Result<String> {
+fn matches_into(alloc: Global, call: &str, set: &GlobSet, path: &str) -> Result<String, Error> {
     let mut into = vec![in alloc; 9, 9]?;
     fill(call, set, path, &mut into)?;
     Ok(list(alloc, &into)?)

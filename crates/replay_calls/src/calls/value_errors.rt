@@ -1,47 +1,47 @@
 //! Calls on errors of JSON values.
 
 use crate::calls::errors::text_of;
+use crate::calls::{debugged, displayed};
 use anyhow::Result;
 use globset::{GlobSet, ValueError};
-use rows::{RowError, escaped, text, yes_or_no};
+use rows::{RowError, text, yes_or_no};
 use serde_json::Value;
 use std::alloc::Global;
 
 /// On the error of this JSON text, which is no set.
 pub fn value_error(alloc: Global, call: &str, with: &str) -> Result<String> {
-    let error = rejected(alloc, with)?;
-    let shown = match call {
-        "== same" => equality(alloc, &error, with)?,
-        "== null" => equality(alloc, &error, "null")?,
-        _ => shown(alloc, call, &error)?,
-    };
-    Ok(escaped(alloc, shown.as_bytes())?)
+    shown(alloc, call, &rejected(alloc, with)?, with)
 }
 
 fn rejected(alloc: Global, with: &str) -> Result<ValueError, RowError> {
-    let Ok(value) = Value::from_str(alloc, with) else {
-        return Err(RowError::NotJson);
-    };
-    match GlobSet::from_value(alloc, &value) {
+    match Value::from_str(alloc, with) {
+        Ok(value) => rejected_value(alloc, &value),
+        Err(_) => Err(RowError::NotJson),
+    }
+}
+
+fn rejected_value(alloc: Global, value: &Value) -> Result<ValueError, RowError> {
+    match GlobSet::from_value(alloc, value) {
         Ok(_) => Err(RowError::NoError),
         Err(error) => Ok(error),
     }
 }
 
-/// Whether an error is equal to that of another JSON text.
-fn equality(alloc: Global, error: &ValueError, other: &str) -> Result<String, RowError> {
-    let other = rejected(alloc, other)?;
-    Ok(text(alloc, yes_or_no(*error == other))?)
-}
-
-fn shown(alloc: Global, call: &str, error: &ValueError) -> Result<String> {
+fn shown(alloc: Global, call: &str, error: &ValueError, with: &str) -> Result<String> {
     match call {
-        "kind" => Ok(format!(in alloc; "{:?}", error.kind())?),
-        "kind Display" => Ok(format!(in alloc; "{}", error.kind())?),
+        "== same" => Ok(text(alloc, equality(alloc, error, with)?)?),
+        "== null" => Ok(text(alloc, equality(alloc, error, "null")?)?),
+        "kind" => Ok(debugged(alloc, error.kind())?),
+        "kind Display" => Ok(displayed(alloc, error.kind())?),
         "Display" => Ok(text_of(alloc, error)?),
-        "Debug" => Ok(format!(in alloc; "{error:?}")?),
-        "Clone" => Ok(format!(in alloc; "{:?}", error.clone()?)?),
-        "kind Clone" => Ok(format!(in alloc; "{:?}", error.kind().clone()?)?),
+        "Debug" => Ok(debugged(alloc, error)?),
+        "Clone" => Ok(debugged(alloc, &error.clone()?)?),
+        "kind Clone" => Ok(debugged(alloc, &error.kind().clone()?)?),
         _ => Err(RowError::UnknownCall.into()),
     }
+}
+
+/// Whether an error is equal to that of another JSON text.
+fn equality(alloc: Global, error: &ValueError, other: &str) -> Result<&'static str, RowError> {
+    Ok(yes_or_no(*error == rejected(alloc, other)?))
 }
