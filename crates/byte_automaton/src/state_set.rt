@@ -8,17 +8,33 @@ use visits::Visits;
 
 /// A set of states, as a bit for each.
 ///
-/// It is made once, and holds sets of states of any automaton that has at most as many states as it has room for. No
-/// call but those of an automaton reads it.
+/// It is made once, and holds sets of states of any automaton that has at most as many states as it has room for. Only an
+/// automaton's calls read its states. Two sets with the same states and the same room are equal.
 ///
 /// No state below `first` or above `last` is in the set, so words outside these bounds are neither read nor cleared: a set
 /// of few states that are close to each other takes little time, however many states the automaton has.
-#[derive(Debug, Drop)]
+#[derive(PartialEq, Eq, Hash, Debug, Drop)]
 pub struct StateSet {
     words: Vec<u64>,
     first: usize,
     last: usize,
     ghost bounds: { AreBounds words.items first last },
+}
+
+impl Clone for StateSet {
+    ghost use Rattle.std.specs.Prelude.{◌≡◌, ℕ};
+    ghost use Rattle.byte_automaton.specs.Sets.{has_state, state_room};
+
+    ghost is_clone = { λ a b. (state_room b ≡ state_room a) × ((s : ℕ) → has_state b s ≡ has_state a s) };
+
+    /// Returns a copy. Returns an error if memory runs out.
+    fn clone(&self) -> Result<StateSet, AllocError> {
+        Ok(StateSet {
+            words: Vec::from_slice(*self.words.allocator(), &self.words)?,
+            first: self.first,
+            last: self.last,
+        })
+    }
 }
 
 impl StateSet {
