@@ -100,20 +100,27 @@ module _ (old new : Machine) (made : EndsAtDecisions old new) (k : ℕ) where
   on_entry s p q bytes (by_out s' t z w ts e m rest) = by_out s t (z ++ q) w ts (as_before s (stays w ts) e (λ j no. cc) (made.states s)) m (on_entry t z q bytes rest)
   on_entry s p q bytes (by_stay s' c z w ts e has rest) = by_stay s c (z ++ q) w ts (as_before s (stays w ts) e (λ j no. cc) (made.states s)) has (on_entry s z q bytes rest)
 
+  below : (s : ℕ) (y : List ℕ) → Accepts old.states k s y → k < old.index_count
+  below s y (ends s' e) = made.below s k e
+  below s y (by_byte s' t c z w e has rest) = below t z rest
+  below s y (by_skip s' t z ts e m rest) = below t z rest
+  below s y (by_out s' t z w ts e m rest) = below t z rest
+  below s y (by_stay s' c z w ts e has rest) = below s z rest
+
   -- the old automaton leads to k exactly if the new one does, or leads to n + k by the beginning of the text
   pub reached_by : (y : List ℕ) → AreBytes y
-      → IsReached old y k ↔ (((k < old.index_count) × IsReached new y k) ⊎ ((p : List ℕ) × (q : List ℕ) × (y ≡ p ++ q) × IsReached new p (old.index_count + k)))
+      → IsReached old y k ↔ ((k < old.index_count) × (IsReached new y k ⊎ ((p : List ℕ) × (q : List ℕ) × (y ≡ p ++ q) × IsReached new p (old.index_count + k))))
   reached_by y bytes = (
-    λ (s, begins, h). by_case s (subst (IsIn s) (sym made.starts) begins) (told s y h),
-    λ h. back h,
+    λ (s, begins, h). (below s y h, by_case s (subst (IsIn s) (sym made.starts) begins) (told s y h)),
+    λ (lt, h). back lt h,
   )
     where
-      by_case : (s : ℕ) → IsIn s new.starts → Tells new.states old.index_count s y k → ((k < old.index_count) × IsReached new y k) ⊎ ((p : List ℕ) × (q : List ℕ) × (y ≡ p ++ q) × IsReached new p (old.index_count + k))
-      by_case s begins (inl (lt, h)) = inl (lt, (s, begins, h))
+      by_case : (s : ℕ) → IsIn s new.starts → Tells new.states old.index_count s y k → IsReached new y k ⊎ ((p : List ℕ) × (q : List ℕ) × (y ≡ p ++ q) × IsReached new p (old.index_count + k))
+      by_case s begins (inl (lt, h)) = inl (s, begins, h)
       by_case s begins (inr (p, q, is, h)) = inr (p, q, is, (s, begins, h))
 
-      back : ((k < old.index_count) × IsReached new y k) ⊎ ((p : List ℕ) × (q : List ℕ) × (y ≡ p ++ q) × IsReached new p (old.index_count + k)) → IsReached old y k
-      back (inl (lt, (s, begins, h))) = (s, subst (IsIn s) made.starts begins, at_end s y lt h)
-      back (inr (p, q, is, (s, begins, h))) =
+      back : k < old.index_count → IsReached new y k ⊎ ((p : List ℕ) × (q : List ℕ) × (y ≡ p ++ q) × IsReached new p (old.index_count + k)) → IsReached old y k
+      back lt (inl (s, begins, h)) = (s, subst (IsIn s) made.starts begins, at_end s y lt h)
+      back lt (inr (p, q, is, (s, begins, h))) =
           let rest = rest_bytes p q (subst AreBytes is bytes) in
           (s, subst (IsIn s) made.starts begins, subst (Accepts old.states k s) (sym is) (on_entry s p q rest h))
