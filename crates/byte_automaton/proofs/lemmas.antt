@@ -2,3 +2,6 @@ pub mod Bits
 pub mod Pushing
 pub mod Pass
 pub mod Reading
+pub mod Decisions
+pub mod Deciding
+pub mod Alike

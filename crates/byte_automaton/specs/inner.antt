@@ -2,3 +2,5 @@ pub mod Bounds
 pub mod Seen
 pub mod Views
 pub mod Pass
+pub mod Exits
+pub mod Texts

@@ -1,8 +1,10 @@
 //! An automaton, and the steps of its runs.
 
-ghost use Rattle.std.specs.Prelude.{◌≡◌, ℕ, ◌+◌, ◌*◌, ◌<◌, ◌≤◌, ◌||◌, ◌⊎◌, ◌↔◌, ◌∷◌, [], List, true, false, Some, None, IsTrue, IsFalse, MatchOption};
+ghost use Rattle.std.specs.Prelude.{◌≡◌, ℕ, ◌+◌, ◌*◌, ◌<◌, ◌≤◌, ◌||◌, ◌⊎◌, ◌↔◌, ◌∷◌, [], List, length, true, false, Some, None, IsTrue, IsFalse, IfOk, IfSome, OnErr, MatchOption};
 ghost use Rattle.byte_automaton.specs.Sets.{has_state, has_index, state_room, index_room};
 ghost use Rattle.byte_automaton.specs.Steps.{Machine, IsReached, state, final};
+ghost use Rattle.byte_automaton.specs.Alike.{AreAlike};
+ghost use Rattle.byte_automaton.specs.Decisions.{Decides, EndsAtDecisions};
 ghost use Rattle.byte_automaton.specs.Runs.{size, AcceptsFrom, HasSome};
 ghost use Rattle.byte_automaton.specs.inner.Views.{AreSound, GoesBelow, machine};
 ghost use Rattle.byte_automaton.specs.inner.Pass.{goes_now, goes_next, names};
@@ -170,6 +172,67 @@ impl Automaton {
             upto = s;
         }
         false
+    }
+
+    /// Returns whether each state reads both of two bytes or neither, so that what follows either byte leads to the same ends.
+    ///
+    /// It may read each state, and is meant for what is made from an automaton before it is run.
+    pub fn reads_alike(&self, a: u8, b: u8) -> bool
+        ensures { IsTrue result ↔ AreAlike self.now.states a b }
+    {
+        for state in &self.states {
+            if state.reads(a) != state.reads(b) {
+                return false;
+            }
+        }
+        true
+    }
+
+    /// Returns the automaton in which each state that decides an index `k` is an end, of the index `index_count + k`.
+    ///
+    /// A state decides an index if it stays on every byte and goes on to an end of that index alone. A text leads to an end
+    /// of the index exactly if in the new automaton it does, or the beginning of it leads to an end of the index
+    /// `index_count + k`. Returns `None` if there are too many indexes, and an error if memory runs out.
+    pub fn with_decisions(&self) -> Result<Option<Automaton>, AllocError>
+        ensures { IfOk result (λ made. IfSome made (λ new. EndsAtDecisions self.now new)) }
+    {
+        let Some(index_count) = self.index_count.checked_mul(2) else {
+            return Ok(None);
+        };
+        let alloc = *self.states.allocator();
+        let mut states = Vec::new(alloc);
+        for s in 0..self.states.len() {
+            let state = match self.decided(s) {
+                Some(index) => State::End(self.index_count + index),
+                None => self.states[s],
+            };
+            states.push(state)?;
+        }
+        let nexts = Vec::from_slice(alloc, &self.nexts)?;
+        let starts = Vec::from_slice(alloc, &self.starts)?;
+        Ok(Some(Automaton::from_parts(states, nexts, starts, index_count)))
+    }
+
+    /// Returns the index that a state decides.
+    fn decided(&self, s: usize) -> Option<usize>
+        requires { s < size self.now }
+        ensures { MatchOption result ((k : ℕ) → Decides self.now.states s k → ⊥) (λ k. Decides self.now.states s k × (k < self.now.index_count)) }
+    {
+        match self.states[s].only_exit(s, &self.nexts) {
+            Some(exit) => self.index_of(exit),
+            None => None,
+        }
+    }
+
+    /// Returns the index of a state, if it is an end.
+    fn index_of(&self, s: usize) -> Option<usize>
+        requires { s < size self.now }
+        ensures { MatchOption result ((k : ℕ) → state self.now.states s ≡ final k → ⊥) (λ k. (state self.now.states s ≡ final k) × (k < self.now.index_count)) }
+    {
+        match self.states[s] {
+            State::End(index) => Some(index),
+            _ => None,
+        }
     }
 
     /// Takes the steps of a state of `from`: puts into `from` what it goes on to without a byte, and into `to` what it goes

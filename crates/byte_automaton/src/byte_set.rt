@@ -1,7 +1,8 @@
 //! Sets of bytes.
 
-ghost use Rattle.std.specs.Prelude.{◌≡◌, ℕ, ◌<◌, ◌&&◌, ◌||◌, ◌==◌, not, true, false, slice_index_or};
+ghost use Rattle.std.specs.Prelude.{◌≡◌, ℕ, ◌<◌, ◌&&◌, ◌||◌, ◌==◌, not, true, false, slice_index_or, IsTrue, ◌↔◌};
 ghost use Rattle.byte_automaton.specs.Sets.{has_byte};
+ghost use Rattle.byte_automaton.specs.Decisions.{HasEvery};
 
 use crate::words::{clear_bit, has_bit, set_bit};
 
@@ -71,5 +72,17 @@ impl ByteSet {
         ensures { result ≡ has_byte self.now byte }
     {
         has_bit(&self.words, byte as usize)
+    }
+
+    /// Returns whether the set has every byte.
+    pub(crate) fn is_everything(&self) -> bool
+        ensures { IsTrue result ↔ HasEvery self.now }
+    {
+        for byte in 0..256usize {
+            if !has_bit(&self.words, byte) {
+                return false;
+            }
+        }
+        true
     }
 }

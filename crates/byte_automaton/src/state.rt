@@ -1,8 +1,10 @@
 //! States, as an automaton keeps them.
 
-ghost use Rattle.std.specs.Prelude.{◌≡◌, ℕ, ◌<◌, ◌≤◌, ◌||◌, length, true, false, Some, None, IsTrue, IsFalse, MatchOption};
+ghost use Rattle.std.specs.Prelude.{◌≡◌, ℕ, ◌<◌, ◌≤◌, ◌||◌, List, length, true, false, Some, None, IsTrue, IsFalse, MatchOption};
 ghost use Rattle.byte_automaton.specs.Sets.{has_state, state_room};
 ghost use Rattle.byte_automaton.specs.Steps.{final};
+ghost use Rattle.byte_automaton.specs.Alike.{reads_byte};
+ghost use Rattle.byte_automaton.specs.inner.Exits.{StaysBefore};
 ghost use Rattle.byte_automaton.specs.inner.Views.{of_state, IsHeld, GoesBelow};
 ghost use Rattle.byte_automaton.specs.inner.Pass.{goes_now, goes_next, names};
 
@@ -92,6 +94,35 @@ impl State {
                 None
             }
             State::End(index) => Some(*index),
+        }
+    }
+
+    /// Returns whether a state reads or stays on a byte.
+    pub fn reads(&self, byte: u8) -> bool
+        ensures { (nexts : List ℕ) → result ≡ reads_byte (of_state nexts self.now) byte }
+    {
+        match self {
+            State::Reads(bytes, _) => bytes.has(byte),
+            State::Skips(_, _) => false,
+            State::Stays(bytes, _, _) => bytes.has(byte),
+            State::End(_) => false,
+        }
+    }
+
+    /// Returns the only state that a state goes on to, if it stays on every byte.
+    pub fn only_exit(&self, s: usize, nexts: &[usize]) -> Option<usize>
+        requires held { IsHeld (length nexts.now) self.now }
+        requires below { GoesBelow s (of_state nexts.now self.now) }
+        ensures exit { MatchOption result ((t : ℕ) → StaysBefore (of_state nexts.now self.now) t → ⊥) (λ t. StaysBefore (of_state nexts.now self.now) t × (t < s)) }
+    {
+        match self {
+            State::Stays(bytes, i, j) => {
+                if *j - *i == 1 && bytes.is_everything() {
+                    return Some(nexts[*i]);
+                }
+                None
+            }
+            _ => None,
         }
     }
 }

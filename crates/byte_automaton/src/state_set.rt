@@ -8,10 +8,10 @@ use visits::Visits;
 
 /// A set of states, as a bit for each.
 ///
-/// It is made once, and holds sets of states of any automaton that has at most as many states as it has room for. No
-/// call but those of an automaton reads it. To read or clear it takes time linear in the distance between its lowest and its
-/// highest state, however much room it has.
-#[derive(Debug, Drop)]
+/// It is made once, and holds sets of states of any automaton that has at most as many states as it has room for. Only an
+/// automaton's calls read its states. To read or clear it takes time linear in the distance between its lowest and its highest
+/// state, however much room it has.
+#[derive(PartialEq, Eq, Hash, Debug, Drop)]
 pub struct StateSet {
     words: Vec<u64>,
     /// No lower state is in the set, so words before it are neither read nor cleared.
@@ -20,6 +20,22 @@ pub struct StateSet {
     /// empty.
     last: usize,
     ghost bounds: { AreBounds words.items first last },
+}
+
+impl Clone for StateSet {
+    ghost use Rattle.std.specs.Prelude.{◌≡◌, ℕ};
+    ghost use Rattle.byte_automaton.specs.Sets.{has_state, state_room};
+
+    ghost is_clone = { λ a b. (state_room b ≡ state_room a) × ((s : ℕ) → has_state b s ≡ has_state a s) };
+
+    /// Returns a copy. Returns an error if memory runs out.
+    fn clone(&self) -> Result<StateSet, AllocError> {
+        Ok(StateSet {
+            words: Vec::from_slice(*self.words.allocator(), &self.words)?,
+            first: self.first,
+            last: self.last,
+        })
+    }
 }
 
 impl StateSet {

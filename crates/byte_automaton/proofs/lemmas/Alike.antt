@@ -1,0 +1,40 @@
+-- Bytes that states read alike lead to the same ends.
+use Rattle.std.proofs.Common.{◌≡◌, ℕ, ◌<◌, ◌≤◌, List, [], ◌∷◌, length, IsTrue, arith, refl, ap, sym, subst, ◌∙◌}
+use Rattle.std.specs.Prelude.{◌↔◌}
+use Rattle.std.proofs.lemmas.Bool.{cases_lt}
+use Rattle.std.proofs.lemmas.List.{get_or_past}
+use Rattle.std.proofs.Math.Logic.{⊎_elim}
+use Rattle.byte_automaton.specs.declared.byte_set.ByteSet.{ByteSet}
+use Rattle.byte_automaton.specs.declared.state_set.StateSet.{StateSet}
+use Rattle.byte_automaton.specs.Sets.{has_byte}
+use Rattle.byte_automaton.specs.Steps.{State, reads, skips, stays, state, Machine, Accepts, ends, by_byte, by_skip, by_out, by_stay}
+use Rattle.byte_automaton.specs.Runs.{AcceptsFrom}
+use Rattle.byte_automaton.specs.Alike.{reads_byte, AreAlike}
+
+-- states past the last read nothing
+pub all_alike : (a : List State) (n b c : ℕ) → length a ≤ n → ((s : ℕ) → s < n → reads_byte (state a s) b ≡ reads_byte (state a s) c) → AreAlike a b c
+all_alike a n b c le each s = ⊎_elim {C = reads_byte (state a s) b ≡ reads_byte (state a s) c}
+    (λ low. each s low)
+    (λ past. let none : state a s ≡ skips [] = get_or_past a s (skips []) (omega arith) in ap (λ st. reads_byte st b) none ∙ sym (ap (λ st. reads_byte st c) none))
+    (cases_lt s n)
+
+module _ (a : List State) (k b c : ℕ) (z : List ℕ) (alike : AreAlike a b c) where
+  has_alike : (s : ℕ) (st : State) (w : ByteSet) → state a s ≡ st → ((d : ℕ) → reads_byte st d ≡ has_byte w d) → IsTrue (has_byte w b) → IsTrue (has_byte w c)
+  has_alike s st w e f h = sym (f c) ∙ sym (ap (λ u. reads_byte u c) e) ∙ sym (alike s) ∙ ap (λ u. reads_byte u b) e ∙ f b ∙ h
+
+  accepts_alike : (s : ℕ) (y : List ℕ) → Accepts a k s y → y ≡ b ∷ z → Accepts a k s (c ∷ z)
+  accepts_alike s y (ends s' e) is = absurd cc
+  accepts_alike s y (by_byte s' t d x w e has rest) is =
+      let same : d ≡ b = cc in let others : x ≡ z = cc in
+      by_byte s' t c z w e (has_alike s' (reads w t) w e (λ u. refl) (subst (λ u. IsTrue (has_byte w u)) same has)) (subst (Accepts a k t) others rest)
+  accepts_alike s y (by_skip s' t x ts e m rest) is = by_skip s' t (c ∷ z) ts e m (accepts_alike t x rest is)
+  accepts_alike s y (by_out s' t x w ts e m rest) is = by_out s' t (c ∷ z) w ts e m (accepts_alike t x rest is)
+  accepts_alike s y (by_stay s' d x w ts e has rest) is =
+      let same : d ≡ b = cc in let others : x ≡ z = cc in
+      by_stay s' c z w ts e (has_alike s' (stays w ts) w e (λ u. refl) (subst (λ u. IsTrue (has_byte w u)) same has)) (subst (Accepts a k s') others rest)
+
+pub from_alike : (m : Machine) (set : StateSet) (b c : ℕ) (z : List ℕ) (k : ℕ) → AreAlike m.states b c → AcceptsFrom m set (b ∷ z) k ↔ AcceptsFrom m set (c ∷ z) k
+from_alike m set b c z k alike = (
+  λ (t, lt, at, h). (t, lt, at, accepts_alike m.states k b c z alike t (b ∷ z) h refl),
+  λ (t, lt, at, h). (t, lt, at, accepts_alike m.states k c b z (λ s. sym (alike s)) t (c ∷ z) h refl),
+)

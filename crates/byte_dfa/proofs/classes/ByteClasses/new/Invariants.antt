@@ -1,0 +1,11 @@
+use Rattle.std.proofs.Common.{◌≡◌, ◌<◌, length}
+use Rattle.byte_dfa.specs.inner.Classes.{IsDivided}
+use Rattle.byte_dfa.proofs.classes.ByteClasses.new.Given as goal
+
+abbrev pub invariant-loop-i : goal.invariant-loop-i
+invariant-loop-i l = record {
+  classes_len : length l.class_of ≡ 256;
+  firsts_len : length l.firsts ≡ 256;
+  few : l.last < l.i;
+  divided : IsDivided l.automaton.states l.class_of l.firsts l.last l.i;
+}

@@ -1,0 +1,9 @@
+use Rattle.std.proofs.Common.{◌+◌, length, arith}
+use Rattle.std.proofs.lemmas.Nat.{mul-le}
+use Rattle.byte_dfa.proofs.construction.Construction.entry.Goals as goal
+
+pub overflow_mul-place : goal.overflow_mul-place
+overflow_mul-place c =
+    let n = length c.args.self.now.found.items in
+    let le = mul-le (c.args.number + 1) c.args.stride n c.args.stride (omega arith) (omega arith) in
+    omega (arith, le)

@@ -1,0 +1,119 @@
+use Rattle.std.proofs.Common.{◌≡◌, ℕ, ◌+◌, ◌<◌, ◌≤◌, ◌∷◌, ◌-◌, ◌||◌, [], drop, length, get_or, slice_index, arith, sym, ap, ◌∙◌}
+use Rattle.std.proofs.lemmas.List.{drop_more, drop_all}
+use Rattle.byte_automaton.specs.Sets.{has_index, index_room}
+use Rattle.byte_automaton.specs.inner.Texts.{AreBytes}
+use Rattle.byte_dfa.specs.DfaValue.{DfaValue}
+use Rattle.byte_dfa.specs.inner.Tables.{table_of, entry, special, finds}
+use Rattle.byte_dfa.proofs.lemmas.Lists.{list_wider}
+use Rattle.byte_dfa.proofs.lemmas.Steps.{drop_bytes, started, low_row, high_row, low_next, high_next, dead_next, found_is}
+use Rattle.byte_dfa.proofs.dfa.Dfa.find.Goals as goal
+use Rattle.byte_dfa.proofs.dfa.Dfa.find.Goals.{then-state-ge-SPECIAL+else-state-eq-DEAD, else-state-ge-SPECIAL}
+
+pub loop-byte-init : goal.loop-byte-init
+loop-byte-init c =
+    let t = c.self.inside in
+    let d = table_of t.class_of t.width t.table.items t.start t.lists.items t.index_count in
+    let sound = c.self.invariant.sound in
+    record {
+      row = sound.begins;
+      room = c.put_listed.ensures.room;
+      found = λ k. started d sound c.args.text.now k (has_index c.args.into.now k) (has_index c.put_listed.new.into k)
+          (rw (c.deref.ensures.value, c.as_slice-table.ensures.value) at c.put_listed.ensures.has k);
+      visits = omega arith;
+    }
+
+pub returns-then-state-eq-DEAD-clause-found : goal.returns-then-state-eq-DEAD-clause-found
+returns-then-state-eq-DEAD-clause-found c = λ k.
+    let t = c.self.inside in
+    let d = table_of t.class_of t.width t.table.items t.start t.lists.items t.index_count in
+    let sound = c.self.invariant.sound in
+    let text = c.args.text.now in
+    let l = c.loop-byte in
+    let i = l.byte-index in
+    let lt : i < length text = omega arith in
+    let byte : ℕ = get_or text i 0 in
+    let rest = drop (i + 1) text in
+    let more : drop i text ≡ byte ∷ rest = drop_more text i 0 lt in
+    let small : byte < 256 = omega (arith, c.type_inv.text i) in
+    let bytes : AreBytes text = λ j. omega (arith, c.type_inv.text j) in
+    let e : ℕ = c.next-state.result in
+    let is : e ≡ entry d l.state byte = c.next-state.ensures.value ∙ ap (λ n. slice_index n (l.state + slice_index t.class_of byte)) c.as_slice-table.ensures.value in
+    let same = dead_next d sound l.state byte l.invariant.row small e is rest k (has_index l.into k) (finds d text k || has_index c.args.into.now k)
+    c.if-state-ge-SPECIAL.true c.next-state.ensures.small c.if-state-eq-DEAD.true (drop_bytes (i + 1) text bytes) (rw more at l.invariant.found k) in
+    let source = ap (λ (v : DfaValue). v.source) c.self.view_is in
+    rw (sym source) (found_is (has_index l.into k) (has_index c.args.into.now k) (finds d text k) _ (c.self.invariant.finds text k bytes) same)
+
+pub bounds-table-state-then-state-ge-SPECIAL : goal.bounds-table-state-then-state-ge-SPECIAL
+bounds-table-state-then-state-ge-SPECIAL c =
+    let t = c.self.inside in
+    let d = table_of t.class_of t.width t.table.items t.start t.lists.items t.index_count in
+    let l = c.loop-byte in
+    let byte : ℕ = get_or c.args.text.now l.byte-index 0 in
+    let small : byte < 256 = omega (arith, c.type_inv.text l.byte-index) in
+    let e : ℕ = c.next-state.result in
+    let is : e ≡ entry d l.state byte = c.next-state.ensures.value ∙ ap (λ n. slice_index n (l.state + slice_index t.class_of byte)) c.as_slice-table.ensures.value in
+    let (j, at, room) = high_row d c.self.invariant.sound l.state byte l.invariant.row small e is c.if-state-ge-SPECIAL.true c.next-state.ensures.small in
+    let len = ap length c.as_slice-table.ensures.value in
+    omega arith
+
+pub put_listed-requires-then-state-ge-SPECIAL : goal.put_listed-requires-then-state-ge-SPECIAL
+put_listed-requires-then-state-ge-SPECIAL c =
+    let t = c.self.inside in
+    let d = table_of t.class_of t.width t.table.items t.start t.lists.items t.index_count in
+    let l = c.loop-byte in
+    let byte : ℕ = get_or c.args.text.now l.byte-index 0 in
+    let small : byte < 256 = omega (arith, c.type_inv.text l.byte-index) in
+    let e : ℕ = c.next-state.result in
+    let is : e ≡ entry d l.state byte = c.next-state.ensures.value ∙ ap (λ n. slice_index n (l.state + slice_index t.class_of byte)) c.as_slice-table.ensures.value in
+    let row = high_row d c.self.invariant.sound l.state byte l.invariant.row small e is c.if-state-ge-SPECIAL.true c.next-state.ensures.small in
+    let count = ap (λ (v : DfaValue). v.source.index_count) c.self.view_is in
+    let wide : t.index_count ≤ index_room l.into = omega (arith, c.requires, l.invariant.room, c.self.invariant.count) in
+    rw (c.deref-then-state-ge-SPECIAL.ensures.value, c.as_slice-table.ensures.value)
+    (list_wider t.lists.items t.index_count (index_room l.into) (slice_index t.table.items (e - special + t.width)) wide (c.self.invariant.sound.entry_list (e - special) row))
+
+pub loop-byte-preserved : goal.loop-byte-preserved
+loop-byte-preserved c =
+    let t = c.self.inside in
+    let d = table_of t.class_of t.width t.table.items t.start t.lists.items t.index_count in
+    let sound = c.self.invariant.sound in
+    let text = c.args.text.now in
+    let l = c.loop-byte in
+    let inv = l.invariant in
+    let i = l.byte-index in
+    let lt : i < length text = omega arith in
+    let byte : ℕ = get_or text i 0 in
+    let rest = drop (i + 1) text in
+    let more : drop i text ≡ byte ∷ rest = drop_more text i 0 lt in
+    let small : byte < 256 = omega (arith, c.type_inv.text i) in
+    let e : ℕ = c.next-state.result in
+    let is : e ≡ entry d l.state byte = c.next-state.ensures.value ∙ ap (λ n. slice_index n (l.state + slice_index t.class_of byte)) c.as_slice-table.ensures.value in
+    elim c.if-state-ge-SPECIAL.branch [
+      | then-state-ge-SPECIAL+else-state-eq-DEAD w ↦ rw (w.state-is, w.into-is) record {
+        row = high_row d sound l.state byte inv.row small e is w.if-state-ge-SPECIAL.true c.next-state.ensures.small;
+        room = w.put_listed-then-state-ge-SPECIAL.ensures.room ∙ inv.room;
+        found = λ k. high_next d sound l.state byte inv.row small e is rest k (has_index l.into k) (has_index w.put_listed-then-state-ge-SPECIAL.new.into k) (finds d text k || has_index c.args.into.now k)
+            w.if-state-ge-SPECIAL.true c.next-state.ensures.small
+            (rw (w.deref-then-state-ge-SPECIAL.ensures.value, c.as_slice-table.ensures.value) at w.put_listed-then-state-ge-SPECIAL.ensures.has k)
+            (rw more at inv.found k);
+        visits = omega (arith, inv.visits, c.tick.ensures);
+      }
+      | else-state-ge-SPECIAL w ↦ rw (w.state-is, w.into-is) record {
+        row = low_row d sound l.state byte inv.row small e is w.if-state-ge-SPECIAL.false;
+        room = inv.room;
+        found = λ k. low_next d sound l.state byte inv.row small e is rest k (has_index l.into k) (finds d text k || has_index c.args.into.now k) w.if-state-ge-SPECIAL.false (rw more at inv.found k);
+        visits = omega (arith, inv.visits, c.tick.ensures);
+      }
+    ]
+
+pub returns-clause-found : goal.returns-clause-found
+returns-clause-found c = λ k.
+    let t = c.self.inside in
+    let d = table_of t.class_of t.width t.table.items t.start t.lists.items t.index_count in
+    let text = c.args.text.now in
+    let l = c.loop-byte in
+    let past : drop l.byte-index text ≡ [] = drop_all l.byte-index text (omega arith) in
+    let bytes : AreBytes text = λ j. omega (arith, c.type_inv.text j) in
+    let found = rw past at l.invariant.found k in
+    let listed = rw (c.deref-2.ensures.value, c.as_slice-table.ensures.value) at c.put_listed-2.ensures.has k in
+    let source = ap (λ (v : DfaValue). v.source) c.self.view_is in
+    rw (sym source) (found_is (has_index c.put_listed-2.new.into k) (has_index c.args.into.now k) (finds d text k) _ (c.self.invariant.finds text k bytes) (listed ∙ found))

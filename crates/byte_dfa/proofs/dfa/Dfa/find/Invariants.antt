@@ -1,0 +1,15 @@
+use Rattle.std.proofs.Common.{◌≡◌, ℕ, ◌+◌, ◌≤◌, ◌||◌, drop}
+use Rattle.byte_automaton.specs.Sets.{has_index, index_room}
+use Rattle.byte_dfa.specs.inner.Tables.{table_of, later, finds, IsRow}
+use Rattle.byte_dfa.proofs.dfa.Dfa.find.Given as goal
+
+abbrev pub invariant-loop-byte : goal.invariant-loop-byte
+invariant-loop-byte l =
+    let t = l.self-inside in
+    let d = table_of t.class_of t.width t.table.items t.start t.lists.items t.index_count in
+    record {
+      row : IsRow d l.state;
+      room : index_room l.into ≡ index_room l.fn.into;
+      found : (k : ℕ) → (later d l.state (drop l.byte-index l.text) k || has_index l.into k) ≡ (finds d l.text k || has_index l.fn.into k);
+      visits : l.visits ≤ l.fn.visits + l.byte-index;
+    }

@@ -1,0 +1,144 @@
+use Rattle.std.proofs.Common.{◌≡◌, ℕ, ◌+◌, ◌<◌, ◌∷◌, ◌-◌, [], drop, length, get_or, slice_index, arith, sym, ap, ◌∙◌}
+use Rattle.std.proofs.lemmas.List.{drop_more, drop_all}
+use Rattle.byte_automaton.specs.inner.Pass.{is_listed}
+use Rattle.byte_automaton.specs.inner.Texts.{AreBytes}
+use Rattle.byte_automaton.proofs.lemmas.Pass.{or_first}
+use Rattle.byte_dfa.specs.DfaValue.{DfaValue}
+use Rattle.byte_dfa.specs.inner.Tables.{table_of, entry, special, on_entry, at_end, later, finds}
+use Rattle.byte_dfa.proofs.lemmas.Steps.{drop_bytes, started_quiet, low_row, high_row, low_later, quiet_later, dead_later, told_later, some_found, none_found, whether_found}
+use Rattle.byte_dfa.proofs.dfa.Dfa.is_match.Goals as goal
+use Rattle.byte_dfa.proofs.dfa.Dfa.is_match.Goals.{then-state-ge-SPECIAL+else-state-eq-DEAD+else-has_some-2, else-state-ge-SPECIAL}
+
+pub returns-then-has_some-clause-some : goal.returns-then-has_some-clause-some
+returns-then-has_some-clause-some c =
+    let t = c.self.inside in
+    let d = table_of t.class_of t.width t.table.items t.start t.lists.items t.index_count in
+    let text = c.args.text.now in
+    let bytes : AreBytes text = λ j. omega (arith, c.type_inv.text j) in
+    let some = rw (c.deref.ensures.value, c.as_slice-table.ensures.value) at c.has_some.ensures.some in
+    let (k, listed) = some c.if-has_some.true in
+    let source = ap (λ (v : DfaValue). v.source) c.self.view_is in
+    rw (sym source) (some_found (finds d text) _ k (λ j. c.self.invariant.finds text j bytes) (or_first (is_listed k (on_entry d d.start)) (later d d.start text k) listed))
+
+pub loop-byte-init : goal.loop-byte-init
+loop-byte-init c =
+    let t = c.self.inside in
+    let d = table_of t.class_of t.width t.table.items t.start t.lists.items t.index_count in
+    let sound = c.self.invariant.sound in
+    let none = rw (c.deref.ensures.value, c.as_slice-table.ensures.value) at c.has_some.ensures.none in
+    record {
+      row = sound.begins;
+      same = λ k. started_quiet d sound c.args.text.now k (none c.if-has_some.false);
+      visits = omega arith;
+    }
+
+pub returns-then-state-eq-DEAD-clause-some : goal.returns-then-state-eq-DEAD-clause-some
+returns-then-state-eq-DEAD-clause-some c =
+    let t = c.self.inside in
+    let d = table_of t.class_of t.width t.table.items t.start t.lists.items t.index_count in
+    let sound = c.self.invariant.sound in
+    let text = c.args.text.now in
+    let l = c.loop-byte in
+    let i = l.byte-index in
+    let lt : i < length text = omega arith in
+    let byte : ℕ = get_or text i 0 in
+    let rest = drop (i + 1) text in
+    let more : drop i text ≡ byte ∷ rest = drop_more text i 0 lt in
+    let small : byte < 256 = omega (arith, c.type_inv.text i) in
+    let bytes : AreBytes text = λ j. omega (arith, c.type_inv.text j) in
+    let e : ℕ = c.next-state.result in
+    let is : e ≡ entry d l.state byte = c.next-state.ensures.value ∙ ap (λ n. slice_index n (l.state + slice_index t.class_of byte)) c.as_slice-table.ensures.value in
+    let source = ap (λ (v : DfaValue). v.source) c.self.view_is in
+    rw (sym source) (none_found (finds d text) _ (λ j. c.self.invariant.finds text j bytes)
+    (λ k. sym (rw more at l.invariant.same k) ∙ dead_later d sound l.state byte l.invariant.row small e is rest k c.if-state-ge-SPECIAL.true c.next-state.ensures.small c.if-state-eq-DEAD.true (drop_bytes (i + 1) text bytes)))
+
+pub bounds-table-state-then-state-ge-SPECIAL : goal.bounds-table-state-then-state-ge-SPECIAL
+bounds-table-state-then-state-ge-SPECIAL c =
+    let t = c.self.inside in
+    let d = table_of t.class_of t.width t.table.items t.start t.lists.items t.index_count in
+    let l = c.loop-byte in
+    let byte : ℕ = get_or c.args.text.now l.byte-index 0 in
+    let small : byte < 256 = omega (arith, c.type_inv.text l.byte-index) in
+    let e : ℕ = c.next-state.result in
+    let is : e ≡ entry d l.state byte = c.next-state.ensures.value ∙ ap (λ n. slice_index n (l.state + slice_index t.class_of byte)) c.as_slice-table.ensures.value in
+    let (j, at, room) = high_row d c.self.invariant.sound l.state byte l.invariant.row small e is c.if-state-ge-SPECIAL.true c.next-state.ensures.small in
+    let len = ap length c.as_slice-table.ensures.value in
+    omega arith
+
+pub has_some-requires-then-state-ge-SPECIAL : goal.has_some-requires-then-state-ge-SPECIAL
+has_some-requires-then-state-ge-SPECIAL c =
+    let t = c.self.inside in
+    let d = table_of t.class_of t.width t.table.items t.start t.lists.items t.index_count in
+    let l = c.loop-byte in
+    let byte : ℕ = get_or c.args.text.now l.byte-index 0 in
+    let small : byte < 256 = omega (arith, c.type_inv.text l.byte-index) in
+    let e : ℕ = c.next-state.result in
+    let is : e ≡ entry d l.state byte = c.next-state.ensures.value ∙ ap (λ n. slice_index n (l.state + slice_index t.class_of byte)) c.as_slice-table.ensures.value in
+    let row = high_row d c.self.invariant.sound l.state byte l.invariant.row small e is c.if-state-ge-SPECIAL.true c.next-state.ensures.small in
+    rw (c.deref-then-state-ge-SPECIAL.ensures.value, c.as_slice-table.ensures.value) ((c.self.invariant.sound.entry_list (e - special) row).room)
+
+pub returns-then-has_some-2-clause-some : goal.returns-then-has_some-2-clause-some
+returns-then-has_some-2-clause-some c =
+    let t = c.self.inside in
+    let d = table_of t.class_of t.width t.table.items t.start t.lists.items t.index_count in
+    let sound = c.self.invariant.sound in
+    let text = c.args.text.now in
+    let l = c.loop-byte in
+    let i = l.byte-index in
+    let lt : i < length text = omega arith in
+    let byte : ℕ = get_or text i 0 in
+    let rest = drop (i + 1) text in
+    let more : drop i text ≡ byte ∷ rest = drop_more text i 0 lt in
+    let small : byte < 256 = omega (arith, c.type_inv.text i) in
+    let bytes : AreBytes text = λ j. omega (arith, c.type_inv.text j) in
+    let e : ℕ = c.next-state.result in
+    let is : e ≡ entry d l.state byte = c.next-state.ensures.value ∙ ap (λ n. slice_index n (l.state + slice_index t.class_of byte)) c.as_slice-table.ensures.value in
+    let some = rw (c.deref-then-state-ge-SPECIAL.ensures.value, c.as_slice-table.ensures.value) at c.has_some-then-state-ge-SPECIAL.ensures.some in
+    let (k, listed) = some c.if-has_some-2.true in
+    let source = ap (λ (v : DfaValue). v.source) c.self.view_is in
+    rw (sym source) (some_found (finds d text) _ k (λ j. c.self.invariant.finds text j bytes)
+    (sym (rw more at l.invariant.same k) ∙ told_later d sound l.state byte l.invariant.row small e is rest k c.if-state-ge-SPECIAL.true c.next-state.ensures.small listed))
+
+pub loop-byte-preserved : goal.loop-byte-preserved
+loop-byte-preserved c =
+    let t = c.self.inside in
+    let d = table_of t.class_of t.width t.table.items t.start t.lists.items t.index_count in
+    let sound = c.self.invariant.sound in
+    let text = c.args.text.now in
+    let l = c.loop-byte in
+    let inv = l.invariant in
+    let i = l.byte-index in
+    let lt : i < length text = omega arith in
+    let byte : ℕ = get_or text i 0 in
+    let rest = drop (i + 1) text in
+    let more : drop i text ≡ byte ∷ rest = drop_more text i 0 lt in
+    let small : byte < 256 = omega (arith, c.type_inv.text i) in
+    let e : ℕ = c.next-state.result in
+    let is : e ≡ entry d l.state byte = c.next-state.ensures.value ∙ ap (λ n. slice_index n (l.state + slice_index t.class_of byte)) c.as_slice-table.ensures.value in
+    elim c.if-state-ge-SPECIAL.branch [
+      | then-state-ge-SPECIAL+else-state-eq-DEAD+else-has_some-2 w ↦ rw w.state-is record {
+        row = high_row d sound l.state byte inv.row small e is w.if-state-ge-SPECIAL.true c.next-state.ensures.small;
+        same = λ k.
+            let none = rw (w.deref-then-state-ge-SPECIAL.ensures.value, c.as_slice-table.ensures.value) at w.has_some-then-state-ge-SPECIAL.ensures.none in
+            sym (quiet_later d sound l.state byte inv.row small e is rest k w.if-state-ge-SPECIAL.true c.next-state.ensures.small (none w.if-has_some-2.false)) ∙ (rw more at inv.same k);
+        visits = omega (arith, inv.visits, c.tick.ensures);
+      }
+      | else-state-ge-SPECIAL w ↦ rw w.state-is record {
+        row = low_row d sound l.state byte inv.row small e is w.if-state-ge-SPECIAL.false;
+        same = λ k. sym (low_later d sound l.state byte inv.row small e is rest k w.if-state-ge-SPECIAL.false) ∙ (rw more at inv.same k);
+        visits = omega (arith, inv.visits, c.tick.ensures);
+      }
+    ]
+
+pub returns-clause-some : goal.returns-clause-some
+returns-clause-some c =
+    let t = c.self.inside in
+    let d = table_of t.class_of t.width t.table.items t.start t.lists.items t.index_count in
+    let text = c.args.text.now in
+    let l = c.loop-byte in
+    let past : drop l.byte-index text ≡ [] = drop_all l.byte-index text (omega arith) in
+    let bytes : AreBytes text = λ j. omega (arith, c.type_inv.text j) in
+    let some = rw (c.deref-2.ensures.value, c.as_slice-table.ensures.value) at c.has_some-2.ensures.some in
+    let none = rw (c.deref-2.ensures.value, c.as_slice-table.ensures.value) at c.has_some-2.ensures.none in
+    let source = ap (λ (v : DfaValue). v.source) c.self.view_is in
+    rw (sym source) (whether_found c.has_some-2.result (finds d text) _ (at_end d l.state) (λ j. c.self.invariant.finds text j bytes) (λ j. rw past at l.invariant.same j) some none)

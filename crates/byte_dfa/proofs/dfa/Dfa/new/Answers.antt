@@ -1,0 +1,17 @@
+use Rattle.std.proofs.Common.{◌+◌, ◌*◌, ◌≤◌, length, refl, arith}
+use Rattle.byte_dfa.specs.inner.Tables.{special}
+use Rattle.byte_dfa.proofs.lemmas.Runs.{table_is}
+use Rattle.byte_dfa.proofs.dfa.Dfa.new.Goals as goal
+
+pub invariant_of-result : goal.invariant_of-result
+invariant_of-result c =
+    let old = c.args.automaton.now in
+    let m = c.in-Some.decided in
+    let classes = c.new-classes.result in
+    let built = c.in-Some-complete.built in
+    let whole = rw c.in-Some-complete.is at c.in_ok-complete.ensures in
+    let made = rw c.in-Some.is at c.in_ok-decided.ensures in
+    let few : length built.found.items * (classes.count + 2) ≤ special = omega (arith, whole.rows, whole.few) in
+    rw (c.of.ensures, c.index_count.ensures)
+    (table_is old m made classes c.new-classes.ensures.division built.found.items built.lists.items built.rows.items whole.sound whole.rows few
+    (c.in-Some-complete.start * (classes.count + 2)) c.in-Some-complete.start whole.begins.set whole.begins.at refl whole.begins.leads)

@@ -1,0 +1,7 @@
+pub mod Lists
+pub mod Classes
+pub mod Found
+pub mod Cells
+pub mod Begins
+pub mod Runs
+pub mod Steps

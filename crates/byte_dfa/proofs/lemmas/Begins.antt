@@ -1,0 +1,16 @@
+-- The set that a run begins in.
+use Rattle.std.proofs.Common.{ℕ, List}
+use Rattle.std.specs.Prelude.{◌↔◌}
+use Rattle.byte_automaton.specs.Runs.{AcceptsFrom}
+use Rattle.byte_automaton.specs.Steps.{Machine, IsReached}
+use Rattle.byte_automaton.specs.declared.state_set.StateSet.{StateSet}
+use Rattle.byte_dfa.specs.declared.construction.Found.{Found}
+use Rattle.byte_dfa.specs.inner.Building.{IsNumbered, KeepsFound, BeginsAt}
+use Rattle.byte_dfa.proofs.lemmas.Found.{iff_trans, accepts_same}
+
+pub begins_kept : (m : Machine) (old new : List Found) (number : ℕ) → KeepsFound old new → BeginsAt m old number → BeginsAt m new number
+begins_kept m old new number keeps begins = record { set = begins.set; at = keeps.1 number begins.set begins.at; leads = begins.leads }
+
+pub begins_first : (m : Machine) (found : List Found) (number : ℕ) (states : StateSet) → IsNumbered found number states
+    → ((y : List ℕ) (k : ℕ) → AcceptsFrom m states y k ↔ IsReached m y k) → BeginsAt m found number
+begins_first m found number states (g, at, same) starts = record { set = g; at = at; leads = λ y k. iff_trans (accepts_same m g.states states y k same) (starts y k) }

@@ -1,0 +1,41 @@
+-- Classes of bytes, made one byte after another.
+use Rattle.std.proofs.Common.{◌≡◌, ◌≢◌, ℕ, ◌+◌, ◌<◌, ◌≤◌, List, length, slice_index, slice_set, refl, ap, sym, ◌∙◌, subst, arith}
+use Rattle.std.proofs.lemmas.Bool.{cases_lt}
+use Rattle.std.proofs.lemmas.List.{get_or-set_same, get_or-set_other}
+use Rattle.std.proofs.Math.Logic.{⊎_elim}
+use Rattle.byte_automaton.specs.Steps.{State}
+use Rattle.byte_automaton.specs.Alike.{AreAlike}
+use Rattle.byte_dfa.specs.inner.Classes.{IsDivided}
+
+pub divided_first : (a : List State) (class_of firsts : List ℕ) → slice_index class_of 0 ≡ 0 → slice_index firsts 0 ≡ 0 → IsDivided a class_of firsts 0 1
+divided_first a class_of firsts zero_of zero_first b lt =
+    let is : b ≡ 0 = omega arith in
+    subst (λ x. (slice_index class_of x ≤ 0) × AreAlike a (slice_index firsts (slice_index class_of x)) x) (sym is)
+    (rw zero_of (omega arith), λ s. rw (zero_of, zero_first) refl)
+
+module _ (a : List State) (class_of firsts : List ℕ) (last i : ℕ) (old : IsDivided a class_of firsts last i) (room : i < length class_of) where
+  -- a byte more, in the last class
+  pub divided_same : AreAlike a (slice_index firsts last) i → IsDivided a (slice_set class_of i last) firsts last (i + 1)
+  divided_same alike b lt = ⊎_elim {C = (slice_index (slice_set class_of i last) b ≤ last) × AreAlike a (slice_index firsts (slice_index (slice_set class_of i last) b)) b}
+      (λ low. let ne : b ≢ i = omega arith in let same : slice_index (slice_set class_of i last) b ≡ slice_index class_of b = get_or-set_other class_of i b last 0 ne in
+      subst (λ c. (c ≤ last) × AreAlike a (slice_index firsts c) b) (sym same) (old b low))
+      (λ past. let is : b ≡ i = omega arith in let here : slice_index (slice_set class_of i last) b ≡ last = ap (slice_index (slice_set class_of i last)) is ∙ get_or-set_same class_of i last 0 room in
+      subst (λ c. (c ≤ last) × AreAlike a (slice_index firsts c) b) (sym here) (omega arith, subst (AreAlike a (slice_index firsts last)) (sym is) alike))
+      (cases_lt b i)
+
+  -- the first byte of a class
+  pub divided_next : last + 1 < length firsts → IsDivided a (slice_set class_of i (last + 1)) (slice_set firsts (last + 1) i) (last + 1) (i + 1)
+  divided_next space b lt = ⊎_elim {C = (slice_index (slice_set class_of i (last + 1)) b ≤ last + 1) × AreAlike a (slice_index (slice_set firsts (last + 1) i) (slice_index (slice_set class_of i (last + 1)) b)) b}
+      (λ low.
+      let ne : b ≢ i = omega arith in
+      let same : slice_index (slice_set class_of i (last + 1)) b ≡ slice_index class_of b = get_or-set_other class_of i b (last + 1) 0 ne in
+      let (le, alike) = old b low in
+      let ne' : slice_index class_of b ≢ last + 1 = omega arith in
+      let same' : slice_index (slice_set firsts (last + 1) i) (slice_index class_of b) ≡ slice_index firsts (slice_index class_of b) = get_or-set_other firsts (last + 1) (slice_index class_of b) i 0 ne' in
+      subst (λ c. (c ≤ last + 1) × AreAlike a (slice_index (slice_set firsts (last + 1) i) c) b) (sym same) (omega arith, subst (λ f. AreAlike a f b) (sym same') alike))
+      (λ past.
+      let is : b ≡ i = omega arith in
+      let here : slice_index (slice_set class_of i (last + 1)) b ≡ last + 1 = ap (slice_index (slice_set class_of i (last + 1))) is ∙ get_or-set_same class_of i (last + 1) 0 room in
+      let first : slice_index (slice_set firsts (last + 1) i) (last + 1) ≡ b = get_or-set_same firsts (last + 1) i 0 space ∙ sym is in
+      subst (λ c. (c ≤ last + 1) × AreAlike a (slice_index (slice_set firsts (last + 1) i) c) b) (sym here) (omega arith, subst (λ f. AreAlike a f b) (sym first) (λ s. refl)))
+      (cases_lt b i)

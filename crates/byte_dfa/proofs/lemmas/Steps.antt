@@ -1,0 +1,104 @@
+-- Steps of a run over a table.
+use Rattle.std.proofs.Common.{◌≡◌, ℕ, ◌+◌, ◌-◌, ◌%◌, ◌<◌, ◌≤◌, ◌⊎◌, inl, inr, Bool, true, false, true≢false, ◌||◌, List, [], ◌∷◌, length, slice_index, take, drop, IsTrue, IsFalse, refl, ap, sym, ◌∙◌, subst, arith}
+use Rattle.std.specs.Prelude.{◌↔◌}
+use Rattle.std.proofs.lemmas.Bool.{or_cases}
+use Rattle.std.proofs.lemmas.List.{get_or-take, get_or-drop}
+use Rattle.std.proofs.Math.Logic.{⊎_elim}
+use Rattle.byte_automaton.specs.inner.Pass.{is_listed}
+use Rattle.byte_automaton.specs.inner.Texts.{AreBytes}
+use Rattle.byte_automaton.proofs.lemmas.Pass.{or_first, or_second}
+use Rattle.byte_dfa.specs.inner.Tables.{Table, special, entry, after, on_entry, later, finds_from, finds, IsRow, IsTable}
+
+-- a column of the table, from its first entry on
+pub read_column : (next : List ℕ) (k s : ℕ) → s + k < length next → slice_index (take (length next - k) (drop k next)) s ≡ slice_index next (s + k)
+read_column next k s lt = get_or-take (length next - k) (drop k next) s 0 (omega arith) ∙ get_or-drop k next s 0 ∙ ap (slice_index next) (let e : k + s ≡ s + k = omega arith in e)
+
+-- what follows the bytes that were read is bytes
+pub drop_bytes : (i : ℕ) (y : List ℕ) → AreBytes y → AreBytes (drop i y)
+drop_bytes i y h j = subst (λ x. x < 256) (sym (get_or-drop i y j 0)) (h (i + j))
+
+-- the entry of a byte lies in the table
+pub entry_within : (d : Table) (s b : ℕ) → IsTable d → IsRow d s → b < 256 → s + slice_index d.class_of b < length d.next
+entry_within d s b sound (i, is, room) byte = let class = sound.classes b byte in omega arith
+
+swapped : (p q r : Bool) → (q || (p || r)) ≡ ((p || q) || r)
+swapped true true r = refl
+swapped true false r = refl
+swapped false true r = refl
+swapped false false r = refl
+
+none_first : (p q : Bool) → (p || q) ≡ false → q ≡ false
+none_first true q h = absurd (true≢false h)
+none_first false q h = h
+
+module _ (d : Table) (sound : IsTable d) where
+  -- from the start
+  pub started : (y : List ℕ) (k : ℕ) (found found' : Bool) → found' ≡ (is_listed k (on_entry d d.start) || found) → (later d d.start y k || found') ≡ (finds d y k || found)
+  started y k found found' is = ap (λ x. later d d.start y k || x) is ∙ swapped (is_listed k (on_entry d d.start)) (later d d.start y k) found
+
+  pub started_quiet : (y : List ℕ) (k : ℕ) → on_entry d d.start ≡ [] → later d d.start y k ≡ finds d y k
+  started_quiet y k none = ap (λ l. is_listed k l || later d d.start y k) (sym none)
+
+  -- by a byte, whose entry is e
+  module _ (s b : ℕ) (row : IsRow d s) (byte : b < 256) (e : ℕ) (is : e ≡ entry d s b) where
+    low_after : e < special → after d s b ≡ e
+    low_after lt = ap (λ x. x % special) (sym is) ∙ (let small : e % special ≡ e = omega arith in small)
+
+    high_after : special ≤ e → e < 4294967296 → after d s b ≡ e - special
+    high_after le lt = ap (λ x. x % special) (sym is) ∙ (let small : e % special ≡ e - special = omega arith in small)
+
+    pub low_row : e < special → IsRow d e
+    low_row lt = subst (IsRow d) (low_after lt) (sound.goes s b row byte)
+
+    pub high_row : special ≤ e → e < 4294967296 → IsRow d (e - special)
+    high_row le lt = subst (IsRow d) (high_after le lt) (sound.goes s b row byte)
+
+    low_quiet : e < special → on_entry d e ≡ []
+    low_quiet lt = ap (on_entry d) (sym (low_after lt)) ∙ sound.quiet s b row byte (subst (λ x. x < special) is lt)
+
+    -- what comes, with what was found
+    pub low_next : (y : List ℕ) (k : ℕ) (found before : Bool) → e < special → (later d s (b ∷ y) k || found) ≡ before → (later d e y k || found) ≡ before
+    low_next y k found before lt old =
+        ap (λ l. (is_listed k l || later d e y k) || found) (sym (low_quiet lt)) ∙ ap (λ x. finds_from d x y k || found) (sym (low_after lt)) ∙ old
+
+    pub high_next : (y : List ℕ) (k : ℕ) (found found' before : Bool) → special ≤ e → e < 4294967296 → found' ≡ (is_listed k (on_entry d (e - special)) || found)
+        → (later d s (b ∷ y) k || found) ≡ before → (later d (e - special) y k || found') ≡ before
+    high_next y k found found' before le lt more old =
+        ap (λ x. later d (e - special) y k || x) more ∙ swapped (is_listed k (on_entry d (e - special))) (later d (e - special) y k) found
+        ∙ ap (λ x. finds_from d x y k || found) (sym (high_after le lt)) ∙ old
+
+    pub dead_next : (y : List ℕ) (k : ℕ) (found before : Bool) → special ≤ e → e < 4294967296 → e - special ≡ 0 → AreBytes y → (later d s (b ∷ y) k || found) ≡ before → found ≡ before
+    dead_next y k found before le lt zero_is bytes old =
+        ap (λ x. x || found) (sym (sound.dead y k bytes)) ∙ ap (λ x. finds_from d x y k || found) (sym (high_after le lt ∙ zero_is)) ∙ old
+
+    -- what comes
+
+    pub low_later : (y : List ℕ) (k : ℕ) → e < special → later d s (b ∷ y) k ≡ later d e y k
+    low_later y k lt = ap (λ x. finds_from d x y k) (low_after lt) ∙ ap (λ l. is_listed k l || later d e y k) (low_quiet lt)
+
+    pub quiet_later : (y : List ℕ) (k : ℕ) → special ≤ e → e < 4294967296 → on_entry d (e - special) ≡ [] → later d s (b ∷ y) k ≡ later d (e - special) y k
+    quiet_later y k le lt none = ap (λ x. finds_from d x y k) (high_after le lt) ∙ ap (λ l. is_listed k l || later d (e - special) y k) none
+
+    pub dead_later : (y : List ℕ) (k : ℕ) → special ≤ e → e < 4294967296 → e - special ≡ 0 → AreBytes y → later d s (b ∷ y) k ≡ false
+    dead_later y k le lt zero_is bytes = ap (λ x. finds_from d x y k) (high_after le lt ∙ zero_is) ∙ sound.dead y k bytes
+
+    pub told_later : (y : List ℕ) (k : ℕ) → special ≤ e → e < 4294967296 → IsTrue (is_listed k (on_entry d (e - special))) → IsTrue (later d s (b ∷ y) k)
+    told_later y k le lt here = ap (λ x. finds_from d x y k) (high_after le lt) ∙ or_first (is_listed k (on_entry d (e - special))) (later d (e - special) y k) here
+
+-- what a run found, as contracts say it
+pub found_is : (has was finds : Bool) (P : Type 0) → IsTrue finds ↔ P → has ≡ (finds || was) → IsTrue has ↔ (P ⊎ IsTrue was)
+found_is has was finds P f is = (
+  λ h. ⊎_elim {C = P ⊎ IsTrue was} (λ yes. inl (f.0 yes)) (λ old. inr old) (or_cases finds was (sym is ∙ h)),
+  λ h. ⊎_elim {C = IsTrue has} (λ p. is ∙ or_first finds was (f.1 p)) (λ old. is ∙ or_second finds was old) h,
+)
+
+pub some_found : (test : ℕ → Bool) (P : ℕ → Type 0) (k : ℕ) → ((j : ℕ) → IsTrue (test j) ↔ P j) → IsTrue (test k) → IsTrue true ↔ ((j : ℕ) × P j)
+some_found test P k f h = (λ _. (k, (f k).0 h), λ _. refl)
+
+pub none_found : (test : ℕ → Bool) (P : ℕ → Type 0) → ((j : ℕ) → IsTrue (test j) ↔ P j) → ((j : ℕ) → test j ≡ false) → IsTrue false ↔ ((j : ℕ) × P j)
+none_found test P f none = (λ off. absurd (true≢false (sym off)), λ (j, p). absurd (true≢false (sym ((f j).1 p) ∙ none j)))
+
+pub whether_found : (result : Bool) (test : ℕ → Bool) (P : ℕ → Type 0) (l : List ℕ) → ((j : ℕ) → IsTrue (test j) ↔ P j) → ((j : ℕ) → is_listed j l ≡ test j)
+    → (IsTrue result → (k : ℕ) × IsTrue (is_listed k l)) → (IsFalse result → l ≡ []) → IsTrue result ↔ ((j : ℕ) × P j)
+whether_found true test P l f same some none = let (k, h) = some refl in some_found test P k f (sym (same k) ∙ h)
+whether_found false test P l f same some none = none_found test P f (λ j. sym (same j) ∙ ap (is_listed j) (none refl))

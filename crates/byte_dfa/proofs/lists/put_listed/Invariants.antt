@@ -1,0 +1,11 @@
+use Rattle.std.proofs.Common.{◌≡◌, ℕ, ◌||◌, take}
+use Rattle.byte_automaton.specs.Sets.{has_index, index_room}
+use Rattle.byte_automaton.specs.inner.Pass.{is_listed}
+use Rattle.byte_dfa.specs.inner.Lists.{list_at}
+use Rattle.byte_dfa.proofs.lists.put_listed.Given as goal
+
+abbrev pub invariant-loop-index : goal.invariant-loop-index
+invariant-loop-index l = record {
+  room : index_room l.into ≡ index_room l.fn.into;
+  has : (k : ℕ) → has_index l.into k ≡ (is_listed k (take l.index-index (list_at l.numbers l.place)) || has_index l.fn.into k);
+}

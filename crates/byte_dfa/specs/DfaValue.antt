@@ -1,0 +1,8 @@
+-- What contracts see of a deterministic automaton.
+use Rattle.std.specs.Prelude.{ℕ}
+use Rattle.byte_automaton.specs.Steps.{Machine}
+
+-- the automaton that it was made from, and how many numbers it holds in memory
+pub record DfaValue : Type 0 where
+  pub source : Machine
+  pub size : ℕ

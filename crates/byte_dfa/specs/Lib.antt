@@ -1,0 +1,2 @@
+pub mod DfaValue
+pub mod inner

@@ -1,0 +1,5 @@
+pub mod Origins
+pub mod Lists
+pub mod Classes
+pub mod Tables
+pub mod Building

@@ -1,0 +1,185 @@
+//! A deterministic automaton.
+
+ghost use Rattle.std.specs.Prelude.{◌≡◌, ℕ, ◌+◌, ◌≤◌, ◌⊎◌, ◌↔◌, ◌<◌, ◌^◌, length, slice_index, IsTrue, IfOk, IfSome};
+ghost use Rattle.byte_automaton.specs.Sets.{has_index, index_room};
+ghost use Rattle.byte_automaton.specs.Steps.{IsReached};
+ghost use Rattle.byte_dfa.specs.DfaValue.{DfaValue};
+ghost use Rattle.byte_dfa.specs.inner.Tables.{table_of, IsTableOf};
+
+use crate::classes::ByteClasses;
+use crate::construction::{Construction, SPECIAL};
+use crate::lists::{has_some, put_listed};
+use crate::source::Source;
+use byte_automaton::{Automaton, IndexSet};
+use std::alloc::{AllocError, Global};
+use std::fmt;
+use std::marker::Model;
+use visits::Visits;
+
+/// A deterministic automaton: a table that says for each state and byte which state is next.
+///
+/// The number of a state is the place in the table where its row begins. A row has an entry for each class of bytes, and
+/// two more, the places of lists: of the indexes that are found where the state is entered, and of those that are found
+/// where the text ends. The state 0 is dead: it leads to no end.
+#[derive(Drop)]
+pub struct Dfa {
+    class_of: [u8; 256],
+    width: usize,
+    table: Vec<u32>,
+    start: usize,
+    lists: Vec<usize>,
+    index_count: usize,
+    source: Source,
+}
+
+const DEAD: usize = 0;
+
+impl Model for Dfa {
+    ghost Value = { DfaValue };
+
+    ghost view = { λ d. record { source = d.source; size = length d.table.items + length d.lists.items } };
+
+    ghost invariant = { λ d. IsTableOf d.source (table_of d.class_of d.width d.table.items d.start d.lists.items d.index_count) };
+}
+
+impl Clone for Dfa {
+    ghost is_clone = { λ a b. b ≡ a };
+
+    /// Returns a copy. Returns an error if memory runs out.
+    fn clone(&self) -> Result<Dfa, AllocError> {
+        let alloc = *self.table.allocator();
+        Ok(Dfa {
+            class_of: self.class_of,
+            width: self.width,
+            table: Vec::from_slice(alloc, &self.table)?,
+            start: self.start,
+            lists: Vec::from_slice(alloc, &self.lists)?,
+            index_count: self.index_count,
+            source: self.source.copy(),
+        })
+    }
+}
+
+impl fmt::Debug for Dfa {
+    fn fmt<W: fmt::Write>(&self, f: &mut fmt::Formatter<W>) -> fmt::Result {
+        let size = self.table.len();
+        write!(f, "Dfa {{ size: {size} }}")
+    }
+}
+
+impl Dfa {
+    /// Makes a deterministic automaton that finds what an automaton finds.
+    ///
+    /// The table and the lists have at most `budget` numbers together. Returns `None` if that is not enough, and an error
+    /// if memory runs out.
+    pub fn new(
+        alloc: Global,
+        automaton: &Automaton,
+        budget: usize,
+    ) -> Result<Option<Dfa>, AllocError>
+        ensures source { IfOk result (λ made. IfSome made (λ dfa. dfa.source ≡ automaton.now)) }
+        ensures size { IfOk result (λ made. IfSome made (λ dfa. dfa.size ≤ budget)) }
+    {
+        let Some(decided) = automaton.with_decisions()? else {
+            return Ok(None);
+        };
+        let Some(room) = budget.min(SPECIAL).checked_sub(1) else {
+            return Ok(None);
+        };
+        let classes = ByteClasses::new(&decided);
+        let complete = Construction::complete(alloc, &decided, &classes, room)?;
+        let Some((built, start)) = complete else {
+            return Ok(None);
+        };
+        Ok(Some(Dfa {
+            class_of: classes.class_of,
+            width: classes.count,
+            table: built.rows,
+            start: start * (classes.count + 2),
+            lists: built.lists,
+            index_count: automaton.index_count(),
+            source: Source::of(automaton),
+        }))
+    }
+
+    /// Returns a number that each index is below. A set of indexes has room for each.
+    pub fn index_count(&self) -> usize
+        ensures { result ≡ self.now.source.index_count }
+    {
+        self.index_count
+    }
+
+    /// Returns how many numbers the table and the lists have together.
+    pub fn size(&self) -> usize
+        ensures { result ≡ self.now.size }
+    {
+        self.table.len() + self.lists.len()
+    }
+
+    /// Puts the index of each end that a text leads to into a set, beside what it holds.
+    ///
+    /// It reads one entry for each byte, and is at most one visit for each, and one more. It takes no memory.
+    pub fn find(&self, text: &[u8], into: &mut IndexSet, visits: &mut Visits)
+        requires { self.now.source.index_count ≤ index_room into.old }
+        ensures room { index_room into.new ≡ index_room into.old }
+        ensures found { (k : ℕ) → IsTrue (has_index into.new k) ↔ (IsReached self.now.source text.now k ⊎ IsTrue (has_index into.old k)) }
+        ensures visits { visits.new ≤ visits.old + (length text.now + 1) }
+    {
+        let table = self.table.as_slice();
+        let mut state = self.start;
+        put_listed(&self.lists, table[state + self.width] as usize, into);
+        for byte in text {
+            visits.tick();
+            state = next(table, &self.class_of, state, *byte);
+            if state >= SPECIAL {
+                state -= SPECIAL;
+                if state == DEAD {
+                    return;
+                }
+                put_listed(&self.lists, table[state + self.width] as usize, into);
+            }
+        }
+        visits.tick();
+        put_listed(&self.lists, table[state + self.width + 1] as usize, into);
+    }
+
+    /// Returns whether a text leads to some end. It stops at the first that is found.
+    ///
+    /// It reads one entry for each byte, and is at most one visit for each, and one more. It takes no memory.
+    pub fn is_match(&self, text: &[u8], visits: &mut Visits) -> bool
+        ensures some { IsTrue result ↔ ((k : ℕ) × IsReached self.now.source text.now k) }
+        ensures visits { visits.new ≤ visits.old + (length text.now + 1) }
+    {
+        let table = self.table.as_slice();
+        let mut state = self.start;
+        if has_some(&self.lists, table[state + self.width] as usize) {
+            return true;
+        }
+        for byte in text {
+            visits.tick();
+            state = next(table, &self.class_of, state, *byte);
+            if state >= SPECIAL {
+                state -= SPECIAL;
+                if state == DEAD {
+                    return false;
+                }
+                if has_some(&self.lists, table[state + self.width] as usize) {
+                    return true;
+                }
+            }
+        }
+        visits.tick();
+        has_some(&self.lists, table[state + self.width + 1] as usize)
+    }
+}
+
+/// Returns the entry for a byte in the row of a state.
+fn next(table: &[u32], class_of: &[u8; 256], state: usize, byte: u8) -> usize
+    requires { state + slice_index class_of.now byte < length table.now }
+    ensures value { result ≡ slice_index table.now (state + slice_index class_of.now byte) }
+    ensures small { result < 2 ^ 32 }
+{
+    // Where the entries of the class begin does not wait for the state.
+    let column = &table[class_of[byte as usize] as usize..];
+    column[state] as usize
+}
