@@ -11,10 +11,12 @@ ghost use Rattle.glob_syntax.specs.Views.{flats, tokens_of};
 ghost use Rattle.glob_syntax.specs.inner.Weight.{weight};
 ghost use Rattle.group_matching.specs.inner.Automata.{AddsTokens, AreFor, AreForLists, AreFound, AreIdle, IsFoundSet, TokenLists, machine_under, states_for, tokens_under};
 
+mod compiled;
 mod run;
 mod slots;
 
-use byte_automaton::{Automaton, Builder, IndexSet};
+use byte_automaton::{Builder, IndexSet};
+use compiled::Compiled;
 use glob_automaton::{add_tokens, new_builder};
 use glob_path::{Candidate, component_extension_of, last_component_of};
 use glob_syntax::{Options, Token};
@@ -28,8 +30,8 @@ use visits::Visits;
 /// last component has some extension.
 #[derive(Debug, Drop)]
 pub struct Automata {
-    by_path: Automaton,
-    by_component: Automaton,
+    by_path: Compiled,
+    by_component: Compiled,
     extensions: Slots,
 }
 
@@ -120,7 +122,7 @@ impl Automata {
 
     /// Returns the automaton of the extension of the path's last component, or one without states if it has none. The extension
     /// is only searched for if some extension has an automaton.
-    fn by_extension(&self, path: &Candidate<'_>, visits: &mut Visits) -> &Automaton
+    fn by_extension(&self, path: &Candidate<'_>, visits: &mut Visits) -> &Compiled
         ensures automaton { result.now ≡ machine_under self.now.extensions (component_extension path.now) }
         ensures count { result.now.index_count ≡ self.now.extensions.index_count }
         ensures tokens { (by_slot : ℕ → List IndexedTokens) → AreFor self.now.extensions.machines by_slot → IsFor result.now (tokens_under by_slot self.now.extensions.slots (component_extension path.now)) }
@@ -134,7 +136,7 @@ impl Automata {
     }
 
     /// Returns whether there are no states, in the automaton of an extension either.
-    fn is_idle(&self, by_extension: &Automaton) -> bool
+    fn is_idle(&self, by_extension: &Compiled) -> bool
         ensures { IsTrue result ↔ (size self.now.by_path + (size self.now.by_component + size by_extension.now) ≡ 0) }
     {
         self.by_path.state_count() == 0
@@ -289,8 +291,8 @@ impl AutomataBuilder {
         ensures { IfOk result (λ automata. automata ≡ self) }
     {
         Ok(Automata {
-            by_path: self.by_path.finish(),
-            by_component: self.by_component.finish(),
+            by_path: Compiled::new(alloc, self.by_path.finish())?,
+            by_component: Compiled::new(alloc, self.by_component.finish())?,
             extensions: self.extensions.finish(alloc)?,
         })
     }

@@ -5,17 +5,19 @@ ghost use Rattle.byte_automaton.specs.Runs.{size};
 ghost use Rattle.byte_automaton.specs.Sets.{has_index, index_room};
 ghost use Rattle.glob_automaton.specs.IndexedTokens.{IndexedTokens, IsFor, SomeMatches};
 
-use byte_automaton::{Automaton, IndexSet, StateSet};
+use crate::automata::compiled::Compiled;
+use byte_automaton::{IndexSet, StateSet};
 use glob_automaton::find;
 use std::alloc::{AllocError, Global};
 use visits::Visits;
 
 /// Puts the indexes of the tokens that match a text into a set, beside what it holds.
 ///
-/// It takes two bits of memory for each state. Returns an error if memory runs out.
+/// It takes two bits of memory for each state, but none if there is a deterministic automaton. Returns an error if memory runs
+/// out.
 pub fn run(
     alloc: Global,
-    automaton: &Automaton,
+    automaton: &Compiled,
     text: &[u8],
     found: &mut IndexSet,
     visits: &mut Visits,
@@ -30,18 +32,30 @@ pub fn run(
     if states == 0 {
         return Ok(());
     }
+    if let Some(dfa) = automaton.dfa() {
+        dfa.find(text, found, visits);
+        return Ok(());
+    }
     let mut now = StateSet::new(alloc, states)?;
     let mut next = StateSet::new(alloc, states)?;
-    find(automaton, text, &mut now, &mut next, found, visits);
+    find(
+        automaton.automaton(),
+        text,
+        &mut now,
+        &mut next,
+        found,
+        visits,
+    );
     Ok(())
 }
 
 /// Returns whether tokens match a text.
 ///
-/// It takes two bits of memory for each state. Returns an error if memory runs out.
+/// It takes two bits of memory for each state, but none if there is a deterministic automaton. Returns an error if memory runs
+/// out.
 pub fn is_match(
     alloc: Global,
-    automaton: &Automaton,
+    automaton: &Compiled,
     text: &[u8],
     visits: &mut Visits,
 ) -> Result<bool, AllocError>
@@ -53,7 +67,10 @@ pub fn is_match(
     if states == 0 {
         return Ok(false);
     }
+    if let Some(dfa) = automaton.dfa() {
+        return Ok(dfa.is_match(text, visits));
+    }
     let mut now = StateSet::new(alloc, states)?;
     let mut next = StateSet::new(alloc, states)?;
-    Ok(glob_automaton::is_match(automaton, text, &mut now, &mut next, visits))
+    Ok(glob_automaton::is_match(automaton.automaton(), text, &mut now, &mut next, visits))
 }

@@ -9,7 +9,8 @@ ghost use Rattle.glob_syntax.specs.Views.{flats, tokens_of};
 ghost use Rattle.glob_syntax.specs.inner.Weight.{weight};
 ghost use Rattle.group_matching.specs.inner.Automata.{AddsTokens, AreFor, KeepsTokens, machine_under, slot_of, tokens_under};
 
-use byte_automaton::{Automaton, Builder};
+use crate::automata::compiled::Compiled;
+use byte_automaton::Builder;
 use byte_table::Table;
 use glob_automaton::{add_tokens, new_builder};
 use glob_syntax::{Options, Token};
@@ -21,8 +22,8 @@ use visits::Visits;
 #[derive(Debug, Drop)]
 pub struct Slots {
     slots: Table,
-    automata: Vec<Automaton>,
-    none: Automaton,
+    automata: Vec<Compiled>,
+    none: Compiled,
     index_count: usize,
 }
 
@@ -58,7 +59,7 @@ impl Clone for Slots {
 }
 
 /// Returns copies of automata. Returns an error if memory runs out.
-fn copy_of(automata: &Vec<Automaton>) -> Result<Vec<Automaton>, AllocError>
+fn copy_of(automata: &Vec<Compiled>) -> Result<Vec<Compiled>, AllocError>
     ensures { IfOk result (λ copies. copies.items ≡ automata.now.items) }
 {
     let mut copies = Vec::with_capacity(*automata.allocator(), automata.len())?;
@@ -84,7 +85,7 @@ impl Slots {
     }
 
     /// Returns an automaton without states.
-    pub fn none(&self) -> &Automaton
+    pub fn none(&self) -> &Compiled
         ensures none { result.now ≡ self.now.none }
         ensures count { result.now.index_count ≡ self.now.index_count }
         ensures tokens { IsFor result.now [] }
@@ -93,7 +94,7 @@ impl Slots {
     }
 
     /// Returns the automaton of an extension, or one without states if it has none. It is one visit.
-    pub fn automaton_of(&self, extension: &[u8], visits: &mut Visits) -> &Automaton
+    pub fn automaton_of(&self, extension: &[u8], visits: &mut Visits) -> &Compiled
         ensures automaton { result.now ≡ machine_under self.now extension.now }
         ensures count { result.now.index_count ≡ self.now.index_count }
         ensures tokens { (by_slot : ℕ → List IndexedTokens) → AreFor self.now.machines by_slot → IsFor result.now (tokens_under by_slot self.now.slots extension.now) }
@@ -190,19 +191,19 @@ impl SlotsBuilder {
         Ok(Slots {
             slots: self.slots,
             automata: finished(alloc, self.builders)?,
-            none: self.none.finish(),
+            none: Compiled::simulated(self.none.finish()),
             index_count: self.index_count,
         })
     }
 }
 
 /// Returns the automata of builders. Returns an error if memory runs out.
-fn finished(alloc: Global, builders: Vec<Builder>) -> Result<Vec<Automaton>, AllocError>
+fn finished(alloc: Global, builders: Vec<Builder>) -> Result<Vec<Compiled>, AllocError>
     ensures { IfOk result (λ automata. automata.items ≡ builders.items) }
 {
     let mut automata = Vec::with_capacity(alloc, builders.len())?;
     for builder in builders {
-        automata.push(builder.finish())?;
+        automata.push(Compiled::new(alloc, builder.finish())?)?;
     }
     Ok(automata)
 }
