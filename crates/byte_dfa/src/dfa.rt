@@ -62,7 +62,7 @@ impl Clone for Dfa {
 
 impl fmt::Debug for Dfa {
     fn fmt<W: fmt::Write>(&self, f: &mut fmt::Formatter<W>) -> fmt::Result {
-        let size = self.table.len();
+        let size = self.size();
         write!(f, "Dfa {{ size: {size} }}")
     }
 }
