@@ -1,6 +1,6 @@
 -- The indexes that a set returns for a path.
 use Rattle.std.proofs.Common.{◌≡◌, ℕ, zero, suc, ◌+◌, ◌<◌, ◌≤◌, List, [], ◌∷◌, ◌++◌, Bool, true, cond, length, take, get_or, refl, ap, sym, ◌∙◌, arith}
-use Rattle.std.specs.Prelude.{◌*◌, ◌≢◌, ◌↔◌, map, IsTrue, filter, false, sum_by}
+use Rattle.std.specs.Prelude.{◌*◌, ◌≢◌, ◌↔◌, map, IsTrue, filter, false}
 use Rattle.std.specs.List.{range_with_len}
 use Rattle.std.proofs.lemmas.List.{take_more, length-map}
 use Rattle.std.proofs.lemmas.List.Sums.{sum_by-append}

@@ -1,6 +1,6 @@
 -- What is found for a path, by keys and by automata.
 use Rattle.std.proofs.Common.{◌≡◌, ◌≢◌, ℕ, zero, suc, ◌+◌, ◌<◌, ◌≤◌, ◌⊎◌, inl, inr, Bool, true, false, cond, ◌||◌, ◌==◌, List, [], ◌∷◌, ◌++◌, Option, Some, None, length, IsTrue, refl, ap, sym, subst, ◌∙◌, arith}
-use Rattle.std.specs.Prelude.{◌↔◌, ◌^◌, Contains, MatchOption, filter, sum_by}
+use Rattle.std.specs.Prelude.{◌↔◌, ◌^◌, Contains, MatchOption, filter}
 use Rattle.std.specs.List.{list_any, range_with_len}
 use Rattle.std.specs.List.Sorted.{IsStrictlyIncreasing}
 use Rattle.std.specs.Option.{option_eq}
@@ -12,7 +12,7 @@ use Rattle.std.proofs.lemmas.Map.Steps.{le-length_from_below}
 use Rattle.group_matching.specs.Globs.{TokenGlob, is_listed, is_listed_at, listed}
 use Rattle.group_matching.specs.Indexes.{ContainsAllBelow}
 use Rattle.group_matching.specs.inner.Keys.{keys_found}
-use Rattle.group_matching.specs.inner.Automata.{TokenLists, AreForLists, AreFound, AreIdle}
+use Rattle.group_matching.specs.inner.Automata.{AreFound, AreIdle}
 use Rattle.group_matching.specs.inner.Groups.{GroupParts, AreGroupsOf, listed_count}
 use Rattle.group_matching.proofs.lemmas.Indexes.{in_filter, passing_is_contained, contained_passes, passes_within, all_pass, all_by_length, ascending_is}
 

@@ -1,7 +1,5 @@
-use Rattle.std.proofs.Common.{◌≡◌, ◌+◌, ◌⊎◌, IsTrue, ap, sym, subst, arith}
-use Rattle.std.specs.Prelude.{◌↔◌}
-use Rattle.byte_automaton.specs.Sets.{has_index}
-use Rattle.glob_automaton.specs.IndexedTokens.{AllBytes, SomeMatches, IsFor}
+use Rattle.std.proofs.Common.{◌≡◌, ◌+◌, ap, sym, subst, arith}
+use Rattle.glob_automaton.specs.IndexedTokens.{IsFor}
 use Rattle.glob_automaton.proofs.lemmas.IndexedTokens.{all_bytes}
 use Rattle.byte_automaton.specs.Runs.{size}
 use Rattle.std.proofs.Math.Logic.{⊎_elim}

@@ -1,7 +1,6 @@
-use Rattle.std.proofs.Common.{IsTrue, sym, subst}
-use Rattle.std.specs.Prelude.{◌≡◌, ◌≢◌, ◌↔◌, []}
+use Rattle.std.proofs.Common.{sym, subst}
+use Rattle.std.specs.Prelude.{◌≢◌, []}
 use Rattle.std.proofs.lemmas.Result.{IfOk-weaker}
-use Rattle.group_matching.specs.Globs.{listed}
 use Rattle.group_matching.specs.inner.Keys.{keys_found}
 use Rattle.group_matching.specs.inner.Groups.{GroupParts, AreGroupsOf}
 use Rattle.group_matching.proofs.lemmas.Groups.{group_parts}

@@ -1,11 +1,10 @@
-use Rattle.std.proofs.Common.{◌≡◌, ◌≤◌, ◌++◌, ℕ, Some, None, length, sym, ap, subst, ◌∙◌, arith}
-use Rattle.std.specs.Prelude.{◌↔◌, ◌==◌, IsTrue, MatchOption}
-use Rattle.std.specs.Option.{option_eq}
+use Rattle.std.proofs.Common.{◌≡◌, ◌++◌, length, sym, ap, subst, ◌∙◌, arith}
+use Rattle.std.specs.Prelude.{◌↔◌, IsTrue, MatchOption}
 use Rattle.group_matching.specs.Indexes.{ContainsAllBelow}
-use Rattle.group_matching.specs.Globs.{is_listed, listed}
+use Rattle.group_matching.specs.Globs.{listed}
 use Rattle.byte_automaton.specs.Sets.{has_index}
 use Rattle.group_matching.specs.inner.Keys.{keys_found}
-use Rattle.group_matching.specs.inner.Automata.{AutomataParts, AreIdle, IsFoundSet, states_for}
+use Rattle.group_matching.specs.inner.Automata.{AreIdle, IsFoundSet}
 use Rattle.group_matching.specs.inner.Groups.{GroupParts, AreGroupsOf}
 use Rattle.group_matching.proofs.lemmas.Groups.{group_parts}
 use Rattle.group_matching.proofs.lemmas.Matching.{all_by_keys, all_by_found}

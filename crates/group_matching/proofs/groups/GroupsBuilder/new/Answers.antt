@@ -1,4 +1,3 @@
-use Rattle.std.proofs.Common.{◌≡◌, ◌≤◌, List, [], ap, arith}
 use Rattle.group_matching.proofs.lemmas.Groups.{no_globs}
 use Rattle.group_matching.proofs.groups.GroupsBuilder.new.Goals as goal
 

@@ -1,4 +1,4 @@
-use Rattle.std.proofs.Common.{◌≡◌, length, refl, sym, ap, ◌∙◌, arith}
+use Rattle.std.proofs.Common.{◌≡◌, length, refl, ap, ◌∙◌, arith}
 use Rattle.std.specs.Prelude.{◌==◌, ◌++◌}
 use Rattle.std.proofs.lemmas.List.{length-append}
 use Rattle.byte_table.specs.Entries.{indexes_under}
