@@ -1,6 +1,6 @@
 //! An automaton, and the steps of its runs.
 
-ghost use Rattle.std.specs.Prelude.{◌≡◌, ℕ, ◌+◌, ◌*◌, ◌<◌, ◌≤◌, ◌||◌, ◌⊎◌, ◌↔◌, ◌∷◌, [], List, length, true, false, Some, None, IsTrue, IsFalse, IfOk, OnErr, MatchOption};
+ghost use Rattle.std.specs.Prelude.{◌≡◌, ℕ, ◌+◌, ◌*◌, ◌<◌, ◌≤◌, ◌||◌, ◌⊎◌, ◌↔◌, ◌∷◌, [], List, true, false, Some, None, IsTrue, IsFalse, MatchOption};
 ghost use Rattle.byte_automaton.specs.Sets.{has_state, has_index, state_room, index_room};
 ghost use Rattle.byte_automaton.specs.Steps.{Machine, IsReached, state, final};
 ghost use Rattle.byte_automaton.specs.Runs.{size, AcceptsFrom, HasSome};

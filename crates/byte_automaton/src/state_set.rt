@@ -9,14 +9,15 @@ use visits::Visits;
 /// A set of states, as a bit for each.
 ///
 /// It is made once, and holds sets of states of any automaton that has at most as many states as it has room for. No
-/// call but those of an automaton reads it.
-///
-/// No state below `first` or above `last` is in the set, so words outside these bounds are neither read nor cleared: a set
-/// of few states that are close to each other takes little time, however many states the automaton has.
+/// call but those of an automaton reads it. To read or clear it takes time linear in the distance between its lowest and its
+/// highest state, however much room it has.
 #[derive(Debug, Drop)]
 pub struct StateSet {
     words: Vec<u64>,
+    /// No lower state is in the set, so words before it are neither read nor cleared.
     first: usize,
+    /// No higher state is in the set, so words after it are neither read nor cleared. If it is below `first`, the set is
+    /// empty.
     last: usize,
     ghost bounds: { AreBounds words.items first last },
 }
@@ -77,8 +78,8 @@ impl StateSet {
         }
     }
 
-    /// Reads the next state below a bound: the highest that is in the set, or one that is not where a word of the set has
-    /// none. It is one visit.
+    /// Reads the next state below a bound. This is the highest one that is in the set; or if the word before the bound has
+    /// none, a lower state that is not in the set, and no state between it and the bound is. It is one visit.
     pub(crate) fn read_below(&self, upto: usize, visits: &mut Visits) -> Seen
         requires some { 0 < upto }
         requires within { upto ≤ state_room self.now }

@@ -3,11 +3,14 @@
 use std::marker::Model;
 use std::snapshot::Snapshot;
 
-/// Each snapshot of a list holds the list before its last entry. A snapshot has no bytes.
+/// A list of entries, by snapshots. A snapshot has no bytes.
 #[derive(Drop)]
 enum Added {
+    /// The list of no entries.
     Nothing,
+    /// A list, and one more entry at the end: its key and its index.
     After(Snapshot<Added>, Snapshot<Vec<u8>>, usize),
+    /// An equal list, by a snapshot of its snapshot.
     As(Snapshot<Snapshot<Added>>),
 }
 

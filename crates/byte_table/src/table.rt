@@ -1,6 +1,6 @@
 //! A table of byte keys.
 
-ghost use Rattle.std.specs.Prelude.{◌≡◌, ℕ, List, ◌+◌, ◌++◌, ◌∷◌, [], length, ◌↔◌, IsTrue, IfOk, OnOk, OnErr};
+ghost use Rattle.std.specs.Prelude.{◌≡◌, ℕ, List, ◌+◌, ◌++◌, ◌∷◌, [], length, ◌↔◌, IsTrue, OnOk, OnErr};
 ghost use Rattle.std.specs.Str.{bytes_eq};
 ghost use Rattle.byte_table.specs.Entries.{entry, indexes_under};
 ghost use Rattle.byte_table.specs.inner.Lists.{list_under, with_index};
@@ -73,6 +73,7 @@ impl Table {
         ensures ok { OnOk result (self.new ≡ self.old ++ entry key.items index ∷ []) }
         ensures err { OnErr result (self.new ≡ self.old) }
     {
+        // No memory has room for more entries than a number can count.
         let Some(count) = self.count.checked_add(1) else {
             return Err(AllocError);
         };
@@ -97,8 +98,8 @@ impl Table {
         }
     }
 
-    /// Returns how many entries there are, over all keys.
-    pub fn count(&self) -> usize
+    /// Returns the number of entries, over all keys.
+    pub fn len(&self) -> usize
         ensures { result ≡ length self.now }
     {
         self.count

@@ -1,5 +1,5 @@
 pub mod Walks
-pub mod Facing
+pub mod Sides
 pub mod Ranges
 pub mod Children
 pub mod Spans

@@ -11,6 +11,7 @@ pub record Texts : Type 0 where
   pub side : Side
   pub entries : List Entry
 
+-- the text and its index
 abbrev pub entry_of : Text → Entry
 entry_of t = entry t.bytes.items t.index
 
@@ -24,6 +25,7 @@ abbrev pub endings : List ℕ → List (List ℕ)
 endings [] = [] ∷ []
 endings (b ∷ p) = endings p ++ (b ∷ p) ∷ []
 
+-- every beginning, or every end
 abbrev pub parts : Side → List ℕ → List (List ℕ)
 parts Beginning p = beginnings p
 parts End p = endings p

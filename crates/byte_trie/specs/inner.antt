@@ -1,4 +1,4 @@
-pub mod Facing
+pub mod Sides
 pub mod Nodes
 pub mod Holds
 pub mod Building

@@ -1,7 +1,7 @@
 //! Where in a path texts are looked for.
 
 ghost use Rattle.std.specs.Prelude.{◌≡◌, slice_get};
-ghost use Rattle.byte_trie.specs.inner.Facing.{facing};
+ghost use Rattle.byte_trie.specs.inner.Sides.{from_side};
 
 /// Where in a path texts are looked for.
 #[derive(Clone, Copy, Debug, PartialEq, Eq)]
@@ -15,7 +15,7 @@ pub enum Side {
 impl Side {
     /// Returns a byte of a path, counted from this side, or `None` after the last one.
     pub(crate) fn byte(self, path: &[u8], at: usize) -> Option<u8>
-        ensures { result ≡ slice_get (facing self path.now) at }
+        ensures { result ≡ slice_get (from_side self path.now) at }
     {
         match self {
             Side::Beginning => path.get(at).copied(),

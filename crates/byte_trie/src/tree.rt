@@ -1,6 +1,6 @@
 //! The nodes of a trie, which only a counted call reads.
 
-ghost use Rattle.std.specs.Prelude.{◌≡◌, ℕ, ◌+◌, ◌<◌, length, IfSome, option_and_then};
+ghost use Rattle.std.specs.Prelude.{◌≡◌, ◌+◌, ◌<◌, IfSome, option_and_then};
 ghost use Rattle.byte_trie.specs.inner.Nodes.{child_at, held_at, node_count, IsTree};
 
 mod build;

@@ -4,7 +4,7 @@ ghost use Rattle.std.specs.Prelude.{◌≡◌, ◌≢◌, ℕ, ◌+◌, ◌≤�
 ghost use Rattle.byte_table.specs.Entries.{indexes_under};
 ghost use Rattle.byte_trie.specs.Texts.{found, entry_of};
 ghost use Rattle.byte_trie.specs.inner.Building.{IsOrdered};
-ghost use Rattle.byte_trie.specs.inner.Facing.{faced};
+ghost use Rattle.byte_trie.specs.inner.Sides.{entry_from_side};
 
 use crate::side::Side;
 use crate::text::Text;
@@ -115,8 +115,8 @@ impl Trie {
         walk::count(&self.tree, self.side, path, visits)
     }
 
-    /// Returns how many texts there are.
-    pub fn count(&self) -> usize
+    /// Returns the number of texts.
+    pub fn len(&self) -> usize
         ensures { result ≡ length self.now.entries }
     {
         self.count
@@ -144,7 +144,7 @@ fn entries_of(texts: &[Text]) -> Entries
 /// Returns texts as they are read from a side of a path, in order.
 fn sorted(side: Side, mut texts: Vec<Text>) -> Result<Vec<Text>, AllocError>
     ensures order { IfOk result (λ v. IsOrdered v.items 0 0 (length v.items)) }
-    ensures same { IfOk result (λ v. (w : List ℕ) → indexes_under (map entry_of v.items) w ≡ indexes_under (map (faced side) (map entry_of texts.items)) w) }
+    ensures same { IfOk result (λ v. (w : List ℕ) → indexes_under (map entry_of v.items) w ≡ indexes_under (map (entry_from_side side) (map entry_of texts.items)) w) }
 {
     match side {
         Side::Beginning => {}
@@ -154,9 +154,9 @@ fn sorted(side: Side, mut texts: Vec<Text>) -> Result<Vec<Text>, AllocError>
     Ok(texts)
 }
 
-/// Turns each text around.
+/// Reverses each text.
 fn reverse_all(texts: &mut [Text])
-    ensures { map entry_of texts.new ≡ map (faced Side.End) (map entry_of texts.old) }
+    ensures { map entry_of texts.new ≡ map (entry_from_side Side.End) (map entry_of texts.old) }
 {
     for text in texts.iter_mut() {
         text.bytes.reverse();

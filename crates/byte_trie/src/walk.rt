@@ -1,7 +1,7 @@
 //! Walks down a tree along a path.
 
 ghost use Rattle.std.specs.Prelude.{◌≡◌, ◌≢◌, ℕ, ◌+◌, ◌≤◌, ◌<◌, ◌^◌, ◌++◌, ◌↔◌, [], List, length, IsTrue, OnOk, OnErr};
-ghost use Rattle.byte_trie.specs.inner.Facing.{facing};
+ghost use Rattle.byte_trie.specs.inner.Sides.{from_side};
 ghost use Rattle.byte_trie.specs.inner.Nodes.{under, along, IsTree};
 
 use crate::side::Side;
@@ -9,7 +9,7 @@ use crate::tree::Tree;
 use std::alloc::AllocError;
 use visits::Visits;
 
-/// Appends the indexes of the nodes on the way of a path.
+/// Appends the indexes of the nodes along a path.
 pub fn find(
     tree: &Tree,
     side: Side,
@@ -18,8 +18,8 @@ pub fn find(
     visits: &mut Visits,
 ) -> Result<(), AllocError>
     requires { IsTree tree.now }
-    ensures ok { OnOk result (into.new.items ≡ into.old.items ++ along (under tree.now 0) (facing side path.now)) }
-    ensures err { OnErr result ((rest : List ℕ) × (into.new.items ++ rest ≡ into.old.items ++ along (under tree.now 0) (facing side path.now))) }
+    ensures ok { OnOk result (into.new.items ≡ into.old.items ++ along (under tree.now 0) (from_side side path.now)) }
+    ensures err { OnErr result ((rest : List ℕ) × (into.new.items ++ rest ≡ into.old.items ++ along (under tree.now 0) (from_side side path.now))) }
     ensures visits { visits.new ≤ visits.old + (length path.now + 1) }
 {
     let mut node = 0;
@@ -34,10 +34,10 @@ pub fn find(
     Ok(())
 }
 
-/// Returns whether some node on the way of a path has an index.
+/// Returns whether some node along a path has an index.
 pub fn has_some(tree: &Tree, side: Side, path: &[u8], visits: &mut Visits) -> bool
     requires { IsTree tree.now }
-    ensures some { IsTrue result ↔ (along (under tree.now 0) (facing side path.now) ≢ []) }
+    ensures some { IsTrue result ↔ (along (under tree.now 0) (from_side side path.now) ≢ []) }
     ensures visits { visits.new ≤ visits.old + (length path.now + 1) }
 {
     let mut node = 0;
@@ -54,11 +54,11 @@ pub fn has_some(tree: &Tree, side: Side, path: &[u8], visits: &mut Visits) -> bo
     false
 }
 
-/// Returns how many indexes the nodes on the way of a path have.
+/// Returns how many indexes the nodes along a path have.
 pub fn count(tree: &Tree, side: Side, path: &[u8], visits: &mut Visits) -> usize
     requires tree { IsTree tree.now }
-    requires fits { length (along (under tree.now 0) (facing side path.now)) < 2 ^ 64 }
-    ensures count { result ≡ length (along (under tree.now 0) (facing side path.now)) }
+    requires fits { length (along (under tree.now 0) (from_side side path.now)) < 2 ^ 64 }
+    ensures count { result ≡ length (along (under tree.now 0) (from_side side path.now)) }
     ensures visits { visits.new ≤ visits.old + (length path.now + 1) }
 {
     let mut node = 0;

@@ -19,10 +19,14 @@ indexed o ts j = record {
   index = j;
 }
 
+-- the tokens have the index k, and match the path
+abbrev pub Matches : IndexedTokens → List ℕ → ℕ → Type 0
+Matches x path k = (x.index ≡ k) × IsTrue (means x.options x.tokens path)
+
 -- some tokens of the index k match the path
 abbrev pub SomeMatches : List IndexedTokens → List ℕ → ℕ → Type 0
 SomeMatches [] path k = ⊥
-SomeMatches (x ∷ xs) path k = ((x.index ≡ k) × IsTrue (means x.options x.tokens path)) ⊎ SomeMatches xs path k
+SomeMatches (x ∷ xs) path k = Matches x path k ⊎ SomeMatches xs path k
 
 -- each of the numbers is a byte
 abbrev pub AllBytes : List ℕ → Type 0

@@ -100,35 +100,20 @@ pub fn add_token(
         Token::Literal(c) => {
             let mut buffer = [0u8; 4];
             let text = c.encode_utf8(&mut buffer);
-            let start = add_text(builder, options, text.as_bytes(), exit)?;
-            Ok(start)
+            add_text(builder, options, text.as_bytes(), exit)
         }
-        Token::Any => {
-            let start = builder.push_read(wild_bytes(options), exit)?;
-            Ok(start)
-        }
-        Token::ZeroOrMore => {
-            let start = builder.push_stay(wild_bytes(options), &[exit])?;
-            Ok(start)
-        }
-        Token::RecursivePrefix => {
-            let start = add_to_slash(builder, exit)?;
-            Ok(start)
-        }
+        Token::Any => builder.push_read(wild_bytes(options), exit),
+        Token::ZeroOrMore => builder.push_stay(wild_bytes(options), &[exit]),
+        Token::RecursivePrefix => add_to_slash(builder, exit),
         Token::RecursiveSuffix => {
             let rest = builder.push_stay(ByteSet::everything(), &[exit])?;
-            let start = builder.push_read(ByteSet::only(b'/'), rest)?;
-            Ok(start)
+            builder.push_read(ByteSet::only(b'/'), rest)
         }
         Token::RecursiveZeroOrMore => {
             let rest = add_to_slash(builder, exit)?;
-            let start = builder.push_read(ByteSet::only(b'/'), rest)?;
-            Ok(start)
+            builder.push_read(ByteSet::only(b'/'), rest)
         }
-        Token::Class(class) => {
-            let start = builder.push_read(class_bytes(options, class), exit)?;
-            Ok(start)
-        }
+        Token::Class(class) => builder.push_read(class_bytes(options, class), exit),
         Token::Open | Token::Comma | Token::Close => unreachable!(),
     }
 }

@@ -5,7 +5,7 @@ ghost use Rattle.std.specs.Prelude.{◌≡◌, ℕ, List, string_bytes};
 /// A text that can be matched as a path.
 ///
 /// A `Path`, an `OsStr` and the like have no text of their own. Pass their text, or pass their bytes to
-/// [`Candidate::from_bytes`].
+/// [`Candidate::from_bytes`](crate::Candidate::from_bytes).
 pub trait AsPath: Drop {
     ghost text: { Self → List ℕ };
 

@@ -100,7 +100,8 @@ impl<'a> fmt::Debug for Candidate<'a> {
 
 /// Returns the bytes after the path's last `/`, or the whole path if it has no `/`. They may be `..`, unlike a basename.
 ///
-/// Each call searches the path from its end to its last `/`, and reads no byte before that.
+/// Each call searches the path from its end to its last `/`, and reads no byte before that. It is not a method,
+/// since `globset` re-exports `Candidate` with all its methods.
 pub fn last_component_of<'a>(path: &Candidate<'a>) -> &'a [u8]
     ensures { result.now ≡ last_component path.now }
 {

@@ -5,7 +5,7 @@ ghost use Rattle.glob_path.specs.PathParts.{last_position, last_component, basen
 
 use bstr::ByteSlice;
 
-/// The position of the last such byte. It reads the bytes from the end to that position.
+/// Returns the position of the last such byte. It reads the bytes from the end to that position.
 #[tactic(auto, using(crate::proofs::lemmas::LastPositions::last_position_found))]
 fn last_position(bytes: &[u8], byte: u8) -> Option<usize>
     ensures position { result ≡ last_position (λ b. b == byte) bytes.now }
@@ -14,7 +14,7 @@ fn last_position(bytes: &[u8], byte: u8) -> Option<usize>
     bytes.rfind_byte(byte)
 }
 
-/// The bytes after the last `/` of a path, or the whole path if it has none.
+/// Returns the bytes after the last `/` of a path, or the whole path if it has none.
 #[tactic(auto, using(crate::proofs::lemmas::LastPositions::take_rest))]
 pub fn last_component(path: &[u8]) -> &[u8]
     ensures { result.now ≡ last_component path.now }
@@ -25,7 +25,7 @@ pub fn last_component(path: &[u8]) -> &[u8]
     }
 }
 
-/// The basename of a path: the bytes after its last `/`, but nothing if these are `..`.
+/// Returns the basename of a path: the bytes after its last `/`, but nothing if these are `..`.
 pub fn basename(path: &[u8]) -> &[u8]
     ensures { result.now ≡ basename_of path.now }
 {
@@ -37,7 +37,7 @@ pub fn basename(path: &[u8]) -> &[u8]
     }
 }
 
-/// The bytes of a component or a basename from its last `.` on, or nothing if it has none.
+/// Returns the bytes of a component or a basename from its last `.` on, or nothing if it has none.
 #[tactic(auto, using(crate::proofs::lemmas::LastPositions::take_rest))]
 pub fn extension(name: &[u8]) -> &[u8]
     ensures { result.now ≡ extension_in name.now }

@@ -1,10 +1,10 @@
 //! The text that a glob has as a regular expression.
 
-ghost use Rattle.std.specs.Prelude.{◌≡◌, ◌<◌, ◌++◌, [], ◌∷◌, ◌&&◌, ◌||◌, not, ℕ, IfOk, OnOk, take, string_bytes, string_len};
+ghost use Rattle.std.specs.Prelude.{◌≡◌, ◌<◌, ◌++◌, [], ◌∷◌, ◌&&◌, ◌||◌, not, IfOk, OnOk, take, string_bytes, string_len};
 ghost use Rattle.std.specs.String.Boundary.{IsSplitPoint};
 ghost use Rattle.glob_syntax.specs.FlatTokens.{IsNested, IsSimple};
 ghost use Rattle.glob_syntax.specs.Views.{flat_of, flats, tokens_of};
-ghost use Rattle.globset_glob.specs.RegexText.{is_escaped, hexadecimal_digit, byte_text, bytes_text, char_text, range_text, ranges_text, class_text, token_text, tokens_text, flags_text, body_text, regex_text};
+ghost use Rattle.globset_glob.specs.RegexText.{is_escaped, hexadecimal_digit, byte_text, char_text, range_text, class_text, tokens_text, flags_text, body_text, regex_text};
 ghost use Rattle.globset_glob.specs.inner.RegexWriting.{chosen, opener, closer, simple_text};
 
 use glob_automaton::is_prefix_alone;

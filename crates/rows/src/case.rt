@@ -9,10 +9,11 @@ use std::alloc::{AllocError, Global};
 
 /// What rows mean, and what the rows of a case so far left behind.
 pub trait Case: Drop {
-    /// A case that has no rows yet.
+    /// Returns a case that has no rows yet.
     fn new(alloc: Global) -> Self;
 
-    /// What the call of a row returns, as columns. The columns that are left are those that it should return.
+    /// Returns what the call of a row returns, as columns. The columns that it leaves are those that the call should return.
+    /// Returns an error if the row cannot be read, or the call fails.
     fn returned(&mut self, columns: &mut Columns<'_>) -> Result<String>;
 }
 
@@ -41,7 +42,7 @@ fn compared_columns<C: Case>(case: &mut C, columns: &mut Columns<'_>) -> Result<
     Ok(unless_equal(returned, columns.rest()?))
 }
 
-/// What was returned, unless it is what should be returned.
+/// Returns what was returned, or `None` if it is what should be returned.
 fn unless_equal(returned: String, want: &str) -> Option<String>
     ensures same { IsNone result ↔ (string_bytes returned ≡ want.now) }
     ensures other { IfSome result (λ text. text ≡ returned) }

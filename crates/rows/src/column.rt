@@ -15,11 +15,12 @@ pub struct Columns<'a> {
 }
 
 impl<'a> Columns<'a> {
+    /// Returns the columns of a row.
     pub fn new(row: &'a str) -> Columns<'a> {
         Columns { rest: Some(row) }
     }
 
-    /// The next column, as it is written.
+    /// Returns the next column, as it is written, or an error if there is none.
     pub fn next(&mut self) -> Result<&'a str, RowError> {
         let Some(rest) = self.rest else {
             return Err(RowError::MissingColumn);
@@ -36,12 +37,12 @@ impl<'a> Columns<'a> {
         }
     }
 
-    /// The bytes of the next column.
+    /// Returns the bytes of the next column, or an error if there is none, or it is not written as it should be.
     pub fn bytes(&mut self, alloc: Global) -> Result<Vec<u8>, RowError> {
         unescaped(alloc, self.next()?)
     }
 
-    /// The text of the next column.
+    /// Returns the text of the next column, or an error as [`Columns::bytes`] does, or if the bytes are not UTF-8.
     pub fn text(&mut self, alloc: Global) -> Result<String, RowError> {
         match String::from_utf8(self.bytes(alloc)?) {
             Ok(text) => Ok(text),
@@ -49,14 +50,14 @@ impl<'a> Columns<'a> {
         }
     }
 
-    /// The columns that were not read, as they are written. There is at least one, which may be empty.
+    /// Returns the columns that were not read, as they are written, or an error if there is none. The last column may be empty.
     pub fn rest(&self) -> Result<&'a str, RowError> {
         self.rest.ok_or(RowError::MissingColumn)
     }
 }
 
-/// The bytes that a column stands for. Each byte string is written in one way, and a column that is written in another
-/// is an error.
+/// Returns the bytes that a column stands for. Each byte string is written in one way, and a column that is written in
+/// another is an error.
 pub fn unescaped(alloc: Global, column: &str) -> Result<Vec<u8>, RowError>
     ensures { IfOk result (λ bytes. bytes.items ≡ unescaped (chars column.now)) }
 {
@@ -67,7 +68,7 @@ pub fn unescaped(alloc: Global, column: &str) -> Result<Vec<u8>, RowError>
     Ok(bytes)
 }
 
-/// The column that stands for these bytes: printable characters and spaces are themselves, a backslash is `\\`, and other
+/// Returns the column that stands for these bytes: printable characters and spaces are themselves, a backslash is `\\`, and other
 /// bytes are `\0`, `\t`, `\n`, `\r` or `\xNN`.
 pub fn escaped(alloc: Global, bytes: &[u8]) -> Result<String, AllocError> {
     let mut column = String::new(alloc);

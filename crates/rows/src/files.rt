@@ -3,6 +3,7 @@
 use crate::case::Case;
 use crate::report::{Report, replay};
 use anyhow::Result;
+use std::alloc::{AllocError, Global};
 use std::process::ExitCode;
 use std::{env, fs};
 
@@ -27,13 +28,10 @@ pub fn replay_files<C: Case>(rt: &HostRuntime) -> Result<ExitCode> {
     }
 }
 
-/// Replays the rows of a file, and writes what they come to.
+/// Replays the rows of a file, and writes those that failed and how many passed and failed.
 fn replay_file<C: Case>(rt: &HostRuntime, file: &str) -> Result<Report> {
     let text = fs::read_to_string(rt, file)?;
-    let mut lines = Vec::new(rt.alloc());
-    for line in text.lines() {
-        lines.push(line)?;
-    }
+    let lines = lines_of(rt.alloc(), text.as_str())?;
     let report = replay::<C>(rt.alloc(), &lines)?;
     for failure in &report.failures {
         let row = lines[failure.index];
@@ -46,4 +44,12 @@ fn replay_file<C: Case>(rt: &HostRuntime, file: &str) -> Result<Report> {
         report.failures.len()
     )?;
     Ok(report)
+}
+
+fn lines_of<'t>(alloc: Global, text: &'t str) -> Result<Vec<&'t str>, AllocError> {
+    let mut lines = Vec::new(alloc);
+    for line in text.lines() {
+        lines.push(line)?;
+    }
+    Ok(lines)
 }

@@ -3,7 +3,7 @@
 use crate::error::RowError;
 use std::alloc::{AllocError, Global};
 
-/// The row with each `«COUNT TEXT»` in it replaced by as many copies of TEXT.
+/// Returns the row with each `«COUNT TEXT»` in it replaced by as many copies of TEXT.
 pub fn expanded(alloc: Global, row: &str) -> Result<String, RowError> {
     let mut out = String::new(alloc);
     let mut pieces = row.split('«');

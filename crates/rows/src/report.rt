@@ -1,4 +1,4 @@
-//! What the rows of a file come to.
+//! The rows of a file that passed, and those that failed.
 
 ghost use Rattle.std.specs.Prelude.{◌≡◌, ◌+◌, ◌<◌, ◌^◌, ◌++◌, ◌∷◌, [], length, IfOk, OnOk, MatchOption};
 ghost use Rattle.std.specs.List.{All, count_by};
@@ -43,7 +43,7 @@ pub fn replay<C: Case>(alloc: Global, lines: &[&str]) -> Result<Report, AllocErr
     Ok(report)
 }
 
-/// Whether a line is a row.
+/// Returns whether a line is a row.
 fn is_row(line: &str) -> bool
     ensures { result ≡ is_row line.now }
 {

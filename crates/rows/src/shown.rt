@@ -2,7 +2,7 @@
 
 use std::alloc::{AllocError, Global};
 
-/// Indexes, separated by commas; `-` where there are none.
+/// Returns indexes, separated by commas, or `-` if there are none.
 pub fn list(alloc: Global, indexes: &[usize]) -> Result<String, AllocError> {
     let mut column = String::new(alloc);
     for index in indexes {
@@ -17,12 +17,12 @@ pub fn list(alloc: Global, indexes: &[usize]) -> Result<String, AllocError> {
     Ok(column)
 }
 
-/// `yes` or `no`.
+/// Returns `yes` or `no`.
 pub fn yes_or_no(yes: bool) -> &'static str {
     if yes { "yes" } else { "no" }
 }
 
-/// A copy of a text.
+/// Returns a copy of a text.
 pub fn text(alloc: Global, text: &str) -> Result<String, AllocError> {
     String::from_str(alloc, text)
 }

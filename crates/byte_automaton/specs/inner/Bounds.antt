@@ -2,8 +2,8 @@
 use Rattle.std.specs.Prelude.{◌≡◌, ℕ, ◌*◌, ◌<◌, ◌≤◌, true, List, length}
 use Rattle.byte_automaton.specs.Bits.{bit_of}
 
--- No bit is set below the first number or above the last. If the first is not above the last, the words have such bits;
--- otherwise the last is 0.
+-- No bit is set below the first number or above the last. If the first is not above the last, the last is a bit of the
+-- words; otherwise no bit is set, and the last is 0.
 pub record AreBounds (words : List ℕ) (first last : ℕ) : Type 0 where
   pub low : (k : ℕ) → bit_of words k ≡ true → first ≤ k
   pub high : (k : ℕ) → bit_of words k ≡ true → k ≤ last

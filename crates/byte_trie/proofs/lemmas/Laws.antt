@@ -1,14 +1,47 @@
 -- Which indexes are found.
-use Rattle.std.proofs.Common.{◌≡◌, ℕ, Bool, true, false, cond, List, [], ◌∷◌, ◌++◌, map, refl, sym, ap, subst, ◌∙◌, ◌⊎◌, ⊎_elim, inl, inr}
+use Rattle.std.proofs.Common.{◌≡◌, ℕ, zero, suc, length, arith, Bool, true, false, cond, List, [], ◌∷◌, ◌++◌, map, refl, sym, ap, subst, ◌∙◌, ◌⊎◌, ⊎_elim, inl, inr}
 use Rattle.std.specs.Str.{bytes_eq}
-use Rattle.std.specs.List.{flat_map}
+use Rattle.std.specs.List.{flat_map, Contains}
 use Rattle.std.specs.Cmp.Lexicographic.{bytes_decides}
 use Rattle.std.proofs.lemmas.Bool.{true≢false}
-use Rattle.byte_table.specs.Entries.{Entry, indexes_under}
+use Rattle.byte_table.specs.Entries.{Entry, entry, indexes_under}
 use Rattle.byte_trie.specs.declared.side.Side.{Side}
 use Rattle.byte_trie.specs.declared.side.Side.TheVariants.{Beginning, End}
-use Rattle.byte_trie.specs.Texts.{beginnings, endings, parts}
-use Rattle.byte_trie.specs.Laws.{IsIn, HasEntry, IsAt, FindsExactly}
+use Rattle.byte_trie.specs.Texts.{beginnings, endings, parts, found}
+use Rattle.byte_trie.specs.Laws.{IsAt, FindsExactly}
+
+-- ---- elements of lists, by recursion
+
+abbrev IsIn : {X : Type 0} → X → List X → Type 0
+IsIn x [] = ⊥
+IsIn x (y ∷ ys) = (x ≡ y) ⊎ IsIn x ys
+
+contained : {X : Type 0} (x : X) (xs : List X) → IsIn x xs → Contains xs x
+contained x [] h = absurd h
+contained x (y ∷ ys) (inl e) = (0, omega arith, sym e)
+contained x (y ∷ ys) (inr h) = let c = contained x ys h in (suc c.0, omega (arith, c.1), c.2)
+
+in_list : {X : Type 0} (x : X) (xs : List X) → Contains xs x → IsIn x xs
+in_list x [] (k, lt, e) = absurd (omega (arith, lt))
+in_list x (y ∷ ys) (zero, lt, e) = inl (sym e)
+in_list x (y ∷ ys) (suc k, lt, e) = inr (in_list x ys (k, omega (arith, lt), e))
+
+-- some entry has the text and the index
+abbrev HasEntry : List Entry → List ℕ → ℕ → Type 0
+HasEntry [] text i = ⊥
+HasEntry (e ∷ es) text i = ((e.key ≡ text) × (i ≡ e.index)) ⊎ HasEntry es text i
+
+entry_in : (es : List Entry) (text : List ℕ) (i : ℕ) → HasEntry es text i → IsIn (entry text i) es
+entry_in [] text i h = absurd h
+entry_in (e ∷ es) text i (inl h) = inl (ap (λ k. entry k i) (sym h.0) ∙ ap (entry e.key) h.1)
+entry_in (e ∷ es) text i (inr h) = inr (entry_in es text i h)
+
+has_entry : (es : List Entry) (text : List ℕ) (i : ℕ) → IsIn (entry text i) es → HasEntry es text i
+has_entry [] text i h = absurd h
+has_entry (e ∷ es) text i (inl h) = inl (sym (ap (λ (x : Entry). x.key) h), ap (λ (x : Entry). x.index) h)
+has_entry (e ∷ es) text i (inr h) = inr (has_entry es text i h)
+
+-- ---- what is found under the parts of a path
 
 -- the text is one of the list
 IsPart : List ℕ → List (List ℕ) → Type 0
@@ -141,6 +174,10 @@ side_at End p x h = subst (λ q. IsPart x (endings q)) h.1 (ends_part h.0 x)
 
 pub finds_exactly : FindsExactly
 finds_exactly t p i = (
-  λ h. let r = from_parts t.entries i (parts t.side p) h in (r.0, r.1, at_side t.side p r.0 r.2),
-  λ r. to_parts t.entries i r.0 (parts t.side p) r.1 (side_at t.side p r.0 r.2),
+  λ c.
+      let r = from_parts t.entries i (parts t.side p) (in_list i (found t p) c) in
+      (r.0, contained (entry r.0 i) t.entries (entry_in t.entries r.0 i r.1), at_side t.side p r.0 r.2),
+  λ r.
+      let has = has_entry t.entries r.0 i (in_list (entry r.0 i) t.entries r.1) in
+      contained i (found t p) (to_parts t.entries i r.0 (parts t.side p) has (side_at t.side p r.0 r.2)),
 )

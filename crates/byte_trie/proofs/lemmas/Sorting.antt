@@ -18,7 +18,7 @@ use Rattle.byte_table.specs.Entries.{entry, indexes_under}
 use Rattle.byte_trie.specs.declared.side.Side.TheVariants.{End}
 use Rattle.byte_trie.specs.declared.text.Text.{Text}
 use Rattle.byte_trie.specs.Texts.{entry_of}
-use Rattle.byte_trie.specs.inner.Facing.{faced}
+use Rattle.byte_trie.specs.inner.Sides.{entry_from_side}
 use Rattle.byte_trie.specs.inner.Building.{IsUpTo, IsOrdered}
 
 -- the order of texts by their bytes
@@ -88,13 +88,13 @@ under_stable xs ys h w =
     by_text : (x : Text) → x.bytes.items ≡ w → indexes_under (map entry_of ys) w ≡ indexes_under (map entry_of xs) w
     by_text x e = under_ties x w e ys ∙ ap (map (λ t. t.index)) (h x) ∙ sym (under_ties x w e xs)
 
--- one more text is turned around
+-- one more text is reversed
 pub turn_more : (ts ys : List Text) (i : ℕ) (item new : Text) → i < length ts →
-    map entry_of ys ≡ map (faced End) (take i (map entry_of ts)) ++ drop i (map entry_of ts) → length ys ≡ length ts → item ≡ get_or ys i item →
+    map entry_of ys ≡ map (entry_from_side End) (take i (map entry_of ts)) ++ drop i (map entry_of ts) → length ys ≡ length ts → item ≡ get_or ys i item →
     new.bytes.items ≡ reverse item.bytes.items → new.index ≡ item.index →
-    map entry_of (set ys i new) ≡ map (faced End) (take (i + 1) (map entry_of ts)) ++ drop (i + 1) (map entry_of ts)
+    map entry_of (set ys i new) ≡ map (entry_from_side End) (take (i + 1) (map entry_of ts)) ++ drop (i + 1) (map entry_of ts)
 turn_more ts ys i item new l h n e r x =
     map-set entry_of ys i new
     ∙ ap (set (map entry_of ys) i) ((λ k. entry (r k) (x k)))
-    ∙ map_over_more (faced End) (map entry_of ts) (map entry_of ys) i (entry_of item) (omega (arith, length-map ts entry_of)) h
+    ∙ map_over_more (entry_from_side End) (map entry_of ts) (map entry_of ys) i (entry_of item) (omega (arith, length-map ts entry_of)) h
     (ap entry_of e ∙ sym (get_or-map entry_of ys i item (entry_of item) (omega arith)))

@@ -10,7 +10,7 @@ ghost use Rattle.byte_table.specs.Entries.{indexes_under};
 ghost use Rattle.byte_trie.specs.Texts.{entry_of};
 ghost use Rattle.byte_trie.specs.inner.Nodes.{under, IsTree};
 ghost use Rattle.byte_trie.specs.declared.tree.build.Span.{Span};
-ghost use Rattle.byte_trie.specs.inner.Building.{rests, rests_of, next_of, IsOrdered, AreWithin, IsSpan, AreSpans, IsSplit, IsAdded, Stands};
+ghost use Rattle.byte_trie.specs.inner.Building.{rests_of, next_of, IsOrdered, AreWithin, IsSpan, AreSpans, IsSplit, IsAdded, Stands};
 
 use super::{Node, Tree};
 use crate::text::Text;

@@ -12,7 +12,7 @@ use Rattle.byte_automaton.specs.Building.{Agrees, Pushes}
 use Rattle.byte_automaton.specs.declared.byte_set.ByteSet.{ByteSet}
 use Rattle.glob_automaton.specs.inner.TokenStates.{IsSetOf, is_any_byte}
 use Rattle.glob_automaton.specs.inner.Building.{Grows, Builds, BuildsWhole}
-use Rattle.glob_automaton.specs.IndexedTokens.{IndexedTokens, indexed, SomeMatches, AllBytes, IsFor}
+use Rattle.glob_automaton.specs.IndexedTokens.{IndexedTokens, indexed, Matches, SomeMatches, AllBytes, IsFor}
 use Rattle.glob_automaton.proofs.lemmas.Booleans.{or_first}
 use Rattle.glob_automaton.proofs.lemmas.Building.{agrees_old, agrees_higher}
 use Rattle.glob_automaton.proofs.lemmas.TokenLists.{alone_is}
@@ -61,10 +61,7 @@ in_push t s (x ∷ xs) = (
       (λ last. inr ((in_push t s xs).1 (inr last))) h,
 )
 
-abbrev Matches : IndexedTokens → List ℕ → ℕ → Type 0
-Matches x path k = (x.index ≡ k) × IsTrue (means x.options x.tokens path)
-
-some_push : (x : IndexedTokens) (xs : List IndexedTokens) (path : List ℕ) (k : ℕ) → SomeMatches (xs ++ x ∷ []) path k ↔ (SomeMatches xs path k ⊎ Matches x path k)
+pub some_push : (x : IndexedTokens) (xs : List IndexedTokens) (path : List ℕ) (k : ℕ) → SomeMatches (xs ++ x ∷ []) path k ↔ (SomeMatches xs path k ⊎ Matches x path k)
 some_push x [] path k = (λ h. ⊎_elim {C = ⊥ ⊎ Matches x path k} (λ this. inr this) (λ no. absurd no) h, λ h. ⊎_elim {C = Matches x path k ⊎ ⊥} (λ no. absurd no) (λ this. inl this) h)
 some_push x (y ∷ ys) path k = (
   λ h. ⊎_elim {C = (Matches y path k ⊎ SomeMatches ys path k) ⊎ Matches x path k}

@@ -11,7 +11,7 @@ use Rattle.std.proofs.lemmas.Str.{chars-encodes, encodes-chars, scalars-chars}
 use Rattle.glob_syntax.specs.declared.options.Options.{Options}
 use Rattle.glob_syntax.specs.ClassBytes.{ranges_have, class_has}
 use Rattle.glob_automaton.specs.Takes.{is_empty, is_one_byte, takes, takes_all, compared}
-use Rattle.glob_syntax.specs.Token.{Token, Literal, end, before}
+use Rattle.glob_syntax.specs.Token.{Literal}
 use Rattle.glob_syntax.specs.Token as token
 use Rattle.glob_syntax.specs.Reading.{reading}
 use Rattle.globset_glob.specs.Means.{default_glob, default_options, glob_means}

@@ -10,7 +10,7 @@ use Rattle.glob_syntax.specs.Ranges.{ranges, bad_range}
 use Rattle.glob_syntax.specs.Marks.{Mark, Char, Class, Comma, marks, mark_at, members, class_at, is_negated}
 use Rattle.glob_syntax.specs.Nesting.{nested, with_mark}
 use Rattle.glob_syntax.specs.Stars.{is_run, pairs, last_run, slash_piece, piece}
-use Rattle.glob_syntax.specs.Token.{Token, Literal, Tokens, end, and_then, before, branch, none}
+use Rattle.glob_syntax.specs.Token.{Token, Literal, Tokens, end, before, branch, none}
 use Rattle.glob_syntax.specs.Token as token
 use Rattle.glob_syntax.specs.Reading.{in_level, levels, is_whole_run, whole, reading, whole_or_fault}
 use Rattle.globset_glob.specs.Escape.{is_special, escaped_chars}

@@ -5,8 +5,8 @@ use Rattle.std.proofs.lemmas.List.Sorted.{answers_always}
 use Rattle.byte_table.specs.Entries.{indexes_under}
 use Rattle.byte_trie.specs.declared.side.Side.TheVariants.{End}
 use Rattle.byte_trie.specs.Texts.{entry_of}
-use Rattle.byte_trie.specs.inner.Facing.{faced}
-use Rattle.byte_trie.proofs.lemmas.Facing.{under_as_is}
+use Rattle.byte_trie.specs.inner.Sides.{entry_from_side}
+use Rattle.byte_trie.proofs.lemmas.Sides.{under_as_is}
 use Rattle.byte_trie.proofs.lemmas.Sorting.{is_before, before_ranks, ordered_from, under_stable}
 use Rattle.byte_trie.proofs.trie.sorted.Goals as goal
 use Rattle.byte_trie.proofs.trie.sorted.Goals.{in-Beginning, in-End}
@@ -22,12 +22,12 @@ returns-clause-same c = λ w.
       | in-Beginning v ↦
           ap (λ t. indexes_under (map entry_of t.items) w) v.texts-is
           ∙ sym (under_as_is (map entry_of c.args.texts.items) w)
-          ∙ ap (λ s. indexes_under (map (faced s) (map entry_of c.args.texts.items)) w) (sym v.in-Beginning.is)
+          ∙ ap (λ s. indexes_under (map (entry_from_side s) (map entry_of c.args.texts.items)) w) (sym v.in-Beginning.is)
       | in-End v ↦
           ap (λ t. indexes_under (map entry_of t.items) w) v.texts-is
           ∙ ap (λ l. indexes_under (map entry_of l) w)
           (taken c.args.texts.len v.reverse_all.new.texts (drop (length v.reverse_all.new.texts) c.args.texts.items)
-          (omega (arith, c.args.texts.ok.0, ap length v.reverse_all.ensures, ap length v.deref_mut.ensures.value, length-map v.reverse_all.new.texts entry_of, length-map v.deref_mut.result.now entry_of, length-map (map entry_of v.deref_mut.result.now) (faced End))))
-          ∙ ap (λ l. indexes_under l w) (v.reverse_all.ensures ∙ ap (λ l. map (faced End) (map entry_of l)) v.deref_mut.ensures.value)
-          ∙ ap (λ s. indexes_under (map (faced s) (map entry_of c.args.texts.items)) w) (sym v.in-End.is)
+          (omega (arith, c.args.texts.ok.0, ap length v.reverse_all.ensures, ap length v.deref_mut.ensures.value, length-map v.reverse_all.new.texts entry_of, length-map v.deref_mut.result.now entry_of, length-map (map entry_of v.deref_mut.result.now) (entry_from_side End))))
+          ∙ ap (λ l. indexes_under l w) (v.reverse_all.ensures ∙ ap (λ l. map (entry_from_side End) (map entry_of l)) v.deref_mut.ensures.value)
+          ∙ ap (λ s. indexes_under (map (entry_from_side s) (map entry_of c.args.texts.items)) w) (sym v.in-End.is)
     ])

@@ -1,6 +1,6 @@
 use Rattle.std.proofs.Common.{ap, ◌∙◌, length, arith}
 use Rattle.byte_trie.specs.Texts.{found}
-use Rattle.byte_trie.proofs.lemmas.Facing.{found_along, found_within}
+use Rattle.byte_trie.proofs.lemmas.Sides.{found_along, found_within}
 use Rattle.byte_trie.proofs.trie.Trie.count_matches.Goals as goal
 
 pub returns-clause-count : goal.returns-clause-count

@@ -1,6 +1,6 @@
 use Rattle.std.proofs.Common.{◌≡◌, ℕ, List, OnOk, OnErr, subst, ap, ◌∙◌, ◌++◌}
 use Rattle.byte_trie.specs.Texts.{found}
-use Rattle.byte_trie.proofs.lemmas.Facing.{found_along}
+use Rattle.byte_trie.proofs.lemmas.Sides.{found_along}
 use Rattle.byte_trie.proofs.trie.Trie.find.Goals as goal
 
 pub returns-clause-ok : goal.returns-clause-ok
