@@ -20,12 +20,24 @@ use visits::Visits;
 ///
 /// A text leads from state to state: see [`Builder`](crate::Builder). Several things that are looked for in a text can
 /// share an automaton, with an end for each that names its index.
-#[derive(Debug, Drop)]
+#[derive(Debug)]
 pub struct Automaton {
     states: Vec<State>,
     nexts: Vec<usize>,
     starts: Vec<usize>,
     index_count: usize,
+}
+
+impl Drop for Automaton {
+    // One call wherever a value is dropped, which keeps proofs short.
+    fn drop(self) {
+        let Automaton {
+            states: _,
+            nexts: _,
+            starts: _,
+            index_count: _,
+        } = self;
+    }
 }
 
 impl Model for Automaton {

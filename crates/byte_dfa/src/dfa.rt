@@ -21,7 +21,6 @@ use visits::Visits;
 /// The number of a state is the place in the table where its row begins. A row has an entry for each class of bytes, and
 /// two more, the places of lists: of the indexes that are found where the state is entered, and of those that are found
 /// where the text ends. The state 0 is dead: it leads to no end.
-#[derive(Drop)]
 pub struct Dfa {
     class_of: [u8; 256],
     width: usize,
@@ -30,6 +29,21 @@ pub struct Dfa {
     lists: Vec<usize>,
     index_count: usize,
     source: Source,
+}
+
+impl Drop for Dfa {
+    // One call wherever a value is dropped, which keeps proofs short.
+    fn drop(self) {
+        let Dfa {
+            class_of: _,
+            width: _,
+            table: _,
+            start: _,
+            lists: _,
+            index_count: _,
+            source: _,
+        } = self;
+    }
 }
 
 const DEAD: usize = 0;

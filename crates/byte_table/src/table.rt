@@ -13,11 +13,21 @@ use std::marker::Model;
 use visits::Visits;
 
 /// Indexes under byte keys: under each key those that were added with it, in the order in which they were added.
-#[derive(Drop)]
 pub struct Table {
     lists: HashMap<Vec<u8>, Vec<usize>>,
     count: usize,
     entries: Entries,
+}
+
+impl Drop for Table {
+    // One call wherever a value is dropped, which keeps proofs short.
+    fn drop(self) {
+        let Table {
+            lists: _,
+            count: _,
+            entries: _,
+        } = self;
+    }
 }
 
 impl Model for Table {

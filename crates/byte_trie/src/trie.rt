@@ -17,12 +17,23 @@ use std::marker::Model;
 use visits::Visits;
 
 /// Texts with indexes, which are looked for at one side of a path.
-#[derive(Drop)]
 pub struct Trie {
     tree: Tree,
     side: Side,
     count: usize,
     entries: Entries,
+}
+
+impl Drop for Trie {
+    // One call wherever a value is dropped, which keeps proofs short.
+    fn drop(self) {
+        let Trie {
+            tree: _,
+            side: _,
+            count: _,
+            entries: _,
+        } = self;
+    }
 }
 
 impl Model for Trie {

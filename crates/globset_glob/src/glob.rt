@@ -25,12 +25,23 @@ use std::marker::Model;
 /// A glob pattern that was read.
 ///
 /// Contracts see a glob as its text and its options. Every glob has tokens, which the text and the options determine.
-#[derive(Drop)]
 pub struct Glob {
     text: String,
     options: Options,
     tokens: Vec<Token>,
     regex: String,
+}
+
+impl Drop for Glob {
+    // One call wherever a value is dropped, which keeps proofs short.
+    fn drop(self) {
+        let Glob {
+            text: _,
+            options: _,
+            tokens: _,
+            regex: _,
+        } = self;
+    }
 }
 
 impl Model for Glob {

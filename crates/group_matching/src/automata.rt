@@ -28,11 +28,22 @@ use visits::Visits;
 
 /// Automata for globs, by the part of a path that they are run on: the whole path, its last component, or the whole path if its
 /// last component has some extension.
-#[derive(Debug, Drop)]
+#[derive(Debug)]
 pub struct Automata {
     by_path: Compiled,
     by_component: Compiled,
     extensions: Slots,
+}
+
+impl Drop for Automata {
+    // One call wherever a value is dropped, which keeps proofs short.
+    fn drop(self) {
+        let Automata {
+            by_path: _,
+            by_component: _,
+            extensions: _,
+        } = self;
+    }
 }
 
 impl Model for Automata {
@@ -186,11 +197,21 @@ impl Automata {
 }
 
 /// Makes [`Automata`].
-#[derive(Drop)]
 pub struct AutomataBuilder {
     by_path: Builder,
     by_component: Builder,
     extensions: SlotsBuilder,
+}
+
+impl Drop for AutomataBuilder {
+    // One call wherever a value is dropped, which keeps proofs short.
+    fn drop(self) {
+        let AutomataBuilder {
+            by_path: _,
+            by_component: _,
+            extensions: _,
+        } = self;
+    }
 }
 
 impl Model for AutomataBuilder {
@@ -290,10 +311,15 @@ impl AutomataBuilder {
     pub fn finish(self, alloc: Global) -> Result<Automata, AllocError>
         ensures { IfOk result (λ automata. automata ≡ self) }
     {
+        let AutomataBuilder {
+            by_path,
+            by_component,
+            extensions,
+        } = self;
         Ok(Automata {
-            by_path: Compiled::new(alloc, self.by_path.finish())?,
-            by_component: Compiled::new(alloc, self.by_component.finish())?,
-            extensions: self.extensions.finish(alloc)?,
+            by_path: Compiled::new(alloc, by_path.finish())?,
+            by_component: Compiled::new(alloc, by_component.finish())?,
+            extensions: extensions.finish(alloc)?,
         })
     }
 }

@@ -14,10 +14,20 @@ use std::alloc::{AllocError, Global};
 use std::marker::Model;
 
 /// A list of globs, each in its group. The index of a glob is its position in the list.
-#[derive(Debug, Drop)]
+#[derive(Debug)]
 pub struct Groups {
     pub(crate) keys: Keys,
     pub(crate) automata: Automata,
+}
+
+impl Drop for Groups {
+    // One call wherever a value is dropped, which keeps proofs short.
+    fn drop(self) {
+        let Groups {
+            keys: _,
+            automata: _,
+        } = self;
+    }
 }
 
 impl Model for Groups {
@@ -46,10 +56,19 @@ impl Clone for Groups {
 }
 
 /// Makes [`Groups`], glob by glob.
-#[derive(Drop)]
 pub struct GroupsBuilder {
     keys: KeysBuilder,
     automata: AutomataBuilder,
+}
+
+impl Drop for GroupsBuilder {
+    // One call wherever a value is dropped, which keeps proofs short.
+    fn drop(self) {
+        let GroupsBuilder {
+            keys: _,
+            automata: _,
+        } = self;
+    }
 }
 
 impl Model for GroupsBuilder {
@@ -113,9 +132,10 @@ impl GroupsBuilder {
     pub fn finish(self, alloc: Global) -> Result<Groups, AllocError>
         ensures { IfOk result (λ groups. groups ≡ self) }
     {
+        let GroupsBuilder { keys, automata } = self;
         Ok(Groups {
-            keys: self.keys.finish(alloc)?,
-            automata: self.automata.finish(alloc)?,
+            keys: keys.finish(alloc)?,
+            automata: automata.finish(alloc)?,
         })
     }
 }

@@ -15,13 +15,26 @@ use std::marker::Model;
 use visits::Visits;
 
 /// Indexes of globs, under the texts that decide the globs.
-#[derive(Debug, Drop)]
+#[derive(Debug)]
 pub struct Keys {
     paths: Table,
     components: Table,
     extensions: Table,
     beginnings: Trie,
     ends: Trie,
+}
+
+impl Drop for Keys {
+    // One call wherever a value is dropped, which keeps proofs short.
+    fn drop(self) {
+        let Keys {
+            paths: _,
+            components: _,
+            extensions: _,
+            beginnings: _,
+            ends: _,
+        } = self;
+    }
 }
 
 impl Model for Keys {
@@ -155,13 +168,25 @@ impl Keys {
 }
 
 /// Makes [`Keys`].
-#[derive(Drop)]
 pub struct KeysBuilder {
     paths: Table,
     components: Table,
     extensions: Table,
     beginnings: Vec<Text>,
     ends: Vec<Text>,
+}
+
+impl Drop for KeysBuilder {
+    // One call wherever a value is dropped, which keeps proofs short.
+    fn drop(self) {
+        let KeysBuilder {
+            paths: _,
+            components: _,
+            extensions: _,
+            beginnings: _,
+            ends: _,
+        } = self;
+    }
 }
 
 impl Model for KeysBuilder {
@@ -248,12 +273,19 @@ impl KeysBuilder {
     pub fn finish(self, alloc: Global) -> Result<Keys, AllocError>
         ensures { IfOk result (λ keys. keys ≡ self) }
     {
+        let KeysBuilder {
+            paths,
+            components,
+            extensions,
+            beginnings,
+            ends,
+        } = self;
         Ok(Keys {
-            paths: self.paths,
-            components: self.components,
-            extensions: self.extensions,
-            beginnings: Trie::new(alloc, Side::Beginning, self.beginnings)?,
-            ends: Trie::new(alloc, Side::End, self.ends)?,
+            paths,
+            components,
+            extensions,
+            beginnings: Trie::new(alloc, Side::Beginning, beginnings)?,
+            ends: Trie::new(alloc, Side::End, ends)?,
         })
     }
 }

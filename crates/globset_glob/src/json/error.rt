@@ -79,10 +79,17 @@ impl fmt::Display for ValueErrorKind {
 ///
 /// The error of an element of an array holds the element's index. If memory runs out, the kind is
 /// [`ValueErrorKind::Glob`] with an error of the kind [`ErrorKind::OutOfMemory`], and the error holds no index.
-#[derive(Debug, Drop)]
+#[derive(Debug)]
 pub struct ValueError {
     index: Option<usize>,
     kind: ValueErrorKind,
+}
+
+impl Drop for ValueError {
+    // One call wherever a value is dropped, which keeps proofs short.
+    fn drop(self) {
+        let ValueError { index: _, kind: _ } = self;
+    }
 }
 
 impl Model for ValueError {
@@ -150,9 +157,10 @@ impl ValueError {
         if self.is_memory() {
             return self;
         }
+        let ValueError { index: _, kind } = self;
         ValueError {
             index: Some(index),
-            kind: self.kind,
+            kind,
         }
     }
 

@@ -19,12 +19,24 @@ use std::marker::Model;
 use visits::Visits;
 
 /// An automaton for each extension that some glob requires. The slot of an extension is the position of its automaton.
-#[derive(Debug, Drop)]
+#[derive(Debug)]
 pub struct Slots {
     slots: Table,
     automata: Vec<Compiled>,
     none: Compiled,
     index_count: usize,
+}
+
+impl Drop for Slots {
+    // One call wherever a value is dropped, which keeps proofs short.
+    fn drop(self) {
+        let Slots {
+            slots: _,
+            automata: _,
+            none: _,
+            index_count: _,
+        } = self;
+    }
 }
 
 impl Model for Slots {
@@ -108,12 +120,23 @@ impl Slots {
 }
 
 /// Makes [`Slots`].
-#[derive(Drop)]
 pub struct SlotsBuilder {
     slots: Table,
     builders: Vec<Builder>,
     none: Builder,
     index_count: usize,
+}
+
+impl Drop for SlotsBuilder {
+    // One call wherever a value is dropped, which keeps proofs short.
+    fn drop(self) {
+        let SlotsBuilder {
+            slots: _,
+            builders: _,
+            none: _,
+            index_count: _,
+        } = self;
+    }
 }
 
 impl Model for SlotsBuilder {
@@ -188,11 +211,17 @@ impl SlotsBuilder {
     pub fn finish(self, alloc: Global) -> Result<Slots, AllocError>
         ensures { IfOk result (λ slots. slots ≡ self) }
     {
+        let SlotsBuilder {
+            slots,
+            builders,
+            none,
+            index_count,
+        } = self;
         Ok(Slots {
-            slots: self.slots,
-            automata: finished(alloc, self.builders)?,
-            none: Compiled::simulated(self.none.finish()),
-            index_count: self.index_count,
+            slots,
+            automata: finished(alloc, builders)?,
+            none: Compiled::simulated(none.finish()),
+            index_count,
         })
     }
 }
