@@ -1,11 +1,7 @@
 //! Texts of errors, and what `Debug` shows of them.
 
 use super::{arguments_of, check};
-use crate::command::command;
-use crate::command::fault::CommandFault;
-use crate::command::parsed::Command;
-use crate::fault::Fault;
-use crate::sifting::fault::SiftFault;
+use line_filter::{Command, CommandFault, Fault, SiftFault, command};
 use std::alloc::{AllocError, Global};
 use std::test::Fail;
 

@@ -1,8 +1,7 @@
 //! Runs of the program, which show that its calls succeed.
 
 use super::{arguments_of, bytes_of, check, text_of};
-use crate::fault::Fault;
-use crate::write_matching_lines;
+use line_filter::{Fault, write_matching_lines};
 use std::alloc::{AllocError, Global};
 use std::test::Fail;
 

@@ -1,0 +1,24 @@
+use Rattle.std.proofs.Common.{[], refl}
+use Rattle.std.proofs.lemmas.Result.{err_from_is_err_and}
+use Rattle.line_filter.proofs.lemmas.Handling.{Handles-start, lines_step, lines_end, lines_fail}
+use Rattle.line_filter.proofs.sifting.output.Output.handle_lines.Goals as goal
+
+pub loop-i-init : goal.loop-i-init
+loop-i-init g c = ([], refl, Handles-start _ _ [] _ _ _ refl)
+
+pub loop-i-preserved : goal.loop-i-preserved
+loop-i-preserved g c =
+    let i = c.loop-i.invariant in
+    let put = c.in_ok-handle_line.ensures in
+    lines_step _ _ _ i.0 _ c.in-Some.i _ _ _ _ _ _ _ _ _ i.1 i.2 c.in-Some.ensures put.0 put.1
+
+pub returns : goal.returns
+returns g c =
+    let i = c.loop-i.invariant in
+    lines_end _ _ _ i.0 c.loop-i.rest.now _ _ _ _ _ _ _ i.1 i.2 c.in_default.is c.memchr.ensures
+
+pub returns-in_err-handle_line : goal.returns-in_err-handle_line
+returns-in_err-handle_line g c =
+    let i = c.loop-i.invariant in
+    let p = err_from_is_err_and c.from_residual.result c.from_residual.ensures.1 in
+    rw (p.1, p.2) (lines_fail _ _ _ i.0 _ c.in-Some.i _ _ _ _ _ _ _ _ i.1 i.2 c.in-Some.ensures c.in_err-handle_line.ensures)

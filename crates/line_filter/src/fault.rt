@@ -1,0 +1,52 @@
+//! Why the program stops.
+
+use crate::arguments::fault::CommandFault;
+use crate::sifting::fault::SiftFault;
+use std::fmt;
+
+/// Why the program ended with an error.
+#[derive(Debug, Drop)]
+pub enum Fault {
+    /// The command-line arguments are rejected.
+    Command(CommandFault),
+    /// Sifting stopped before the end.
+    Sift(SiftFault),
+}
+
+impl fmt::Display for Fault {
+    ghost use Rattle.std.specs.Prelude.{Some};
+    ghost use Rattle.line_filter.specs.Texts.{fault_text};
+
+    ghost output = { λ fault. Some (fault_text fault) };
+
+    fn fmt<W: fmt::Write>(&self, f: &mut fmt::Formatter<W>) -> fmt::Result {
+        match self {
+            Fault::Command(fault) => write!(f, "{fault}"),
+            Fault::Sift(fault) => write!(f, "{fault}"),
+        }
+    }
+}
+
+impl std::error::Error for Fault {}
+
+impl From<CommandFault> for Fault {
+    ghost use Rattle.std.specs.Prelude.{◌≡◌};
+    ghost use Rattle.line_filter.specs.declared.fault.Fault.TheVariants.{Command};
+
+    ghost from_gives = { λ cause fault. fault ≡ Command cause };
+
+    fn from(cause: CommandFault) -> Fault {
+        Fault::Command(cause)
+    }
+}
+
+impl From<SiftFault> for Fault {
+    ghost use Rattle.std.specs.Prelude.{◌≡◌};
+    ghost use Rattle.line_filter.specs.declared.fault.Fault.TheVariants.{Sift};
+
+    ghost from_gives = { λ cause fault. fault ≡ Sift cause };
+
+    fn from(cause: SiftFault) -> Fault {
+        Fault::Sift(cause)
+    }
+}
