@@ -1,6 +1,6 @@
-//! Rows about globs, sets, paths and JSON values.
+//! Rows about globs, sets, paths and JSON values, and rows that name a call.
 
-use crate::shown;
+use crate::{calls, shown};
 use anyhow::Result;
 use globset::{Candidate, Error, Glob, GlobBuilder, GlobSet, ValueError, escape};
 use rows::{Case, Columns, RowError, escaped, list, text, yes_or_no};
@@ -37,6 +37,7 @@ impl Case for Globs {
             "escape" => self.escape(columns),
             "value" => self.value(columns),
             "array" => self.array(columns),
+            "call" => calls::returned(self.alloc, columns, &self.globs, &self.set),
             _ => Err(RowError::UnknownKind.into()),
         }
     }

@@ -44,8 +44,9 @@ impl GlobSet {
     /// The same as [`GlobSet::matches_all_candidate`], which calls it, with a count of the visits.
     ///
     /// It adds at most `4 + 2 * (path bytes + 1)`, and `path bytes + 1` times `4 * glob bytes + 4` for each glob that needs an
-    /// automaton for the path, also if memory runs out. It looks up the path and its parts in four tables and two tries, and
-    /// runs at most three automata, each once. These take two bits of memory for each state that is run.
+    /// automaton for the path, also if memory runs out; and none if the set has no globs. It looks up the path and its parts in four tables and two tries, and
+    /// runs at most three automata, each once. If some automaton has states, the call takes a bit of memory for each glob, a vector for
+    /// the indexes that are found, and at most two bits for each state that is run.
     ///
     /// Returns an error if memory runs out, and no other. It needs no memory if no glob needs an automaton for
     /// the path: if each of them is direct, or requires an extension that the path lacks.
@@ -60,6 +61,7 @@ impl GlobSet {
         ensures empty { set_globs self.now ≡ [] → IsOk result }
         ensures memory { load (set_globs self.now) path.now ≡ 0 → IsOk result }
         ensures visits { visits.new ≤ visits.old + most_set_visits (set_globs self.now) path.now }
+        ensures none { set_globs self.now ≡ [] → visits.new ≡ visits.old }
     {
         if self.is_empty() {
             return Ok(true);

@@ -68,7 +68,7 @@ impl GlobSet {
     /// The same as [`GlobSet::matches_candidate_into`], which calls it, with a count of the visits.
     ///
     /// It adds at most `4 + 2 * (path bytes + 1)`, and `path bytes + 1` times `4 * glob bytes + 4` for each glob that needs an
-    /// automaton for the path, also if memory runs out. It looks up the path and its parts in four tables and two tries, and
+    /// automaton for the path, also if memory runs out; and none if the set has no globs. It looks up the path and its parts in four tables and two tries, and
     /// runs at most three automata, each once. These take a bit of memory for each glob, and two for each state that is run.
     /// The vector grows for the indexes.
     ///
@@ -83,9 +83,13 @@ impl GlobSet {
         ensures err { IfErr result (λ e. e ≡ out_of_memory) }
         ensures cleared { OnErr result (into.new.items ≡ []) }
         ensures visits { visits.new ≤ visits.old + most_set_visits (set_globs self.now) path.now }
+        ensures none { set_globs self.now ≡ [] → visits.new ≡ visits.old }
     {
+        into.clear();
+        if self.is_empty() {
+            return Ok(());
+        }
         let Some(stored) = &self.stored else {
-            into.clear();
             return Ok(());
         };
         stored.find(path, into, visits)

@@ -3,5 +3,8 @@ use Rattle.globset.specs.inner.StoredGlobs.{stored_globs}
 use Rattle.globset.proofs.lemmas.Answer.{answer_of_none}
 use Rattle.globset.proofs.set.GlobSet.matches_visits.Goals as goal
 
+pub returns-then-is_empty-clause-ok : goal.returns-then-is_empty-clause-ok
+returns-then-is_empty-clause-ok c = c.clear.ensures.items ∙ answer_of_none c.args.self.now c.args.path.now (c.is_empty.ensures.0 c.if-is_empty.true)
+
 pub returns-in_default-clause-ok : goal.returns-in_default-clause-ok
 returns-in_default-clause-ok c = c.clear.ensures.items ∙ answer_of_none c.args.self.now c.args.path.now (sym c.self.view_is ∙ ap stored_globs c.in_default.is)
