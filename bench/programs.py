@@ -1,0 +1,104 @@
+"""The two programs that are compared: where they are, and how they are built when they are missing."""
+
+import os
+import shutil
+import subprocess
+import sys
+
+HERE = os.path.dirname(os.path.abspath(__file__))
+OUT = os.path.join(HERE, "out")
+PROGRAM_CRATE = os.path.join(os.path.dirname(HERE), "crates", "globsift")
+INSTALLED_CRATES = "/usr/share/cargo/registry"
+PACKAGES = ["librust-globset-dev", "librust-memchr-dev"]
+DEBIAN = "deb http://deb.debian.org/debian sid main\n"
+
+
+def say(text):
+    print(text, file=sys.stderr, flush=True)
+
+
+def run(command, **settings):
+    return subprocess.run(command, check=True, **settings)
+
+
+def globset_version(crates):
+    """The version of the newest globset in a folder of crates, or None."""
+    if not os.path.isdir(crates):
+        return None
+    versions = [name[len("globset-") :] for name in os.listdir(crates) if name.startswith("globset-")]
+    return max(versions, key=lambda version: [int(number) for number in version.split(".")], default=None)
+
+
+def download_crates():
+    """Unpacks the Debian packages with the crates below `OUT`, without installing them; returns the folder of crates.
+
+    They are those of Debian's newest release, whatever this machine runs, since older ones have a much older globset.
+    """
+    apt, packages, root = (os.path.join(OUT, name) for name in ("apt", "packages", "root"))
+    for folder in (f"{apt}/lists/partial", f"{apt}/cache/archives/partial", packages, root):
+        os.makedirs(folder, exist_ok=True)
+    # Empty, so that apt takes no package for installed.
+    open(f"{apt}/status", "w").close()
+    with open(f"{apt}/sources.list", "w") as file:
+        file.write(DEBIAN)
+    settings = {
+        "Dir::State::lists": f"{apt}/lists",
+        "Dir::State::status": f"{apt}/status",
+        "Dir::Cache": f"{apt}/cache",
+        "Dir::Etc::sourcelist": f"{apt}/sources.list",
+        "Dir::Etc::sourceparts": "/dev/null",
+    }
+    apt_get = ["apt-get", "-q"] + [word for name, value in settings.items() for word in ("-o", f"{name}={value}")]
+    say("Downloading the crates from Debian")
+    run(apt_get + ["update"], stdout=sys.stderr)
+    wanted = run(
+        apt_get + ["--simulate", "--no-install-recommends", "install"] + PACKAGES, capture_output=True, text=True
+    ).stdout
+    names = [line.split()[1] for line in wanted.splitlines() if line.startswith("Inst librust-")]
+    run(apt_get + ["download"] + names, cwd=packages, stdout=sys.stderr)
+    for name in sorted(os.listdir(packages)):
+        run(["dpkg-deb", "--extract", os.path.join(packages, name), root])
+    shutil.rmtree(apt)
+    return root + INSTALLED_CRATES
+
+
+def find_crates(given):
+    """The folder of crates to build the baseline from: a given one, the installed one, or a downloaded one."""
+    downloaded = os.path.join(OUT, "root") + INSTALLED_CRATES
+    for folder in [given] if given else [INSTALLED_CRATES, downloaded]:
+        if globset_version(folder):
+            return os.path.abspath(folder)
+    if given:
+        raise SystemExit(f"{given} has no globset")
+    return download_crates()
+
+
+def baseline(crates):
+    """Builds the baseline from a folder of crates; returns the program's path."""
+    version = globset_version(crates)
+    say(f"Building the baseline with globset {version}")
+    project = os.path.join(OUT, f"baseline-{version}")
+    shutil.rmtree(project, ignore_errors=True)
+    shutil.copytree(os.path.join(HERE, "baseline"), project)
+    target = os.path.join(OUT, "target")
+    run(
+        [
+            "cargo", "build", "--quiet", "--release", "--offline", "--target-dir", target,
+            "--config", 'source.crates-io.replace-with="folder"',
+            "--config", f'source.folder.directory="{crates}"',
+        ],
+        cwd=project,
+    )
+    return os.path.join(target, "release", "baseline")
+
+
+def globsift():
+    """The program of this repository, which is proved and built first if there is none yet; returns its path."""
+    program = os.path.join(PROGRAM_CRATE, "out", "globsift")
+    if not os.path.exists(program):
+        say("Proving and building globsift, which takes some minutes")
+        # The exit status is 1, as no line matches.
+        subprocess.run(["rt", "run", "--", "*"], cwd=PROGRAM_CRATE, stdin=subprocess.DEVNULL, stdout=sys.stderr)
+    if not os.path.exists(program):
+        raise SystemExit("globsift could not be built")
+    return program
