@@ -1,5 +1,6 @@
 pub mod Booleans
 pub mod Building
+pub mod Compiled
 pub mod Cuts
 pub mod Frames
 pub mod IndexedTokens

@@ -1,3 +1,4 @@
 pub mod Building
+pub mod Compiled
 pub mod Frames
 pub mod TokenStates

@@ -5,10 +5,10 @@
 //! `is_match` and `find` run it over a path. Nothing here knows the text of a glob.
 #![tactic(auto)]
 
+mod compiled;
 mod groups;
-mod run;
 mod states;
 mod whole;
 
-pub use run::{find, is_match};
+pub use compiled::Compiled;
 pub use whole::{add_tokens, is_prefix_alone, new_builder};

@@ -7,8 +7,8 @@ ghost use Rattle.globset_glob.specs.inner.GlobAutomaton.{IsAutomatonOf};
 
 use crate::error::Error;
 use crate::glob::Glob;
-use byte_automaton::{Automaton, StateSet};
-use glob_automaton::{add_tokens, is_match, new_builder};
+use byte_automaton::Automaton;
+use glob_automaton::{Compiled, add_tokens, new_builder};
 use glob_path::{AsPath, Candidate};
 use std::alloc::AllocError;
 use std::fmt;
@@ -31,7 +31,7 @@ fn automaton_of(glob: &Glob) -> Result<Automaton, AllocError>
 /// call to the next.
 pub struct GlobMatcher {
     glob: Glob,
-    automaton: Automaton,
+    automaton: Compiled,
 }
 
 impl Drop for GlobMatcher {
@@ -63,7 +63,7 @@ impl GlobMatcher {
         ensures ok { IfOk result (λ m. m ≡ glob) }
         ensures err { IfErr result (λ e. e ≡ out_of_memory) }
     {
-        let automaton = automaton_of(&glob)?;
+        let automaton = Compiled::new(glob.allocator(), automaton_of(&glob)?)?;
         Ok(GlobMatcher { glob, automaton })
     }
 
@@ -103,9 +103,7 @@ impl GlobMatcher {
         ensures visits { visits.new ≤ visits.old + most_visits self.now path.now }
     {
         let alloc = self.glob.allocator();
-        let mut now = StateSet::new(alloc, self.automaton.state_count())?;
-        let mut next = StateSet::new(alloc, self.automaton.state_count())?;
-        Ok(is_match(&self.automaton, path.path(), &mut now, &mut next, visits))
+        Ok(self.automaton.is_match(alloc, path.path(), visits)?)
     }
 
     /// Returns a matcher for an equal glob, or an error if memory runs out.
@@ -113,7 +111,10 @@ impl GlobMatcher {
         ensures ok { IfOk result (λ m. m ≡ self.now) }
         ensures err { IfErr result (λ e. e ≡ out_of_memory) }
     {
-        GlobMatcher::new(self.glob.clone()?)
+        Ok(GlobMatcher {
+            glob: self.glob.clone()?,
+            automaton: self.automaton.clone()?,
+        })
     }
 }
 

@@ -11,16 +11,12 @@ ghost use Rattle.glob_syntax.specs.Views.{flats, tokens_of};
 ghost use Rattle.glob_syntax.specs.inner.Weight.{weight};
 ghost use Rattle.group_matching.specs.inner.Automata.{AddsTokens, AreFor, AreForLists, AreFound, AreIdle, IsFoundSet, TokenLists, machine_under, states_for, tokens_under};
 
-mod compiled;
-mod run;
 mod slots;
 
 use byte_automaton::{Builder, IndexSet};
-use compiled::Compiled;
-use glob_automaton::{add_tokens, new_builder};
+use glob_automaton::{Compiled, add_tokens, new_builder};
 use glob_path::{Candidate, component_extension_of, last_component_of};
 use glob_syntax::{Options, Token};
-use run::{is_match, run};
 use slots::{Slots, SlotsBuilder};
 use std::alloc::{AllocError, Global};
 use std::marker::Model;
@@ -102,9 +98,9 @@ impl Automata {
             return Ok(None);
         }
         let mut found = IndexSet::new(alloc, self.index_count())?;
-        run(alloc, &self.by_path, path, &mut found, visits)?;
+        self.by_path.find(alloc, path, &mut found, visits)?;
         self.run_by_component(alloc, path, &mut found, visits)?;
-        run(alloc, by_extension, path, &mut found, visits)?;
+        by_extension.find(alloc, path, &mut found, visits)?;
         Ok(Some(found))
     }
 
@@ -121,14 +117,14 @@ impl Automata {
         ensures memory { states_for self.now path.now ≡ 0 → IsOk result }
         ensures visits { visits.new ≤ visits.old + (1 + (length path.now + 1) * states_for self.now path.now) }
     {
-        if is_match(alloc, &self.by_path, path.path(), visits)? {
+        if self.by_path.is_match(alloc, path.path(), visits)? {
             return Ok(true);
         }
         if self.is_match_by_component(alloc, path.path(), visits)? {
             return Ok(true);
         }
         let by_extension = self.by_extension(path, visits);
-        is_match(alloc, by_extension, path.path(), visits)
+        by_extension.is_match(alloc, path.path(), visits)
     }
 
     /// Returns the automaton of the extension of the path's last component, or one without states if it has none. The extension
@@ -174,7 +170,7 @@ impl Automata {
             return Ok(());
         }
         let component = last_component_of(&Candidate::from_bytes(path));
-        run(alloc, &self.by_component, component, found, visits)
+        self.by_component.find(alloc, component, found, visits)
     }
 
     /// Returns whether the path's last component matches tokens. It is only searched for if there are states.
@@ -192,7 +188,7 @@ impl Automata {
             return Ok(false);
         }
         let component = last_component_of(&Candidate::from_bytes(path));
-        is_match(alloc, &self.by_component, component, visits)
+        self.by_component.is_match(alloc, component, visits)
     }
 }
 

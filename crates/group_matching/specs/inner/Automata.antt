@@ -5,7 +5,6 @@ use Rattle.byte_automaton.specs.Steps.{IsIn, Machine}
 use Rattle.byte_automaton.specs.Runs.{size}
 use Rattle.byte_automaton.specs.Sets.{has_index, index_room}
 use Rattle.byte_automaton.specs.declared.index_set.IndexSet.{IndexSet}
-use Rattle.byte_dfa.specs.DfaValue.{DfaValue}
 use Rattle.byte_table.specs.Entries.{Entry, indexes_under}
 use Rattle.glob_automaton.specs.IndexedTokens.{IndexedTokens, SomeMatches, IsFor}
 use Rattle.glob_path.specs.PathParts.{last_component, component_extension}
@@ -107,8 +106,3 @@ pub record IsFoundSet (a : AutomataParts) (path : List ℕ) (found : IndexSet) :
   pub size : 1 ≤ states_for a path
   pub room : a.extensions.index_count ≤ index_room found
   pub same : (t : TokenLists) → AreForLists a t → (k : ℕ) → IsTrue (has_index found k) ↔ AreFound a.extensions.slots t path k
-
--- the deterministic automaton, if there is one, was made from this one
-abbrev pub FindsTheSame : Option DfaValue → Machine → Type 0
-FindsTheSame None m = Unit {0}
-FindsTheSame (Some d) m = d.source ≡ m

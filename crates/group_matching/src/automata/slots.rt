@@ -9,10 +9,9 @@ ghost use Rattle.glob_syntax.specs.Views.{flats, tokens_of};
 ghost use Rattle.glob_syntax.specs.inner.Weight.{weight};
 ghost use Rattle.group_matching.specs.inner.Automata.{AddsTokens, AreFor, KeepsTokens, machine_under, slot_of, tokens_under};
 
-use crate::automata::compiled::Compiled;
 use byte_automaton::Builder;
 use byte_table::Table;
-use glob_automaton::{add_tokens, new_builder};
+use glob_automaton::{Compiled, add_tokens, new_builder};
 use glob_syntax::{Options, Token};
 use std::alloc::{AllocError, Global};
 use std::marker::Model;

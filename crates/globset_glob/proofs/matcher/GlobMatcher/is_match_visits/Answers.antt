@@ -10,7 +10,7 @@ use Rattle.globset_glob.proofs.matcher.GlobMatcher.is_match_visits.Goals as goal
 pub returns-clause-ok : goal.returns-clause-ok
 returns-clause-ok c =
     let g = c.self.inside.glob in
-    one_matches g c.path.result.now c.is_match.result (c.is_match.ensures.some (indexed g.options (tokens_of_glob g) 0 ∷ []) c.self.invariant.tokens)
+    one_matches g c.path.result.now c.in_ok-is_match.field-0 (c.in_ok-is_match.ensures.some (indexed g.options (tokens_of_glob g) 0 ∷ []) c.self.invariant.tokens)
     ∙ ap (λ p. glob_means g p) c.path.ensures
     ∙ ap (λ (h : GlobValue). glob_means h c.args.path.now) c.self.view_is
 

@@ -7,7 +7,8 @@ use Rattle.glob_automaton.specs.IndexedTokens.{IndexedTokens, SomeMatches, IsFor
 use Rattle.glob_automaton.proofs.lemmas.IndexedTokens.{all_bytes}
 use Rattle.glob_path.specs.PathParts.{last_component}
 use Rattle.group_matching.specs.inner.Automata.{AutomataParts}
-use Rattle.group_matching.proofs.lemmas.Automata.{component_bytes, no_matches}
+use Rattle.glob_automaton.proofs.lemmas.Compiled.{no_matches}
+use Rattle.group_matching.proofs.lemmas.Automata.{component_bytes}
 use Rattle.group_matching.proofs.automata.Automata.run_by_component.Goals as goal
 
 pub returns-then-state_count-eq0-clause-found : goal.returns-then-state_count-eq0-clause-found
@@ -20,7 +21,7 @@ returns-then-state_count-eq0-clause-found c = λ xs is k.
 
 pub returns-clause-found : goal.returns-clause-found
 returns-clause-found c =
-    subst (λ (a : AutomataParts). OnOk c.run.result ((xs : List IndexedTokens) → IsFor a.by_component xs → (k : ℕ) → IsTrue (has_index c.run.new.found k) ↔ (SomeMatches xs (last_component c.args.path.now) k ⊎ IsTrue (has_index c.args.found.now k))))
+    subst (λ (a : AutomataParts). OnOk c.find.result ((xs : List IndexedTokens) → IsFor a.by_component xs → (k : ℕ) → IsTrue (has_index c.find.new.found k) ↔ (SomeMatches xs (last_component c.args.path.now) k ⊎ IsTrue (has_index c.args.found.now k))))
     c.self.view_is
-    (subst (λ text. OnOk c.run.result ((xs : List IndexedTokens) → IsFor c.self.inside.by_component xs → (k : ℕ) → IsTrue (has_index c.run.new.found k) ↔ (SomeMatches xs text k ⊎ IsTrue (has_index c.args.found.now k))))
-    (c.last_component_of-component.ensures ∙ ap last_component c.from_bytes.ensures) c.run.ensures.found)
+    (subst (λ text. OnOk c.find.result ((xs : List IndexedTokens) → IsFor c.self.inside.by_component xs → (k : ℕ) → IsTrue (has_index c.find.new.found k) ↔ (SomeMatches xs text k ⊎ IsTrue (has_index c.args.found.now k))))
+    (c.last_component_of-component.ensures ∙ ap last_component c.from_bytes.ensures) c.find.ensures.found)
