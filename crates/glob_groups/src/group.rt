@@ -12,7 +12,7 @@ mod key;
 
 use crate::silence::{is_recursive_prefix, is_silent};
 use conditions::{
-    is_any_after, is_any_before, is_any_extension, is_any_inside, is_by_last_component,
+    is_any_extension, is_beginning, is_below_folder, is_by_last_component, is_end,
     is_last_component, is_last_components, is_whole_path,
 };
 use glob_syntax::{Options, Token};
@@ -95,13 +95,13 @@ fn sensitive_group(alloc: Global, options: Options, tokens: &[Token]) -> Result<
     if is_any_extension(options, tokens) {
         return Ok(Group::Extension(literal_text(alloc, tokens)?));
     }
-    if is_any_before(options, tokens) {
+    if is_end(options, tokens) {
         return Ok(Group::End(literal_text(alloc, tokens)?));
     }
-    if is_any_after(options, tokens) {
+    if is_beginning(options, tokens) {
         return Ok(Group::Beginning(literal_text(alloc, tokens)?));
     }
-    if is_any_inside(tokens) {
+    if is_below_folder(tokens) {
         return Ok(Group::Beginning(literal_text_and_slash(alloc, tokens)?));
     }
     if let Some(last) = ending(tokens) {

@@ -8,15 +8,16 @@ use Rattle.glob_automaton.specs.Takes.{slash}
 use Rattle.glob_automaton.specs.TokenMeans.{means}
 use Rattle.glob_path.specs.PathParts.{last_component, component_extension}
 use Rattle.glob_groups.specs.Silent.{are_silent, are_listed}
-use Rattle.glob_groups.specs.Groups.{GroupValue, Silent, WholePath, LastComponent, LastComponents, Extension, End, Beginning, ByLastComponent, ByPath, literal_text, ending, is_whole_path, is_last_component, is_last_components, is_any_extension, is_any_before, is_any_after, is_any_inside, is_by_last_component, automaton_group, ending_group, sensitive_group, group_of_tokens}
+use Rattle.glob_groups.specs.TokenTests.{literal_text, ending, is_whole_path, is_last_components, is_end, is_beginning, is_below_folder}
+use Rattle.glob_groups.specs.Groups.{GroupValue, Silent, WholePath, LastComponent, LastComponents, Extension, End, Beginning, ByLastComponent, ByPath, is_last_component, is_any_extension, is_by_last_component, automaton_group, ending_group, sensitive_group, group_of_tokens}
 use Rattle.glob_groups.specs.GroupMeaning.{group_seen, Tells, runs_automaton, IsGroupOf}
 use Rattle.glob_groups.specs.Direct.{is_direct, has_ending, needs_automaton}
 use Rattle.glob_groups.specs.declared.group.Group.{Group}
 use Rattle.glob_groups.specs.inner.FlatTests as flat
 use Rattle.glob_groups.proofs.lemmas.Endings.{ending_same}
-use Rattle.glob_groups.proofs.lemmas.FlatTests.{whole_path_same, last_component_same, last_components_same, any_extension_same, any_before_same, any_after_same, any_inside_same, by_last_component_same, whole_path_text, last_component_text, last_components_text, any_extension_text, any_before_text, any_after_text, any_inside_text}
+use Rattle.glob_groups.proofs.lemmas.FlatTests.{whole_path_same, last_component_same, last_components_same, any_extension_same, end_same, beginning_same, below_folder_same, by_last_component_same, whole_path_text, last_component_text, last_components_text, any_extension_text, end_text, beginning_text, below_folder_text}
 use Rattle.glob_groups.proofs.lemmas.Direct.{other_not_direct, ending_needs, insensitive_needs}
-use Rattle.glob_groups.proofs.lemmas.EndMeaning.{last_components_means, any_before_means, any_after_means, any_inside_means}
+use Rattle.glob_groups.proofs.lemmas.EndMeaning.{last_components_means, end_means, beginning_means, below_folder_means}
 use Rattle.glob_groups.proofs.lemmas.TokenMeaning.{whole_path_means, last_component_means, any_extension_means, ending_required, by_last_component_means}
 
 -- ---- choices by a test
@@ -48,9 +49,9 @@ sensitive_same o fs n =
     (choice_same _ _ _ _ _ _ (last_component_same fs n) (λ h. ap LastComponent (last_component_text fs h))
     (choice_same _ _ _ _ _ _ (last_components_same fs n) (λ h. ap LastComponents (last_components_text fs h))
     (choice_same _ _ _ _ _ _ (any_extension_same o fs n) (λ h. ap Extension (any_extension_text o fs h))
-    (choice_same _ _ _ _ _ _ (any_before_same o fs n) (λ h. ap End (any_before_text o fs h))
-    (choice_same _ _ _ _ _ _ (any_after_same o fs n) (λ h. ap Beginning (any_after_text o fs h))
-    (choice_same _ _ _ _ _ _ (any_inside_same fs n) (λ h. ap (λ text. Beginning (text ++ slash ∷ [])) (any_inside_text fs h))
+    (choice_same _ _ _ _ _ _ (end_same o fs n) (λ h. ap End (end_text o fs h))
+    (choice_same _ _ _ _ _ _ (beginning_same o fs n) (λ h. ap Beginning (beginning_text o fs h))
+    (choice_same _ _ _ _ _ _ (below_folder_same fs n) (λ h. ap (λ text. Beginning (text ++ slash ∷ [])) (below_folder_text fs h))
     (ap (flat.ending_group o fs) (ending_same fs n) ∙ ending_group_same o fs n (ending (tree_of fs)))))))))
 
 -- ---- the group of a glob
@@ -90,9 +91,9 @@ sensitive_tells o ts path loud off =
     of_choice C (is_last_component ts) _ _ (λ h. subst (λ b. IsTrue b ↔ (last_component path ≡ literal_text ts)) (sym same) (last_component_means o path off ts h)) (λ b.
     of_choice C (is_last_components ts) _ _ (λ h. subst (λ b. IsTrue b ↔ ((path ≡ literal_text ts) ⊎ ((front : List ℕ) × (front ++ slash ∷ literal_text ts ≡ path)))) (sym same) (last_components_means o path off ts h)) (λ c.
     of_choice C (is_any_extension o ts) _ _ (λ h. subst (λ b. IsTrue b ↔ (component_extension path ≡ literal_text ts)) (sym same) (any_extension_means o path off ts h)) (λ d.
-    of_choice C (is_any_before o ts) _ _ (λ h. subst (λ b. IsTrue b ↔ ((front : List ℕ) × (front ++ literal_text ts ≡ path))) (sym same) (any_before_means o path off ts h)) (λ e.
-    of_choice C (is_any_after o ts) _ _ (λ h. subst (λ b. IsTrue b ↔ ((rest : List ℕ) × (literal_text ts ++ rest ≡ path))) (sym same) (any_after_means o path off ts h)) (λ f.
-    of_choice C (is_any_inside ts) _ _ (λ h. subst (λ b. IsTrue b ↔ ((rest : List ℕ) × ((literal_text ts ++ slash ∷ []) ++ rest ≡ path))) (sym same) (any_inside_means o path off ts h)) (λ g.
+    of_choice C (is_end o ts) _ _ (λ h. subst (λ b. IsTrue b ↔ ((front : List ℕ) × (front ++ literal_text ts ≡ path))) (sym same) (end_means o path off ts h)) (λ e.
+    of_choice C (is_beginning o ts) _ _ (λ h. subst (λ b. IsTrue b ↔ ((rest : List ℕ) × (literal_text ts ++ rest ≡ path))) (sym same) (beginning_means o path off ts h)) (λ f.
+    of_choice C (is_below_folder ts) _ _ (λ h. subst (λ b. IsTrue b ↔ ((rest : List ℕ) × ((literal_text ts ++ slash ∷ []) ++ rest ≡ path))) (sym same) (below_folder_means o path off ts h)) (λ g.
     ending_tells o ts path loud off (ending ts) refl)))))))
   where
     same : are_listed o ts path ≡ means o ts path
@@ -126,9 +127,9 @@ sensitive_runs o ts path =
     of_choice C (is_last_component ts) _ _ (λ h. never) (λ b.
     of_choice C (is_last_components ts) _ _ (λ h. never) (λ c.
     of_choice C (is_any_extension o ts) _ _ (λ h. never) (λ d.
-    of_choice C (is_any_before o ts) _ _ (λ h. never) (λ e.
-    of_choice C (is_any_after o ts) _ _ (λ h. never) (λ f.
-    of_choice C (is_any_inside ts) _ _ (λ h. never) (λ g.
+    of_choice C (is_end o ts) _ _ (λ h. never) (λ e.
+    of_choice C (is_beginning o ts) _ _ (λ h. never) (λ f.
+    of_choice C (is_below_folder ts) _ _ (λ h. never) (λ g.
     ending_runs o ts path (other_not_direct o ts a c d e f g) (ending ts) refl)))))))
   where
     C : GroupValue → Type 0
@@ -145,7 +146,7 @@ runs_of o ts path =
 
 pub is_group : (o : Options) (ts : Tokens) (group : Group) → group_seen group ≡ group_of_tokens o ts → IsGroupOf o ts group
 is_group o ts group e = record {
-  first = e;
+  in_table = e;
   tells = λ path. subst (λ s. Tells s o ts path) (sym e) (tells_of o ts path);
   automaton = λ path. subst (RunsNeeded o ts path) (sym e) (runs_of o ts path);
 }

@@ -2,8 +2,9 @@
 
 ghost use Rattle.std.specs.Prelude.{◌≡◌};
 ghost use Rattle.glob_syntax.specs.Views.{flat_of, flats};
-ghost use Rattle.glob_groups.specs.Groups.{is_literal_except, is_star, is_suffix, is_within};
-ghost use Rattle.glob_groups.specs.inner.FlatTests.{all_simple_pass, is_any_after, is_any_before, is_any_extension, is_any_inside, is_by_last_component, is_extension, is_last_component, is_last_components, is_simple_that, is_star_extension, is_star_literals, is_whole_path, literals_and_last};
+ghost use Rattle.glob_groups.specs.TokenTests.{is_literal_except, is_star, is_suffix};
+ghost use Rattle.glob_groups.specs.Groups.{matches_no_slash};
+ghost use Rattle.glob_groups.specs.inner.FlatTests.{all_simple_pass, is_beginning, is_end, is_any_extension, is_below_folder, is_by_last_component, is_extension, is_last_component, is_last_components, is_simple_that, is_star_extension, is_star_literals, is_whole_path, literals_and_last};
 
 use glob_syntax::{Options, Token};
 
@@ -69,8 +70,8 @@ fn is_extension(tokens: &[Token]) -> bool
 }
 
 /// Whether the tokens are `*` that matches `/`, and any literals; or `RecursivePrefix` before these.
-pub fn is_any_before(options: Options, tokens: &[Token]) -> bool
-    ensures { result ≡ is_any_before options (flats tokens.now) }
+pub fn is_end(options: Options, tokens: &[Token]) -> bool
+    ensures { result ≡ is_end options (flats tokens.now) }
 {
     if options.literal_separator {
         return false;
@@ -92,8 +93,8 @@ fn is_star_literals(tokens: &[Token]) -> bool
 }
 
 /// Whether the tokens are any literals and a last `*` that matches `/`; or `RecursivePrefix` alone.
-pub fn is_any_after(options: Options, tokens: &[Token]) -> bool
-    ensures { result ≡ is_any_after options (flats tokens.now) }
+pub fn is_beginning(options: Options, tokens: &[Token]) -> bool
+    ensures { result ≡ is_beginning options (flats tokens.now) }
 {
     match tokens {
         [Token::RecursivePrefix] => true,
@@ -112,8 +113,8 @@ fn is_literals_star(tokens: &[Token]) -> bool
 }
 
 /// Whether the tokens are any literals and a last `RecursiveSuffix`.
-pub fn is_any_inside(tokens: &[Token]) -> bool
-    ensures { result ≡ is_any_inside (flats tokens.now) }
+pub fn is_below_folder(tokens: &[Token]) -> bool
+    ensures { result ≡ is_below_folder (flats tokens.now) }
 {
     let Some((last, before)) = tokens.split_last() else {
         return false;
@@ -127,7 +128,7 @@ pub fn is_by_last_component(options: Options, tokens: &[Token]) -> bool
 {
     match tokens {
         [Token::RecursivePrefix] => false,
-        [Token::RecursivePrefix, rest @ ..] => are_within(options, rest),
+        [Token::RecursivePrefix, rest @ ..] => match_no_slash(options, rest),
         _ => false,
     }
 }
@@ -145,11 +146,11 @@ fn are_literals_except(tokens: &[Token], excluded: &[char]) -> bool
 }
 
 /// Whether none of the tokens matches `/`.
-fn are_within(options: Options, tokens: &[Token]) -> bool
-    ensures { result ≡ all_simple_pass (is_within options) (flats tokens.now) }
+fn match_no_slash(options: Options, tokens: &[Token]) -> bool
+    ensures { result ≡ all_simple_pass (matches_no_slash options) (flats tokens.now) }
 {
     for token in tokens {
-        if !is_within(options, token) {
+        if !matches_no_slash(options, token) {
             return false;
         }
     }
@@ -181,8 +182,8 @@ fn is_recursive_suffix(token: &Token) -> bool
 }
 
 /// Whether the token matches nothing that has a `/`.
-fn is_within(options: Options, token: &Token) -> bool
-    ensures { result ≡ is_simple_that (is_within options) (flat_of token.now) }
+fn matches_no_slash(options: Options, token: &Token) -> bool
+    ensures { result ≡ is_simple_that (matches_no_slash options) (flat_of token.now) }
 {
     match token {
         Token::Literal(c) => *c != '/',
