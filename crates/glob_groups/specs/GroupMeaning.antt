@@ -55,8 +55,8 @@ runs_automaton ByLastComponent path = true
 runs_automaton ByPath path = true
 runs_automaton group path = false
 
--- The group is that of a glob with these tokens, what it says is so for every path, and it has an automaton run only where
--- the glob needs one.
+-- The group is that of the table, what it says of a glob with these tokens is so for every path, and it has an automaton run
+-- only where the glob needs one.
 pub record IsGroupOf (o : Options) (ts : Tokens) (group : Group) : Type 0 where
   pub in_table : group_seen group ≡ group_of_tokens o ts
   pub tells : (path : List ℕ) → Tells (group_seen group) o ts path

@@ -3,9 +3,8 @@
 ghost use Rattle.std.specs.Prelude.{◌≡◌, IfOk};
 ghost use Rattle.glob_syntax.specs.FlatTokens.{IsNested};
 ghost use Rattle.glob_syntax.specs.Views.{flats, tokens_of};
-ghost use Rattle.glob_groups.specs.Groups.{after_prefix};
+ghost use Rattle.glob_groups.specs.Groups.{after_prefix, automaton_group, sensitive_group};
 ghost use Rattle.glob_groups.specs.GroupMeaning.{IsGroupOf, group_seen};
-ghost use Rattle.glob_groups.specs.inner.FlatTests.{automaton_group, sensitive_group};
 
 mod conditions;
 mod key;
@@ -79,9 +78,12 @@ pub fn tokens_after_prefix(tokens: &[Token]) -> &[Token]
     tokens
 }
 
-/// The group of the tokens of a case-sensitive glob that is not silent.
+/// Returns the group of the tokens of a case-sensitive glob that is not silent.
+///
+/// Returns an error if memory runs out, and no other.
 fn sensitive_group(alloc: Global, options: Options, tokens: &[Token]) -> Result<Group, AllocError>
-    ensures { IfOk result (λ group. group_seen group ≡ sensitive_group options (flats tokens.now)) }
+    requires { IsNested (flats tokens.now) }
+    ensures { IfOk result (λ group. group_seen group ≡ sensitive_group options (tokens_of tokens.now)) }
 {
     if is_whole_path(tokens) {
         return Ok(Group::WholePath(literal_text(alloc, tokens)?));
@@ -110,9 +112,10 @@ fn sensitive_group(alloc: Global, options: Options, tokens: &[Token]) -> Result<
     Ok(automaton_group(options, tokens))
 }
 
-/// The group of tokens that no key decides.
+/// Returns the group of tokens that no key decides.
 fn automaton_group(options: Options, tokens: &[Token]) -> Group
-    ensures { group_seen result ≡ automaton_group options (flats tokens.now) }
+    requires { IsNested (flats tokens.now) }
+    ensures { group_seen result ≡ automaton_group options (tokens_of tokens.now) }
 {
     if is_by_last_component(options, tokens) {
         Group::ByLastComponent

@@ -22,37 +22,18 @@ use Rattle.glob_groups.proofs.lemmas.TokenMeaning.{whole_path_means, last_compon
 
 -- ---- choices by a test
 
--- two choices are the same if their tests are, and what they give
-choice_same : {A : Type 0} (a b : Bool) (x y z w : A) → a ≡ b → (a ≡ true → x ≡ z) → y ≡ w → (if a then x else y) ≡ (if b then z else w)
-choice_same true true x y z w e first second = first refl
-choice_same true false x y z w e first second = absurd (true≢false e)
-choice_same false true x y z w e first second = absurd (true≢false (sym e))
-choice_same false false x y z w e first second = second
-
 -- what holds of each result, where it is chosen, holds of the choice
 of_choice : {A : Type 0} (C : A → Type 0) (a : Bool) (x y : A) → (a ≡ true → C x) → (a ≡ false → C y) → C (if a then x else y)
 of_choice C true x y first second = first refl
 of_choice C false x y first second = second refl
 
--- ---- the group of tokens
+-- a row of the table whose test, as the program made it, holds
+pub row_fits : {A : Type 0} {found flat tree : Bool} {group : A} (x y : A) → flat ≡ tree → found ≡ flat → found ≡ true → group ≡ x → group ≡ (if tree then x else y)
+row_fits x y same made h e = e ∙ ap (λ b. if b then x else y) (sym h ∙ made ∙ same)
 
-automaton_same : (o : Options) (fs : List Flat) → IsNested fs → flat.automaton_group o fs ≡ automaton_group o (tree_of fs)
-automaton_same o fs n = ap (λ b. if b then ByLastComponent else ByPath) (by_last_component_same o fs n)
-
-ending_group_same : (o : Options) (fs : List Flat) → IsNested fs → (last : Option (List ℕ)) → flat.ending_group o fs last ≡ ending_group o (tree_of fs) last
-ending_group_same o fs n (Some key) = refl
-ending_group_same o fs n None = automaton_same o fs n
-
-sensitive_same : (o : Options) (fs : List Flat) → IsNested fs → flat.sensitive_group o fs ≡ sensitive_group o (tree_of fs)
-sensitive_same o fs n =
-    choice_same _ _ _ _ _ _ (whole_path_same fs n) (λ h. ap WholePath (whole_path_text fs h))
-    (choice_same _ _ _ _ _ _ (last_component_same fs n) (λ h. ap LastComponent (last_component_text fs h))
-    (choice_same _ _ _ _ _ _ (last_components_same fs n) (λ h. ap LastComponents (last_components_text fs h))
-    (choice_same _ _ _ _ _ _ (any_extension_same o fs n) (λ h. ap Extension (any_extension_text o fs h))
-    (choice_same _ _ _ _ _ _ (end_same o fs n) (λ h. ap End (end_text o fs h))
-    (choice_same _ _ _ _ _ _ (beginning_same o fs n) (λ h. ap Beginning (beginning_text o fs h))
-    (choice_same _ _ _ _ _ _ (below_folder_same fs n) (λ h. ap (λ text. Beginning (text ++ slash ∷ [])) (below_folder_text fs h))
-    (ap (flat.ending_group o fs) (ending_same fs n) ∙ ending_group_same o fs n (ending (tree_of fs)))))))))
+-- and one whose test fails
+pub row_fails : {A : Type 0} {found flat tree : Bool} {group : A} (x y : A) → flat ≡ tree → found ≡ flat → found ≡ false → group ≡ y → group ≡ (if tree then x else y)
+row_fails x y same made h e = e ∙ ap (λ b. if b then x else y) (sym h ∙ made ∙ same)
 
 -- ---- the group of a glob
 
@@ -60,13 +41,13 @@ pub silent_found : (o : Options) (ts : Tokens) → are_silent o ts ≡ true → 
 unfolding group_of_tokens
 silent_found o ts h = rw h refl
 
-pub insensitive_found : (o : Options) (fs : List Flat) (group : GroupValue) → are_silent o (tree_of fs) ≡ false → o.case_insensitive ≡ true → IsNested fs → group ≡ flat.automaton_group o fs → group ≡ group_of_tokens o (tree_of fs)
+pub insensitive_found : (o : Options) (ts : Tokens) (group : GroupValue) → are_silent o ts ≡ false → o.case_insensitive ≡ true → group ≡ automaton_group o ts → group ≡ group_of_tokens o ts
 unfolding group_of_tokens
-insensitive_found o fs group loud on n e = e ∙ automaton_same o fs n ∙ rw (loud, on) refl
+insensitive_found o ts group loud on e = e ∙ rw (loud, on) refl
 
-pub sensitive_found : (o : Options) (fs : List Flat) (group : GroupValue) → are_silent o (tree_of fs) ≡ false → o.case_insensitive ≡ false → IsNested fs → group ≡ flat.sensitive_group o fs → group ≡ group_of_tokens o (tree_of fs)
+pub sensitive_found : (o : Options) (ts : Tokens) (group : GroupValue) → are_silent o ts ≡ false → o.case_insensitive ≡ false → group ≡ sensitive_group o ts → group ≡ group_of_tokens o ts
 unfolding group_of_tokens
-sensitive_found o fs group loud off n e = e ∙ sensitive_same o fs n ∙ rw (loud, off) refl
+sensitive_found o ts group loud off e = e ∙ rw (loud, off) refl
 
 -- ---- what it says
 

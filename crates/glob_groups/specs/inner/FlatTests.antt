@@ -1,4 +1,4 @@
--- Tests of flat tokens, as the program makes them, and the group that follows from them.
+-- Tests of flat tokens, as the program makes them.
 use Rattle.std.specs.Prelude.{ℕ, Bool, false, not, ◌&&◌, ◌||◌, List, [], ◌∷◌, ◌++◌, Option, Some, None, if◌then◌else◌, encode_utf8}
 use Rattle.std.specs.List.{list_all}
 use Rattle.glob_syntax.specs.declared.options.Options.{Options}
@@ -8,7 +8,7 @@ use Rattle.glob_automaton.specs.Takes.{slash}
 use Rattle.glob_automaton.specs.TokenMeans.{is_prefix}
 use Rattle.glob_groups.specs.Silent.{is_dot}
 use Rattle.glob_groups.specs.TokenTests.{is_literal_except, is_star, is_suffix}
-use Rattle.glob_groups.specs.Groups.{GroupValue, WholePath, LastComponent, LastComponents, Extension, End, Beginning, RequiredExtension, ByLastComponent, ByPath, matches_no_slash}
+use Rattle.glob_groups.specs.Groups.{matches_no_slash}
 
 -- the token is no brace or comma, and passes the test
 abbrev pub is_simple_that : (Token → Bool) → Flat → Bool
@@ -101,23 +101,3 @@ is_by_last_component o ts = first_and_rest is_prefix (some_all_simple_pass (matc
 abbrev pub ending : List Flat → Option (List ℕ)
 ending [] = None
 ending (t ∷ ts) = if is_extension (t ∷ ts) then Some (literal_text (t ∷ ts)) else ending ts
-
--- the group of tokens that no key decides
-abbrev pub automaton_group : Options → List Flat → GroupValue
-automaton_group o ts = if is_by_last_component o ts then ByLastComponent else ByPath
-
--- the group of tokens with this ending
-abbrev pub ending_group : Options → List Flat → Option (List ℕ) → GroupValue
-ending_group o ts (Some key) = RequiredExtension key
-ending_group o ts None = automaton_group o ts
-
--- the group of the tokens of a case-sensitive glob that is not silent
-abbrev pub sensitive_group : Options → List Flat → GroupValue
-sensitive_group o ts =
-    if is_whole_path ts then WholePath (literal_text ts) else
-    (if is_last_component ts then LastComponent (literal_text ts) else
-    (if is_last_components ts then LastComponents (literal_text ts) else
-    (if is_any_extension o ts then Extension (literal_text ts) else
-    (if is_end o ts then End (literal_text ts) else
-    (if is_beginning o ts then Beginning (literal_text ts) else
-    (if is_below_folder ts then Beginning (literal_text ts ++ slash ∷ []) else ending_group o ts (ending ts)))))))
