@@ -53,17 +53,11 @@ abbrev pub runs_automaton : GroupValue → List ℕ → Bool
 runs_automaton (RequiredExtension key) path = bytes_eq key (component_extension path)
 runs_automaton ByLastComponent path = true
 runs_automaton ByPath path = true
-runs_automaton Silent path = false
-runs_automaton (WholePath key) path = false
-runs_automaton (LastComponent key) path = false
-runs_automaton (Extension key) path = false
-runs_automaton (LastComponents key) path = false
-runs_automaton (End key) path = false
-runs_automaton (Beginning key) path = false
+runs_automaton group path = false
 
--- The group is that of a glob with these tokens, what it says is so for every path, and it has an automaton run only where
--- the glob needs one.
+-- The group is that of the table, what it says of a glob with these tokens is so for every path, and it has an automaton run
+-- only where the glob needs one.
 pub record IsGroupOf (o : Options) (ts : Tokens) (group : Group) : Type 0 where
-  pub first : group_seen group ≡ group_of_tokens o ts
+  pub in_table : group_seen group ≡ group_of_tokens o ts
   pub tells : (path : List ℕ) → Tells (group_seen group) o ts path
   pub automaton : (path : List ℕ) → runs_automaton (group_seen group) path ≡ true → needs_automaton o ts path ≡ true

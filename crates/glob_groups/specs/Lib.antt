@@ -1,4 +1,5 @@
 pub mod Silent
+pub mod TokenTests
 pub mod Groups
 pub mod Direct
 pub mod GroupMeaning

@@ -1,19 +1,13 @@
 -- Tokens of silent globs, which a set leaves out.
 use Rattle.std.specs.Prelude.{ℕ, Bool, false, ◌&&◌, not, ◌==◌, List}
-use Rattle.glob_syntax.specs.Token.{Token, RecursivePrefix, Literal, Any, ZeroOrMore, RecursiveSuffix, RecursiveZeroOrMore, Class, Group, Tokens, end, and_then}
+use Rattle.glob_syntax.specs.Token.{Token, Literal, Tokens, end, and_then}
 use Rattle.glob_syntax.specs.declared.options.Options.{Options}
 use Rattle.glob_automaton.specs.TokenMeans.{is_prefix, means}
 
 -- The token is the literal `.`, whose code is 46. The class `[.]` is another token.
 abbrev pub is_dot : Token → Bool
 is_dot (Literal c) = c == 46
-is_dot Any = false
-is_dot ZeroOrMore = false
-is_dot RecursivePrefix = false
-is_dot RecursiveSuffix = false
-is_dot RecursiveZeroOrMore = false
-is_dot (Class negated rs) = false
-is_dot (Group bs) = false
+is_dot t = false
 
 -- The tokens are RecursivePrefix, the literal `.` and the literal `.`, and no more. `**/..`, `**/**/..` and `**/\..`
 -- all have these tokens.

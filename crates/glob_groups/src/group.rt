@@ -3,16 +3,15 @@
 ghost use Rattle.std.specs.Prelude.{◌≡◌, IfOk};
 ghost use Rattle.glob_syntax.specs.FlatTokens.{IsNested};
 ghost use Rattle.glob_syntax.specs.Views.{flats, tokens_of};
-ghost use Rattle.glob_groups.specs.Groups.{after_prefix};
+ghost use Rattle.glob_groups.specs.Groups.{after_prefix, automaton_group, sensitive_group};
 ghost use Rattle.glob_groups.specs.GroupMeaning.{IsGroupOf, group_seen};
-ghost use Rattle.glob_groups.specs.inner.FlatTests.{automaton_group, sensitive_group};
 
 mod conditions;
 mod key;
 
 use crate::silence::{is_recursive_prefix, is_silent};
 use conditions::{
-    is_any_after, is_any_before, is_any_extension, is_any_inside, is_by_last_component,
+    is_any_extension, is_beginning, is_below_folder, is_by_last_component, is_end,
     is_last_component, is_last_components, is_whole_path,
 };
 use glob_syntax::{Options, Token};
@@ -79,9 +78,12 @@ pub fn tokens_after_prefix(tokens: &[Token]) -> &[Token]
     tokens
 }
 
-/// The group of the tokens of a case-sensitive glob that is not silent.
+/// Returns the group of the tokens of a case-sensitive glob that is not silent.
+///
+/// Returns an error if memory runs out, and no other.
 fn sensitive_group(alloc: Global, options: Options, tokens: &[Token]) -> Result<Group, AllocError>
-    ensures { IfOk result (λ group. group_seen group ≡ sensitive_group options (flats tokens.now)) }
+    requires { IsNested (flats tokens.now) }
+    ensures { IfOk result (λ group. group_seen group ≡ sensitive_group options (tokens_of tokens.now)) }
 {
     if is_whole_path(tokens) {
         return Ok(Group::WholePath(literal_text(alloc, tokens)?));
@@ -95,13 +97,13 @@ fn sensitive_group(alloc: Global, options: Options, tokens: &[Token]) -> Result<
     if is_any_extension(options, tokens) {
         return Ok(Group::Extension(literal_text(alloc, tokens)?));
     }
-    if is_any_before(options, tokens) {
+    if is_end(options, tokens) {
         return Ok(Group::End(literal_text(alloc, tokens)?));
     }
-    if is_any_after(options, tokens) {
+    if is_beginning(options, tokens) {
         return Ok(Group::Beginning(literal_text(alloc, tokens)?));
     }
-    if is_any_inside(tokens) {
+    if is_below_folder(tokens) {
         return Ok(Group::Beginning(literal_text_and_slash(alloc, tokens)?));
     }
     if let Some(last) = ending(tokens) {
@@ -110,9 +112,10 @@ fn sensitive_group(alloc: Global, options: Options, tokens: &[Token]) -> Result<
     Ok(automaton_group(options, tokens))
 }
 
-/// The group of tokens that no key decides.
+/// Returns the group of tokens that no key decides.
 fn automaton_group(options: Options, tokens: &[Token]) -> Group
-    ensures { group_seen result ≡ automaton_group options (flats tokens.now) }
+    requires { IsNested (flats tokens.now) }
+    ensures { group_seen result ≡ automaton_group options (tokens_of tokens.now) }
 {
     if is_by_last_component(options, tokens) {
         Group::ByLastComponent

@@ -5,7 +5,8 @@ use Rattle.glob_syntax.specs.declared.options.Options.{Options}
 use Rattle.glob_syntax.specs.Token.{Tokens}
 use Rattle.glob_automaton.specs.TokenMeans.{is_prefix}
 use Rattle.glob_automaton.proofs.lemmas.Booleans.{and_none}
-use Rattle.glob_groups.specs.Groups.{first_and_rest, ending, is_whole_path, is_last_components, is_star_extension, is_any_extension, is_any_before, is_any_after, is_any_inside}
+use Rattle.glob_groups.specs.TokenTests.{first_and_rest, ending, is_whole_path, is_last_components, is_star_extension, is_end, is_beginning, is_below_folder}
+use Rattle.glob_groups.specs.Groups.{is_any_extension}
 use Rattle.glob_groups.specs.Direct.{is_direct, has_ending, needs_automaton}
 
 -- a case-insensitive glob is not direct
@@ -14,8 +15,8 @@ unfolding is_direct
 insensitive_not_direct o ts on = rw on refl
 
 -- neither is one whose tokens have none of the forms
-pub other_not_direct : (o : Options) (ts : Tokens) → is_whole_path ts ≡ false → is_last_components ts ≡ false → is_any_extension o ts ≡ false → is_any_before o ts ≡ false
-    → is_any_after o ts ≡ false → is_any_inside ts ≡ false → is_direct o ts ≡ false
+pub other_not_direct : (o : Options) (ts : Tokens) → is_whole_path ts ≡ false → is_last_components ts ≡ false → is_any_extension o ts ≡ false → is_end o ts ≡ false
+    → is_beginning o ts ≡ false → is_below_folder ts ≡ false → is_direct o ts ≡ false
 unfolding is_direct
 other_not_direct o ts a b c d e f =
     let g : first_and_rest is_prefix is_star_extension ts ≡ false = (or_parts (first_and_rest is_prefix is_star_extension ts) (not o.literal_separator && is_star_extension ts) c).0 in

@@ -12,7 +12,7 @@ use Rattle.glob_automaton.proofs.lemmas.Booleans.{and_first, and_second, or_eith
 use Rattle.glob_automaton.proofs.lemmas.Cuts.{empty_is}
 use Rattle.glob_automaton.proofs.lemmas.TokenLists.{prefix_is}
 use Rattle.glob_automaton.proofs.lemmas.TakesByParts.{Takes, TakesAll, suffix_takes, then_takes}
-use Rattle.glob_groups.specs.Groups.{is_star, is_suffix, has_tokens, are_literals, first_and_rest, literals_and_last, literal_text, is_whole_path, is_last_components, is_star_literals, is_any_before, is_any_after, is_any_inside}
+use Rattle.glob_groups.specs.TokenTests.{is_star, is_suffix, has_tokens, are_literals, first_and_rest, literals_and_last, literal_text, is_whole_path, is_last_components, is_star_literals, is_end, is_beginning, is_below_folder}
 use Rattle.glob_groups.proofs.lemmas.TokenMeaning.{iff_trans, literal_is, literals_take, means_taken, more_after, no_prefix, after_component, by_first, star_is, star_takes, star_literals_take}
 
 -- ---- last components
@@ -58,8 +58,8 @@ prefix_star_literals_means o b off all us h = iff_trans (means_taken o (and_then
   λ (x, is). (after_component o (and_then ZeroOrMore us) b).1 ([], b, refl, inl refl, (star_literals_take o b off us h).1 (x, sym is, star_takes o x all)),
 )
 
-pub any_before_means : (o : Options) (b : List ℕ) → o.case_insensitive ≡ false → (ts : Tokens) → is_any_before o ts ≡ true → EndsWithText o b ts
-any_before_means o b off ts h = ⊎_elim {C = EndsWithText o b ts}
+pub end_means : (o : Options) (b : List ℕ) → o.case_insensitive ≡ false → (ts : Tokens) → is_end o ts ≡ true → EndsWithText o b ts
+end_means o b off ts h = ⊎_elim {C = EndsWithText o b ts}
     (by_first (EndsWithText o b) is_prefix RecursivePrefix is_star_literals prefix_is
     (by_first (λ us. EndsWithText o b (and_then RecursivePrefix us)) is_star ZeroOrMore are_literals star_is (prefix_star_literals_means o b off all)) ts)
     (star_literals_means o b off all ts)
@@ -124,15 +124,15 @@ literals_star_means o b off all ts h =
     iff_trans (means_taken o ts b (last_no_prefix is_star (λ t e. ap is_prefix (star_is t e)) ts h))
     (λ p. let (y, e, q) = taken.0 p in (y, e), λ (y, e). taken.1 (y, e, star_takes o y all))
 
-pub any_after_means : (o : Options) (b : List ℕ) → o.case_insensitive ≡ false → (ts : Tokens) → is_any_after o ts ≡ true → BeginsWithText o b ts
-any_after_means o b off ts h = ⊎_elim {C = BeginsWithText o b ts}
+pub beginning_means : (o : Options) (b : List ℕ) → o.case_insensitive ≡ false → (ts : Tokens) → is_beginning o ts ≡ true → BeginsWithText o b ts
+beginning_means o b off ts h = ⊎_elim {C = BeginsWithText o b ts}
     (prefix_alone_means o b ts)
     (λ both. literals_star_means o b off (not-true o.literal_separator (and_first (not o.literal_separator) (literals_and_last is_star ts) both)) ts (and_second (not o.literal_separator) (literals_and_last is_star ts) both))
     (or_either (is_prefix_alone ts) (not o.literal_separator && literals_and_last is_star ts) h)
 
-pub any_inside_means : (o : Options) (b : List ℕ) → o.case_insensitive ≡ false → (ts : Tokens) → is_any_inside ts ≡ true
+pub below_folder_means : (o : Options) (b : List ℕ) → o.case_insensitive ≡ false → (ts : Tokens) → is_below_folder ts ≡ true
     → IsTrue (means o ts b) ↔ ((rest : List ℕ) × ((literal_text ts ++ slash ∷ []) ++ rest ≡ b))
-any_inside_means o b off ts h =
+below_folder_means o b off ts h =
     let t : List ℕ = literal_text ts in
     let taken = literals_last_take o off is_suffix RecursiveSuffix suffix_is refl ts b h in
     iff_trans (means_taken o ts b (last_no_prefix is_suffix (λ u e. ap is_prefix (suffix_is u e)) ts h)) (

@@ -11,7 +11,7 @@ use Rattle.glob_syntax.specs.Views.{flat_of, flats}
 use Rattle.glob_syntax.proofs.lemmas.FlatTokens.{depth}
 use Rattle.glob_automaton.proofs.lemmas.Booleans.{and_first, and_second, and_none}
 use Rattle.glob_groups.specs.Silent.{is_dot}
-use Rattle.glob_groups.specs.Groups as tree
+use Rattle.glob_groups.specs.TokenTests as tree
 use Rattle.glob_groups.specs.inner.FlatTests as flat
 use Rattle.glob_groups.specs.inner.FlatTests.{is_simple_that, all_simple_pass}
 use Rattle.glob_groups.proofs.lemmas.Silent.{dot_is, simple_is}

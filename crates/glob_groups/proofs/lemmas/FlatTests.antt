@@ -13,8 +13,10 @@ use Rattle.glob_automaton.specs.TokenMeans.{is_prefix}
 use Rattle.glob_automaton.specs.TokenMeans.{is_prefix_alone as tree_alone}
 use Rattle.glob_automaton.proofs.lemmas.Booleans.{and_first, and_second, and_none}
 use Rattle.glob_groups.specs.Silent.{is_dot}
-use Rattle.glob_groups.specs.Groups as tree
-use Rattle.glob_groups.specs.Groups.{is_literal_except, is_star, is_suffix, is_within, has_tokens, all_pass, some_all_pass}
+use Rattle.glob_groups.specs.Groups as groups
+use Rattle.glob_groups.specs.TokenTests as tree
+use Rattle.glob_groups.specs.TokenTests.{is_literal_except, is_star, is_suffix, has_tokens, all_pass, some_all_pass}
+use Rattle.glob_groups.specs.Groups.{matches_no_slash}
 use Rattle.glob_groups.specs.inner.FlatTests as flat
 use Rattle.glob_groups.specs.inner.FlatTests.{is_simple_that, all_simple_pass, some_all_simple_pass}
 
@@ -55,7 +57,7 @@ first_same test r here there same (closing ∷ ts) n = absurd n
 pub whole_path_same : (ts : List Flat) → IsNested ts → flat.is_whole_path ts ≡ tree.is_whole_path (tree_of ts)
 whole_path_same = some_same (is_literal_except []) (λ bs. refl)
 
-pub last_component_same : (ts : List Flat) → IsNested ts → flat.is_last_component ts ≡ tree.is_last_component (tree_of ts)
+pub last_component_same : (ts : List Flat) → IsNested ts → flat.is_last_component ts ≡ groups.is_last_component (tree_of ts)
 last_component_same =
     first_same is_prefix (λ bs. refl) (some_all_simple_pass (is_literal_except (slash ∷ []))) (some_all_pass (is_literal_except (slash ∷ [])))
     (some_same (is_literal_except (slash ∷ [])) (λ bs. refl))
@@ -73,15 +75,15 @@ extension_same = first_same is_dot (λ bs. refl) (all_simple_pass is_plain) (all
 star_extension_same : (ts : List Flat) → IsNested ts → flat.is_star_extension ts ≡ tree.is_star_extension (tree_of ts)
 star_extension_same = first_same is_star (λ bs. refl) flat.is_extension tree.is_extension extension_same
 
-pub any_extension_same : (o : Options) (ts : List Flat) → IsNested ts → flat.is_any_extension o ts ≡ tree.is_any_extension o (tree_of ts)
+pub any_extension_same : (o : Options) (ts : List Flat) → IsNested ts → flat.is_any_extension o ts ≡ groups.is_any_extension o (tree_of ts)
 any_extension_same o ts n = λ i.
     first_same is_prefix (λ bs. refl) flat.is_star_extension tree.is_star_extension star_extension_same ts n i || (not o.literal_separator && star_extension_same ts n i)
 
 star_literals_same : (ts : List Flat) → IsNested ts → flat.is_star_literals ts ≡ tree.is_star_literals (tree_of ts)
 star_literals_same = first_same is_star (λ bs. refl) flat.are_literals tree.are_literals (all_same (is_literal_except []) (λ bs. refl))
 
-pub any_before_same : (o : Options) (ts : List Flat) → IsNested ts → flat.is_any_before o ts ≡ tree.is_any_before o (tree_of ts)
-any_before_same o ts n = λ i.
+pub end_same : (o : Options) (ts : List Flat) → IsNested ts → flat.is_end o ts ≡ tree.is_end o (tree_of ts)
+end_same o ts n = λ i.
     not o.literal_separator && (first_same is_prefix (λ bs. refl) flat.is_star_literals tree.is_star_literals star_literals_same ts n i || star_literals_same ts n i)
 
 more_tokens : (test : Token → Bool) (t : Token) (ts : Tokens) → has_tokens ts ≡ true → tree.literals_and_last test (and_then t ts) ≡ (is_literal_except [] t && tree.literals_and_last test ts)
@@ -119,48 +121,48 @@ alone_same (opening ∷ (u ∷ us)) n = let (vs, e) = open_here (u ∷ us) n in 
 alone_same (comma ∷ ts) n = absurd n
 alone_same (closing ∷ ts) n = absurd n
 
-pub any_after_same : (o : Options) (ts : List Flat) → IsNested ts → flat.is_any_after o ts ≡ tree.is_any_after o (tree_of ts)
-any_after_same o ts n = λ i. alone_same ts n i || (not o.literal_separator && last_same is_star (λ bs. refl) ts n i)
+pub beginning_same : (o : Options) (ts : List Flat) → IsNested ts → flat.is_beginning o ts ≡ tree.is_beginning o (tree_of ts)
+beginning_same o ts n = λ i. alone_same ts n i || (not o.literal_separator && last_same is_star (λ bs. refl) ts n i)
 
-pub any_inside_same : (ts : List Flat) → IsNested ts → flat.is_any_inside ts ≡ tree.is_any_inside (tree_of ts)
-any_inside_same = last_same is_suffix (λ bs. refl)
+pub below_folder_same : (ts : List Flat) → IsNested ts → flat.is_below_folder ts ≡ tree.is_below_folder (tree_of ts)
+below_folder_same = last_same is_suffix (λ bs. refl)
 
-pub by_last_component_same : (o : Options) (ts : List Flat) → IsNested ts → flat.is_by_last_component o ts ≡ tree.is_by_last_component o (tree_of ts)
-by_last_component_same o = first_same is_prefix (λ bs. refl) (some_all_simple_pass (is_within o)) (some_all_pass (is_within o)) (some_same (is_within o) (λ bs. refl))
+pub by_last_component_same : (o : Options) (ts : List Flat) → IsNested ts → flat.is_by_last_component o ts ≡ groups.is_by_last_component o (tree_of ts)
+by_last_component_same o = first_same is_prefix (λ bs. refl) (some_all_simple_pass (matches_no_slash o)) (some_all_pass (matches_no_slash o)) (some_same (matches_no_slash o) (λ bs. refl))
 
 -- ---- tokens after RecursivePrefix
 
-after_prefix : (t : Flat) (ts : List Flat) → IsNested (t ∷ ts) → is_simple_that is_prefix t ≡ true → (tree_of ts ≡ tree.after_prefix (tree_of (t ∷ ts))) × IsNested ts
-after_prefix (simple t) ts n h = (sym (ap tree.after_prefix (tree_simple t ts) ∙ ap (λ b. if b then tree_of ts else and_then t (tree_of ts)) h), n)
+after_prefix : (t : Flat) (ts : List Flat) → IsNested (t ∷ ts) → is_simple_that is_prefix t ≡ true → (tree_of ts ≡ groups.after_prefix (tree_of (t ∷ ts))) × IsNested ts
+after_prefix (simple t) ts n h = (sym (ap groups.after_prefix (tree_simple t ts) ∙ ap (λ b. if b then tree_of ts else and_then t (tree_of ts)) h), n)
 after_prefix opening ts n h = absurd (true≢false (sym h))
 after_prefix comma ts n h = absurd n
 after_prefix closing ts n h = absurd n
 
-after_other : (t : Flat) (ts : List Flat) → IsNested (t ∷ ts) → is_simple_that is_prefix t ≡ false → tree_of (t ∷ ts) ≡ tree.after_prefix (tree_of (t ∷ ts))
+after_other : (t : Flat) (ts : List Flat) → IsNested (t ∷ ts) → is_simple_that is_prefix t ≡ false → tree_of (t ∷ ts) ≡ groups.after_prefix (tree_of (t ∷ ts))
 after_other (simple t) ts n h =
     let e = tree_simple t ts in
-    e ∙ sym (ap tree.after_prefix e ∙ ap (λ b. if b then tree_of ts else and_then t (tree_of ts)) h)
-after_other opening ts n h = let (us, e) = open_here ts n in e ∙ sym (ap tree.after_prefix e)
+    e ∙ sym (ap groups.after_prefix e ∙ ap (λ b. if b then tree_of ts else and_then t (tree_of ts)) h)
+after_other opening ts n h = let (us, e) = open_here ts n in e ∙ sym (ap groups.after_prefix e)
 after_other comma ts n h = absurd n
 after_other closing ts n h = absurd n
 
 -- the first token of a list is RecursivePrefix
 pub prefix_cut : (ts : List held.Token) (t : held.Token) (us : List held.Token) (whole : Tokens) → ts ≡ t ∷ us → IsNested (flats ts) → whole ≡ tokens_of ts → is_simple_that is_prefix (flat_of t) ≡ true
-    → (tokens_of us ≡ tree.after_prefix whole) × IsNested (flats us)
+    → (tokens_of us ≡ groups.after_prefix whole) × IsNested (flats us)
 prefix_cut ts t us whole e n w h =
     let cut : flats ts ≡ flat_of t ∷ flats us = ap flats e in
     let r = after_prefix (flat_of t) (flats us) (subst IsNested cut n) h in
-    (r.0 ∙ sym (ap tree.after_prefix (w ∙ ap tree_of cut)), r.1)
+    (r.0 ∙ sym (ap groups.after_prefix (w ∙ ap tree_of cut)), r.1)
 
 -- or it is not
 pub other_kept : (ts : List held.Token) (t : held.Token) (us : List held.Token) (whole : Tokens) → ts ≡ t ∷ us → IsNested (flats ts) → whole ≡ tokens_of ts → is_simple_that is_prefix (flat_of t) ≡ false
-    → tokens_of ts ≡ tree.after_prefix whole
+    → tokens_of ts ≡ groups.after_prefix whole
 other_kept ts t us whole e n w h =
     let cut : flats ts ≡ flat_of t ∷ flats us = ap flats e in
-    ap tree_of cut ∙ after_other (flat_of t) (flats us) (subst IsNested cut n) h ∙ sym (ap tree.after_prefix (w ∙ ap tree_of cut))
+    ap tree_of cut ∙ after_other (flat_of t) (flats us) (subst IsNested cut n) h ∙ sym (ap groups.after_prefix (w ∙ ap tree_of cut))
 
-pub none_kept : (ts : List held.Token) (whole : Tokens) → length ts ≡ 0 → whole ≡ tokens_of ts → tokens_of ts ≡ tree.after_prefix whole
-none_kept [] whole e w = sym (ap tree.after_prefix w)
+pub none_kept : (ts : List held.Token) (whole : Tokens) → length ts ≡ 0 → whole ≡ tokens_of ts → tokens_of ts ≡ groups.after_prefix whole
+none_kept [] whole e w = sym (ap groups.after_prefix w)
 none_kept (t ∷ ts) whole e w = absurd (omega arith)
 
 -- ---- texts
@@ -228,8 +230,8 @@ any_extension_text o ts h =
 star_literals_simple : (ts : List Flat) → flat.is_star_literals ts ≡ true → AreSimple ts
 star_literals_simple = first_simple is_star flat.are_literals (all_simple (is_literal_except []))
 
-pub any_before_text : (o : Options) (ts : List Flat) → flat.is_any_before o ts ≡ true → flat.literal_text ts ≡ tree.literal_text (tree_of ts)
-any_before_text o ts h =
+pub end_text : (o : Options) (ts : List Flat) → flat.is_end o ts ≡ true → flat.literal_text ts ≡ tree.literal_text (tree_of ts)
+end_text o ts h =
     text_same ts (either_simple (flat.first_and_rest is_prefix flat.is_star_literals ts) true (flat.is_star_literals ts) ts
     (first_simple is_prefix flat.is_star_literals star_literals_simple ts) (star_literals_simple ts)
     (and_second (not o.literal_separator) (flat.first_and_rest is_prefix flat.is_star_literals ts || flat.is_star_literals ts) h))
@@ -246,12 +248,12 @@ alone_simple [] h = tt
 alone_simple (t ∷ []) h = (simple_that is_prefix t h, tt)
 alone_simple (t ∷ (u ∷ us)) h = absurd (true≢false (sym h))
 
-pub any_after_text : (o : Options) (ts : List Flat) → flat.is_any_after o ts ≡ true → flat.literal_text ts ≡ tree.literal_text (tree_of ts)
-any_after_text o ts h =
+pub beginning_text : (o : Options) (ts : List Flat) → flat.is_beginning o ts ≡ true → flat.literal_text ts ≡ tree.literal_text (tree_of ts)
+beginning_text o ts h =
     text_same ts (either_simple (flat.is_prefix_alone ts) (not o.literal_separator) (flat.literals_and_last is_star ts) ts (alone_simple ts) (last_simple is_star ts) h)
 
-pub any_inside_text : (ts : List Flat) → flat.is_any_inside ts ≡ true → flat.literal_text ts ≡ tree.literal_text (tree_of ts)
-any_inside_text ts h = text_same ts (last_simple is_suffix ts h)
+pub below_folder_text : (ts : List Flat) → flat.is_below_folder ts ≡ true → flat.literal_text ts ≡ tree.literal_text (tree_of ts)
+below_folder_text ts h = text_same ts (last_simple is_suffix ts h)
 
 -- ---- literals and one last token, as the program finds them
 

@@ -8,50 +8,32 @@ use Rattle.glob_automaton.specs.Takes.{slash}
 use Rattle.glob_automaton.specs.TokenMeans.{means}
 use Rattle.glob_path.specs.PathParts.{last_component, component_extension}
 use Rattle.glob_groups.specs.Silent.{are_silent, are_listed}
-use Rattle.glob_groups.specs.Groups.{GroupValue, Silent, WholePath, LastComponent, LastComponents, Extension, End, Beginning, ByLastComponent, ByPath, literal_text, ending, is_whole_path, is_last_component, is_last_components, is_any_extension, is_any_before, is_any_after, is_any_inside, is_by_last_component, automaton_group, ending_group, sensitive_group, group_of_tokens}
+use Rattle.glob_groups.specs.TokenTests.{literal_text, ending, is_whole_path, is_last_components, is_end, is_beginning, is_below_folder}
+use Rattle.glob_groups.specs.Groups.{GroupValue, Silent, WholePath, LastComponent, LastComponents, Extension, End, Beginning, ByLastComponent, ByPath, is_last_component, is_any_extension, is_by_last_component, automaton_group, ending_group, sensitive_group, group_of_tokens}
 use Rattle.glob_groups.specs.GroupMeaning.{group_seen, Tells, runs_automaton, IsGroupOf}
 use Rattle.glob_groups.specs.Direct.{is_direct, has_ending, needs_automaton}
 use Rattle.glob_groups.specs.declared.group.Group.{Group}
 use Rattle.glob_groups.specs.inner.FlatTests as flat
 use Rattle.glob_groups.proofs.lemmas.Endings.{ending_same}
-use Rattle.glob_groups.proofs.lemmas.FlatTests.{whole_path_same, last_component_same, last_components_same, any_extension_same, any_before_same, any_after_same, any_inside_same, by_last_component_same, whole_path_text, last_component_text, last_components_text, any_extension_text, any_before_text, any_after_text, any_inside_text}
+use Rattle.glob_groups.proofs.lemmas.FlatTests.{whole_path_same, last_component_same, last_components_same, any_extension_same, end_same, beginning_same, below_folder_same, by_last_component_same, whole_path_text, last_component_text, last_components_text, any_extension_text, end_text, beginning_text, below_folder_text}
 use Rattle.glob_groups.proofs.lemmas.Direct.{other_not_direct, ending_needs, insensitive_needs}
-use Rattle.glob_groups.proofs.lemmas.EndMeaning.{last_components_means, any_before_means, any_after_means, any_inside_means}
+use Rattle.glob_groups.proofs.lemmas.EndMeaning.{last_components_means, end_means, beginning_means, below_folder_means}
 use Rattle.glob_groups.proofs.lemmas.TokenMeaning.{whole_path_means, last_component_means, any_extension_means, ending_required, by_last_component_means}
 
 -- ---- choices by a test
-
--- two choices are the same if their tests are, and what they give
-choice_same : {A : Type 0} (a b : Bool) (x y z w : A) → a ≡ b → (a ≡ true → x ≡ z) → y ≡ w → (if a then x else y) ≡ (if b then z else w)
-choice_same true true x y z w e first second = first refl
-choice_same true false x y z w e first second = absurd (true≢false e)
-choice_same false true x y z w e first second = absurd (true≢false (sym e))
-choice_same false false x y z w e first second = second
 
 -- what holds of each result, where it is chosen, holds of the choice
 of_choice : {A : Type 0} (C : A → Type 0) (a : Bool) (x y : A) → (a ≡ true → C x) → (a ≡ false → C y) → C (if a then x else y)
 of_choice C true x y first second = first refl
 of_choice C false x y first second = second refl
 
--- ---- the group of tokens
+-- a row of the table whose test, as the program made it, holds
+pub row_fits : {A : Type 0} {found flat tree : Bool} {group : A} (x y : A) → flat ≡ tree → found ≡ flat → found ≡ true → group ≡ x → group ≡ (if tree then x else y)
+row_fits x y same made h e = e ∙ ap (λ b. if b then x else y) (sym h ∙ made ∙ same)
 
-automaton_same : (o : Options) (fs : List Flat) → IsNested fs → flat.automaton_group o fs ≡ automaton_group o (tree_of fs)
-automaton_same o fs n = ap (λ b. if b then ByLastComponent else ByPath) (by_last_component_same o fs n)
-
-ending_group_same : (o : Options) (fs : List Flat) → IsNested fs → (last : Option (List ℕ)) → flat.ending_group o fs last ≡ ending_group o (tree_of fs) last
-ending_group_same o fs n (Some key) = refl
-ending_group_same o fs n None = automaton_same o fs n
-
-sensitive_same : (o : Options) (fs : List Flat) → IsNested fs → flat.sensitive_group o fs ≡ sensitive_group o (tree_of fs)
-sensitive_same o fs n =
-    choice_same _ _ _ _ _ _ (whole_path_same fs n) (λ h. ap WholePath (whole_path_text fs h))
-    (choice_same _ _ _ _ _ _ (last_component_same fs n) (λ h. ap LastComponent (last_component_text fs h))
-    (choice_same _ _ _ _ _ _ (last_components_same fs n) (λ h. ap LastComponents (last_components_text fs h))
-    (choice_same _ _ _ _ _ _ (any_extension_same o fs n) (λ h. ap Extension (any_extension_text o fs h))
-    (choice_same _ _ _ _ _ _ (any_before_same o fs n) (λ h. ap End (any_before_text o fs h))
-    (choice_same _ _ _ _ _ _ (any_after_same o fs n) (λ h. ap Beginning (any_after_text o fs h))
-    (choice_same _ _ _ _ _ _ (any_inside_same fs n) (λ h. ap (λ text. Beginning (text ++ slash ∷ [])) (any_inside_text fs h))
-    (ap (flat.ending_group o fs) (ending_same fs n) ∙ ending_group_same o fs n (ending (tree_of fs)))))))))
+-- and one whose test fails
+pub row_fails : {A : Type 0} {found flat tree : Bool} {group : A} (x y : A) → flat ≡ tree → found ≡ flat → found ≡ false → group ≡ y → group ≡ (if tree then x else y)
+row_fails x y same made h e = e ∙ ap (λ b. if b then x else y) (sym h ∙ made ∙ same)
 
 -- ---- the group of a glob
 
@@ -59,13 +41,13 @@ pub silent_found : (o : Options) (ts : Tokens) → are_silent o ts ≡ true → 
 unfolding group_of_tokens
 silent_found o ts h = rw h refl
 
-pub insensitive_found : (o : Options) (fs : List Flat) (group : GroupValue) → are_silent o (tree_of fs) ≡ false → o.case_insensitive ≡ true → IsNested fs → group ≡ flat.automaton_group o fs → group ≡ group_of_tokens o (tree_of fs)
+pub insensitive_found : (o : Options) (ts : Tokens) (group : GroupValue) → are_silent o ts ≡ false → o.case_insensitive ≡ true → group ≡ automaton_group o ts → group ≡ group_of_tokens o ts
 unfolding group_of_tokens
-insensitive_found o fs group loud on n e = e ∙ automaton_same o fs n ∙ rw (loud, on) refl
+insensitive_found o ts group loud on e = e ∙ rw (loud, on) refl
 
-pub sensitive_found : (o : Options) (fs : List Flat) (group : GroupValue) → are_silent o (tree_of fs) ≡ false → o.case_insensitive ≡ false → IsNested fs → group ≡ flat.sensitive_group o fs → group ≡ group_of_tokens o (tree_of fs)
+pub sensitive_found : (o : Options) (ts : Tokens) (group : GroupValue) → are_silent o ts ≡ false → o.case_insensitive ≡ false → group ≡ sensitive_group o ts → group ≡ group_of_tokens o ts
 unfolding group_of_tokens
-sensitive_found o fs group loud off n e = e ∙ sensitive_same o fs n ∙ rw (loud, off) refl
+sensitive_found o ts group loud off e = e ∙ rw (loud, off) refl
 
 -- ---- what it says
 
@@ -90,9 +72,9 @@ sensitive_tells o ts path loud off =
     of_choice C (is_last_component ts) _ _ (λ h. subst (λ b. IsTrue b ↔ (last_component path ≡ literal_text ts)) (sym same) (last_component_means o path off ts h)) (λ b.
     of_choice C (is_last_components ts) _ _ (λ h. subst (λ b. IsTrue b ↔ ((path ≡ literal_text ts) ⊎ ((front : List ℕ) × (front ++ slash ∷ literal_text ts ≡ path)))) (sym same) (last_components_means o path off ts h)) (λ c.
     of_choice C (is_any_extension o ts) _ _ (λ h. subst (λ b. IsTrue b ↔ (component_extension path ≡ literal_text ts)) (sym same) (any_extension_means o path off ts h)) (λ d.
-    of_choice C (is_any_before o ts) _ _ (λ h. subst (λ b. IsTrue b ↔ ((front : List ℕ) × (front ++ literal_text ts ≡ path))) (sym same) (any_before_means o path off ts h)) (λ e.
-    of_choice C (is_any_after o ts) _ _ (λ h. subst (λ b. IsTrue b ↔ ((rest : List ℕ) × (literal_text ts ++ rest ≡ path))) (sym same) (any_after_means o path off ts h)) (λ f.
-    of_choice C (is_any_inside ts) _ _ (λ h. subst (λ b. IsTrue b ↔ ((rest : List ℕ) × ((literal_text ts ++ slash ∷ []) ++ rest ≡ path))) (sym same) (any_inside_means o path off ts h)) (λ g.
+    of_choice C (is_end o ts) _ _ (λ h. subst (λ b. IsTrue b ↔ ((front : List ℕ) × (front ++ literal_text ts ≡ path))) (sym same) (end_means o path off ts h)) (λ e.
+    of_choice C (is_beginning o ts) _ _ (λ h. subst (λ b. IsTrue b ↔ ((rest : List ℕ) × (literal_text ts ++ rest ≡ path))) (sym same) (beginning_means o path off ts h)) (λ f.
+    of_choice C (is_below_folder ts) _ _ (λ h. subst (λ b. IsTrue b ↔ ((rest : List ℕ) × ((literal_text ts ++ slash ∷ []) ++ rest ≡ path))) (sym same) (below_folder_means o path off ts h)) (λ g.
     ending_tells o ts path loud off (ending ts) refl)))))))
   where
     same : are_listed o ts path ≡ means o ts path
@@ -126,9 +108,9 @@ sensitive_runs o ts path =
     of_choice C (is_last_component ts) _ _ (λ h. never) (λ b.
     of_choice C (is_last_components ts) _ _ (λ h. never) (λ c.
     of_choice C (is_any_extension o ts) _ _ (λ h. never) (λ d.
-    of_choice C (is_any_before o ts) _ _ (λ h. never) (λ e.
-    of_choice C (is_any_after o ts) _ _ (λ h. never) (λ f.
-    of_choice C (is_any_inside ts) _ _ (λ h. never) (λ g.
+    of_choice C (is_end o ts) _ _ (λ h. never) (λ e.
+    of_choice C (is_beginning o ts) _ _ (λ h. never) (λ f.
+    of_choice C (is_below_folder ts) _ _ (λ h. never) (λ g.
     ending_runs o ts path (other_not_direct o ts a c d e f g) (ending ts) refl)))))))
   where
     C : GroupValue → Type 0
@@ -145,7 +127,7 @@ runs_of o ts path =
 
 pub is_group : (o : Options) (ts : Tokens) (group : Group) → group_seen group ≡ group_of_tokens o ts → IsGroupOf o ts group
 is_group o ts group e = record {
-  first = e;
+  in_table = e;
   tells = λ path. subst (λ s. Tells s o ts path) (sym e) (tells_of o ts path);
   automaton = λ path. subst (RunsNeeded o ts path) (sym e) (runs_of o ts path);
 }

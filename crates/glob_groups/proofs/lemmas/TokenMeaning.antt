@@ -20,7 +20,8 @@ use Rattle.glob_automaton.proofs.lemmas.Takes.{one_byte}
 use Rattle.glob_automaton.proofs.lemmas.TokenLists.{prefix_is}
 use Rattle.glob_automaton.proofs.lemmas.TakesByParts.{Takes, TakesAll, equal_bytes, prefix_takes, then_takes}
 use Rattle.glob_groups.specs.Silent as silent
-use Rattle.glob_groups.specs.Groups.{is_star, is_literal_except, is_within, has_tokens, all_pass, first_and_rest, some_all_pass, after_prefix, literal_text, is_extension, ending, is_whole_path, is_last_component, is_star_extension, is_any_extension, is_by_last_component}
+use Rattle.glob_groups.specs.TokenTests.{is_star, is_literal_except, has_tokens, all_pass, first_and_rest, some_all_pass, literal_text, is_extension, ending, is_whole_path, is_star_extension}
+use Rattle.glob_groups.specs.Groups.{matches_no_slash, after_prefix, is_last_component, is_any_extension, is_by_last_component}
 use Rattle.glob_groups.proofs.lemmas.Silent.{dot_is}
 use Rattle.glob_groups.proofs.lemmas.Components.{EndsWith, Lacks, neither, lacks_cons, lacks_append, lacks_front, encode_lacks, EndsComponent, last_component_at, split, IsExtension, extension_ends, extension_parts}
 
@@ -146,7 +147,7 @@ all_wild_lacks o (c ∷ cs) on h =
 has_other : (had : ℕ → Bool) → had slash ≡ false → (c : ℕ) → had c ≡ true → (c == slash) ≡ false
 has_other had none c h = ne_eqb c slash (λ e. true≢false (sym h ∙ ap had e ∙ none))
 
-within_lacks : (o : Options) (t : Token) (b : List ℕ) → is_within o t ≡ true → Takes o t b → Lacks is_separator b
+within_lacks : (o : Options) (t : Token) (b : List ℕ) → matches_no_slash o t ≡ true → Takes o t b → Lacks is_separator b
 within_lacks o (Literal c) b w h =
     let same : compared o b ≡ compared o (encode_utf8 c) = (equal_bytes (compared o b) (compared o (encode_utf8 c))).1 h in
     sym (compared_position b o.case_insensitive) ∙ ap (last_position is_separator) same ∙ compared_position (encode_utf8 c) o.case_insensitive
@@ -156,26 +157,26 @@ within_lacks o ZeroOrMore b w h = all_wild_lacks o b w h
 within_lacks o (Class negated rs) b w h = one_lacks (class_has o negated rs) b (has_other (class_has o negated rs) (not-true (class_has o negated rs slash) w)) h
 within_lacks o t b w h = absurd (true≢false (sym w))
 
-within_all : (o : Options) (ts : Tokens) → all_pass (is_within o) ts ≡ true → (b : List ℕ) → TakesAll o ts b → Lacks is_separator b
+within_all : (o : Options) (ts : Tokens) → all_pass (matches_no_slash o) ts ≡ true → (b : List ℕ) → TakesAll o ts b → Lacks is_separator b
 within_all o end w b h = subst (Lacks is_separator) (sym (empty_is b h)) refl
 within_all o (and_then t ts) w b h =
     let (x, y, cut, p, q) = (then_takes o t ts b).1 h in
     subst (Lacks is_separator) (sym cut)
-    (lacks_append is_separator x y (within_lacks o t x (and_first (is_within o t) (all_pass (is_within o) ts) w) p) (within_all o ts (and_second (is_within o t) (all_pass (is_within o) ts) w) y q))
+    (lacks_append is_separator x y (within_lacks o t x (and_first (matches_no_slash o t) (all_pass (matches_no_slash o) ts) w) p) (within_all o ts (and_second (matches_no_slash o t) (all_pass (matches_no_slash o) ts) w) y q))
 
-within_no_prefix : (o : Options) (t : Token) → is_within o t ≡ true → is_prefix t ≡ false
+within_no_prefix : (o : Options) (t : Token) → matches_no_slash o t ≡ true → is_prefix t ≡ false
 within_no_prefix o RecursivePrefix h = absurd (true≢false (sym h))
 within_no_prefix o t h = refl
 
-within_not_alone : (o : Options) (ts : Tokens) → all_pass (is_within o) ts ≡ true → is_prefix_alone ts ≡ false
+within_not_alone : (o : Options) (ts : Tokens) → all_pass (matches_no_slash o) ts ≡ true → is_prefix_alone ts ≡ false
 within_not_alone o end h = refl
-within_not_alone o (and_then t ts) h = no_prefix t ts (within_no_prefix o t (and_first (is_within o t) (all_pass (is_within o) ts) h))
+within_not_alone o (and_then t ts) h = no_prefix t ts (within_no_prefix o t (and_first (matches_no_slash o t) (all_pass (matches_no_slash o) ts) h))
 
 pub by_last_component_means : (o : Options) (b : List ℕ) (ts : Tokens) → is_by_last_component o ts ≡ true → means o ts b ≡ means o (after_prefix ts) (last_component b)
-by_last_component_means o b = by_first (λ ts. means o ts b ≡ means o (after_prefix ts) (last_component b)) is_prefix RecursivePrefix (some_all_pass (is_within o)) prefix_is
+by_last_component_means o b = by_first (λ ts. means o ts b ≡ means o (after_prefix ts) (last_component b)) is_prefix RecursivePrefix (some_all_pass (matches_no_slash o)) prefix_is
     (λ us h.
-    let all : all_pass (is_within o) us ≡ true = and_second (has_tokens us) (all_pass (is_within o) us) h in
-    let component = by_component o us b (and_first (has_tokens us) (all_pass (is_within o) us) h) (within_all o us all) in
+    let all : all_pass (matches_no_slash o) us ≡ true = and_second (has_tokens us) (all_pass (matches_no_slash o) us) h in
+    let component = by_component o us b (and_first (has_tokens us) (all_pass (matches_no_slash o) us) h) (within_all o us all) in
     let same = means_taken o us (last_component b) (within_not_alone o us all) in
     same_truth (means o (and_then RecursivePrefix us) b) (means o us (last_component b)) (λ p. same.1 (component.0 p), λ p. component.1 (same.0 p)))
 

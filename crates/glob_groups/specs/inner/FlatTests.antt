@@ -1,4 +1,4 @@
--- Tests of flat tokens, as the program makes them, and the group that follows from them.
+-- Tests of flat tokens, as the program makes them.
 use Rattle.std.specs.Prelude.{ℕ, Bool, false, not, ◌&&◌, ◌||◌, List, [], ◌∷◌, ◌++◌, Option, Some, None, if◌then◌else◌, encode_utf8}
 use Rattle.std.specs.List.{list_all}
 use Rattle.glob_syntax.specs.declared.options.Options.{Options}
@@ -7,7 +7,8 @@ use Rattle.glob_syntax.specs.FlatTokens.{Flat, simple, opening, comma, closing}
 use Rattle.glob_automaton.specs.Takes.{slash}
 use Rattle.glob_automaton.specs.TokenMeans.{is_prefix}
 use Rattle.glob_groups.specs.Silent.{is_dot}
-use Rattle.glob_groups.specs.Groups.{GroupValue, WholePath, LastComponent, LastComponents, Extension, End, Beginning, RequiredExtension, ByLastComponent, ByPath, is_literal_except, is_star, is_suffix, is_within}
+use Rattle.glob_groups.specs.TokenTests.{is_literal_except, is_star, is_suffix}
+use Rattle.glob_groups.specs.Groups.{matches_no_slash}
 
 -- the token is no brace or comma, and passes the test
 abbrev pub is_simple_that : (Token → Bool) → Flat → Bool
@@ -81,42 +82,22 @@ abbrev pub is_star_literals : List Flat → Bool
 is_star_literals ts = first_and_rest is_star are_literals ts
 
 -- `*` that matches `/`, and any literals; or RecursivePrefix before these
-abbrev pub is_any_before : Options → List Flat → Bool
-is_any_before o ts = not o.literal_separator && (first_and_rest is_prefix is_star_literals ts || is_star_literals ts)
+abbrev pub is_end : Options → List Flat → Bool
+is_end o ts = not o.literal_separator && (first_and_rest is_prefix is_star_literals ts || is_star_literals ts)
 
 -- any literals and a last `*` that matches `/`; or RecursivePrefix alone
-abbrev pub is_any_after : Options → List Flat → Bool
-is_any_after o ts = is_prefix_alone ts || (not o.literal_separator && literals_and_last is_star ts)
+abbrev pub is_beginning : Options → List Flat → Bool
+is_beginning o ts = is_prefix_alone ts || (not o.literal_separator && literals_and_last is_star ts)
 
 -- any literals and a last RecursiveSuffix
-abbrev pub is_any_inside : List Flat → Bool
-is_any_inside ts = literals_and_last is_suffix ts
+abbrev pub is_below_folder : List Flat → Bool
+is_below_folder ts = literals_and_last is_suffix ts
 
 -- RecursivePrefix, and one or more tokens of which none matches `/`
 abbrev pub is_by_last_component : Options → List Flat → Bool
-is_by_last_component o ts = first_and_rest is_prefix (some_all_simple_pass (is_within o)) ts
+is_by_last_component o ts = first_and_rest is_prefix (some_all_simple_pass (matches_no_slash o)) ts
 
 -- the bytes of the last tokens that are an extension, if any are
 abbrev pub ending : List Flat → Option (List ℕ)
 ending [] = None
 ending (t ∷ ts) = if is_extension (t ∷ ts) then Some (literal_text (t ∷ ts)) else ending ts
-
--- the group of tokens that no key decides
-abbrev pub automaton_group : Options → List Flat → GroupValue
-automaton_group o ts = if is_by_last_component o ts then ByLastComponent else ByPath
-
--- the group of tokens with this ending
-abbrev pub ending_group : Options → List Flat → Option (List ℕ) → GroupValue
-ending_group o ts (Some key) = RequiredExtension key
-ending_group o ts None = automaton_group o ts
-
--- the group of the tokens of a case-sensitive glob that is not silent
-abbrev pub sensitive_group : Options → List Flat → GroupValue
-sensitive_group o ts =
-    if is_whole_path ts then WholePath (literal_text ts) else
-    (if is_last_component ts then LastComponent (literal_text ts) else
-    (if is_last_components ts then LastComponents (literal_text ts) else
-    (if is_any_extension o ts then Extension (literal_text ts) else
-    (if is_any_before o ts then End (literal_text ts) else
-    (if is_any_after o ts then Beginning (literal_text ts) else
-    (if is_any_inside ts then Beginning (literal_text ts ++ slash ∷ []) else ending_group o ts (ending ts)))))))

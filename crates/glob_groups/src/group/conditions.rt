@@ -2,12 +2,13 @@
 
 ghost use Rattle.std.specs.Prelude.{◌≡◌};
 ghost use Rattle.glob_syntax.specs.Views.{flat_of, flats};
-ghost use Rattle.glob_groups.specs.Groups.{is_literal_except, is_star, is_suffix, is_within};
-ghost use Rattle.glob_groups.specs.inner.FlatTests.{all_simple_pass, is_any_after, is_any_before, is_any_extension, is_any_inside, is_by_last_component, is_extension, is_last_component, is_last_components, is_simple_that, is_star_extension, is_star_literals, is_whole_path, literals_and_last};
+ghost use Rattle.glob_groups.specs.TokenTests.{is_literal_except, is_star, is_suffix};
+ghost use Rattle.glob_groups.specs.Groups.{matches_no_slash};
+ghost use Rattle.glob_groups.specs.inner.FlatTests.{all_simple_pass, is_beginning, is_end, is_any_extension, is_below_folder, is_by_last_component, is_extension, is_last_component, is_last_components, is_simple_that, is_star_extension, is_star_literals, is_whole_path, literals_and_last};
 
 use glob_syntax::{Options, Token};
 
-/// Whether the tokens are one or more literals.
+/// Returns whether the tokens are one or more literals.
 pub fn is_whole_path(tokens: &[Token]) -> bool
     ensures { result ≡ is_whole_path (flats tokens.now) }
 {
@@ -17,7 +18,7 @@ pub fn is_whole_path(tokens: &[Token]) -> bool
     are_literals_except(tokens, [].as_slice())
 }
 
-/// Whether the tokens are `RecursivePrefix` and one or more literals other than `/`.
+/// Returns whether the tokens are `RecursivePrefix` and one or more literals other than `/`.
 pub fn is_last_component(tokens: &[Token]) -> bool
     ensures { result ≡ is_last_component (flats tokens.now) }
 {
@@ -28,7 +29,7 @@ pub fn is_last_component(tokens: &[Token]) -> bool
     }
 }
 
-/// Whether the tokens are `RecursivePrefix` and one or more literals.
+/// Returns whether the tokens are `RecursivePrefix` and one or more literals.
 pub fn is_last_components(tokens: &[Token]) -> bool
     ensures { result ≡ is_last_components (flats tokens.now) }
 {
@@ -38,7 +39,8 @@ pub fn is_last_components(tokens: &[Token]) -> bool
     }
 }
 
-/// Whether the tokens are `RecursivePrefix`, `*` and an extension; or the same without `RecursivePrefix`, if `*` matches `/`.
+/// Returns whether the tokens are `RecursivePrefix`, `*` and an extension; or the same without `RecursivePrefix`, if `*`
+/// matches `/`.
 pub fn is_any_extension(options: Options, tokens: &[Token]) -> bool
     ensures { result ≡ is_any_extension options (flats tokens.now) }
 {
@@ -48,7 +50,7 @@ pub fn is_any_extension(options: Options, tokens: &[Token]) -> bool
     }
 }
 
-/// Whether the tokens are `*` and an extension.
+/// Returns whether the tokens are `*` and an extension.
 fn is_star_extension(tokens: &[Token]) -> bool
     ensures { result ≡ is_star_extension (flats tokens.now) }
 {
@@ -58,7 +60,7 @@ fn is_star_extension(tokens: &[Token]) -> bool
     }
 }
 
-/// Whether the tokens are a literal `.` and any literals other than `.` and `/`.
+/// Returns whether the tokens are a literal `.` and any literals other than `.` and `/`.
 fn is_extension(tokens: &[Token]) -> bool
     ensures { result ≡ is_extension (flats tokens.now) }
 {
@@ -68,9 +70,9 @@ fn is_extension(tokens: &[Token]) -> bool
     }
 }
 
-/// Whether the tokens are `*` that matches `/`, and any literals; or `RecursivePrefix` before these.
-pub fn is_any_before(options: Options, tokens: &[Token]) -> bool
-    ensures { result ≡ is_any_before options (flats tokens.now) }
+/// Returns whether the tokens are `*` that matches `/`, and any literals; or `RecursivePrefix` before these.
+pub fn is_end(options: Options, tokens: &[Token]) -> bool
+    ensures { result ≡ is_end options (flats tokens.now) }
 {
     if options.literal_separator {
         return false;
@@ -81,7 +83,7 @@ pub fn is_any_before(options: Options, tokens: &[Token]) -> bool
     }
 }
 
-/// Whether the tokens are `*` and any literals.
+/// Returns whether the tokens are `*` and any literals.
 fn is_star_literals(tokens: &[Token]) -> bool
     ensures { result ≡ is_star_literals (flats tokens.now) }
 {
@@ -91,9 +93,9 @@ fn is_star_literals(tokens: &[Token]) -> bool
     }
 }
 
-/// Whether the tokens are any literals and a last `*` that matches `/`; or `RecursivePrefix` alone.
-pub fn is_any_after(options: Options, tokens: &[Token]) -> bool
-    ensures { result ≡ is_any_after options (flats tokens.now) }
+/// Returns whether the tokens are any literals and a last `*` that matches `/`; or `RecursivePrefix` alone.
+pub fn is_beginning(options: Options, tokens: &[Token]) -> bool
+    ensures { result ≡ is_beginning options (flats tokens.now) }
 {
     match tokens {
         [Token::RecursivePrefix] => true,
@@ -101,7 +103,7 @@ pub fn is_any_after(options: Options, tokens: &[Token]) -> bool
     }
 }
 
-/// Whether the tokens are any literals and a last `*`.
+/// Returns whether the tokens are any literals and a last `*`.
 fn is_literals_star(tokens: &[Token]) -> bool
     ensures { result ≡ literals_and_last is_star (flats tokens.now) }
 {
@@ -111,9 +113,9 @@ fn is_literals_star(tokens: &[Token]) -> bool
     is_star(last) && are_literals_except(before, [].as_slice())
 }
 
-/// Whether the tokens are any literals and a last `RecursiveSuffix`.
-pub fn is_any_inside(tokens: &[Token]) -> bool
-    ensures { result ≡ is_any_inside (flats tokens.now) }
+/// Returns whether the tokens are any literals and a last `RecursiveSuffix`.
+pub fn is_below_folder(tokens: &[Token]) -> bool
+    ensures { result ≡ is_below_folder (flats tokens.now) }
 {
     let Some((last, before)) = tokens.split_last() else {
         return false;
@@ -121,18 +123,18 @@ pub fn is_any_inside(tokens: &[Token]) -> bool
     is_recursive_suffix(last) && are_literals_except(before, [].as_slice())
 }
 
-/// Whether the tokens are `RecursivePrefix` and one or more tokens of which none matches `/`.
+/// Returns whether the tokens are `RecursivePrefix` and one or more tokens of which none matches `/`.
 pub fn is_by_last_component(options: Options, tokens: &[Token]) -> bool
     ensures { result ≡ is_by_last_component options (flats tokens.now) }
 {
     match tokens {
         [Token::RecursivePrefix] => false,
-        [Token::RecursivePrefix, rest @ ..] => are_within(options, rest),
+        [Token::RecursivePrefix, rest @ ..] => match_no_slash(options, rest),
         _ => false,
     }
 }
 
-/// Whether each token is a literal whose character is not one of these.
+/// Returns whether each token is a literal whose character is not one of these.
 fn are_literals_except(tokens: &[Token], excluded: &[char]) -> bool
     ensures { result ≡ all_simple_pass (is_literal_except excluded.now) (flats tokens.now) }
 {
@@ -144,19 +146,19 @@ fn are_literals_except(tokens: &[Token], excluded: &[char]) -> bool
     true
 }
 
-/// Whether none of the tokens matches `/`.
-fn are_within(options: Options, tokens: &[Token]) -> bool
-    ensures { result ≡ all_simple_pass (is_within options) (flats tokens.now) }
+/// Returns whether each token is one of those that match no `/`.
+fn match_no_slash(options: Options, tokens: &[Token]) -> bool
+    ensures { result ≡ all_simple_pass (matches_no_slash options) (flats tokens.now) }
 {
     for token in tokens {
-        if !is_within(options, token) {
+        if !matches_no_slash(options, token) {
             return false;
         }
     }
     true
 }
 
-/// Whether the token is a literal whose character is not one of these.
+/// Returns whether the token is a literal whose character is not one of these.
 pub fn is_literal_except(token: &Token, excluded: &[char]) -> bool
     ensures { result ≡ is_simple_that (is_literal_except excluded.now) (flat_of token.now) }
 {
@@ -166,23 +168,24 @@ pub fn is_literal_except(token: &Token, excluded: &[char]) -> bool
     }
 }
 
-/// Whether the token is `*`.
+/// Returns whether the token is `*`.
 fn is_star(token: &Token) -> bool
     ensures { result ≡ is_simple_that is_star (flat_of token.now) }
 {
     matches!(token, Token::ZeroOrMore)
 }
 
-/// Whether the token is `RecursiveSuffix`.
+/// Returns whether the token is `RecursiveSuffix`.
 fn is_recursive_suffix(token: &Token) -> bool
     ensures { result ≡ is_simple_that is_suffix (flat_of token.now) }
 {
     matches!(token, Token::RecursiveSuffix)
 }
 
-/// Whether the token matches nothing that has a `/`.
-fn is_within(options: Options, token: &Token) -> bool
-    ensures { result ≡ is_simple_that (is_within options) (flat_of token.now) }
+/// Returns whether the token is one of those that match no `/`: a literal other than `/`, a class without `/`, or with
+/// `literal_separator` `?` or `*`.
+fn matches_no_slash(options: Options, token: &Token) -> bool
+    ensures { result ≡ is_simple_that (matches_no_slash options) (flat_of token.now) }
 {
     match token {
         Token::Literal(c) => *c != '/',

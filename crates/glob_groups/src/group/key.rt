@@ -11,7 +11,9 @@ use crate::silence::is_dot;
 use glob_syntax::Token;
 use std::alloc::{AllocError, Global};
 
-/// The bytes of the tokens that are literals, in order.
+/// Returns the bytes of the tokens that are literals, in order.
+///
+/// Returns an error if memory runs out, and no other.
 pub fn literal_text(alloc: Global, tokens: &[Token]) -> Result<Vec<u8>, AllocError>
     ensures { IfOk result (λ text. text.items ≡ literal_text (flats tokens.now)) }
 {
@@ -24,7 +26,9 @@ pub fn literal_text(alloc: Global, tokens: &[Token]) -> Result<Vec<u8>, AllocErr
     Ok(text.into_bytes())
 }
 
-/// The bytes of the tokens that are literals, in order, and `/`.
+/// Returns the bytes of the tokens that are literals, in order, and `/`.
+///
+/// Returns an error if memory runs out, and no other.
 pub fn literal_text_and_slash(alloc: Global, tokens: &[Token]) -> Result<Vec<u8>, AllocError>
     ensures { IfOk result (λ text. text.items ≡ literal_text (flats tokens.now) ++ slash ∷ []) }
 {
@@ -33,8 +37,8 @@ pub fn literal_text_and_slash(alloc: Global, tokens: &[Token]) -> Result<Vec<u8>
     Ok(text)
 }
 
-/// The tokens from the last literal `.` on, if all tokens after it are literals other than `/`. It reads the tokens from the
-/// end to that `.`, or to the first one that is not such a literal.
+/// Returns the tokens from the last literal `.` on if all tokens after it are literals other than `/`, and `None` otherwise. It
+/// reads the tokens from the end to that `.`, or to the first one that is not such a literal.
 pub fn ending(tokens: &[Token]) -> Option<&[Token]>
     ensures { option_map (λ last. literal_text (flats last.now)) result ≡ ending (flats tokens.now) }
 {

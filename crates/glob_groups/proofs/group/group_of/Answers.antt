@@ -1,6 +1,6 @@
 use Rattle.std.proofs.Common.{sym, ◌∙◌}
 use Rattle.std.proofs.lemmas.Result.{IfOk-weaker}
-use Rattle.glob_syntax.specs.Views.{flats, tokens_of}
+use Rattle.glob_syntax.specs.Views.{tokens_of}
 use Rattle.glob_groups.proofs.lemmas.Groups.{is_group, silent_found, insensitive_found, sensitive_found}
 use Rattle.glob_groups.proofs.group.group_of.Goals as goal
 
@@ -10,9 +10,9 @@ returns-then-is_silent c = is_group c.args.options (tokens_of c.args.tokens.now)
 pub returns-then-options : goal.returns-then-options
 returns-then-options c =
     is_group c.args.options (tokens_of c.args.tokens.now) _
-    (insensitive_found c.args.options (flats c.args.tokens.now) _ (sym c.is_silent.ensures ∙ c.if-is_silent.false) c.if-options.true c.requires c.automaton_group.ensures)
+    (insensitive_found c.args.options (tokens_of c.args.tokens.now) _ (sym c.is_silent.ensures ∙ c.if-is_silent.false) c.if-options.true c.automaton_group.ensures)
 
 pub returns : goal.returns
 returns c =
     IfOk-weaker c.sensitive_group.result _ _ (λ group found. is_group c.args.options (tokens_of c.args.tokens.now) group
-    (sensitive_found c.args.options (flats c.args.tokens.now) _ (sym c.is_silent.ensures ∙ c.if-is_silent.false) c.if-options.false c.requires found)) c.sensitive_group.ensures
+    (sensitive_found c.args.options (tokens_of c.args.tokens.now) _ (sym c.is_silent.ensures ∙ c.if-is_silent.false) c.if-options.false found)) c.sensitive_group.ensures

@@ -1,6 +1,6 @@
 use Rattle.std.proofs.Common.{◌≡◌, drop}
 use Rattle.glob_syntax.specs.Views.{flats}
-use Rattle.glob_groups.specs.Groups.{is_literal_except}
+use Rattle.glob_groups.specs.TokenTests.{is_literal_except}
 use Rattle.glob_groups.specs.inner.FlatTests.{all_simple_pass}
 use Rattle.glob_groups.proofs.group.conditions.are_literals_except.Given as goal
 

@@ -1,6 +1,6 @@
 use Rattle.std.proofs.Common.{ap, sym, ◌∙◌}
 use Rattle.glob_syntax.specs.Views.{flats}
-use Rattle.glob_groups.specs.Groups.{is_literal_except, is_star}
+use Rattle.glob_groups.specs.TokenTests.{is_literal_except, is_star}
 use Rattle.glob_groups.specs.inner.FlatTests.{all_simple_pass}
 use Rattle.glob_groups.proofs.lemmas.FlatTests.{last_passes, last_fails}
 use Rattle.glob_groups.proofs.group.conditions.is_literals_star.Goals as goal

@@ -1,7 +1,7 @@
 use Rattle.std.proofs.Common.{◌≡◌, ◌+◌, ◌-◌, ◌<◌, true, ◌∷◌, length, drop, arith, sym, ap, subst, ◌∙◌}
 use Rattle.std.proofs.lemmas.List.{drop_more}
 use Rattle.glob_syntax.specs.Views.{flat_of, flats}
-use Rattle.glob_groups.specs.Groups.{is_literal_except}
+use Rattle.glob_groups.specs.TokenTests.{is_literal_except}
 use Rattle.glob_groups.specs.inner.FlatTests.{is_simple_that, all_simple_pass}
 use Rattle.glob_groups.proofs.lemmas.FlatTests.{is_plain}
 use Rattle.glob_groups.proofs.lemmas.Endings.{dot_found, none_found, plain_ends}

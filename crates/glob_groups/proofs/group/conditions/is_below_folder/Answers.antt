@@ -1,9 +1,9 @@
 use Rattle.std.proofs.Common.{ap, sym, ◌∙◌}
 use Rattle.glob_syntax.specs.Views.{flats}
-use Rattle.glob_groups.specs.Groups.{is_literal_except, is_suffix}
+use Rattle.glob_groups.specs.TokenTests.{is_literal_except, is_suffix}
 use Rattle.glob_groups.specs.inner.FlatTests.{all_simple_pass}
 use Rattle.glob_groups.proofs.lemmas.FlatTests.{last_passes, last_fails}
-use Rattle.glob_groups.proofs.group.conditions.is_any_inside.Goals as goal
+use Rattle.glob_groups.proofs.group.conditions.is_below_folder.Goals as goal
 
 pub returns-then-is_recursive_suffix : goal.returns-then-is_recursive_suffix
 returns-then-is_recursive_suffix c =
