@@ -1,6 +1,9 @@
 //! Globs with very long texts, and globs whose groups are nested very deeply: they are read, compiled, matched, put in a
 //! set, copied and dropped.
 
+ghost use Rattle.std.specs.Prelude.{◌≡◌, IfOk};
+ghost use Rattle.globset.specs.Means.{glob_means};
+
 use anyhow::Result;
 use globset::{Error, Glob, GlobMatcher, GlobSet};
 use std::alloc::{AllocError, Global};
@@ -80,15 +83,21 @@ fn matches(alloc: Global, glob: &Glob, path: &str) -> Result<bool, Error> {
 }
 
 /// Whether a glob matches a path, by a matcher and by a copy of it.
-fn by_matcher(glob: &Glob, path: &str) -> Result<bool, Error> {
+fn by_matcher(glob: &Glob, path: &str) -> Result<bool, Error>
+    ensures { IfOk result (λ yes. yes ≡ glob_means glob.now path.now) }
+{
     matcher_and_copy(&glob.compile_matcher()?, path)
 }
 
-fn matcher_and_copy(matcher: &GlobMatcher, path: &str) -> Result<bool, Error> {
+fn matcher_and_copy(matcher: &GlobMatcher, path: &str) -> Result<bool, Error>
+    ensures { IfOk result (λ yes. yes ≡ glob_means matcher.now path.now) }
+{
     Ok(matcher.is_match(path)? && copied_matcher(matcher, path)?)
 }
 
-fn copied_matcher(matcher: &GlobMatcher, path: &str) -> Result<bool, Error> {
+fn copied_matcher(matcher: &GlobMatcher, path: &str) -> Result<bool, Error>
+    ensures { IfOk result (λ yes. yes ≡ glob_means matcher.now path.now) }
+{
     matcher.clone()?.is_match(path)
 }
 

@@ -23,7 +23,7 @@ use Rattle.byte_trie.specs.Texts.{beginnings, endings}
 use Rattle.group_matching.specs.inner.Keys.{KeyParts, keys_found, no_keys}
 use Rattle.group_matching.specs.inner.Automata.{AutomataParts, SlotParts, TokenLists, AreForLists, AreFor, AreFound, AddsTokens, first, machine_under, states_for, tokens_under}
 use Rattle.group_matching.specs.inner.Groups.{GroupParts, AreGroupsOf, listed_count}
-use Rattle.group_matching.proofs.lemmas.More.{MoreIn, none_more}
+use Rattle.group_matching.proofs.lemmas.Keys.{MoreIn, none_more}
 
 -- ---- one glob more
 

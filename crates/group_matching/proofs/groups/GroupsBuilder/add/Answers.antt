@@ -9,7 +9,7 @@ use Rattle.group_matching.specs.Globs.{token_glob}
 use Rattle.group_matching.specs.inner.Keys.{with_path, with_component, with_extension, with_beginning, with_end}
 use Rattle.group_matching.specs.inner.Groups.{GroupParts, AreGroupsOf}
 use Rattle.group_matching.proofs.lemmas.Groups.{group_parts, key_added, silent_added, both_on_ok, by_path_added, by_component_added, by_extension_added}
-use Rattle.group_matching.proofs.lemmas.More.{path_more, component_more, extension_more, beginning_more, end_more, components_more}
+use Rattle.group_matching.proofs.lemmas.Keys.{path_more, component_more, extension_more, beginning_more, end_more, components_more}
 use Rattle.group_matching.proofs.groups.GroupsBuilder.add.Goals as goal
 
 pub returns-in-Silent-clause-groups : goal.returns-in-Silent-clause-groups
