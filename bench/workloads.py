@@ -109,7 +109,7 @@ def folders_below_folders():
 def workloads(lines):
     """The name, the arguments and the paths of each workload. The last ones have fewer lines, as they are slow."""
     usual = paths(lines)
-    few = usual[: lines // 10]
+    few = usual[: max(1, lines // 10)]
     long = long_paths(max(1, lines // 100))
     return [
         ("1 extension", ["*.rs"], usual),
@@ -139,11 +139,11 @@ def workloads(lines):
         (
             "repeated letters",
             "*a*a*a*a*b *aaaa?aaaa*c a*a*a*b*a*c **/a?a?a*[xyz] *ab*ba* *{aab,aba,baa}* [ab]*[ab]*c*".split(),
-            repeated_letters(lines // 5),
+            repeated_letters(max(1, lines // 5)),
         ),
         ("1,000-byte paths", LONG_PATH_GLOBS, long),
         ("1,000-byte paths, -n", ["-n"] + LONG_PATH_GLOBS, long),
-        ("1,000 with two parts", parts_in_order(), few[: lines // 20]),
+        ("1,000 with two parts", parts_in_order(), usual[: max(1, lines // 20)]),
         ("1,000 below folders, -s", ["-s"] + folders_below_folders(), few),
     ]
 
