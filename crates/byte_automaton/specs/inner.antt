@@ -3,4 +3,3 @@ pub mod Seen
 pub mod Views
 pub mod Pass
 pub mod Exits
-pub mod Texts

@@ -1,6 +1,6 @@
 //! An automaton, and the steps of its runs.
 
-ghost use Rattle.std.specs.Prelude.{◌≡◌, ℕ, ◌+◌, ◌*◌, ◌<◌, ◌≤◌, ◌||◌, ◌⊎◌, ◌↔◌, ◌∷◌, [], List, length, true, false, Some, None, IsTrue, IsFalse, IfOk, IfSome, OnErr, MatchOption};
+ghost use Rattle.std.specs.Prelude.{◌≡◌, ℕ, ◌+◌, ◌*◌, ◌<◌, ◌≤◌, ◌^◌, ◌||◌, ◌⊎◌, ◌↔◌, ◌∷◌, [], List, length, true, false, Some, None, IsTrue, IsFalse, IfOk, OnErr, MatchOption};
 ghost use Rattle.byte_automaton.specs.Sets.{has_state, has_index, state_room, index_room};
 ghost use Rattle.byte_automaton.specs.Steps.{Machine, IsReached, state, final};
 ghost use Rattle.byte_automaton.specs.Alike.{AreAlike};
@@ -203,10 +203,10 @@ impl Automaton {
     /// Returns the automaton in which each state that decides an index `k` is an end, of the index `index_count + k`.
     ///
     /// A state decides an index if it stays on every byte and goes on to an end of that index alone. A text leads to an end
-    /// of the index exactly if in the new automaton it does, or the beginning of it leads to an end of the index
-    /// `index_count + k`. Returns `None` if there are too many indexes, and an error if memory runs out.
+    /// of the index exactly if in the new automaton it does, or some beginning of it leads to an end of the index
+    /// `index_count + k`. Returns `None` if twice as many indexes are too many for a `usize`, and an error if memory runs out.
     pub fn with_decisions(&self) -> Result<Option<Automaton>, AllocError>
-        ensures { IfOk result (λ made. IfSome made (λ new. EndsAtDecisions self.now new)) }
+        ensures { IfOk result (λ made. MatchOption made (2 ^ 64 ≤ self.now.index_count * 2) (λ new. EndsAtDecisions self.now new)) }
     {
         let Some(index_count) = self.index_count.checked_mul(2) else {
             return Ok(None);

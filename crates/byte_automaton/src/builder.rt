@@ -29,13 +29,25 @@ use std::marker::Model;
 /// ```
 ///
 /// Each call that pushes returns an error if memory runs out, and then changes nothing.
-#[derive(Debug, Drop)]
+#[derive(Debug)]
 pub struct Builder {
     states: Vec<State>,
     /// What the states go on to without a byte, one state after the other.
     nexts: Vec<usize>,
     starts: Vec<usize>,
     index_count: usize,
+}
+
+impl Drop for Builder {
+    // One call wherever a value is dropped, which keeps proofs short.
+    fn drop(self) {
+        let Builder {
+            states: _,
+            nexts: _,
+            starts: _,
+            index_count: _,
+        } = self;
+    }
 }
 
 impl Model for Builder {
@@ -131,7 +143,13 @@ impl Builder {
     pub fn finish(self) -> Automaton
         ensures { result ≡ self }
     {
-        Automaton::from_parts(self.states, self.nexts, self.starts, self.index_count)
+        let Builder {
+            states,
+            nexts,
+            starts,
+            index_count: count,
+        } = self;
+        Automaton::from_parts(states, nexts, starts, count)
     }
 }
 

@@ -2,7 +2,7 @@
 
 ghost use Rattle.std.specs.Prelude.{◌*◌, ◌^◌, ◌≤◌, length};
 
-use crate::words::{first_from, has_bit, set_bit, words_for};
+use crate::words::{first_from, set_bit, words_for};
 use std::alloc::{AllocError, Global};
 
 /// A set of indexes, as a bit for each: the ends that a run found.
@@ -39,14 +39,6 @@ impl IndexSet {
         Ok(IndexSet { words })
     }
 
-    /// Takes every index out.
-    pub fn clear(&mut self)
-        ensures room { index_room self.new ≡ index_room self.old }
-        ensures none { (k : ℕ) → has_index self.new k ≡ false }
-    {
-        self.words.fill(0);
-    }
-
     /// Puts an index in.
     pub fn put(&mut self, index: usize)
         requires { index < index_room self.old }
@@ -54,14 +46,6 @@ impl IndexSet {
         ensures has { (k : ℕ) → has_index self.new k ≡ ((k == index) || has_index self.old k) }
     {
         set_bit(&mut self.words, index);
-    }
-
-    /// Returns whether the set has an index.
-    pub fn has(&self, index: usize) -> bool
-        requires { index < index_room self.now }
-        ensures { result ≡ has_index self.now index }
-    {
-        has_bit(&self.words, index)
     }
 
     /// Returns the lowest index of the set from a number on, or `None` if there is none. 64 numbers that are not in the

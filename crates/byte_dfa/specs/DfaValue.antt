@@ -2,7 +2,7 @@
 use Rattle.std.specs.Prelude.{ℕ}
 use Rattle.byte_automaton.specs.Steps.{Machine}
 
--- the automaton that it was made from, and how many numbers it holds in memory
+-- the automaton that it was made from, and how many numbers its table and its lists have together
 pub record DfaValue : Type 0 where
   pub source : Machine
   pub size : ℕ

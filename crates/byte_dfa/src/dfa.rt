@@ -18,9 +18,9 @@ use visits::Visits;
 
 /// A deterministic automaton: a table that says for each state and byte which state is next.
 ///
-/// The number of a state is the place in the table where its row begins. A row has an entry for each class of bytes, and
-/// two more, the places of lists: of the indexes that are found where the state is entered, and of those that are found
-/// where the text ends. The state 0 is dead: it leads to no end.
+/// A state is held as the place in the table where its row begins. A row has an entry for each class of bytes, and two more,
+/// the places of lists: of the indexes that are found where the state is entered, and of those that are found where the text
+/// ends. The state at 0 is dead: it leads to no end.
 pub struct Dfa {
     class_of: [u8; 256],
     width: usize,
@@ -116,13 +116,6 @@ impl Dfa {
         }))
     }
 
-    /// Returns a number that each index is below. A set of indexes has room for each.
-    pub fn index_count(&self) -> usize
-        ensures { result ≡ self.now.source.index_count }
-    {
-        self.index_count
-    }
-
     /// Returns how many numbers the table and the lists have together.
     pub fn size(&self) -> usize
         ensures { result ≡ self.now.size }
@@ -132,7 +125,8 @@ impl Dfa {
 
     /// Puts the index of each end that a text leads to into a set, beside what it holds.
     ///
-    /// It reads one entry for each byte, and is at most one visit for each, and one more. It takes no memory.
+    /// It reads at most one entry for each byte, and the lists of the states where indexes are found. It is at most one visit
+    /// for each byte, and one more. It takes no memory.
     pub fn find(&self, text: &[u8], into: &mut IndexSet, visits: &mut Visits)
         requires { self.now.source.index_count ≤ index_room into.old }
         ensures room { index_room into.new ≡ index_room into.old }
@@ -143,8 +137,7 @@ impl Dfa {
         let mut state = self.start;
         put_listed(&self.lists, table[state + self.width] as usize, into);
         for byte in text {
-            visits.tick();
-            state = next(table, &self.class_of, state, *byte);
+            state = next(table, &self.class_of, state, *byte, visits);
             if state >= SPECIAL {
                 state -= SPECIAL;
                 if state == DEAD {
@@ -159,7 +152,8 @@ impl Dfa {
 
     /// Returns whether a text leads to some end. It stops at the first that is found.
     ///
-    /// It reads one entry for each byte, and is at most one visit for each, and one more. It takes no memory.
+    /// It reads at most one entry for each byte, and the lists of the states where indexes are found. It is at most one visit
+    /// for each byte, and one more. It takes no memory.
     pub fn is_match(&self, text: &[u8], visits: &mut Visits) -> bool
         ensures some { IsTrue result ↔ ((k : ℕ) × IsReached self.now.source text.now k) }
         ensures visits { visits.new ≤ visits.old + (length text.now + 1) }
@@ -170,8 +164,7 @@ impl Dfa {
             return true;
         }
         for byte in text {
-            visits.tick();
-            state = next(table, &self.class_of, state, *byte);
+            state = next(table, &self.class_of, state, *byte, visits);
             if state >= SPECIAL {
                 state -= SPECIAL;
                 if state == DEAD {
@@ -187,12 +180,14 @@ impl Dfa {
     }
 }
 
-/// Returns the entry for a byte in the row of a state.
-fn next(table: &[u32], class_of: &[u8; 256], state: usize, byte: u8) -> usize
+/// Returns the entry for a byte in the row of a state. It is one visit.
+fn next(table: &[u32], class_of: &[u8; 256], state: usize, byte: u8, visits: &mut Visits) -> usize
     requires { state + slice_index class_of.now byte < length table.now }
     ensures value { result ≡ slice_index table.now (state + slice_index class_of.now byte) }
     ensures small { result < 2 ^ 32 }
+    ensures visits { visits.new ≡ visits.old + 1 }
 {
+    visits.tick();
     // Where the entries of the class begin does not wait for the state.
     let column = &table[class_of[byte as usize] as usize..];
     column[state] as usize

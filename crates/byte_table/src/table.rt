@@ -1,6 +1,6 @@
 //! A table of byte keys.
 
-ghost use Rattle.std.specs.Prelude.{◌≡◌, ℕ, List, ◌+◌, ◌++◌, ◌∷◌, [], length, ◌↔◌, IsTrue, OnOk, OnErr};
+ghost use Rattle.std.specs.Prelude.{◌≡◌, ℕ, List, ◌+◌, ◌++◌, ◌∷◌, [], ◌↔◌, IsTrue, OnOk, OnErr};
 ghost use Rattle.std.specs.Str.{bytes_eq};
 ghost use Rattle.byte_table.specs.Entries.{entry, indexes_under};
 ghost use Rattle.byte_table.specs.inner.Lists.{list_under, with_index};
@@ -106,13 +106,6 @@ impl Table {
             Some(indexes) => indexes.as_slice(),
             None => &[],
         }
-    }
-
-    /// Returns the number of entries, over all keys.
-    pub fn len(&self) -> usize
-        ensures { result ≡ length self.now }
-    {
-        self.count
     }
 
     /// Returns whether there are no entries.

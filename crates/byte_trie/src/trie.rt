@@ -125,20 +125,6 @@ impl Trie {
     {
         walk::count(&self.tree, self.side, path, visits)
     }
-
-    /// Returns the number of texts.
-    pub fn len(&self) -> usize
-        ensures { result ≡ length self.now.entries }
-    {
-        self.count
-    }
-
-    /// Returns whether there are no texts.
-    pub fn is_empty(&self) -> bool
-        ensures { IsTrue result ↔ (self.now.entries ≡ []) }
-    {
-        self.count == 0
-    }
 }
 
 /// Returns the list that contracts see texts as.

@@ -1,10 +1,11 @@
 -- Tokens that share an automaton: each list of them has an index, which a run finds where they match the path.
-use Rattle.std.specs.Prelude.{◌≡◌, ℕ, ◌<◌, ◌⊎◌, ◌↔◌, List, [], ◌∷◌, length, IsTrue}
+use Rattle.std.specs.Prelude.{◌≡◌, ℕ, ◌⊎◌, ◌↔◌, List, [], ◌∷◌, length, IsTrue}
 use Rattle.glob_syntax.specs.declared.options.Options.{Options}
 use Rattle.glob_syntax.specs.Token.{Tokens}
 use Rattle.glob_automaton.specs.TokenMeans.{means}
 use Rattle.byte_automaton.specs.Steps.{State, IsIn, Accepts, Machine}
 use Rattle.byte_automaton.specs.Building.{Agrees}
+use Rattle.byte_automaton.specs.Texts.{AllBytes}
 
 -- tokens, the options that they are matched under, and the index that they have in the automaton
 pub record IndexedTokens : Type 0 where
@@ -27,11 +28,6 @@ Matches x path k = (x.index ≡ k) × IsTrue (means x.options x.tokens path)
 abbrev pub SomeMatches : List IndexedTokens → List ℕ → ℕ → Type 0
 SomeMatches [] path k = ⊥
 SomeMatches (x ∷ xs) path k = Matches x path k ⊎ SomeMatches xs path k
-
--- each of the numbers is a byte
-abbrev pub AllBytes : List ℕ → Type 0
-AllBytes [] = Unit {0}
-AllBytes (c ∷ cs) = (c < 256) × AllBytes cs
 
 -- From its starts the automaton accepts the paths that these tokens match, each for its index. So does each automaton with
 -- the same starts that begins with these states.

@@ -1,17 +1,21 @@
 -- What an automaton leads to, by the one with ends where an index is decided.
-use Rattle.std.proofs.Common.{◌≡◌, ℕ, suc, ◌+◌, ◌<◌, ◌⊎◌, inl, inr, List, [], ◌∷◌, ◌++◌, arith, refl, ap, sym, subst, ◌∙◌}
+use Rattle.std.proofs.Common.{◌≡◌, ℕ, suc, ◌+◌, ◌<◌, ◌⊎◌, inl, inr, List, [], ◌∷◌, ◌++◌, slice_index, arith, refl, ap, sym, subst, ◌∙◌}
 use Rattle.std.specs.Prelude.{◌↔◌}
 use Rattle.byte_automaton.specs.Steps.{State, reads, skips, stays, final, state, Machine, IsIn, Accepts, IsReached, ends, by_byte, by_skip, by_out, by_stay}
-use Rattle.byte_automaton.specs.inner.Texts.{AreBytes}
+use Rattle.byte_automaton.specs.Texts.{AllBytes}
 use Rattle.byte_automaton.specs.Decisions.{Decides, IsAtDecision, EndsAtDecisions}
 
-pub rest_bytes : (p q : List ℕ) → AreBytes (p ++ q) → AreBytes q
+pub all_bytes : (path : List ℕ) → ((i : ℕ) → slice_index path i < 256) → AllBytes path
+all_bytes [] h = tt
+all_bytes (c ∷ cs) h = (h 0, all_bytes cs (λ i. h (suc i)))
+
+pub rest_bytes : (p q : List ℕ) → AllBytes (p ++ q) → AllBytes q
 rest_bytes [] q h = h
-rest_bytes (c ∷ p) q h = rest_bytes p q (λ i. h (suc i))
+rest_bytes (c ∷ p) q h = rest_bytes p q h.1
 
 -- from the state s the text leads to an end of k, or its beginning to an end of n + k
-abbrev pub Tells : List State → ℕ → ℕ → List ℕ → ℕ → Type 0
-Tells a n s y k = ((k < n) × Accepts a k s y) ⊎ ((p : List ℕ) × (q : List ℕ) × (y ≡ p ++ q) × Accepts a (n + k) s p)
+abbrev pub LeadsOrDecides : List State → ℕ → ℕ → List ℕ → ℕ → Type 0
+LeadsOrDecides a n s y k = ((k < n) × Accepts a k s y) ⊎ ((p : List ℕ) × (q : List ℕ) × (y ≡ p ++ q) × Accepts a (n + k) s p)
 
 -- a state that decides an index leads to no other
 only_decided : (a : List State) (k j s : ℕ) (y : List ℕ) → Accepts a k s y → Decides a s j → j ≡ k
@@ -36,37 +40,37 @@ only_decided a k j s y (by_out s' t z w ts e m rest) (w', t', e', every, f) =
 only_decided a k j s y (by_stay s' c z w ts e has rest) decides = only_decided a k j s z rest decides
 
 -- a state that decides an index leads to it by any bytes
-pub always_decided : (a : List State) (k s : ℕ) (q : List ℕ) → AreBytes q → Decides a s k → Accepts a k s q
+pub always_decided : (a : List State) (k s : ℕ) (q : List ℕ) → AllBytes q → Decides a s k → Accepts a k s q
 always_decided a k s [] bytes (w, t, e, every, f) = by_out s t [] w (t ∷ []) e (inl refl) (ends t f)
-always_decided a k s (c ∷ q) bytes (w, t, e, every, f) = by_stay s c q w (t ∷ []) e (every c (bytes 0)) (always_decided a k s q (λ i. bytes (suc i)) (w, t, e, every, f))
+always_decided a k s (c ∷ q) bytes (w, t, e, every, f) = by_stay s c q w (t ∷ []) e (every c bytes.0) (always_decided a k s q bytes.1 (w, t, e, every, f))
 
 module _ (old new : Machine) (made : EndsAtDecisions old new) (k : ℕ) where
-  at_decision : (s : ℕ) (y : List ℕ) → Accepts old.states k s y → IsAtDecision old.states old.index_count s (state new.states s) → (state new.states s ≡ state old.states s → Tells new.states old.index_count s y k) → Tells new.states old.index_count s y k
+  at_decision : (s : ℕ) (y : List ℕ) → Accepts old.states k s y → IsAtDecision old.states old.index_count s (state new.states s) → (state new.states s ≡ state old.states s → LeadsOrDecides new.states old.index_count s y k) → LeadsOrDecides new.states old.index_count s y k
   at_decision s y h (inl (j, decides, e)) other =
       let is : j ≡ k = only_decided old.states k j s y h decides in
       inr ([], y, refl, ends s (e ∙ ap (λ i. final (old.index_count + i)) is))
   at_decision s y h (inr (none, e)) other = other e
 
-  told : (s : ℕ) (y : List ℕ) → Accepts old.states k s y → Tells new.states old.index_count s y k
+  told : (s : ℕ) (y : List ℕ) → Accepts old.states k s y → LeadsOrDecides new.states old.index_count s y k
   told s y (ends s' e) = at_decision s [] (ends s e) (made.states s) (λ same. inl (made.below s k e, ends s (same ∙ e)))
   told s y (by_byte s' t c z w e has rest) = at_decision s (c ∷ z) (by_byte s t c z w e has rest) (made.states s) (λ same. by_case (same ∙ e) (told t z rest))
     where
-      by_case : state new.states s ≡ reads w t → Tells new.states old.index_count t z k → Tells new.states old.index_count s (c ∷ z) k
+      by_case : state new.states s ≡ reads w t → LeadsOrDecides new.states old.index_count t z k → LeadsOrDecides new.states old.index_count s (c ∷ z) k
       by_case g (inl (lt, h)) = inl (lt, by_byte s t c z w g has h)
       by_case g (inr (p, q, is, h)) = inr (c ∷ p, q, ap (λ x. c ∷ x) is, by_byte s t c p w g has h)
   told s y (by_skip s' t z ts e m rest) = at_decision s z (by_skip s t z ts e m rest) (made.states s) (λ same. by_case (same ∙ e) (told t z rest))
     where
-      by_case : state new.states s ≡ skips ts → Tells new.states old.index_count t z k → Tells new.states old.index_count s z k
+      by_case : state new.states s ≡ skips ts → LeadsOrDecides new.states old.index_count t z k → LeadsOrDecides new.states old.index_count s z k
       by_case g (inl (lt, h)) = inl (lt, by_skip s t z ts g m h)
       by_case g (inr (p, q, is, h)) = inr (p, q, is, by_skip s t p ts g m h)
   told s y (by_out s' t z w ts e m rest) = at_decision s z (by_out s t z w ts e m rest) (made.states s) (λ same. by_case (same ∙ e) (told t z rest))
     where
-      by_case : state new.states s ≡ stays w ts → Tells new.states old.index_count t z k → Tells new.states old.index_count s z k
+      by_case : state new.states s ≡ stays w ts → LeadsOrDecides new.states old.index_count t z k → LeadsOrDecides new.states old.index_count s z k
       by_case g (inl (lt, h)) = inl (lt, by_out s t z w ts g m h)
       by_case g (inr (p, q, is, h)) = inr (p, q, is, by_out s t p w ts g m h)
   told s y (by_stay s' c z w ts e has rest) = at_decision s (c ∷ z) (by_stay s c z w ts e has rest) (made.states s) (λ same. by_case (same ∙ e) (told s z rest))
     where
-      by_case : state new.states s ≡ stays w ts → Tells new.states old.index_count s z k → Tells new.states old.index_count s (c ∷ z) k
+      by_case : state new.states s ≡ stays w ts → LeadsOrDecides new.states old.index_count s z k → LeadsOrDecides new.states old.index_count s (c ∷ z) k
       by_case g (inl (lt, h)) = inl (lt, by_stay s c z w ts g has h)
       by_case g (inr (p, q, is, h)) = inr (c ∷ p, q, ap (λ x. c ∷ x) is, by_stay s c p w ts g has h)
 
@@ -93,7 +97,7 @@ module _ (old new : Machine) (made : EndsAtDecisions old new) (k : ℕ) where
       let is : j ≡ k = omega arith in subst (Decides old.states s) is decides
   decides_before s e (inr (none, f)) = let lt = made.below s (old.index_count + k) (sym f ∙ e) in absurd (omega arith)
 
-  on_entry : (s : ℕ) (p q : List ℕ) → AreBytes q → Accepts new.states (old.index_count + k) s p → Accepts old.states k s (p ++ q)
+  on_entry : (s : ℕ) (p q : List ℕ) → AllBytes q → Accepts new.states (old.index_count + k) s p → Accepts old.states k s (p ++ q)
   on_entry s p q bytes (ends s' e) = always_decided old.states k s q bytes (decides_before s e (made.states s))
   on_entry s p q bytes (by_byte s' t c z w e has rest) = by_byte s t c (z ++ q) w (as_before s (reads w t) e (λ j no. cc) (made.states s)) has (on_entry t z q bytes rest)
   on_entry s p q bytes (by_skip s' t z ts e m rest) = by_skip s t (z ++ q) ts (as_before s (skips ts) e (λ j no. cc) (made.states s)) m (on_entry t z q bytes rest)
@@ -108,19 +112,19 @@ module _ (old new : Machine) (made : EndsAtDecisions old new) (k : ℕ) where
   below s y (by_stay s' c z w ts e has rest) = below s z rest
 
   -- the old automaton leads to k exactly if the new one does, or leads to n + k by the beginning of the text
-  pub reached_by : (y : List ℕ) → AreBytes y
+  pub reached_by : (y : List ℕ) → AllBytes y
       → IsReached old y k ↔ ((k < old.index_count) × (IsReached new y k ⊎ ((p : List ℕ) × (q : List ℕ) × (y ≡ p ++ q) × IsReached new p (old.index_count + k))))
   reached_by y bytes = (
     λ (s, begins, h). (below s y h, by_case s (subst (IsIn s) (sym made.starts) begins) (told s y h)),
     λ (lt, h). back lt h,
   )
     where
-      by_case : (s : ℕ) → IsIn s new.starts → Tells new.states old.index_count s y k → IsReached new y k ⊎ ((p : List ℕ) × (q : List ℕ) × (y ≡ p ++ q) × IsReached new p (old.index_count + k))
+      by_case : (s : ℕ) → IsIn s new.starts → LeadsOrDecides new.states old.index_count s y k → IsReached new y k ⊎ ((p : List ℕ) × (q : List ℕ) × (y ≡ p ++ q) × IsReached new p (old.index_count + k))
       by_case s begins (inl (lt, h)) = inl (s, begins, h)
       by_case s begins (inr (p, q, is, h)) = inr (p, q, is, (s, begins, h))
 
       back : k < old.index_count → IsReached new y k ⊎ ((p : List ℕ) × (q : List ℕ) × (y ≡ p ++ q) × IsReached new p (old.index_count + k)) → IsReached old y k
       back lt (inl (s, begins, h)) = (s, subst (IsIn s) made.starts begins, at_end s y lt h)
       back lt (inr (p, q, is, (s, begins, h))) =
-          let rest = rest_bytes p q (subst AreBytes is bytes) in
+          let rest = rest_bytes p q (subst AllBytes is bytes) in
           (s, subst (IsIn s) made.starts begins, subst (Accepts old.states k s) (sym is) (on_entry s p q rest h))

@@ -8,7 +8,7 @@ use Rattle.std.proofs.Math.Logic.{⊎_elim}
 use Rattle.std.proofs.Math.Seq.{get_or-append_seam}
 use Rattle.byte_automaton.specs.Steps.{Machine}
 use Rattle.byte_dfa.specs.declared.construction.Found.{Found}
-use Rattle.byte_dfa.specs.inner.Building.{half, GoesTo, IsEntryTo, IsCell, AreCells, AreFound, KeepsFound}
+use Rattle.byte_dfa.specs.inner.Building.{half, GoesTo, IsEntryTo, IsCell, AreCells, AreFoundSets, KeepsFound}
 use Rattle.byte_dfa.specs.inner.Lists.{KeepsLists}
 
 pub before_row : (i row w : ℕ) → i < row → i * (w + 2) + w + 2 ≤ row * (w + 2)
@@ -24,7 +24,7 @@ same_place i c row col w hc hcol e = ⊎_elim {C = (i ≡ row) × (c ≡ col)}
     (cases_lt i row)
 
 module _ (m : Machine) (firsts : List ℕ) (w : ℕ) where
-  pub cells_kept : (found : List Found) (old new rows : List ℕ) → AreFound m found old → KeepsLists old new → AreCells m firsts w found old rows → AreCells m firsts w found new rows
+  pub cells_kept : (found : List Found) (old new rows : List ℕ) → AreFoundSets m found old → KeepsLists old new → AreCells m firsts w found old rows → AreCells m firsts w found new rows
   cells_kept found old new rows are keeps cells = λ i c hc lt.
       let cell = cells i c hc lt in
       record {

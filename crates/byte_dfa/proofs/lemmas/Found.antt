@@ -6,7 +6,7 @@ use Rattle.byte_automaton.specs.Runs.{AcceptsFrom}
 use Rattle.byte_automaton.specs.Steps.{Machine}
 use Rattle.byte_automaton.specs.declared.state_set.StateSet.{StateSet}
 use Rattle.byte_dfa.specs.declared.construction.Found.{Found}
-use Rattle.byte_dfa.specs.inner.Building.{half, AreSame, IsFound, AreFound, KeepsFound}
+use Rattle.byte_dfa.specs.inner.Building.{half, AreSame, IsFound, AreFoundSets, KeepsFound}
 use Rattle.byte_dfa.specs.inner.Lists.{IsListOf, KeepsLists, HasNoneFirst}
 use Rattle.byte_dfa.proofs.lemmas.Lists.{list_kept}
 
@@ -67,15 +67,15 @@ module _ (m : Machine) where
     at_end = list_kept old new (half m) f.at_end (AcceptsFrom m f.states []) keeps is.at_end;
   }
 
-  pub found_kept : (found : List Found) (old new : List ℕ) → KeepsLists old new → HasNoneFirst new → AreFound m found old → AreFound m found new
+  pub found_kept : (found : List Found) (old new : List ℕ) → KeepsLists old new → HasNoneFirst new → AreFoundSets m found old → AreFoundSets m found new
   found_kept found old new keeps none are = record {
     each = λ i f h. found_lists old new f keeps (are.each i f h);
     dead = are.dead;
     none = none;
   }
 
-  pub found_more : (found : List Found) (lists : List ℕ) (f : Found) → AreFound m found lists → IsFound m lists f
-      → (length found ≡ 0 → (y : List ℕ) (k : ℕ) → AcceptsFrom m f.states y k → ⊥) → AreFound m (found ++ f ∷ []) lists
+  pub found_more : (found : List Found) (lists : List ℕ) (f : Found) → AreFoundSets m found lists → IsFound m lists f
+      → (length found ≡ 0 → (y : List ℕ) (k : ℕ) → AcceptsFrom m f.states y k → ⊥) → AreFoundSets m (found ++ f ∷ []) lists
   found_more found lists f are is dead = record {
     each = λ i g h. ⊎_elim {C = IsFound m lists g} (λ old. are.each i g old) (λ (e, same). subst (IsFound m lists) (sym same) is) (get_cases found f i g h);
     dead = λ g h y k. ⊎_elim {C = AcceptsFrom m g.states y k → ⊥} (λ old. are.dead g old y k)

@@ -11,7 +11,7 @@ use Rattle.byte_automaton.specs.Runs.{AcceptsFrom}
 use Rattle.byte_automaton.specs.Steps.{Machine, IsReached}
 use Rattle.byte_automaton.specs.declared.state_set.StateSet.{StateSet}
 use Rattle.byte_automaton.specs.inner.Pass.{is_listed}
-use Rattle.byte_automaton.specs.inner.Texts.{AreBytes}
+use Rattle.byte_automaton.specs.Texts.{AllBytes}
 use Rattle.byte_automaton.proofs.lemmas.Alike.{from_alike}
 use Rattle.byte_automaton.proofs.lemmas.Deciding.{reached_by}
 use Rattle.byte_automaton.proofs.lemmas.Pass.{or_first, or_second}
@@ -160,12 +160,12 @@ module _ (old m : Machine) (made : EndsAtDecisions old m) (classes : ByteClasses
       }
 
   -- THE THEOREM of a run
-  found_from : (i : ℕ) (f : Found) (y : List ℕ) (k : ℕ) → slice_get found i ≡ Some f → AreBytes y → IsTrue (finds_from d (i * (w + 2)) y k) ↔ FromHere m n f.states y k
+  found_from : (i : ℕ) (f : Found) (y : List ℕ) (k : ℕ) → slice_get found i ≡ Some f → AllBytes y → IsTrue (finds_from d (i * (w + 2)) y k) ↔ FromHere m n f.states y k
   found_from i f [] k at bytes = at_no_byte m n f.states k (is_listed k (on_entry d (i * (w + 2)))) (is_listed k (at_end d (i * (w + 2)))) (told_is i f k at) (ended_is i f k at)
   found_from i f (b ∷ y) k at bytes =
-      let leads = leads_to i f b at (bytes 0) in
+      let leads = leads_to i f b at bytes.0 in
       let rest : IsTrue (finds_from d (after d (i * (w + 2)) b) y k) ↔ FromHere m n leads.next.states y k =
-      subst (λ s. IsTrue (finds_from d s y k) ↔ FromHere m n leads.next.states y k) (sym leads.place) (found_from leads.number leads.next y k leads.at (λ j. bytes (suc j))) in
+      subst (λ s. IsTrue (finds_from d s y k) ↔ FromHere m n leads.next.states y k) (sym leads.place) (found_from leads.number leads.next y k leads.at bytes.1) in
       by_byte m n f.states leads.next.states b y k (is_listed k (on_entry d (i * (w + 2)))) (finds_from d (after d (i * (w + 2)) b) y k) (told_is i f k at) rest leads.goes
 
   -- a row is that of a set

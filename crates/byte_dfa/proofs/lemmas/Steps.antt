@@ -1,11 +1,11 @@
 -- Steps of a run over a table.
-use Rattle.std.proofs.Common.{◌≡◌, ℕ, ◌+◌, ◌-◌, ◌%◌, ◌<◌, ◌≤◌, ◌⊎◌, inl, inr, Bool, true, false, true≢false, ◌||◌, List, [], ◌∷◌, length, slice_index, take, drop, IsTrue, IsFalse, refl, ap, sym, ◌∙◌, subst, arith}
+use Rattle.std.proofs.Common.{◌≡◌, ℕ, zero, suc, ◌+◌, ◌-◌, ◌%◌, ◌<◌, ◌≤◌, ◌⊎◌, inl, inr, Bool, true, false, true≢false, ◌||◌, List, [], ◌∷◌, length, slice_index, take, drop, IsTrue, IsFalse, refl, ap, sym, ◌∙◌, subst, arith}
 use Rattle.std.specs.Prelude.{◌↔◌}
 use Rattle.std.proofs.lemmas.Bool.{or_cases}
 use Rattle.std.proofs.lemmas.List.{get_or-take, get_or-drop}
 use Rattle.std.proofs.Math.Logic.{⊎_elim}
 use Rattle.byte_automaton.specs.inner.Pass.{is_listed}
-use Rattle.byte_automaton.specs.inner.Texts.{AreBytes}
+use Rattle.byte_automaton.specs.Texts.{AllBytes}
 use Rattle.byte_automaton.proofs.lemmas.Pass.{or_first, or_second}
 use Rattle.byte_dfa.specs.inner.Tables.{Table, special, entry, after, on_entry, later, finds_from, finds, IsRow, IsTable}
 
@@ -14,8 +14,10 @@ pub read_column : (next : List ℕ) (k s : ℕ) → s + k < length next → slic
 read_column next k s lt = get_or-take (length next - k) (drop k next) s 0 (omega arith) ∙ get_or-drop k next s 0 ∙ ap (slice_index next) (let e : k + s ≡ s + k = omega arith in e)
 
 -- what follows the bytes that were read is bytes
-pub drop_bytes : (i : ℕ) (y : List ℕ) → AreBytes y → AreBytes (drop i y)
-drop_bytes i y h j = subst (λ x. x < 256) (sym (get_or-drop i y j 0)) (h (i + j))
+pub drop_bytes : (i : ℕ) (y : List ℕ) → AllBytes y → AllBytes (drop i y)
+drop_bytes zero y h = h
+drop_bytes (suc i) [] h = tt
+drop_bytes (suc i) (c ∷ cs) h = drop_bytes i cs h.1
 
 -- the entry of a byte lies in the table
 pub entry_within : (d : Table) (s b : ℕ) → IsTable d → IsRow d s → b < 256 → s + slice_index d.class_of b < length d.next
@@ -67,7 +69,7 @@ module _ (d : Table) (sound : IsTable d) where
         ap (λ x. later d (e - special) y k || x) more ∙ swapped (is_listed k (on_entry d (e - special))) (later d (e - special) y k) found
         ∙ ap (λ x. finds_from d x y k || found) (sym (high_after le lt)) ∙ old
 
-    pub dead_next : (y : List ℕ) (k : ℕ) (found before : Bool) → special ≤ e → e < 4294967296 → e - special ≡ 0 → AreBytes y → (later d s (b ∷ y) k || found) ≡ before → found ≡ before
+    pub dead_next : (y : List ℕ) (k : ℕ) (found before : Bool) → special ≤ e → e < 4294967296 → e - special ≡ 0 → AllBytes y → (later d s (b ∷ y) k || found) ≡ before → found ≡ before
     dead_next y k found before le lt zero_is bytes old =
         ap (λ x. x || found) (sym (sound.dead y k bytes)) ∙ ap (λ x. finds_from d x y k || found) (sym (high_after le lt ∙ zero_is)) ∙ old
 
@@ -79,7 +81,7 @@ module _ (d : Table) (sound : IsTable d) where
     pub quiet_later : (y : List ℕ) (k : ℕ) → special ≤ e → e < 4294967296 → on_entry d (e - special) ≡ [] → later d s (b ∷ y) k ≡ later d (e - special) y k
     quiet_later y k le lt none = ap (λ x. finds_from d x y k) (high_after le lt) ∙ ap (λ l. is_listed k l || later d (e - special) y k) none
 
-    pub dead_later : (y : List ℕ) (k : ℕ) → special ≤ e → e < 4294967296 → e - special ≡ 0 → AreBytes y → later d s (b ∷ y) k ≡ false
+    pub dead_later : (y : List ℕ) (k : ℕ) → special ≤ e → e < 4294967296 → e - special ≡ 0 → AllBytes y → later d s (b ∷ y) k ≡ false
     dead_later y k le lt zero_is bytes = ap (λ x. finds_from d x y k) (high_after le lt ∙ zero_is) ∙ sound.dead y k bytes
 
     pub told_later : (y : List ℕ) (k : ℕ) → special ≤ e → e < 4294967296 → IsTrue (is_listed k (on_entry d (e - special))) → IsTrue (later d s (b ∷ y) k)

@@ -45,7 +45,7 @@ AreCells m firsts width found lists rows =
     (i c : ℕ) → c ≤ width + 1 → i * (width + 2) + c < length rows → IsCell m firsts width found lists i c (slice_index rows (i * (width + 2) + c))
 
 -- the sets that were found
-pub record AreFound (m : Machine) (found : List Found) (lists : List ℕ) : Type 0 where
+pub record AreFoundSets (m : Machine) (found : List Found) (lists : List ℕ) : Type 0 where
   pub each : (i : ℕ) (f : Found) → slice_get found i ≡ Some f → IsFound m lists f
   pub dead : (f : Found) → slice_get found 0 ≡ Some f → (y : List ℕ) (k : ℕ) → AcceptsFrom m f.states y k → ⊥
   pub none : HasNoneFirst lists
@@ -56,7 +56,7 @@ KeepsFound old new = (length old ≤ length new) × ((i : ℕ) (f : Found) → s
 
 -- what is known of the parts of a construction
 pub record IsBuilt (m : Machine) (classes : ByteClasses) (found : List Found) (lists rows : List ℕ) : Type 0 where
-  pub sets : AreFound m found lists
+  pub sets : AreFoundSets m found lists
   pub cells : AreCells m classes.firsts classes.count found lists rows
 
 abbrev pub IsSound : Machine → ByteClasses → Construction → Type 0

@@ -1,11 +1,11 @@
 -- Reading the table of a deterministic automaton.
 use Rattle.std.specs.Prelude.{◌≡◌, ℕ, ◌+◌, ◌*◌, ◌%◌, ◌<◌, ◌↔◌, Bool, false, ◌||◌, IsTrue, List, [], ◌∷◌, length, slice_index}
 use Rattle.byte_automaton.specs.Steps.{Machine, IsReached}
+use Rattle.byte_automaton.specs.Texts.{AllBytes}
 use Rattle.byte_automaton.specs.inner.Pass.{is_listed}
-use Rattle.byte_automaton.specs.inner.Texts.{AreBytes}
 use Rattle.byte_dfa.specs.inner.Lists.{list_at, IsList}
 
--- The row of a state begins at the state's number. It has an entry for each class of bytes, and the places of two lists: of
+-- A state is the place where its row begins. The row has an entry for each class of bytes, and the places of two lists: of
 -- what is found where the state is entered, and of what is found where the text ends.
 pub record Table : Type 0 where
   pub class_of : List ℕ
@@ -60,7 +60,7 @@ finds d y k = finds_from d d.start y k
 abbrev pub IsRow : Table → ℕ → Type 0
 IsRow d s = (i : ℕ) × (s ≡ i * (d.width + 2)) × (s + d.width + 1 < length d.next)
 
--- from a row each byte leads to a row; from the state 0 nothing is found; an entry below the bound leads to a state where
+-- from a row each byte leads to a row; from the state at 0 nothing is found; an entry below the bound leads to a state where
 -- nothing is found on entry
 pub record IsTable (d : Table) : Type 0 where
   pub classes : (b : ℕ) → b < 256 → slice_index d.class_of b < d.width
@@ -69,10 +69,10 @@ pub record IsTable (d : Table) : Type 0 where
   pub entry_list : (s : ℕ) → IsRow d s → IsList d.lists d.count (slice_index d.next (s + d.width))
   pub end_list : (s : ℕ) → IsRow d s → IsList d.lists d.count (slice_index d.next (s + d.width + 1))
   pub quiet : (s b : ℕ) → IsRow d s → b < 256 → entry d s b < special → on_entry d (after d s b) ≡ []
-  pub dead : (y : List ℕ) (k : ℕ) → AreBytes y → finds_from d 0 y k ≡ false
+  pub dead : (y : List ℕ) (k : ℕ) → AllBytes y → finds_from d 0 y k ≡ false
 
 -- the table finds what the automaton does
 pub record IsTableOf (m : Machine) (d : Table) : Type 0 where
   pub sound : IsTable d
-  pub finds : (y : List ℕ) (k : ℕ) → AreBytes y → IsTrue (finds d y k) ↔ IsReached m y k
+  pub finds : (y : List ℕ) (k : ℕ) → AllBytes y → IsTrue (finds d y k) ↔ IsReached m y k
   pub count : d.count ≡ m.index_count

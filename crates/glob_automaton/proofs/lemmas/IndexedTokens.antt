@@ -12,7 +12,9 @@ use Rattle.byte_automaton.specs.Building.{Agrees, Pushes}
 use Rattle.byte_automaton.specs.declared.byte_set.ByteSet.{ByteSet}
 use Rattle.glob_automaton.specs.inner.TokenStates.{IsSetOf, is_any_byte}
 use Rattle.glob_automaton.specs.inner.Building.{Grows, Builds, BuildsWhole}
-use Rattle.glob_automaton.specs.IndexedTokens.{IndexedTokens, indexed, Matches, SomeMatches, AllBytes, IsFor}
+use Rattle.byte_automaton.specs.Texts.{AllBytes}
+pub use Rattle.byte_automaton.proofs.lemmas.Deciding.{all_bytes}
+use Rattle.glob_automaton.specs.IndexedTokens.{IndexedTokens, indexed, Matches, SomeMatches, IsFor}
 use Rattle.glob_automaton.proofs.lemmas.Booleans.{or_first}
 use Rattle.glob_automaton.proofs.lemmas.Building.{agrees_old, agrees_higher}
 use Rattle.glob_automaton.proofs.lemmas.TokenLists.{alone_is}
@@ -111,7 +113,3 @@ one_more o ts j old mid new s xs grows built states starts before = λ a agrees'
 -- what a run reaches is what the tokens match
 pub reached_matches : (m : Machine) (xs : List IndexedTokens) (path : List ℕ) (k : ℕ) → IsFor m xs → AllBytes path → IsReached m path k ↔ SomeMatches xs path k
 reached_matches m xs path k is bytes = is m.states (λ s low high. refl) path k bytes
-
-pub all_bytes : (path : List ℕ) → ((i : ℕ) → slice_index path i < 256) → AllBytes path
-all_bytes [] h = tt
-all_bytes (c ∷ cs) h = (h 0, all_bytes cs (λ i. h (suc i)))

@@ -13,7 +13,7 @@ use Rattle.glob_automaton.specs.Blank.{is_kept, any_kept}
 use Rattle.byte_automaton.specs.Sets.{has_byte}
 use Rattle.byte_automaton.specs.Steps.{State, reads, skips, stays, final, state, IsIn, Accepts, ends, by_byte, by_skip, by_out, by_stay}
 use Rattle.byte_automaton.specs.declared.byte_set.ByteSet.{ByteSet}
-use Rattle.glob_automaton.specs.IndexedTokens.{AllBytes}
+use Rattle.byte_automaton.specs.Texts.{AllBytes}
 use Rattle.glob_automaton.specs.inner.TokenStates.{IsSetOf, is_any_byte, is_slash, Reads, Stays, spells, is_letter, IsSpelled, IsToSlash, IsBuilt, IsBuiltToken, AreBuilt}
 use Rattle.glob_automaton.proofs.lemmas.Booleans.{and_both, and_first, and_second, or_first, or_second, or_either}
 use Rattle.glob_automaton.proofs.lemmas.Cuts.{both, cut_of, some_cut-append, empty_is}

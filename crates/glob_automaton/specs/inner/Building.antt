@@ -5,7 +5,7 @@ use Rattle.glob_syntax.specs.Token.{Token, Tokens}
 use Rattle.byte_automaton.specs.Steps.{State, Accepts, Machine}
 use Rattle.byte_automaton.specs.Building.{Agrees, Keeps}
 use Rattle.glob_automaton.specs.TokenMeans.{means}
-use Rattle.glob_automaton.specs.IndexedTokens.{AllBytes}
+use Rattle.byte_automaton.specs.Texts.{AllBytes}
 use Rattle.glob_automaton.specs.inner.TokenStates.{IsSpelled, IsToSlash, IsBuilt, IsBuiltToken}
 
 -- states were added, and nothing else changed

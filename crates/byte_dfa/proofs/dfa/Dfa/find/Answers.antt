@@ -1,7 +1,7 @@
 use Rattle.std.proofs.Common.{◌≡◌, ℕ, ◌+◌, ◌<◌, ◌≤◌, ◌∷◌, ◌-◌, ◌||◌, [], drop, length, get_or, slice_index, arith, sym, ap, ◌∙◌}
 use Rattle.std.proofs.lemmas.List.{drop_more, drop_all}
 use Rattle.byte_automaton.specs.Sets.{has_index, index_room}
-use Rattle.byte_automaton.specs.inner.Texts.{AreBytes}
+use Rattle.byte_automaton.proofs.lemmas.Deciding.{all_bytes}
 use Rattle.byte_dfa.specs.DfaValue.{DfaValue}
 use Rattle.byte_dfa.specs.inner.Tables.{table_of, entry, special, finds}
 use Rattle.byte_dfa.proofs.lemmas.Lists.{list_wider}
@@ -35,7 +35,7 @@ returns-then-state-eq-DEAD-clause-found c = λ k.
     let rest = drop (i + 1) text in
     let more : drop i text ≡ byte ∷ rest = drop_more text i 0 lt in
     let small : byte < 256 = omega (arith, c.type_inv.text i) in
-    let bytes : AreBytes text = λ j. omega (arith, c.type_inv.text j) in
+    let bytes = all_bytes text (λ j. omega (arith, c.type_inv.text j)) in
     let e : ℕ = c.next-state.result in
     let is : e ≡ entry d l.state byte = c.next-state.ensures.value ∙ ap (λ n. slice_index n (l.state + slice_index t.class_of byte)) c.as_slice-table.ensures.value in
     let same = dead_next d sound l.state byte l.invariant.row small e is rest k (has_index l.into k) (finds d text k || has_index c.args.into.now k)
@@ -95,13 +95,13 @@ loop-byte-preserved c =
             w.if-state-ge-SPECIAL.true c.next-state.ensures.small
             (rw (w.deref-then-state-ge-SPECIAL.ensures.value, c.as_slice-table.ensures.value) at w.put_listed-then-state-ge-SPECIAL.ensures.has k)
             (rw more at inv.found k);
-        visits = omega (arith, inv.visits, c.tick.ensures);
+        visits = omega (arith, inv.visits, c.next-state.ensures.visits);
       }
       | else-state-ge-SPECIAL w ↦ rw (w.state-is, w.into-is) record {
         row = low_row d sound l.state byte inv.row small e is w.if-state-ge-SPECIAL.false;
         room = inv.room;
         found = λ k. low_next d sound l.state byte inv.row small e is rest k (has_index l.into k) (finds d text k || has_index c.args.into.now k) w.if-state-ge-SPECIAL.false (rw more at inv.found k);
-        visits = omega (arith, inv.visits, c.tick.ensures);
+        visits = omega (arith, inv.visits, c.next-state.ensures.visits);
       }
     ]
 
@@ -112,7 +112,7 @@ returns-clause-found c = λ k.
     let text = c.args.text.now in
     let l = c.loop-byte in
     let past : drop l.byte-index text ≡ [] = drop_all l.byte-index text (omega arith) in
-    let bytes : AreBytes text = λ j. omega (arith, c.type_inv.text j) in
+    let bytes = all_bytes text (λ j. omega (arith, c.type_inv.text j)) in
     let found = rw past at l.invariant.found k in
     let listed = rw (c.deref-2.ensures.value, c.as_slice-table.ensures.value) at c.put_listed-2.ensures.has k in
     let source = ap (λ (v : DfaValue). v.source) c.self.view_is in

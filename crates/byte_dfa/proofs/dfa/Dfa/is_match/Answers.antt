@@ -1,7 +1,7 @@
 use Rattle.std.proofs.Common.{◌≡◌, ℕ, ◌+◌, ◌<◌, ◌∷◌, ◌-◌, [], drop, length, get_or, slice_index, arith, sym, ap, ◌∙◌}
 use Rattle.std.proofs.lemmas.List.{drop_more, drop_all}
 use Rattle.byte_automaton.specs.inner.Pass.{is_listed}
-use Rattle.byte_automaton.specs.inner.Texts.{AreBytes}
+use Rattle.byte_automaton.proofs.lemmas.Deciding.{all_bytes}
 use Rattle.byte_automaton.proofs.lemmas.Pass.{or_first}
 use Rattle.byte_dfa.specs.DfaValue.{DfaValue}
 use Rattle.byte_dfa.specs.inner.Tables.{table_of, entry, special, on_entry, at_end, later, finds}
@@ -14,7 +14,7 @@ returns-then-has_some-clause-some c =
     let t = c.self.inside in
     let d = table_of t.class_of t.width t.table.items t.start t.lists.items t.index_count in
     let text = c.args.text.now in
-    let bytes : AreBytes text = λ j. omega (arith, c.type_inv.text j) in
+    let bytes = all_bytes text (λ j. omega (arith, c.type_inv.text j)) in
     let some = rw (c.deref.ensures.value, c.as_slice-table.ensures.value) at c.has_some.ensures.some in
     let (k, listed) = some c.if-has_some.true in
     let source = ap (λ (v : DfaValue). v.source) c.self.view_is in
@@ -45,7 +45,7 @@ returns-then-state-eq-DEAD-clause-some c =
     let rest = drop (i + 1) text in
     let more : drop i text ≡ byte ∷ rest = drop_more text i 0 lt in
     let small : byte < 256 = omega (arith, c.type_inv.text i) in
-    let bytes : AreBytes text = λ j. omega (arith, c.type_inv.text j) in
+    let bytes = all_bytes text (λ j. omega (arith, c.type_inv.text j)) in
     let e : ℕ = c.next-state.result in
     let is : e ≡ entry d l.state byte = c.next-state.ensures.value ∙ ap (λ n. slice_index n (l.state + slice_index t.class_of byte)) c.as_slice-table.ensures.value in
     let source = ap (λ (v : DfaValue). v.source) c.self.view_is in
@@ -90,7 +90,7 @@ returns-then-has_some-2-clause-some c =
     let rest = drop (i + 1) text in
     let more : drop i text ≡ byte ∷ rest = drop_more text i 0 lt in
     let small : byte < 256 = omega (arith, c.type_inv.text i) in
-    let bytes : AreBytes text = λ j. omega (arith, c.type_inv.text j) in
+    let bytes = all_bytes text (λ j. omega (arith, c.type_inv.text j)) in
     let e : ℕ = c.next-state.result in
     let is : e ≡ entry d l.state byte = c.next-state.ensures.value ∙ ap (λ n. slice_index n (l.state + slice_index t.class_of byte)) c.as_slice-table.ensures.value in
     let some = rw (c.deref-then-state-ge-SPECIAL.ensures.value, c.as_slice-table.ensures.value) at c.has_some-then-state-ge-SPECIAL.ensures.some in
@@ -121,12 +121,12 @@ loop-byte-preserved c =
         same = λ k.
             let none = rw (w.deref-then-state-ge-SPECIAL.ensures.value, c.as_slice-table.ensures.value) at w.has_some-then-state-ge-SPECIAL.ensures.none in
             sym (quiet_later d sound l.state byte inv.row small e is rest k w.if-state-ge-SPECIAL.true c.next-state.ensures.small (none w.if-has_some-2.false)) ∙ (rw more at inv.same k);
-        visits = omega (arith, inv.visits, c.tick.ensures);
+        visits = omega (arith, inv.visits, c.next-state.ensures.visits);
       }
       | else-state-ge-SPECIAL w ↦ rw w.state-is record {
         row = low_row d sound l.state byte inv.row small e is w.if-state-ge-SPECIAL.false;
         same = λ k. sym (low_later d sound l.state byte inv.row small e is rest k w.if-state-ge-SPECIAL.false) ∙ (rw more at inv.same k);
-        visits = omega (arith, inv.visits, c.tick.ensures);
+        visits = omega (arith, inv.visits, c.next-state.ensures.visits);
       }
     ]
 
@@ -137,7 +137,7 @@ returns-clause-some c =
     let text = c.args.text.now in
     let l = c.loop-byte in
     let past : drop l.byte-index text ≡ [] = drop_all l.byte-index text (omega arith) in
-    let bytes : AreBytes text = λ j. omega (arith, c.type_inv.text j) in
+    let bytes = all_bytes text (λ j. omega (arith, c.type_inv.text j)) in
     let some = rw (c.deref-2.ensures.value, c.as_slice-table.ensures.value) at c.has_some-2.ensures.some in
     let none = rw (c.deref-2.ensures.value, c.as_slice-table.ensures.value) at c.has_some-2.ensures.none in
     let source = ap (λ (v : DfaValue). v.source) c.self.view_is in
