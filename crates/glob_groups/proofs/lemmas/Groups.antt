@@ -3,19 +3,15 @@ use Rattle.std.proofs.Common.{◌≡◌, ℕ, ◌⊎◌, Bool, true, false, true
 use Rattle.std.specs.Prelude.{◌↔◌, if◌then◌else◌}
 use Rattle.glob_syntax.specs.declared.options.Options.{Options}
 use Rattle.glob_syntax.specs.Token.{Tokens}
-use Rattle.glob_syntax.specs.FlatTokens.{Flat, tree_of, IsNested}
 use Rattle.glob_automaton.specs.Takes.{slash}
 use Rattle.glob_automaton.specs.TokenMeans.{means}
 use Rattle.glob_path.specs.PathParts.{last_component, component_extension}
 use Rattle.glob_groups.specs.Silent.{are_silent, are_listed}
 use Rattle.glob_groups.specs.TokenTests.{literal_text, ending, is_whole_path, is_last_components, is_end, is_beginning, is_below_folder}
-use Rattle.glob_groups.specs.Groups.{GroupValue, Silent, WholePath, LastComponent, LastComponents, Extension, End, Beginning, ByLastComponent, ByPath, is_last_component, is_any_extension, is_by_last_component, automaton_group, ending_group, sensitive_group, group_of_tokens}
+use Rattle.glob_groups.specs.Groups.{GroupValue, Silent, ByLastComponent, ByPath, is_last_component, is_any_extension, is_by_last_component, automaton_group, ending_group, sensitive_group, group_of_tokens}
 use Rattle.glob_groups.specs.GroupMeaning.{group_seen, Tells, runs_automaton, IsGroupOf}
 use Rattle.glob_groups.specs.Direct.{is_direct, has_ending, needs_automaton}
 use Rattle.glob_groups.specs.declared.group.Group.{Group}
-use Rattle.glob_groups.specs.inner.FlatTests as flat
-use Rattle.glob_groups.proofs.lemmas.Endings.{ending_same}
-use Rattle.glob_groups.proofs.lemmas.FlatTests.{whole_path_same, last_component_same, last_components_same, any_extension_same, end_same, beginning_same, below_folder_same, by_last_component_same, whole_path_text, last_component_text, last_components_text, any_extension_text, end_text, beginning_text, below_folder_text}
 use Rattle.glob_groups.proofs.lemmas.Direct.{other_not_direct, ending_needs, insensitive_needs}
 use Rattle.glob_groups.proofs.lemmas.EndMeaning.{last_components_means, end_means, beginning_means, below_folder_means}
 use Rattle.glob_groups.proofs.lemmas.TokenMeaning.{whole_path_means, last_component_means, any_extension_means, ending_required, by_last_component_means}

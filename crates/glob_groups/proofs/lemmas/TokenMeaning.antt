@@ -147,37 +147,37 @@ all_wild_lacks o (c ∷ cs) on h =
 has_other : (had : ℕ → Bool) → had slash ≡ false → (c : ℕ) → had c ≡ true → (c == slash) ≡ false
 has_other had none c h = ne_eqb c slash (λ e. true≢false (sym h ∙ ap had e ∙ none))
 
-within_lacks : (o : Options) (t : Token) (b : List ℕ) → matches_no_slash o t ≡ true → Takes o t b → Lacks is_separator b
-within_lacks o (Literal c) b w h =
+no_slash_lacks : (o : Options) (t : Token) (b : List ℕ) → matches_no_slash o t ≡ true → Takes o t b → Lacks is_separator b
+no_slash_lacks o (Literal c) b w h =
     let same : compared o b ≡ compared o (encode_utf8 c) = (equal_bytes (compared o b) (compared o (encode_utf8 c))).1 h in
     sym (compared_position b o.case_insensitive) ∙ ap (last_position is_separator) same ∙ compared_position (encode_utf8 c) o.case_insensitive
     ∙ encode_lacks slash c (omega arith) (not-true (c == slash) w)
-within_lacks o Any b w h = one_lacks (is_wild o) b (λ c. wild_other o c w) h
-within_lacks o ZeroOrMore b w h = all_wild_lacks o b w h
-within_lacks o (Class negated rs) b w h = one_lacks (class_has o negated rs) b (has_other (class_has o negated rs) (not-true (class_has o negated rs slash) w)) h
-within_lacks o t b w h = absurd (true≢false (sym w))
+no_slash_lacks o Any b w h = one_lacks (is_wild o) b (λ c. wild_other o c w) h
+no_slash_lacks o ZeroOrMore b w h = all_wild_lacks o b w h
+no_slash_lacks o (Class negated rs) b w h = one_lacks (class_has o negated rs) b (has_other (class_has o negated rs) (not-true (class_has o negated rs slash) w)) h
+no_slash_lacks o t b w h = absurd (true≢false (sym w))
 
-within_all : (o : Options) (ts : Tokens) → all_pass (matches_no_slash o) ts ≡ true → (b : List ℕ) → TakesAll o ts b → Lacks is_separator b
-within_all o end w b h = subst (Lacks is_separator) (sym (empty_is b h)) refl
-within_all o (and_then t ts) w b h =
+no_slash_all : (o : Options) (ts : Tokens) → all_pass (matches_no_slash o) ts ≡ true → (b : List ℕ) → TakesAll o ts b → Lacks is_separator b
+no_slash_all o end w b h = subst (Lacks is_separator) (sym (empty_is b h)) refl
+no_slash_all o (and_then t ts) w b h =
     let (x, y, cut, p, q) = (then_takes o t ts b).1 h in
     subst (Lacks is_separator) (sym cut)
-    (lacks_append is_separator x y (within_lacks o t x (and_first (matches_no_slash o t) (all_pass (matches_no_slash o) ts) w) p) (within_all o ts (and_second (matches_no_slash o t) (all_pass (matches_no_slash o) ts) w) y q))
+    (lacks_append is_separator x y (no_slash_lacks o t x (and_first (matches_no_slash o t) (all_pass (matches_no_slash o) ts) w) p) (no_slash_all o ts (and_second (matches_no_slash o t) (all_pass (matches_no_slash o) ts) w) y q))
 
-within_no_prefix : (o : Options) (t : Token) → matches_no_slash o t ≡ true → is_prefix t ≡ false
-within_no_prefix o RecursivePrefix h = absurd (true≢false (sym h))
-within_no_prefix o t h = refl
+no_slash_no_prefix : (o : Options) (t : Token) → matches_no_slash o t ≡ true → is_prefix t ≡ false
+no_slash_no_prefix o RecursivePrefix h = absurd (true≢false (sym h))
+no_slash_no_prefix o t h = refl
 
-within_not_alone : (o : Options) (ts : Tokens) → all_pass (matches_no_slash o) ts ≡ true → is_prefix_alone ts ≡ false
-within_not_alone o end h = refl
-within_not_alone o (and_then t ts) h = no_prefix t ts (within_no_prefix o t (and_first (matches_no_slash o t) (all_pass (matches_no_slash o) ts) h))
+no_slash_not_alone : (o : Options) (ts : Tokens) → all_pass (matches_no_slash o) ts ≡ true → is_prefix_alone ts ≡ false
+no_slash_not_alone o end h = refl
+no_slash_not_alone o (and_then t ts) h = no_prefix t ts (no_slash_no_prefix o t (and_first (matches_no_slash o t) (all_pass (matches_no_slash o) ts) h))
 
 pub by_last_component_means : (o : Options) (b : List ℕ) (ts : Tokens) → is_by_last_component o ts ≡ true → means o ts b ≡ means o (after_prefix ts) (last_component b)
 by_last_component_means o b = by_first (λ ts. means o ts b ≡ means o (after_prefix ts) (last_component b)) is_prefix RecursivePrefix (some_all_pass (matches_no_slash o)) prefix_is
     (λ us h.
     let all : all_pass (matches_no_slash o) us ≡ true = and_second (has_tokens us) (all_pass (matches_no_slash o) us) h in
-    let component = by_component o us b (and_first (has_tokens us) (all_pass (matches_no_slash o) us) h) (within_all o us all) in
-    let same = means_taken o us (last_component b) (within_not_alone o us all) in
+    let component = by_component o us b (and_first (has_tokens us) (all_pass (matches_no_slash o) us) h) (no_slash_all o us all) in
+    let same = means_taken o us (last_component b) (no_slash_not_alone o us all) in
     same_truth (means o (and_then RecursivePrefix us) b) (means o us (last_component b)) (λ p. same.1 (component.0 p), λ p. component.1 (same.0 p)))
 
 -- ---- extensions
@@ -226,11 +226,11 @@ star_takes o [] e = refl
 star_takes o (c ∷ cs) e = and_both (is_wild o c) (list_all (is_wild o) cs) (wild o c e) (star_takes o cs e)
 
 -- and under every option it matches what has no `/`
-star_within : (o : Options) (b : List ℕ) → Lacks is_separator b → Takes o ZeroOrMore b
-star_within o [] h = refl
-star_within o (c ∷ cs) h =
+star_takes_component : (o : Options) (b : List ℕ) → Lacks is_separator b → Takes o ZeroOrMore b
+star_takes_component o [] h = refl
+star_takes_component o (c ∷ cs) h =
     let n = neither (last_position is_separator cs) (c == slash) h in
-    and_both (is_wild o c) (list_all (is_wild o) cs) (ap (λ t. not (o.literal_separator && t)) n.1 ∙ ap not (and_none o.literal_separator)) (star_within o cs n.0)
+    and_both (is_wild o c) (list_all (is_wild o) cs) (ap (λ t. not (o.literal_separator && t)) n.1 ∙ ap not (and_none o.literal_separator)) (star_takes_component o cs n.0)
 
 -- a star and literals
 pub star_literals_take : (o : Options) (b : List ℕ) → o.case_insensitive ≡ false → (ts : Tokens) → all_pass (is_literal_except []) ts ≡ true
@@ -266,7 +266,7 @@ prefix_star_means o b off us h = iff_trans (means_taken o (and_then RecursivePre
       (λ has.
       let p = split b in
       let last : last_component b ≡ has.before ++ t = has.cut ∙ ap (λ l. has.before ++ l) is in
-      let within : Takes o ZeroOrMore has.before = star_within o has.before (lacks_front is_separator has.before (component_extension b) (subst (Lacks is_separator) has.cut p.lacks)) in
+      let within : Takes o ZeroOrMore has.before = star_takes_component o has.before (lacks_front is_separator has.before (component_extension b) (subst (Lacks is_separator) has.cut p.lacks)) in
       (after_component o (and_then ZeroOrMore us) b).1 (p.front, last_component b, p.cut, p.ends, (star_literals_take o (last_component b) off us literals).1 (has.before, last, within)))
       (extension_parts b),
 )
