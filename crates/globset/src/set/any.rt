@@ -44,12 +44,12 @@ impl GlobSet {
     /// The same as [`GlobSet::is_match_candidate`], which calls it, with a count of the visits.
     ///
     /// It adds at most `4 + 2 * (path bytes + 1)`, and `path bytes + 1` times `4 * glob bytes + 4` for each glob that needs an
-    /// automaton for the path, also if memory runs out; and none if the set has no globs. It looks up the path and its parts in four tables and two tries, and
-    /// runs at most three automata, each once. Those that are not deterministic take two bits of memory for
-    /// each state.
+    /// automaton for the path, also if memory runs out; and none if the set has no globs. It looks up the path and its parts in
+    /// four tables and two tries, and runs at most three automata, each once. Those that are not deterministic take two bits of
+    /// memory for each state.
     ///
-    /// Returns an error if memory runs out, and no other. It needs no memory if no glob needs an automaton for
-    /// the path: if each of them is direct, or requires an extension that the path lacks.
+    /// Returns an error if memory runs out, and no other. It needs no memory if no glob needs an automaton for the path: if
+    /// each of them is direct, or requires an extension that the path lacks.
     pub fn is_match_visits(&self, path: &Candidate<'_>, visits: &mut Visits) -> Result<bool, Error>
         ensures ok { IfOk result (λ yes. IsTrue yes ↔ (answer (set_globs self.now) path.now ≢ [])) }
         ensures err { IfErr result (λ e. e ≡ out_of_memory) }
