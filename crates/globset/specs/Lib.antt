@@ -7,6 +7,7 @@ pub mod Lending
 pub mod Laws
 pub mod inner
 pub use Rattle.group_matching.specs.Indexes
+pub use Rattle.group_matching.specs.Visits
 pub use Rattle.globset_glob.specs.Token
 pub use Rattle.globset_glob.specs.Ranges
 pub use Rattle.globset_glob.specs.Marks

@@ -1,6 +1,7 @@
 -- How many visits a set may make.
-use Rattle.std.specs.Prelude.{ℕ, ◌+◌, ◌*◌, List, cond, length, sum_by}
+use Rattle.std.specs.Prelude.{ℕ, List, cond, length, sum_by}
 use Rattle.glob_groups.specs.Direct.{needs_automaton}
+use Rattle.group_matching.specs.Visits.{visits_for}
 use Rattle.globset_glob.specs.Means.{GlobValue, tokens_of_glob}
 use Rattle.globset_glob.specs.Cost.{cost}
 
@@ -9,8 +10,6 @@ use Rattle.globset_glob.specs.Cost.{cost}
 abbrev pub load : List GlobValue → List ℕ → ℕ
 load globs path = sum_by (λ g. cond (needs_automaton g.options (tokens_of_glob g) path) (cost g) 0) globs
 
--- The most visits for a path of n bytes: one lookup in each of four tables, n + 1 nodes in each of two tries, and at each of
--- n + 1 positions the states of the globs that need an automaton, which are at most `cost` for each. Other globs cost
--- nothing more, however many they are.
+-- The most visits for a path: a glob that needs an automaton has at most `cost` states.
 abbrev pub most_set_visits : List GlobValue → List ℕ → ℕ
-most_set_visits globs path = 4 + 2 * (length path + 1) + (length path + 1) * load globs path
+most_set_visits globs path = visits_for (length path) (load globs path)

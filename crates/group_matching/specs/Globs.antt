@@ -1,11 +1,12 @@
 -- Globs by their tokens, and which of a list are listed for a path.
-use Rattle.std.specs.Prelude.{ℕ, ◌+◌, ◌*◌, Bool, List, cond, length, sum_by}
+use Rattle.std.specs.Prelude.{ℕ, ◌+◌, Bool, List, cond, length, sum_by}
 use Rattle.glob_syntax.specs.declared.options.Options.{Options}
 use Rattle.glob_syntax.specs.Token.{Tokens}
 use Rattle.glob_syntax.specs.inner.Weight.{weight}
 use Rattle.glob_groups.specs.Silent.{are_listed}
 use Rattle.glob_groups.specs.Direct.{needs_automaton}
 use Rattle.group_matching.specs.Indexes.{passes_at, passing_indexes}
+use Rattle.group_matching.specs.Visits.{visits_for}
 
 -- a glob: its tokens, and the options that they are matched under
 pub record TokenGlob : Type 0 where
@@ -35,7 +36,6 @@ states g path = cond (needs_automaton g.options g.tokens path) (weight g.tokens 
 abbrev pub load : List TokenGlob → List ℕ → ℕ
 load globs path = sum_by (λ g. states g path) globs
 
--- The most visits for a path: one lookup in each of four tables; in each of two tries a node for each byte, and one more;
--- and each state that is run at each position of the path, which are one more than its bytes.
+-- the most visits for a path
 abbrev pub most_visits : List TokenGlob → List ℕ → ℕ
-most_visits globs path = 4 + 2 * (length path + 1) + (length path + 1) * load globs path
+most_visits globs path = visits_for (length path) (load globs path)

@@ -1,3 +1,4 @@
 pub mod Indexes
+pub mod Visits
 pub mod Globs
 pub mod inner
