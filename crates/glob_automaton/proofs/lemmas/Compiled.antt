@@ -4,7 +4,8 @@ use Rattle.std.specs.Prelude.{◌↔◌}
 use Rattle.std.proofs.Math.Logic.{⊎_elim}
 use Rattle.byte_automaton.specs.Steps.{State, Machine, state, skips, IsIn, IsReached, Accepts, ends, by_byte, by_skip, by_out, by_stay}
 use Rattle.byte_automaton.specs.Runs.{size}
-use Rattle.glob_automaton.specs.IndexedTokens.{IndexedTokens, SomeMatches, IsFor, AllBytes}
+use Rattle.byte_automaton.specs.Texts.{AllBytes}
+use Rattle.glob_automaton.specs.IndexedTokens.{IndexedTokens, SomeMatches, IsFor}
 use Rattle.glob_automaton.proofs.lemmas.IndexedTokens.{all_bytes, reached_matches}
 
 -- ---- an automaton without states
