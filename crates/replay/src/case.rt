@@ -1,5 +1,8 @@
 //! Rows about globs, sets, paths and JSON values, and rows that name a call.
 
+ghost use Rattle.std.specs.Prelude.{◌≡◌, IfOk};
+ghost use Rattle.globset.specs.Means.{glob_means};
+
 use crate::{calls, shown};
 use anyhow::Result;
 use globset::{Candidate, Error, Glob, GlobBuilder, GlobSet, ValueError, escape};
@@ -179,7 +182,10 @@ fn compared_matches(
     }
 }
 
-fn matches_by_itself(glob: &Glob, path: &Candidate<'_>) -> Result<bool, Error> {
+/// Whether a glob matches a path, by a matcher.
+fn matches_by_itself(glob: &Glob, path: &Candidate<'_>) -> Result<bool, Error>
+    ensures { IfOk result (λ yes. yes ≡ glob_means glob.now path.now) }
+{
     glob.compile_matcher()?.is_match_candidate(path)
 }
 
