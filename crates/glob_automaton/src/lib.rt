@@ -1,8 +1,8 @@
 //! Automata of tokens: which of several globs match a path.
 //!
 //! An automaton has the states of its tokens, one glob after another, and the end of each names its index. `new_builder`
-//! begins one, `add_tokens` adds the tokens of a glob, or a part of them that is to be matched as a glob of its own, and
-//! `is_match` and `find` run it over a path. Nothing here knows the text of a glob.
+//! begins one, and `add_tokens` adds the tokens of a glob, or a part of them that is to be matched as a glob of its own.
+//! [`Compiled`] runs it over a path. Nothing here knows the text of a glob.
 #![tactic(auto)]
 
 mod compiled;

@@ -27,8 +27,8 @@ fn automaton_of(glob: &Glob) -> Result<Automaton, AllocError>
 
 /// Tells whether a glob matches a path.
 ///
-/// Contracts see a matcher as its glob. It has an automaton for the glob, which is made with it; nothing is kept from one
-/// call to the next.
+/// Contracts see a matcher as its glob. It has an automaton for the glob, which is made with it, and a deterministic one if
+/// that is not too large. Nothing is kept from one call to the next.
 #[derive(Drop)]
 pub struct GlobMatcher {
     glob: Glob,
@@ -49,7 +49,11 @@ impl Model for GlobMatcher {
 impl GlobMatcher {
     ghost use Rattle.globset_glob.specs.Means.{glob_means};
 
-    /// Returns a matcher of a glob. Returns an error if memory runs out. It takes time and memory linear in the glob's text.
+    /// Returns a matcher of a glob. Returns an error if memory runs out.
+    ///
+    /// An automaton is made, in time and memory linear in the glob's text. If it has at most 2,048 states, a deterministic one
+    /// is made too. That can take a few hundred times as much memory and a thousand times as much time; one that would take
+    /// more is given up.
     pub(crate) fn new(glob: Glob) -> Result<GlobMatcher, Error>
         ensures ok { IfOk result (λ m. m ≡ glob) }
         ensures err { IfErr result (λ e. e ≡ out_of_memory) }
@@ -86,8 +90,9 @@ impl GlobMatcher {
 
     /// Does what [`is_match_candidate`](GlobMatcher::is_match_candidate) does, and adds its visits to `visits`.
     ///
-    /// These are at most `(path bytes + 1) * (4 * glob bytes + 4)` visits, also if memory runs out. The call allocates two
-    /// sets of states, of one bit for each state of the automaton.
+    /// These are at most `(path bytes + 1) * (4 * glob bytes + 4)` visits, also if memory runs out. The call allocates
+    /// nothing if the matcher has a deterministic automaton, and otherwise two sets of states, of one bit for each state of
+    /// the automaton.
     pub fn is_match_visits(&self, path: &Candidate<'_>, visits: &mut Visits) -> Result<bool, Error>
         ensures ok { IfOk result (λ yes. yes ≡ glob_means self.now path.now) }
         ensures err { IfErr result (λ e. e ≡ out_of_memory) }
@@ -97,7 +102,7 @@ impl GlobMatcher {
         Ok(self.automaton.is_match(alloc, path.path(), visits)?)
     }
 
-    /// Returns a matcher for an equal glob, or an error if memory runs out.
+    /// Returns a matcher for an equal glob, or an error if memory runs out. It copies the automata.
     pub fn clone(&self) -> Result<GlobMatcher, Error>
         ensures ok { IfOk result (λ m. m ≡ self.now) }
         ensures err { IfErr result (λ e. e ≡ out_of_memory) }

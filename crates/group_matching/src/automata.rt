@@ -70,8 +70,8 @@ impl Automata {
 
     /// Returns the indexes of the globs that match the path, or `None` if no automaton has to be run.
     ///
-    /// It takes a bit of memory for each index, and two for each state that is run; but none if no automaton has to be run.
-    /// Returns an error if memory runs out.
+    /// It takes a bit of memory for each index, and two for each state of an automaton that is run and is not deterministic;
+    /// but none if no automaton has to be run. Returns an error if memory runs out.
     pub fn found(
         &self,
         alloc: Global,
@@ -95,7 +95,8 @@ impl Automata {
 
     /// Returns whether some glob matches the path.
     ///
-    /// It takes two bits of memory for each state of an automaton that it runs. Returns an error if memory runs out.
+    /// It takes two bits of memory for each state of an automaton that it runs and that is not deterministic. Returns an error
+    /// if memory runs out.
     pub fn is_match(
         &self,
         alloc: Global,

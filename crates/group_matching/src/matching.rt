@@ -41,8 +41,8 @@ impl Groups {
 
     /// Returns whether some glob that is not silent matches the path.
     ///
-    /// If an automaton has to be run, it takes two bits of memory for each state that is run. Returns an error if memory runs
-    /// out, and so none if no glob needs an automaton for the path.
+    /// If an automaton has to be run that is not deterministic, it takes two bits of memory for each of its states. Returns an
+    /// error if memory runs out, and so none if no glob needs an automaton for the path.
     pub fn is_match(
         &self,
         alloc: Global,
