@@ -14,14 +14,14 @@ use visits::Visits;
 /// The most states of an automaton for which a deterministic one is made.
 const MOST_STATES: usize = 2_048;
 
-/// The table and the lists of a deterministic automaton may have this many numbers, and `NUMBERS_PER_STATE` more for each
-/// state of the automaton. Most that need more have a number of states that is exponential in those of the automaton.
-const NUMBERS: usize = 8_192;
+/// The most numbers in the table and the lists of a deterministic automaton, for each state of the automaton. Most that need
+/// more have a number of states that is exponential in those of the automaton.
+const NUMBERS_PER_STATE: usize = 512;
 
-/// See `NUMBERS`.
-const NUMBERS_PER_STATE: usize = 256;
+/// The most numbers in the table and the lists.
+const MOST_NUMBERS: usize = 40_960;
 
-/// The most numbers times the states of the automaton: for each number in the table each state may be read.
+/// The most numbers times the states of the automaton. To find a number in the table may take reading each state.
 const MOST_READS: usize = 1 << 25;
 
 /// An automaton, and if it is not too large a deterministic one that finds the same: running that takes less time for each
@@ -68,9 +68,9 @@ impl Clone for Compiled {
 impl Compiled {
     /// Returns an automaton, with a deterministic one if it is not too large. Returns an error if memory runs out.
     ///
-    /// The table and the lists of a deterministic one have at most `8,192 + 256 * states` numbers, and at most
-    /// `2^25 / states`. For each of them each state may be read, also if it is given up because it would have more. None is
-    /// made for an automaton of no states, or of more than 2,048.
+    /// The table and the lists of a deterministic one have at most 40,960 numbers, 512 for each state, and `2^25 / states`.
+    /// To find one of them may take reading each state, also if it is given up because it would have more. None is made for
+    /// an automaton of no states, or of more than 2,048.
     pub fn new(alloc: Global, automaton: Automaton) -> Result<Compiled, AllocError>
         ensures { IfOk result (λ c. c ≡ automaton) }
     {
@@ -78,7 +78,9 @@ impl Compiled {
         if states == 0 || states > MOST_STATES {
             return Ok(Compiled::simulated(automaton));
         }
-        let budget = (NUMBERS + NUMBERS_PER_STATE * states).min(MOST_READS / states);
+        let budget = (NUMBERS_PER_STATE * states)
+            .min(MOST_NUMBERS)
+            .min(MOST_READS / states);
         let dfa = Dfa::new(alloc, &automaton, budget)?;
         Ok(Compiled { automaton, dfa })
     }
