@@ -3,7 +3,7 @@
 ghost use Rattle.std.specs.Prelude.{◌≡◌, ℕ, ◌+◌, ◌*◌, ◌<◌, ◌≤◌, [], ◌∷◌, List, length, slice_get, Some, IsTrue, OnOk, IfOk, IfSome};
 ghost use Rattle.byte_automaton.specs.Runs.{size, AcceptsFrom};
 ghost use Rattle.byte_automaton.specs.Sets.{state_room};
-ghost use Rattle.byte_dfa.specs.inner.Building.{IsEntryTo, IsSound, IsNumbered, KeepsFound, Grows, IsComplete, total};
+ghost use Rattle.byte_dfa.specs.inner.Building.{AreFoundSets, GoesTo, IsEntryTo, IsSound, IsNumbered, KeepsFound, Grows, IsComplete, total};
 ghost use Rattle.byte_dfa.specs.inner.Tables.{special};
 
 use crate::classes::ByteClasses;
@@ -193,9 +193,7 @@ impl Construction {
         ensures place { IfOk result (λ fits. IsTrue fits → length self.new.rows.items ≡ (row + 1) * (classes.now.count + 2)) }
     {
         for class in 0..classes.count {
-            let byte = classes.firsts[class];
-            let mut from = self.found[row].states.clone()?;
-            automaton.step(&mut from, byte, to, &mut Visits::new());
+            self.step(automaton, row, classes.firsts[class], to)?;
             let made = self.number_of(alloc, automaton, classes, to)?;
             let Some(number) = made else {
                 return Ok(false);
@@ -206,6 +204,25 @@ impl Construction {
         self.rows.push(self.found[row].on_entry as u32)?;
         self.rows.push(self.found[row].at_end as u32)?;
         Ok(true)
+    }
+
+    /// Puts the states that a byte leads to from the set of a row into another set.
+    fn step(
+        &self,
+        automaton: &Automaton,
+        row: usize,
+        byte: u8,
+        to: &mut StateSet,
+    ) -> Result<(), AllocError>
+        requires room { size automaton.now ≤ state_room to.old }
+        requires sound { AreFoundSets automaton.now self.now.found.items self.now.lists.items }
+        requires row { row < length self.now.found.items }
+        ensures room { state_room to.new ≡ state_room to.old }
+        ensures goes { OnOk result ((f : Found) → slice_get self.now.found.items row ≡ Some f → GoesTo automaton.now f.states byte to.new) }
+    {
+        let mut from = self.found[row].states.clone()?;
+        automaton.step(&mut from, byte, to, &mut Visits::new());
+        Ok(())
     }
 
     /// Returns the entry that leads to a state.

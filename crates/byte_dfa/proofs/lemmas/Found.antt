@@ -1,5 +1,5 @@
 -- Sets of states that were found, one after another.
-use Rattle.std.proofs.Common.{◌≡◌, ℕ, zero, suc, ◌+◌, ◌⊎◌, inl, inr, List, [], ◌∷◌, ◌++◌, Some, length, refl, ap, sym, ◌∙◌, subst, arith, length-append}
+use Rattle.std.proofs.Common.{◌≡◌, ℕ, zero, suc, ◌+◌, ◌<◌, ◌⊎◌, inl, inr, List, [], ◌∷◌, ◌++◌, Some, length, refl, ap, sym, ◌∙◌, subst, arith, length-append}
 use Rattle.std.specs.Prelude.{◌↔◌, slice_get}
 use Rattle.std.proofs.Math.Logic.{⊎_elim}
 use Rattle.byte_automaton.specs.Runs.{AcceptsFrom}
@@ -36,6 +36,11 @@ get_cases (z ∷ xs) x (suc i) f h = by_case (get_cases xs x i f h)
     by_case : (slice_get xs i ≡ Some f) ⊎ ((i ≡ length xs) × (f ≡ x)) → (slice_get xs i ≡ Some f) ⊎ ((suc i ≡ suc (length xs)) × (f ≡ x))
     by_case (inl g) = inl g
     by_case (inr (e, is)) = inr (ap suc e, is)
+
+pub get_at : (found : List Found) (i : ℕ) → i < length found → (f : Found) × (slice_get found i ≡ Some f)
+get_at [] i lt = absurd (omega arith)
+get_at (f ∷ fs) zero lt = (f, refl)
+get_at (f ∷ fs) (suc i) lt = get_at fs i (omega (arith, lt))
 
 pub keeps_more : (found : List Found) (f : Found) → KeepsFound found (found ++ f ∷ [])
 keeps_more found f = (omega (arith, length-append found (f ∷ [])), λ i g h. get_old found (f ∷ []) i g h)
