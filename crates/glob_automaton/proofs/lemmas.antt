@@ -1,6 +1,5 @@
 pub mod Booleans
 pub mod Building
-pub mod Compiled
 pub mod Cuts
 pub mod Frames
 pub mod IndexedTokens

@@ -1,4 +1,3 @@
 pub mod Building
-pub mod Compiled
 pub mod Frames
 pub mod TokenStates

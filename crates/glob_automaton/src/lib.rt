@@ -2,13 +2,11 @@
 //!
 //! An automaton has the states of its tokens, one glob after another, and the end of each names its index. `new_builder`
 //! begins one, and `add_tokens` adds the tokens of a glob, or a part of them that is to be matched as a glob of its own.
-//! [`Compiled`] runs it over a path. Nothing here knows the text of a glob.
+//! Nothing here knows the text of a glob.
 #![tactic(auto)]
 
-mod compiled;
 mod groups;
 mod states;
 mod whole;
 
-pub use compiled::Compiled;
 pub use whole::{add_tokens, is_prefix_alone, new_builder};

@@ -14,7 +14,8 @@ ghost use Rattle.group_matching.specs.inner.Automata.{AddsTokens, AreFor, AreFor
 mod slots;
 
 use byte_automaton::{Builder, IndexSet};
-use glob_automaton::{Compiled, add_tokens, new_builder};
+use glob_automaton::{add_tokens, new_builder};
+use glob_matching::Compiled;
 use glob_path::{Candidate, component_extension_of, last_component_of};
 use glob_syntax::{Options, Token};
 use slots::{Slots, SlotsBuilder};

@@ -11,7 +11,8 @@ ghost use Rattle.group_matching.specs.inner.Automata.{AddsTokens, AreFor, KeepsT
 
 use byte_automaton::Builder;
 use byte_table::Table;
-use glob_automaton::{Compiled, add_tokens, new_builder};
+use glob_automaton::{add_tokens, new_builder};
+use glob_matching::Compiled;
 use glob_syntax::{Options, Token};
 use std::alloc::{AllocError, Global};
 use std::marker::Model;

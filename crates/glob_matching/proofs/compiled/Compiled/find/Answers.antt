@@ -4,10 +4,10 @@ use Rattle.std.proofs.Math.Logic.{⊎_elim}
 use Rattle.byte_automaton.specs.Runs.{size}
 use Rattle.byte_automaton.specs.Sets.{has_index}
 use Rattle.byte_automaton.specs.Steps.{IsReached, Machine}
-use Rattle.glob_automaton.specs.inner.Compiled.{FindsTheSame}
+use Rattle.glob_matching.specs.inner.Compiled.{FindsTheSame}
 use Rattle.glob_automaton.proofs.lemmas.IndexedTokens.{all_bytes}
-use Rattle.glob_automaton.proofs.lemmas.Compiled.{no_matches, finds_matches}
-use Rattle.glob_automaton.proofs.compiled.Compiled.find.Goals as goal
+use Rattle.glob_matching.proofs.lemmas.Compiled.{no_matches, finds_matches}
+use Rattle.glob_matching.proofs.compiled.Compiled.find.Goals as goal
 
 pub returns-then-states-eq0-clause-found : goal.returns-then-states-eq0-clause-found
 returns-then-states-eq0-clause-found c = λ xs is k.

@@ -44,7 +44,7 @@ impl Drop for Compiled {
 
 impl Model for Compiled {
     ghost use Rattle.byte_automaton.specs.Steps.{Machine};
-    ghost use Rattle.glob_automaton.specs.inner.Compiled.{FindsTheSame};
+    ghost use Rattle.glob_matching.specs.inner.Compiled.{FindsTheSame};
 
     ghost Value = { Machine };
 

@@ -2,10 +2,10 @@ use Rattle.std.proofs.Common.{◌≡◌, ◌∙◌, ℕ, IsTrue, subst, arith}
 use Rattle.std.specs.Prelude.{◌↔◌}
 use Rattle.byte_automaton.specs.Runs.{size}
 use Rattle.byte_automaton.specs.Steps.{IsReached, Machine}
-use Rattle.glob_automaton.specs.inner.Compiled.{FindsTheSame}
+use Rattle.glob_matching.specs.inner.Compiled.{FindsTheSame}
 use Rattle.glob_automaton.proofs.lemmas.IndexedTokens.{all_bytes}
-use Rattle.glob_automaton.proofs.lemmas.Compiled.{no_matches, has_matches}
-use Rattle.glob_automaton.proofs.compiled.Compiled.is_match.Goals as goal
+use Rattle.glob_matching.proofs.lemmas.Compiled.{no_matches, has_matches}
+use Rattle.glob_matching.proofs.compiled.Compiled.is_match.Goals as goal
 
 pub returns-then-states-eq0-clause-some : goal.returns-then-states-eq0-clause-some
 returns-then-states-eq0-clause-some c = λ xs is.
