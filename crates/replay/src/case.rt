@@ -1,9 +1,9 @@
-//! Rows about globs, sets, paths and JSON values, and rows that name a call.
+//! Rows about globs, sets, paths and JSON values.
 
 ghost use Rattle.std.specs.Prelude.{◌≡◌, IfOk};
 ghost use Rattle.globset.specs.Means.{glob_means};
 
-use crate::{calls, shown};
+use crate::shown;
 use anyhow::Result;
 use globset::{Candidate, Error, Glob, GlobBuilder, GlobSet, ValueError, escape};
 use rows::{Case, Columns, RowError, escaped, list, text, yes_or_no};
@@ -40,7 +40,6 @@ impl Case for Globs {
             "escape" => self.escape(columns),
             "value" => self.value(columns),
             "array" => self.array(columns),
-            "call" => calls::returned(self.alloc, columns, &self.globs, &self.set),
             _ => Err(RowError::UnknownKind.into()),
         }
     }
