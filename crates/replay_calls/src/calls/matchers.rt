@@ -1,5 +1,8 @@
 //! Calls on matchers.
 
+ghost use Rattle.std.specs.Prelude.{◌≡◌, IfOk};
+ghost use Rattle.globset.specs.Means.{glob_means};
+
 use crate::calls::debugged;
 use anyhow::Result;
 use globset::{Candidate, Error, Glob, GlobMatcher, Visits};
@@ -32,7 +35,7 @@ fn is_match(alloc: Global, call: &str, matcher: &GlobMatcher) -> Result<bool> {
         "is_match String" => Ok(by_string(alloc, matcher)?),
         "is_match_candidate" => Ok(matcher.is_match_candidate(&Candidate::new(PATH))?),
         "is_match_visits" => Ok(counted(matcher)?),
-        "clone" => Ok(by_copy(matcher)?),
+        "clone" => Ok(by_copy(matcher, PATH)?),
         _ => Err(RowError::UnknownCall.into()),
     }
 }
@@ -51,6 +54,9 @@ fn counted(matcher: &GlobMatcher) -> Result<bool, Error> {
     matcher.is_match_visits(&Candidate::new(PATH), &mut visits)
 }
 
-fn by_copy(matcher: &GlobMatcher) -> Result<bool, Error> {
-    matcher.clone()?.is_match(PATH)
+/// Whether a copy of a matcher matches a path.
+fn by_copy(matcher: &GlobMatcher, path: &str) -> Result<bool, Error>
+    ensures { IfOk result (λ yes. yes ≡ glob_means matcher.now path.now) }
+{
+    matcher.clone()?.is_match(path)
 }
