@@ -1,6 +1,6 @@
 //! The rows of a file that passed, and those that failed.
 
-ghost use Rattle.std.specs.Prelude.{◌≡◌, ◌+◌, ◌<◌, ◌^◌, ◌++◌, ◌∷◌, [], length, IfOk, OnOk, MatchOption};
+ghost use Rattle.std.specs.Prelude.{◌≡◌, ◌+◌, ◌<◌, ◌≤◌, ◌^◌, ◌++◌, ◌∷◌, [], ℕ, length, IfOk, OnOk, MatchOption, cond};
 ghost use Rattle.std.specs.List.{All, count_by};
 ghost use Rattle.rows.specs.Rows.{is_row};
 
@@ -32,13 +32,7 @@ pub fn replay<C: Case>(alloc: Global, lines: &[&str]) -> Result<Report, AllocErr
         failures: Vec::new(alloc),
     };
     for (index, line) in lines.iter().enumerate() {
-        if line.is_empty() {
-            case = C::new(alloc);
-        }
-        if is_row(line) {
-            let returned = case::replay(alloc, &mut case, line)?;
-            report.add(index, returned)?;
-        }
+        report.replay_line(alloc, &mut case, index, line)?;
     }
     Ok(report)
 }
@@ -54,6 +48,30 @@ fn is_row(line: &str) -> bool
 }
 
 impl Report {
+    /// Replays a line, if it is a row, and adds what was returned. An empty line ends a case.
+    fn replay_line<C: Case>(
+        &mut self,
+        alloc: Global,
+        case: &mut C,
+        index: usize,
+        line: &str,
+    ) -> Result<(), AllocError>
+        requires passed { self.old.passed ≤ index }
+        requires index { index + 1 < 2 ^ 64 }
+        ensures passed { OnOk result (self.new.passed ≤ index + 1) }
+        ensures rows { OnOk result (self.new.passed + length self.new.failures.items ≡ self.old.passed + length self.old.failures.items + cond (is_row line.now) 1 0) }
+        ensures failures { OnOk result ((n : ℕ) → index < n → All (λ f. f.index < n) self.old.failures.items → All (λ f. f.index < n) self.new.failures.items) }
+    {
+        if line.is_empty() {
+            *case = C::new(alloc);
+        }
+        if !is_row(line) {
+            return Ok(());
+        }
+        let returned = case::replay(alloc, case, line)?;
+        self.add(index, returned)
+    }
+
     /// Adds the row of this line: it passed if nothing else was returned.
     fn add(&mut self, index: usize, returned: Option<String>) -> Result<(), AllocError>
         requires { self.old.passed + 1 < 2 ^ 64 }
