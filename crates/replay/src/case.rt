@@ -6,9 +6,9 @@ ghost use Rattle.globset.specs.Means.{glob_means};
 use crate::shown;
 use anyhow::Result;
 use globset::{Candidate, Error, Glob, GlobBuilder, GlobSet, ValueError, escape};
-use rows::{Case, Columns, RowError, escaped, list, text, yes_or_no};
+use rows::{Case, Columns, RowError, escaped, list, yes_or_no};
 use serde_json::Value;
-use std::alloc::{AllocError, Global};
+use std::alloc::Global;
 use std::hash::{DefaultHasher, Hash, Hasher};
 
 /// The globs that rows so far added, and a set of them.
@@ -49,20 +49,20 @@ impl Globs {
     /// Reads a glob and copies it: `reads`, and the copy's `regex()`; or `fails`, the error's kind and its text.
     fn read(&self, columns: &mut Columns<'_>) -> Result<String> {
         match &read(self.alloc, columns)? {
-            Ok(glob) => Ok(shown_copy(self.alloc, glob)?),
-            Err(error) => Ok(shown::error(self.alloc, error)?),
+            Ok(glob) => shown_copy(self.alloc, glob),
+            Err(error) => shown::error(self.alloc, error),
         }
     }
 
     /// Reads a glob, as [`Globs::read`], and adds it to the set.
     fn glob(&mut self, columns: &mut Columns<'_>) -> Result<String> {
         match read(self.alloc, columns)? {
-            Ok(glob) => Ok(self.push_shown(glob)?),
-            Err(error) => Ok(shown::error(self.alloc, &error)?),
+            Ok(glob) => self.push_shown(glob),
+            Err(error) => shown::error(self.alloc, &error),
         }
     }
 
-    fn push_shown(&mut self, glob: Glob) -> Result<String, Error> {
+    fn push_shown(&mut self, glob: Glob) -> Result<String> {
         let shown = shown::glob(self.alloc, &glob)?;
         self.push(glob)?;
         Ok(shown)
@@ -71,7 +71,7 @@ impl Globs {
     /// Adds a glob to the set: the length of the set.
     fn add(&mut self, columns: &mut Columns<'_>) -> Result<String> {
         self.push(read(self.alloc, columns)??)?;
-        Ok(format!(in self.alloc; "{}", self.set.len())?)
+        shown::number(self.alloc, self.set.len())
     }
 
     fn push(&mut self, glob: Glob) -> Result<(), Error> {
@@ -82,26 +82,36 @@ impl Globs {
 
     /// Whether a glob matches a path, by its matcher and by a set of it alone.
     fn is_match(&self, columns: &mut Columns<'_>) -> Result<String> {
-        let shown = is_match(self.alloc, &read(self.alloc, columns)??, columns)?;
-        Ok(text(self.alloc, shown)?)
+        is_match(self.alloc, &read(self.alloc, columns)??, columns)
     }
 
     /// The indexes that the set returns for a path, whether all globs match it, and the indexes of the globs whose own
     /// matchers match it.
     fn path(&self, columns: &mut Columns<'_>) -> Result<String> {
-        let path = columns.bytes(self.alloc)?;
-        let path = Candidate::from_bytes(&path);
-        let indexes = self.set.matches_candidate(self.alloc, &path)?;
-        if self.set.is_match_candidate(&path)? == indexes.is_empty() {
-            return Ok(text(self.alloc, "is_match and matches differ")?);
+        self.answers(&Candidate::from_bytes(&columns.bytes(self.alloc)?))
+    }
+
+    fn answers(&self, path: &Candidate<'_>) -> Result<String> {
+        self.compared_answers(path, &self.set.matches_candidate(self.alloc, path)?)
+    }
+
+    fn compared_answers(&self, path: &Candidate<'_>, indexes: &[usize]) -> Result<String> {
+        if self.set.is_match_candidate(path)? == indexes.is_empty() {
+            return shown::copied(self.alloc, "is_match and matches differ");
         }
-        let all = yes_or_no(self.set.matches_all_candidate(&path)?);
-        let set = list(self.alloc, &indexes)?;
-        let each = list(self.alloc, &self.matching(&path)?)?;
-        Ok(format!(in self.alloc; "{set}\t{all}\t{each}")?)
+        self.shown_answers(path, &list(self.alloc, indexes)?)
+    }
+
+    fn shown_answers(&self, path: &Candidate<'_>, indexes: &str) -> Result<String> {
+        let all = yes_or_no(self.set.matches_all_candidate(path)?);
+        shown::columns(self.alloc, indexes, all, &self.each(path)?)
     }
 
     /// The indexes of the globs whose own matchers match a path.
+    fn each(&self, path: &Candidate<'_>) -> Result<String> {
+        Ok(list(self.alloc, &self.matching(path)?)?)
+    }
+
     fn matching(&self, path: &Candidate<'_>) -> Result<Vec<usize>, Error> {
         let mut indexes = Vec::new(self.alloc);
         for (i, glob) in self.globs.iter().enumerate() {
@@ -114,71 +124,61 @@ impl Globs {
 
     /// Whether two globs are equal, or the errors of two texts that are no globs. Equal globs must hash equally.
     fn equal(&self, columns: &mut Columns<'_>) -> Result<String> {
-        let shown = equal(self.alloc, &read(self.alloc, columns)?, columns)?;
-        Ok(text(self.alloc, shown)?)
+        equal(self.alloc, &read(self.alloc, columns)?, columns)
     }
 
     /// The basename and the extension of a path.
     fn parts(&self, columns: &mut Columns<'_>) -> Result<String> {
-        let path = columns.bytes(self.alloc)?;
-        let path = Candidate::from_bytes(&path);
-        let basename = escaped(self.alloc, path.basename())?;
-        let ext = escaped(self.alloc, path.ext())?;
-        Ok(format!(in self.alloc; "{basename}\t{ext}")?)
+        parts(
+            self.alloc,
+            &Candidate::from_bytes(&columns.bytes(self.alloc)?),
+        )
     }
 
     /// The escaped text.
     fn escape(&self, columns: &mut Columns<'_>) -> Result<String> {
-        let glob = escape(self.alloc, columns.text(self.alloc)?.as_str())?;
-        Ok(escaped(self.alloc, glob.as_bytes())?)
+        escaped_glob(self.alloc, columns.text(self.alloc)?.as_str())
     }
 
     /// Reads a glob from a JSON text: `reads`, the glob and the JSON text that is written of it; or `fails` and the error.
     fn value(&self, columns: &mut Columns<'_>) -> Result<String> {
         match &Glob::from_value(self.alloc, &json(self.alloc, columns)?) {
             Ok(glob) => written(self.alloc, glob),
-            Err(error) => Ok(shown::value_error(self.alloc, error)?),
+            Err(error) => shown::value_error(self.alloc, error),
         }
     }
 
     /// Reads a set from a JSON text, in place of the set: `reads` and its length; or `fails`, the index and the error.
     fn array(&mut self, columns: &mut Columns<'_>) -> Result<String> {
         match GlobSet::from_value(self.alloc, &json(self.alloc, columns)?) {
-            Ok(set) => Ok(self.replace(set)?),
-            Err(error) => Ok(shown::value_error(self.alloc, &error)?),
+            Ok(set) => self.replace(set),
+            Err(error) => shown::value_error(self.alloc, &error),
         }
     }
 
-    fn replace(&mut self, set: GlobSet) -> Result<String, AllocError> {
+    fn replace(&mut self, set: GlobSet) -> Result<String> {
         self.globs.clear();
         self.set = set;
-        format!(in self.alloc; "reads\t{}", self.set.len())
+        shown::length(self.alloc, self.set.len())
     }
 }
 
-fn shown_copy(alloc: Global, glob: &Glob) -> Result<String, Error> {
-    let copy = glob.clone()?;
-    Ok(shown::glob(alloc, &copy)?)
+fn shown_copy(alloc: Global, glob: &Glob) -> Result<String> {
+    shown::glob(alloc, &glob.clone()?)
 }
 
 /// Whether a glob matches the path of the next column.
-fn is_match(alloc: Global, glob: &Glob, columns: &mut Columns<'_>) -> Result<&'static str> {
-    let path = columns.bytes(alloc)?;
-    Ok(compared_matches(alloc, glob, &Candidate::from_bytes(&path))?)
+fn is_match(alloc: Global, glob: &Glob, columns: &mut Columns<'_>) -> Result<String> {
+    compared_matches(alloc, glob, &Candidate::from_bytes(&columns.bytes(alloc)?))
 }
 
-fn compared_matches(
-    alloc: Global,
-    glob: &Glob,
-    path: &Candidate<'_>,
-) -> Result<&'static str, Error> {
+fn compared_matches(alloc: Global, glob: &Glob, path: &Candidate<'_>) -> Result<String> {
     let matcher = matches_by_itself(glob, path)?;
     let set = matches_in_a_set(alloc, glob, path)?;
-    if matcher == set {
-        Ok(yes_or_no(matcher))
-    } else {
-        Ok("the matcher and the set differ")
+    if matcher != set {
+        return shown::copied(alloc, "the matcher and the set differ");
     }
+    shown::copied(alloc, yes_or_no(matcher))
 }
 
 /// Whether a glob matches a path, by a matcher.
@@ -193,12 +193,8 @@ fn matches_in_a_set(alloc: Global, glob: &Glob, path: &Candidate<'_>) -> Result<
 }
 
 /// Whether the glob of the next columns, or its error, is equal to this one.
-fn equal(
-    alloc: Global,
-    one: &Result<Glob, Error>,
-    columns: &mut Columns<'_>,
-) -> Result<&'static str, RowError> {
-    Ok(compared(one, &read(alloc, columns)?))
+fn equal(alloc: Global, one: &Result<Glob, Error>, columns: &mut Columns<'_>) -> Result<String> {
+    shown::copied(alloc, compared(one, &read(alloc, columns)?))
 }
 
 fn compared(one: &Result<Glob, Error>, other: &Result<Glob, Error>) -> &'static str {
@@ -212,6 +208,18 @@ fn compared(one: &Result<Glob, Error>, other: &Result<Glob, Error>) -> &'static 
     }
 }
 
+fn parts(alloc: Global, path: &Candidate<'_>) -> Result<String> {
+    shown::pair(
+        alloc,
+        &escaped(alloc, path.basename())?,
+        &escaped(alloc, path.ext())?,
+    )
+}
+
+fn escaped_glob(alloc: Global, text: &str) -> Result<String> {
+    Ok(escaped(alloc, escape(alloc, text)?.as_bytes())?)
+}
+
 /// `reads`, the glob and the JSON text that is written of it.
 fn written(alloc: Global, glob: &Glob) -> Result<String> {
     written_as(alloc, glob, &glob.to_value()?)
@@ -219,11 +227,15 @@ fn written(alloc: Global, glob: &Glob) -> Result<String> {
 
 fn written_as(alloc: Global, glob: &Glob, value: &Value) -> Result<String> {
     if !is_read_back(alloc, glob, value)? {
-        return Ok(text(alloc, "another glob is read back")?);
+        return shown::copied(alloc, "another glob is read back");
     }
-    let glob = escaped(alloc, glob.glob().as_bytes())?;
     let written = escaped(alloc, value.to_string(alloc)?.as_bytes())?;
-    Ok(format!(in alloc; "reads\t{glob}\t{written}")?)
+    shown::columns(
+        alloc,
+        "reads",
+        &escaped(alloc, glob.glob().as_bytes())?,
+        &written,
+    )
 }
 
 fn is_read_back(alloc: Global, glob: &Glob, value: &Value) -> Result<bool, ValueError> {
@@ -245,17 +257,24 @@ fn json(alloc: Global, columns: &mut Columns<'_>) -> Result<Value, RowError> {
 fn read(alloc: Global, columns: &mut Columns<'_>) -> Result<Result<Glob, Error>, RowError> {
     let options = columns.next()?;
     let text = columns.text(alloc)?;
-    if options != "-" && (options.is_empty() || !options.chars().all(|c| "iseub".contains(c))) {
+    if !are_options(options) {
         return Err(RowError::UnknownOption);
     }
-    let mut builder = GlobBuilder::new(text.as_str());
-    builder
+    Ok(read_with(alloc, options, text.as_str()))
+}
+
+fn are_options(options: &str) -> bool {
+    options == "-" || (!options.is_empty() && options.chars().all(|c| "iseub".contains(c)))
+}
+
+fn read_with(alloc: Global, options: &str, text: &str) -> Result<Glob, Error> {
+    GlobBuilder::new(text)
         .case_insensitive(options.contains('i'))
         .literal_separator(options.contains('s'))
         .empty_alternates(options.contains('e'))
         .allow_unclosed_class(options.contains('u'))
-        .backslash_escape(!options.contains('b'));
-    Ok(builder.build(alloc))
+        .backslash_escape(!options.contains('b'))
+        .build(alloc)
 }
 
 fn hash_of(glob: &Glob) -> u64 {

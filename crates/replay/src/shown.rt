@@ -1,28 +1,70 @@
 //! What calls return, as columns.
 
+use anyhow::Result;
 use globset::{Error, Glob, ValueError};
-use rows::escaped;
+use rows::{escaped, text};
 use std::alloc::{AllocError, Global};
 
 /// `reads`, and the text of `regex()`.
-pub fn glob(alloc: Global, glob: &Glob) -> Result<String, AllocError> {
-    let regex = escaped(alloc, glob.regex().as_bytes())?;
-    format!(in alloc; "reads\t{regex}")
+pub fn glob(alloc: Global, glob: &Glob) -> Result<String> {
+    pair(alloc, "reads", &escaped(alloc, glob.regex().as_bytes())?)
 }
 
 /// `fails`, the kind and the text.
-pub fn error(alloc: Global, error: &Error) -> Result<String, AllocError> {
+pub fn error(alloc: Global, error: &Error) -> Result<String> {
+    columns(
+        alloc,
+        "fails",
+        &kind(alloc, error)?,
+        &escaped_text(alloc, error)?,
+    )
+}
+
+fn kind(alloc: Global, error: &Error) -> Result<String, AllocError> {
     let kind = format!(in alloc; "{:?}", error.kind())?;
-    let kind = escaped(alloc, kind.as_bytes())?;
-    let text = escaped(alloc, error.to_string(alloc)?.as_bytes())?;
-    format!(in alloc; "fails\t{kind}\t{text}")
+    escaped(alloc, kind.as_bytes())
 }
 
 /// `fails`, the index or `-`, and the text.
-pub fn value_error(alloc: Global, error: &ValueError) -> Result<String, AllocError> {
-    let text = escaped(alloc, error.to_string(alloc)?.as_bytes())?;
+pub fn value_error(alloc: Global, error: &ValueError) -> Result<String> {
     match error.index() {
-        Some(index) => format!(in alloc; "fails\t{index}\t{text}"),
-        None => format!(in alloc; "fails\t-\t{text}"),
+        Some(index) => {
+            columns(
+                alloc,
+                "fails",
+                &number(alloc, index)?,
+                &escaped_text(alloc, error)?,
+            )
+        }
+        None => columns(alloc, "fails", "-", &escaped_text(alloc, error)?),
     }
+}
+
+fn escaped_text<E: std::error::Error>(alloc: Global, error: &E) -> Result<String, AllocError> {
+    escaped(alloc, error.to_string(alloc)?.as_bytes())
+}
+
+/// `reads`, and the length of a set.
+pub fn length(alloc: Global, length: usize) -> Result<String> {
+    pair(alloc, "reads", &number(alloc, length)?)
+}
+
+/// A number.
+pub fn number(alloc: Global, number: usize) -> Result<String> {
+    Ok(format!(in alloc; "{number}")?)
+}
+
+/// A copy of a text.
+pub fn copied(alloc: Global, with: &str) -> Result<String> {
+    Ok(text(alloc, with)?)
+}
+
+/// Two columns.
+pub fn pair(alloc: Global, first: &str, second: &str) -> Result<String> {
+    Ok(format!(in alloc; "{first}\t{second}")?)
+}
+
+/// Three columns.
+pub fn columns(alloc: Global, first: &str, second: &str, third: &str) -> Result<String> {
+    Ok(format!(in alloc; "{first}\t{second}\t{third}")?)
 }

@@ -1,7 +1,7 @@
 //! Calls: each row names a type, a call and what the call is made with.
 //!
-//! A function that makes a value hands a reference to it to another one, in its last expression. So the value is dropped at
-//! one place alone, and the functions are proved in little time.
+//! A function that makes a value hands a reference to it to another one, in its last expression, and a `match` only calls such
+//! functions. So a value is dropped at one place alone, and the functions are proved in little time.
 
 mod automata;
 mod candidates;
@@ -15,8 +15,8 @@ mod value_errors;
 
 use anyhow::Result;
 use globset::{Glob, GlobSet, Visits};
-use rows::{Columns, RowError, escaped};
-use std::alloc::{AllocError, Global};
+use rows::{Columns, RowError, escaped, text, yes_or_no};
+use std::alloc::Global;
 use std::{fmt, mem};
 
 /// What the call of a row returns. A call on a set is made with the set of the rows so far, and their globs.
@@ -33,7 +33,7 @@ pub fn returned(
     }
     let with = columns.text(alloc)?;
     let shown = shown(alloc, kind, call, with.as_str(), globs, set)?;
-    Ok(escaped(alloc, shown.as_bytes())?)
+    column(alloc, shown.as_bytes())
 }
 
 fn shown(
@@ -61,17 +61,37 @@ fn shown(
 /// A count of visits has no size.
 fn visits(alloc: Global, call: &str) -> Result<String> {
     match call {
-        "size_of" => Ok(displayed(alloc, &mem::size_of::<Visits>())?),
-        _ => Err(RowError::UnknownCall.into()),
+        "size_of" => displayed(alloc, &mem::size_of::<Visits>()),
+        _ => unknown(),
     }
 }
 
 /// What `{}` shows.
-fn displayed<T: fmt::Display>(alloc: Global, value: &T) -> Result<String, AllocError> {
-    format!(in alloc; "{value}")
+fn displayed<T: fmt::Display>(alloc: Global, value: &T) -> Result<String> {
+    Ok(format!(in alloc; "{value}")?)
 }
 
 /// What `{:?}` shows.
-fn debugged<T: fmt::Debug>(alloc: Global, value: &T) -> Result<String, AllocError> {
-    format!(in alloc; "{value:?}")
+fn debugged<T: fmt::Debug>(alloc: Global, value: &T) -> Result<String> {
+    Ok(format!(in alloc; "{value:?}")?)
+}
+
+/// A copy of a text.
+fn copied(alloc: Global, with: &str) -> Result<String> {
+    Ok(text(alloc, with)?)
+}
+
+/// `yes` or `no`.
+fn answer(alloc: Global, yes: bool) -> Result<String> {
+    copied(alloc, yes_or_no(yes))
+}
+
+/// Bytes as a column.
+fn column(alloc: Global, bytes: &[u8]) -> Result<String> {
+    Ok(escaped(alloc, bytes)?)
+}
+
+/// The error that no call has this name.
+fn unknown<T>() -> Result<T> {
+    Err(RowError::UnknownCall.into())
 }

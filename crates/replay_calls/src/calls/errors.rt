@@ -1,9 +1,9 @@
 //! Calls on errors.
 
-use crate::calls::debugged;
+use crate::calls::{answer, copied, debugged, unknown};
 use anyhow::Result;
 use globset::{Error, Glob};
-use rows::{RowError, text, yes_or_no};
+use rows::RowError;
 use std::alloc::{AllocError, Global};
 
 /// On the error of this text, which is no glob; where the text is `-`, on the error of memory that ran out.
@@ -23,33 +23,35 @@ fn rejected(alloc: Global, with: &str) -> Result<Error, RowError> {
 
 fn shown(alloc: Global, call: &str, error: &Error) -> Result<String> {
     match call {
-        "glob" => Ok(text(alloc, error.glob().unwrap_or("none"))?),
-        "kind" => Ok(debugged(alloc, error.kind())?),
-        "Display" => Ok(text_of(alloc, error)?),
-        "Debug" => Ok(debugged(alloc, error)?),
-        "== clone" => Ok(text(alloc, yes_or_no(equals_copy(error)?))?),
-        "== AllocError" => Ok(text(alloc, yes_or_no(is_alloc_error(error)))?),
-        _ => copied(alloc, call, error),
+        "glob" => copied(alloc, error.glob().unwrap_or("none")),
+        "kind" => debugged(alloc, error.kind()),
+        "Display" => text_of(alloc, error),
+        "Debug" => debugged(alloc, error),
+        "== clone" => equals_copy(alloc, error),
+        "== AllocError" => is_alloc_error(alloc, error),
+        "clone" => copy(alloc, error),
+        "Clone" => std_copy(alloc, error),
+        _ => unknown(),
     }
 }
 
 /// What an error shows where all that is known of it is that it is one of std's errors.
-pub fn text_of<E: std::error::Error>(alloc: Global, error: &E) -> Result<String, AllocError> {
-    error.to_string(alloc)
+pub fn text_of<E: std::error::Error>(alloc: Global, error: &E) -> Result<String> {
+    Ok(error.to_string(alloc)?)
 }
 
-fn equals_copy(error: &Error) -> Result<bool, Error> {
-    Ok(*error == error.clone()?)
+fn equals_copy(alloc: Global, error: &Error) -> Result<String> {
+    answer(alloc, *error == error.clone()?)
 }
 
-fn is_alloc_error(error: &Error) -> bool {
-    *error == Error::from(AllocError)
+fn is_alloc_error(alloc: Global, error: &Error) -> Result<String> {
+    answer(alloc, *error == Error::from(AllocError))
 }
 
-fn copied(alloc: Global, call: &str, error: &Error) -> Result<String> {
-    match call {
-        "clone" => Ok(debugged(alloc, &error.clone()?)?),
-        "Clone" => Ok(debugged(alloc, &Clone::clone(error)?)?),
-        _ => Err(RowError::UnknownCall.into()),
-    }
+fn copy(alloc: Global, error: &Error) -> Result<String> {
+    debugged(alloc, &error.clone()?)
+}
+
+fn std_copy(alloc: Global, error: &Error) -> Result<String> {
+    debugged(alloc, &Clone::clone(error)?)
 }

@@ -1,9 +1,8 @@
 //! Calls on globs and their builders.
 
-use crate::calls::{debugged, displayed};
+use crate::calls::{copied, debugged, displayed, unknown};
 use anyhow::Result;
-use globset::{Error, Glob, GlobBuilder};
-use rows::{RowError, text};
+use globset::{Glob, GlobBuilder};
 use std::alloc::Global;
 
 /// On a glob of this text.
@@ -13,28 +12,36 @@ pub fn glob(alloc: Global, call: &str, with: &str) -> Result<String> {
 
 fn shown(alloc: Global, call: &str, glob: &Glob) -> Result<String> {
     match call {
-        "new" => Ok(text(alloc, glob.glob())?),
-        "from_str" => Ok(read_again(alloc, glob.glob())?),
-        "clone" => Ok(copied(alloc, glob)?),
-        "Debug" => Ok(debugged(alloc, glob)?),
-        "Display" => Ok(displayed(alloc, glob)?),
-        "Display >6" => Ok(format!(in alloc; "{glob:>6}")?),
-        "Display -<6" => Ok(format!(in alloc; "{glob:-<6}|")?),
-        "Display .2" => Ok(format!(in alloc; "{glob:.2}")?),
-        _ => Err(RowError::UnknownCall.into()),
+        "new" => copied(alloc, glob.glob()),
+        "from_str" => read_again(alloc, glob.glob()),
+        "clone" => copy(alloc, glob),
+        "Debug" => debugged(alloc, glob),
+        "Display" => displayed(alloc, glob),
+        "Display >6" => aligned(alloc, glob),
+        "Display -<6" => filled(alloc, glob),
+        "Display .2" => cut(alloc, glob),
+        _ => unknown(),
     }
 }
 
-fn read_again(alloc: Global, with: &str) -> Result<String, Error> {
-    text_of(alloc, &Glob::from_str(alloc, with)?)
+fn read_again(alloc: Global, with: &str) -> Result<String> {
+    copied(alloc, Glob::from_str(alloc, with)?.glob())
 }
 
-fn copied(alloc: Global, glob: &Glob) -> Result<String, Error> {
-    text_of(alloc, &glob.clone()?)
+fn copy(alloc: Global, glob: &Glob) -> Result<String> {
+    copied(alloc, glob.clone()?.glob())
 }
 
-fn text_of(alloc: Global, glob: &Glob) -> Result<String, Error> {
-    Ok(text(alloc, glob.glob())?)
+fn aligned(alloc: Global, glob: &Glob) -> Result<String> {
+    Ok(format!(in alloc; "{glob:>6}")?)
+}
+
+fn filled(alloc: Global, glob: &Glob) -> Result<String> {
+    Ok(format!(in alloc; "{glob:-<6}|")?)
+}
+
+fn cut(alloc: Global, glob: &Glob) -> Result<String> {
+    Ok(format!(in alloc; "{glob:.2}")?)
 }
 
 /// On a builder of this text with `case_insensitive` on.
@@ -42,24 +49,20 @@ pub fn builder(alloc: Global, call: &str, with: &str) -> Result<String> {
     let mut builder = GlobBuilder::new(with);
     builder.case_insensitive(true);
     match call {
-        "build" => Ok(built(alloc, &builder)?),
-        "clone" => Ok(built_of_copy(alloc, &mut builder)?),
-        "Debug" => Ok(debugged(alloc, &builder)?),
-        _ => Err(RowError::UnknownCall.into()),
+        "build" => built(alloc, &builder),
+        "clone" => built_of_copy(alloc, &mut builder),
+        "Debug" => debugged(alloc, &builder),
+        _ => unknown(),
     }
 }
 
 /// The regular expression of the glob.
-fn built(alloc: Global, builder: &GlobBuilder<'_>) -> Result<String, Error> {
-    regex_of(alloc, &builder.build(alloc)?)
+fn built(alloc: Global, builder: &GlobBuilder<'_>) -> Result<String> {
+    copied(alloc, builder.build(alloc)?.regex())
 }
 
-fn built_of_copy(alloc: Global, builder: &mut GlobBuilder<'_>) -> Result<String, Error> {
+fn built_of_copy(alloc: Global, builder: &mut GlobBuilder<'_>) -> Result<String> {
     let copy = builder.clone()?;
     builder.case_insensitive(false);
     built(alloc, &copy)
-}
-
-fn regex_of(alloc: Global, glob: &Glob) -> Result<String, Error> {
-    Ok(text(alloc, glob.regex())?)
 }

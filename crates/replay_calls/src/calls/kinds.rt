@@ -1,10 +1,10 @@
 //! Calls on kinds of errors.
 
-use crate::calls::{debugged, displayed};
+use crate::calls::{answer, debugged, displayed, unknown};
 use anyhow::Result;
-use globset::{Error, ErrorKind};
-use rows::{RowError, text, yes_or_no};
-use std::alloc::{AllocError, Global};
+use globset::ErrorKind;
+use rows::RowError;
+use std::alloc::Global;
 
 /// On the kind of this name.
 pub fn kind(alloc: Global, call: &str, with: &str) -> Result<String> {
@@ -28,27 +28,32 @@ fn kind_of(alloc: Global, name: &str) -> Result<ErrorKind, RowError> {
 
 fn shown(alloc: Global, call: &str, kind: &ErrorKind) -> Result<String> {
     match call {
-        "Display" => Ok(displayed(alloc, kind)?),
-        "Debug" => Ok(debugged(alloc, kind)?),
-        "clone" => Ok(debugged(alloc, &kind.clone()?)?),
-        "Clone" => Ok(debugged(alloc, &Clone::clone(kind)?)?),
-        _ => Ok(text(alloc, yes_or_no(equals(alloc, call, kind)?))?),
+        "Display" => displayed(alloc, kind),
+        "Debug" => debugged(alloc, kind),
+        "clone" => copy(alloc, kind),
+        "Clone" => std_copy(alloc, kind),
+        "== clone" => equals_copy(alloc, kind),
+        "== z > b" => answer(alloc, *kind == ErrorKind::InvalidRange('z', 'b')),
+        "== too small" => equals_regex(alloc, kind),
+        _ => unknown(),
     }
 }
 
-fn equals(alloc: Global, call: &str, kind: &ErrorKind) -> Result<bool> {
-    match call {
-        "== clone" => Ok(equals_copy(kind)?),
-        "== z > b" => Ok(*kind == ErrorKind::InvalidRange('z', 'b')),
-        "== too small" => Ok(equals_regex(alloc, kind)?),
-        _ => Err(RowError::UnknownCall.into()),
-    }
+fn copy(alloc: Global, kind: &ErrorKind) -> Result<String> {
+    debugged(alloc, &kind.clone()?)
 }
 
-fn equals_copy(kind: &ErrorKind) -> Result<bool, Error> {
-    Ok(*kind == kind.clone()?)
+fn std_copy(alloc: Global, kind: &ErrorKind) -> Result<String> {
+    debugged(alloc, &Clone::clone(kind)?)
 }
 
-fn equals_regex(alloc: Global, kind: &ErrorKind) -> Result<bool, AllocError> {
-    Ok(*kind == ErrorKind::Regex(String::from_str(alloc, "too small")?))
+fn equals_copy(alloc: Global, kind: &ErrorKind) -> Result<String> {
+    answer(alloc, *kind == kind.clone()?)
+}
+
+fn equals_regex(alloc: Global, kind: &ErrorKind) -> Result<String> {
+    answer(
+        alloc,
+        *kind == ErrorKind::Regex(String::from_str(alloc, "too small")?),
+    )
 }

@@ -3,10 +3,9 @@
 ghost use Rattle.std.specs.Prelude.{◌≡◌, IfOk};
 ghost use Rattle.globset.specs.Means.{glob_means};
 
-use crate::calls::debugged;
+use crate::calls::{answer, copied, debugged, unknown};
 use anyhow::Result;
 use globset::{Candidate, Error, Glob, GlobMatcher, Visits};
-use rows::{RowError, text, yes_or_no};
 use std::alloc::Global;
 
 const PATH: &str = "a.c";
@@ -22,36 +21,41 @@ fn compiled(alloc: Global, with: &str) -> Result<GlobMatcher, Error> {
 
 fn shown(alloc: Global, call: &str, matcher: &GlobMatcher) -> Result<String> {
     match call {
-        "glob" => Ok(text(alloc, matcher.glob().glob())?),
-        "Debug" => Ok(debugged(alloc, matcher)?),
-        _ => Ok(text(alloc, yes_or_no(is_match(alloc, call, matcher)?))?),
+        "glob" => copied(alloc, matcher.glob().glob()),
+        "Debug" => debugged(alloc, matcher),
+        "is_match str" => by_str(alloc, matcher),
+        "is_match &String" => by_string_ref(alloc, matcher),
+        "is_match String" => by_string(alloc, matcher),
+        "is_match_candidate" => by_candidate(alloc, matcher),
+        "is_match_visits" => counted(alloc, matcher),
+        "clone" => answer(alloc, by_copy(matcher, PATH)?),
+        _ => unknown(),
     }
 }
 
-fn is_match(alloc: Global, call: &str, matcher: &GlobMatcher) -> Result<bool> {
-    match call {
-        "is_match str" => Ok(matcher.is_match(PATH)?),
-        "is_match &String" => Ok(by_string_ref(alloc, matcher)?),
-        "is_match String" => Ok(by_string(alloc, matcher)?),
-        "is_match_candidate" => Ok(matcher.is_match_candidate(&Candidate::new(PATH))?),
-        "is_match_visits" => Ok(counted(matcher)?),
-        "clone" => Ok(by_copy(matcher, PATH)?),
-        _ => Err(RowError::UnknownCall.into()),
-    }
+fn by_str(alloc: Global, matcher: &GlobMatcher) -> Result<String> {
+    answer(alloc, matcher.is_match(PATH)?)
 }
 
-fn by_string_ref(alloc: Global, matcher: &GlobMatcher) -> Result<bool, Error> {
-    matcher.is_match(&String::from_str(alloc, PATH)?)
+fn by_string_ref(alloc: Global, matcher: &GlobMatcher) -> Result<String> {
+    answer(alloc, matcher.is_match(&String::from_str(alloc, PATH)?)?)
 }
 
-fn by_string(alloc: Global, matcher: &GlobMatcher) -> Result<bool, Error> {
-    matcher.is_match(String::from_str(alloc, PATH)?)
+fn by_string(alloc: Global, matcher: &GlobMatcher) -> Result<String> {
+    answer(alloc, matcher.is_match(String::from_str(alloc, PATH)?)?)
 }
 
-fn counted(matcher: &GlobMatcher) -> Result<bool, Error> {
+fn by_candidate(alloc: Global, matcher: &GlobMatcher) -> Result<String> {
+    answer(alloc, matcher.is_match_candidate(&Candidate::new(PATH))?)
+}
+
+fn counted(alloc: Global, matcher: &GlobMatcher) -> Result<String> {
     let mut visits = Visits::new();
     visits.tick();
-    matcher.is_match_visits(&Candidate::new(PATH), &mut visits)
+    answer(
+        alloc,
+        matcher.is_match_visits(&Candidate::new(PATH), &mut visits)?,
+    )
 }
 
 /// Whether a copy of a matcher matches a path.

@@ -1,10 +1,9 @@
 //! Calls on builders of sets.
 
-use crate::calls::{debugged, displayed};
+use crate::calls::{debugged, displayed, unknown};
 use anyhow::Result;
 use globset::laws::{add_after_error, failed_add_keeps};
 use globset::{Error, Glob, GlobSet, GlobSetBuilder};
-use rows::RowError;
 use std::alloc::Global;
 
 /// On a builder of these globs.
@@ -31,72 +30,51 @@ fn add_all(builder: &mut GlobSetBuilder, globs: &[Glob]) -> Result<(), Error> {
 
 fn shown(alloc: Global, call: &str, builder: &mut GlobSetBuilder) -> Result<String> {
     match call {
-        "build" => Ok(length(alloc, builder)?),
-        "build and add" => Ok(length_before_add(alloc, builder)?),
-        "clone" => Ok(length_of_copy(alloc, builder)?),
-        "Clone" => Ok(length_of_std_copy(alloc, builder)?),
-        "GlobSet::builder" => Ok(length_of_none(alloc)?),
-        "Debug" => Ok(debugged(alloc, builder)?),
-        _ => {
-            add(alloc, call, builder)?;
-            Ok(length(alloc, builder)?)
-        }
+        "build" => length(alloc, builder),
+        "build and add" => length_before_add(alloc, builder),
+        "clone" => length_of_copy(alloc, builder),
+        "Clone" => length_of_std_copy(alloc, builder),
+        "GlobSet::builder" => length(alloc, &GlobSet::builder(alloc)),
+        "Debug" => debugged(alloc, builder),
+        "add" => length_after_two(alloc, builder),
+        "add_after_error" => length_after_next(alloc, builder),
+        "failed_add_keeps" => length_after_failed(alloc, builder),
+        _ => unknown(),
     }
 }
 
 /// How many globs the builder's set has.
-fn length(alloc: Global, builder: &GlobSetBuilder) -> Result<String, Error> {
-    length_of(alloc, &builder.build()?)
+fn length(alloc: Global, builder: &GlobSetBuilder) -> Result<String> {
+    displayed(alloc, &builder.build()?.len())
 }
 
-fn length_of_none(alloc: Global) -> Result<String, Error> {
-    length(alloc, &GlobSet::builder(alloc))
-}
-
-fn length_of(alloc: Global, set: &GlobSet) -> Result<String, Error> {
-    Ok(displayed(alloc, &set.len())?)
-}
-
-fn length_before_add(alloc: Global, builder: &mut GlobSetBuilder) -> Result<String, Error> {
+fn length_before_add(alloc: Global, builder: &mut GlobSetBuilder) -> Result<String> {
     after_add_to(alloc, &builder.build()?, builder)
 }
 
 /// The length of a set, after a glob is added to a builder.
-fn after_add_to(
-    alloc: Global,
-    set: &GlobSet,
-    builder: &mut GlobSetBuilder,
-) -> Result<String, Error> {
+fn after_add_to(alloc: Global, set: &GlobSet, builder: &mut GlobSetBuilder) -> Result<String> {
     builder.add(Glob::new(alloc, "a")?)?;
-    length_of(alloc, set)
+    displayed(alloc, &set.len())
 }
 
-fn length_of_copy(alloc: Global, builder: &mut GlobSetBuilder) -> Result<String, Error> {
+fn length_of_copy(alloc: Global, builder: &mut GlobSetBuilder) -> Result<String> {
     after_add(alloc, &builder.clone()?, builder)
 }
 
-fn length_of_std_copy(alloc: Global, builder: &mut GlobSetBuilder) -> Result<String, Error> {
+fn length_of_std_copy(alloc: Global, builder: &mut GlobSetBuilder) -> Result<String> {
     after_add(alloc, &Clone::clone(builder)?, builder)
 }
 
 /// How many globs the set of a copy has, after a glob is added to the builder.
-fn after_add(
-    alloc: Global,
-    copy: &GlobSetBuilder,
-    builder: &mut GlobSetBuilder,
-) -> Result<String, Error> {
+fn after_add(alloc: Global, copy: &GlobSetBuilder, builder: &mut GlobSetBuilder) -> Result<String> {
     builder.add(Glob::new(alloc, "a")?)?;
     length(alloc, copy)
 }
 
-fn add(alloc: Global, call: &str, builder: &mut GlobSetBuilder) -> Result<()> {
-    match call {
-        "add" => add_two(alloc, builder)?,
-        "add_after_error" => add_next(alloc, builder)?,
-        "failed_add_keeps" => failed_add_keeps(builder, Glob::new(alloc, "a")?)?,
-        _ => return Err(RowError::UnknownCall.into()),
-    }
-    Ok(())
+fn length_after_two(alloc: Global, builder: &mut GlobSetBuilder) -> Result<String> {
+    add_two(alloc, builder)?;
+    length(alloc, builder)
 }
 
 fn add_two(alloc: Global, builder: &mut GlobSetBuilder) -> Result<(), Error> {
@@ -106,7 +84,17 @@ fn add_two(alloc: Global, builder: &mut GlobSetBuilder) -> Result<(), Error> {
     Ok(())
 }
 
+fn length_after_next(alloc: Global, builder: &mut GlobSetBuilder) -> Result<String> {
+    add_next(alloc, builder)?;
+    length(alloc, builder)
+}
+
 fn add_next(alloc: Global, builder: &mut GlobSetBuilder) -> Result<(), Error> {
     add_after_error(builder, Glob::new(alloc, "a")?, Glob::new(alloc, "b")?)?;
     Ok(())
+}
+
+fn length_after_failed(alloc: Global, builder: &mut GlobSetBuilder) -> Result<String> {
+    failed_add_keeps(builder, Glob::new(alloc, "a")?)?;
+    length(alloc, builder)
 }

@@ -1,66 +1,75 @@
 //! Calls on sets.
 
-use crate::calls::{debugged, displayed};
+use crate::calls::{answer, copied, debugged, displayed, unknown};
 use anyhow::Result;
 use globset::{Candidate, Error, Glob, GlobSet, Visits};
-use rows::{RowError, list, text, yes_or_no};
-use std::alloc::{AllocError, Global};
+use rows::list;
+use std::alloc::Global;
 
 /// On this set, of these globs, and a path.
 pub fn set(alloc: Global, call: &str, globs: &[Glob], set: &GlobSet, path: &str) -> Result<String> {
     match call {
-        "len" => Ok(displayed(alloc, &set.len())?),
-        "Debug" => Ok(debug(alloc, set)?),
-        "new" => Ok(matches_of(alloc, GlobSet::new(alloc, globs), path)?),
-        "new rev" => Ok(of_globs_from_last(alloc, globs, path)?),
-        "empty" => Ok(matches_of(alloc, Ok(GlobSet::empty()), path)?),
-        "default" => Ok(matches_of(alloc, Ok(GlobSet::default()), path)?),
-        "clone" => Ok(matches_of(alloc, set.clone(), path)?),
-        "Clone" => Ok(std_copied(alloc, set, path)?),
-        "matches" => Ok(matches(alloc, set, path)?),
-        "matches_candidate" => Ok(matches_candidate(alloc, set, path)?),
-        "matches_into" | "matches_candidate_into" | "matches_visits" => {
-            Ok(matches_into(alloc, call, set, path)?)
-        }
-        _ => Ok(text(alloc, yes_or_no(is_true(call, set, path)?))?),
+        "len" => displayed(alloc, &set.len()),
+        "is_empty" => answer(alloc, set.is_empty()),
+        "Debug" => debug(alloc, set),
+        "new" => of_globs(alloc, globs, path),
+        "new rev" => of_globs_from_last(alloc, globs, path),
+        "empty" => matches(alloc, &GlobSet::empty(), path),
+        "default" => matches(alloc, &GlobSet::default(), path),
+        "clone" => matches(alloc, &set.clone()?, path),
+        "Clone" => std_copy(alloc, set, path),
+        _ => asked(alloc, call, set, path),
     }
 }
 
 /// The first word of what is shown.
-fn debug(alloc: Global, set: &GlobSet) -> Result<String, AllocError> {
+fn debug(alloc: Global, set: &GlobSet) -> Result<String> {
     let shown = debugged(alloc, set)?;
-    text(alloc, shown.as_str().split(' ').next().unwrap_or(""))
+    copied(alloc, shown.as_str().split(' ').next().unwrap_or(""))
 }
 
-fn of_globs_from_last(alloc: Global, globs: &[Glob], path: &str) -> Result<String, Error> {
-    matches_of(alloc, GlobSet::new(alloc, globs.iter().rev()), path)
+fn of_globs(alloc: Global, globs: &[Glob], path: &str) -> Result<String> {
+    matches(alloc, &GlobSet::new(alloc, globs)?, path)
 }
 
-/// The indexes that a set returns which was made for this call.
-fn matches_of(alloc: Global, set: Result<GlobSet, Error>, path: &str) -> Result<String, Error> {
-    matches(alloc, &set?, path)
+fn of_globs_from_last(alloc: Global, globs: &[Glob], path: &str) -> Result<String> {
+    matches(alloc, &GlobSet::new(alloc, globs.iter().rev())?, path)
 }
 
-fn std_copied(alloc: Global, set: &GlobSet, path: &str) -> Result<String, Error> {
-    let copy = Clone::clone(set)?;
-    matches_of(alloc, Ok(copy), path)
+fn std_copy(alloc: Global, set: &GlobSet, path: &str) -> Result<String> {
+    matches(alloc, &Clone::clone(set)?, path)
 }
 
-fn matches(alloc: Global, set: &GlobSet, path: &str) -> Result<String, Error> {
-    let indexes = set.matches(alloc, path)?;
-    Ok(list(alloc, &indexes)?)
+/// What a call returns for a path, or the vector that it leaves, which held other numbers before it.
+fn asked(alloc: Global, call: &str, set: &GlobSet, path: &str) -> Result<String> {
+    match call {
+        "matches" => matches(alloc, set, path),
+        "matches_candidate" => matches_candidate(alloc, set, path),
+        "matches_into" | "matches_candidate_into" | "matches_visits" => {
+            matches_into(alloc, call, set, path)
+        }
+        "is_match" => is_match(alloc, set, path),
+        "matches_all" => matches_all(alloc, set, path),
+        _ => by_candidate(alloc, call, set, &Candidate::new(path)),
+    }
 }
 
-fn matches_candidate(alloc: Global, set: &GlobSet, path: &str) -> Result<String, Error> {
-    let indexes = set.matches_candidate(alloc, &Candidate::new(path))?;
-    Ok(list(alloc, &indexes)?)
+fn matches(alloc: Global, set: &GlobSet, path: &str) -> Result<String> {
+    listed(alloc, &set.matches(alloc, path)?)
 }
 
-/// The vector that a call leaves, which held other numbers before it.
-fn matches_into(alloc: Global, call: &str, set: &GlobSet, path: &str) -> Result<String, Error> {
+fn matches_candidate(alloc: Global, set: &GlobSet, path: &str) -> Result<String> {
+    listed(alloc, &set.matches_candidate(alloc, &Candidate::new(path))?)
+}
+
+fn listed(alloc: Global, indexes: &[usize]) -> Result<String> {
+    Ok(list(alloc, indexes)?)
+}
+
+fn matches_into(alloc: Global, call: &str, set: &GlobSet, path: &str) -> Result<String> {
     let mut into = vec![in alloc; 9, 9]?;
     fill(call, set, path, &mut into)?;
-    Ok(list(alloc, &into)?)
+    listed(alloc, &into)
 }
 
 fn fill(call: &str, set: &GlobSet, path: &str, into: &mut Vec<usize>) -> Result<(), Error> {
@@ -72,16 +81,28 @@ fn fill(call: &str, set: &GlobSet, path: &str, into: &mut Vec<usize>) -> Result<
     }
 }
 
-fn is_true(call: &str, set: &GlobSet, path: &str) -> Result<bool> {
-    let candidate = Candidate::new(path);
+fn is_match(alloc: Global, set: &GlobSet, path: &str) -> Result<String> {
+    answer(alloc, set.is_match(path)?)
+}
+
+fn matches_all(alloc: Global, set: &GlobSet, path: &str) -> Result<String> {
+    answer(alloc, set.matches_all(path)?)
+}
+
+fn by_candidate(alloc: Global, call: &str, set: &GlobSet, path: &Candidate<'_>) -> Result<String> {
     match call {
-        "is_match" => Ok(set.is_match(path)?),
-        "is_match_candidate" => Ok(set.is_match_candidate(&candidate)?),
-        "is_match_visits" => Ok(set.is_match_visits(&candidate, &mut Visits::new())?),
-        "matches_all" => Ok(set.matches_all(path)?),
-        "matches_all_candidate" => Ok(set.matches_all_candidate(&candidate)?),
-        "matches_all_visits" => Ok(set.matches_all_visits(&candidate, &mut Visits::new())?),
-        "is_empty" => Ok(set.is_empty()),
-        _ => Err(RowError::UnknownCall.into()),
+        "is_match_candidate" => answer(alloc, set.is_match_candidate(path)?),
+        "matches_all_candidate" => answer(alloc, set.matches_all_candidate(path)?),
+        "is_match_visits" => is_match_visits(alloc, set, path),
+        "matches_all_visits" => matches_all_visits(alloc, set, path),
+        _ => unknown(),
     }
+}
+
+fn is_match_visits(alloc: Global, set: &GlobSet, path: &Candidate<'_>) -> Result<String> {
+    answer(alloc, set.is_match_visits(path, &mut Visits::new())?)
+}
+
+fn matches_all_visits(alloc: Global, set: &GlobSet, path: &Candidate<'_>) -> Result<String> {
+    answer(alloc, set.matches_all_visits(path, &mut Visits::new())?)
 }

@@ -1,10 +1,10 @@
 //! Calls on errors of JSON values.
 
 use crate::calls::errors::text_of;
-use crate::calls::{debugged, displayed};
+use crate::calls::{answer, debugged, displayed, unknown};
 use anyhow::Result;
 use globset::{GlobSet, ValueError};
-use rows::{RowError, text, yes_or_no};
+use rows::RowError;
 use serde_json::Value;
 use std::alloc::Global;
 
@@ -29,19 +29,27 @@ fn rejected_value(alloc: Global, value: &Value) -> Result<ValueError, RowError> 
 
 fn shown(alloc: Global, call: &str, error: &ValueError, with: &str) -> Result<String> {
     match call {
-        "== same" => Ok(text(alloc, equality(alloc, error, with)?)?),
-        "== null" => Ok(text(alloc, equality(alloc, error, "null")?)?),
-        "kind" => Ok(debugged(alloc, error.kind())?),
-        "kind Display" => Ok(displayed(alloc, error.kind())?),
-        "Display" => Ok(text_of(alloc, error)?),
-        "Debug" => Ok(debugged(alloc, error)?),
-        "Clone" => Ok(debugged(alloc, &error.clone()?)?),
-        "kind Clone" => Ok(debugged(alloc, &error.kind().clone()?)?),
-        _ => Err(RowError::UnknownCall.into()),
+        "== same" => equality(alloc, error, with),
+        "== null" => equality(alloc, error, "null"),
+        "kind" => debugged(alloc, error.kind()),
+        "kind Display" => displayed(alloc, error.kind()),
+        "Display" => text_of(alloc, error),
+        "Debug" => debugged(alloc, error),
+        "Clone" => copy(alloc, error),
+        "kind Clone" => copy_of_kind(alloc, error),
+        _ => unknown(),
     }
 }
 
 /// Whether an error is equal to that of another JSON text.
-fn equality(alloc: Global, error: &ValueError, other: &str) -> Result<&'static str, RowError> {
-    Ok(yes_or_no(*error == rejected(alloc, other)?))
+fn equality(alloc: Global, error: &ValueError, other: &str) -> Result<String> {
+    answer(alloc, *error == rejected(alloc, other)?)
+}
+
+fn copy(alloc: Global, error: &ValueError) -> Result<String> {
+    debugged(alloc, &error.clone()?)
+}
+
+fn copy_of_kind(alloc: Global, error: &ValueError) -> Result<String> {
+    debugged(alloc, &error.kind().clone()?)
 }
