@@ -1,6 +1,6 @@
 //! The program that `globsift` is compared with: the same lines in and out, over the Rust crate globset.
 //!
-//! It takes the arguments `-i`, `-s`, `-b`, `-r`, `-n`, `--` and globs, as `globsift` does. Around the crate it does as
+//! It takes the arguments `-i`, `-s`, `-n`, `--` and globs, as `globsift` does. Around the crate it does as
 //! little as it can, so that the times of the two programs differ by what matching takes: it reads chunks, finds line feeds
 //! with memchr, keeps one vector of indexes for all lines, and writes its output in large pieces.
 
@@ -16,7 +16,6 @@ const CHUNK: usize = 64 * 1024;
 struct Options {
     case_insensitive: bool,
     literal_separator: bool,
-    plain_backslash: bool,
 }
 
 struct Command {
@@ -34,15 +33,12 @@ fn command(arguments: impl Iterator<Item = String>) -> Result<Command, globset::
             "--" if !only_globs => only_globs = true,
             "-i" if !only_globs => options.case_insensitive = true,
             "-s" if !only_globs => options.literal_separator = true,
-            "-b" if !only_globs => options.plain_backslash = true,
-            "-r" if !only_globs => options = Options::default(),
             "-n" if !only_globs => numbered = true,
             glob => {
                 set.add(
                     GlobBuilder::new(glob)
                         .case_insensitive(options.case_insensitive)
                         .literal_separator(options.literal_separator)
-                        .backslash_escape(!options.plain_backslash)
                         .build()?,
                 );
             }
