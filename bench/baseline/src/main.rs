@@ -55,6 +55,17 @@ struct Lines {
 }
 
 impl Lines {
+    /// Handles the lines that are whole in these bytes, of which the first `kept` have no line feed. Returns where the rest
+    /// begins.
+    fn handle_whole(&mut self, bytes: &[u8], kept: usize) -> io::Result<usize> {
+        let mut start = 0;
+        for feed in memchr::memchr_iter(b'\n', &bytes[kept..]) {
+            self.handle(&bytes[start..kept + feed])?;
+            start = kept + feed + 1;
+        }
+        Ok(start)
+    }
+
     fn handle(&mut self, line: &[u8]) -> io::Result<()> {
         let path = Candidate::from_bytes(line);
         if self.command.numbered {
@@ -118,11 +129,7 @@ fn sift(command: Command) -> io::Result<bool> {
             break;
         }
         let end = kept + read;
-        let mut start = 0;
-        for feed in memchr::memchr_iter(b'\n', &buffer[kept..end]) {
-            lines.handle(&buffer[start..kept + feed])?;
-            start = kept + feed + 1;
-        }
+        let start = lines.handle_whole(&buffer[..end], kept)?;
         buffer.copy_within(start..end, 0);
         kept = end - start;
     }
