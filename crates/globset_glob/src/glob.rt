@@ -169,7 +169,7 @@ impl Glob {
         })
     }
 
-    /// The tokens that the text was read as.
+    /// Returns the tokens that the text was read as.
     pub(crate) fn tokens(&self) -> &[Token]
         ensures read { reading self.now.options (chars self.now.text) ≡ Ok (tokens_of result.now) }
         ensures nested { IsNested (flats result.now) }
@@ -178,14 +178,14 @@ impl Glob {
         &self.tokens
     }
 
-    /// The options that the glob was read under.
+    /// Returns the options that the glob was read under.
     pub(crate) fn options(&self) -> Options
         ensures { result ≡ self.now.options }
     {
         self.options
     }
 
-    /// The allocator that holds the glob.
+    /// Returns the allocator that holds the glob.
     pub(crate) fn allocator(&self) -> Global {
         *self.text.allocator()
     }

@@ -75,14 +75,14 @@ fn show(rt: &HostRuntime, case: Case) -> Result<()> {
     Ok(())
 }
 
-/// Whether a glob matches a path, by its matcher and by a set; false if they differ.
+/// Returns whether a glob matches a path, by its matcher and by a set; false if they differ.
 fn matches(alloc: Global, glob: &Glob, path: &str) -> Result<bool, Error> {
     let by_matcher = by_matcher(glob, path)?;
     let by_set = by_set(alloc, glob, path)?;
     Ok(by_matcher && by_set)
 }
 
-/// Whether a glob matches a path, by a matcher and by a copy of it.
+/// Returns whether a glob matches a path, by a matcher and by a copy of it.
 fn by_matcher(glob: &Glob, path: &str) -> Result<bool, Error>
     ensures { IfOk result (λ yes. yes ≡ glob_means glob.now path.now) }
 {
@@ -101,7 +101,7 @@ fn copied_matcher(matcher: &GlobMatcher, path: &str) -> Result<bool, Error>
     matcher.clone()?.is_match(path)
 }
 
-/// Whether a glob matches a path, by a set of a copy of it, and by a copy of the set.
+/// Returns whether a glob matches a path, by a set of a copy of it, and by a copy of the set.
 fn by_set(alloc: Global, glob: &Glob, path: &str) -> Result<bool, Error> {
     set_and_copy(&set_of(alloc, &glob.clone()?)?, path)
 }
@@ -118,7 +118,7 @@ fn copied_set(set: &GlobSet, path: &str) -> Result<bool, Error> {
     set.clone()?.is_match(path)
 }
 
-/// The text of so many copies of each of these.
+/// Returns the text of so many copies of each of these.
 fn text_of(alloc: Global, parts: &[(usize, &'static str)]) -> Result<String, AllocError> {
     let mut all = String::new(alloc);
     for (count, text) in parts {

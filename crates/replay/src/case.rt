@@ -80,13 +80,13 @@ impl Globs {
         Ok(())
     }
 
-    /// Whether a glob matches a path, by its matcher and by a set of it alone.
+    /// Returns whether a glob matches a path, by its matcher and by a set of it alone.
     fn is_match(&self, columns: &mut Columns<'_>) -> Result<String> {
         let shown = is_match(self.alloc, &read(self.alloc, columns)??, columns)?;
         Ok(text(self.alloc, shown)?)
     }
 
-    /// The indexes that the set returns for a path, whether all globs match it, and the indexes of the globs whose own
+    /// Returns the indexes that the set returns for a path, whether all globs match it, and the indexes of the globs whose own
     /// matchers match it.
     fn path(&self, columns: &mut Columns<'_>) -> Result<String> {
         let path = columns.bytes(self.alloc)?;
@@ -101,7 +101,7 @@ impl Globs {
         Ok(format!(in self.alloc; "{set}\t{all}\t{each}")?)
     }
 
-    /// The indexes of the globs whose own matchers match a path.
+    /// Returns the indexes of the globs whose own matchers match a path.
     fn matching(&self, path: &Candidate<'_>) -> Result<Vec<usize>, Error> {
         let mut indexes = Vec::new(self.alloc);
         for (i, glob) in self.globs.iter().enumerate() {
@@ -112,13 +112,13 @@ impl Globs {
         Ok(indexes)
     }
 
-    /// Whether two globs are equal, or the errors of two texts that are no globs. Equal globs must hash equally.
+    /// Returns whether two globs are equal, or the errors of two texts that are no globs. Equal globs must hash equally.
     fn equal(&self, columns: &mut Columns<'_>) -> Result<String> {
         let shown = equal(self.alloc, &read(self.alloc, columns)?, columns)?;
         Ok(text(self.alloc, shown)?)
     }
 
-    /// The basename and the extension of a path.
+    /// Returns the basename and the extension of a path.
     fn parts(&self, columns: &mut Columns<'_>) -> Result<String> {
         let path = columns.bytes(self.alloc)?;
         let path = Candidate::from_bytes(&path);
@@ -127,7 +127,7 @@ impl Globs {
         Ok(format!(in self.alloc; "{basename}\t{ext}")?)
     }
 
-    /// The escaped text.
+    /// Returns the escaped text.
     fn escape(&self, columns: &mut Columns<'_>) -> Result<String> {
         let glob = escape(self.alloc, columns.text(self.alloc)?.as_str())?;
         Ok(escaped(self.alloc, glob.as_bytes())?)
@@ -161,7 +161,7 @@ fn shown_copy(alloc: Global, glob: &Glob) -> Result<String, Error> {
     Ok(shown::glob(alloc, &copy)?)
 }
 
-/// Whether a glob matches the path of the next column.
+/// Returns whether a glob matches the path of the next column.
 fn is_match(alloc: Global, glob: &Glob, columns: &mut Columns<'_>) -> Result<&'static str> {
     let path = columns.bytes(alloc)?;
     Ok(compared_matches(alloc, glob, &Candidate::from_bytes(&path))?)
@@ -181,7 +181,7 @@ fn compared_matches(
     }
 }
 
-/// Whether a glob matches a path, by a matcher.
+/// Returns whether a glob matches a path, by a matcher.
 fn matches_by_itself(glob: &Glob, path: &Candidate<'_>) -> Result<bool, Error>
     ensures { IfOk result (λ yes. yes ≡ glob_means glob.now path.now) }
 {
@@ -192,7 +192,7 @@ fn matches_in_a_set(alloc: Global, glob: &Glob, path: &Candidate<'_>) -> Result<
     GlobSet::new(alloc, [glob])?.is_match_candidate(path)
 }
 
-/// Whether the glob of the next columns, or its error, is equal to this one.
+/// Returns whether the glob of the next columns, or its error, is equal to this one.
 fn equal(
     alloc: Global,
     one: &Result<Glob, Error>,
@@ -212,7 +212,7 @@ fn compared(one: &Result<Glob, Error>, other: &Result<Glob, Error>) -> &'static 
     }
 }
 
-/// `reads`, the glob and the JSON text that is written of it.
+/// Returns `reads`, the glob and the JSON text that is written of it.
 fn written(alloc: Global, glob: &Glob) -> Result<String> {
     written_as(alloc, glob, &glob.to_value()?)
 }
@@ -230,7 +230,7 @@ fn is_read_back(alloc: Global, glob: &Glob, value: &Value) -> Result<bool, Value
     Ok(Glob::from_value(alloc, value)? == *glob)
 }
 
-/// The JSON value of the next column.
+/// Returns the JSON value of the next column.
 fn json(alloc: Global, columns: &mut Columns<'_>) -> Result<Value, RowError> {
     match Value::from_str(alloc, columns.text(alloc)?.as_str()) {
         Ok(value) => Ok(value),

@@ -19,7 +19,7 @@ use rows::{Columns, RowError, escaped};
 use std::alloc::{AllocError, Global};
 use std::{fmt, mem};
 
-/// What the call of a row returns. A call on a set is made with the set of the rows so far, and their globs.
+/// Returns what the call of a row returns. A call on a set is made with the set of the rows so far, and their globs.
 pub fn returned(
     alloc: Global,
     columns: &mut Columns<'_>,
@@ -66,12 +66,12 @@ fn visits(alloc: Global, call: &str) -> Result<String> {
     }
 }
 
-/// What `{}` shows.
+/// Returns what `{}` shows.
 fn displayed<T: fmt::Display>(alloc: Global, value: &T) -> Result<String, AllocError> {
     format!(in alloc; "{value}")
 }
 
-/// What `{:?}` shows.
+/// Returns what `{:?}` shows.
 fn debugged<T: fmt::Debug>(alloc: Global, value: &T) -> Result<String, AllocError> {
     format!(in alloc; "{value:?}")
 }

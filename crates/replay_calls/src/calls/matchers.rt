@@ -54,7 +54,7 @@ fn counted(matcher: &GlobMatcher) -> Result<bool, Error> {
     matcher.is_match_visits(&Candidate::new(PATH), &mut visits)
 }
 
-/// Whether a copy of a matcher matches a path.
+/// Returns whether a copy of a matcher matches a path.
 fn by_copy(matcher: &GlobMatcher, path: &str) -> Result<bool, Error>
     ensures { IfOk result (λ yes. yes ≡ glob_means matcher.now path.now) }
 {

@@ -26,7 +26,7 @@ pub fn set(alloc: Global, call: &str, globs: &[Glob], set: &GlobSet, path: &str)
     }
 }
 
-/// The first word of what is shown.
+/// Returns the first word of what is shown.
 fn debug(alloc: Global, set: &GlobSet) -> Result<String, AllocError> {
     let shown = debugged(alloc, set)?;
     text(alloc, shown.as_str().split(' ').next().unwrap_or(""))
@@ -36,7 +36,7 @@ fn of_globs_from_last(alloc: Global, globs: &[Glob], path: &str) -> Result<Strin
     matches_of(alloc, GlobSet::new(alloc, globs.iter().rev()), path)
 }
 
-/// The indexes that a set returns which was made for this call.
+/// Returns the indexes that a set returns which was made for this call.
 fn matches_of(alloc: Global, set: Result<GlobSet, Error>, path: &str) -> Result<String, Error> {
     matches(alloc, &set?, path)
 }
@@ -56,7 +56,7 @@ fn matches_candidate(alloc: Global, set: &GlobSet, path: &str) -> Result<String,
     Ok(list(alloc, &indexes)?)
 }
 
-/// The vector that a call leaves, which held other numbers before it.
+/// Returns the vector that a call leaves, which held other numbers before it.
 fn matches_into(alloc: Global, call: &str, set: &GlobSet, path: &str) -> Result<String, Error> {
     let mut into = vec![in alloc; 9, 9]?;
     fill(call, set, path, &mut into)?;
