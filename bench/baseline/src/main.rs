@@ -1,6 +1,6 @@
 //! The program that `globsift` is compared with: the same lines in and out, over the Rust crate globset.
 //!
-//! It takes the arguments `-i`, `-s`, `-b`, `-r`, `-n`, `--` and globs, as `globsift` does. Around the crate it does as
+//! It takes the arguments `-i`, `-s`, `-n`, `--` and globs, as `globsift` does. Around the crate it does as
 //! little as it can, so that the times of the two programs differ by what matching takes: it reads chunks, finds line feeds
 //! with memchr, keeps one vector of indexes for all lines, and writes its output in large pieces.
 
@@ -16,7 +16,6 @@ const CHUNK: usize = 64 * 1024;
 struct Options {
     case_insensitive: bool,
     literal_separator: bool,
-    plain_backslash: bool,
 }
 
 struct Command {
@@ -34,15 +33,12 @@ fn command(arguments: impl Iterator<Item = String>) -> Result<Command, globset::
             "--" if !only_globs => only_globs = true,
             "-i" if !only_globs => options.case_insensitive = true,
             "-s" if !only_globs => options.literal_separator = true,
-            "-b" if !only_globs => options.plain_backslash = true,
-            "-r" if !only_globs => options = Options::default(),
             "-n" if !only_globs => numbered = true,
             glob => {
                 set.add(
                     GlobBuilder::new(glob)
                         .case_insensitive(options.case_insensitive)
                         .literal_separator(options.literal_separator)
-                        .backslash_escape(!options.plain_backslash)
                         .build()?,
                 );
             }
@@ -59,6 +55,17 @@ struct Lines {
 }
 
 impl Lines {
+    /// Handles the lines that are whole in these bytes, of which the first `kept` have no line feed. Returns where the rest
+    /// begins.
+    fn handle_whole(&mut self, bytes: &[u8], kept: usize) -> io::Result<usize> {
+        let mut start = 0;
+        for feed in memchr::memchr_iter(b'\n', &bytes[kept..]) {
+            self.handle(&bytes[start..kept + feed])?;
+            start = kept + feed + 1;
+        }
+        Ok(start)
+    }
+
     fn handle(&mut self, line: &[u8]) -> io::Result<()> {
         let path = Candidate::from_bytes(line);
         if self.command.numbered {
@@ -122,11 +129,7 @@ fn sift(command: Command) -> io::Result<bool> {
             break;
         }
         let end = kept + read;
-        let mut start = 0;
-        for feed in memchr::memchr_iter(b'\n', &buffer[kept..end]) {
-            lines.handle(&buffer[start..kept + feed])?;
-            start = kept + feed + 1;
-        }
+        let start = lines.handle_whole(&buffer[..end], kept)?;
         buffer.copy_within(start..end, 0);
         kept = end - start;
     }

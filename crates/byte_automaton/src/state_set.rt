@@ -8,8 +8,8 @@ use visits::Visits;
 
 /// A set of states, as a bit for each.
 ///
-/// It is made once, and holds sets of states of any automaton that has at most as many states as it has room for. Of single
-/// states only an automaton's calls tell whether they are in it. To read or clear it takes time linear in the distance between
+/// It is made once, and holds sets of states of any automaton that has at most as many states as it has room for. Apart from
+/// `Debug`, only an automaton's calls tell which states are in it. To read or clear it takes time linear in the distance between
 /// its lowest and its highest state, however much room it has.
 #[derive(PartialEq, Eq, Hash, Debug, Drop)]
 pub struct StateSet {

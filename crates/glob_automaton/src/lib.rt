@@ -1,4 +1,4 @@
-//! Automata of tokens: which of several globs match a path.
+//! Automata of tokens: what tokens match, and their states.
 //!
 //! An automaton has the states of its tokens, one glob after another, and the end of each names its index. `new_builder`
 //! begins one, and `add_tokens` adds the tokens of a glob, or a part of them that is to be matched as a glob of its own.

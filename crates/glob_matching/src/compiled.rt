@@ -105,7 +105,7 @@ impl Compiled {
     /// Puts the indexes of the tokens that match a text into a set, beside what it holds.
     ///
     /// It is at most `(text bytes + 1) * states` visits. It takes two bits of memory for each state, but none if there is a
-    /// deterministic automaton, or no state. Returns an error if memory runs out.
+    /// deterministic automaton, or no state. Returns an error if memory runs out; nothing is put into the set then.
     pub fn find(
         &self,
         alloc: Global,

@@ -11,7 +11,7 @@ use std::alloc::{AllocError, Global};
 use std::marker::Model;
 use table::{Membership, table_of};
 
-/// The error of the first bad range of a class's body, if it has one.
+/// Returns the error of the first bad range of a class's body, if it has one.
 #[tactic(auto, unfolding(crate::specs::Ranges::bad_range))]
 pub fn bad_range(body: &[char]) -> Option<Fault>
     ensures { result ≡ bad_range body.now }
@@ -38,7 +38,7 @@ pub fn bad_range(body: &[char]) -> Option<Fault>
     }
 }
 
-/// The ranges of a class's body.
+/// Returns the ranges of a class's body. Returns an error if memory runs out.
 #[tactic(auto, unfolding(crate::specs::Ranges::ranges))]
 pub fn ranges(alloc: Global, body: &[char]) -> Result<Vec<(char, char)>, AllocError>
     ensures { IfOk result (λ v. v.items ≡ ranges body.now) }

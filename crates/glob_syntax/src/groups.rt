@@ -14,7 +14,7 @@ use crate::stars::piece::push_piece;
 use crate::token::Token;
 use std::alloc::{AllocError, Global};
 
-/// Whether a branch starts after the mark.
+/// Returns whether a branch starts after the mark.
 fn starts_branch(mark: Mark<'_>) -> bool
     ensures { result ≡ starts_branch (mark_of mark.entry) }
 {
@@ -63,7 +63,7 @@ fn push_mark(
     }
 }
 
-/// The marks after the first `n`.
+/// Returns the marks after the first `n`.
 fn after<'a, 'b>(marks: &'a [Mark<'b>], n: usize) -> &'a [Mark<'b>]
     requires { n ≤ length marks.now }
     ensures { result.now ≡ drop n marks.now }

@@ -14,7 +14,7 @@ use crate::options::Options;
 use mark::{Mark, mark_at};
 use std::alloc::Global;
 
-/// A mark inside `depth` open groups, and how many are open after it.
+/// Returns a mark inside `depth` open groups, and how many are open after it.
 fn nested_mark<'a>(depth: usize, mark: Mark<'a>) -> Result<(usize, Mark<'a>), Fault>
     requires { depth + 1 < 2 ^ 64 }
     ensures value { map_ok (λ s. (s.0, mark_of s.1)) result ≡ nested_mark depth (mark_of mark.entry) }

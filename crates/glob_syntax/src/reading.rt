@@ -15,7 +15,7 @@ use crate::options::Options;
 use crate::token::Token;
 use std::alloc::{AllocError, Global};
 
-/// The characters of a text.
+/// Returns the characters of a text. Returns an error if memory runs out.
 fn characters(alloc: Global, text: &str) -> Result<Vec<char>, AllocError>
     ensures { IfOk result (λ v. v.items ≡ chars text.now) }
 {

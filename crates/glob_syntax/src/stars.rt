@@ -9,7 +9,7 @@ pub mod piece;
 
 use crate::marks::mark::Mark;
 
-/// Whether the mark is a run of two stars.
+/// Returns whether the mark is a run of two stars.
 fn is_run(mark: Mark<'_>) -> bool
     ensures { result ≡ is_run (mark_of mark.entry) }
 {
@@ -25,7 +25,7 @@ fn is_run(mark: Mark<'_>) -> bool
     }
 }
 
-/// Whether the mark is an unescaped `/`.
+/// Returns whether the mark is an unescaped `/`.
 fn is_slash(mark: Mark<'_>) -> bool
     ensures { result ≡ is_slash (mark_of mark.entry) }
 {
@@ -41,7 +41,7 @@ fn is_slash(mark: Mark<'_>) -> bool
     }
 }
 
-/// Whether a branch ends before the mark.
+/// Returns whether a branch ends before the mark.
 fn ends_branch(mark: Mark<'_>) -> bool
     ensures { result ≡ ends_branch (mark_of mark.entry) }
 {
@@ -57,7 +57,7 @@ fn ends_branch(mark: Mark<'_>) -> bool
     }
 }
 
-/// Whether a branch ends before these marks.
+/// Returns whether a branch ends before these marks.
 fn at_end(marks: &[Mark<'_>]) -> bool
     ensures { result ≡ at_end (marks_of marks.now) }
 {
@@ -67,7 +67,7 @@ fn at_end(marks: &[Mark<'_>]) -> bool
     }
 }
 
-/// Whether the first mark is a run of two stars that ends the branch.
+/// Returns whether the first mark is a run of two stars that ends the branch.
 pub fn last_run(marks: &[Mark<'_>]) -> bool
     ensures value { result ≡ last_run (marks_of marks.now) }
     ensures some { IsTrue result → 0 < length marks.now }
@@ -78,7 +78,7 @@ pub fn last_run(marks: &[Mark<'_>]) -> bool
     }
 }
 
-/// How many marks at the front make up pairs of a run of two stars and an unescaped `/`.
+/// Returns how many marks at the front make up pairs of a run of two stars and an unescaped `/`.
 pub fn pairs(marks: &[Mark<'_>]) -> usize
     ensures value { result ≡ pairs (marks_of marks.now) }
     ensures within { result ≤ length marks.now }
@@ -95,7 +95,7 @@ pub fn pairs(marks: &[Mark<'_>]) -> usize
     count
 }
 
-/// Whether the only mark is a run of two stars.
+/// Returns whether the only mark is a run of two stars.
 pub fn is_whole_run(marks: &[Mark<'_>]) -> bool
     ensures { result ≡ is_whole_run (marks_of marks.now) }
 {

@@ -10,6 +10,7 @@ use Rattle.globset_glob.specs.Cost.{cost}
 abbrev pub load : List GlobValue → List ℕ → ℕ
 load globs path = sum_by (λ g. cond (needs_automaton g.options (tokens_of_glob g) path) (cost g) 0) globs
 
--- The most visits for a path: a glob that needs an automaton has at most `cost` states.
+-- The most visits for a path. What `visits_for` takes as the load is a bound on the states of the globs that need an
+-- automaton: each has at most `cost`.
 abbrev pub most_set_visits : List GlobValue → List ℕ → ℕ
 most_set_visits globs path = visits_for (length path) (load globs path)

@@ -45,7 +45,7 @@ impl Error {
     ghost use Rattle.std.specs.Option.{option_map};
     ghost use Rattle.globset_glob.specs.Errors.{refusal};
 
-    /// The error of a text with this fault. If the text cannot be copied, it says that memory ran out.
+    /// Returns the error of a text with this fault. If the text cannot be copied, it says that memory ran out.
     pub(crate) fn refusal(alloc: Global, text: &str, fault: Fault) -> Error
         ensures { (result ≡ out_of_memory) ⊎ (result ≡ refusal text.now fault) }
     {
@@ -58,7 +58,7 @@ impl Error {
         }
     }
 
-    /// The error that memory ran out.
+    /// Returns the error that memory ran out.
     pub(crate) fn out_of_memory() -> Error
         ensures { result ≡ out_of_memory }
     {

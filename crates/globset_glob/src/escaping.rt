@@ -41,7 +41,7 @@ fn push_escaped(out: &mut String, c: char) -> Result<(), AllocError>
     }
 }
 
-/// Whether a character is one that `escape` puts in brackets. `\`, `,` and `!` are not.
+/// Returns whether a character is one that `escape` puts in brackets. `\`, `,` and `!` are not.
 fn is_special(c: char) -> bool
     ensures { result ≡ is_special c }
 {

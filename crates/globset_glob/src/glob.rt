@@ -130,8 +130,8 @@ impl Glob {
     /// Returns a matcher for an equal glob, or an error if memory runs out.
     ///
     /// It makes an automaton, in time and memory linear in the glob's text. If that has at most 2,048 states, it makes a
-    /// deterministic one too. That can take a few hundred times as much memory and a thousand times as much time; one that
-    /// would take more is given up.
+    /// deterministic one too, and gives it up if its table and lists would have more than 40,960 numbers, 512 for each state, or
+    /// `2^25 / states`. To find a number may take reading each state, so this takes at most some 34 million reads.
     pub fn compile_matcher(&self) -> Result<GlobMatcher, Error>
         ensures ok { IfOk result (λ m. m ≡ self.now) }
         ensures err { IfErr result (λ e. e ≡ out_of_memory) }
@@ -169,7 +169,7 @@ impl Glob {
         })
     }
 
-    /// The tokens that the text was read as.
+    /// Returns the tokens that the text was read as.
     pub(crate) fn tokens(&self) -> &[Token]
         ensures read { reading self.now.options (chars self.now.text) ≡ Ok (tokens_of result.now) }
         ensures nested { IsNested (flats result.now) }
@@ -178,14 +178,14 @@ impl Glob {
         &self.tokens
     }
 
-    /// The options that the glob was read under.
+    /// Returns the options that the glob was read under.
     pub(crate) fn options(&self) -> Options
         ensures { result ≡ self.now.options }
     {
         self.options
     }
 
-    /// The allocator that holds the glob.
+    /// Returns the allocator that holds the glob.
     pub(crate) fn allocator(&self) -> Global {
         *self.text.allocator()
     }

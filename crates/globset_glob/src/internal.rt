@@ -1,4 +1,4 @@
-//! Calls for the crates `glob_groups` and `globset` alone, which do not re-export them.
+//! Calls for the crate `globset` alone, which does not re-export them.
 
 ghost use Rattle.std.specs.Prelude.{◌≡◌, ◌≤◌, ◌*◌, Ok, length};
 ghost use Rattle.std.specs.Str.{chars};

@@ -59,11 +59,7 @@ impl Model for GlobMatcher {
 impl GlobMatcher {
     ghost use Rattle.globset_glob.specs.Means.{glob_means};
 
-    /// Returns a matcher of a glob. Returns an error if memory runs out.
-    ///
-    /// An automaton is made, in time and memory linear in the glob's text. If it has at most 2,048 states, a deterministic one
-    /// is made too. That can take a few hundred times as much memory and a thousand times as much time; one that would take
-    /// more is given up.
+    /// Returns a matcher of a glob, at the cost of [`Glob::compile_matcher`]. Returns an error if memory runs out.
     pub(crate) fn new(glob: Glob) -> Result<GlobMatcher, Error>
         ensures ok { IfOk result (λ m. m ≡ glob) }
         ensures err { IfErr result (λ e. e ≡ out_of_memory) }

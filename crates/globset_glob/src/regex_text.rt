@@ -11,7 +11,7 @@ use glob_automaton::is_prefix_alone;
 use glob_syntax::{Class, Options, Token};
 use std::alloc::{AllocError, Global};
 
-/// The text of a glob's tokens. It takes time linear in the tokens.
+/// Returns the text of a glob's tokens, in time linear in the tokens. Returns an error if memory runs out.
 pub fn regex_text(alloc: Global, options: Options, tokens: &[Token]) -> Result<String, AllocError>
     requires { IsNested (flats tokens.now) }
     ensures { IfOk result (λ text. string_bytes text ≡ regex_text options (tokens_of tokens.now)) }
@@ -24,7 +24,7 @@ pub fn regex_text(alloc: Global, options: Options, tokens: &[Token]) -> Result<S
     Ok(text)
 }
 
-/// What stands before the `^`.
+/// Pushes what stands before the `^`.
 fn push_flags(text: &mut String, options: Options) -> Result<(), AllocError>
     ensures { OnOk result (string_bytes text.new ≡ string_bytes text.old ++ flags_text options) }
 {
@@ -35,7 +35,7 @@ fn push_flags(text: &mut String, options: Options) -> Result<(), AllocError>
     Ok(())
 }
 
-/// What stands between the `^` and the `$`.
+/// Pushes what stands between the `^` and the `$`.
 fn push_body(
     alloc: Global,
     text: &mut String,
@@ -64,7 +64,7 @@ struct OpenGroup {
     outer_kept: bool,
 }
 
-/// The texts of the tokens, one after another.
+/// Pushes the texts of the tokens, one after another.
 ///
 /// Only its tokens tell whether a branch is kept, so its text is written, and removed if it is not.
 fn push_tokens(
@@ -108,7 +108,7 @@ fn push_tokens(
     Ok(())
 }
 
-/// The text before a branch of a group: the first that is written, or another.
+/// Pushes the text before a branch of a group: the first that is written, or another. Returns the group.
 fn start_branch(text: &mut String, first: bool, outer_kept: bool) -> Result<OpenGroup, AllocError>
     ensures text { OnOk result (string_bytes text.new ≡ string_bytes text.old ++ opener first) }
     ensures group { IfOk result (λ g. g ≡ record { len = string_len text.old; first = first; outer_kept = outer_kept }) }
@@ -122,8 +122,8 @@ fn start_branch(text: &mut String, first: bool, outer_kept: bool) -> Result<Open
     })
 }
 
-/// The end of a branch, which is kept under `empty_alternates` and where `kept` says so. Returns whether no branch of the
-/// group has been written.
+/// Ends a branch: it is kept under `empty_alternates` and where `kept` says so, and otherwise removed. Returns whether no
+/// branch of the group has been written.
 fn end_branch(text: &mut String, options: Options, group: OpenGroup, kept: bool) -> bool
     requires { IsSplitPoint (string_bytes text.old) group.len }
     ensures text { string_bytes text.new ≡ chosen (options.empty_alternates || kept) (string_bytes text.old) (take group.len (string_bytes text.old)) }
@@ -136,7 +136,7 @@ fn end_branch(text: &mut String, options: Options, group: OpenGroup, kept: bool)
     group.first
 }
 
-/// The text after the last branch of a group, if one was written. Returns whether the branch around it is kept so far.
+/// Pushes the text after the last branch of a group, if one was written. Returns whether the branch around it is kept so far.
 fn end_group(text: &mut String, group: OpenGroup, none: bool) -> Result<bool, AllocError>
     ensures text { OnOk result (string_bytes text.new ≡ string_bytes text.old ++ closer none) }
     ensures kept { IfOk result (λ kept. kept ≡ (group.outer_kept || not none)) }
@@ -147,7 +147,7 @@ fn end_group(text: &mut String, group: OpenGroup, none: bool) -> Result<bool, Al
     Ok(group.outer_kept || !none)
 }
 
-/// The text of a token that is no brace or comma.
+/// Pushes the text of a token that is no brace or comma.
 fn push_simple(text: &mut String, options: Options, token: &Token) -> Result<(), AllocError>
     requires { IsSimple (flat_of token.now) }
     ensures { OnOk result (string_bytes text.new ≡ string_bytes text.old ++ simple_text options (flat_of token.now)) }
@@ -167,7 +167,7 @@ fn push_simple(text: &mut String, options: Options, token: &Token) -> Result<(),
     Ok(())
 }
 
-/// The text of a class.
+/// Pushes the text of a class.
 fn push_class(text: &mut String, class: &Class) -> Result<(), AllocError>
     ensures { OnOk result (string_bytes text.new ≡ string_bytes text.old ++ class_text class.now.negated class.now.ranges) }
 {
@@ -179,7 +179,7 @@ fn push_class(text: &mut String, class: &Class) -> Result<(), AllocError>
     Ok(())
 }
 
-/// The text of a range of a class.
+/// Pushes the text of a range of a class.
 fn push_range(text: &mut String, range: (char, char)) -> Result<(), AllocError>
     ensures { OnOk result (string_bytes text.new ≡ string_bytes text.old ++ range_text range) }
 {
@@ -192,7 +192,7 @@ fn push_range(text: &mut String, range: (char, char)) -> Result<(), AllocError>
     Ok(())
 }
 
-/// The text of a character.
+/// Pushes the text of a character.
 fn push_char(text: &mut String, c: char) -> Result<(), AllocError>
     ensures { OnOk result (string_bytes text.new ≡ string_bytes text.old ++ char_text c) }
 {
@@ -203,7 +203,7 @@ fn push_char(text: &mut String, c: char) -> Result<(), AllocError>
     Ok(())
 }
 
-/// The text of a byte.
+/// Pushes the text of a byte.
 fn push_byte(text: &mut String, byte: u8) -> Result<(), AllocError>
     ensures { OnOk result (string_bytes text.new ≡ string_bytes text.old ++ byte_text byte) }
 {
@@ -218,7 +218,7 @@ fn push_byte(text: &mut String, byte: u8) -> Result<(), AllocError>
     push_ascii(text, byte)
 }
 
-/// An ASCII character as it is.
+/// Pushes an ASCII character as it is.
 fn push_ascii(text: &mut String, byte: u8) -> Result<(), AllocError>
     requires { byte < 128 }
     ensures { OnOk result (string_bytes text.new ≡ string_bytes text.old ++ byte ∷ []) }
@@ -230,14 +230,14 @@ fn push_ascii(text: &mut String, byte: u8) -> Result<(), AllocError>
 /// The ASCII characters that have a backslash before them.
 const ESCAPED: &[u8] = b"\\.+*?()|[]{}^$#&-~";
 
-/// Whether an ASCII character has a backslash before it.
+/// Returns whether an ASCII character has a backslash before it.
 fn is_escaped(byte: u8) -> bool
     ensures { result ≡ is_escaped byte }
 {
     ESCAPED.iter().any(|escaped| byte == *escaped)
 }
 
-/// The digit of a number below 16, `0` to `9` or `a` to `f`.
+/// Returns the digit of a number below 16, `0` to `9` or `a` to `f`.
 fn hexadecimal_digit(value: u8) -> u8
     requires { value < 16 }
     ensures value { result ≡ hexadecimal_digit value }

@@ -15,7 +15,7 @@ fn check(rt: &impl Abort, given: &str, wanted: &str, row: &str) {
     assert_eq!(*rt; given, wanted, "of {row}");
 }
 
-/// The arguments of a command line, which are separated by spaces. The first one is the program's name, and left out.
+/// Returns the arguments of a command line, which are separated by spaces. The first one is the program's name, and left out.
 fn arguments_of(alloc: Global, line: &str) -> Result<Vec<String>, AllocError> {
     let mut arguments = Vec::new(alloc);
     for argument in line.split(' ').skip(1) {
@@ -24,7 +24,7 @@ fn arguments_of(alloc: Global, line: &str) -> Result<Vec<String>, AllocError> {
     Ok(arguments)
 }
 
-/// The bytes of a text, in which `|` stands for LF and `:` for a tab.
+/// Returns the bytes of a text, in which `|` stands for LF and `:` for a tab.
 fn bytes_of(alloc: Global, text: &str) -> Result<Vec<u8>, AllocError> {
     let mut bytes = Vec::new(alloc);
     for byte in text.as_bytes() {
@@ -37,7 +37,7 @@ fn bytes_of(alloc: Global, text: &str) -> Result<Vec<u8>, AllocError> {
     Ok(bytes)
 }
 
-/// The text of such bytes; `-` where there are none.
+/// Returns the text of such bytes; `-` where there are none.
 fn text_of(alloc: Global, bytes: &[u8]) -> Result<String, AllocError> {
     let mut text = String::new(alloc);
     for byte in bytes {

@@ -1,15 +1,15 @@
-//! Why the program stops.
+//! Why [`write_matching_lines`](crate::write_matching_lines) stops.
 
 use crate::arguments::fault::CommandFault;
 use crate::sifting::fault::SiftFault;
 use std::fmt;
 
-/// Why the program ended with an error.
+/// The error of [`write_matching_lines`](crate::write_matching_lines).
 #[derive(Debug, Drop)]
 pub enum Fault {
     /// The command-line arguments are rejected.
     Command(CommandFault),
-    /// Sifting stopped before the end.
+    /// [`sift`](crate::sift) stopped before the end.
     Sift(SiftFault),
 }
 

@@ -36,7 +36,8 @@ fn zeros(alloc: Global, count: usize) -> Result<Vec<u8>, AllocError>
 /// and a tab.
 ///
 /// On success all output was written and the writer was flushed. It needs memory for what is read at once (64 KiB), pending
-/// output (64 KiB and that of one line), the beginning of a line whose end was not read yet, and the indexes of one line.
+/// output (64 KiB and that of one line), the beginning of a line whose end was not read yet, the indexes of one line, and what
+/// [`GlobSet::is_match_candidate`] or [`GlobSet::matches_candidate_into`] takes.
 ///
 /// # Errors
 ///

@@ -46,7 +46,7 @@ impl Case for Globs {
 }
 
 impl Globs {
-    /// Reads a glob and copies it: `reads`, and the copy's `regex()`; or `fails`, the error's kind and its text.
+    /// Reads a glob and copies it. Returns `reads`, and the copy's `regex()`; or `fails`, the error's kind and its text.
     fn read(&self, columns: &mut Columns<'_>) -> Result<String> {
         match &read(self.alloc, columns)? {
             Ok(glob) => shown_copy(self.alloc, glob),
@@ -68,7 +68,7 @@ impl Globs {
         Ok(shown)
     }
 
-    /// Adds a glob to the set: the length of the set.
+    /// Adds a glob to the set, and returns the length of the set.
     fn add(&mut self, columns: &mut Columns<'_>) -> Result<String> {
         self.push(read(self.alloc, columns)??)?;
         shown::number(self.alloc, self.set.len())
@@ -80,13 +80,13 @@ impl Globs {
         Ok(())
     }
 
-    /// Whether a glob matches a path, by its matcher and by a set of it alone.
+    /// Returns whether a glob matches a path, by its matcher and by a set of it alone.
     fn is_match(&self, columns: &mut Columns<'_>) -> Result<String> {
         is_match(self.alloc, &read(self.alloc, columns)??, columns)
     }
 
-    /// The indexes that the set returns for a path, whether all globs match it, and the indexes of the globs whose own
-    /// matchers match it.
+    /// Returns the indexes that the set returns for a path, whether all globs match it, and the indexes of the globs whose
+    /// own matchers match it.
     fn path(&self, columns: &mut Columns<'_>) -> Result<String> {
         self.answers(&Candidate::from_bytes(&columns.bytes(self.alloc)?))
     }
@@ -107,7 +107,7 @@ impl Globs {
         shown::columns(self.alloc, indexes, all, &self.each(path)?)
     }
 
-    /// The indexes of the globs whose own matchers match a path.
+    /// Returns the indexes of the globs whose own matchers match a path.
     fn each(&self, path: &Candidate<'_>) -> Result<String> {
         Ok(list(self.alloc, &self.matching(path)?)?)
     }
@@ -122,12 +122,12 @@ impl Globs {
         Ok(indexes)
     }
 
-    /// Whether two globs are equal, or the errors of two texts that are no globs. Equal globs must hash equally.
+    /// Returns whether two globs are equal, or the errors of two texts that are no globs. Equal globs must hash equally.
     fn equal(&self, columns: &mut Columns<'_>) -> Result<String> {
         equal(self.alloc, &read(self.alloc, columns)?, columns)
     }
 
-    /// The basename and the extension of a path.
+    /// Returns the basename and the extension of a path.
     fn parts(&self, columns: &mut Columns<'_>) -> Result<String> {
         parts(
             self.alloc,
@@ -135,12 +135,13 @@ impl Globs {
         )
     }
 
-    /// The escaped text.
+    /// Returns the escaped text.
     fn escape(&self, columns: &mut Columns<'_>) -> Result<String> {
         escaped_glob(self.alloc, columns.text(self.alloc)?.as_str())
     }
 
-    /// Reads a glob from a JSON text: `reads`, the glob and the JSON text that is written of it; or `fails` and the error.
+    /// Reads a glob from a JSON text. Returns `reads`, the glob and the JSON text that is written of it; or `fails` and the
+    /// error.
     fn value(&self, columns: &mut Columns<'_>) -> Result<String> {
         match &Glob::from_value(self.alloc, &json(self.alloc, columns)?) {
             Ok(glob) => written(self.alloc, glob),
@@ -148,7 +149,7 @@ impl Globs {
         }
     }
 
-    /// Reads a set from a JSON text, in place of the set: `reads` and its length; or `fails`, the index and the error.
+    /// Reads a set from a JSON text, in place of the set. Returns `reads` and its length; or `fails`, the index and the error.
     fn array(&mut self, columns: &mut Columns<'_>) -> Result<String> {
         match GlobSet::from_value(self.alloc, &json(self.alloc, columns)?) {
             Ok(set) => self.replace(set),
@@ -167,7 +168,7 @@ fn shown_copy(alloc: Global, glob: &Glob) -> Result<String> {
     shown::glob(alloc, &glob.clone()?)
 }
 
-/// Whether a glob matches the path of the next column.
+/// Returns whether a glob matches the path of the next column.
 fn is_match(alloc: Global, glob: &Glob, columns: &mut Columns<'_>) -> Result<String> {
     compared_matches(alloc, glob, &Candidate::from_bytes(&columns.bytes(alloc)?))
 }
@@ -181,7 +182,7 @@ fn compared_matches(alloc: Global, glob: &Glob, path: &Candidate<'_>) -> Result<
     shown::copied(alloc, yes_or_no(matcher))
 }
 
-/// Whether a glob matches a path, by a matcher.
+/// Returns whether a glob matches a path, by a matcher.
 fn matches_by_itself(glob: &Glob, path: &Candidate<'_>) -> Result<bool, Error>
     ensures { IfOk result (λ yes. yes ≡ glob_means glob.now path.now) }
 {
@@ -192,7 +193,7 @@ fn matches_in_a_set(alloc: Global, glob: &Glob, path: &Candidate<'_>) -> Result<
     GlobSet::new(alloc, [glob])?.is_match_candidate(path)
 }
 
-/// Whether the glob of the next columns, or its error, is equal to this one.
+/// Returns whether the glob of the next columns, or its error, is equal to this one.
 fn equal(alloc: Global, one: &Result<Glob, Error>, columns: &mut Columns<'_>) -> Result<String> {
     shown::copied(alloc, compared(one, &read(alloc, columns)?))
 }
@@ -220,7 +221,7 @@ fn escaped_glob(alloc: Global, text: &str) -> Result<String> {
     Ok(escaped(alloc, escape(alloc, text)?.as_bytes())?)
 }
 
-/// `reads`, the glob and the JSON text that is written of it.
+/// Returns `reads`, the glob and the JSON text that is written of it.
 fn written(alloc: Global, glob: &Glob) -> Result<String> {
     written_as(alloc, glob, &glob.to_value()?)
 }
@@ -242,7 +243,7 @@ fn is_read_back(alloc: Global, glob: &Glob, value: &Value) -> Result<bool, Value
     Ok(Glob::from_value(alloc, value)? == *glob)
 }
 
-/// The JSON value of the next column.
+/// Returns the JSON value of the next column.
 fn json(alloc: Global, columns: &mut Columns<'_>) -> Result<Value, RowError> {
     match Value::from_str(alloc, columns.text(alloc)?.as_str()) {
         Ok(value) => Ok(value),

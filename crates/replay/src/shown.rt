@@ -5,12 +5,12 @@ use globset::{Error, Glob, ValueError};
 use rows::{escaped, text};
 use std::alloc::{AllocError, Global};
 
-/// `reads`, and the text of `regex()`.
+/// Returns `reads`, and the text of `regex()`.
 pub fn glob(alloc: Global, glob: &Glob) -> Result<String> {
     pair(alloc, "reads", &escaped(alloc, glob.regex().as_bytes())?)
 }
 
-/// `fails`, the kind and the text.
+/// Returns `fails`, the kind and the text.
 pub fn error(alloc: Global, error: &Error) -> Result<String> {
     columns(
         alloc,
@@ -25,7 +25,7 @@ fn kind(alloc: Global, error: &Error) -> Result<String, AllocError> {
     escaped(alloc, kind.as_bytes())
 }
 
-/// `fails`, the index or `-`, and the text.
+/// Returns `fails`, the index or `-`, and the text.
 pub fn value_error(alloc: Global, error: &ValueError) -> Result<String> {
     match error.index() {
         Some(index) => {
@@ -44,27 +44,27 @@ fn escaped_text<E: std::error::Error>(alloc: Global, error: &E) -> Result<String
     escaped(alloc, error.to_string(alloc)?.as_bytes())
 }
 
-/// `reads`, and the length of a set.
+/// Returns `reads`, and the length of a set.
 pub fn length(alloc: Global, length: usize) -> Result<String> {
     pair(alloc, "reads", &number(alloc, length)?)
 }
 
-/// A number.
+/// Returns a number.
 pub fn number(alloc: Global, number: usize) -> Result<String> {
     Ok(format!(in alloc; "{number}")?)
 }
 
-/// A copy of a text.
+/// Returns a copy of a text.
 pub fn copied(alloc: Global, with: &str) -> Result<String> {
     Ok(text(alloc, with)?)
 }
 
-/// Two columns.
+/// Returns two columns.
 pub fn pair(alloc: Global, first: &str, second: &str) -> Result<String> {
     Ok(format!(in alloc; "{first}\t{second}")?)
 }
 
-/// Three columns.
+/// Returns three columns.
 pub fn columns(alloc: Global, first: &str, second: &str, third: &str) -> Result<String> {
     Ok(format!(in alloc; "{first}\t{second}\t{third}")?)
 }

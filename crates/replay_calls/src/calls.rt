@@ -19,7 +19,7 @@ use rows::{Columns, RowError, escaped, text, yes_or_no};
 use std::alloc::Global;
 use std::{fmt, mem};
 
-/// What the call of a row returns. A call on a set is made with the set of the rows so far, and their globs.
+/// Returns what the call of a row returns. A call on a set is made with the set of the rows so far, and their globs.
 pub fn returned(
     alloc: Global,
     columns: &mut Columns<'_>,
@@ -66,32 +66,32 @@ fn visits(alloc: Global, call: &str) -> Result<String> {
     }
 }
 
-/// What `{}` shows.
+/// Returns what `{}` shows.
 fn displayed<T: fmt::Display>(alloc: Global, value: &T) -> Result<String> {
     Ok(format!(in alloc; "{value}")?)
 }
 
-/// What `{:?}` shows.
+/// Returns what `{:?}` shows.
 fn debugged<T: fmt::Debug>(alloc: Global, value: &T) -> Result<String> {
     Ok(format!(in alloc; "{value:?}")?)
 }
 
-/// A copy of a text.
+/// Returns a copy of a text.
 fn copied(alloc: Global, with: &str) -> Result<String> {
     Ok(text(alloc, with)?)
 }
 
-/// `yes` or `no`.
+/// Returns `yes` or `no`.
 fn answer(alloc: Global, yes: bool) -> Result<String> {
     copied(alloc, yes_or_no(yes))
 }
 
-/// Bytes as a column.
+/// Returns bytes as a column.
 fn column(alloc: Global, bytes: &[u8]) -> Result<String> {
     Ok(escaped(alloc, bytes)?)
 }
 
-/// The error that no call has this name.
+/// Returns the error that no call has this name.
 fn unknown<T>() -> Result<T> {
     Err(RowError::UnknownCall.into())
 }

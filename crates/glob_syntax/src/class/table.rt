@@ -29,7 +29,7 @@ pub fn table_of(alloc: Global, ranges: &[(char, char)]) -> Result<Vec<Membership
     Ok(table)
 }
 
-/// How ranges contain a byte, where `plain` says of each byte whether they contain the byte itself.
+/// Returns how ranges contain a byte, where `plain` says of each byte whether they contain the byte itself.
 fn membership_in(plain: &[bool; 256], byte: u8) -> Membership
     ensures { (rs : List (ℕ × ℕ)) → IsPlainTable rs plain.now → result ≡ membership rs byte }
 {
@@ -55,14 +55,14 @@ fn plain_table(ranges: &[(char, char)]) -> [bool; 256]
     plain
 }
 
-/// Whether one of the ranges contains the byte.
+/// Returns whether one of the ranges contains the byte.
 fn ranges_have_byte(ranges: &[(char, char)], byte: u8) -> bool
     ensures { result ≡ ranges_have ranges.now byte }
 {
     ranges.iter().any(|range| range_has_byte(*range, byte))
 }
 
-/// Whether the range contains the byte.
+/// Returns whether the range contains the byte.
 fn range_has_byte(range: (char, char), byte: u8) -> bool
     ensures { result ≡ range_has range byte }
 {
@@ -80,14 +80,14 @@ fn range_has_byte(range: (char, char), byte: u8) -> bool
     }
 }
 
-/// Whether the byte is one of these.
+/// Returns whether the byte is one of these.
 fn is_one_of(bytes: &[u8], byte: u8) -> bool
     ensures { result ≡ is_one_of byte bytes.now }
 {
     bytes.iter().any(|b| byte == *b)
 }
 
-/// Whether the byte is one of these except the last one, or from the last one up to `upper`.
+/// Returns whether the byte is one of these except the last one, or from the last one up to `upper`.
 fn is_from_last(bytes: &[u8], upper: u8, byte: u8) -> bool
     ensures { result ≡ is_from_last byte bytes.now upper }
 {

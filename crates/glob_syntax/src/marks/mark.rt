@@ -30,14 +30,14 @@ pub enum Mark<'a> {
     Bad(Fault),
 }
 
-/// The position of the first `]`.
+/// Returns the position of the first `]`.
 fn first_closer(rest: &[char]) -> Option<usize>
     ensures { result ≡ position is_closer rest.now }
 {
     rest.iter().position(|c| *c == ']')
 }
 
-/// How many members a class has, where `rest` begins with the first one; `None` if no `]` closes the class.
+/// Returns how many members a class has, where `rest` begins with the first one; `None` if no `]` closes the class.
 fn members(rest: &[char]) -> Option<usize>
     ensures value { result ≡ members rest.now }
     ensures within { IfSome result (λ n. n < length rest.now) }
@@ -51,8 +51,8 @@ fn members(rest: &[char]) -> Option<usize>
     }
 }
 
-/// The mark at a `[` that `skipped` characters of negation and then `rest` follow, and how many characters belong to it
-/// after the `[`.
+/// Returns the mark at a `[` that `skipped` characters of negation and then `rest` follow, and how many characters belong to
+/// it after the `[`.
 ///
 /// `closable` becomes false once no `]` closes a `[`. Then none closes a later one, so this never searches again.
 fn class_at<'a>(
@@ -83,7 +83,7 @@ fn class_at<'a>(
     }
 }
 
-/// The mark at a `[` that no `]` closes, followed by `rest`.
+/// Returns the mark at a `[` that no `]` closes, followed by `rest`.
 fn unclosed_mark<'a>(options: Options, rest: &[char]) -> Mark<'a>
     ensures { mark_of result ≡ unclosed_mark options rest.now }
 {
@@ -97,7 +97,7 @@ fn unclosed_mark<'a>(options: Options, rest: &[char]) -> Mark<'a>
     }
 }
 
-/// The mark of a closed class with this body.
+/// Returns the mark of a closed class with this body.
 fn class_mark(negated: bool, body: &[char]) -> Mark<'_>
     ensures { mark_of result ≡ class_mark negated body.now }
 {
@@ -107,7 +107,7 @@ fn class_mark(negated: bool, body: &[char]) -> Mark<'_>
     }
 }
 
-/// The mark that begins with `c`, followed by `rest`, and how many characters belong to it after `c`.
+/// Returns the mark that begins with `c`, followed by `rest`, and how many characters belong to it after `c`.
 #[tactic(auto, unfolding(crate::specs::Marks::mark_at))]
 pub fn mark_at<'a>(
     options: Options,
@@ -148,7 +148,7 @@ pub fn mark_at<'a>(
     }
 }
 
-/// How many stars are at the front.
+/// Returns how many stars are at the front.
 fn count_stars(rest: &[char]) -> usize
     ensures value { result ≡ prefix_len (λ d. d == 42) rest.now }
     ensures within { result ≤ length rest.now }

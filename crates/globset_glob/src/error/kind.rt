@@ -37,7 +37,7 @@ pub enum ErrorKind {
 impl ErrorKind {
     ghost use Rattle.globset_glob.specs.Errors.{kind_of};
 
-    /// The kind of the error of a text with this fault.
+    /// Returns the kind of the error of a text with this fault.
     pub(crate) fn of(fault: Fault) -> ErrorKind
         ensures { result ≡ kind_of fault }
     {

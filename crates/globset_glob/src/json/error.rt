@@ -150,7 +150,7 @@ impl ValueError {
         &self.kind
     }
 
-    /// The error with this index. If it says that memory ran out, it is unchanged.
+    /// Returns the error with this index. If it says that memory ran out, it is unchanged.
     pub(crate) fn of_element(self, index: usize) -> ValueError
         ensures { result ≡ of_element index self }
     {
@@ -164,7 +164,7 @@ impl ValueError {
         }
     }
 
-    /// Whether memory ran out.
+    /// Returns whether memory ran out.
     fn is_memory(&self) -> bool
         ensures { result ≡ is_memory self.now.kind }
     {

@@ -17,7 +17,7 @@ globsift --set {} => Value(ValueError { index: None, kind: NotArray }): expected
 globsift --set [\"*.rs\",7] => Value(ValueError { index: Some(1), kind: NotText }): element 1: expected a glob pattern
 globsift -n * => accepted";
 
-/// What `Debug` shows of a command line's error, and the text of the error; or `accepted`.
+/// Returns what `Debug` shows of a command line's error, and the text of the error; or `accepted`.
 fn error_of(alloc: Global, line: &str) -> Result<String, AllocError> {
     shown(alloc, &command(alloc, &arguments_of(alloc, line)?))
 }
@@ -38,7 +38,7 @@ fn of_command(rt: HostRuntime) -> Result<(), Fail> {
     Ok(())
 }
 
-/// What `Debug` shows of an error, and its text.
+/// Returns what `Debug` shows of an error, and its text.
 fn text_of(alloc: Global, fault: &Fault) -> Result<String, AllocError> {
     format!(in alloc; "{fault:?}: {fault}")
 }

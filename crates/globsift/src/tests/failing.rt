@@ -109,7 +109,7 @@ fn parse(case: &str) -> Option<Case> {
     })
 }
 
-/// The set of `*.rs` and `src/**`.
+/// Returns the set of `*.rs` and `src/**`.
 fn make_set(alloc: Global) -> std::result::Result<GlobSet, globset::Error> {
     build(alloc, &mut GlobSet::builder(alloc))
 }
@@ -123,7 +123,7 @@ fn build(
     builder.build()
 }
 
-/// A result as a row names it.
+/// Returns a result as a row names it.
 fn name_of(outcome: std::result::Result<bool, SiftFault>) -> &'static str {
     match outcome {
         Ok(true) => "true",
@@ -134,7 +134,7 @@ fn name_of(outcome: std::result::Result<bool, SiftFault>) -> &'static str {
     }
 }
 
-/// What comes of a case, as a row says it.
+/// Returns what comes of a case, as a row says it.
 fn outcome_of(alloc: Global, set: &GlobSet, case: &str) -> std::result::Result<String, AllocError> {
     match parse(case) {
         Some(case) => run(alloc, set, &case),
@@ -187,12 +187,12 @@ fn check_cases<R: Abort + Alloc<A = Global>>(
     Ok(())
 }
 
-/// A line with no LF.
+/// Returns a line with no LF.
 fn make_line(alloc: Global, length: usize) -> std::result::Result<Vec<u8>, AllocError> {
     vec![in alloc; b's'; length]
 }
 
-/// The set of `s*`.
+/// Returns the set of `s*`.
 fn make_s_set(alloc: Global) -> std::result::Result<GlobSet, globset::Error> {
     GlobSet::new(alloc, [&Glob::new(alloc, "s*")?])
 }
@@ -206,7 +206,7 @@ fn long_line(rt: HostRuntime) -> std::result::Result<(), Fail> {
     Ok(())
 }
 
-/// Whether a line is written, followed by LF.
+/// Returns whether a line is written, followed by LF.
 fn is_written(alloc: Global, set: &GlobSet, line: &[u8]) -> bool {
     let mut reader = line;
     let mut written = Vec::new(alloc);

@@ -14,7 +14,7 @@ globsift -i -e -u -b {,A}[ -- -n < [|a[|-n|n| => true [|a[|-n|
 globsift --set [\"*.rs\",\"*.c\"] -n < a.c| => true 1:a.c|
 globsift --set [] < a|| => false -";
 
-/// Whether a line is written for a command line and an input, and the output.
+/// Returns whether a line is written for a command line and an input, and the output.
 fn shown(alloc: Global, line: &str, input: &str) -> Result<String, Fail> {
     let mut output = Vec::new(alloc);
     let any = run(alloc, line, input, &mut output)?;

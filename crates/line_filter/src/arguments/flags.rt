@@ -26,7 +26,7 @@ pub struct Flags {
 }
 
 impl Flags {
-    /// No flags.
+    /// Returns no flags.
     pub fn none() -> Flags
         ensures { result ≡ no_flags }
     {

@@ -100,7 +100,7 @@ fn starts_with_dash(argument: &str) -> bool
     matches!(argument.as_bytes(), [b'-', ..])
 }
 
-/// The error of an argument that starts with `-` and is no flag. It is that of memory if the argument can't be copied.
+/// Returns the error of an argument that starts with `-` and is no flag. It is that of memory if the argument can't be copied.
 fn unknown_option(alloc: Global, argument: &str) -> CommandFault
     ensures { (fault_value result ≡ glob_error out_of_memory)
         ⊎ (fault_value result ≡ unknown_option argument.now) }

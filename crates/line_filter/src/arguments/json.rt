@@ -69,7 +69,7 @@ fn read_set(alloc: Global, text: &str) -> Result<GlobSet, CommandFault>
     }
 }
 
-/// The error of a rejected value. It is an error of a glob if memory ran out.
+/// Returns the error of a rejected value. It is an error of a glob if memory ran out.
 fn fault_of(error: ValueError) -> CommandFault
     ensures { fault_value result ≡ (if is_memory error.kind then glob_error out_of_memory else value_error error) }
 {

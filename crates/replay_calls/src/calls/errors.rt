@@ -35,7 +35,7 @@ fn shown(alloc: Global, call: &str, error: &Error) -> Result<String> {
     }
 }
 
-/// What an error shows where all that is known of it is that it is one of std's errors.
+/// Returns what an error shows where all that is known of it is that it is one of std's errors.
 pub fn text_of<E: std::error::Error>(alloc: Global, error: &E) -> Result<String> {
     Ok(error.to_string(alloc)?)
 }

@@ -56,7 +56,7 @@ pub fn builder(alloc: Global, call: &str, with: &str) -> Result<String> {
     }
 }
 
-/// The regular expression of the glob.
+/// Returns the regular expression of the glob.
 fn built(alloc: Global, builder: &GlobBuilder<'_>) -> Result<String> {
     copied(alloc, builder.build(alloc)?.regex())
 }

@@ -58,7 +58,7 @@ fn counted(alloc: Global, matcher: &GlobMatcher) -> Result<String> {
     )
 }
 
-/// Whether a copy of a matcher matches a path.
+/// Returns whether a copy of a matcher matches a path.
 fn by_copy(matcher: &GlobMatcher, path: &str) -> Result<bool, Error>
     ensures { IfOk result (λ yes. yes ≡ glob_means matcher.now path.now) }
 {

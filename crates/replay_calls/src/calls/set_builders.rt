@@ -43,7 +43,7 @@ fn shown(alloc: Global, call: &str, builder: &mut GlobSetBuilder) -> Result<Stri
     }
 }
 
-/// How many globs the builder's set has.
+/// Returns how many globs the builder's set has.
 fn length(alloc: Global, builder: &GlobSetBuilder) -> Result<String> {
     displayed(alloc, &builder.build()?.len())
 }
@@ -52,7 +52,7 @@ fn length_before_add(alloc: Global, builder: &mut GlobSetBuilder) -> Result<Stri
     after_add_to(alloc, &builder.build()?, builder)
 }
 
-/// The length of a set, after a glob is added to a builder.
+/// Returns the length of a set, after a glob is added to a builder.
 fn after_add_to(alloc: Global, set: &GlobSet, builder: &mut GlobSetBuilder) -> Result<String> {
     builder.add(Glob::new(alloc, "a")?)?;
     displayed(alloc, &set.len())
@@ -66,7 +66,7 @@ fn length_of_std_copy(alloc: Global, builder: &mut GlobSetBuilder) -> Result<Str
     after_add(alloc, &Clone::clone(builder)?, builder)
 }
 
-/// How many globs the set of a copy has, after a glob is added to the builder.
+/// Returns how many globs the set of a copy has, after a glob is added to the builder.
 fn after_add(alloc: Global, copy: &GlobSetBuilder, builder: &mut GlobSetBuilder) -> Result<String> {
     builder.add(Glob::new(alloc, "a")?)?;
     length(alloc, copy)

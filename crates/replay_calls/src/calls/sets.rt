@@ -22,7 +22,7 @@ pub fn set(alloc: Global, call: &str, globs: &[Glob], set: &GlobSet, path: &str)
     }
 }
 
-/// The first word of what is shown.
+/// Returns the first word of what is shown.
 fn debug(alloc: Global, set: &GlobSet) -> Result<String> {
     let shown = debugged(alloc, set)?;
     copied(alloc, shown.as_str().split(' ').next().unwrap_or(""))
@@ -40,7 +40,7 @@ fn std_copy(alloc: Global, set: &GlobSet, path: &str) -> Result<String> {
     matches(alloc, &Clone::clone(set)?, path)
 }
 
-/// What a call returns for a path, or the vector that it leaves, which held other numbers before it.
+/// Returns what a call returns for a path, or the vector that it leaves, which held other numbers before it.
 fn asked(alloc: Global, call: &str, set: &GlobSet, path: &str) -> Result<String> {
     match call {
         "matches" => matches(alloc, set, path),

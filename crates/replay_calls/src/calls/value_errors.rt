@@ -41,7 +41,7 @@ fn shown(alloc: Global, call: &str, error: &ValueError, with: &str) -> Result<St
     }
 }
 
-/// Whether an error is equal to that of another JSON text.
+/// Returns whether an error is equal to that of another JSON text.
 fn equality(alloc: Global, error: &ValueError, other: &str) -> Result<String> {
     answer(alloc, *error == rejected(alloc, other)?)
 }
