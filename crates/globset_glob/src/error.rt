@@ -142,7 +142,7 @@ impl fmt::Display for Error {
                 let kind = &self.kind;
                 write!(f, "error parsing glob '{glob}': {kind}")
             }
-            None => write!(f, "{}", self.kind),
+            None => self.kind.fmt(f),
         }
     }
 }

@@ -21,8 +21,8 @@ impl fmt::Display for Fault {
 
     fn fmt<W: fmt::Write>(&self, f: &mut fmt::Formatter<W>) -> fmt::Result {
         match self {
-            Fault::Command(fault) => write!(f, "{fault}"),
-            Fault::Sift(fault) => write!(f, "{fault}"),
+            Fault::Command(fault) => fault.fmt(f),
+            Fault::Sift(fault) => fault.fmt(f),
         }
     }
 }

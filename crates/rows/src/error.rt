@@ -1,29 +1,54 @@
 //! Why a row cannot be replayed.
 
 use std::alloc::AllocError;
-use thiserror::Error as ThisError;
+use std::fmt;
 
 /// Why a row cannot be replayed.
-#[derive(Debug, Drop, ThisError)]
+#[derive(Clone, Copy, Debug)]
 pub enum RowError {
-    #[error("no row is of this kind")]
+    /// No row is of this kind.
     UnknownKind,
-    #[error("no call has this name")]
+    /// No call has this name.
     UnknownCall,
-    #[error("this is read without an error")]
+    /// What is to be rejected is read without an error.
     NoError,
-    #[error("a column is missing")]
+    /// There are fewer columns than the row needs.
     MissingColumn,
-    #[error("a column has bytes that are not written as they should be")]
+    /// The bytes of a column are not written as they should be.
     BadColumn,
-    #[error("a column is not UTF-8")]
+    /// A column is not UTF-8.
     NotUtf8,
-    #[error("an option is unknown")]
+    /// An option is unknown.
     UnknownOption,
-    #[error("a repetition is not of the form «COUNT TEXT»")]
+    /// A repetition is not of the form `«COUNT TEXT»`.
     BadRepetition,
-    #[error("a column is not JSON")]
+    /// A column is not JSON.
     NotJson,
-    #[error(transparent)]
-    Memory(#[from(alloc)] AllocError),
+    /// Memory ran out.
+    OutOfMemory,
+}
+
+impl fmt::Display for RowError {
+    fn fmt<W: fmt::Write>(&self, f: &mut fmt::Formatter<W>) -> fmt::Result {
+        f.write_str(match self {
+            RowError::UnknownKind => "no row is of this kind",
+            RowError::UnknownCall => "no call has this name",
+            RowError::NoError => "this is read without an error",
+            RowError::MissingColumn => "a column is missing",
+            RowError::BadColumn => "a column has bytes that are not written as they should be",
+            RowError::NotUtf8 => "a column is not UTF-8",
+            RowError::UnknownOption => "an option is unknown",
+            RowError::BadRepetition => "a repetition is not of the form «COUNT TEXT»",
+            RowError::NotJson => "a column is not JSON",
+            RowError::OutOfMemory => "out of memory",
+        })
+    }
+}
+
+impl std::error::Error for RowError {}
+
+impl From<AllocError> for RowError {
+    fn from(_error: AllocError) -> RowError {
+        RowError::OutOfMemory
+    }
 }

@@ -70,7 +70,7 @@ impl fmt::Display for ValueErrorKind {
         match self {
             ValueErrorKind::NotText => f.write_str("expected a glob pattern"),
             ValueErrorKind::NotArray => f.write_str("expected an array of glob patterns"),
-            ValueErrorKind::Glob(error) => write!(f, "{error}"),
+            ValueErrorKind::Glob(error) => error.fmt(f),
         }
     }
 }
@@ -188,7 +188,7 @@ impl fmt::Display for ValueError {
                 let kind = &self.kind;
                 write!(f, "element {index}: {kind}")
             }
-            None => write!(f, "{}", self.kind),
+            None => self.kind.fmt(f),
         }
     }
 }

@@ -36,8 +36,8 @@ impl fmt::Display for CommandFault {
             CommandFault::SetWithoutText => f.write_str("--set takes a text"),
             CommandFault::SetNotAlone => f.write_str("--set stands alone or beside -n"),
             CommandFault::NotJson => f.write_str("not a JSON text"),
-            CommandFault::Glob(error) => write!(f, "{error}"),
-            CommandFault::Value(error) => write!(f, "{error}"),
+            CommandFault::Glob(error) => error.fmt(f),
+            CommandFault::Value(error) => error.fmt(f),
         }
     }
 }
