@@ -76,7 +76,12 @@ pub fn escaped(alloc: Global, bytes: &[u8]) -> Result<String, AllocError> {
         if i > 0 {
             column.push(' ')?;
         }
-        column.push_str(&format!(in alloc; "{}", word.escape_bytes())?)?;
+        push_word(alloc, &mut column, word)?;
     }
     Ok(column)
+}
+
+/// Pushes bytes without spaces, as a column has them.
+fn push_word(alloc: Global, column: &mut String, word: &[u8]) -> Result<(), AllocError> {
+    column.push_str(&format!(in alloc; "{}", word.escape_bytes())?)
 }

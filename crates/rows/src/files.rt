@@ -1,7 +1,10 @@
 //! Files of rows.
 
+ghost use Rattle.std.specs.Prelude.{◌<◌, length};
+ghost use Rattle.std.specs.List.{All};
+
 use crate::case::Case;
-use crate::report::{Report, replay};
+use crate::report::{Failure, Report, replay};
 use anyhow::Result;
 use std::alloc::{AllocError, Global};
 use std::process::ExitCode;
@@ -30,20 +33,30 @@ pub fn replay_files<C: Case>(rt: &HostRuntime) -> Result<ExitCode> {
 
 /// Replays the rows of a file, and writes those that failed and how many passed and failed.
 fn replay_file<C: Case>(rt: &HostRuntime, file: &str) -> Result<Report> {
-    let text = fs::read_to_string(rt, file)?;
-    let lines = lines_of(rt.alloc(), text.as_str())?;
-    let report = replay::<C>(rt.alloc(), &lines)?;
-    for failure in &report.failures {
+    replay_text::<C>(rt, file, fs::read_to_string(rt, file)?.as_str())
+}
+
+fn replay_text<C: Case>(rt: &HostRuntime, file: &str, text: &str) -> Result<Report> {
+    replay_lines::<C>(rt, file, &lines_of(rt.alloc(), text)?)
+}
+
+fn replay_lines<C: Case>(rt: &HostRuntime, file: &str, lines: &[&str]) -> Result<Report> {
+    let report = replay::<C>(rt.alloc(), lines)?;
+    write_failures(rt, file, lines, &report.failures)?;
+    let failed = report.failures.len();
+    println!(rt; "{file}: {} passed, {failed} failed", report.passed)?;
+    Ok(report)
+}
+
+fn write_failures(rt: &HostRuntime, file: &str, lines: &[&str], failures: &[Failure]) -> Result<()>
+    requires { All (λ f. f.index < length lines.now) failures.now }
+{
+    for failure in failures {
         let row = lines[failure.index];
         println!(rt; "{file}:{}: {row}", failure.index + 1)?;
         println!(rt; "    returned: {}", failure.returned)?;
     }
-    println!(rt;
-        "{file}: {} passed, {} failed",
-        report.passed,
-        report.failures.len()
-    )?;
-    Ok(report)
+    Ok(())
 }
 
 fn lines_of<'t>(alloc: Global, text: &'t str) -> Result<Vec<&'t str>, AllocError> {
