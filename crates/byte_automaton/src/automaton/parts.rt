@@ -2,7 +2,7 @@
 
 ghost use Rattle.std.specs.Prelude.{◌≡◌, ℕ, ◌+◌, ◌-◌, ◌<◌, ◌≤◌, ◌⊎◌, ◌↔◌, length, IsTrue, IsFalse, OnOk, IfOk, MatchOption};
 ghost use Rattle.byte_automaton.specs.Steps.{IsIn, state};
-ghost use Rattle.byte_automaton.specs.Building.{Pushes};
+ghost use Rattle.byte_automaton.specs.Building.{AreBelow, Pushes};
 ghost use Rattle.byte_automaton.specs.Parts.{AreFrom, GoesFrom, LeadsOut, IsPart};
 ghost use Rattle.byte_automaton.specs.Runs.{size};
 ghost use Rattle.byte_automaton.specs.inner.Lowering.{all_lowered, lowered};
@@ -16,7 +16,8 @@ use std::alloc::{AllocError, Global};
 impl Automaton {
     /// Returns the states that a run begins in, in the order in which they were added.
     pub fn starts(&self) -> &[usize]
-        ensures { result.now ≡ self.now.starts }
+        ensures starts { result.now ≡ self.now.starts }
+        ensures below { AreBelow (size self.now) result.now }
     {
         &self.starts
     }
