@@ -14,13 +14,21 @@ use std::alloc::{AllocError, Global};
 /// The most states of a part that is made deterministic.
 const MOST_STATES: usize = 2_048;
 
-/// The most numbers in the table and the lists of a part, for each of its states, and beside that.
-const NUMBERS_PER_STATE: usize = 128;
+/// The most numbers in the table and the lists of a part with one start, and for each of its states. Most that need more have
+/// a number of states that is exponential in those of the automaton.
+const MOST_NUMBERS: usize = 40_960;
+const NUMBERS_PER_STATE: usize = 512;
 
-const MORE_NUMBERS: usize = 4_096;
+/// The most numbers of a part with more starts, for each of its states, and beside that. Parts of which a joint one has very
+/// many more states than each alone are kept apart.
+const JOINT_NUMBERS_PER_STATE: usize = 80;
+const JOINT_NUMBERS: usize = 2_560;
 
-/// The most numbers in the tables and the lists of all parts.
-const MOST_NUMBERS: usize = 1 << 22;
+/// The most numbers of a part times its states. To find a number may take reading each state.
+const MOST_READS: usize = 1 << 25;
+
+/// The most numbers of all parts.
+const MOST_NUMBERS_TOGETHER: usize = 1 << 22;
 
 /// The parts of an automaton so far.
 struct Division {
@@ -71,7 +79,12 @@ pub fn divided(alloc: Global, automaton: &Automaton) -> Result<Option<Parts>, Al
                     return Ok(None);
                 }
                 high = part.high;
-                count = (part.next - first).saturating_mul(2);
+                let taken = part.next - first;
+                count = if taken < count {
+                    taken
+                } else {
+                    taken.saturating_mul(2)
+                };
                 first = part.next;
             }
             None => {
@@ -95,7 +108,7 @@ impl Division {
         Division {
             tables: Vec::new(alloc),
             automata: Vec::new(alloc),
-            room: MOST_NUMBERS,
+            room: MOST_NUMBERS_TOGETHER,
         }
     }
 
@@ -118,7 +131,8 @@ impl Division {
         let mut count = most.min(automaton.starts().len() - first);
         while count > 0 {
             let high = border(automaton, first + count);
-            if let Some(table) = table_of(alloc, automaton, low, high, self.room)? {
+            let table = self.table_of(alloc, automaton, low, high, count == 1)?;
+            if let Some(table) = table {
                 return Ok(Some(Part {
                     table,
                     high,
@@ -128,6 +142,29 @@ impl Division {
             count /= 2;
         }
         Ok(None)
+    }
+
+    /// Returns a deterministic automaton of the states from `low` on and below `high`, if it stays within the limits.
+    fn table_of(
+        &self,
+        alloc: Global,
+        automaton: &Automaton,
+        low: usize,
+        high: usize,
+        is_single: bool,
+    ) -> Result<Option<Dfa>, AllocError>
+        requires { high ≤ size automaton.now }
+        ensures part { IfOk result (λ made. IfSome made (λ table. IsPart automaton.now low high table.source)) }
+        ensures some { IfOk result (λ made. IfSome made (λ table. low < high)) }
+    {
+        let budget = budget(high.saturating_sub(low), is_single);
+        if low >= high || budget == 0 || budget > self.room {
+            return Ok(None);
+        }
+        match automaton.part(low, high)? {
+            Some(part) => Dfa::new(alloc, &part, budget),
+            None => Ok(None),
+        }
     }
 
     /// Adds the deterministic part from `low` on and below `high`, and before it what lies between `from` and `low`. Returns
@@ -205,28 +242,15 @@ fn border(automaton: &Automaton, count: usize) -> usize
     starts[count - 1] + 1
 }
 
-/// Returns a deterministic automaton of the states from `low` on and below `high`, if it needs at most `room` numbers and is
-/// within the limits of a part.
-fn table_of(
-    alloc: Global,
-    automaton: &Automaton,
-    low: usize,
-    high: usize,
-    room: usize,
-) -> Result<Option<Dfa>, AllocError>
-    requires { high ≤ size automaton.now }
-    ensures part { IfOk result (λ made. IfSome made (λ table. IsPart automaton.now low high table.source)) }
-    ensures some { IfOk result (λ made. IfSome made (λ table. low < high)) }
-{
-    if low >= high || high - low > MOST_STATES {
-        return Ok(None);
+/// Returns the most numbers that a part may have, of so many states, if it has one start or more.
+fn budget(states: usize, is_single: bool) -> usize {
+    if states == 0 || states > MOST_STATES {
+        return 0;
     }
-    let budget = MORE_NUMBERS + NUMBERS_PER_STATE * (high - low);
-    if budget > room {
-        return Ok(None);
-    }
-    match automaton.part(low, high)? {
-        Some(part) => Dfa::new(alloc, &part, budget),
-        None => Ok(None),
-    }
+    let budget = if is_single {
+        (NUMBERS_PER_STATE * states).min(MOST_NUMBERS)
+    } else {
+        JOINT_NUMBERS_PER_STATE * states + JOINT_NUMBERS
+    };
+    budget.min(MOST_READS / states)
 }
