@@ -6,4 +6,5 @@ pub mod Building
 pub mod Runs
 pub mod Alike
 pub mod Decisions
+pub mod Parts
 pub mod inner

@@ -9,6 +9,8 @@ ghost use Rattle.byte_automaton.specs.Runs.{size, AcceptsFrom, HasSome};
 ghost use Rattle.byte_automaton.specs.inner.Views.{AreSound, GoesBelow, machine};
 ghost use Rattle.byte_automaton.specs.inner.Pass.{goes_now, goes_next, names};
 
+mod parts;
+
 use crate::index_set::IndexSet;
 use crate::state::State;
 use crate::state_set::StateSet;

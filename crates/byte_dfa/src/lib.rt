@@ -11,3 +11,4 @@ mod lists;
 mod source;
 
 pub use dfa::Dfa;
+pub use source::Source;

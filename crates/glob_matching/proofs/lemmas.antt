@@ -1,2 +1,3 @@
 -- Lemmas by topic.
 pub mod Compiled
+pub mod Parts

@@ -1,2 +1,3 @@
 -- Definitions that only contracts between the crates and proofs cite.
 pub mod Compiled
+pub mod Parts

@@ -5,5 +5,8 @@
 #![tactic(auto)]
 
 mod compiled;
+mod division;
+mod parts;
+mod simulation;
 
 pub use compiled::Compiled;

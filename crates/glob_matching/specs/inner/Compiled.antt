@@ -1,9 +1,9 @@
--- Automata that are run by a deterministic one.
-use Rattle.std.specs.Prelude.{◌≡◌, Option, Some, None}
+-- Automata that are run whole or in parts.
 use Rattle.byte_automaton.specs.Steps.{Machine}
-use Rattle.byte_dfa.specs.DfaValue.{DfaValue}
+use Rattle.glob_matching.specs.declared.compiled.Form.{Form}
+use Rattle.glob_matching.specs.declared.compiled.Form.TheVariants.{Whole, Divided}
 
--- the deterministic automaton, if there is one, was made from this one
-abbrev pub FindsTheSame : Option DfaValue → Machine → Type 0
-FindsTheSame None m = Unit {0}
-FindsTheSame (Some d) m = d.source ≡ m
+-- the automaton, or the one that the parts were made from
+abbrev pub machine_of : Form → Machine
+machine_of (Whole m) = m
+machine_of (Divided m) = m

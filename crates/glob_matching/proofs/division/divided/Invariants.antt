@@ -1,0 +1,13 @@
+use Rattle.std.proofs.Common.{◌≡◌, ◌-◌, ◌≤◌, length}
+use Rattle.byte_automaton.specs.Runs.{size}
+use Rattle.glob_matching.specs.inner.Parts.{ArePartsBelow}
+use Rattle.glob_matching.proofs.division.divided.Given as goal
+
+abbrev pub invariant-loop-first : goal.invariant-loop-first
+invariant-loop-first l = record {
+  starts : l.starts ≡ length l.automaton.starts;
+  parts : ArePartsBelow l.automaton l.high l.division.tables.items l.division.automata.items;
+}
+
+abbrev pub decreases-loop-first : goal.decreases-loop-first
+decreases-loop-first l = l.starts - l.first

@@ -1,0 +1,30 @@
+use Rattle.std.proofs.Common.{◌≡◌, ℕ, ◌+◌, ◌≤◌, ◌⊎◌, IsTrue, length, arith, ap, subst, ◌∙◌}
+use Rattle.std.specs.Prelude.{◌↔◌}
+use Rattle.byte_automaton.specs.Runs.{size}
+use Rattle.byte_automaton.specs.Sets.{has_index}
+use Rattle.byte_automaton.specs.Steps.{Machine, IsReached}
+use Rattle.glob_matching.specs.inner.Parts.{total}
+use Rattle.glob_matching.proofs.lemmas.Parts.{found_all, whole_reached, on_ok, visits_more, visits_upto}
+use Rattle.glob_matching.proofs.parts.Parts.find.Goals as goal
+
+pub returns-clause-found : goal.returns-clause-found
+returns-clause-found c =
+    let inside = c.self.inside in
+    let inv = c.self.invariant in
+    let text = c.args.text.now in
+    let tables = rw c.deref.ensures.value at c.find_by_tables.ensures.found in
+    let automata = rw c.deref-2.ensures.value at c.find_by_simulation.ensures.found in
+    on_ok c.find_by_simulation.result (λ found k.
+    subst (λ (m : Machine). IsTrue (has_index c.find_by_simulation.new.found k) ↔ (IsReached m text k ⊎ IsTrue (has_index c.args.found.now k))) c.self.view_is
+    (found_all (whole_reached inside.source inside.tables.items inside.automata.items inv.begun inv.parts text k) (tables k) (found k))) automata
+
+pub returns-clause-visits : goal.returns-clause-visits
+returns-clause-visits c =
+    let inside = c.self.inside in
+    let tables = inside.tables.items in
+    let automata = inside.automata.items in
+    let n = length c.args.text.now + 1 in
+    let few : length tables + total automata ≤ size c.args.self.now = omega (arith, c.self.invariant.parts.few, ap size c.self.view_is) in
+    visits_upto n (length tables + total automata) (size c.args.self.now) c.find_by_simulation.new.visits c.args.visits.now few
+    (visits_more n (length tables) (total automata) c.find_by_tables.new.visits c.find_by_simulation.new.visits c.args.visits.now
+    (rw c.deref-2.ensures.value at c.find_by_simulation.ensures.visits) (rw c.deref.ensures.value at c.find_by_tables.ensures.visits))

@@ -1,0 +1,29 @@
+use Rattle.std.proofs.Common.{◌+◌, length, take, ◌∙◌}
+use Rattle.byte_automaton.specs.Runs.{size}
+use Rattle.glob_matching.specs.inner.Parts.{total}
+use Rattle.glob_matching.proofs.lemmas.Parts.{found_more, visits_more, visits_upto, total_more, total_upto}
+use Rattle.glob_matching.proofs.parts.find_by_simulation.Goals as goal
+
+pub returns-in_err-find-clause-visits : goal.returns-in_err-find-clause-visits
+returns-in_err-find-clause-visits c =
+    let automata = c.args.automata.now in
+    let i = c.loop-automaton.automaton-index in
+    let m = c.automaton-item.result in
+    let n = length c.args.text.now + 1 in
+    let upto = total_upto automata i m c.loop-automaton-test.true c.automaton-item.is in
+    visits_upto n (total (take i automata) + size m) (total automata) c.find.new.visits c.args.visits.now upto
+    (visits_more n (total (take i automata)) (size m) c.loop-automaton.visits c.find.new.visits c.args.visits.now c.find.ensures.visits c.loop-automaton.invariant.visits)
+
+pub loop-automaton-preserved : goal.loop-automaton-preserved
+loop-automaton-preserved c =
+    let inv = c.loop-automaton.invariant in
+    let automata = c.args.automata.now in
+    let i = c.loop-automaton.automaton-index in
+    let m = c.automaton-item.result in
+    let n = length c.args.text.now + 1 in
+    record {
+      room = c.find.ensures.room ∙ inv.room;
+      found = λ k. found_more automata i m c.loop-automaton-test.true c.automaton-item.is c.args.text.now k (inv.found k) (c.in_ok-find.ensures.found k);
+      visits = rw (total_more automata i m c.loop-automaton-test.true c.automaton-item.is)
+          (visits_more n (total (take i automata)) (size m) c.loop-automaton.visits c.find.new.visits c.args.visits.now c.find.ensures.visits inv.visits);
+    }

@@ -1,0 +1,27 @@
+use Rattle.std.proofs.Common.{ℕ, ◌+◌, ◌<◌, length, ap, arith, ◌∙◌}
+use Rattle.byte_automaton.specs.Steps.{Machine}
+use Rattle.byte_dfa.specs.DfaValue.{DfaValue}
+use Rattle.glob_matching.specs.inner.Parts.{sources}
+use Rattle.glob_matching.proofs.lemmas.Parts.{source_at, sources_length, found_more, visits_more, all_taken}
+use Rattle.glob_matching.proofs.parts.find_by_tables.Goals as goal
+
+pub find-requires : goal.find-requires
+find-requires c =
+    let tables = c.args.tables.now in
+    let lt : c.loop-table.table-index < length (sources tables) = omega (arith, sources_length tables) in
+    let is = source_at tables c.loop-table.table-index c.table-item.result c.table-item.is in
+    let counted = c.requires c.loop-table.table-index c.table-item.result.source lt in
+    omega (arith, ap (λ (m : Machine). m.index_count) is, c.loop-table.invariant.room)
+
+pub loop-table-preserved : goal.loop-table-preserved
+loop-table-preserved c =
+    let inv = c.loop-table.invariant in
+    let tables = c.args.tables.now in
+    let i = c.loop-table.table-index in
+    let lt : i < length (sources tables) = omega (arith, sources_length tables) in
+    let is = source_at tables i c.table-item.result c.table-item.is in
+    record {
+      room = c.find.ensures.room ∙ inv.room;
+      found = λ k. found_more (sources tables) i c.table-item.result.source lt is c.args.text.now k (inv.found k) (c.find.ensures.found k);
+      visits = visits_more (length c.args.text.now + 1) i 1 c.loop-table.visits c.find.new.visits c.args.visits.now (omega arith) inv.visits;
+    }

@@ -1,0 +1,46 @@
+use Rattle.std.proofs.Common.{◌+◌, length, take, refl, sym, ◌∙◌, true≢false}
+use Rattle.byte_automaton.specs.Runs.{size}
+use Rattle.glob_matching.specs.inner.Parts.{total}
+use Rattle.glob_matching.proofs.lemmas.Parts.{some_at, none_more, visits_more, visits_upto, total_more, total_upto}
+use Rattle.glob_matching.proofs.parts.is_match_by_simulation.Goals as goal
+
+pub returns-in_err-is_match-clause-visits : goal.returns-in_err-is_match-clause-visits
+returns-in_err-is_match-clause-visits c =
+    let automata = c.args.automata.now in
+    let i = c.loop-automaton.automaton-index in
+    let m = c.automaton-item.result in
+    let n = length c.args.text.now + 1 in
+    let upto = total_upto automata i m c.loop-automaton-test.true c.automaton-item.is in
+    visits_upto n (total (take i automata) + size m) (total automata) c.is_match.new.visits c.args.visits.now upto
+    (visits_more n (total (take i automata)) (size m) c.loop-automaton.visits c.is_match.new.visits c.args.visits.now c.is_match.ensures.visits c.loop-automaton.invariant.visits)
+
+pub returns-then-branch-clause-visits : goal.returns-then-branch-clause-visits
+returns-then-branch-clause-visits c =
+    let automata = c.args.automata.now in
+    let i = c.loop-automaton.automaton-index in
+    let m = c.automaton-item.result in
+    let n = length c.args.text.now + 1 in
+    let upto = total_upto automata i m c.loop-automaton-test.true c.automaton-item.is in
+    visits_upto n (total (take i automata) + size m) (total automata) c.is_match.new.visits c.args.visits.now upto
+    (visits_more n (total (take i automata)) (size m) c.loop-automaton.visits c.is_match.new.visits c.args.visits.now c.is_match.ensures.visits c.loop-automaton.invariant.visits)
+
+pub returns-then-branch-clause-some : goal.returns-then-branch-clause-some
+returns-then-branch-clause-some c =
+    let automata = c.args.automata.now in
+    let i = c.loop-automaton.automaton-index in
+    let (k, reached) = c.in_ok-is_match.ensures.some.0 c.if-branch.true in
+    (λ yes. (k, some_at automata i c.automaton-item.result c.loop-automaton-test.true c.automaton-item.is c.args.text.now k reached), λ some. refl)
+
+pub loop-automaton-preserved : goal.loop-automaton-preserved
+loop-automaton-preserved c =
+    let inv = c.loop-automaton.invariant in
+    let automata = c.args.automata.now in
+    let i = c.loop-automaton.automaton-index in
+    let m = c.automaton-item.result in
+    let n = length c.args.text.now + 1 in
+    record {
+      none = none_more automata i m c.loop-automaton-test.true c.automaton-item.is c.args.text.now inv.none
+          (λ k reached. true≢false (sym (c.in_ok-is_match.ensures.some.1 (k, reached)) ∙ c.if-branch.false));
+      visits = rw (total_more automata i m c.loop-automaton-test.true c.automaton-item.is)
+          (visits_more n (total (take i automata)) (size m) c.loop-automaton.visits c.is_match.new.visits c.args.visits.now c.is_match.ensures.visits inv.visits);
+    }

@@ -1,0 +1,256 @@
+//! How an automaton is divided into parts.
+
+ghost use Rattle.std.specs.Prelude.{◌≡◌, ◌<◌, ◌≤◌, [], length, IsTrue, IfOk, IfSome};
+ghost use Rattle.byte_automaton.specs.Building.{AreBelow};
+ghost use Rattle.byte_automaton.specs.Parts.{IsPart};
+ghost use Rattle.byte_automaton.specs.Runs.{size};
+ghost use Rattle.glob_matching.specs.inner.Parts.{ArePartsBelow};
+
+use crate::parts::Parts;
+use byte_automaton::Automaton;
+use byte_dfa::Dfa;
+use std::alloc::{AllocError, Global};
+
+/// The most states of a part that is made deterministic.
+const MOST_STATES: usize = 2_048;
+
+/// The most numbers in the table and the lists of a part with one start, and for each of its states. Most that need more have
+/// a number of states that is exponential in those of the automaton.
+const MOST_NUMBERS: usize = 40_960;
+const NUMBERS_PER_STATE: usize = 512;
+
+/// The most numbers of a part with more starts, for each of its states, and beside that. Parts of which a joint one has very
+/// many more states than each alone are kept apart.
+const JOINT_NUMBERS_PER_STATE: usize = 80;
+const JOINT_NUMBERS: usize = 2_560;
+
+/// The most numbers of a part times its states. To find a number may take reading each state.
+const MOST_READS: usize = 1 << 25;
+
+/// The most numbers of all parts.
+const MOST_NUMBERS_TOGETHER: usize = 1 << 22;
+
+/// The parts of an automaton so far.
+struct Division {
+    tables: Vec<Dfa>,
+    automata: Vec<Automaton>,
+    /// How many numbers the tables and the lists of further parts may have.
+    room: usize,
+}
+
+impl Drop for Division {
+    // One call wherever a value is dropped, which keeps proofs short.
+    fn drop(self) {
+        let Division {
+            tables: _,
+            automata: _,
+            room: _,
+        } = self;
+    }
+}
+
+/// A deterministic part.
+#[derive(Drop)]
+struct Part {
+    table: Dfa,
+    /// The number of the first state behind it.
+    high: usize,
+    /// The first start behind it.
+    next: usize,
+}
+
+/// Returns the parts of an automaton, or `None` if a step leads from one to another. Returns an error if memory runs out.
+///
+/// A part has the states up to some start, from behind an earlier one. There are as many starts in it as halving leaves:
+/// all that are left, or else half of them, until it can be made deterministic. What cannot is simulated.
+pub fn divided(alloc: Global, automaton: &Automaton) -> Result<Option<Parts>, AllocError>
+    ensures { IfOk result (λ made. IfSome made (λ parts. parts ≡ automaton.now)) }
+{
+    let starts = automaton.starts().len();
+    let mut division = Division::new(alloc);
+    let mut high = 0;
+    let mut first = 0;
+    let mut count = starts;
+    while first < starts {
+        let low = border(automaton, first);
+        match division.next_part(alloc, automaton, low, first, count)? {
+            Some(part) => {
+                if !division.add(automaton, high, low, part.high, part.table)? {
+                    return Ok(None);
+                }
+                high = part.high;
+                let taken = part.next - first;
+                count = if taken < count {
+                    taken
+                } else {
+                    taken.saturating_mul(2)
+                };
+                first = part.next;
+            }
+            None => {
+                count = 1;
+                first += 1;
+            }
+        }
+    }
+    if !division.simulate(automaton, high, automaton.state_count())? {
+        return Ok(None);
+    }
+    Ok(Some(division.finish(automaton)))
+}
+
+impl Division {
+    /// Returns a division that has no parts.
+    fn new(alloc: Global) -> Division
+        ensures tables { result.tables.items ≡ [] }
+        ensures automata { result.automata.items ≡ [] }
+    {
+        Division {
+            tables: Vec::new(alloc),
+            automata: Vec::new(alloc),
+            room: MOST_NUMBERS_TOGETHER,
+        }
+    }
+
+    /// Returns a deterministic part that begins at a state, with at most `most` starts from `first` on: that many, or half
+    /// of them, and so on. Returns `None` if it would be too large even with one start.
+    fn next_part(
+        &self,
+        alloc: Global,
+        automaton: &Automaton,
+        low: usize,
+        first: usize,
+        most: usize,
+    ) -> Result<Option<Part>, AllocError>
+        requires { first < length automaton.now.starts }
+        ensures part { IfOk result (λ made. IfSome made (λ part. IsPart automaton.now low part.high part.table.source)) }
+        ensures some { IfOk result (λ made. IfSome made (λ part. low < part.high)) }
+        ensures within { IfOk result (λ made. IfSome made (λ part. part.high ≤ size automaton.now)) }
+        ensures next { IfOk result (λ made. IfSome made (λ part. first < part.next)) }
+    {
+        let mut count = most.min(automaton.starts().len() - first);
+        while count > 0 {
+            let high = border(automaton, first + count);
+            let table = self.table_of(alloc, automaton, low, high, count == 1)?;
+            if let Some(table) = table {
+                return Ok(Some(Part {
+                    table,
+                    high,
+                    next: first + count,
+                }));
+            }
+            count /= 2;
+        }
+        Ok(None)
+    }
+
+    /// Returns a deterministic automaton of the states from `low` on and below `high`, if it stays within the limits.
+    fn table_of(
+        &self,
+        alloc: Global,
+        automaton: &Automaton,
+        low: usize,
+        high: usize,
+        is_single: bool,
+    ) -> Result<Option<Dfa>, AllocError>
+        requires { high ≤ size automaton.now }
+        ensures part { IfOk result (λ made. IfSome made (λ table. IsPart automaton.now low high table.source)) }
+        ensures some { IfOk result (λ made. IfSome made (λ table. low < high)) }
+    {
+        let budget = budget(high.saturating_sub(low), is_single);
+        if low >= high || budget == 0 || budget > self.room {
+            return Ok(None);
+        }
+        match automaton.part(low, high)? {
+            Some(part) => Dfa::new(alloc, &part, budget),
+            None => Ok(None),
+        }
+    }
+
+    /// Adds the deterministic part from `low` on and below `high`, and before it what lies between `from` and `low`. Returns
+    /// whether it could: no step leads out of what is added.
+    fn add(
+        &mut self,
+        automaton: &Automaton,
+        from: usize,
+        low: usize,
+        high: usize,
+        table: Dfa,
+    ) -> Result<bool, AllocError>
+        requires parts { ArePartsBelow automaton.now from self.old.tables.items self.old.automata.items }
+        requires part { IsPart automaton.now low high table.source }
+        requires some { low < high }
+        requires within { low ≤ size automaton.now }
+        ensures { IfOk result (λ yes. IsTrue yes → ArePartsBelow automaton.now high self.new.tables.items self.new.automata.items) }
+    {
+        if !self.simulate(automaton, from, low)? {
+            return Ok(false);
+        }
+        self.room = self.room.saturating_sub(table.size());
+        self.tables.push(table)?;
+        Ok(true)
+    }
+
+    /// Adds the part from `low` on and below `high`, to be simulated. Returns whether it could: no step leads out of it.
+    fn simulate(
+        &mut self,
+        automaton: &Automaton,
+        low: usize,
+        high: usize,
+    ) -> Result<bool, AllocError>
+        requires parts { ArePartsBelow automaton.now low self.old.tables.items self.old.automata.items }
+        requires within { high ≤ size automaton.now }
+        ensures { IfOk result (λ yes. IsTrue yes → ArePartsBelow automaton.now high self.new.tables.items self.new.automata.items) }
+    {
+        if low >= high {
+            return Ok(low == high);
+        }
+        let Some(part) = automaton.part(low, high)? else {
+            return Ok(false);
+        };
+        self.automata.push(part)?;
+        Ok(true)
+    }
+
+    /// Returns the parts.
+    fn finish(self, automaton: &Automaton) -> Parts
+        requires parts { ArePartsBelow automaton.now (size automaton.now) self.tables.items self.automata.items }
+        requires begun { AreBelow (size automaton.now) automaton.now.starts }
+        ensures { result ≡ automaton.now }
+    {
+        let Division {
+            tables,
+            automata,
+            room: _,
+        } = self;
+        Parts::of(automaton, tables, automata)
+    }
+}
+
+/// Returns the number of the first state behind the first `count` starts.
+fn border(automaton: &Automaton, count: usize) -> usize
+    ensures { result ≤ size automaton.now }
+{
+    let states = automaton.state_count();
+    let starts = automaton.starts();
+    if count == 0 {
+        return 0;
+    }
+    if count >= starts.len() {
+        return states;
+    }
+    starts[count - 1] + 1
+}
+
+/// Returns the most numbers that a part may have, of so many states, if it has one start or more.
+fn budget(states: usize, is_single: bool) -> usize {
+    if states == 0 || states > MOST_STATES {
+        return 0;
+    }
+    let budget = if is_single {
+        (NUMBERS_PER_STATE * states).min(MOST_NUMBERS)
+    } else {
+        JOINT_NUMBERS_PER_STATE * states + JOINT_NUMBERS
+    };
+    budget.min(MOST_READS / states)
+}

@@ -1,0 +1,217 @@
+//! The parts of an automaton, which together find what it finds.
+
+ghost use Rattle.std.specs.Prelude.{◌≡◌, ◌+◌, ◌*◌, ◌≤◌, ◌↔◌, ◌⊎◌, ℕ, length, IsTrue, OnOk, IfOk};
+ghost use Rattle.byte_automaton.specs.Runs.{size};
+ghost use Rattle.byte_automaton.specs.Sets.{has_index, index_room};
+ghost use Rattle.byte_automaton.specs.Steps.{IsReached};
+ghost use Rattle.glob_matching.specs.inner.Parts.{sources, total, ArePartsOf, AreCounted, SomeReached};
+
+use crate::simulation;
+use byte_automaton::{Automaton, IndexSet};
+use byte_dfa::{Dfa, Source};
+use std::alloc::{AllocError, Global};
+use std::fmt;
+use std::marker::Model;
+use visits::Visits;
+
+/// The parts of an automaton. Each part that is not too large is deterministic; the others are simulated. Contracts see the
+/// automaton, which is not kept.
+pub struct Parts {
+    tables: Vec<Dfa>,
+    automata: Vec<Automaton>,
+    state_count: usize,
+    source: Source,
+}
+
+impl Drop for Parts {
+    // One call wherever a value is dropped, which keeps proofs short.
+    fn drop(self) {
+        let Parts {
+            tables: _,
+            automata: _,
+            state_count: _,
+            source: _,
+        } = self;
+    }
+}
+
+impl Model for Parts {
+    ghost use Rattle.byte_automaton.specs.Steps.{Machine};
+    ghost use Rattle.glob_matching.specs.inner.Parts.{ArePartsOf};
+
+    ghost Value = { Machine };
+
+    ghost view = { λ p. p.source };
+
+    ghost invariant = { λ p. ArePartsOf p.source p.state_count p.tables.items p.automata.items };
+}
+
+impl Clone for Parts {
+    ghost use Rattle.std.specs.Prelude.{◌≡◌};
+
+    ghost is_clone = { λ a b. b ≡ a };
+
+    /// Returns a copy. Returns an error if memory runs out.
+    fn clone(&self) -> Result<Parts, AllocError> {
+        Ok(Parts {
+            tables: copy_of_tables(&self.tables)?,
+            automata: copy_of_automata(&self.automata)?,
+            state_count: self.state_count,
+            source: self.source.copy(),
+        })
+    }
+}
+
+impl fmt::Debug for Parts {
+    fn fmt<W: fmt::Write>(&self, f: &mut fmt::Formatter<W>) -> fmt::Result {
+        f.debug_struct("Parts")
+            .field("tables", &self.tables)
+            .field("automata", &self.automata)
+            .finish()
+    }
+}
+
+impl Parts {
+    /// Returns the parts of an automaton.
+    pub fn of(automaton: &Automaton, tables: Vec<Dfa>, automata: Vec<Automaton>) -> Parts
+        requires { ArePartsOf automaton.now (size automaton.now) tables.items automata.items }
+        ensures { result ≡ automaton.now }
+    {
+        Parts {
+            tables,
+            automata,
+            state_count: automaton.state_count(),
+            source: Source::of(automaton),
+        }
+    }
+
+    /// Returns the number of states of the automaton.
+    pub fn state_count(&self) -> usize
+        ensures { result ≡ size self.now }
+    {
+        self.state_count
+    }
+
+    /// Puts the index of each end that a text leads to into a set, beside what it holds.
+    ///
+    /// It is at most `(text bytes + 1) * states` visits. It takes two bits of memory for each state of a part that is
+    /// simulated, for one part at a time. Returns an error if memory runs out.
+    pub fn find(
+        &self,
+        alloc: Global,
+        text: &[u8],
+        found: &mut IndexSet,
+        visits: &mut Visits,
+    ) -> Result<(), AllocError>
+        requires { self.now.index_count ≤ index_room found.old }
+        ensures room { index_room found.new ≡ index_room found.old }
+        ensures found { OnOk result ((k : ℕ) → IsTrue (has_index found.new k) ↔ (IsReached self.now text.now k ⊎ IsTrue (has_index found.old k))) }
+        ensures visits { visits.new ≤ visits.old + (length text.now + 1) * size self.now }
+    {
+        find_by_tables(&self.tables, text, found, visits);
+        find_by_simulation(alloc, &self.automata, text, found, visits)
+    }
+
+    /// Returns whether a text leads to some end.
+    ///
+    /// It is at most `(text bytes + 1) * states` visits. It takes two bits of memory for each state of a part that is
+    /// simulated, for one part at a time. Returns an error if memory runs out.
+    pub fn is_match(
+        &self,
+        alloc: Global,
+        text: &[u8],
+        visits: &mut Visits,
+    ) -> Result<bool, AllocError>
+        ensures some { IfOk result (λ yes. IsTrue yes ↔ ((k : ℕ) × IsReached self.now text.now k)) }
+        ensures visits { visits.new ≤ visits.old + (length text.now + 1) * size self.now }
+    {
+        if is_match_by_tables(&self.tables, text, visits) {
+            return Ok(true);
+        }
+        is_match_by_simulation(alloc, &self.automata, text, visits)
+    }
+}
+
+/// Returns copies of deterministic automata. Returns an error if memory runs out.
+fn copy_of_tables(tables: &Vec<Dfa>) -> Result<Vec<Dfa>, AllocError>
+    ensures { IfOk result (λ copies. copies.items ≡ tables.now.items) }
+{
+    let mut copies = Vec::with_capacity(*tables.allocator(), tables.len())?;
+    for table in tables {
+        copies.push(table.clone()?)?;
+    }
+    Ok(copies)
+}
+
+/// Returns copies of automata. Returns an error if memory runs out.
+fn copy_of_automata(automata: &Vec<Automaton>) -> Result<Vec<Automaton>, AllocError>
+    ensures { IfOk result (λ copies. copies.items ≡ automata.now.items) }
+{
+    let mut copies = Vec::with_capacity(*automata.allocator(), automata.len())?;
+    for automaton in automata {
+        copies.push(automaton.clone()?)?;
+    }
+    Ok(copies)
+}
+
+/// Puts the index of each end that a text leads to in some deterministic automaton into a set, beside what it holds.
+fn find_by_tables(tables: &[Dfa], text: &[u8], found: &mut IndexSet, visits: &mut Visits)
+    requires { AreCounted (index_room found.old) (sources tables.now) }
+    ensures room { index_room found.new ≡ index_room found.old }
+    ensures found { (k : ℕ) → IsTrue (has_index found.new k) ↔ (SomeReached (sources tables.now) text.now k ⊎ IsTrue (has_index found.old k)) }
+    ensures visits { visits.new ≤ visits.old + (length text.now + 1) * length tables.now }
+{
+    for table in tables {
+        table.find(text, found, visits);
+    }
+}
+
+/// Returns whether a text leads to some end in some deterministic automaton.
+fn is_match_by_tables(tables: &[Dfa], text: &[u8], visits: &mut Visits) -> bool
+    ensures some { IsTrue result ↔ ((k : ℕ) × SomeReached (sources tables.now) text.now k) }
+    ensures visits { visits.new ≤ visits.old + (length text.now + 1) * length tables.now }
+{
+    for table in tables {
+        if table.is_match(text, visits) {
+            return true;
+        }
+    }
+    false
+}
+
+/// Puts the index of each end that a text leads to in some automaton into a set, beside what it holds.
+fn find_by_simulation(
+    alloc: Global,
+    automata: &[Automaton],
+    text: &[u8],
+    found: &mut IndexSet,
+    visits: &mut Visits,
+) -> Result<(), AllocError>
+    requires { AreCounted (index_room found.old) automata.now }
+    ensures room { index_room found.new ≡ index_room found.old }
+    ensures found { OnOk result ((k : ℕ) → IsTrue (has_index found.new k) ↔ (SomeReached automata.now text.now k ⊎ IsTrue (has_index found.old k))) }
+    ensures visits { visits.new ≤ visits.old + (length text.now + 1) * total automata.now }
+{
+    for automaton in automata {
+        simulation::find(alloc, automaton, text, found, visits)?;
+    }
+    Ok(())
+}
+
+/// Returns whether a text leads to some end in some automaton.
+fn is_match_by_simulation(
+    alloc: Global,
+    automata: &[Automaton],
+    text: &[u8],
+    visits: &mut Visits,
+) -> Result<bool, AllocError>
+    ensures some { IfOk result (λ yes. IsTrue yes ↔ ((k : ℕ) × SomeReached automata.now text.now k)) }
+    ensures visits { visits.new ≤ visits.old + (length text.now + 1) * total automata.now }
+{
+    for automaton in automata {
+        if simulation::is_match(alloc, automaton, text, visits)? {
+            return Ok(true);
+        }
+    }
+    Ok(false)
+}
