@@ -5,3 +5,4 @@ pub mod Reading
 pub mod Decisions
 pub mod Deciding
 pub mod Alike
+pub mod StepLists

@@ -7,3 +7,4 @@ pub mod Runs
 pub mod Alike
 pub mod Decisions
 pub mod inner
+pub mod ByteSteps

@@ -3,3 +3,4 @@ pub mod Seen
 pub mod Views
 pub mod Pass
 pub mod Exits
+pub mod StepRoom

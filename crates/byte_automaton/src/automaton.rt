@@ -1,14 +1,16 @@
 //! An automaton, and the steps of its runs.
 
-ghost use Rattle.std.specs.Prelude.{◌≡◌, ℕ, ◌+◌, ◌*◌, ◌<◌, ◌≤◌, ◌^◌, ◌||◌, ◌⊎◌, ◌↔◌, ◌∷◌, [], List, length, true, false, Some, None, IsTrue, IsFalse, IfOk, OnErr, MatchOption};
+ghost use Rattle.std.specs.Prelude.{◌≡◌, ℕ, ◌+◌, ◌*◌, ◌<◌, ◌≤◌, ◌^◌, ◌||◌, ◌⊎◌, ◌↔◌, ◌∷◌, [], List, length, true, false, Some, None, IsTrue, IsFalse, IfOk, OnOk, OnErr, MatchOption};
 ghost use Rattle.byte_automaton.specs.Sets.{has_state, has_index, state_room, index_room};
 ghost use Rattle.byte_automaton.specs.Steps.{Machine, IsReached, state, final};
 ghost use Rattle.byte_automaton.specs.Alike.{AreAlike};
+ghost use Rattle.byte_automaton.specs.ByteSteps.{leads_to, step_room};
 ghost use Rattle.byte_automaton.specs.Decisions.{Decides, EndsAtDecisions};
 ghost use Rattle.byte_automaton.specs.Runs.{size, AcceptsFrom, HasSome};
 ghost use Rattle.byte_automaton.specs.inner.Views.{AreSound, GoesBelow, machine};
 ghost use Rattle.byte_automaton.specs.inner.Pass.{goes_now, goes_next, names};
 
+use crate::byte_steps::ByteSteps;
 use crate::index_set::IndexSet;
 use crate::state::State;
 use crate::state_set::StateSet;
@@ -262,6 +264,26 @@ impl Automaton {
         ensures none { IsFalse result → (t : ℕ) → goes_next (state self.now.states s) s (Some byte) t ≡ false }
     {
         self.states[s].take_steps(s, &self.nexts, byte, from, to)
+    }
+
+    /// Puts what a state of `from` goes on to without a byte into `from`, and its step by a byte into `into`. Returns an error
+    /// if memory runs out.
+    pub(crate) fn put_steps(
+        &self,
+        s: usize,
+        from: &mut StateSet,
+        into: &mut ByteSteps,
+    ) -> Result<(), AllocError>
+        requires exists { s < size self.now }
+        requires from_room { size self.now ≤ state_room from.old }
+        requires into_room { size self.now ≤ step_room into.old }
+        ensures from_room { state_room from.new ≡ state_room from.old }
+        ensures into_room { step_room into.new ≡ step_room into.old }
+        ensures below { GoesBelow s (state self.now.states s) }
+        ensures from { (t : ℕ) → has_state from.new t ≡ (goes_now (state self.now.states s) t || has_state from.old t) }
+        ensures into { OnOk result ((b t : ℕ) → b < 256 → leads_to into.new b t ≡ (goes_next (state self.now.states s) s (Some b) t || leads_to into.old b t)) }
+    {
+        self.states[s].put_steps(s, &self.nexts, from, into)
     }
 
     /// Takes the steps of a state of `from` at the end of a text: puts into `from` what it goes on to without a byte.

@@ -78,8 +78,8 @@ impl ByteSet {
     pub(crate) fn is_everything(&self) -> bool
         ensures { IsTrue result ↔ HasEvery self.now }
     {
-        for byte in 0..256usize {
-            if !has_bit(&self.words, byte) {
+        for i in 0..4usize {
+            if self.words[i] != u64::MAX {
                 return false;
             }
         }

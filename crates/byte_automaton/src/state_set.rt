@@ -49,6 +49,7 @@ impl StateSet {
     /// runs out.
     pub fn new(alloc: Global, states: usize) -> Result<StateSet, AllocError>
         ensures room { IfOk result (λ set. states ≤ state_room set) }
+        ensures least { IfOk result (λ set. state_room set < states + 64) }
         ensures none { IfOk result (λ set. (s : ℕ) → has_state set s ≡ false) }
     {
         let mut words = Vec::new(alloc);
@@ -70,6 +71,17 @@ impl StateSet {
         }
         self.first = usize::MAX;
         self.last = 0;
+    }
+
+    /// Makes a set the same as another, which has as much room.
+    pub(crate) fn copy_from(&mut self, other: &StateSet)
+        requires { state_room other.now ≡ state_room self.old }
+        ensures room { state_room self.new ≡ state_room self.old }
+        ensures has { (s : ℕ) → has_state self.new s ≡ has_state other.now s }
+    {
+        self.words.copy_from_slice(&other.words);
+        self.first = other.first;
+        self.last = other.last;
     }
 
     /// Puts a state in.
