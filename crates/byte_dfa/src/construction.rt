@@ -2,13 +2,14 @@
 
 ghost use Rattle.std.specs.Prelude.{◌≡◌, ℕ, ◌+◌, ◌*◌, ◌<◌, ◌≤◌, [], ◌∷◌, List, length, slice_get, Some, IsTrue, OnOk, IfOk, IfSome};
 ghost use Rattle.byte_automaton.specs.Runs.{size, AcceptsFrom};
+ghost use Rattle.byte_automaton.specs.ByteSteps.{step_room, AreStepsOf};
 ghost use Rattle.byte_automaton.specs.Sets.{state_room};
-ghost use Rattle.byte_dfa.specs.inner.Building.{AreFoundSets, GoesTo, IsEntryTo, IsSound, IsNumbered, KeepsFound, Grows, IsComplete, total};
+ghost use Rattle.byte_dfa.specs.inner.Building.{AreFoundSets, IsEntryTo, IsSound, IsNumbered, KeepsFound, Grows, IsComplete, total};
 ghost use Rattle.byte_dfa.specs.inner.Tables.{special};
 
 use crate::classes::ByteClasses;
 use crate::lists::push_list;
-use byte_automaton::{Automaton, IndexSet, StateSet};
+use byte_automaton::{Automaton, ByteSteps, IndexSet, StateSet};
 use std::alloc::{AllocError, Global};
 use std::collections::HashMap;
 use std::hash::{FoldHasher, Hash, Hasher};
@@ -63,9 +64,10 @@ impl Construction {
         let Some(start) = start else {
             return Ok(None);
         };
+        let mut steps = ByteSteps::new(alloc, automaton.state_count())?;
         let mut row = 0;
         while row < built.found.len() {
-            let fits = built.write_row(alloc, automaton, classes, row, &mut states)?;
+            let fits = built.write_row(alloc, automaton, classes, row, &mut steps, &mut states)?;
             if !fits {
                 return Ok(None);
             }
@@ -178,22 +180,26 @@ impl Construction {
         automaton: &Automaton,
         classes: &ByteClasses,
         row: usize,
+        steps: &mut ByteSteps,
         to: &mut StateSet,
     ) -> Result<bool, AllocError>
         requires room { size automaton.now ≤ state_room to.old }
+        requires step_room { step_room steps.old ≡ state_room to.old }
         requires sound { IsSound automaton.now classes.now self.old }
         requires few { total classes.now self.old ≤ special }
         requires classes { classes.now.count ≤ 256 }
         requires row { row < length self.old.found.items }
         requires place { length self.old.rows.items ≡ row * (classes.now.count + 2) }
         ensures room { state_room to.new ≡ state_room to.old }
+        ensures step_room { step_room steps.new ≡ step_room steps.old }
         ensures sound { IfOk result (λ fits. IsTrue fits → IsSound automaton.now classes.now self.new) }
         ensures few { IfOk result (λ fits. IsTrue fits → total classes.now self.new ≤ total classes.now self.old) }
         ensures keeps { IfOk result (λ fits. IsTrue fits → KeepsFound self.old.found.items self.new.found.items) }
         ensures place { IfOk result (λ fits. IsTrue fits → length self.new.rows.items ≡ (row + 1) * (classes.now.count + 2)) }
     {
+        self.row_steps(automaton, row, steps)?;
         for class in 0..classes.count {
-            self.step(automaton, row, classes.firsts[class], to)?;
+            steps.take(classes.firsts[class], to);
             let made = self.number_of(alloc, automaton, classes, to)?;
             let Some(number) = made else {
                 return Ok(false);
@@ -206,22 +212,21 @@ impl Construction {
         Ok(true)
     }
 
-    /// Puts the states that a byte leads to from the set of a row into another set.
-    fn step(
+    /// Puts the steps by a byte from the set of a row into `into`.
+    fn row_steps(
         &self,
         automaton: &Automaton,
         row: usize,
-        byte: u8,
-        to: &mut StateSet,
+        into: &mut ByteSteps,
     ) -> Result<(), AllocError>
-        requires room { size automaton.now ≤ state_room to.old }
+        requires room { size automaton.now ≤ step_room into.old }
         requires sound { AreFoundSets automaton.now self.now.found.items self.now.lists.items }
         requires row { row < length self.now.found.items }
-        ensures room { state_room to.new ≡ state_room to.old }
-        ensures goes { OnOk result ((f : Found) → slice_get self.now.found.items row ≡ Some f → GoesTo automaton.now f.states byte to.new) }
+        ensures room { step_room into.new ≡ step_room into.old }
+        ensures steps { OnOk result ((f : Found) → slice_get self.now.found.items row ≡ Some f → AreStepsOf automaton.now f.states into.new) }
     {
         let mut from = self.found[row].states.clone()?;
-        automaton.step(&mut from, byte, to, &mut Visits::new());
+        automaton.byte_steps(&mut from, into)?;
         Ok(())
     }
 
