@@ -6,3 +6,4 @@ pub mod Decisions
 pub mod Deciding
 pub mod Alike
 pub mod StepLists
+pub mod Changes

@@ -1,7 +1,7 @@
 //! An automaton, and the steps of its runs.
 
 ghost use Rattle.std.specs.Prelude.{◌≡◌, ℕ, ◌+◌, ◌*◌, ◌<◌, ◌≤◌, ◌^◌, ◌||◌, ◌⊎◌, ◌↔◌, ◌∷◌, [], List, length, true, false, Some, None, IsTrue, IsFalse, IfOk, OnOk, OnErr, MatchOption};
-ghost use Rattle.byte_automaton.specs.Sets.{has_state, has_index, state_room, index_room};
+ghost use Rattle.byte_automaton.specs.Sets.{has_byte, has_state, has_index, state_room, index_room};
 ghost use Rattle.byte_automaton.specs.Steps.{Machine, IsReached, state, final};
 ghost use Rattle.byte_automaton.specs.Alike.{AreAlike};
 ghost use Rattle.byte_automaton.specs.ByteSteps.{leads_to, step_room};
@@ -10,6 +10,7 @@ ghost use Rattle.byte_automaton.specs.Runs.{size, AcceptsFrom, HasSome};
 ghost use Rattle.byte_automaton.specs.inner.Views.{AreSound, GoesBelow, machine};
 ghost use Rattle.byte_automaton.specs.inner.Pass.{goes_now, goes_next, names};
 
+use crate::byte_set::ByteSet;
 use crate::byte_steps::ByteSteps;
 use crate::index_set::IndexSet;
 use crate::state::State;
@@ -188,18 +189,18 @@ impl Automaton {
         false
     }
 
-    /// Returns whether each state reads both of two bytes or neither, so that what follows either byte leads to the same ends.
+    /// Returns a set that has a byte `b` below 255 if some state reads one of `b` and `b + 1`, and not both. If it has not,
+    /// what follows either byte leads to the same ends.
     ///
-    /// It may read each state, and is meant for what is made from an automaton before it is run.
-    pub fn reads_alike(&self, a: u8, b: u8) -> bool
-        ensures { IsTrue result ↔ AreAlike self.now.states a b }
+    /// It reads each state, and is meant for what is made from an automaton before it is run.
+    pub fn byte_changes(&self) -> ByteSet
+        ensures { (b : ℕ) → b + 1 < 256 → IsFalse (has_byte result b) ↔ AreAlike self.now.states b (b + 1) }
     {
+        let mut changes = ByteSet::nothing();
         for state in &self.states {
-            if state.reads(a) != state.reads(b) {
-                return false;
-            }
+            changes = state.add_changes(changes);
         }
-        true
+        changes
     }
 
     /// Returns the automaton in which each state that decides an index `k` is an end, of the index `index_count + k`.

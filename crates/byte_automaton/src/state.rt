@@ -1,9 +1,9 @@
 //! States, as an automaton keeps them.
 
-ghost use Rattle.std.specs.Prelude.{◌≡◌, ℕ, ◌<◌, ◌≤◌, ◌||◌, List, length, true, false, Some, None, IsTrue, IsFalse, OnOk, MatchOption};
-ghost use Rattle.byte_automaton.specs.Sets.{has_state, state_room};
+ghost use Rattle.std.specs.Prelude.{◌≡◌, ℕ, ◌+◌, ◌<◌, ◌≤◌, ◌||◌, List, length, true, false, Some, None, IsTrue, IsFalse, OnOk, MatchOption};
+ghost use Rattle.byte_automaton.specs.Sets.{has_byte, has_state, state_room};
 ghost use Rattle.byte_automaton.specs.Steps.{final};
-ghost use Rattle.byte_automaton.specs.Alike.{reads_byte};
+ghost use Rattle.byte_automaton.specs.Alike.{differ, reads_byte};
 ghost use Rattle.byte_automaton.specs.ByteSteps.{leads_to, step_room};
 ghost use Rattle.byte_automaton.specs.inner.Exits.{StaysBefore};
 ghost use Rattle.byte_automaton.specs.inner.Views.{of_state, IsHeld, GoesBelow};
@@ -132,15 +132,15 @@ impl State {
         }
     }
 
-    /// Returns whether a state reads or stays on a byte.
-    pub fn reads(&self, byte: u8) -> bool
-        ensures { (nexts : List ℕ) → result ≡ reads_byte (of_state nexts self.now) byte }
+    /// Returns a set with each byte `b` more for which a state reads or stays on one of `b` and `b + 1`, and not both.
+    pub fn add_changes(&self, set: ByteSet) -> ByteSet
+        ensures { (nexts : List ℕ) (b : ℕ) → b + 1 < 256 → has_byte result b ≡ (differ (reads_byte (of_state nexts self.now) b) (reads_byte (of_state nexts self.now) (b + 1)) || has_byte set b) }
     {
         match self {
-            State::Reads(bytes, _) => bytes.has(byte),
-            State::Skips(_, _) => false,
-            State::Stays(bytes, _, _) => bytes.has(byte),
-            State::End(_) => false,
+            State::Reads(bytes, _) => set.with_changes(bytes),
+            State::Skips(_, _) => set,
+            State::Stays(bytes, _, _) => set.with_changes(bytes),
+            State::End(_) => set,
         }
     }
 
