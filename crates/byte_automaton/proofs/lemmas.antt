@@ -7,3 +7,5 @@ pub mod Deciding
 pub mod Alike
 pub mod StepLists
 pub mod Changes
+pub mod Ending
+pub mod Disjoint

@@ -6,9 +6,9 @@ ghost use Rattle.byte_automaton.specs.Steps.{Machine, IsReached, state, final};
 ghost use Rattle.byte_automaton.specs.Alike.{AreAlike};
 ghost use Rattle.byte_automaton.specs.ByteSteps.{leads_to, step_room};
 ghost use Rattle.byte_automaton.specs.Decisions.{Decides, EndsAtDecisions};
-ghost use Rattle.byte_automaton.specs.Runs.{size, AcceptsFrom, HasSome};
+ghost use Rattle.byte_automaton.specs.Runs.{size, AcceptsFrom, AreEnding, HasSome};
 ghost use Rattle.byte_automaton.specs.inner.Views.{AreSound, GoesBelow, machine};
-ghost use Rattle.byte_automaton.specs.inner.Pass.{goes_now, goes_next, names};
+ghost use Rattle.byte_automaton.specs.inner.Pass.{goes_now, goes_next, names, EndsBy};
 
 use crate::byte_set::ByteSet;
 use crate::byte_steps::ByteSteps;
@@ -189,6 +189,22 @@ impl Automaton {
         false
     }
 
+    /// Puts the states that lead to some end without a byte into a set. What the set held has no effect.
+    ///
+    /// It reads each state, and is meant for what is made from an automaton before it is run.
+    pub fn ending(&self, into: &mut StateSet)
+        requires { size self.now ≤ state_room into.old }
+        ensures room { state_room into.new ≡ state_room into.old }
+        ensures ending { AreEnding self.now into.new }
+    {
+        into.clear();
+        for s in 0..self.state_count() {
+            if self.is_ending(s, into) {
+                into.put(s);
+            }
+        }
+    }
+
     /// Returns a set that has a byte `b` below 255 if some state reads one of `b` and `b + 1`, and not both. If it has not,
     /// what follows either byte leads to the same ends.
     ///
@@ -248,6 +264,16 @@ impl Automaton {
             State::End(index) => Some(index),
             _ => None,
         }
+    }
+
+    /// Returns whether a state is an end, or goes on to a state of a set without a byte.
+    fn is_ending(&self, s: usize, ending: &StateSet) -> bool
+        requires exists { s < size self.now }
+        requires room { size self.now ≤ state_room ending.now }
+        ensures below { GoesBelow s (state self.now.states s) }
+        ensures ends { IsTrue result ↔ EndsBy (state self.now.states s) (has_state ending.now) }
+    {
+        self.states[s].is_ending(s, &self.nexts, ending)
     }
 
     /// Takes the steps of a state of `from`: puts into `from` what it goes on to without a byte, and into `to` what it goes

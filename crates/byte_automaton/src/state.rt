@@ -1,13 +1,13 @@
 //! States, as an automaton keeps them.
 
-ghost use Rattle.std.specs.Prelude.{◌≡◌, ℕ, ◌+◌, ◌<◌, ◌≤◌, ◌||◌, List, length, true, false, Some, None, IsTrue, IsFalse, OnOk, MatchOption};
+ghost use Rattle.std.specs.Prelude.{◌≡◌, ℕ, ◌+◌, ◌<◌, ◌≤◌, ◌||◌, ◌↔◌, List, length, true, false, Some, None, IsTrue, IsFalse, OnOk, MatchOption};
 ghost use Rattle.byte_automaton.specs.Sets.{has_byte, has_state, state_room};
 ghost use Rattle.byte_automaton.specs.Steps.{final};
 ghost use Rattle.byte_automaton.specs.Alike.{differ, reads_byte};
 ghost use Rattle.byte_automaton.specs.ByteSteps.{leads_to, step_room};
 ghost use Rattle.byte_automaton.specs.inner.Exits.{StaysBefore};
 ghost use Rattle.byte_automaton.specs.inner.Views.{of_state, IsHeld, GoesBelow};
-ghost use Rattle.byte_automaton.specs.inner.Pass.{goes_now, goes_next, names};
+ghost use Rattle.byte_automaton.specs.inner.Pass.{goes_now, goes_next, names, EndsBy};
 
 use crate::byte_set::ByteSet;
 use crate::byte_steps::ByteSteps;
@@ -129,6 +129,21 @@ impl State {
                 None
             }
             State::End(index) => Some(*index),
+        }
+    }
+
+    /// Returns whether a state is an end, or goes on to a state of a set without a byte.
+    pub fn is_ending(&self, s: usize, nexts: &[usize], ending: &StateSet) -> bool
+        requires held { IsHeld (length nexts.now) self.now }
+        requires below { GoesBelow s (of_state nexts.now self.now) }
+        requires room { s < state_room ending.now }
+        ensures { IsTrue result ↔ EndsBy (of_state nexts.now self.now) (has_state ending.now) }
+    {
+        match self {
+            State::Reads(_, _) => false,
+            State::Skips(i, j) => ending.has_any(&nexts[*i..*j]),
+            State::Stays(_, i, j) => ending.has_any(&nexts[*i..*j]),
+            State::End(_) => true,
         }
     }
 

@@ -2,7 +2,7 @@
 
 ghost use Rattle.byte_automaton.specs.inner.Bounds.{AreBounds};
 
-use crate::words::{Seen, clear_between, last_below, set_bit, words_for};
+use crate::words::{Seen, clear_between, has_bit, last_below, set_bit, words_for};
 use std::alloc::{AllocError, Global};
 use visits::Visits;
 
@@ -39,7 +39,7 @@ impl Clone for StateSet {
 }
 
 impl StateSet {
-    ghost use Rattle.std.specs.Prelude.{◌≡◌, ℕ, ◌+◌, ◌<◌, ◌≤◌, ◌||◌, ◌==◌, false, IfOk};
+    ghost use Rattle.std.specs.Prelude.{◌≡◌, ℕ, ◌+◌, ◌<◌, ◌≤◌, ◌||◌, ◌==◌, ◌↔◌, false, IsTrue, IfOk};
     ghost use Rattle.byte_automaton.specs.Sets.{has_state, state_room};
     ghost use Rattle.byte_automaton.specs.Building.{AreBelow};
     ghost use Rattle.byte_automaton.specs.inner.Seen.{IsLastBelow};
@@ -104,6 +104,32 @@ impl StateSet {
         for state in states {
             self.put(*state);
         }
+    }
+
+    /// Returns whether one of several states is in the set.
+    pub(crate) fn has_any(&self, states: &[usize]) -> bool
+        requires { AreBelow (state_room self.now) states.now }
+        ensures { IsTrue result ↔ ((t : ℕ) × IsTrue (is_listed t states.now) × IsTrue (has_state self.now t)) }
+    {
+        for state in states {
+            if has_bit(&self.words, *state) {
+                return true;
+            }
+        }
+        false
+    }
+
+    /// Returns whether no state is in both of two sets.
+    pub fn is_disjoint(&self, other: &StateSet) -> bool
+        ensures { IsTrue result ↔ ((s : ℕ) → IsTrue (has_state self.now s) → has_state other.now s ≡ false) }
+    {
+        let count = self.words.len().min(other.words.len());
+        for i in 0..count {
+            if self.words[i] & other.words[i] != 0 {
+                return false;
+            }
+        }
+        true
     }
 
     /// Reads the next state below a bound. This is the highest one that is in the set; or if the word before the bound has
