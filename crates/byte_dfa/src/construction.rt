@@ -1,9 +1,9 @@
 //! How the table of a deterministic automaton is made: a row for each set of states that some text leads to.
 
-ghost use Rattle.std.specs.Prelude.{◌≡◌, ℕ, ◌+◌, ◌*◌, ◌<◌, ◌≤◌, [], ◌∷◌, List, length, slice_get, Some, IsTrue, OnOk, IfOk, IfSome};
-ghost use Rattle.byte_automaton.specs.Runs.{size, AcceptsFrom};
+ghost use Rattle.std.specs.Prelude.{◌≡◌, ℕ, ◌+◌, ◌*◌, ◌<◌, ◌≤◌, ◌↔◌, [], ◌∷◌, List, length, slice_get, Some, IsTrue, OnOk, IfOk, IfSome};
+ghost use Rattle.byte_automaton.specs.Runs.{size, AcceptsFrom, AreEnding};
 ghost use Rattle.byte_automaton.specs.ByteSteps.{step_room, AreStepsOf};
-ghost use Rattle.byte_automaton.specs.Sets.{state_room};
+ghost use Rattle.byte_automaton.specs.Sets.{has_index, state_room};
 ghost use Rattle.byte_dfa.specs.inner.Building.{AreFoundSets, IsEntryTo, IsSound, IsNumbered, KeepsFound, Grows, IsComplete, total};
 ghost use Rattle.byte_dfa.specs.inner.Tables.{special};
 
@@ -34,6 +34,8 @@ pub struct Construction {
     found: Vec<Found>,
     /// The number of a state by the hash of its set.
     numbers: HashMap<u64, usize>,
+    /// The states that lead to some end without a byte.
+    ending: StateSet,
     /// How many numbers may be added.
     room: usize,
     pub lists: Vec<usize>,
@@ -53,7 +55,7 @@ impl Construction {
         requires classes { classes.now.count ≤ 256 }
         ensures { IfOk result (λ made. IfSome made (λ whole. IsComplete automaton.now classes.now room whole.0 whole.1)) }
     {
-        let mut built = Construction::new(alloc, room)?;
+        let mut built = Construction::new(alloc, automaton, room)?;
         let mut states = StateSet::new(alloc, automaton.state_count())?;
         let dead = built.number_of(alloc, automaton, classes, &states)?;
         let Some(_) = dead else {
@@ -77,17 +79,21 @@ impl Construction {
     }
 
     /// Returns a construction of no states, with room for so many numbers.
-    fn new(alloc: Global, room: usize) -> Result<Construction, AllocError>
+    fn new(alloc: Global, automaton: &Automaton, room: usize) -> Result<Construction, AllocError>
         ensures found { IfOk result (λ c. c.found.items ≡ []) }
         ensures lists { IfOk result (λ c. c.lists.items ≡ 0 ∷ []) }
         ensures rows { IfOk result (λ c. c.rows.items ≡ []) }
+        ensures ending { IfOk result (λ c. AreEnding automaton.now c.ending) }
         ensures room { IfOk result (λ c. c.room ≡ room) }
     {
         let mut lists = Vec::new(alloc);
         lists.push(0)?;
+        let mut ending = StateSet::new(alloc, automaton.state_count())?;
+        automaton.ending(&mut ending);
         Ok(Construction {
             found: Vec::new(alloc),
             numbers: HashMap::new(alloc),
+            ending,
             room,
             lists,
             rows: Vec::new(alloc),
@@ -134,6 +140,25 @@ impl Construction {
         }
     }
 
+    /// Returns the indexes of the ends that a set leads to without a byte.
+    fn ends_of(
+        &self,
+        alloc: Global,
+        automaton: &Automaton,
+        states: &StateSet,
+    ) -> Result<IndexSet, AllocError>
+        requires room { size automaton.now ≤ state_room states.now }
+        requires ending { AreEnding automaton.now self.now.ending }
+        ensures { IfOk result (λ set. (k : ℕ) → IsTrue (has_index set k) ↔ AcceptsFrom automaton.now states.now [] k) }
+    {
+        let mut set = IndexSet::new(alloc, automaton.index_count())?;
+        if states.is_disjoint(&self.ending) {
+            return Ok(set);
+        }
+        automaton.ends(&mut states.clone()?, &mut set, &mut Visits::new());
+        Ok(set)
+    }
+
     /// Adds a state of the table, with its lists. Returns whether there is room for it.
     fn add(
         &mut self,
@@ -150,8 +175,7 @@ impl Construction {
         ensures number { IfOk result (λ fits. IsTrue fits → IsNumbered self.new.found.items (length self.old.found.items) states.now) }
     {
         let half = automaton.index_count() / 2;
-        let mut set = IndexSet::new(alloc, automaton.index_count())?;
-        automaton.ends(&mut states.clone()?, &mut set, &mut Visits::new());
+        let set = self.ends_of(alloc, automaton, states)?;
         let before = self.lists.len();
         let on_entry = push_list(alloc, &set, half, half, &mut self.lists)?;
         let at_end = push_list(alloc, &set, 0, half, &mut self.lists)?;

@@ -28,7 +28,7 @@ loop-class-preserved c =
     let cells = cells_push m classes.firsts classes.count new.found.items new.lists.items new.rows.items row l.class e grows.sound.cells place (omega arith) one in
     record {
       room = c.take.ensures.room ∙ inv.room;
-      sound = rw c.in_ok-push.ensures.items record { sets = grows.sound.sets; cells = cells };
+      sound = rw c.in_ok-push.ensures.items record { sets = grows.sound.sets; cells = cells; ends = grows.sound.ends };
       few = let few = grows.few in omega (arith, inv.few);
       keeps = keeps_trans c.args.self.now.found.items l.self.found.items new.found.items inv.keeps grows.keeps;
       place = rw c.in_ok-push.ensures.items (omega (arith, place, length-append new.rows.items (e ∷ [])));
@@ -82,4 +82,4 @@ returns-clause-sound c = λ _.
     let place' : length (rows ++ this.on_entry ∷ []) ≡ row * (w + 2) + (w + 1) = omega (arith, place, length-append rows (this.on_entry ∷ [])) in
     let second = cells_push m classes.firsts w found lists (rows ++ this.on_entry ∷ []) row (w + 1) this'.at_end first place' (omega arith)
     (cell_end m classes.firsts w found lists row this'.at_end this' here' refl) in
-    record { sets = inv.sound.sets; cells = rw (c.in_ok-push-3.ensures.items, c.in_ok-push-2.ensures.items) second }
+    record { sets = inv.sound.sets; cells = rw (c.in_ok-push-3.ensures.items, c.in_ok-push-2.ensures.items) second; ends = inv.sound.ends }
