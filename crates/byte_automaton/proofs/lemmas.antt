@@ -6,3 +6,7 @@ pub mod Decisions
 pub mod Deciding
 pub mod Alike
 pub mod Parts
+pub mod StepLists
+pub mod Changes
+pub mod Ending
+pub mod Disjoint

@@ -8,3 +8,4 @@ pub mod Alike
 pub mod Decisions
 pub mod Parts
 pub mod inner
+pub mod ByteSteps

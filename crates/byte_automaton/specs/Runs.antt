@@ -1,5 +1,5 @@
 -- What a set of states accepts.
-use Rattle.std.specs.Prelude.{ℕ, ◌<◌, List, length, IsTrue}
+use Rattle.std.specs.Prelude.{ℕ, ◌<◌, ◌↔◌, List, [], length, IsTrue}
 use Rattle.byte_automaton.specs.Sets.{has_state}
 use Rattle.byte_automaton.specs.Steps.{Accepts, Machine}
 use Rattle.byte_automaton.specs.declared.state_set.StateSet.{StateSet}
@@ -15,3 +15,7 @@ AcceptsFrom m set y k = (t : ℕ) × (t < size m) × IsTrue (has_state set t) ×
 -- some state of the automaton is in the set
 abbrev pub HasSome : Machine → StateSet → Type 0
 HasSome m set = (t : ℕ) × (t < size m) × IsTrue (has_state set t)
+
+-- the set has exactly the states that lead to some end without a byte
+abbrev pub AreEnding : Machine → StateSet → Type 0
+AreEnding m set = (s : ℕ) → s < size m → IsTrue (has_state set s) ↔ ((k : ℕ) × Accepts m.states k s [])

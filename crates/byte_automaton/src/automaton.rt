@@ -1,16 +1,19 @@
 //! An automaton, and the steps of its runs.
 
-ghost use Rattle.std.specs.Prelude.{◌≡◌, ℕ, ◌+◌, ◌*◌, ◌<◌, ◌≤◌, ◌^◌, ◌||◌, ◌⊎◌, ◌↔◌, ◌∷◌, [], List, length, true, false, Some, None, IsTrue, IsFalse, IfOk, OnErr, MatchOption};
-ghost use Rattle.byte_automaton.specs.Sets.{has_state, has_index, state_room, index_room};
+ghost use Rattle.std.specs.Prelude.{◌≡◌, ℕ, ◌+◌, ◌*◌, ◌<◌, ◌≤◌, ◌^◌, ◌||◌, ◌⊎◌, ◌↔◌, ◌∷◌, [], List, length, true, false, Some, None, IsTrue, IsFalse, IfOk, OnOk, OnErr, MatchOption};
+ghost use Rattle.byte_automaton.specs.Sets.{has_byte, has_state, has_index, state_room, index_room};
 ghost use Rattle.byte_automaton.specs.Steps.{Machine, IsReached, state, final};
 ghost use Rattle.byte_automaton.specs.Alike.{AreAlike};
+ghost use Rattle.byte_automaton.specs.ByteSteps.{leads_to, step_room};
 ghost use Rattle.byte_automaton.specs.Decisions.{Decides, EndsAtDecisions};
-ghost use Rattle.byte_automaton.specs.Runs.{size, AcceptsFrom, HasSome};
+ghost use Rattle.byte_automaton.specs.Runs.{size, AcceptsFrom, AreEnding, HasSome};
 ghost use Rattle.byte_automaton.specs.inner.Views.{AreSound, GoesBelow, machine};
-ghost use Rattle.byte_automaton.specs.inner.Pass.{goes_now, goes_next, names};
+ghost use Rattle.byte_automaton.specs.inner.Pass.{goes_now, goes_next, names, EndsBy};
 
 mod parts;
 
+use crate::byte_set::ByteSet;
+use crate::byte_steps::ByteSteps;
 use crate::index_set::IndexSet;
 use crate::state::State;
 use crate::state_set::StateSet;
@@ -188,18 +191,34 @@ impl Automaton {
         false
     }
 
-    /// Returns whether each state reads both of two bytes or neither, so that what follows either byte leads to the same ends.
+    /// Puts the states that lead to some end without a byte into a set. What the set held has no effect.
     ///
-    /// It may read each state, and is meant for what is made from an automaton before it is run.
-    pub fn reads_alike(&self, a: u8, b: u8) -> bool
-        ensures { IsTrue result ↔ AreAlike self.now.states a b }
+    /// It reads each state, and is meant for what is made from an automaton before it is run.
+    pub fn ending(&self, into: &mut StateSet)
+        requires { size self.now ≤ state_room into.old }
+        ensures room { state_room into.new ≡ state_room into.old }
+        ensures ending { AreEnding self.now into.new }
     {
-        for state in &self.states {
-            if state.reads(a) != state.reads(b) {
-                return false;
+        into.clear();
+        for s in 0..self.state_count() {
+            if self.is_ending(s, into) {
+                into.put(s);
             }
         }
-        true
+    }
+
+    /// Returns a set that has a byte `b` below 255 if some state reads one of `b` and `b + 1`, and not both. If it has not,
+    /// what follows either byte leads to the same ends.
+    ///
+    /// It reads each state, and is meant for what is made from an automaton before it is run.
+    pub fn byte_changes(&self) -> ByteSet
+        ensures { (b : ℕ) → b + 1 < 256 → IsFalse (has_byte result b) ↔ AreAlike self.now.states b (b + 1) }
+    {
+        let mut changes = ByteSet::nothing();
+        for state in &self.states {
+            changes = state.add_changes(changes);
+        }
+        changes
     }
 
     /// Returns the automaton in which each state that decides an index `k` is an end, of the index `index_count + k`.
@@ -249,6 +268,16 @@ impl Automaton {
         }
     }
 
+    /// Returns whether a state is an end, or goes on to a state of a set without a byte.
+    fn is_ending(&self, s: usize, ending: &StateSet) -> bool
+        requires exists { s < size self.now }
+        requires room { size self.now ≤ state_room ending.now }
+        ensures below { GoesBelow s (state self.now.states s) }
+        ensures ends { IsTrue result ↔ EndsBy (state self.now.states s) (has_state ending.now) }
+    {
+        self.states[s].is_ending(s, &self.nexts, ending)
+    }
+
     /// Takes the steps of a state of `from`: puts into `from` what it goes on to without a byte, and into `to` what it goes
     /// on to by the byte. Returns whether it put a state into `to`.
     fn take_steps(&self, s: usize, byte: u8, from: &mut StateSet, to: &mut StateSet) -> bool
@@ -264,6 +293,26 @@ impl Automaton {
         ensures none { IsFalse result → (t : ℕ) → goes_next (state self.now.states s) s (Some byte) t ≡ false }
     {
         self.states[s].take_steps(s, &self.nexts, byte, from, to)
+    }
+
+    /// Puts what a state of `from` goes on to without a byte into `from`, and its step by a byte into `into`. Returns an error
+    /// if memory runs out.
+    pub(crate) fn put_steps(
+        &self,
+        s: usize,
+        from: &mut StateSet,
+        into: &mut ByteSteps,
+    ) -> Result<(), AllocError>
+        requires exists { s < size self.now }
+        requires from_room { size self.now ≤ state_room from.old }
+        requires into_room { size self.now ≤ step_room into.old }
+        ensures from_room { state_room from.new ≡ state_room from.old }
+        ensures into_room { step_room into.new ≡ step_room into.old }
+        ensures below { GoesBelow s (state self.now.states s) }
+        ensures from { (t : ℕ) → has_state from.new t ≡ (goes_now (state self.now.states s) t || has_state from.old t) }
+        ensures into { OnOk result ((b t : ℕ) → b < 256 → leads_to into.new b t ≡ (goes_next (state self.now.states s) s (Some b) t || leads_to into.old b t)) }
+    {
+        self.states[s].put_steps(s, &self.nexts, from, into)
     }
 
     /// Takes the steps of a state of `from` at the end of a text: puts into `from` what it goes on to without a byte.

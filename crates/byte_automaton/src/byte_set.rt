@@ -1,10 +1,11 @@
 //! Sets of bytes.
 
-ghost use Rattle.std.specs.Prelude.{◌≡◌, ℕ, ◌<◌, ◌&&◌, ◌||◌, ◌==◌, not, true, false, slice_index_or, IsTrue, ◌↔◌};
+ghost use Rattle.std.specs.Prelude.{◌≡◌, ℕ, ◌+◌, ◌<◌, ◌&&◌, ◌||◌, ◌==◌, not, true, false, slice_index_or, IsTrue, ◌↔◌};
+ghost use Rattle.byte_automaton.specs.Alike.{differ};
 ghost use Rattle.byte_automaton.specs.Sets.{has_byte};
 ghost use Rattle.byte_automaton.specs.Decisions.{HasEvery};
 
-use crate::words::{clear_bit, has_bit, set_bit};
+use crate::words::{changes, clear_bit, has_bit, set_bit};
 
 /// A set of bytes, as 256 bits.
 ///
@@ -25,6 +26,13 @@ impl ByteSet {
         ByteSet {
             words: [u64::MAX; 4],
         }
+    }
+
+    /// Returns the set of no bytes.
+    pub(crate) fn nothing() -> ByteSet
+        ensures { (c : ℕ) → has_byte result c ≡ false }
+    {
+        ByteSet { words: [0; 4] }
     }
 
     /// Returns the set of one byte.
@@ -67,6 +75,21 @@ impl ByteSet {
         ByteSet { words }
     }
 
+    /// Returns the set with each byte `b` more for which another set has one of `b` and `b + 1`, and not both.
+    pub(crate) fn with_changes(self, other: &ByteSet) -> ByteSet
+        ensures { (b : ℕ) → b + 1 < 256 → has_byte result b ≡ (differ (has_byte other.now b) (has_byte other.now (b + 1)) || has_byte self b) }
+    {
+        let [a, b, c, d] = other.words;
+        ByteSet {
+            words: [
+                self.words[0] | changes(a, b),
+                self.words[1] | changes(b, c),
+                self.words[2] | changes(c, d),
+                self.words[3] | changes(d, 0),
+            ],
+        }
+    }
+
     /// Returns whether the set has a byte.
     pub fn has(&self, byte: u8) -> bool
         ensures { result ≡ has_byte self.now byte }
@@ -78,8 +101,8 @@ impl ByteSet {
     pub(crate) fn is_everything(&self) -> bool
         ensures { IsTrue result ↔ HasEvery self.now }
     {
-        for byte in 0..256usize {
-            if !has_bit(&self.words, byte) {
+        for i in 0..4usize {
+            if self.words[i] != u64::MAX {
                 return false;
             }
         }

@@ -8,6 +8,7 @@
 mod automaton;
 mod builder;
 mod byte_set;
+mod byte_steps;
 mod index_set;
 mod run;
 mod state;
@@ -17,5 +18,6 @@ mod words;
 pub use automaton::Automaton;
 pub use builder::Builder;
 pub use byte_set::ByteSet;
+pub use byte_steps::ByteSteps;
 pub use index_set::IndexSet;
 pub use state_set::StateSet;

@@ -1,15 +1,18 @@
 //! States, as an automaton keeps them.
 
-ghost use Rattle.std.specs.Prelude.{◌≡◌, ℕ, ◌<◌, ◌≤◌, ◌||◌, List, length, true, false, Some, None, IsTrue, IsFalse, MatchOption};
-ghost use Rattle.byte_automaton.specs.Sets.{has_state, state_room};
+ghost use Rattle.std.specs.Prelude.{◌≡◌, ℕ, ◌+◌, ◌<◌, ◌≤◌, ◌||◌, ◌↔◌, List, length, true, false, Some, None, IsTrue, IsFalse, OnOk, MatchOption};
+ghost use Rattle.byte_automaton.specs.Sets.{has_byte, has_state, state_room};
 ghost use Rattle.byte_automaton.specs.Steps.{final};
-ghost use Rattle.byte_automaton.specs.Alike.{reads_byte};
+ghost use Rattle.byte_automaton.specs.Alike.{differ, reads_byte};
+ghost use Rattle.byte_automaton.specs.ByteSteps.{leads_to, step_room};
 ghost use Rattle.byte_automaton.specs.inner.Exits.{StaysBefore};
 ghost use Rattle.byte_automaton.specs.inner.Views.{of_state, IsHeld, GoesBelow};
-ghost use Rattle.byte_automaton.specs.inner.Pass.{goes_now, goes_next, names};
+ghost use Rattle.byte_automaton.specs.inner.Pass.{goes_now, goes_next, names, EndsBy};
 
 use crate::byte_set::ByteSet;
+use crate::byte_steps::ByteSteps;
 use crate::state_set::StateSet;
+use std::alloc::AllocError;
 
 /// A state. What it goes on to without a byte is a range of the automaton's list of next states.
 ///
@@ -73,6 +76,38 @@ impl State {
         }
     }
 
+    /// Puts what a state goes on to without a byte into `from`, and its step by a byte into `into`. Returns an error if memory
+    /// runs out.
+    pub fn put_steps(
+        &self,
+        s: usize,
+        nexts: &[usize],
+        from: &mut StateSet,
+        into: &mut ByteSteps,
+    ) -> Result<(), AllocError>
+        requires held { IsHeld (length nexts.now) self.now }
+        requires below { GoesBelow s (of_state nexts.now self.now) }
+        requires from_room { s < state_room from.old }
+        requires into_room { s < step_room into.old }
+        ensures from_room { state_room from.new ≡ state_room from.old }
+        ensures into_room { step_room into.new ≡ step_room into.old }
+        ensures from { (t : ℕ) → has_state from.new t ≡ (goes_now (of_state nexts.now self.now) t || has_state from.old t) }
+        ensures into { OnOk result ((b t : ℕ) → b < 256 → leads_to into.new b t ≡ (goes_next (of_state nexts.now self.now) s (Some b) t || leads_to into.old b t)) }
+    {
+        match self {
+            State::Reads(bytes, next) => into.put(bytes, *next),
+            State::Skips(i, j) => {
+                from.put_all(&nexts[*i..*j]);
+                Ok(())
+            }
+            State::Stays(bytes, i, j) => {
+                from.put_all(&nexts[*i..*j]);
+                into.put(bytes, s)
+            }
+            State::End(_) => Ok(()),
+        }
+    }
+
     /// Takes the steps of a state at the end of the text: puts into `from` what it goes on to without a byte. Returns its index
     /// if it is an end.
     pub fn leave(&self, s: usize, nexts: &[usize], from: &mut StateSet) -> Option<usize>
@@ -97,15 +132,30 @@ impl State {
         }
     }
 
-    /// Returns whether a state reads or stays on a byte.
-    pub fn reads(&self, byte: u8) -> bool
-        ensures { (nexts : List ℕ) → result ≡ reads_byte (of_state nexts self.now) byte }
+    /// Returns whether a state is an end, or goes on to a state of a set without a byte.
+    pub fn is_ending(&self, s: usize, nexts: &[usize], ending: &StateSet) -> bool
+        requires held { IsHeld (length nexts.now) self.now }
+        requires below { GoesBelow s (of_state nexts.now self.now) }
+        requires room { s < state_room ending.now }
+        ensures { IsTrue result ↔ EndsBy (of_state nexts.now self.now) (has_state ending.now) }
     {
         match self {
-            State::Reads(bytes, _) => bytes.has(byte),
-            State::Skips(_, _) => false,
-            State::Stays(bytes, _, _) => bytes.has(byte),
-            State::End(_) => false,
+            State::Reads(_, _) => false,
+            State::Skips(i, j) => ending.has_any(&nexts[*i..*j]),
+            State::Stays(_, i, j) => ending.has_any(&nexts[*i..*j]),
+            State::End(_) => true,
+        }
+    }
+
+    /// Returns a set with each byte `b` more for which a state reads or stays on one of `b` and `b + 1`, and not both.
+    pub fn add_changes(&self, set: ByteSet) -> ByteSet
+        ensures { (nexts : List ℕ) (b : ℕ) → b + 1 < 256 → has_byte result b ≡ (differ (reads_byte (of_state nexts self.now) b) (reads_byte (of_state nexts self.now) (b + 1)) || has_byte set b) }
+    {
+        match self {
+            State::Reads(bytes, _) => set.with_changes(bytes),
+            State::Skips(_, _) => set,
+            State::Stays(bytes, _, _) => set.with_changes(bytes),
+            State::End(_) => set,
         }
     }
 

@@ -2,7 +2,7 @@
 
 ghost use Rattle.byte_automaton.specs.inner.Bounds.{AreBounds};
 
-use crate::words::{Seen, clear_between, last_below, set_bit, words_for};
+use crate::words::{Seen, clear_between, has_bit, last_below, set_bit, words_for};
 use std::alloc::{AllocError, Global};
 use visits::Visits;
 
@@ -39,7 +39,7 @@ impl Clone for StateSet {
 }
 
 impl StateSet {
-    ghost use Rattle.std.specs.Prelude.{◌≡◌, ℕ, ◌+◌, ◌<◌, ◌≤◌, ◌||◌, ◌==◌, false, IfOk};
+    ghost use Rattle.std.specs.Prelude.{◌≡◌, ℕ, ◌+◌, ◌<◌, ◌≤◌, ◌||◌, ◌==◌, ◌↔◌, false, IsTrue, IfOk};
     ghost use Rattle.byte_automaton.specs.Sets.{has_state, state_room};
     ghost use Rattle.byte_automaton.specs.Building.{AreBelow};
     ghost use Rattle.byte_automaton.specs.inner.Seen.{IsLastBelow};
@@ -49,6 +49,7 @@ impl StateSet {
     /// runs out.
     pub fn new(alloc: Global, states: usize) -> Result<StateSet, AllocError>
         ensures room { IfOk result (λ set. states ≤ state_room set) }
+        ensures least { IfOk result (λ set. state_room set < states + 64) }
         ensures none { IfOk result (λ set. (s : ℕ) → has_state set s ≡ false) }
     {
         let mut words = Vec::new(alloc);
@@ -72,6 +73,17 @@ impl StateSet {
         self.last = 0;
     }
 
+    /// Makes a set the same as another, which has as much room.
+    pub(crate) fn copy_from(&mut self, other: &StateSet)
+        requires { state_room other.now ≡ state_room self.old }
+        ensures room { state_room self.new ≡ state_room self.old }
+        ensures has { (s : ℕ) → has_state self.new s ≡ has_state other.now s }
+    {
+        self.words.copy_from_slice(&other.words);
+        self.first = other.first;
+        self.last = other.last;
+    }
+
     /// Puts a state in.
     pub(crate) fn put(&mut self, state: usize)
         requires { state < state_room self.old }
@@ -92,6 +104,32 @@ impl StateSet {
         for state in states {
             self.put(*state);
         }
+    }
+
+    /// Returns whether one of several states is in the set.
+    pub(crate) fn has_any(&self, states: &[usize]) -> bool
+        requires { AreBelow (state_room self.now) states.now }
+        ensures { IsTrue result ↔ ((t : ℕ) × IsTrue (is_listed t states.now) × IsTrue (has_state self.now t)) }
+    {
+        for state in states {
+            if has_bit(&self.words, *state) {
+                return true;
+            }
+        }
+        false
+    }
+
+    /// Returns whether no state is in both of two sets.
+    pub fn is_disjoint(&self, other: &StateSet) -> bool
+        ensures { IsTrue result ↔ ((s : ℕ) → IsTrue (has_state self.now s) → has_state other.now s ≡ false) }
+    {
+        let count = self.words.len().min(other.words.len());
+        for i in 0..count {
+            if self.words[i] & other.words[i] != 0 {
+                return false;
+            }
+        }
+        true
     }
 
     /// Reads the next state below a bound. This is the highest one that is in the set; or if the word before the bound has

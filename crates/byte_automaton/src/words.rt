@@ -1,6 +1,7 @@
 //! Sets of numbers, as the bits of machine words.
 
-ghost use Rattle.std.specs.Prelude.{◌≡◌, ℕ, ◌+◌, ◌-◌, ◌*◌, ◌/◌, ◌^◌, ◌<◌, ◌≤◌, ◌&&◌, ◌||◌, ◌==◌, not, true, false, length, MatchOption};
+ghost use Rattle.std.specs.Prelude.{◌≡◌, ℕ, ◌+◌, ◌-◌, ◌*◌, ◌/◌, ◌%◌, ◌^◌, ◌<◌, ◌≤◌, ◌&&◌, ◌||◌, ◌==◌, not, true, false, length, MatchOption};
+ghost use Rattle.std.specs.Int.{bit_at};
 ghost use Rattle.byte_automaton.specs.Bits.{bit_of};
 ghost use Rattle.byte_automaton.specs.inner.Seen.{IsLastBelow};
 
@@ -48,6 +49,15 @@ pub fn clear_bit(words: &mut [u64], k: usize)
 {
     let word = words[k / 64];
     words[k / 64] = word & !(1u64 << (k % 64));
+}
+
+/// Returns a word that has each bit in which a word and the same word moved down by one bit are different. The lowest bit of
+/// `next` moves in.
+pub fn changes(word: u64, next: u64) -> u64
+    ensures inside { (i : ℕ) → i < 63 → bit_at result i ≡ (bit_at word i + bit_at word (i + 1)) % 2 }
+    ensures last { bit_at result 63 ≡ (bit_at word 63 + bit_at next 0) % 2 }
+{
+    word ^ ((word >> 1) | ((next & 1) << 63))
 }
 
 /// Clears the bits between these two, and all others of their words.

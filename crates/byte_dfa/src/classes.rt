@@ -22,12 +22,13 @@ impl ByteClasses {
         ensures few { result.count ≤ 256 }
         ensures division { IsDivision automaton.now.states result.class_of result.firsts result.count }
     {
+        let changes = automaton.byte_changes();
         let mut class_of = [0u8; 256];
         let mut firsts = [0u8; 256];
         let mut last = 0u8;
         for i in 1..256usize {
             let byte = i as u8;
-            if !automaton.reads_alike(firsts[last as usize], byte) {
+            if changes.has(byte - 1) {
                 last += 1;
                 firsts[last as usize] = byte;
             }

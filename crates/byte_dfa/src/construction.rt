@@ -1,14 +1,15 @@
 //! How the table of a deterministic automaton is made: a row for each set of states that some text leads to.
 
-ghost use Rattle.std.specs.Prelude.{◌≡◌, ℕ, ◌+◌, ◌*◌, ◌<◌, ◌≤◌, [], ◌∷◌, List, length, slice_get, Some, IsTrue, OnOk, IfOk, IfSome};
-ghost use Rattle.byte_automaton.specs.Runs.{size, AcceptsFrom};
-ghost use Rattle.byte_automaton.specs.Sets.{state_room};
-ghost use Rattle.byte_dfa.specs.inner.Building.{AreFoundSets, GoesTo, IsEntryTo, IsSound, IsNumbered, KeepsFound, Grows, IsComplete, total};
+ghost use Rattle.std.specs.Prelude.{◌≡◌, ℕ, ◌+◌, ◌*◌, ◌<◌, ◌≤◌, ◌↔◌, [], ◌∷◌, List, length, slice_get, Some, IsTrue, OnOk, IfOk, IfSome};
+ghost use Rattle.byte_automaton.specs.Runs.{size, AcceptsFrom, AreEnding};
+ghost use Rattle.byte_automaton.specs.ByteSteps.{step_room, AreStepsOf};
+ghost use Rattle.byte_automaton.specs.Sets.{has_index, state_room};
+ghost use Rattle.byte_dfa.specs.inner.Building.{AreFoundSets, IsEntryTo, IsSound, IsNumbered, KeepsFound, Grows, IsComplete, total};
 ghost use Rattle.byte_dfa.specs.inner.Tables.{special};
 
 use crate::classes::ByteClasses;
 use crate::lists::push_list;
-use byte_automaton::{Automaton, IndexSet, StateSet};
+use byte_automaton::{Automaton, ByteSteps, IndexSet, StateSet};
 use std::alloc::{AllocError, Global};
 use std::collections::HashMap;
 use std::hash::{FoldHasher, Hash, Hasher};
@@ -33,6 +34,8 @@ pub struct Construction {
     found: Vec<Found>,
     /// The number of a state by the hash of its set.
     numbers: HashMap<u64, usize>,
+    /// The states that lead to some end without a byte.
+    ending: StateSet,
     /// How many numbers may be added.
     room: usize,
     pub lists: Vec<usize>,
@@ -52,7 +55,7 @@ impl Construction {
         requires classes { classes.now.count ≤ 256 }
         ensures { IfOk result (λ made. IfSome made (λ whole. IsComplete automaton.now classes.now room whole.0 whole.1)) }
     {
-        let mut built = Construction::new(alloc, room)?;
+        let mut built = Construction::new(alloc, automaton, room)?;
         let mut states = StateSet::new(alloc, automaton.state_count())?;
         let dead = built.number_of(alloc, automaton, classes, &states)?;
         let Some(_) = dead else {
@@ -63,9 +66,10 @@ impl Construction {
         let Some(start) = start else {
             return Ok(None);
         };
+        let mut steps = ByteSteps::new(alloc, automaton.state_count())?;
         let mut row = 0;
         while row < built.found.len() {
-            let fits = built.write_row(alloc, automaton, classes, row, &mut states)?;
+            let fits = built.write_row(alloc, automaton, classes, row, &mut steps, &mut states)?;
             if !fits {
                 return Ok(None);
             }
@@ -75,17 +79,21 @@ impl Construction {
     }
 
     /// Returns a construction of no states, with room for so many numbers.
-    fn new(alloc: Global, room: usize) -> Result<Construction, AllocError>
+    fn new(alloc: Global, automaton: &Automaton, room: usize) -> Result<Construction, AllocError>
         ensures found { IfOk result (λ c. c.found.items ≡ []) }
         ensures lists { IfOk result (λ c. c.lists.items ≡ 0 ∷ []) }
         ensures rows { IfOk result (λ c. c.rows.items ≡ []) }
+        ensures ending { IfOk result (λ c. AreEnding automaton.now c.ending) }
         ensures room { IfOk result (λ c. c.room ≡ room) }
     {
         let mut lists = Vec::new(alloc);
         lists.push(0)?;
+        let mut ending = StateSet::new(alloc, automaton.state_count())?;
+        automaton.ending(&mut ending);
         Ok(Construction {
             found: Vec::new(alloc),
             numbers: HashMap::new(alloc),
+            ending,
             room,
             lists,
             rows: Vec::new(alloc),
@@ -132,6 +140,25 @@ impl Construction {
         }
     }
 
+    /// Returns the indexes of the ends that a set leads to without a byte.
+    fn ends_of(
+        &self,
+        alloc: Global,
+        automaton: &Automaton,
+        states: &StateSet,
+    ) -> Result<IndexSet, AllocError>
+        requires room { size automaton.now ≤ state_room states.now }
+        requires ending { AreEnding automaton.now self.now.ending }
+        ensures { IfOk result (λ set. (k : ℕ) → IsTrue (has_index set k) ↔ AcceptsFrom automaton.now states.now [] k) }
+    {
+        let mut set = IndexSet::new(alloc, automaton.index_count())?;
+        if states.is_disjoint(&self.ending) {
+            return Ok(set);
+        }
+        automaton.ends(&mut states.clone()?, &mut set, &mut Visits::new());
+        Ok(set)
+    }
+
     /// Adds a state of the table, with its lists. Returns whether there is room for it.
     fn add(
         &mut self,
@@ -148,8 +175,7 @@ impl Construction {
         ensures number { IfOk result (λ fits. IsTrue fits → IsNumbered self.new.found.items (length self.old.found.items) states.now) }
     {
         let half = automaton.index_count() / 2;
-        let mut set = IndexSet::new(alloc, automaton.index_count())?;
-        automaton.ends(&mut states.clone()?, &mut set, &mut Visits::new());
+        let set = self.ends_of(alloc, automaton, states)?;
         let before = self.lists.len();
         let on_entry = push_list(alloc, &set, half, half, &mut self.lists)?;
         let at_end = push_list(alloc, &set, 0, half, &mut self.lists)?;
@@ -178,22 +204,26 @@ impl Construction {
         automaton: &Automaton,
         classes: &ByteClasses,
         row: usize,
+        steps: &mut ByteSteps,
         to: &mut StateSet,
     ) -> Result<bool, AllocError>
         requires room { size automaton.now ≤ state_room to.old }
+        requires step_room { step_room steps.old ≡ state_room to.old }
         requires sound { IsSound automaton.now classes.now self.old }
         requires few { total classes.now self.old ≤ special }
         requires classes { classes.now.count ≤ 256 }
         requires row { row < length self.old.found.items }
         requires place { length self.old.rows.items ≡ row * (classes.now.count + 2) }
         ensures room { state_room to.new ≡ state_room to.old }
+        ensures step_room { step_room steps.new ≡ step_room steps.old }
         ensures sound { IfOk result (λ fits. IsTrue fits → IsSound automaton.now classes.now self.new) }
         ensures few { IfOk result (λ fits. IsTrue fits → total classes.now self.new ≤ total classes.now self.old) }
         ensures keeps { IfOk result (λ fits. IsTrue fits → KeepsFound self.old.found.items self.new.found.items) }
         ensures place { IfOk result (λ fits. IsTrue fits → length self.new.rows.items ≡ (row + 1) * (classes.now.count + 2)) }
     {
+        self.row_steps(automaton, row, steps)?;
         for class in 0..classes.count {
-            self.step(automaton, row, classes.firsts[class], to)?;
+            steps.take(classes.firsts[class], to);
             let made = self.number_of(alloc, automaton, classes, to)?;
             let Some(number) = made else {
                 return Ok(false);
@@ -206,22 +236,21 @@ impl Construction {
         Ok(true)
     }
 
-    /// Puts the states that a byte leads to from the set of a row into another set.
-    fn step(
+    /// Puts the steps by a byte from the set of a row into `into`.
+    fn row_steps(
         &self,
         automaton: &Automaton,
         row: usize,
-        byte: u8,
-        to: &mut StateSet,
+        into: &mut ByteSteps,
     ) -> Result<(), AllocError>
-        requires room { size automaton.now ≤ state_room to.old }
+        requires room { size automaton.now ≤ step_room into.old }
         requires sound { AreFoundSets automaton.now self.now.found.items self.now.lists.items }
         requires row { row < length self.now.found.items }
-        ensures room { state_room to.new ≡ state_room to.old }
-        ensures goes { OnOk result ((f : Found) → slice_get self.now.found.items row ≡ Some f → GoesTo automaton.now f.states byte to.new) }
+        ensures room { step_room into.new ≡ step_room into.old }
+        ensures steps { OnOk result ((f : Found) → slice_get self.now.found.items row ≡ Some f → AreStepsOf automaton.now f.states into.new) }
     {
         let mut from = self.found[row].states.clone()?;
-        automaton.step(&mut from, byte, to, &mut Visits::new());
+        automaton.byte_steps(&mut from, into)?;
         Ok(())
     }
 

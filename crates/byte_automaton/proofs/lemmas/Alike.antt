@@ -1,6 +1,6 @@
 -- Bytes that states read alike lead to the same ends.
-use Rattle.std.proofs.Common.{◌≡◌, ℕ, ◌<◌, ◌≤◌, List, [], ◌∷◌, length, IsTrue, arith, refl, ap, sym, subst, ◌∙◌}
-use Rattle.std.specs.Prelude.{◌↔◌}
+use Rattle.std.proofs.Common.{◌≡◌, ℕ, ◌+◌, ◌<◌, ◌≤◌, Bool, true, false, true≢false, ◌||◌, List, [], ◌∷◌, length, IsTrue, arith, refl, ap, sym, subst, ◌∙◌, below_more}
+use Rattle.std.specs.Prelude.{◌↔◌, IsFalse}
 use Rattle.std.proofs.lemmas.Bool.{cases_lt}
 use Rattle.std.proofs.lemmas.List.{get_or_past}
 use Rattle.std.proofs.Math.Logic.{⊎_elim}
@@ -9,7 +9,8 @@ use Rattle.byte_automaton.specs.declared.state_set.StateSet.{StateSet}
 use Rattle.byte_automaton.specs.Sets.{has_byte}
 use Rattle.byte_automaton.specs.Steps.{State, reads, skips, stays, state, Machine, Accepts, ends, by_byte, by_skip, by_out, by_stay}
 use Rattle.byte_automaton.specs.Runs.{AcceptsFrom}
-use Rattle.byte_automaton.specs.Alike.{reads_byte, AreAlike}
+use Rattle.byte_automaton.specs.Alike.{differ, reads_byte, AreAlike}
+use Rattle.byte_automaton.proofs.lemmas.Pass.{or_none}
 
 -- states past the last read nothing
 pub all_alike : (a : List State) (n b c : ℕ) → length a ≤ n → ((s : ℕ) → s < n → reads_byte (state a s) b ≡ reads_byte (state a s) c) → AreAlike a b c
@@ -17,6 +18,34 @@ all_alike a n b c le each s = ⊎_elim {C = reads_byte (state a s) b ≡ reads_b
     (λ low. each s low)
     (λ past. let none : state a s ≡ skips [] = get_or_past a s (skips []) (omega arith) in ap (λ st. reads_byte st b) none ∙ sym (ap (λ st. reads_byte st c) none))
     (cases_lt s n)
+
+-- one state more: those so far read both bytes or neither exactly if the test fails
+pub alike_more : (f g : ℕ → Bool) (i : ℕ) (old new : Bool) → new ≡ (differ (f i) (g i) || old) → IsFalse old ↔ ((s : ℕ) → s < i → f s ≡ g s)
+    → IsFalse new ↔ ((s : ℕ) → s < i + 1 → f s ≡ g s)
+alike_more f g i old new is before = (
+  λ none. below_more _ _ (before.0 (or_second_none (differ (f i) (g i)) old (sym is ∙ none))) (same (f i) (g i) (or_first_none (differ (f i) (g i)) old (sym is ∙ none))),
+  λ each. is ∙ or_none (differ (f i) (g i)) old (none_differ (f i) (g i) (each i (omega arith))) (before.1 (λ s lt. each s (omega arith))),
+)
+  where
+    same : (p q : Bool) → differ p q ≡ false → p ≡ q
+    same true true h = refl
+    same true false h = absurd (true≢false h)
+    same false true h = absurd (true≢false h)
+    same false false h = refl
+
+    none_differ : (p q : Bool) → p ≡ q → differ p q ≡ false
+    none_differ true true h = refl
+    none_differ true false h = absurd (true≢false h)
+    none_differ false true h = absurd (true≢false (sym h))
+    none_differ false false h = refl
+
+    or_first_none : (p q : Bool) → (p || q) ≡ false → p ≡ false
+    or_first_none true q h = absurd (true≢false h)
+    or_first_none false q h = refl
+
+    or_second_none : (p q : Bool) → (p || q) ≡ false → q ≡ false
+    or_second_none true q h = absurd (true≢false h)
+    or_second_none false q h = h
 
 module _ (a : List State) (k b c : ℕ) (z : List ℕ) (alike : AreAlike a b c) where
   has_alike : (s : ℕ) (st : State) (w : ByteSet) → state a s ≡ st → ((d : ℕ) → reads_byte st d ≡ has_byte w d) → IsTrue (has_byte w b) → IsTrue (has_byte w c)

@@ -51,19 +51,19 @@ in_listed t (x ∷ xs) (inl e) = or_first (t == x) (is_listed t xs) (eq-eqb t x 
 in_listed t (x ∷ xs) (inr h) = or_second (t == x) (is_listed t xs) (in_listed t xs h)
 
 module _ (a : List State) where
-  abbrev Step : ℕ → List ℕ → ℕ → State → Type 0
+  abbrev pub Step : ℕ → List ℕ → ℕ → State → Type 0
   Step s y k st = ((t : ℕ) × IsTrue (goes_now st t) × Accepts a k t y)
       ⊎ (((c : ℕ) × (z : List ℕ) × (t : ℕ) × (y ≡ c ∷ z) × IsTrue (goes_next st s (Some c) t) × Accepts a k t z) ⊎ ((y ≡ []) × IsTrue (names st None k)))
 
   -- what a state accepts, by its next step
-  step_there : (s k : ℕ) (y : List ℕ) → Accepts a k s y → Step s y k (state a s)
+  pub step_there : (s k : ℕ) (y : List ℕ) → Accepts a k s y → Step s y k (state a s)
   step_there s k y (ends s' e) = rw e (inr (inr (refl, eq-eqb k k refl)))
   step_there s k y (by_byte s' t c z w e has rest) = rw e (inr (inl (c, z, t, refl, and_both (has_byte w c) (t == t) has (eq-eqb t t refl), rest)))
   step_there s k y (by_skip s' t z ts e m rest) = rw e (inl (t, in_listed t ts m, rest))
   step_there s k y (by_out s' t z w ts e m rest) = rw e (inl (t, in_listed t ts m, rest))
   step_there s k y (by_stay s' c z w ts e has rest) = rw e (inr (inl (c, z, s, refl, and_both (has_byte w c) (s == s) has (eq-eqb s s refl), rest)))
 
-  step_back : (s k : ℕ) (y : List ℕ) (st : State) → state a s ≡ st → Step s y k st → Accepts a k s y
+  pub step_back : (s k : ℕ) (y : List ℕ) (st : State) → state a s ≡ st → Step s y k st → Accepts a k s y
   step_back s k y (reads w u) e (inl h) = absurd (true≢false (sym h.1))
   step_back s k y (reads w u) e (inr (inl (c, z, t, cut, go, rest))) =
       let same : t ≡ u = eqb-true t u (and_second (has_byte w c) (t == u) go) in

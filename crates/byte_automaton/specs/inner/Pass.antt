@@ -36,6 +36,10 @@ names (reads w u) o k = false
 names (skips us) o k = false
 names (stays w us) o k = false
 
+-- the state is an end, or goes on without a byte to a state of the set
+abbrev pub EndsBy : State → (ℕ → Bool) → Type 0
+EndsBy st ending = ((k : ℕ) × IsTrue (names st None k)) ⊎ ((t : ℕ) × IsTrue (goes_now st t) × IsTrue (ending t))
+
 -- a state of the set below the bound accepts y
 abbrev pub Alive : List State → (ℕ → Bool) → ℕ → List ℕ → ℕ → Type 0
 Alive a now upto y k = (t : ℕ) × (t < upto) × IsTrue (now t) × Accepts a k t y

@@ -1,5 +1,5 @@
 -- Classes of bytes, made one byte after another.
-use Rattle.std.proofs.Common.{◌≡◌, ◌≢◌, ℕ, ◌+◌, ◌<◌, ◌≤◌, List, length, slice_index, slice_set, refl, ap, sym, ◌∙◌, subst, arith}
+use Rattle.std.proofs.Common.{◌≡◌, ◌≢◌, ℕ, ◌+◌, ◌-◌, ◌<◌, ◌≤◌, List, length, slice_index, slice_set, refl, ap, sym, ◌∙◌, subst, arith}
 use Rattle.std.proofs.lemmas.Bool.{cases_lt}
 use Rattle.std.proofs.lemmas.List.{get_or-set_same, get_or-set_other}
 use Rattle.std.proofs.Math.Logic.{⊎_elim}
@@ -12,6 +12,14 @@ divided_first a class_of firsts zero_of zero_first b lt =
     let is : b ≡ 0 = omega arith in
     subst (λ x. (slice_index class_of x ≤ 0) × AreAlike a (slice_index firsts (slice_index class_of x)) x) (sym is)
     (rw zero_of (omega arith), λ s. rw (zero_of, zero_first) refl)
+
+-- a byte that is read as the one before it, whose class is the last
+pub alike_next : (a : List State) (class_of firsts : List ℕ) (last i : ℕ) → 0 < i → IsDivided a class_of firsts last i → slice_index class_of (i - 1) ≡ last
+    → AreAlike a (i - 1) (i - 1 + 1) → AreAlike a (slice_index firsts last) i
+alike_next a class_of firsts last i some old is same =
+    let one : i - 1 + 1 ≡ i = omega arith in
+    let before : AreAlike a (slice_index firsts last) (i - 1) = subst (λ c. AreAlike a (slice_index firsts c) (i - 1)) is (old (i - 1) (omega arith)).1 in
+    subst (AreAlike a (slice_index firsts last)) one (λ s. before s ∙ same s)
 
 module _ (a : List State) (class_of firsts : List ℕ) (last i : ℕ) (old : IsDivided a class_of firsts last i) (room : i < length class_of) where
   -- a byte more, in the last class

@@ -81,7 +81,7 @@ module _ (m : Machine) (n : ℕ) where
           inr (lt, inr (p, q, rest', (goes p (n + k)).0 (subst (λ u. AcceptsFrom m set (u ∷ p) (n + k)) same a)))
 
 module _ (old m : Machine) (made : EndsAtDecisions old m) (classes : ByteClasses) (division : IsDivision m.states classes.class_of classes.firsts classes.count)
-    (found : List Found) (lists rows : List ℕ) (built : IsBuilt m classes found lists rows) (whole : length rows ≡ length found * (classes.count + 2))
+    (found : List Found) (lists rows : List ℕ) (ending : StateSet) (built : IsBuilt m classes found lists rows ending) (whole : length rows ≡ length found * (classes.count + 2))
     (few : length found * (classes.count + 2) ≤ special) (start : ℕ) where
   abbrev n : ℕ
   n = old.index_count

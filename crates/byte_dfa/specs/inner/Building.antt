@@ -1,6 +1,6 @@
 -- What is known of a table while it is made.
 use Rattle.std.specs.Prelude.{◌≡◌, ℕ, ◌+◌, ◌*◌, ◌/◌, ◌<◌, ◌≤◌, ◌↔◌, ◌⊎◌, List, [], ◌∷◌, length, slice_index, slice_get, Some}
-use Rattle.byte_automaton.specs.Runs.{size, AcceptsFrom}
+use Rattle.byte_automaton.specs.Runs.{size, AcceptsFrom, AreEnding}
 use Rattle.byte_automaton.specs.Sets.{has_state, state_room}
 use Rattle.byte_automaton.specs.Steps.{Machine, IsReached}
 use Rattle.byte_automaton.specs.declared.state_set.StateSet.{StateSet}
@@ -55,12 +55,13 @@ abbrev pub KeepsFound : List Found → List Found → Type 0
 KeepsFound old new = (length old ≤ length new) × ((i : ℕ) (f : Found) → slice_get old i ≡ Some f → slice_get new i ≡ Some f)
 
 -- what is known of the parts of a construction
-pub record IsBuilt (m : Machine) (classes : ByteClasses) (found : List Found) (lists rows : List ℕ) : Type 0 where
+pub record IsBuilt (m : Machine) (classes : ByteClasses) (found : List Found) (lists rows : List ℕ) (ending : StateSet) : Type 0 where
   pub sets : AreFoundSets m found lists
   pub cells : AreCells m classes.firsts classes.count found lists rows
+  pub ends : AreEnding m ending
 
 abbrev pub IsSound : Machine → ByteClasses → Construction → Type 0
-IsSound m classes c = IsBuilt m classes c.found.items c.lists.items c.rows.items
+IsSound m classes c = IsBuilt m classes c.found.items c.lists.items c.rows.items c.ending
 
 -- how many numbers there are when all rows are written, with those that may be added
 abbrev pub total : ByteClasses → Construction → ℕ

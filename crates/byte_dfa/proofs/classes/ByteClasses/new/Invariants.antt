@@ -1,4 +1,4 @@
-use Rattle.std.proofs.Common.{◌≡◌, ◌<◌, length}
+use Rattle.std.proofs.Common.{◌≡◌, ◌-◌, ◌<◌, length, slice_index}
 use Rattle.byte_dfa.specs.inner.Classes.{IsDivided}
 use Rattle.byte_dfa.proofs.classes.ByteClasses.new.Given as goal
 
@@ -7,5 +7,6 @@ invariant-loop-i l = record {
   classes_len : length l.class_of ≡ 256;
   firsts_len : length l.firsts ≡ 256;
   few : l.last < l.i;
+  last : slice_index l.class_of (l.i - 1) ≡ l.last;
   divided : IsDivided l.automaton.states l.class_of l.firsts l.last l.i;
 }

@@ -1,4 +1,4 @@
-use Rattle.std.proofs.Common.{◌≡◌, ◌+◌, ◌*◌, length, true, ap, ◌∙◌, arith}
+use Rattle.std.proofs.Common.{◌≡◌, ◌+◌, ◌*◌, length, true, ap, sym, ◌∙◌, arith}
 use Rattle.byte_dfa.proofs.lemmas.Begins.{begins_kept, begins_first}
 use Rattle.byte_dfa.proofs.construction.Construction.complete.Goals as goal
 
@@ -17,6 +17,16 @@ loop-row-init c =
     let few2 = second.few in
     record {
       room = omega (arith, c.start.ensures.room, c.in_ok-states.ensures.room, c.state_count.ensures);
+      step_room = omega (
+        arith,
+        c.start.ensures.room,
+        c.in_ok-states.ensures.room,
+        c.in_ok-states.ensures.least,
+        c.state_count.ensures,
+        c.in_ok-steps.ensures.room,
+        c.in_ok-steps.ensures.least,
+        c.state_count-2.ensures,
+      );
       sound = second.sound;
       few = omega (arith, c.in_ok-built.ensures.room);
       high = omega arith;
@@ -35,6 +45,7 @@ loop-row-preserved c =
     let few = made.few going in
     record {
       room = omega (arith, inv.room, c.write_row.ensures.room);
+      step_room = c.write_row.ensures.step_room ∙ inv.step_room ∙ sym c.write_row.ensures.room;
       sound = made.sound going;
       few = omega (arith, inv.few);
       high = omega arith;

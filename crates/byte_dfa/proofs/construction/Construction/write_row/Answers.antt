@@ -14,21 +14,21 @@ loop-class-preserved c =
     let inv = l.invariant in
     let row = c.args.row in
     let longer = inv.keeps.0 in
-    let lt : row < length l.self.found.items = omega (arith, c.requires.row) in
-    let (this, here) = get_at l.self.found.items row lt in
+    let (this, first) = get_at c.args.self.now.found.items row c.requires.row in
+    let here = inv.keeps.1 row this first in
     let grows = rw c.in-Some.is at c.in_ok-made.ensures.grows in
     let (g, there, same) = rw c.in-Some.is at c.in_ok-made.ensures.number in
     let new = c.number_of.new.self in
     let e = c.entry-entry.result in
     let goes : GoesTo m this.states (slice_index classes.firsts l.class) g.states = λ y k.
-    iff_trans (c.in_ok-step.ensures.goes this here y k) (iff_sym (accepts_same m g.states c.step.new.to y k same)) in
+    iff_trans (c.take.ensures.steps m this.states (c.in_ok-row_steps.ensures.steps this first) y k) (iff_sym (accepts_same m g.states c.take.new.to y k same)) in
     let one = cell_goes m classes.firsts classes.count new.found.items new.lists.items row l.class e c.in-Some.number this g (grows.keeps.1 row this here) there (omega arith) goes (c.entry-entry.ensures g there) in
     let rows = ap length grows.rows in
     let place : length new.rows.items ≡ row * (classes.count + 2) + l.class = omega (arith, inv.place) in
     let cells = cells_push m classes.firsts classes.count new.found.items new.lists.items new.rows.items row l.class e grows.sound.cells place (omega arith) one in
     record {
-      room = c.step.ensures.room ∙ inv.room;
-      sound = rw c.in_ok-push.ensures.items record { sets = grows.sound.sets; cells = cells };
+      room = c.take.ensures.room ∙ inv.room;
+      sound = rw c.in_ok-push.ensures.items record { sets = grows.sound.sets; cells = cells; ends = grows.sound.ends };
       few = let few = grows.few in omega (arith, inv.few);
       keeps = keeps_trans c.args.self.now.found.items l.self.found.items new.found.items inv.keeps grows.keeps;
       place = rw c.in_ok-push.ensures.items (omega (arith, place, length-append new.rows.items (e ∷ [])));
@@ -82,4 +82,4 @@ returns-clause-sound c = λ _.
     let place' : length (rows ++ this.on_entry ∷ []) ≡ row * (w + 2) + (w + 1) = omega (arith, place, length-append rows (this.on_entry ∷ [])) in
     let second = cells_push m classes.firsts w found lists (rows ++ this.on_entry ∷ []) row (w + 1) this'.at_end first place' (omega arith)
     (cell_end m classes.firsts w found lists row this'.at_end this' here' refl) in
-    record { sets = inv.sound.sets; cells = rw (c.in_ok-push-3.ensures.items, c.in_ok-push-2.ensures.items) second }
+    record { sets = inv.sound.sets; cells = rw (c.in_ok-push-3.ensures.items, c.in_ok-push-2.ensures.items) second; ends = inv.sound.ends }

@@ -13,5 +13,5 @@ invariant_of-result c =
     let made = rw c.in-Some.is at c.in_ok-decided.ensures in
     let few : length built.found.items * (classes.count + 2) ≤ special = omega (arith, whole.rows, whole.few) in
     rw (c.of.ensures, c.index_count.ensures)
-    (table_is old m made classes c.new-classes.ensures.division built.found.items built.lists.items built.rows.items whole.sound whole.rows few
+    (table_is old m made classes c.new-classes.ensures.division built.found.items built.lists.items built.rows.items built.ending whole.sound whole.rows few
     (c.in-Some-complete.start * (classes.count + 2)) c.in-Some-complete.start whole.begins.set whole.begins.at refl whole.begins.leads)

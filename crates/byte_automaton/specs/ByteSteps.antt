@@ -1,0 +1,25 @@
+-- The steps by a byte from the states of a set.
+use Rattle.std.specs.Prelude.{ℕ, ◌<◌, ◌&&◌, ◌||◌, ◌==◌, ◌↔◌, Bool, false, List, [], ◌∷◌, IsTrue}
+use Rattle.byte_automaton.specs.Runs.{size, AcceptsFrom}
+use Rattle.byte_automaton.specs.Sets.{has_byte, has_state, state_room}
+use Rattle.byte_automaton.specs.Steps.{Accepts, Machine}
+use Rattle.byte_automaton.specs.declared.byte_steps.ByteSteps.{ByteSteps}
+use Rattle.byte_automaton.specs.declared.byte_steps.Step.{Step}
+use Rattle.byte_automaton.specs.declared.state_set.StateSet.{StateSet}
+
+-- some step of the list is by the byte b, and to the state t
+abbrev pub is_step_to : List Step → ℕ → ℕ → Bool
+is_step_to [] b t = false
+is_step_to (x ∷ xs) b t = (has_byte x.bytes b && (t == x.to)) || is_step_to xs b t
+
+-- the byte b leads to the state t
+abbrev pub leads_to : ByteSteps → ℕ → ℕ → Bool
+leads_to steps b t = is_step_to steps.by_some.items b t || has_state steps.by_every t
+
+-- steps have room for the states below this
+abbrev pub step_room : ByteSteps → ℕ
+step_room steps = state_room steps.by_every
+
+-- a byte and what follows it lead from the set to an end exactly if what follows leads there from a state that the byte leads to
+abbrev pub AreStepsOf : Machine → StateSet → ByteSteps → Type 0
+AreStepsOf m from steps = (b : ℕ) → b < 256 → (y : List ℕ) (k : ℕ) → AcceptsFrom m from (b ∷ y) k ↔ ((t : ℕ) × (t < size m) × IsTrue (leads_to steps b t) × Accepts m.states k t y)

@@ -1,0 +1,117 @@
+//! What each byte leads to from a set of states.
+
+ghost use Rattle.byte_automaton.specs.Sets.{state_room};
+ghost use Rattle.byte_automaton.specs.inner.StepRoom.{AreWithin};
+
+use crate::automaton::Automaton;
+use crate::byte_set::ByteSet;
+use crate::state_set::StateSet;
+use std::alloc::{AllocError, Global};
+use visits::Visits;
+
+/// A step by each byte of a set.
+#[derive(Clone, Copy)]
+struct Step {
+    bytes: ByteSet,
+    to: usize,
+}
+
+/// The steps by a byte from the states of a set.
+///
+/// [`Automaton::byte_steps`] makes them in one pass over the states. After that [`ByteSteps::take`] finds what a byte leads
+/// to in less time than [`Automaton::step`], which makes a pass for each byte.
+#[derive(Drop)]
+pub struct ByteSteps {
+    /// The states that every byte leads to.
+    by_every: StateSet,
+    /// The steps by some bytes only.
+    by_some: Vec<Step>,
+    ghost within: { AreWithin (state_room by_every) by_some.items },
+}
+
+impl ByteSteps {
+    ghost use Rattle.std.specs.Prelude.{◌≡◌, ℕ, ◌+◌, ◌<◌, ◌≤◌, ◌&&◌, ◌||◌, ◌==◌, ◌↔◌, ◌∷◌, List, false, IfOk, OnOk};
+    ghost use Rattle.byte_automaton.specs.Sets.{has_byte};
+    ghost use Rattle.byte_automaton.specs.Steps.{Machine};
+    ghost use Rattle.byte_automaton.specs.Runs.{AcceptsFrom};
+    ghost use Rattle.byte_automaton.specs.declared.state_set.StateSet.{StateSet};
+    ghost use Rattle.byte_automaton.specs.ByteSteps.{leads_to, step_room, AreStepsOf};
+
+    /// Returns no steps, with room for so many states. It takes a bit of memory for each. Returns an error if memory runs
+    /// out.
+    pub fn new(alloc: Global, states: usize) -> Result<ByteSteps, AllocError>
+        ensures room { IfOk result (λ steps. states ≤ step_room steps) }
+        ensures least { IfOk result (λ steps. step_room steps < states + 64) }
+    {
+        Ok(ByteSteps {
+            by_every: StateSet::new(alloc, states)?,
+            by_some: Vec::new(alloc),
+        })
+    }
+
+    /// Takes every step out.
+    fn clear(&mut self)
+        ensures room { step_room self.new ≡ step_room self.old }
+        ensures none { (b t : ℕ) → leads_to self.new b t ≡ false }
+    {
+        self.by_every.clear();
+        self.by_some.clear();
+    }
+
+    /// Puts in a step to a state by each byte of a set.
+    pub(crate) fn put(&mut self, bytes: &ByteSet, to: usize) -> Result<(), AllocError>
+        requires { to < step_room self.old }
+        ensures room { step_room self.new ≡ step_room self.old }
+        ensures leads { OnOk result ((b t : ℕ) → b < 256 → leads_to self.new b t ≡ ((has_byte bytes.now b && (t == to)) || leads_to self.old b t)) }
+    {
+        if bytes.is_everything() {
+            self.by_every.put(to);
+            return Ok(());
+        }
+        self.by_some.push(Step { bytes: *bytes, to })?;
+        Ok(())
+    }
+
+    /// Puts the states that a byte leads to into a set. What the set held has no effect.
+    pub fn take(&self, byte: u8, to: &mut StateSet)
+        requires { state_room to.old ≡ step_room self.now }
+        ensures room { state_room to.new ≡ state_room to.old }
+        ensures steps { (m : Machine) (from : StateSet) → AreStepsOf m from self.now → (y : List ℕ) (k : ℕ) → AcceptsFrom m from (byte ∷ y) k ↔ AcceptsFrom m to.new y k }
+    {
+        to.copy_from(&self.by_every);
+        for step in &self.by_some {
+            if step.bytes.has(byte) {
+                to.put(step.to);
+            }
+        }
+    }
+}
+
+impl Automaton {
+    ghost use Rattle.std.specs.Prelude.{◌≡◌, ◌≤◌, OnOk};
+    ghost use Rattle.byte_automaton.specs.Runs.{size};
+    ghost use Rattle.byte_automaton.specs.ByteSteps.{step_room, AreStepsOf};
+
+    /// Puts the steps by a byte from the states of a set into `into`. What `into` held has no effect. What a state of `from`
+    /// goes on to without a byte is put into `from`, before the pass comes to it. Returns an error if memory runs out.
+    ///
+    /// It may read each state, and is meant for what is made from an automaton before it is run.
+    pub fn byte_steps(&self, from: &mut StateSet, into: &mut ByteSteps) -> Result<(), AllocError>
+        requires from_room { size self.now ≤ state_room from.old }
+        requires into_room { size self.now ≤ step_room into.old }
+        ensures room { step_room into.new ≡ step_room into.old }
+        ensures steps { OnOk result (AreStepsOf self.now from.old into.new) }
+    {
+        into.clear();
+        let mut upto = self.state_count();
+        while upto > 0 {
+            let seen = from.read_below(upto, &mut Visits::new());
+            let s = seen.at;
+            if seen.is_set {
+                self.put_steps(s, from, into)?;
+            }
+            upto = s;
+        }
+        Ok(())
+    }
+}
