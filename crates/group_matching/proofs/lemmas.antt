@@ -2,6 +2,5 @@ pub mod Automata
 pub mod Groups
 pub mod Indexes
 pub mod Matching
-pub mod Keys
 pub mod Slots
 pub mod Tables

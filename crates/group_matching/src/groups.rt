@@ -7,9 +7,9 @@ ghost use Rattle.group_matching.specs.Globs.{TokenGlob, token_glob};
 ghost use Rattle.group_matching.specs.inner.Groups.{AreGroupsOf, group_count};
 
 use crate::automata::{Automata, AutomataBuilder};
-use crate::keys::{Keys, KeysBuilder};
 use glob_groups::{Group, group_of, tokens_after_prefix};
 use glob_syntax::{Options, Token};
+use path_keys::{Keys, KeysBuilder};
 use std::alloc::{AllocError, Global};
 use std::marker::Model;
 

@@ -1,11 +1,8 @@
 -- Tokens in automata, and runs.
-use Rattle.std.proofs.Common.{◌≡◌, ℕ, zero, suc, ◌+◌, ◌⊎◌, inl, inr, List, [], ◌∷◌, Option, Some, None, drop, length, refl, sym, subst, ◌∙◌, arith}
+use Rattle.std.proofs.Common.{ℕ, zero, suc, ◌+◌, ◌⊎◌, inl, inr, List, [], ◌∷◌, Option, Some, None, drop}
 use Rattle.std.specs.Prelude.{◌↔◌}
 use Rattle.std.proofs.Math.Logic.{⊎_elim}
-use Rattle.byte_automaton.specs.Steps.{State, Machine, state, skips, IsIn, Accepts, ends, by_byte, by_skip, by_out, by_stay}
-use Rattle.byte_automaton.specs.Runs.{size}
 use Rattle.byte_automaton.specs.Texts.{AllBytes}
-use Rattle.glob_automaton.specs.IndexedTokens.{IndexedTokens, SomeMatches, IsFor}
 use Rattle.glob_path.specs.PathParts.{after_position, last_component, last_position, is_separator}
 
 -- ---- the last component of a path

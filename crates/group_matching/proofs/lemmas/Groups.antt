@@ -17,13 +17,10 @@ use Rattle.glob_path.specs.PathParts.{last_component, component_extension}
 use Rattle.glob_groups.specs.Direct.{needs_automaton}
 use Rattle.glob_groups.specs.Groups.{after_prefix}
 use Rattle.group_matching.specs.Globs.{TokenGlob, is_listed, is_listed_at, states, load}
-use Rattle.std.specs.List.{flat_map}
 use Rattle.byte_table.specs.Entries.{indexes_under}
-use Rattle.byte_trie.specs.Texts.{beginnings, endings}
-use Rattle.group_matching.specs.inner.Keys.{KeyParts, keys_found, no_keys}
+use Rattle.path_keys.specs.Keys.{KeyParts, MoreIn, keys_found}
 use Rattle.group_matching.specs.inner.Automata.{AutomataParts, SlotParts, TokenLists, AreForLists, AreFor, AreFound, AddsTokens, first, machine_under, states_for, tokens_under}
 use Rattle.group_matching.specs.inner.Groups.{GroupParts, AreGroupsOf, listed_count}
-use Rattle.group_matching.proofs.lemmas.Keys.{MoreIn, none_more}
 
 -- ---- one glob more
 
@@ -95,15 +92,19 @@ keys_added globs g n old new at automata more before = record {
 abbrev pub group_parts : KeyParts → AutomataParts → GroupParts
 group_parts keys automata = record { keys = keys; automata = automata }
 
-pub key_added : (globs : List TokenGlob) (g : TokenGlob) (n : ℕ) (old new made : KeyParts) (a : AutomataParts) → n ≡ length globs → new ≡ made
-    → ((path : List ℕ) → MoreIn (keys_found old path) (keys_found made path) n (is_listed g path)) → AreGroupsOf globs (group_parts old a) → AreGroupsOf (globs ++ g ∷ []) (group_parts new a)
-key_added globs g n old new made a at is more before =
-    keys_added globs g n (group_parts old a) (group_parts new a) at refl
-    (λ path. subst (λ t. MoreIn (keys_found old path) (keys_found t path) n (is_listed g path)) (sym is) (more path)) before
+pub key_added : (globs : List TokenGlob) (g : TokenGlob) (n : ℕ) (old new : KeyParts) (a : AutomataParts) → n ≡ length globs
+    → ((path : List ℕ) → MoreIn (keys_found old path) (keys_found new path) n (is_listed g path)) → AreGroupsOf globs (group_parts old a) → AreGroupsOf (globs ++ g ∷ []) (group_parts new a)
+key_added globs g n old new a at more before = keys_added globs g n (group_parts old a) (group_parts new a) at refl more before
+
+none_more : (xs : List ℕ) (n : ℕ) (m : Bool) → m ≡ false → MoreIn xs xs n m
+none_more xs n m off = record {
+  has = λ k. (λ h. inl h, λ h. ⊎_elim {C = Contains xs k} (λ old. old) (λ new. let yes = new.1 in absurd (cc)) h);
+  count = omega arith;
+}
 
 pub silent_added : (globs : List TokenGlob) (g : TokenGlob) (n : ℕ) (old : GroupParts) → n ≡ length globs → ((path : List ℕ) → is_listed g path ≡ false)
     → AreGroupsOf globs old → AreGroupsOf (globs ++ g ∷ []) old
-silent_added globs g n old at tells before = keys_added globs g n old old at refl (λ path. subst (MoreIn (keys_found old.keys path) (keys_found old.keys path) n) (sym (tells path)) (none_more (keys_found old.keys path) n)) before
+silent_added globs g n old at tells before = keys_added globs g n old old at refl (λ path. none_more (keys_found old.keys path) n (is_listed g path) (tells path)) before
 
 -- ---- tokens more
 
@@ -240,24 +241,14 @@ by_extension_added globs g n key old new at keys tells needs adds few by_path co
 
 -- ---- no globs
 
-none_found : (path : List ℕ) (k : ℕ) → Contains (keys_found no_keys path) k → ⊥
-none_found path k h = no_index (keys_found no_keys path) k (nothing path) h
-  where
-    no_index : (xs : List ℕ) (k : ℕ) → xs ≡ [] → Contains xs k → ⊥
-    no_index xs k e (i, lt, is) = let n = ap length e in omega (arith, lt, n)
-
-    nothing : (path : List ℕ) → keys_found no_keys path ≡ []
-    nothing path = λ i. none_of (beginnings path) i ++ none_of (endings path) i
-      where
-        none_of : (qs : List (List ℕ)) → flat_map (indexes_under []) qs ≡ []
-        none_of [] = refl
-        none_of (q ∷ qs) = none_of qs
+not_in_none : (xs : List ℕ) (k : ℕ) → xs ≡ [] → Contains xs k → ⊥
+not_in_none xs k e (i, lt, is) = let n = ap length e in omega (arith, lt, n)
 
 none_listed : (path : List ℕ) (k : ℕ) → IsTrue (is_listed_at [] path k) → ⊥
 none_listed path zero h = absurd (cc)
 none_listed path (suc k) h = absurd (cc)
 
-pub no_globs : (keys : KeyParts) (a : AutomataParts) → keys ≡ no_keys → IsFor a.by_path [] → IsFor a.by_component [] → a.extensions.slots ≡ [] → a.extensions.machines ≡ []
+pub no_globs : (keys : KeyParts) (a : AutomataParts) → ((path : List ℕ) → keys_found keys path ≡ []) → IsFor a.by_path [] → IsFor a.by_component [] → a.extensions.slots ≡ [] → a.extensions.machines ≡ []
     → size a.by_path ≡ 0 → size a.by_component ≡ 0 → size a.extensions.none ≡ 0 → AreGroupsOf [] (group_parts keys a)
 no_globs keys a nil path component slots machines path_size component_size none_size = record {
   tokens = record { by_path = []; by_component = []; by_slot = λ s. [] };
@@ -267,19 +258,12 @@ no_globs keys a nil path component slots machines path_size component_size none_
     slots = subst (λ ms. AreFor ms (λ s. [])) (sym machines) (λ s d lt. absurd (omega (arith, lt)));
   };
   same = λ path k. (
-    λ h. absurd (⊎_elim {C = ⊥} (λ key. none_found path k (subst (λ t. Contains (keys_found t path) k) nil key))
+    λ h. absurd (⊎_elim {C = ⊥} (λ key. not_in_none (keys_found keys path) k (nil path) key)
         (λ some. ⊎_elim {C = ⊥} (λ none. none) (λ later. ⊎_elim {C = ⊥} (λ none. none)
         (λ under. subst (λ es. SomeMatches (tokens_under (λ s. []) es (component_extension path)) path k) slots under) later) some) h),
     λ h. absurd (none_listed path k h),
   );
-  once = λ path. none_once path;
+  once = λ path. let none = ap length (nil path) in omega (arith, none);
   size = λ path. let e = ap (λ es. option_map_or (λ s. get_or a.extensions.machines s a.extensions.none) (first (indexes_under es (component_extension path))) a.extensions.none) slots in
       let last = ap size e in omega (arith, path_size, component_size, none_size, last);
 }
-  where
-    none_once : (path : List ℕ) → length (keys_found keys path) ≤ 0
-    none_once path = subst (λ t. length (keys_found t path) ≤ 0) (sym nil) (few (keys_found no_keys path) (λ k h. none_found path k h))
-      where
-        few : (xs : List ℕ) → ((k : ℕ) → Contains xs k → ⊥) → length xs ≤ 0
-        few [] h = omega arith
-        few (x ∷ xs) h = absurd (h x (0, omega arith, refl))

@@ -11,7 +11,7 @@ use Rattle.std.proofs.lemmas.List.Sums.{sum_by-append}
 use Rattle.std.proofs.lemmas.Map.Steps.{le-length_from_below}
 use Rattle.group_matching.specs.Globs.{TokenGlob, is_listed, is_listed_at, listed}
 use Rattle.group_matching.specs.Indexes.{ContainsAllBelow}
-use Rattle.group_matching.specs.inner.Keys.{keys_found}
+use Rattle.path_keys.specs.Keys.{keys_found}
 use Rattle.group_matching.specs.inner.Automata.{AreFound, AreIdle}
 use Rattle.group_matching.specs.inner.Groups.{GroupParts, AreGroupsOf, listed_count}
 use Rattle.group_matching.proofs.lemmas.Indexes.{in_filter, passing_is_contained, contained_passes, passes_within, all_pass, all_by_length, ascending_is}

@@ -1,5 +1,5 @@
 -- Automata of tokens, for the globs that no key decides.
-use Rattle.std.specs.Prelude.{◌≡◌, ◌≢◌, ◌⊎◌, ◌↔◌, ℕ, ◌+◌, ◌<◌, ◌≤◌, IsTrue, List, [], ◌∷◌, ◌++◌, Option, Some, None, length, get_or, slice_get}
+use Rattle.std.specs.Prelude.{◌≡◌, ◌≢◌, ◌⊎◌, ◌↔◌, ℕ, ◌+◌, ◌<◌, ◌≤◌, IsTrue, List, [], ◌∷◌, ◌++◌, Option, Some, length, get_or, slice_get}
 use Rattle.std.specs.Option.{option_map_or}
 use Rattle.byte_automaton.specs.Steps.{IsIn, Machine}
 use Rattle.byte_automaton.specs.Runs.{size}

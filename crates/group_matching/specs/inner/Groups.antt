@@ -1,7 +1,7 @@
 -- What is stored to tell which globs of a list match a path.
 use Rattle.std.specs.Prelude.{◌↔◌, ◌⊎◌, ℕ, ◌≤◌, List, Contains, cond, length, sum_by, IsTrue}
 use Rattle.group_matching.specs.Globs.{TokenGlob, is_listed, is_listed_at, load}
-use Rattle.group_matching.specs.inner.Keys.{KeyParts, keys_found}
+use Rattle.path_keys.specs.Keys.{KeyParts, keys_found}
 use Rattle.group_matching.specs.inner.Automata.{AutomataParts, TokenLists, AreForLists, AreFound, states_for}
 
 -- the keys of globs, and automata for the globs without one

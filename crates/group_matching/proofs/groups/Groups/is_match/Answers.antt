@@ -1,7 +1,7 @@
 use Rattle.std.proofs.Common.{sym, subst}
 use Rattle.std.specs.Prelude.{◌≢◌, []}
 use Rattle.std.proofs.lemmas.Result.{IfOk-weaker}
-use Rattle.group_matching.specs.inner.Keys.{keys_found}
+use Rattle.path_keys.specs.Keys.{keys_found}
 use Rattle.group_matching.specs.inner.Groups.{GroupParts, AreGroupsOf}
 use Rattle.group_matching.proofs.lemmas.Groups.{group_parts}
 use Rattle.group_matching.proofs.lemmas.Matching.{some_found, some_key}

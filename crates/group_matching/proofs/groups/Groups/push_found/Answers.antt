@@ -3,7 +3,7 @@ use Rattle.std.specs.Prelude.{◌↔◌, Contains, MatchOption}
 use Rattle.std.proofs.lemmas.Result.{on_ok_weaker}
 use Rattle.byte_automaton.specs.Sets.{has_index}
 use Rattle.group_matching.specs.Globs.{listed}
-use Rattle.group_matching.specs.inner.Keys.{keys_found}
+use Rattle.path_keys.specs.Keys.{keys_found}
 use Rattle.group_matching.specs.inner.Automata.{AreIdle, IsFoundSet}
 use Rattle.group_matching.specs.inner.Groups.{GroupParts, AreGroupsOf}
 use Rattle.group_matching.proofs.lemmas.Groups.{group_parts}

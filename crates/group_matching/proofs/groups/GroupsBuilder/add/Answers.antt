@@ -1,15 +1,12 @@
-use Rattle.std.proofs.Common.{◌≡◌, ◌∷◌, ℕ, true, List, refl, sym, subst}
+use Rattle.std.proofs.Common.{◌≡◌, ℕ, true, List, refl, sym, subst}
 use Rattle.std.proofs.lemmas.Result.{on_ok_weaker}
-use Rattle.glob_automaton.specs.Takes.{slash}
 use Rattle.glob_syntax.specs.Views.{tokens_of}
 use Rattle.glob_groups.specs.declared.group.Group.{Group}
 use Rattle.glob_groups.specs.Direct.{needs_automaton}
 use Rattle.glob_groups.specs.GroupMeaning.{Tells, group_seen, runs_automaton}
-use Rattle.group_matching.specs.Globs.{token_glob}
-use Rattle.group_matching.specs.inner.Keys.{with_path, with_component, with_extension, with_beginning, with_end}
+use Rattle.group_matching.specs.Globs.{is_listed, token_glob}
 use Rattle.group_matching.specs.inner.Groups.{GroupParts, AreGroupsOf}
 use Rattle.group_matching.proofs.lemmas.Groups.{group_parts, key_added, silent_added, both_on_ok, by_path_added, by_component_added, by_extension_added}
-use Rattle.group_matching.proofs.lemmas.Keys.{path_more, component_more, extension_more, beginning_more, end_more, components_more}
 use Rattle.group_matching.proofs.groups.GroupsBuilder.add.Goals as goal
 
 pub returns-in-Silent-clause-groups : goal.returns-in-Silent-clause-groups
@@ -20,68 +17,56 @@ returns-in-Silent-clause-groups c = λ globs at before.
 pub returns-in-WholePath-clause-groups : goal.returns-in-WholePath-clause-groups
 returns-in-WholePath-clause-groups c =
     let tells = subst (λ (group : Group). (path : List ℕ) → Tells (group_seen group) c.args.options (tokens_of c.args.tokens.now) path) c.in-WholePath.is c.in_ok-group_of.ensures.tells in
-    let keys = c.self.inside.keys in
-    let key = c.in-WholePath.key.items in
+    let g = token_glob c.args.options (tokens_of c.args.tokens.now) in
     on_ok_weaker c.add_path.result
-    (λ is globs at before.
-    key_added globs (token_glob c.args.options (tokens_of c.args.tokens.now)) c.args.index keys c.add_path.new.self (with_path keys key c.args.index) c.self.inside.automata at is
-    (λ path. path_more keys key c.args.index path _ (tells path)) (subst (λ (p : GroupParts). AreGroupsOf globs p) (sym c.self.view_is) before))
-    c.add_path.ensures
+    (λ more globs at before. key_added globs g c.args.index c.self.inside.keys c.add_path.new.self c.self.inside.automata at
+    (λ path. more path (is_listed g path) (tells path)) (subst (λ (p : GroupParts). AreGroupsOf globs p) (sym c.self.view_is) before))
+    c.add_path.ensures.found
 
 pub returns-in-LastComponent-clause-groups : goal.returns-in-LastComponent-clause-groups
 returns-in-LastComponent-clause-groups c =
     let tells = subst (λ (group : Group). (path : List ℕ) → Tells (group_seen group) c.args.options (tokens_of c.args.tokens.now) path) c.in-LastComponent.is c.in_ok-group_of.ensures.tells in
-    let keys = c.self.inside.keys in
-    let key = c.in-LastComponent.key.items in
+    let g = token_glob c.args.options (tokens_of c.args.tokens.now) in
     on_ok_weaker c.add_component.result
-    (λ is globs at before.
-    key_added globs (token_glob c.args.options (tokens_of c.args.tokens.now)) c.args.index keys c.add_component.new.self (with_component keys key c.args.index) c.self.inside.automata at is
-    (λ path. component_more keys key c.args.index path _ (tells path)) (subst (λ (p : GroupParts). AreGroupsOf globs p) (sym c.self.view_is) before))
-    c.add_component.ensures
+    (λ more globs at before. key_added globs g c.args.index c.self.inside.keys c.add_component.new.self c.self.inside.automata at
+    (λ path. more path (is_listed g path) (tells path)) (subst (λ (p : GroupParts). AreGroupsOf globs p) (sym c.self.view_is) before))
+    c.add_component.ensures.found
 
 pub returns-in-Extension-clause-groups : goal.returns-in-Extension-clause-groups
 returns-in-Extension-clause-groups c =
     let tells = subst (λ (group : Group). (path : List ℕ) → Tells (group_seen group) c.args.options (tokens_of c.args.tokens.now) path) c.in-Extension.is c.in_ok-group_of.ensures.tells in
-    let keys = c.self.inside.keys in
-    let key = c.in-Extension.key.items in
+    let g = token_glob c.args.options (tokens_of c.args.tokens.now) in
     on_ok_weaker c.add_extension.result
-    (λ is globs at before.
-    key_added globs (token_glob c.args.options (tokens_of c.args.tokens.now)) c.args.index keys c.add_extension.new.self (with_extension keys key c.args.index) c.self.inside.automata at is
-    (λ path. extension_more keys key c.args.index path _ (tells path)) (subst (λ (p : GroupParts). AreGroupsOf globs p) (sym c.self.view_is) before))
-    c.add_extension.ensures
+    (λ more globs at before. key_added globs g c.args.index c.self.inside.keys c.add_extension.new.self c.self.inside.automata at
+    (λ path. more path (is_listed g path) (tells path)) (subst (λ (p : GroupParts). AreGroupsOf globs p) (sym c.self.view_is) before))
+    c.add_extension.ensures.found
 
 pub returns-in-LastComponents-clause-groups : goal.returns-in-LastComponents-clause-groups
 returns-in-LastComponents-clause-groups c =
     let tells = subst (λ (group : Group). (path : List ℕ) → Tells (group_seen group) c.args.options (tokens_of c.args.tokens.now) path) c.in-LastComponents.is c.in_ok-group_of.ensures.tells in
-    let keys = c.self.inside.keys in
-    let key = c.in-LastComponents.key.items in
+    let g = token_glob c.args.options (tokens_of c.args.tokens.now) in
     on_ok_weaker c.add_components.result
-    (λ is globs at before.
-    key_added globs (token_glob c.args.options (tokens_of c.args.tokens.now)) c.args.index keys c.add_components.new.self (with_end (with_path keys key c.args.index) (slash ∷ key) c.args.index) c.self.inside.automata at is
-    (λ path. components_more keys key c.args.index path _ (tells path)) (subst (λ (p : GroupParts). AreGroupsOf globs p) (sym c.self.view_is) before))
-    c.add_components.ensures
+    (λ more globs at before. key_added globs g c.args.index c.self.inside.keys c.add_components.new.self c.self.inside.automata at
+    (λ path. more path (is_listed g path) (tells path)) (subst (λ (p : GroupParts). AreGroupsOf globs p) (sym c.self.view_is) before))
+    c.add_components.ensures.found
 
 pub returns-in-End-clause-groups : goal.returns-in-End-clause-groups
 returns-in-End-clause-groups c =
     let tells = subst (λ (group : Group). (path : List ℕ) → Tells (group_seen group) c.args.options (tokens_of c.args.tokens.now) path) c.in-End.is c.in_ok-group_of.ensures.tells in
-    let keys = c.self.inside.keys in
-    let key = c.in-End.key.items in
+    let g = token_glob c.args.options (tokens_of c.args.tokens.now) in
     on_ok_weaker c.add_end.result
-    (λ is globs at before.
-    key_added globs (token_glob c.args.options (tokens_of c.args.tokens.now)) c.args.index keys c.add_end.new.self (with_end keys key c.args.index) c.self.inside.automata at is
-    (λ path. end_more keys key c.args.index path _ (tells path)) (subst (λ (p : GroupParts). AreGroupsOf globs p) (sym c.self.view_is) before))
-    c.add_end.ensures
+    (λ more globs at before. key_added globs g c.args.index c.self.inside.keys c.add_end.new.self c.self.inside.automata at
+    (λ path. more path (is_listed g path) (tells path)) (subst (λ (p : GroupParts). AreGroupsOf globs p) (sym c.self.view_is) before))
+    c.add_end.ensures.found
 
 pub returns-in-Beginning-clause-groups : goal.returns-in-Beginning-clause-groups
 returns-in-Beginning-clause-groups c =
     let tells = subst (λ (group : Group). (path : List ℕ) → Tells (group_seen group) c.args.options (tokens_of c.args.tokens.now) path) c.in-Beginning.is c.in_ok-group_of.ensures.tells in
-    let keys = c.self.inside.keys in
-    let key = c.in-Beginning.key.items in
+    let g = token_glob c.args.options (tokens_of c.args.tokens.now) in
     on_ok_weaker c.add_beginning.result
-    (λ is globs at before.
-    key_added globs (token_glob c.args.options (tokens_of c.args.tokens.now)) c.args.index keys c.add_beginning.new.self (with_beginning keys key c.args.index) c.self.inside.automata at is
-    (λ path. beginning_more keys key c.args.index path _ (tells path)) (subst (λ (p : GroupParts). AreGroupsOf globs p) (sym c.self.view_is) before))
-    c.add_beginning.ensures
+    (λ more globs at before. key_added globs g c.args.index c.self.inside.keys c.add_beginning.new.self c.self.inside.automata at
+    (λ path. more path (is_listed g path) (tells path)) (subst (λ (p : GroupParts). AreGroupsOf globs p) (sym c.self.view_is) before))
+    c.add_beginning.ensures.found
 
 pub returns-in-RequiredExtension-clause-groups : goal.returns-in-RequiredExtension-clause-groups
 returns-in-RequiredExtension-clause-groups c =

@@ -1,5 +1,5 @@
--- Indexes of globs under the texts that decide them.
-use Rattle.std.specs.Prelude.{◌≡◌, ℕ, ◌+◌, List, length, [], ◌∷◌, ◌++◌}
+-- Indexes under keys, and which of them a path finds.
+use Rattle.std.specs.Prelude.{◌≡◌, ℕ, ◌+◌, ◌≤◌, ◌↔◌, ◌⊎◌, Bool, cond, IsTrue, List, length, [], ◌∷◌, ◌++◌, Contains}
 use Rattle.byte_table.specs.Entries.{Entry, entry, indexes_under}
 use Rattle.byte_trie.specs.declared.side.Side.{Side}
 use Rattle.byte_trie.specs.declared.side.Side.TheVariants.{Beginning, End}
@@ -24,15 +24,6 @@ keys_found t path = indexes_under t.paths path
     ++ (indexes_under t.components (last_component path)
     ++ (indexes_under t.extensions (component_extension path)
     ++ (found (texts_at Beginning t.beginnings) path ++ found (texts_at End t.ends) path)))
-
--- how many indexes are found in tables
-abbrev pub tables_count : KeyParts → List ℕ → ℕ
-tables_count t path = length (indexes_under t.paths path) + length (indexes_under t.components (last_component path)) + length (indexes_under t.extensions (component_extension path))
-
--- the tries look at the sides that they are for
-pub record HaveSides (beginnings ends : Texts) : Type 0 where
-  pub at_beginning : beginnings.side ≡ Beginning
-  pub at_end : ends.side ≡ End
 
 -- ---- one key more
 
@@ -59,3 +50,22 @@ with_beginning t key n = record t { beginnings = t.beginnings ++ entry key n ∷
 
 abbrev pub with_end : KeyParts → List ℕ → ℕ → KeyParts
 with_end t key n = record t { ends = t.ends ++ entry key n ∷ [] }
+
+-- a `/`, and the key after it
+abbrev pub after_separator : List ℕ → List ℕ
+after_separator key = 47 ∷ key
+
+-- the key as a path, and as the last components of a longer path
+abbrev pub with_components : KeyParts → List ℕ → ℕ → KeyParts
+with_components t key n = with_end (with_path t key n) (after_separator key) n
+
+-- The new list has n in addition if `more` is true, and is then longer by at most one. Otherwise it has the same indexes, and is
+-- not longer.
+pub record MoreIn (old new : List ℕ) (n : ℕ) (more : Bool) : Type 0 where
+  pub has : (k : ℕ) → Contains new k ↔ (Contains old k ⊎ ((n ≡ k) × IsTrue more))
+  pub count : length new ≤ length old + cond more 1 0
+
+-- For the paths that the test `IsSo` holds of, the new keys find n in addition, and at most one index more than the old keys. For
+-- all others they find the same indexes, and no more of them.
+abbrev pub FindsMore : KeyParts → KeyParts → ℕ → (List ℕ → Type 0) → Type 0
+FindsMore old new n IsSo = (path : List ℕ) (more : Bool) → (IsTrue more ↔ IsSo path) → MoreIn (keys_found old path) (keys_found new path) n more

@@ -5,8 +5,8 @@ use Rattle.byte_table.specs.Entries.{indexes_under}
 use Rattle.byte_trie.specs.Texts.{found}
 use Rattle.byte_trie.specs.declared.side.Side.TheVariants.{Beginning, End}
 use Rattle.glob_path.specs.PathParts.{last_component, component_extension}
-use Rattle.group_matching.specs.inner.Keys.{texts_at}
-use Rattle.group_matching.proofs.keys.Keys.is_match.Goals as goal
+use Rattle.path_keys.specs.Keys.{texts_at}
+use Rattle.path_keys.proofs.keys.Keys.is_match.Goals as goal
 
 pub returns-then-not-is_empty-clause-some : goal.returns-then-not-is_empty-clause-some
 returns-then-not-is_empty-clause-some c = (

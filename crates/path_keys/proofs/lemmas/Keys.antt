@@ -16,18 +16,12 @@ use Rattle.byte_trie.specs.declared.side.Side.TheVariants.{Beginning, End}
 use Rattle.byte_trie.specs.Texts.{beginnings, endings, parts, found}
 use Rattle.byte_trie.specs.Laws.{IsAt}
 use Rattle.byte_trie.proofs.lemmas.Laws.{finds_exactly}
-use Rattle.glob_automaton.specs.Takes.{slash}
 use Rattle.glob_path.specs.PathParts.{last_component, component_extension}
-use Rattle.group_matching.specs.inner.Keys.{KeyParts, keys_found, texts_at, with_path, with_component, with_extension, with_beginning, with_end}
-
--- The new list has n in addition if m is true, and at most once more.
-pub record MoreIn (old new : List ℕ) (n : ℕ) (m : Bool) : Type 0 where
-  pub has : (k : ℕ) → Contains new k ↔ (Contains old k ⊎ ((n ≡ k) × IsTrue m))
-  pub count : length new ≤ length old + cond m 1 0
+use Rattle.path_keys.specs.Keys.{FindsMore, KeyParts, MoreIn, after_separator, keys_found, no_keys, texts_at, with_path, with_component, with_components, with_extension, with_beginning, with_end}
 
 -- ---- truth values
 
-pub same_truth : (a b : Bool) → (IsTrue a ↔ IsTrue b) → a ≡ b
+same_truth : (a b : Bool) → (IsTrue a ↔ IsTrue b) → a ≡ b
 same_truth true true h = refl
 same_truth true false h = sym (h.0 refl)
 same_truth false true h = h.1 refl
@@ -49,13 +43,13 @@ contains_push xs n k = (
   λ h. ⊎_elim {C = Contains (xs ++ n ∷ []) k} (λ old. Contains-append_left xs (n ∷ []) k old) (λ is. Contains-append_right xs (n ∷ []) k (0, omega arith, is)) h,
 )
 
-pub none_more : (xs : List ℕ) (n : ℕ) → MoreIn xs xs n false
+none_more : (xs : List ℕ) (n : ℕ) → MoreIn xs xs n false
 none_more xs n = record {
   has = λ k. (λ h. inl h, λ h. ⊎_elim {C = Contains xs k} (λ old. old) (λ new. let no = new.1 in absurd (cc)) h);
   count = omega arith;
 }
 
-pub more_left : (a b c : List ℕ) (n : ℕ) (m : Bool) → MoreIn a b n m → MoreIn (a ++ c) (b ++ c) n m
+more_left : (a b c : List ℕ) (n : ℕ) (m : Bool) → MoreIn a b n m → MoreIn (a ++ c) (b ++ c) n m
 more_left a b c n m more = record {
   has = λ k. (
     λ h. ⊎_elim {C = Contains (a ++ c) k ⊎ ((n ≡ k) × IsTrue m)}
@@ -68,7 +62,7 @@ more_left a b c n m more = record {
   count = omega (arith, more.count, length-append a c, length-append b c);
 }
 
-pub more_right : (c a b : List ℕ) (n : ℕ) (m : Bool) → MoreIn a b n m → MoreIn (c ++ a) (c ++ b) n m
+more_right : (c a b : List ℕ) (n : ℕ) (m : Bool) → MoreIn a b n m → MoreIn (c ++ a) (c ++ b) n m
 more_right c a b n m more = record {
   has = λ k. (
     λ h. ⊎_elim {C = Contains (c ++ a) k ⊎ ((n ≡ k) × IsTrue m)}
@@ -90,7 +84,7 @@ few_twice false true false apart same = let no = same.1 (inl refl) in absurd (cc
 few_twice false false true apart same = let no = same.1 (inr refl) in absurd (cc)
 
 -- two keys more, at most one of which finds n
-pub more_twice : (a b c : List ℕ) (n : ℕ) (m p q : Bool) → MoreIn a b n p → MoreIn b c n q → (IsTrue p → IsTrue q → ⊥) → (IsTrue m ↔ (IsTrue p ⊎ IsTrue q)) → MoreIn a c n m
+more_twice : (a b c : List ℕ) (n : ℕ) (m p q : Bool) → MoreIn a b n p → MoreIn b c n q → (IsTrue p → IsTrue q → ⊥) → (IsTrue m ↔ (IsTrue p ⊎ IsTrue q)) → MoreIn a c n m
 more_twice a b c n m p q one two apart same = record {
   has = λ k. (
     λ h. ⊎_elim {C = Contains a k ⊎ ((n ≡ k) × IsTrue m)}
@@ -115,7 +109,7 @@ with_index_more true xs n = record {
 }
 with_index_more false xs n = none_more xs n
 
-pub table_more : (es : List Entry) (key : List ℕ) (n : ℕ) (q : List ℕ) (m : Bool) → (IsTrue m ↔ (q ≡ key)) → MoreIn (indexes_under es q) (indexes_under (es ++ entry key n ∷ []) q) n m
+table_more : (es : List Entry) (key : List ℕ) (n : ℕ) (q : List ℕ) (m : Bool) → (IsTrue m ↔ (q ≡ key)) → MoreIn (indexes_under es q) (indexes_under (es ++ entry key n ∷ []) q) n m
 table_more es key n q m tells =
     let xs = indexes_under es q in
     let b = bytes_eq key q in
@@ -204,7 +198,7 @@ once_at : (side : Side) (key p : List ℕ) → IsOnce key (parts side p) (IsAt s
 once_at Beginning key p = once_at_beginning key p
 once_at End key p = once_at_end key p
 
-pub trie_more : (side : Side) (es : List Entry) (key : List ℕ) (n : ℕ) (p : List ℕ) (m : Bool) → (IsTrue m ↔ IsAt side p key)
+trie_more : (side : Side) (es : List Entry) (key : List ℕ) (n : ℕ) (p : List ℕ) (m : Bool) → (IsTrue m ↔ IsAt side p key)
     → MoreIn (found (texts_at side es) p) (found (texts_at side (es ++ entry key n ∷ [])) p) n m
 trie_more side es key n p m tells = record {
   has = λ k. (
@@ -245,11 +239,11 @@ after_components t path = indexes_under t.extensions (component_extension path) 
 abbrev after_paths : KeyParts → List ℕ → List ℕ
 after_paths t path = indexes_under t.components (last_component path) ++ after_components t path
 
-pub path_more : (t : KeyParts) (key : List ℕ) (n : ℕ) (path : List ℕ) (m : Bool) → (IsTrue m ↔ (path ≡ key)) → MoreIn (keys_found t path) (keys_found (with_path t key n) path) n m
+path_more : (t : KeyParts) (key : List ℕ) (n : ℕ) (path : List ℕ) (m : Bool) → (IsTrue m ↔ (path ≡ key)) → MoreIn (keys_found t path) (keys_found (with_path t key n) path) n m
 path_more t key n path m tells =
     more_left (indexes_under t.paths path) (indexes_under (t.paths ++ entry key n ∷ []) path) (after_paths t path) n m (table_more t.paths key n path m tells)
 
-pub component_more : (t : KeyParts) (key : List ℕ) (n : ℕ) (path : List ℕ) (m : Bool) → (IsTrue m ↔ (last_component path ≡ key))
+component_more : (t : KeyParts) (key : List ℕ) (n : ℕ) (path : List ℕ) (m : Bool) → (IsTrue m ↔ (last_component path ≡ key))
     → MoreIn (keys_found t path) (keys_found (with_component t key n) path) n m
 component_more t key n path m tells =
     let new = with_component t key n in
@@ -257,7 +251,7 @@ component_more t key n path m tells =
     (more_left (indexes_under t.components (last_component path)) (indexes_under new.components (last_component path)) (after_components t path) n m
     (table_more t.components key n (last_component path) m tells))
 
-pub extension_more : (t : KeyParts) (key : List ℕ) (n : ℕ) (path : List ℕ) (m : Bool) → (IsTrue m ↔ (component_extension path ≡ key))
+extension_more : (t : KeyParts) (key : List ℕ) (n : ℕ) (path : List ℕ) (m : Bool) → (IsTrue m ↔ (component_extension path ≡ key))
     → MoreIn (keys_found t path) (keys_found (with_extension t key n) path) n m
 extension_more t key n path m tells =
     let new = with_extension t key n in
@@ -266,7 +260,7 @@ extension_more t key n path m tells =
     (more_left (indexes_under t.extensions (component_extension path)) (indexes_under new.extensions (component_extension path)) (after_extensions t path) n m
     (table_more t.extensions key n (component_extension path) m tells)))
 
-pub beginning_more : (t : KeyParts) (key : List ℕ) (n : ℕ) (path : List ℕ) (m : Bool) → (IsTrue m ↔ IsAt Beginning path key)
+beginning_more : (t : KeyParts) (key : List ℕ) (n : ℕ) (path : List ℕ) (m : Bool) → (IsTrue m ↔ IsAt Beginning path key)
     → MoreIn (keys_found t path) (keys_found (with_beginning t key n) path) n m
 beginning_more t key n path m tells =
     let new = with_beginning t key n in
@@ -276,7 +270,7 @@ beginning_more t key n path m tells =
     (more_left (found (texts_at Beginning t.beginnings) path) (found (texts_at Beginning new.beginnings) path) (found (texts_at End t.ends) path) n m
     (trie_more Beginning t.beginnings key n path m tells))))
 
-pub end_more : (t : KeyParts) (key : List ℕ) (n : ℕ) (path : List ℕ) (m : Bool) → (IsTrue m ↔ IsAt End path key)
+end_more : (t : KeyParts) (key : List ℕ) (n : ℕ) (path : List ℕ) (m : Bool) → (IsTrue m ↔ IsAt End path key)
     → MoreIn (keys_found t path) (keys_found (with_end t key n) path) n m
 end_more t key n path m tells =
     let new = with_end t key n in
@@ -287,12 +281,12 @@ end_more t key n path m tells =
     (trie_more End t.ends key n path m tells))))
 
 -- the path is the key, or ends with `/` and the key
-pub components_more : (t : KeyParts) (key : List ℕ) (n : ℕ) (path : List ℕ) (m : Bool) → (IsTrue m ↔ ((path ≡ key) ⊎ IsAt End path (slash ∷ key)))
-    → MoreIn (keys_found t path) (keys_found (with_end (with_path t key n) (slash ∷ key) n) path) n m
+components_more : (t : KeyParts) (key : List ℕ) (n : ℕ) (path : List ℕ) (m : Bool) → (IsTrue m ↔ ((path ≡ key) ⊎ IsAt End path (after_separator key)))
+    → MoreIn (keys_found t path) (keys_found (with_components t key n) path) n m
 components_more t key n path m tells =
-    more_twice (keys_found t path) (keys_found (with_path t key n) path) (keys_found (with_end (with_path t key n) (slash ∷ key) n) path) n m whole end
+    more_twice (keys_found t path) (keys_found (with_path t key n) path) (keys_found (with_components t key n) path) n m whole end
     (path_more t key n path whole ((λ h. (bytes_decides path key).0 h), (λ e. (bytes_decides path key).1 e)))
-    (end_more (with_path t key n) (slash ∷ key) n path end (at_end, is_end)) apart
+    (end_more (with_path t key n) (after_separator key) n path end (at_end, is_end)) apart
     ((λ h. either h), (λ h. ⊎_elim {C = IsTrue m} (λ w. tells.1 (inl ((bytes_decides path key).0 w))) (λ e. tells.1 (inr (at_end e))) h))
   where
     whole : Bool
@@ -312,16 +306,48 @@ components_more t key n path m tells =
     apart : IsTrue whole → IsTrue end → ⊥
     apart w e = let off = (both whole m e).0 in absurd (cc)
 
-    at_end : IsTrue end → IsAt End path (slash ∷ key)
+    at_end : IsTrue end → IsAt End path (after_separator key)
     at_end e =
         let off = (both whole m e).0 in
-        ⊎_elim {C = IsAt End path (slash ∷ key)} (λ is. let w = (bytes_decides path key).1 is in absurd (cc)) (λ at. at) (tells.0 (both whole m e).1)
+        ⊎_elim {C = IsAt End path (after_separator key)} (λ is. let w = (bytes_decides path key).1 is in absurd (cc)) (λ at. at) (tells.0 (both whole m e).1)
 
-    longer : IsAt End path (slash ∷ key) → path ≡ key → ⊥
-    longer at is = let len = ap length at.1 in let sum = length-append at.0 (slash ∷ key) in let same = ap length is in omega (arith, len, sum, same)
+    longer : IsAt End path (after_separator key) → path ≡ key → ⊥
+    longer at is = let len = ap length at.1 in let sum = length-append at.0 (after_separator key) in let same = ap length is in omega (arith, len, sum, same)
 
-    is_end : IsAt End path (slash ∷ key) → IsTrue end
+    is_end : IsAt End path (after_separator key) → IsTrue end
     is_end at = join whole m (⊎_elim {C = whole ≡ false} (λ w. absurd (longer at ((bytes_decides path key).0 w))) (λ off. off) (true_or_false whole)) (tells.1 (inr at))
 
     either : IsTrue m → IsTrue whole ⊎ IsTrue end
     either h = ⊎_elim {C = IsTrue whole ⊎ IsTrue end} (λ w. inl w) (λ off. inr (join whole m off h)) (true_or_false whole)
+
+-- ---- no keys
+
+none_under : (qs : List (List ℕ)) → flat_map (indexes_under []) qs ≡ []
+none_under [] = refl
+none_under (q ∷ qs) = none_under qs
+
+nothing_found : (path : List ℕ) → keys_found no_keys path ≡ []
+nothing_found path = λ i. none_under (beginnings path) i ++ none_under (endings path) i
+
+pub nothing_if : (t : KeyParts) → t ≡ no_keys → (path : List ℕ) → keys_found t path ≡ []
+nothing_if t is path = subst (λ k. keys_found k path ≡ []) (sym is) (nothing_found path)
+
+-- ---- keys that are old ones and one more
+
+pub finds_path : (old new : KeyParts) (key : List ℕ) (n : ℕ) → new ≡ with_path old key n → FindsMore old new n (λ path. path ≡ key)
+finds_path old new key n is path m tells = subst (λ t. MoreIn (keys_found old path) (keys_found t path) n m) (sym is) (path_more old key n path m tells)
+
+pub finds_component : (old new : KeyParts) (key : List ℕ) (n : ℕ) → new ≡ with_component old key n → FindsMore old new n (λ path. last_component path ≡ key)
+finds_component old new key n is path m tells = subst (λ t. MoreIn (keys_found old path) (keys_found t path) n m) (sym is) (component_more old key n path m tells)
+
+pub finds_extension : (old new : KeyParts) (key : List ℕ) (n : ℕ) → new ≡ with_extension old key n → FindsMore old new n (λ path. component_extension path ≡ key)
+finds_extension old new key n is path m tells = subst (λ t. MoreIn (keys_found old path) (keys_found t path) n m) (sym is) (extension_more old key n path m tells)
+
+pub finds_beginning : (old new : KeyParts) (key : List ℕ) (n : ℕ) → new ≡ with_beginning old key n → FindsMore old new n (λ path. IsAt Beginning path key)
+finds_beginning old new key n is path m tells = subst (λ t. MoreIn (keys_found old path) (keys_found t path) n m) (sym is) (beginning_more old key n path m tells)
+
+pub finds_end : (old new : KeyParts) (key : List ℕ) (n : ℕ) → new ≡ with_end old key n → FindsMore old new n (λ path. IsAt End path key)
+finds_end old new key n is path m tells = subst (λ t. MoreIn (keys_found old path) (keys_found t path) n m) (sym is) (end_more old key n path m tells)
+
+pub finds_components : (old new : KeyParts) (key : List ℕ) (n : ℕ) → new ≡ with_components old key n → FindsMore old new n (λ path. (path ≡ key) ⊎ IsAt End path (after_separator key))
+finds_components old new key n is path m tells = subst (λ t. MoreIn (keys_found old path) (keys_found t path) n m) (sym is) (components_more old key n path m tells)

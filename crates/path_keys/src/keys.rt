@@ -1,11 +1,13 @@
-//! Globs that a text decides: the whole path, a part of it, or what it begins or ends with.
+//! Indexes under keys, and the indexes that a path finds.
 
-ghost use Rattle.std.specs.Prelude.{◌≡◌, ◌≢◌, ◌+◌, ◌*◌, ◌≤◌, ◌++◌, ◌∷◌, ◌↔◌, ◌<◌, ◌^◌, [], ℕ, List, length, map, IsTrue, MatchOption, OnOk, IfOk};
+ghost use Rattle.std.specs.Prelude.{◌≡◌, ◌≢◌, ◌+◌, ◌*◌, ◌≤◌, ◌++◌, ◌∷◌, ◌↔◌, ◌⊎◌, ◌<◌, ◌^◌, [], ℕ, List, length, map, IsTrue, MatchOption, OnOk, IfOk};
 ghost use Rattle.byte_table.specs.Entries.{indexes_under};
+ghost use Rattle.byte_trie.specs.Laws.{IsAt};
 ghost use Rattle.byte_trie.specs.Texts.{entry_of};
-ghost use Rattle.glob_automaton.specs.Takes.{slash};
+ghost use Rattle.byte_trie.specs.declared.side.Side.TheVariants.{Beginning, End};
 ghost use Rattle.glob_path.specs.PathParts.{component_extension, last_component};
-ghost use Rattle.group_matching.specs.inner.Keys.{keys_found, no_keys, tables_count, with_beginning, with_component, with_end, with_extension, with_path};
+ghost use Rattle.path_keys.specs.Keys.{FindsMore, after_separator, keys_found, no_keys, with_beginning, with_component, with_components, with_end, with_extension, with_path};
+ghost use Rattle.path_keys.specs.inner.Parts.{tables_count};
 
 use byte_table::Table;
 use byte_trie::{Side, Text, Trie};
@@ -14,7 +16,8 @@ use std::alloc::{AllocError, Global};
 use std::marker::Model;
 use visits::Visits;
 
-/// Indexes of globs, under the texts that decide the globs.
+/// Indexes under keys. A key is a whole path, the last component of a path or the extension of that, or a text that a path begins
+/// or ends with.
 #[derive(Debug)]
 pub struct Keys {
     paths: Table,
@@ -38,7 +41,8 @@ impl Drop for Keys {
 }
 
 impl Model for Keys {
-    ghost use Rattle.group_matching.specs.inner.Keys.{KeyParts, HaveSides};
+    ghost use Rattle.path_keys.specs.Keys.{KeyParts};
+    ghost use Rattle.path_keys.specs.inner.Parts.{HaveSides};
 
     ghost Value = { KeyParts };
 
@@ -192,7 +196,7 @@ impl Drop for KeysBuilder {
 impl Model for KeysBuilder {
     ghost use Rattle.std.specs.Prelude.{map};
     ghost use Rattle.byte_trie.specs.Texts.{entry_of};
-    ghost use Rattle.group_matching.specs.inner.Keys.{KeyParts};
+    ghost use Rattle.path_keys.specs.Keys.{KeyParts};
 
     ghost Value = { KeyParts };
 
@@ -208,7 +212,8 @@ impl Model for KeysBuilder {
 impl KeysBuilder {
     /// Returns a builder that nothing was added to. It allocates nothing.
     pub fn new(alloc: Global) -> KeysBuilder
-        ensures { result ≡ no_keys }
+        ensures keys { result ≡ no_keys }
+        ensures found { (path : List ℕ) → keys_found result path ≡ [] }
     {
         KeysBuilder {
             paths: Table::new(alloc),
@@ -219,48 +224,53 @@ impl KeysBuilder {
         }
     }
 
-    /// Adds the index of a glob that matches the path that is the key. Returns an error if memory runs out.
+    /// Adds an index for the path that is the key. Returns an error if memory runs out.
     pub fn add_path(&mut self, key: Vec<u8>, index: usize) -> Result<(), AllocError>
-        ensures { OnOk result (self.new ≡ with_path self.old key.items index) }
+        ensures keys { OnOk result (self.new ≡ with_path self.old key.items index) }
+        ensures found { OnOk result (FindsMore self.old self.new index (λ path. path ≡ key.items)) }
     {
         self.paths.insert(key, index)
     }
 
-    /// Adds the index of a glob that matches the paths with this last component. Returns an error if memory runs out.
+    /// Adds an index for the paths whose last component is the key. Returns an error if memory runs out.
     pub fn add_component(&mut self, key: Vec<u8>, index: usize) -> Result<(), AllocError>
-        ensures { OnOk result (self.new ≡ with_component self.old key.items index) }
+        ensures keys { OnOk result (self.new ≡ with_component self.old key.items index) }
+        ensures found { OnOk result (FindsMore self.old self.new index (λ path. last_component path ≡ key.items)) }
     {
         self.components.insert(key, index)
     }
 
-    /// Adds the index of a glob that matches the paths whose last component has this extension. Returns an error if memory runs
-    /// out.
+    /// Adds an index for the paths whose last component has the key as its extension. Returns an error if memory runs out.
     pub fn add_extension(&mut self, key: Vec<u8>, index: usize) -> Result<(), AllocError>
-        ensures { OnOk result (self.new ≡ with_extension self.old key.items index) }
+        ensures keys { OnOk result (self.new ≡ with_extension self.old key.items index) }
+        ensures found { OnOk result (FindsMore self.old self.new index (λ path. component_extension path ≡ key.items)) }
     {
         self.extensions.insert(key, index)
     }
 
-    /// Adds the index of a glob that matches the paths that begin with the key. Returns an error if memory runs out.
+    /// Adds an index for the paths that begin with the key. Returns an error if memory runs out.
     pub fn add_beginning(&mut self, key: Vec<u8>, index: usize) -> Result<(), AllocError>
-        ensures { OnOk result (self.new ≡ with_beginning self.old key.items index) }
+        ensures keys { OnOk result (self.new ≡ with_beginning self.old key.items index) }
+        ensures found { OnOk result (FindsMore self.old self.new index (λ path. IsAt Beginning path key.items)) }
     {
         self.beginnings.push(Text { bytes: key, index })?;
         Ok(())
     }
 
-    /// Adds the index of a glob that matches the paths that end with the key. Returns an error if memory runs out.
+    /// Adds an index for the paths that end with the key. Returns an error if memory runs out.
     pub fn add_end(&mut self, key: Vec<u8>, index: usize) -> Result<(), AllocError>
-        ensures { OnOk result (self.new ≡ with_end self.old key.items index) }
+        ensures keys { OnOk result (self.new ≡ with_end self.old key.items index) }
+        ensures found { OnOk result (FindsMore self.old self.new index (λ path. IsAt End path key.items)) }
     {
         self.ends.push(Text { bytes: key, index })?;
         Ok(())
     }
 
-    /// Adds the index of a glob that matches the path that is the key, and the paths that end with `/` and the key. Returns an
-    /// error if memory runs out.
+    /// Adds an index for the path that is the key, and for the paths that end with `/` and the key. Returns an error if memory runs
+    /// out.
     pub fn add_components(&mut self, key: Vec<u8>, index: usize) -> Result<(), AllocError>
-        ensures { OnOk result (self.new ≡ with_end (with_path self.old key.items index) (slash ∷ key.items) index) }
+        ensures keys { OnOk result (self.new ≡ with_components self.old key.items index) }
+        ensures found { OnOk result (FindsMore self.old self.new index (λ path. (path ≡ key.items) ⊎ IsAt End path (after_separator key.items))) }
     {
         let mut end = Vec::new(*key.allocator());
         end.push(b'/')?;

@@ -1,0 +1,9 @@
+//! Keys and paths: which indexes a path finds, by texts that are compared with it or with a part of it.
+//!
+//! [`KeysBuilder`] takes keys with their indexes, each for one part of a path. [`Keys`] looks up a path and its parts in tables,
+//! and walks through tries along it. Nothing here knows globs.
+#![tactic(auto)]
+
+mod keys;
+
+pub use keys::{Keys, KeysBuilder};
