@@ -25,7 +25,6 @@ use visits::Visits;
 ///
 /// A text leads from state to state: see [`Builder`](crate::Builder). Several things that are looked for in a text can
 /// share an automaton, with an end for each that names its index.
-#[derive(Debug)]
 pub struct Automaton {
     states: Vec<State>,
     nexts: Vec<usize>,

@@ -29,7 +29,6 @@ use std::marker::Model;
 /// ```
 ///
 /// Each call that pushes returns an error if memory runs out, and then changes nothing.
-#[derive(Debug)]
 pub struct Builder {
     states: Vec<State>,
     /// What the states go on to without a byte, one state after the other.

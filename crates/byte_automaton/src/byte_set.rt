@@ -13,7 +13,7 @@ use crate::words::{changes, clear_bit, has_bit, set_bit};
 /// let digits_but_zero = ByteSet::from_table(&is_digit).without(b'0');
 /// let either_case = ByteSet::only(b'a').with(b'A');
 /// ```
-#[derive(Clone, Copy, Debug)]
+#[derive(Clone, Copy)]
 pub struct ByteSet {
     words: [u64; 4],
 }

@@ -18,7 +18,7 @@ use std::alloc::{AllocError, Global};
 ///     from = index + 1;
 /// }
 /// ```
-#[derive(Debug, Drop)]
+#[derive(Drop)]
 pub struct IndexSet {
     words: Vec<u64>,
     ghost fits: { 64 * length words.items ≤ 2 ^ 64 },

@@ -18,7 +18,7 @@ use std::alloc::AllocError;
 ///
 /// States are numbered in the order in which they were pushed, and what a state goes on to was there before it. So numbers
 /// go down along each step.
-#[derive(Clone, Copy, Debug)]
+#[derive(Clone, Copy)]
 pub enum State {
     /// Reads a byte of the set and goes on.
     Reads(ByteSet, usize),

@@ -8,10 +8,10 @@ use visits::Visits;
 
 /// A set of states, as a bit for each.
 ///
-/// It is made once, and holds sets of states of any automaton that has at most as many states as it has room for. Apart from
-/// `Debug`, only an automaton's calls tell which states are in it. To read or clear it takes time linear in the distance between
-/// its lowest and its highest state, however much room it has.
-#[derive(PartialEq, Eq, Hash, Debug, Drop)]
+/// It is made once, and holds sets of states of any automaton that has at most as many states as it has room for. Only an
+/// automaton's calls tell which states are in it. To read or clear it takes time linear in the distance between its lowest and
+/// its highest state, however much room it has.
+#[derive(PartialEq, Eq, Hash, Drop)]
 pub struct StateSet {
     words: Vec<u64>,
     /// No lower state is in the set, so words before it are neither read nor cleared.

@@ -12,7 +12,6 @@ use crate::lists::{has_some, put_listed};
 use crate::source::Source;
 use byte_automaton::{Automaton, IndexSet};
 use std::alloc::{AllocError, Global};
-use std::fmt;
 use std::marker::Model;
 use visits::Visits;
 
@@ -71,13 +70,6 @@ impl Clone for Dfa {
             index_count: self.index_count,
             source: self.source.copy(),
         })
-    }
-}
-
-impl fmt::Debug for Dfa {
-    fn fmt<W: fmt::Write>(&self, f: &mut fmt::Formatter<W>) -> fmt::Result {
-        let size = self.size();
-        write!(f, "Dfa {{ size: {size} }}")
     }
 }
 

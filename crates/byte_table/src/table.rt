@@ -8,7 +8,6 @@ ghost use Rattle.byte_table.specs.inner.Lists.{list_under, with_index};
 use crate::entries::Entries;
 use std::alloc::{AllocError, Global};
 use std::collections::HashMap;
-use std::fmt;
 use std::marker::Model;
 use visits::Visits;
 
@@ -53,13 +52,6 @@ impl Clone for Table {
             count: self.count,
             entries: self.entries.copy(),
         })
-    }
-}
-
-impl fmt::Debug for Table {
-    fn fmt<W: fmt::Write>(&self, f: &mut fmt::Formatter<W>) -> fmt::Result {
-        let count = self.count;
-        write!(f, "Table {{ count: {count} }}")
     }
 }
 

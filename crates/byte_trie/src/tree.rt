@@ -9,7 +9,7 @@ use std::alloc::AllocError;
 use visits::Visits;
 
 /// A node: the ranges of its edges and of its indexes.
-#[derive(Clone, Copy, Debug)]
+#[derive(Clone, Copy)]
 struct Node {
     edges: usize,
     edges_end: usize,
@@ -20,7 +20,6 @@ struct Node {
 /// Nodes, each for the texts that begin with the bytes on the way to it. The root is the node 0.
 ///
 /// Edges lie in order of node and byte. Each leads to a node of its own, whose number is one more than the edge's.
-#[derive(Debug)]
 pub struct Tree {
     nodes: Vec<Node>,
     bytes: Vec<u8>,

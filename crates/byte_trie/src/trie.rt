@@ -12,7 +12,6 @@ use crate::tree::Tree;
 use crate::walk;
 use byte_table::Entries;
 use std::alloc::{AllocError, Global};
-use std::fmt;
 use std::marker::Model;
 use visits::Visits;
 
@@ -59,14 +58,6 @@ impl Clone for Trie {
             count: self.count,
             entries: self.entries.copy(),
         })
-    }
-}
-
-impl fmt::Debug for Trie {
-    fn fmt<W: fmt::Write>(&self, f: &mut fmt::Formatter<W>) -> fmt::Result {
-        let side = self.side;
-        let count = self.count;
-        write!(f, "Trie {{ side: {side:?}, count: {count} }}")
     }
 }
 

@@ -19,7 +19,7 @@ use key::{ending, literal_text, literal_text_and_slash};
 use std::alloc::{AllocError, Global};
 
 /// By what a set decides whether a glob matches a path. A key is bytes that the glob has as literals.
-#[derive(Debug, Drop)]
+#[derive(Drop)]
 pub enum Group {
     /// The glob is silent: no set returns its index.
     Silent,

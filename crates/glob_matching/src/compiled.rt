@@ -14,7 +14,7 @@ use std::marker::Model;
 use visits::Visits;
 
 /// How an automaton is run: simulated as a whole, or in parts.
-#[derive(Debug, Drop)]
+#[derive(Drop)]
 enum Form {
     Whole(Automaton),
     Divided(Parts),
@@ -22,7 +22,6 @@ enum Form {
 
 /// An automaton as it is run, in parts that are deterministic where they are not too large: running these takes less time for
 /// each byte, and no memory. Contracts see the automaton.
-#[derive(Debug)]
 pub struct Compiled {
     form: Form,
 }

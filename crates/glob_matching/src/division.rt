@@ -17,11 +17,13 @@ const MOST_STATES: usize = 2_048;
 /// The most numbers in the table and the lists of a part with one start, and for each of its states. Most that need more have
 /// a number of states that is exponential in those of the automaton.
 const MOST_NUMBERS: usize = 40_960;
+
 const NUMBERS_PER_STATE: usize = 512;
 
 /// The most numbers of a part with more starts, for each of its states, and beside that. Parts of which a joint one has very
 /// many more states than each alone are kept apart.
 const JOINT_NUMBERS_PER_STATE: usize = 80;
+
 const JOINT_NUMBERS: usize = 2_560;
 
 /// The most numbers of a part times its states. To find a number may take reading each state.

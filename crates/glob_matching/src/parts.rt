@@ -10,7 +10,6 @@ use crate::simulation;
 use byte_automaton::{Automaton, IndexSet};
 use byte_dfa::{Dfa, Source};
 use std::alloc::{AllocError, Global};
-use std::fmt;
 use std::marker::Model;
 use visits::Visits;
 
@@ -59,15 +58,6 @@ impl Clone for Parts {
             state_count: self.state_count,
             source: self.source.copy(),
         })
-    }
-}
-
-impl fmt::Debug for Parts {
-    fn fmt<W: fmt::Write>(&self, f: &mut fmt::Formatter<W>) -> fmt::Result {
-        f.debug_struct("Parts")
-            .field("tables", &self.tables)
-            .field("automata", &self.automata)
-            .finish()
     }
 }
 

@@ -79,7 +79,6 @@ pub fn ranges(alloc: Global, body: &[char]) -> Result<Vec<(char, char)>, AllocEr
 ///
 /// Contracts see whether it is negated, and its ranges in order. Its table of bytes is made once, when the class is read,
 /// and works under all options.
-#[derive(Debug)]
 pub struct Class {
     negated: bool,
     ranges: Vec<(char, char)>,

@@ -5,7 +5,7 @@ pub mod copy;
 use crate::class::Class;
 
 /// A token of a glob. A group is an `Open`, its branches with a `Comma` between each two, and a `Close`.
-#[derive(Debug, Drop)]
+#[derive(Drop)]
 pub enum Token {
     /// A plain character.
     Literal(char),

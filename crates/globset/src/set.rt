@@ -16,6 +16,7 @@ mod value;
 use crate::builder::GlobSetBuilder;
 use globset_glob::{Error, Glob};
 use std::alloc::{AllocError, Global};
+use std::fmt;
 use std::marker::Model;
 use stored::Stored;
 
@@ -32,7 +33,6 @@ use stored::Stored;
 /// assert_eq!(rt; set.matches(alloc, "src/a.c")?.as_slice(), [0, 1].as_slice());
 /// assert!(rt; !set.matches_all("a.c")?);
 /// ```
-#[derive(Debug)]
 pub struct GlobSet {
     stored: Option<Stored>,
 }
@@ -156,6 +156,16 @@ impl Clone for GlobSet {
         match GlobSet::clone(self) {
             Ok(set) => Ok(set),
             Err(_) => Err(AllocError),
+        }
+    }
+}
+
+/// `GlobSet { globs: [..] }`, with the globs in order.
+impl fmt::Debug for GlobSet {
+    fn fmt<W: fmt::Write>(&self, f: &mut fmt::Formatter<W>) -> fmt::Result {
+        match &self.stored {
+            Some(stored) => stored.fmt(f),
+            None => f.write_str("GlobSet { globs: [] }"),
         }
     }
 }

@@ -25,7 +25,6 @@ use visits::Visits;
 
 /// Automata for globs, by the part of a path that they are run on: the whole path, its last component, or the whole path if its
 /// last component has some extension.
-#[derive(Debug)]
 pub struct Automata {
     by_path: Compiled,
     by_component: Compiled,

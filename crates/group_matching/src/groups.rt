@@ -14,7 +14,6 @@ use std::alloc::{AllocError, Global};
 use std::marker::Model;
 
 /// A list of globs, each in its group. The index of a glob is its position in the list.
-#[derive(Debug)]
 pub struct Groups {
     pub(crate) keys: Keys,
     pub(crate) automata: Automata,

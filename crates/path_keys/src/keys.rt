@@ -18,7 +18,6 @@ use visits::Visits;
 
 /// Indexes under keys. A key is a whole path, the last component of a path or the extension of that, or a text that a path begins
 /// or ends with.
-#[derive(Debug)]
 pub struct Keys {
     paths: Table,
     components: Table,

@@ -3,7 +3,6 @@
 //! A function that makes a value hands a reference to it to another one, in its last expression, and a `match` only calls such
 //! functions. So a value is dropped at one place alone, and the functions are proved in little time.
 
-mod automata;
 mod candidates;
 mod errors;
 mod globs;
@@ -54,7 +53,7 @@ fn shown(
         "ValueError" => value_errors::value_error(alloc, call, with),
         "GlobSet" => sets::set(alloc, call, globs, set, with),
         "GlobSetBuilder" => set_builders::builder(alloc, call, globs),
-        _ => automata::automaton(alloc, kind, call),
+        _ => unknown(),
     }
 }
 

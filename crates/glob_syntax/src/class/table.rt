@@ -7,7 +7,7 @@ ghost use Rattle.glob_syntax.specs.inner.ClassTable.{IsTableOf, IsPlainTable, me
 use std::alloc::{AllocError, Global};
 
 /// How the ranges of a class contain a byte.
-#[derive(Clone, Copy, Debug)]
+#[derive(Clone, Copy)]
 pub enum Membership {
     /// Not at all.
     Absent,

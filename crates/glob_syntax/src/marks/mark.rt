@@ -10,7 +10,7 @@ use crate::fault::Fault;
 use crate::options::Options;
 
 /// A mark of a glob's text.
-#[derive(Clone, Copy, Debug)]
+#[derive(Clone, Copy)]
 pub enum Mark<'a> {
     /// A plain character, escaped or not.
     Char { escaped: bool, c: char },

@@ -8,10 +8,10 @@ ghost use Rattle.group_matching.specs.Indexes.{ContainsAllBelow};
 
 use globset_glob::{Candidate, Error, Glob, Visits, options_of, tokens_of};
 use group_matching::{Groups, GroupsBuilder};
+use std::fmt;
 use std::marker::Model;
 
 /// The globs of a set, and the groups that decide which of them match a path. The index of a glob is its position.
-#[derive(Debug)]
 pub struct Stored {
     globs: Vec<Glob>,
     groups: Groups,
@@ -121,5 +121,14 @@ impl Stored {
             globs,
             groups: self.groups.clone()?,
         })
+    }
+}
+
+/// Only the globs: the groups can be large, and follow from them.
+impl fmt::Debug for Stored {
+    fn fmt<W: fmt::Write>(&self, f: &mut fmt::Formatter<W>) -> fmt::Result {
+        f.debug_struct("GlobSet")
+            .field("globs", &self.globs)
+            .finish()
     }
 }

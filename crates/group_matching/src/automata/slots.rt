@@ -19,7 +19,6 @@ use std::marker::Model;
 use visits::Visits;
 
 /// An automaton for each extension that some glob requires. The slot of an extension is the position of its automaton.
-#[derive(Debug)]
 pub struct Slots {
     slots: Table,
     automata: Vec<Compiled>,

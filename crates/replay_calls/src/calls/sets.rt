@@ -1,6 +1,6 @@
 //! Calls on sets.
 
-use crate::calls::{answer, copied, debugged, displayed, unknown};
+use crate::calls::{answer, debugged, displayed, unknown};
 use anyhow::Result;
 use globset::{Candidate, Error, Glob, GlobSet, Visits};
 use rows::list;
@@ -11,7 +11,7 @@ pub fn set(alloc: Global, call: &str, globs: &[Glob], set: &GlobSet, path: &str)
     match call {
         "len" => displayed(alloc, &set.len()),
         "is_empty" => answer(alloc, set.is_empty()),
-        "Debug" => debug(alloc, set),
+        "Debug" => debugged(alloc, set),
         "new" => of_globs(alloc, globs, path),
         "new rev" => of_globs_from_last(alloc, globs, path),
         "empty" => matches(alloc, &GlobSet::empty(), path),
@@ -20,12 +20,6 @@ pub fn set(alloc: Global, call: &str, globs: &[Glob], set: &GlobSet, path: &str)
         "Clone" => std_copy(alloc, set, path),
         _ => asked(alloc, call, set, path),
     }
-}
-
-/// Returns the first word of what is shown.
-fn debug(alloc: Global, set: &GlobSet) -> Result<String> {
-    let shown = debugged(alloc, set)?;
-    copied(alloc, shown.as_str().split(' ').next().unwrap_or(""))
 }
 
 fn of_globs(alloc: Global, globs: &[Glob], path: &str) -> Result<String> {
