@@ -94,6 +94,9 @@ impl Trie {
         ensures err { OnErr result ((rest : List ℕ) × (into.new.items ++ rest ≡ into.old.items ++ found self.now path.now)) }
         ensures visits { visits.new ≤ visits.old + (length path.now + 1) }
     {
+        if self.count == 0 {
+            return Ok(());
+        }
         walk::find(&self.tree, self.side, path, into, visits)
     }
 
@@ -104,6 +107,9 @@ impl Trie {
         ensures some { IsTrue result ↔ (found self.now path.now ≢ []) }
         ensures visits { visits.new ≤ visits.old + (length path.now + 1) }
     {
+        if self.count == 0 {
+            return false;
+        }
         walk::has_some(&self.tree, self.side, path, visits)
     }
 
@@ -114,6 +120,9 @@ impl Trie {
         ensures count { result ≡ length (found self.now path.now) }
         ensures visits { visits.new ≤ visits.old + (length path.now + 1) }
     {
+        if self.count == 0 {
+            return 0;
+        }
         walk::count(&self.tree, self.side, path, visits)
     }
 }

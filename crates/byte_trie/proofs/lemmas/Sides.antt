@@ -134,3 +134,11 @@ one_part End p k = omega (arith, ap (occurrences k) (reversed_endings p), occurr
 -- no text is found twice
 pub found_within : (t : Texts) (p : List ℕ) → length (found t p) ≤ length t.entries
 found_within t p = found_at_most (parts t.side p) (one_part t.side p) t.entries
+
+found_in_none : (ps : List (List ℕ)) → flat_map (indexes_under []) ps ≡ []
+found_in_none [] = refl
+found_in_none (p ∷ ps) = found_in_none ps
+
+pub found_nothing : (t : Tree) (side : Side) (count : ℕ) (entries : List Entry) → Holds t side count entries → count ≡ 0 → (p : List ℕ) → found (record { side = side; entries = entries }) p ≡ []
+found_nothing t side count [] h none p = found_in_none (parts side p)
+found_nothing t side count (e ∷ es) h none p = absurd (omega (arith, h.counted, none))
