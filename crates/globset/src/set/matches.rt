@@ -1,6 +1,6 @@
 //! The indexes of the globs of a set that match a path.
 
-ghost use Rattle.std.specs.Prelude.{◌≡◌, ◌+◌, ◌≤◌, [], IfOk, IfErr, OnOk, OnErr};
+ghost use Rattle.std.specs.Prelude.{◌≡◌, ◌+◌, ◌≤◌, [], IfOk, IfErr, IsOk, OnOk, OnErr};
 ghost use Rattle.globset_glob.specs.Errors.{out_of_memory};
 ghost use Rattle.globset.specs.Answer.{answer};
 ghost use Rattle.globset.specs.SetValue.{set_globs};
@@ -13,17 +13,18 @@ use std::alloc::Global;
 impl GlobSet {
     /// Returns the indexes, ascending, of the globs that match the path. Silent globs are left out.
     ///
-    /// Returns an error if memory runs out, and no other.
+    /// Returns an error if memory runs out, and no other. It needs no memory if the set has no globs.
     pub fn matches<P: AsPath>(&self, alloc: Global, path: P) -> Result<Vec<usize>, Error>
         ensures ok { IfOk result (λ v. v.items ≡ answer (set_globs self.now) (P.text path)) }
         ensures err { IfErr result (λ e. e ≡ out_of_memory) }
+        ensures empty { set_globs self.now ≡ [] → IsOk result }
     {
         self.matches_candidate(alloc, &Candidate::new(path.path_text()))
     }
 
     /// Returns the indexes, ascending, of the globs that match the candidate's path. Silent globs are left out.
     ///
-    /// Returns an error if memory runs out, and no other.
+    /// Returns an error if memory runs out, and no other. It needs no memory if the set has no globs.
     pub fn matches_candidate(
         &self,
         alloc: Global,
@@ -31,6 +32,7 @@ impl GlobSet {
     ) -> Result<Vec<usize>, Error>
         ensures ok { IfOk result (λ v. v.items ≡ answer (set_globs self.now) path.now) }
         ensures err { IfErr result (λ e. e ≡ out_of_memory) }
+        ensures empty { set_globs self.now ≡ [] → IsOk result }
     {
         let mut indexes = Vec::new(alloc);
         self.matches_candidate_into(path, &mut indexes)?;
@@ -39,10 +41,11 @@ impl GlobSet {
 
     /// Replaces the vector's items by the indexes that [`GlobSet::matches`] returns. The vector's capacity is reused.
     ///
-    /// Returns an error if memory runs out, and no other. The vector is then empty.
+    /// Returns an error if memory runs out, and no other; the vector is then empty. It needs no memory if the set has no globs.
     pub fn matches_into<P: AsPath>(&self, path: P, into: &mut Vec<usize>) -> Result<(), Error>
         ensures ok { OnOk result (into.new.items ≡ answer (set_globs self.now) (P.text path)) }
         ensures err { IfErr result (λ e. e ≡ out_of_memory) }
+        ensures empty { set_globs self.now ≡ [] → IsOk result }
         ensures cleared { OnErr result (into.new.items ≡ []) }
     {
         self.matches_candidate_into(&Candidate::new(path.path_text()), into)
@@ -51,7 +54,7 @@ impl GlobSet {
     /// Replaces the vector's items by the indexes that [`GlobSet::matches_candidate`] returns. The vector's capacity is
     /// reused.
     ///
-    /// Returns an error if memory runs out, and no other. The vector is then empty.
+    /// Returns an error if memory runs out, and no other; the vector is then empty. It needs no memory if the set has no globs.
     pub fn matches_candidate_into(
         &self,
         path: &Candidate<'_>,
@@ -59,6 +62,7 @@ impl GlobSet {
     ) -> Result<(), Error>
         ensures ok { OnOk result (into.new.items ≡ answer (set_globs self.now) path.now) }
         ensures err { IfErr result (λ e. e ≡ out_of_memory) }
+        ensures empty { set_globs self.now ≡ [] → IsOk result }
         ensures cleared { OnErr result (into.new.items ≡ []) }
     {
         let mut visits = Visits::new();
@@ -72,7 +76,7 @@ impl GlobSet {
     /// four tables and two tries, and runs at most three automata, each once. If one of these has states, the call takes a bit of
     /// memory for each glob, and two bits for each state of those that are not deterministic. The vector grows for the indexes.
     ///
-    /// Returns an error if memory runs out, and no other. The vector is then empty.
+    /// Returns an error if memory runs out, and no other; the vector is then empty. It needs no memory if the set has no globs.
     pub fn matches_visits(
         &self,
         path: &Candidate<'_>,
@@ -81,6 +85,7 @@ impl GlobSet {
     ) -> Result<(), Error>
         ensures ok { OnOk result (into.new.items ≡ answer (set_globs self.now) path.now) }
         ensures err { IfErr result (λ e. e ≡ out_of_memory) }
+        ensures empty { set_globs self.now ≡ [] → IsOk result }
         ensures cleared { OnErr result (into.new.items ≡ []) }
         ensures visits { visits.new ≤ visits.old + most_set_visits (set_globs self.now) path.now }
         ensures none { set_globs self.now ≡ [] → visits.new ≡ visits.old }
