@@ -22,21 +22,21 @@ const NUMBERS_PER_STATE: usize = 512;
 
 /// The most numbers of a part with more starts, for each of its states, and beside that. Parts of which a joint one has very
 /// many more states than each alone are kept apart.
-const JOINT_NUMBERS_PER_STATE: usize = 80;
+const JOINT_NUMBERS_PER_STATE: usize = 96;
 
-const JOINT_NUMBERS: usize = 2_560;
+const JOINT_NUMBERS: usize = 2_048;
 
 /// The most numbers of a part times its states. To find a number may take reading each state.
 const MOST_READS: usize = 1 << 25;
 
-/// The most numbers of all parts.
-const MOST_NUMBERS_TOGETHER: usize = 1 << 22;
+/// The most numbers of all parts, with those that are given up.
+const MOST_NUMBERS_TOGETHER: usize = 1 << 21;
 
 /// The parts of an automaton so far.
 struct Division {
     tables: Vec<Dfa>,
     automata: Vec<Automaton>,
-    /// How many numbers the tables and the lists of further parts may have.
+    /// How many numbers may still be made.
     room: usize,
 }
 
@@ -59,6 +59,8 @@ struct Part {
     high: usize,
     /// The first start behind it.
     next: usize,
+    /// How many starts to try after it.
+    count: usize,
 }
 
 /// Returns the parts of an automaton, or `None` if a step leads from one to another. Returns an error if memory runs out.
@@ -81,17 +83,12 @@ pub fn divided(alloc: Global, automaton: &Automaton) -> Result<Option<Parts>, Al
                     return Ok(None);
                 }
                 high = part.high;
-                let taken = part.next - first;
-                count = if taken < count {
-                    taken
-                } else {
-                    taken.saturating_mul(2)
-                };
                 first = part.next;
+                count = part.count;
             }
             None => {
-                count = 1;
                 first += 1;
+                count = 1;
             }
         }
     }
@@ -114,10 +111,10 @@ impl Division {
         }
     }
 
-    /// Returns a deterministic part that begins at a state, with at most `most` starts from `first` on: that many, or half
-    /// of them, and so on. Returns `None` if it would be too large even with one start.
+    /// Returns a deterministic part that begins at a state, with at most `most` starts from `first` on: that many, or half of
+    /// them, and so on. Returns `None` if it would be too large even with one start.
     fn next_part(
-        &self,
+        &mut self,
         alloc: Global,
         automaton: &Automaton,
         low: usize,
@@ -129,16 +126,21 @@ impl Division {
         ensures some { IfOk result (λ made. IfSome made (λ part. low < part.high)) }
         ensures within { IfOk result (λ made. IfSome made (λ part. part.high ≤ size automaton.now)) }
         ensures next { IfOk result (λ made. IfSome made (λ part. first < part.next)) }
+        ensures tables { self.new.tables ≡ self.old.tables }
+        ensures automata { self.new.automata ≡ self.old.automata }
     {
         let mut count = most.min(automaton.starts().len() - first);
         while count > 0 {
             let high = border(automaton, first + count);
-            let table = self.table_of(alloc, automaton, low, high, count == 1)?;
+            let budget = budget(high.saturating_sub(low), count);
+            let table = self.table_of(alloc, automaton, low, high, budget)?;
             if let Some(table) = table {
+                let count_after = count_after(count, most, table.size(), budget);
                 return Ok(Some(Part {
                     table,
                     high,
                     next: first + count,
+                    count: count_after,
                 }));
             }
             count /= 2;
@@ -146,27 +148,35 @@ impl Division {
         Ok(None)
     }
 
-    /// Returns a deterministic automaton of the states from `low` on and below `high`, if it stays within the limits.
+    /// Returns a deterministic automaton of the states from `low` on and below `high`, of at most `budget` numbers, if there
+    /// is room for so many.
     fn table_of(
-        &self,
+        &mut self,
         alloc: Global,
         automaton: &Automaton,
         low: usize,
         high: usize,
-        is_single: bool,
+        budget: usize,
     ) -> Result<Option<Dfa>, AllocError>
         requires { high ≤ size automaton.now }
         ensures part { IfOk result (λ made. IfSome made (λ table. IsPart automaton.now low high table.source)) }
         ensures some { IfOk result (λ made. IfSome made (λ table. low < high)) }
+        ensures tables { self.new.tables ≡ self.old.tables }
+        ensures automata { self.new.automata ≡ self.old.automata }
     {
-        let budget = budget(high.saturating_sub(low), is_single);
         if low >= high || budget == 0 || budget > self.room {
             return Ok(None);
         }
-        match automaton.part(low, high)? {
-            Some(part) => Dfa::new(alloc, &part, budget),
-            None => Ok(None),
-        }
+        let Some(part) = automaton.part(low, high)? else {
+            return Ok(None);
+        };
+        let table = Dfa::new(alloc, &part, budget)?;
+        // A table that was given up took as long to make as one that is kept.
+        self.room -= match &table {
+            Some(table) => table.size().min(budget),
+            None => budget,
+        };
+        Ok(table)
     }
 
     /// Adds the deterministic part from `low` on and below `high`, and before it what lies between `from` and `low`. Returns
@@ -188,7 +198,6 @@ impl Division {
         if !self.simulate(automaton, from, low)? {
             return Ok(false);
         }
-        self.room = self.room.saturating_sub(table.size());
         self.tables.push(table)?;
         Ok(true)
     }
@@ -244,15 +253,25 @@ fn border(automaton: &Automaton, count: usize) -> usize
     starts[count - 1] + 1
 }
 
-/// Returns the most numbers that a part may have, of so many states, if it has one start or more.
-fn budget(states: usize, is_single: bool) -> usize {
+/// Returns the most numbers that a part of so many states and starts may have.
+fn budget(states: usize, starts: usize) -> usize {
     if states == 0 || states > MOST_STATES {
         return 0;
     }
-    let budget = if is_single {
+    let budget = if starts == 1 {
         (NUMBERS_PER_STATE * states).min(MOST_NUMBERS)
     } else {
         JOINT_NUMBERS_PER_STATE * states + JOINT_NUMBERS
     };
     budget.min(MOST_READS / states)
+}
+
+/// Returns how many starts to try after a part with `count` of them, of which at most `most` were tried. It is twice as many
+/// if the part has at most half of the numbers that it may have.
+fn count_after(count: usize, most: usize, numbers: usize, budget: usize) -> usize {
+    if count < most || numbers > budget / 2 {
+        count
+    } else {
+        count.saturating_mul(2)
+    }
 }
