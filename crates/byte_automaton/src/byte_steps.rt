@@ -88,24 +88,30 @@ impl ByteSteps {
 }
 
 impl Automaton {
-    ghost use Rattle.std.specs.Prelude.{◌≡◌, ◌≤◌, OnOk};
+    ghost use Rattle.std.specs.Prelude.{◌≡◌, ◌+◌, ◌≤◌, OnOk};
     ghost use Rattle.byte_automaton.specs.Runs.{size};
     ghost use Rattle.byte_automaton.specs.ByteSteps.{step_room, AreStepsOf};
 
     /// Puts the steps by a byte from the states of a set into `into`. What `into` held has no effect. What a state of `from`
     /// goes on to without a byte is put into `from`, before the pass comes to it. Returns an error if memory runs out.
     ///
-    /// It may read each state, and is meant for what is made from an automaton before it is run.
-    pub fn byte_steps(&self, from: &mut StateSet, into: &mut ByteSteps) -> Result<(), AllocError>
+    /// It reads each state at most once, in one pass, and is one visit for each.
+    pub fn byte_steps(
+        &self,
+        from: &mut StateSet,
+        into: &mut ByteSteps,
+        visits: &mut Visits,
+    ) -> Result<(), AllocError>
         requires from_room { size self.now ≤ state_room from.old }
         requires into_room { size self.now ≤ step_room into.old }
         ensures room { step_room into.new ≡ step_room into.old }
         ensures steps { OnOk result (AreStepsOf self.now from.old into.new) }
+        ensures visits { visits.new ≤ visits.old + size self.now }
     {
         into.clear();
         let mut upto = self.state_count();
         while upto > 0 {
-            let seen = from.read_below(upto, &mut Visits::new());
+            let seen = from.read_below(upto, visits);
             let s = seen.at;
             if seen.is_set {
                 self.put_steps(s, from, into)?;

@@ -250,7 +250,7 @@ impl Construction {
         ensures steps { OnOk result ((f : Found) → slice_get self.now.found.items row ≡ Some f → AreStepsOf automaton.now f.states into.new) }
     {
         let mut from = self.found[row].states.clone()?;
-        automaton.byte_steps(&mut from, into)?;
+        automaton.byte_steps(&mut from, into, &mut Visits::new())?;
         Ok(())
     }
 
