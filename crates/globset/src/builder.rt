@@ -75,10 +75,7 @@ impl GlobSetBuilder {
         ensures ok { IfOk result (λ b. b ≡ self.now) }
         ensures err { IfErr result (λ e. e ≡ out_of_memory) }
     {
-        let mut pats = Vec::with_capacity(*self.pats.allocator(), self.pats.len())?;
-        for glob in &self.pats {
-            pats.push(glob.clone()?)?;
-        }
+        let pats = self.pats.clone()?;
         Ok(GlobSetBuilder { pats })
     }
 

@@ -1,12 +1,14 @@
 //! Which globs of a list match a path.
 
-ghost use Rattle.std.specs.Prelude.{◌≡◌, ◌≢◌, ◌+◌, ◌≤◌, ◌<◌, ◌↔◌, ◌⊎◌, [], List, ℕ, IfOk, IsOk, OnOk, OnErr, IsTrue, Contains, filter, length};
+ghost use Rattle.std.specs.Prelude.{◌≡◌, ◌≢◌, ◌+◌, ◌*◌, ◌++◌, ◌≤◌, ◌<◌, ◌↔◌, ◌⊎◌, [], List, ℕ, IfOk, IsOk, OnOk, OnErr, IsTrue, Contains, filter, length};
 ghost use Rattle.std.specs.List.{range_with_len};
 ghost use Rattle.std.specs.List.Sorted.{IsStrictlyIncreasing};
 ghost use Rattle.byte_automaton.specs.Sets.{has_index, index_room};
 ghost use Rattle.group_matching.specs.Globs.{TokenGlob, listed, load, most_visits};
 ghost use Rattle.group_matching.specs.Indexes.{ContainsAllBelow};
+ghost use Rattle.group_matching.specs.inner.Automata.{AreIdle, IsFoundSet};
 ghost use Rattle.group_matching.specs.inner.Groups.{AreGroupsOf, group_count};
+ghost use Rattle.path_keys.specs.Keys.{keys_found};
 
 use crate::groups::Groups;
 use byte_automaton::IndexSet;
@@ -73,15 +75,37 @@ impl Groups {
         ensures memory { (globs : List TokenGlob) → AreGroupsOf globs self.now → load globs path.now ≡ 0 → IsOk result }
         ensures visits { (globs : List TokenGlob) → AreGroupsOf globs self.now → visits.new ≤ visits.old + most_visits globs path.now }
     {
-        let count = self.automata.index_count();
-        let Some(found) = self.automata.found(alloc, path.path(), visits)? else {
-            return Ok(self.keys.count_found(path, visits) == Some(count));
-        };
+        match self.automata.found(alloc, path.path(), visits)? {
+            Some(found) => self.finds_all(alloc, &found, path, visits),
+            None => Ok(self.keys_are_all(path, visits)),
+        }
+    }
+
+    /// Returns whether every index is found, if no automaton has to be run.
+    fn keys_are_all(&self, path: &Candidate<'_>, visits: &mut Visits) -> bool
+        requires { AreIdle self.now.automata path.now }
+        ensures all { (globs : List TokenGlob) → AreGroupsOf globs self.now → length globs ≡ group_count self.now → IsTrue result ↔ ContainsAllBelow (listed globs path.now) (length globs) }
+        ensures visits { visits.new ≤ visits.old + (3 + 2 * (length path.now + 1)) }
+    {
+        self.keys.count_found(path, visits) == Some(self.automata.index_count())
+    }
+
+    /// Returns whether every index is found, where automata found those of a set. Returns an error if memory runs out.
+    fn finds_all(
+        &self,
+        alloc: Global,
+        found: &IndexSet,
+        path: &Candidate<'_>,
+        visits: &mut Visits,
+    ) -> Result<bool, AllocError>
+        requires { IsFoundSet self.now.automata path.now found.now }
+        ensures all { IfOk result (λ yes. (globs : List TokenGlob) → AreGroupsOf globs self.now → length globs ≡ group_count self.now → IsTrue yes ↔ ContainsAllBelow (listed globs path.now) (length globs)) }
+        ensures visits { visits.new ≤ visits.old + (3 + 2 * (length path.now + 1)) }
+    {
         let mut indexes = Vec::new(alloc);
-        push_indexes(&found, count, &mut indexes)?;
-        self.keys.push_found(path, &mut indexes, visits)?;
+        self.push_with(found, path, &mut indexes, visits)?;
         merge(&mut indexes);
-        Ok(indexes.len() == count)
+        Ok(indexes.len() == self.automata.index_count())
     }
 
     /// Pushes the indexes onto an empty vector, in no order. If memory runs out, some of them are pushed.
@@ -96,9 +120,25 @@ impl Groups {
         ensures found { OnOk result ((globs : List TokenGlob) → AreGroupsOf globs self.now → length globs ≡ group_count self.now → (k : ℕ) → Contains into.new.items k ↔ Contains (listed globs path.now) k) }
         ensures visits { (globs : List TokenGlob) → AreGroupsOf globs self.now → visits.new ≤ visits.old + most_visits globs path.now }
     {
-        if let Some(found) = self.automata.found(alloc, path.path(), visits)? {
-            push_indexes(&found, self.automata.index_count(), into)?;
+        match self.automata.found(alloc, path.path(), visits)? {
+            Some(found) => self.push_with(&found, path, into, visits),
+            None => self.keys.push_found(path, into, visits),
         }
+    }
+
+    /// Pushes onto an empty vector the indexes of a set and those that keys find. If memory runs out, some of them are pushed.
+    fn push_with(
+        &self,
+        found: &IndexSet,
+        path: &Candidate<'_>,
+        into: &mut Vec<usize>,
+        visits: &mut Visits,
+    ) -> Result<(), AllocError>
+        requires { into.old.items ≡ [] }
+        ensures pushed { OnOk result (into.new.items ≡ filter (has_index found.now) (range_with_len 0 (group_count self.now)) ++ keys_found self.now.keys path.now) }
+        ensures visits { visits.new ≤ visits.old + (3 + 2 * (length path.now + 1)) }
+    {
+        push_indexes(found, self.automata.index_count(), into)?;
         self.keys.push_found(path, into, visits)
     }
 }

@@ -4,10 +4,12 @@ ghost use Rattle.std.specs.Prelude.{◌≡◌, ◌≢◌, ◌↔◌, [], ℕ, �
 ghost use Rattle.globset_glob.specs.Errors.{out_of_memory};
 ghost use Rattle.globset.specs.Answer.{answer};
 ghost use Rattle.globset.specs.Work.{load, most_set_visits};
+ghost use Rattle.globset.specs.inner.StoredGlobs.{AreStored};
 ghost use Rattle.group_matching.specs.Indexes.{ContainsAllBelow};
 
 use globset_glob::{Candidate, Error, Glob, Visits, options_of, tokens_of};
 use group_matching::{Groups, GroupsBuilder};
+use std::alloc::{AllocError, Global};
 use std::fmt;
 use std::marker::Model;
 
@@ -45,15 +47,8 @@ impl Stored {
         ensures ok { IfOk result (λ s. s ≡ globs.items) }
         ensures err { IfErr result (λ e. e ≡ out_of_memory) }
     {
-        let alloc = *globs.allocator();
-        let mut builder = GroupsBuilder::new(alloc, globs.len());
-        for (index, glob) in globs.iter().enumerate() {
-            builder.add(alloc, options_of(glob), tokens_of(glob), index)?;
-        }
-        Ok(Stored {
-            groups: builder.finish(alloc)?,
-            globs,
-        })
+        let groups = groups_of(*globs.allocator(), &globs)?;
+        Ok(Stored { globs, groups })
     }
 
     /// Returns the number of globs.
@@ -113,15 +108,21 @@ impl Stored {
         ensures ok { IfOk result (λ s. s ≡ self.now) }
         ensures err { IfErr result (λ e. e ≡ out_of_memory) }
     {
-        let mut globs = Vec::with_capacity(*self.globs.allocator(), self.globs.len())?;
-        for glob in &self.globs {
-            globs.push(glob.clone()?)?;
-        }
-        Ok(Stored {
-            globs,
-            groups: self.groups.clone()?,
-        })
+        let globs = self.globs.clone()?;
+        let groups = self.groups.clone()?;
+        Ok(Stored { globs, groups })
     }
+}
+
+/// Returns the groups of these globs. Returns an error if memory runs out.
+fn groups_of(alloc: Global, globs: &[Glob]) -> Result<Groups, AllocError>
+    ensures { IfOk result (AreStored globs.now) }
+{
+    let mut builder = GroupsBuilder::new(alloc, globs.len());
+    for (index, glob) in globs.iter().enumerate() {
+        builder.add(alloc, options_of(glob), tokens_of(glob), index)?;
+    }
+    builder.finish(alloc)
 }
 
 /// Only the globs: the groups can be large, and follow from them.

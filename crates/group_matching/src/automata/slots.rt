@@ -62,22 +62,11 @@ impl Clone for Slots {
     fn clone(&self) -> Result<Slots, AllocError> {
         Ok(Slots {
             slots: self.slots.clone()?,
-            automata: copy_of(&self.automata)?,
+            automata: self.automata.clone()?,
             none: self.none.clone()?,
             index_count: self.index_count,
         })
     }
-}
-
-/// Returns copies of automata. Returns an error if memory runs out.
-fn copy_of(automata: &Vec<Compiled>) -> Result<Vec<Compiled>, AllocError>
-    ensures { IfOk result (λ copies. copies.items ≡ automata.now.items) }
-{
-    let mut copies = Vec::with_capacity(*automata.allocator(), automata.len())?;
-    for automaton in automata {
-        copies.push(automaton.clone()?)?;
-    }
-    Ok(copies)
 }
 
 impl Slots {
