@@ -30,7 +30,7 @@ const JOINT_NUMBERS: usize = 2_048;
 const MOST_READS: usize = 1 << 25;
 
 /// The most numbers of all parts, with those that are given up.
-const MOST_NUMBERS_TOGETHER: usize = 1 << 21;
+const MOST_NUMBERS_TOGETHER: usize = 1 << 22;
 
 /// The parts of an automaton so far.
 struct Division {
