@@ -1,6 +1,6 @@
 //! Automata for globs that match only paths whose last component has one extension.
 
-ghost use Rattle.std.specs.Prelude.{◌≡◌, ◌+◌, ◌<◌, ◌≤◌, ◌↔◌, [], ℕ, List, length, IsTrue, OnOk, IfOk, Some, cond};
+ghost use Rattle.std.specs.Prelude.{◌≡◌, ◌+◌, ◌<◌, ◌≤◌, ◌↔◌, [], ℕ, List, length, IsTrue, OnOk, IfOk, None, Some, cond};
 ghost use Rattle.byte_automaton.specs.Runs.{size};
 ghost use Rattle.std.specs.Str.{bytes_eq};
 ghost use Rattle.glob_automaton.specs.IndexedTokens.{IndexedTokens, IsFor, indexed};
@@ -189,6 +189,17 @@ impl SlotsBuilder {
         if let [slot, ..] = self.slots.get(&key, &mut Visits::new()) {
             return Ok(*slot);
         }
+        self.add_slot(alloc, key)
+    }
+
+    /// Makes a slot for an extension that has none, and returns it.
+    fn add_slot(&mut self, alloc: Global, key: Vec<u8>) -> Result<usize, AllocError>
+        requires { slot_of self.old.slots key.items ≡ None }
+        ensures slot { IfOk result (λ slot. slot_of self.new.slots key.items ≡ Some slot) }
+        ensures tokens { OnOk result ((before : ℕ → List IndexedTokens) → AreFor self.old.machines before → KeepsTokens self.old.slots before self.new) }
+        ensures size { OnOk result ((extension : List ℕ) → size (machine_under self.new extension) ≡ size (machine_under self.old extension)) }
+        ensures count { self.new.index_count ≡ self.old.index_count }
+    {
         let slot = self.builders.len();
         self.builders.push(new_builder(alloc, self.index_count))?;
         self.slots.insert(key, slot)?;

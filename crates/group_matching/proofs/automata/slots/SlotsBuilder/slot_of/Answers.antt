@@ -1,44 +1,10 @@
-use Rattle.std.proofs.Common.{◌≡◌, ◌∷◌, ◌++◌, [], refl, length, ap, sym, subst, arith, ◌∙◌, ℕ, List}
-use Rattle.glob_automaton.specs.IndexedTokens.{IndexedTokens}
-use Rattle.byte_automaton.specs.Runs.{size}
-use Rattle.byte_table.specs.Entries.{entry, indexes_under}
-use Rattle.group_matching.specs.inner.Automata.{SlotParts, AreFor, AreSlots, KeepsTokens, first, machine_under, slot_of}
-use Rattle.group_matching.proofs.lemmas.Tables.{first_none, first_of_key}
-use Rattle.group_matching.proofs.lemmas.Slots.{slot_parts, slots_push, slots_insert, slot_keeps, slot_size}
+use Rattle.std.proofs.Common.{◌≡◌, None, ap, sym, ◌∙◌}
+use Rattle.byte_table.specs.Entries.{indexes_under}
+use Rattle.group_matching.specs.inner.Automata.{SlotParts, first, slot_of}
+use Rattle.group_matching.proofs.lemmas.Tables.{first_none}
 use Rattle.group_matching.proofs.automata.slots.SlotsBuilder.slot_of.Goals as goal
 
-pub invariant_of-self-in_err-insert : goal.invariant_of-self-in_err-insert
-invariant_of-self-in_err-insert c =
-    let machines = c.self.inside.builders.items in
-    let more = slots_push c.self.inside.slots machines c.self.inside.none c.self.inside.index_count c.new_builder.result c.new_builder.ensures.index_count c.self.invariant in
-    subst (λ es. AreSlots es c.push.new.self.items c.self.inside.none c.self.inside.index_count) (sym c.in_err-insert.ensures.err)
-    (subst (λ ms. AreSlots c.self.inside.slots ms c.self.inside.none c.self.inside.index_count) (sym c.in_ok-push.ensures.items) more)
-
-pub invariant_of-self-2 : goal.invariant_of-self-2
-invariant_of-self-2 c =
-    let machines = c.self.inside.builders.items in
-    let at : c.len-slot.result ≡ length machines = omega (arith, c.len-slot.ensures, c.self.inside.builders.ok.0) in
-    let more = slots_insert c.self.inside.slots machines c.self.inside.none c.self.inside.index_count c.new_builder.result c.args.key.items c.len-slot.result c.new_builder.ensures.index_count at c.self.invariant in
-    subst (λ es. AreSlots es c.push.new.self.items c.self.inside.none c.self.inside.index_count) (sym c.in_ok-insert.ensures.ok)
-    (subst (λ ms. AreSlots (c.self.inside.slots ++ entry c.args.key.items c.len-slot.result ∷ []) ms c.self.inside.none c.self.inside.index_count) (sym c.in_ok-push.ensures.items) more)
-
-pub returns-clause-slot : goal.returns-clause-slot
-returns-clause-slot c =
+pub add_slot-requires : goal.add_slot-requires
+add_slot-requires c =
     let none = ap first (ap (λ q. indexes_under c.self.inside.slots q) (sym c.deref.ensures.value) ∙ sym c.get.ensures.indexes) ∙ first_none c.get.result.now c.in_default.len_below in
-    ap (λ es. slot_of es c.args.key.items) c.in_ok-insert.ensures.ok ∙ first_of_key c.self.inside.slots c.args.key.items c.len-slot.result none
-
-pub returns-clause-tokens : goal.returns-clause-tokens
-returns-clause-tokens c =
-    let old = slot_parts c.self.inside.slots c.self.inside.builders.items c.self.inside.none c.self.inside.index_count in
-    let new = slot_parts c.insert.new.self c.push.new.self.items c.self.inside.none c.self.inside.index_count in
-    let at : c.len-slot.result ≡ length c.self.inside.builders.items = omega (arith, c.len-slot.ensures, c.self.inside.builders.ok.0) in
-    subst (λ (e : SlotParts). (before : ℕ → List IndexedTokens) → AreFor e.machines before → KeepsTokens e.slots before new) c.self.view_is
-    (slot_keeps old new c.args.key.items c.len-slot.result c.new_builder.result at c.self.invariant c.new_builder.ensures.tokens c.in_ok-insert.ensures.ok c.in_ok-push.ensures.items)
-
-pub returns-clause-size : goal.returns-clause-size
-returns-clause-size c =
-    let old = slot_parts c.self.inside.slots c.self.inside.builders.items c.self.inside.none c.self.inside.index_count in
-    let new = slot_parts c.insert.new.self c.push.new.self.items c.self.inside.none c.self.inside.index_count in
-    let at : c.len-slot.result ≡ length c.self.inside.builders.items = omega (arith, c.len-slot.ensures, c.self.inside.builders.ok.0) in
-    subst (λ (e : SlotParts). (extension : List ℕ) → size (machine_under new extension) ≡ size (machine_under e extension)) c.self.view_is
-    (slot_size old new c.args.key.items c.len-slot.result c.new_builder.result at c.self.invariant c.new_builder.ensures.size c.in_ok-insert.ensures.ok c.in_ok-push.ensures.items refl)
+    ap (λ (e : SlotParts). slot_of e.slots c.args.key.items) (sym c.self.view_is) ∙ none
