@@ -79,7 +79,7 @@ impl Slots {
 
     /// Returns whether no extension has an automaton.
     pub fn is_empty(&self) -> bool
-        ensures { IsTrue result → self.now.slots ≡ [] }
+        ensures { IsTrue result ↔ (self.now.slots ≡ []) }
     {
         self.slots.is_empty()
     }

@@ -6,7 +6,7 @@ use Rattle.group_matching.proofs.automata.Automata.by_extension.Goals as goal
 
 pub returns-then-is_empty-clause-tokens : goal.returns-then-is_empty-clause-tokens
 returns-then-is_empty-clause-tokens c = λ by_slot are.
-    let empty = sym (ap (λ (a : AutomataParts). a.extensions.slots) c.self.view_is) ∙ c.is_empty.ensures c.if-is_empty.true in
+    let empty = sym (ap (λ (a : AutomataParts). a.extensions.slots) c.self.view_is) ∙ c.is_empty.ensures.0 c.if-is_empty.true in
     subst (λ es. IsFor c.none.result.now (tokens_under by_slot es (component_extension c.args.path.now))) (sym empty) c.none.ensures.tokens
 
 pub returns-clause-tokens : goal.returns-clause-tokens
