@@ -92,9 +92,9 @@ impl GlobSet {
     /// The iterator has to end, and its items have to be known to the prover: those of a slice, of a `Vec` and of
     /// iterators over either are.
     ///
-    /// It takes time and memory linear in the texts of the globs, except that some of these are sorted. The factor is largest for
-    /// globs that need an automaton: if it is made deterministic, it has up to 512 numbers for each state, and to find one of them
-    /// may take reading up to 2,048 states.
+    /// It takes time and memory linear in the texts of the globs, except that some of these are sorted. The factor is largest
+    /// for globs that need an automaton: if it is made deterministic, it has up to 512 numbers for each state, and to find one
+    /// of them may take reading up to 2,048 states.
     ///
     /// Returns an error if memory runs out, and no other.
     pub fn new<'g, I: IntoIterator<Item = &'g Glob>>(
