@@ -63,7 +63,7 @@ impl GlobSetBuilder {
     /// globs can be added to it.
     ///
     /// It takes time and memory linear in the texts of the globs, except that some of these are sorted. The factor is largest
-    /// for globs that need an automaton: if it is made deterministic, it has up to 512 numbers for each state, and to find one
+    /// for globs that need an automaton: a deterministic one has up to 512 numbers for each state and 2,048 more, and to find one
     /// of them may take reading up to 2,048 states.
     ///
     /// Returns an error if memory runs out, and no other.
