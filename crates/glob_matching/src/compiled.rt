@@ -60,7 +60,7 @@ impl Compiled {
     /// Returns an automaton in parts. Returns an error if memory runs out.
     ///
     /// A part has the states from one start to another, and begins in as many starts as its limits allow. It has at most 2,048
-    /// states. Its table and lists have at most `2^25 / states` numbers, and 96 for each state and 2,048 more; if it has one
+    /// states. Its table and lists have at most `2^27 / states` numbers, and 96 for each state and 2,048 more; if it has one
     /// start, 512 for each state and 40,960 in all. To find one of them may take reading each state of the part. At most 2^22
     /// numbers are made for all parts, with those of parts that are given up because they would have more. What cannot be
     /// made deterministic within these limits is simulated. So it takes time and memory linear in the states, up to the
