@@ -97,8 +97,8 @@ impl Compiled {
 
     /// Puts the indexes of the tokens that match a text into a set, beside what it holds.
     ///
-    /// It is at most `(text bytes + 1) * states` visits. It takes two bits of memory for each state, but none if there is a
-    /// deterministic automaton, or no state. Returns an error if memory runs out.
+    /// It is at most `(text bytes + 1) * states` visits. It takes two bits of memory for each state of a part that is simulated,
+    /// for one part at a time, and none if there is no such part. Returns an error if memory runs out.
     pub fn find(
         &self,
         alloc: Global,
@@ -123,8 +123,8 @@ impl Compiled {
 
     /// Returns whether tokens match a text.
     ///
-    /// It is at most `(text bytes + 1) * states` visits. It takes two bits of memory for each state, but none if there is a
-    /// deterministic automaton, or no state. Returns an error if memory runs out.
+    /// It is at most `(text bytes + 1) * states` visits. It takes two bits of memory for each state of a part that is simulated,
+    /// for one part at a time, and none if there is no such part. Returns an error if memory runs out.
     pub fn is_match(
         &self,
         alloc: Global,
