@@ -59,7 +59,7 @@ impl Compiled {
     /// Returns an automaton in parts. Returns an error if memory runs out.
     ///
     /// A part has the states from one start to another, and begins in as many starts as its limits allow. It has at most 2,048
-    /// states. Its table and lists have at most `2^25 / states` numbers, and 96 for each state and 2,048 more; if it has one
+    /// states. Its table and lists have at most `2^27 / states` numbers, and 96 for each state and 2,048 more; if it has one
     /// start, 512 for each state and 40,960 in all. To find one of them may take reading each state of the part. At most 2^22
     /// numbers are made for all parts, with those of parts that are given up because they would have more. What cannot be
     /// made deterministic within these limits is simulated. So it takes time and memory linear in the states, up to the
@@ -96,8 +96,9 @@ impl Compiled {
 
     /// Puts the indexes of the tokens that match a text into a set, beside what it holds.
     ///
-    /// It is at most `(text bytes + 1) * states` visits. It takes two bits of memory for each state, but none if there is a
-    /// deterministic automaton, or no state. Returns an error if memory runs out; nothing is put into the set then.
+    /// It is at most `(text bytes + 1) * states` visits. It takes two bits of memory for each state of a part that is simulated,
+    /// for one part at a time, and none if there is no such part. Returns an error if memory runs out; some of the indexes may
+    /// be in the set then.
     pub fn find(
         &self,
         alloc: Global,
@@ -122,8 +123,8 @@ impl Compiled {
 
     /// Returns whether tokens match a text.
     ///
-    /// It is at most `(text bytes + 1) * states` visits. It takes two bits of memory for each state, but none if there is a
-    /// deterministic automaton, or no state. Returns an error if memory runs out.
+    /// It is at most `(text bytes + 1) * states` visits. It takes two bits of memory for each state of a part that is simulated,
+    /// for one part at a time, and none if there is no such part. Returns an error if memory runs out.
     pub fn is_match(
         &self,
         alloc: Global,

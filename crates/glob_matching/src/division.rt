@@ -27,7 +27,7 @@ const JOINT_NUMBERS_PER_STATE: usize = 96;
 const JOINT_NUMBERS: usize = 2_048;
 
 /// The most numbers of a part times its states. To find a number may take reading each state.
-const MOST_READS: usize = 1 << 25;
+const MOST_READS: usize = 1 << 27;
 
 /// The most numbers of all parts, with those that are given up.
 const MOST_NUMBERS_TOGETHER: usize = 1 << 22;

@@ -1,4 +1,5 @@
-//! Automata of tokens as they are run over paths: by a deterministic automaton if it is not too large.
+//! Automata of tokens as they are run over paths: in parts that are deterministic where they are not too
+//! large.
 //!
 //! [`Compiled`] holds the automaton of some tokens, and finds which of them match a path. Nothing here knows the text of a
 //! glob.
