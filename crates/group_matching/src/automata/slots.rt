@@ -60,10 +60,13 @@ impl Clone for Slots {
 
     /// Returns a copy. Returns an error if memory runs out.
     fn clone(&self) -> Result<Slots, AllocError> {
+        let slots = self.slots.clone()?;
+        let automata = self.automata.clone()?;
+        let none = self.none.clone()?;
         Ok(Slots {
-            slots: self.slots.clone()?,
-            automata: self.automata.clone()?,
-            none: self.none.clone()?,
+            slots,
+            automata,
+            none,
             index_count: self.index_count,
         })
     }
