@@ -130,8 +130,8 @@ impl Glob {
     /// Returns a matcher for an equal glob, or an error if memory runs out.
     ///
     /// It makes an automaton, in time and memory linear in the glob's text. If that has at most 2,048 states, it makes a
-    /// deterministic one too, and gives it up if its table and lists would have more than 40,960 numbers, 512 for each state, or
-    /// `2^25 / states`. To find a number may take reading each state, so this takes at most some 34 million reads.
+    /// deterministic one too, and gives it up if its table and lists would have more than 40,960 numbers, or 512 for each state.
+    /// To find one of them may take reading each state.
     pub fn compile_matcher(&self) -> Result<GlobMatcher, Error>
         ensures ok { IfOk result (λ m. m ≡ self.now) }
         ensures err { IfErr result (λ e. e ≡ out_of_memory) }
