@@ -9,6 +9,8 @@ mod arguments;
 mod fault;
 mod run;
 mod sifting;
+#[cfg(test)]
+mod tests;
 
 pub use crate::arguments::command;
 pub use crate::arguments::fault::CommandFault;

@@ -1,7 +1,7 @@
 //! Runs of the program, which show that its calls succeed.
 
 use super::{arguments_of, bytes_of, check, text_of};
-use line_filter::{Fault, write_matching_lines};
+use crate::{Fault, write_matching_lines};
 use std::alloc::{AllocError, Global};
 use std::test::Fail;
 

@@ -1,7 +1,7 @@
 //! Texts of errors, and what `Debug` shows of them.
 
 use super::{arguments_of, check};
-use line_filter::{Command, CommandFault, Fault, SiftFault, command};
+use crate::{Command, CommandFault, Fault, SiftFault, command};
 use std::alloc::{AllocError, Global};
 use std::test::Fail;
 

@@ -3,8 +3,8 @@
 ghost use Rattle.std.specs.Prelude.{Some};
 
 use super::{check, text_of};
+use crate::{SiftFault, sift};
 use globset::{Glob, GlobSet, GlobSetBuilder};
-use line_filter::{SiftFault, sift};
 use std::alloc::{AllocError, Global};
 use std::io::{Error, ErrorKind, Read, Result, Write};
 use std::process::Abort;
