@@ -81,7 +81,7 @@ impl Automata {
 
     /// Returns the indexes of the globs that match the path, or `None` if no automaton has to be run.
     ///
-    /// It takes a bit of memory for each index, and two for each state of an automaton that is run and is not deterministic;
+    /// It takes a bit of memory for each index, and two for each state of a part that is simulated;
     /// but none if no automaton has to be run. Returns an error if memory runs out.
     pub fn found(
         &self,
@@ -106,7 +106,7 @@ impl Automata {
 
     /// Returns whether some glob matches the path.
     ///
-    /// It takes two bits of memory for each state of an automaton that it runs and that is not deterministic. Returns an error
+    /// It takes two bits of memory for each state of a part that it simulates. Returns an error
     /// if memory runs out.
     pub fn is_match(
         &self,

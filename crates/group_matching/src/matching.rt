@@ -20,7 +20,7 @@ impl Groups {
     /// Replaces the vector's items by the indexes, ascending, of the globs that are not silent and match the path.
     ///
     /// It grows the vector for the indexes. If an automaton has to be run, it takes a bit of memory for each glob, and two for
-    /// each state that is run. Returns an error if memory runs out. The vector is then empty.
+    /// each state of a part that is simulated. Returns an error if memory runs out. The vector is then empty.
     pub fn find(
         &self,
         alloc: Global,
@@ -43,7 +43,7 @@ impl Groups {
 
     /// Returns whether some glob that is not silent matches the path.
     ///
-    /// If an automaton has to be run that is not deterministic, it takes two bits of memory for each of its states. Returns an
+    /// If a part of an automaton has to be simulated, it takes two bits of memory for each state of that part. Returns an
     /// error if memory runs out, and so none if no glob needs an automaton for the path.
     pub fn is_match(
         &self,
@@ -63,7 +63,7 @@ impl Groups {
 
     /// Returns whether every glob matches the path and none is silent.
     ///
-    /// If an automaton has to be run, it takes a bit of memory for each glob, two for each state that is run, and a vector for
+    /// If an automaton has to be run, it takes a bit of memory for each glob, two for each simulated state, and a vector for
     /// indexes. Returns an error if memory runs out, and so none if no glob needs an automaton for the path.
     pub fn matches_all(
         &self,
