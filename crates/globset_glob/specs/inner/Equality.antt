@@ -27,7 +27,8 @@ same_options o p =
     && (beq o.literal_separator p.literal_separator
     && (beq o.backslash_escape p.backslash_escape
     && (beq o.empty_alternates p.empty_alternates
-    && beq o.allow_unclosed_class p.allow_unclosed_class)))
+    && (beq o.allow_unclosed_class p.allow_unclosed_class
+    && beq o.whole_character p.whole_character))))
 
 -- `==` of globs: the same text, and the same options
 abbrev pub same_glob : GlobValue → GlobValue → Bool
