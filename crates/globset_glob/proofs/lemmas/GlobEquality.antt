@@ -8,7 +8,7 @@ use Rattle.glob_syntax.specs.declared.options.Options.{Options}
 use Rattle.globset_glob.specs.Means.{GlobValue}
 use Rattle.globset_glob.specs.inner.Equality.{same_options, same_glob}
 
-same_options_decides : (o p : Options) → Decides (same_options o p) (o ≡ p)
+pub same_options_decides : (o p : Options) → Decides (same_options o p) (o ≡ p)
 same_options_decides o p =
     let d = Decides-and _ _ (booleans_Decides o.case_insensitive p.case_insensitive)
     (Decides-and _ _ (booleans_Decides o.literal_separator p.literal_separator)

@@ -80,8 +80,10 @@ same_error_laws = and_equiv (on_equiv (λ e. e.glob) (options_equiv nat_list_eq_
 -- a number for each variant
 abbrev pub value_variant : ValueErrorKind → ℕ
 value_variant causes.NotText = 0
-value_variant causes.NotArray = 1
-value_variant (causes.Glob e) = 2
+value_variant causes.UnknownKey = 1
+value_variant causes.NotBool = 2
+value_variant causes.NotArray = 3
+value_variant (causes.Glob e) = 4
 
 -- the error of `Glob`
 abbrev pub error_in : ValueErrorKind → Option ErrorValue
