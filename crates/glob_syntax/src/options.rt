@@ -1,6 +1,6 @@
 //! Options that say how a glob is read and what it matches.
 
-/// The five options of a glob. Each glob has its own.
+/// The six options of a glob. Each glob has its own.
 #[derive(Clone, Copy, Debug, PartialEq, Eq, Hash)]
 pub struct Options {
     /// Whether each ASCII letter matches both of its cases.
@@ -14,6 +14,8 @@ pub struct Options {
     pub empty_alternates: bool,
     /// Whether a `[` that no `]` closes is a plain character. By default it is an error.
     pub allow_unclosed_class: bool,
+    /// Whether `?` matches a whole character in UTF-8. By default it matches one byte. What else matches bytes still does.
+    pub whole_character: bool,
 }
 
 impl Options {
@@ -24,5 +26,6 @@ impl Options {
         backslash_escape: true,
         empty_alternates: false,
         allow_unclosed_class: false,
+        whole_character: false,
     };
 }

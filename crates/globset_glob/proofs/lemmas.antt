@@ -7,5 +7,6 @@ pub mod Expressions
 pub mod GlobAutomaton
 pub mod GlobEquality
 pub mod Globs
+pub mod Members
 pub mod RegexWriting
 pub mod Values

@@ -19,6 +19,7 @@ default_options = record {
   backslash_escape = true;
   empty_alternates = false;
   allow_unclosed_class = false;
+  whole_character = false;
 }
 
 -- the glob with this text and the default options

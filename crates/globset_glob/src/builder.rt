@@ -89,6 +89,17 @@ impl<'a> GlobBuilder<'a> {
         self
     }
 
+    /// Sets whether `?` matches one whole character: the bytes of a Unicode scalar value in UTF-8, except `/` under
+    /// `literal_separator`. If it is off, `?` matches one byte. `*`, classes and all else match bytes in both cases. Off by
+    /// default.
+    pub fn whole_character(&mut self, yes: bool) -> &mut GlobBuilder<'a>
+        ensures same_reference { result.ghost_name ≡ self.entry.ghost_name }
+        ensures value { result.now ≡ record self.old { options = record self.old.options { whole_character = yes } } }
+    {
+        self.options.whole_character = yes;
+        self
+    }
+
     /// Reads the glob under its options, in time linear in the length of its text. The builder does not change.
     ///
     /// Returns an error if the text is not a glob, or if memory runs out. The error of a text holds the text, and its kind

@@ -2,15 +2,16 @@
 
 ghost use Rattle.std.specs.Prelude.{◌≡◌, ◌==◌, ◌≤◌, ◌*◌, ◌↔◌, ◌++◌, ℕ, List, Some, Ok, IfOk, IfErr, IsTrue, length};
 ghost use Rattle.std.specs.Cmp.{partial_equiv_from_equiv};
-ghost use Rattle.std.specs.Cmp.Rules.{hashing};
 ghost use Rattle.std.specs.Fmt.{styled_text};
 ghost use Rattle.std.specs.Hash as fed;
-ghost use Rattle.std.proofs.Common.{rules};
+ghost use Rattle.std.specs.Hash.{and-Alike, on_Alike, same_Alike};
 ghost use Rattle.std.proofs.lemmas.Cmp.{and_equiv, on_equiv, nat_list_eq_equiv};
+ghost use Rattle.std.proofs.lemmas.Slice.Eq.{bytes_eq-Decides};
 ghost use Rattle.glob_syntax.specs.contracts.options.OptionsEq.TheImpl.Laws.{laws-law};
+ghost use Rattle.glob_syntax.specs.contracts.options.OptionsHash.TheImpl.Laws.{respects_eq-law};
 ghost use Rattle.globset_glob.specs.inner.Equality.{same_glob};
 ghost use Rattle.globset_glob.specs.Errors.{out_of_memory, IsRefusalOf};
-ghost use Rattle.globset_glob.specs.Means.{tokens_of_glob, glob_means};
+ghost use Rattle.globset_glob.specs.Means.{GlobValue, tokens_of_glob, glob_means};
 
 use crate::builder::GlobBuilder;
 use crate::error::Error;
@@ -233,7 +234,8 @@ impl Eq for Glob {
 impl Hash for Glob {
     ghost hash_input = { λ g. fed.str g.text ++ ⟦<Options as Hash>⟧.hash_input g.options };
 
-    ghost respects_eq = { Prim.search (hashing, rules) };
+    ghost respects_eq = { (and-Alike (on_Alike (λ (g : GlobValue). g.text) (same_Alike fed.str bytes_eq-Decides))
+        (on_Alike (λ (g : GlobValue). g.options) (record { fed = respects_eq-law }))).fed };
 
     fn hash<H: Hasher>(&self, state: &mut H) {
         self.text.hash(state);

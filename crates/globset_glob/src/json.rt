@@ -1,40 +1,52 @@
 //! Globs as JSON values.
 
 ghost use Rattle.std.specs.Prelude.{◌≡◌, IfOk, IfErr, Ok};
-ghost use Rattle.serde_json.specs.Data.{string};
 ghost use Rattle.serde_json.specs.View.{view};
 ghost use Rattle.globset_glob.specs.Errors.{out_of_memory};
-ghost use Rattle.globset_glob.specs.Means.{IsRead, default_options};
-ghost use Rattle.globset_glob.specs.Values.{IsValueErrorOf, glob_of_value};
+ghost use Rattle.globset_glob.specs.Means.{IsRead};
+ghost use Rattle.globset_glob.specs.Values.{IsValueErrorOf, glob_of_value, value_of_glob};
 
 pub mod error;
+mod object;
 
 use crate::error::Error;
 use crate::glob::Glob;
 use error::{ValueError, ValueErrorKind};
+use object::{read_object, value_of};
 use serde_json::Value;
 use std::alloc::Global;
 
 impl Glob {
-    /// Returns a JSON text whose content is the glob's text, or an error if memory runs out.
+    /// Returns the glob as a JSON value, or an error if memory runs out. [`Glob::from_value`] reads an equal glob from it.
     ///
-    /// The options are not part of the value. If they are the default ones, [`Glob::from_value`] reads an equal glob from
-    /// it.
+    /// The value is the glob's text if every option has its default. Otherwise it is an object, with the text under the key
+    /// `glob` and each option that does not have its default under the option's name. Its keys are in ascending order.
+    ///
+    /// ```text
+    /// {"glob":"*.rs","literal_separator":true}
+    /// ```
     #[tactic(auto, using(crate::proofs::lemmas::Values::read_back))]
     pub fn to_value(&self) -> Result<Value, Error>
-        ensures ok { IfOk result (λ value. view value ≡ string self.now.text) }
-        ensures read_back { self.now.options ≡ default_options → IfOk result (λ value. glob_of_value (view value) ≡ Ok self.now) }
+        ensures ok { IfOk result (λ value. view value ≡ value_of_glob self.now) }
+        ensures read_back { IfOk result (λ value. glob_of_value (view value) ≡ Ok self.now) }
         ensures err { IfErr result (λ e. e ≡ out_of_memory) }
     {
         let text = String::from_str(self.allocator(), self.glob())?;
-        Ok(Value::String(text))
+        Ok(value_of(self.allocator(), text, self.options())?)
     }
 
-    /// Reads the content of a JSON text as a glob under the default options, as [`Glob::new`] does.
+    /// Reads a glob from a JSON value: a text, which is read under the default options, as by [`Glob::new`], or an object.
     ///
-    /// Returns an error of the kind [`ValueErrorKind::NotText`] for any other value, such as a number. If the content is not
-    /// a glob, or if memory runs out, the kind is [`ValueErrorKind::Glob`] with the error of [`Glob::new`]. No error of this
-    /// call has an index.
+    /// An object has the glob's text under the key `glob`. It may have the name of each option as a key, with true or false
+    /// under it; an option that it does not have has its default. It may have no other key.
+    ///
+    /// Returns the first of these errors, without an index:
+    ///
+    /// - [`ValueErrorKind::NotText`] if the value is neither a text nor an object with a text under `glob`;
+    /// - [`ValueErrorKind::UnknownKey`] if an object has another key;
+    /// - [`ValueErrorKind::NotBool`] if an option of an object is neither true nor false;
+    /// - [`ValueErrorKind::Glob`] with the error of [`Glob::new`] or [`GlobBuilder::build`](crate::GlobBuilder::build) if
+    ///   the text is not a glob, or if memory runs out.
     pub fn from_value(alloc: Global, value: &Value) -> Result<Glob, ValueError>
         ensures ok { IfOk result (λ g. glob_of_value (view value.now) ≡ Ok g) }
         ensures read { IfOk result IsRead }
@@ -42,6 +54,7 @@ impl Glob {
     {
         match value {
             Value::String(text) => Ok(Glob::new(alloc, text.as_str())?),
+            Value::Object(members) => read_object(alloc, members),
             _ => Err(ValueError::from(ValueErrorKind::NotText)),
         }
     }

@@ -89,7 +89,8 @@ abbrev pub is_in_force : List ℕ → List (List ℕ) → Bool
 is_in_force flag [] = false
 is_in_force flag (argument ∷ before) = bytes_eq argument flag || (not (is_dash_r argument) && is_in_force flag before)
 
--- The argument as a glob after these arguments. An option whose flag is not in force has its default.
+-- The argument as a glob after these arguments. An option whose flag is not in force has its default, and so does
+-- `whole_character`, which has no flag.
 abbrev pub glob_after : List (List ℕ) → List ℕ → GlobValue
 glob_after before argument = record {
   text = argument;
@@ -99,6 +100,7 @@ glob_after before argument = record {
     backslash_escape = not (is_in_force (codes "-b") before);
     empty_alternates = is_in_force (codes "-e") before;
     allow_unclosed_class = is_in_force (codes "-u") before;
+    whole_character = false;
   };
 }
 

@@ -254,7 +254,8 @@ fn json(alloc: Global, columns: &mut Columns<'_>) -> Result<Value, RowError> {
 /// Reads the glob of two columns: its options, and its text.
 ///
 /// The options are the letters of those that differ from the default, or `-`: `i` is `case_insensitive`, `s`
-/// `literal_separator`, `e` `empty_alternates`, `u` `allow_unclosed_class`, and `b` turns `backslash_escape` off.
+/// `literal_separator`, `e` `empty_alternates`, `u` `allow_unclosed_class`, `w` `whole_character`, and `b` turns
+/// `backslash_escape` off.
 fn read(alloc: Global, columns: &mut Columns<'_>) -> Result<Result<Glob, Error>, RowError> {
     let options = columns.next()?;
     let text = columns.text(alloc)?;
@@ -265,7 +266,7 @@ fn read(alloc: Global, columns: &mut Columns<'_>) -> Result<Result<Glob, Error>,
 }
 
 fn are_options(options: &str) -> bool {
-    options == "-" || (!options.is_empty() && options.chars().all(|c| "iseub".contains(c)))
+    options == "-" || (!options.is_empty() && options.chars().all(|c| "iseubw".contains(c)))
 }
 
 fn read_with(alloc: Global, options: &str, text: &str) -> Result<Glob, Error> {
@@ -274,6 +275,7 @@ fn read_with(alloc: Global, options: &str, text: &str) -> Result<Glob, Error> {
         .literal_separator(options.contains('s'))
         .empty_alternates(options.contains('e'))
         .allow_unclosed_class(options.contains('u'))
+        .whole_character(options.contains('w'))
         .backslash_escape(!options.contains('b'))
         .build(alloc)
 }

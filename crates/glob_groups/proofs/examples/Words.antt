@@ -34,6 +34,7 @@ case text insensitive separated = record {
     backslash_escape = true;
     empty_alternates = false;
     allow_unclosed_class = false;
+    whole_character = false;
   };
 }
 

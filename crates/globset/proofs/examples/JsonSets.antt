@@ -1,12 +1,12 @@
 -- Examples of sets from JSON values. Each row computes.
-use Rattle.std.specs.Prelude.{◌≡◌, [], ◌∷◌, Ok, Err, codes, refl}
-use Rattle.serde_json.specs.Data.{number, unsigned, string, array, object, no_items, item, no_members}
+use Rattle.std.specs.Prelude.{◌≡◌, [], ◌∷◌, true, Ok, Err, codes, refl}
+use Rattle.serde_json.specs.Data.{boolean, number, unsigned, string, array, object, no_items, item, no_members, member}
 use Rattle.glob_syntax.specs.declared.fault.Fault.TheVariants.{UnclosedClass}
 use Rattle.globset_glob.specs.declared.json.error.ValueErrorKind.TheVariants.{Glob}
 use Rattle.globset_glob.specs.Errors.{refusal}
-use Rattle.globset_glob.specs.Values.{of_kind, not_text, not_array, at_index}
+use Rattle.globset_glob.specs.Values.{of_kind, not_text, unknown_key, not_array, at_index}
 use Rattle.globset.specs.SetFromValue.{globs_of_value}
-use Rattle.globset.proofs.examples.Words.{globs_on_literals, globs}
+use Rattle.globset.proofs.examples.Words.{globs_on_literals, glob, insensitive, globs}
 
 two_globs : globs_of_value (array (item (string (codes "*.rs")) (item (string (codes "src/**")) no_items))) ≡ Ok (globs ("*.rs" ∷ "src/**" ∷ []))
 unfolding globs_on_literals
@@ -14,6 +14,14 @@ two_globs = refl
 
 no_globs : globs_of_value (array no_items) ≡ Ok []
 no_globs = refl
+
+object_and_text : globs_of_value (array (item (object (member (codes "case_insensitive") (boolean true) (member (codes "glob") (string (codes "*.RS")) no_members))) (item (string (codes "*.rs")) no_items)))
+    ≡ Ok (insensitive "*.RS" ∷ glob "*.rs" ∷ [])
+unfolding globs_on_literals
+object_and_text = refl
+
+unknown_key_at_index_zero : globs_of_value (array (item (object (member (codes "glob") (string (codes "[")) (member (codes "x") (boolean true) no_members))) no_items)) ≡ Err (at_index 0 unknown_key)
+unknown_key_at_index_zero = refl
 
 number_at_index_one : globs_of_value (array (item (string (codes "*.rs")) (item (number (unsigned 7)) no_items))) ≡ Err (at_index 1 not_text)
 unfolding globs_on_literals

@@ -12,8 +12,8 @@ use serde_json::Value;
 use std::alloc::Global;
 
 impl GlobSet {
-    /// Returns the set of the globs in a JSON array of strings, in order. Each element is read as [`Glob::from_value`]
-    /// reads it, so under the default options.
+    /// Returns the set of the globs in a JSON array, in order. Each element is a text or an object with options, and is read as
+    /// [`Glob::from_value`] reads it.
     ///
     /// Returns one of these errors:
     ///

@@ -52,6 +52,8 @@ equal_errors e f = Decides-and _ _ (options_decide nat_list_eq_equiv bytes_eq-De
 
 value_kinds_are_same : (k l : ValueErrorKind) → IsTrue (same_value_kind k l) → SameValueKind k l
 value_kinds_are_same causes.NotText causes.NotText h = refl
+value_kinds_are_same causes.UnknownKey causes.UnknownKey h = refl
+value_kinds_are_same causes.NotBool causes.NotBool h = refl
 value_kinds_are_same causes.NotArray causes.NotArray h = refl
 value_kinds_are_same (causes.Glob e) (causes.Glob f) h = (equal_errors e f).0 h
 value_kinds_are_same _ _ h = absurd (true≢false (sym h))

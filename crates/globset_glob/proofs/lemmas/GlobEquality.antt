@@ -8,21 +8,23 @@ use Rattle.glob_syntax.specs.declared.options.Options.{Options}
 use Rattle.globset_glob.specs.Means.{GlobValue}
 use Rattle.globset_glob.specs.inner.Equality.{same_options, same_glob}
 
-same_options_decides : (o p : Options) → Decides (same_options o p) (o ≡ p)
+pub same_options_decides : (o p : Options) → Decides (same_options o p) (o ≡ p)
 same_options_decides o p =
     let d = Decides-and _ _ (booleans_Decides o.case_insensitive p.case_insensitive)
     (Decides-and _ _ (booleans_Decides o.literal_separator p.literal_separator)
     (Decides-and _ _ (booleans_Decides o.backslash_escape p.backslash_escape)
     (Decides-and _ _ (booleans_Decides o.empty_alternates p.empty_alternates)
-    (booleans_Decides o.allow_unclosed_class p.allow_unclosed_class)))) in (
+    (Decides-and _ _ (booleans_Decides o.allow_unclosed_class p.allow_unclosed_class)
+    (booleans_Decides o.whole_character p.whole_character))))) in (
       λ h. let e = d.0 h in λ i. record {
         case_insensitive = e.0 i;
         literal_separator = e.1.0 i;
         backslash_escape = e.1.1.0 i;
         empty_alternates = e.1.1.1.0 i;
-        allow_unclosed_class = e.1.1.1.1 i;
+        allow_unclosed_class = e.1.1.1.1.0 i;
+        whole_character = e.1.1.1.1.1 i;
       },
-      λ e. d.1 (ap (λ q. q.case_insensitive) e, (ap (λ q. q.literal_separator) e, (ap (λ q. q.backslash_escape) e, (ap (λ q. q.empty_alternates) e, ap (λ q. q.allow_unclosed_class) e)))),
+      λ e. d.1 (ap (λ q. q.case_insensitive) e, (ap (λ q. q.literal_separator) e, (ap (λ q. q.backslash_escape) e, (ap (λ q. q.empty_alternates) e, (ap (λ q. q.allow_unclosed_class) e, ap (λ q. q.whole_character) e))))),
     )
 
 same_glob_decides : (g h : GlobValue) → Decides (same_glob g h) (g ≡ h)

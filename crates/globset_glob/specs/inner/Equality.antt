@@ -27,7 +27,8 @@ same_options o p =
     && (beq o.literal_separator p.literal_separator
     && (beq o.backslash_escape p.backslash_escape
     && (beq o.empty_alternates p.empty_alternates
-    && beq o.allow_unclosed_class p.allow_unclosed_class)))
+    && (beq o.allow_unclosed_class p.allow_unclosed_class
+    && beq o.whole_character p.whole_character))))
 
 -- `==` of globs: the same text, and the same options
 abbrev pub same_glob : GlobValue → GlobValue → Bool
@@ -79,8 +80,10 @@ same_error_laws = and_equiv (on_equiv (λ e. e.glob) (options_equiv nat_list_eq_
 -- a number for each variant
 abbrev pub value_variant : ValueErrorKind → ℕ
 value_variant causes.NotText = 0
-value_variant causes.NotArray = 1
-value_variant (causes.Glob e) = 2
+value_variant causes.UnknownKey = 1
+value_variant causes.NotBool = 2
+value_variant causes.NotArray = 3
+value_variant (causes.Glob e) = 4
 
 -- the error of `Glob`
 abbrev pub error_in : ValueErrorKind → Option ErrorValue

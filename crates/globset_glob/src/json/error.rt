@@ -14,8 +14,12 @@ use std::marker::Model;
 /// Why a JSON value, or an element of a JSON array, is rejected, or that memory ran out.
 #[derive(Debug, Drop)]
 pub enum ValueErrorKind {
-    /// It is not a text, but a number, a truth value, null, an array or an object.
+    /// It is neither a text nor an object with a text under `glob`.
     NotText,
+    /// It is an object with a key other than `glob` and those of options.
+    UnknownKey,
+    /// It is an object in which an option is neither true nor false.
+    NotBool,
     /// It is not an array.
     NotArray,
     /// The content of the text is rejected as a glob, or memory ran out.
@@ -29,6 +33,8 @@ impl Clone for ValueErrorKind {
     fn clone(&self) -> Result<ValueErrorKind, AllocError> {
         match self {
             ValueErrorKind::NotText => Ok(ValueErrorKind::NotText),
+            ValueErrorKind::UnknownKey => Ok(ValueErrorKind::UnknownKey),
+            ValueErrorKind::NotBool => Ok(ValueErrorKind::NotBool),
             ValueErrorKind::NotArray => Ok(ValueErrorKind::NotArray),
             ValueErrorKind::Glob(error) => Ok(ValueErrorKind::Glob(Clone::clone(error)?)),
         }
@@ -48,6 +54,8 @@ impl PartialEq for ValueErrorKind {
     {
         match (self, other) {
             (ValueErrorKind::NotText, ValueErrorKind::NotText) => true,
+            (ValueErrorKind::UnknownKey, ValueErrorKind::UnknownKey) => true,
+            (ValueErrorKind::NotBool, ValueErrorKind::NotBool) => true,
             (ValueErrorKind::NotArray, ValueErrorKind::NotArray) => true,
             (ValueErrorKind::Glob(error), ValueErrorKind::Glob(other)) => error == other,
             _ => false,
@@ -69,6 +77,8 @@ impl fmt::Display for ValueErrorKind {
     fn fmt<W: fmt::Write>(&self, f: &mut fmt::Formatter<W>) -> fmt::Result {
         match self {
             ValueErrorKind::NotText => f.write_str("expected a glob pattern"),
+            ValueErrorKind::UnknownKey => f.write_str("unknown key in a glob object"),
+            ValueErrorKind::NotBool => f.write_str("expected true or false"),
             ValueErrorKind::NotArray => f.write_str("expected an array of glob patterns"),
             ValueErrorKind::Glob(error) => error.fmt(f),
         }

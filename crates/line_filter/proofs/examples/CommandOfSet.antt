@@ -1,7 +1,7 @@
 -- Examples of arguments with `--set`, and the commands or errors that they give. Each row computes.
 use Rattle.std.specs.Prelude.{◌≡◌, [], ◌∷◌, codes, refl}
 use Rattle.serde_json.proofs.OnLiterals.{serde_json_on_literals}
-use Rattle.line_filter.proofs.examples.Terms.{globs_on_literals, command, error, plain, numbered, default}
+use Rattle.line_filter.proofs.examples.Terms.{globs_on_literals, command, error, plain, numbered, default, insensitive, separated}
 
 -- ---- arrays that are accepted
 
@@ -32,6 +32,16 @@ empty_element = refl
 element_like_a_flag : command ("--set" ∷ "[\"-x\",\"--\"]" ∷ []) ≡ plain (default "-x" ∷ default "--" ∷ [])
 unfolding globs_on_literals serde_json_on_literals
 element_like_a_flag = refl
+
+objects : command ("--set" ∷ "[{\"glob\":\"*.RS\",\"case_insensitive\":true},{\"glob\":\"a\"},\"*.rs\"]" ∷ [])
+    ≡ plain (insensitive "*.RS" ∷ default "a" ∷ default "*.rs" ∷ [])
+unfolding globs_on_literals serde_json_on_literals
+objects = refl
+
+last_value_of_a_repeated_key : command ("--set" ∷ "[{\"glob\":\"[\",\"literal_separator\":0,\"glob\":\"a\",\"literal_separator\":true}]" ∷ [])
+    ≡ plain (separated "a" ∷ [])
+unfolding globs_on_literals serde_json_on_literals
+last_value_of_a_repeated_key = refl
 
 empty_array : command ("--set" ∷ "[]" ∷ []) ≡ plain []
 unfolding serde_json_on_literals
@@ -114,6 +124,18 @@ array_without_a_pattern = refl
 number_after_a_glob : error ("--set" ∷ "[\"*.rs\", 7]" ∷ []) ≡ codes "element 1: expected a glob pattern"
 unfolding globs_on_literals serde_json_on_literals
 number_after_a_glob = refl
+
+object_with_an_unknown_key : error ("--set" ∷ "[{\"glob\":\"*.rs\",\"x\":true}]" ∷ []) ≡ codes "element 0: unknown key in a glob object"
+unfolding globs_on_literals serde_json_on_literals
+object_with_an_unknown_key = refl
+
+object_with_a_number : error ("--set" ∷ "[{\"glob\":\"a\",\"literal_separator\":1}]" ∷ []) ≡ codes "element 0: expected true or false"
+unfolding globs_on_literals serde_json_on_literals
+object_with_a_number = refl
+
+object_without_a_pattern : error ("--set" ∷ "[\"a\",{\"literal_separator\":true}]" ∷ []) ≡ codes "element 1: expected a glob pattern"
+unfolding globs_on_literals serde_json_on_literals
+object_without_a_pattern = refl
 
 first_bad_element : error ("--set" ∷ "[\"a\",\"[\",\"{\"]" ∷ []) ≡ codes "element 1: error parsing glob '[': unclosed character class; missing ']'"
 unfolding globs_on_literals serde_json_on_literals

@@ -89,6 +89,10 @@ array_with_indexes : run ("--set" ∷ "[\"*.rs\",\"*.c\"]" ∷ "-n" ∷ []) "a.c
 unfolding globs_on_literals serde_json_on_literals
 array_with_indexes = refl
 
+object_and_text : run ("--set" ∷ "[{\"glob\":\"*.RS\",\"case_insensitive\":true},\"*.rs\"]" ∷ "-n" ∷ []) "a.rs\n" ≡ writes "0,1\ta.rs\n"
+unfolding globs_on_literals serde_json_on_literals
+object_and_text = refl
+
 empty_array_writes_nothing : run ("--set" ∷ "[]" ∷ []) "a\n\n" ≡ writes_nothing
 unfolding globs_on_literals serde_json_on_literals
 empty_array_writes_nothing = refl

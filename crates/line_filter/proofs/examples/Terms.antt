@@ -33,6 +33,7 @@ glob_with i s e u b text = record {
     backslash_escape = not b;
     empty_alternates = e;
     allow_unclosed_class = u;
+    whole_character = false;
   };
 }
 

@@ -29,6 +29,7 @@ glob_with_flags flags argument = record {
     backslash_escape = not flags.no_escape;
     empty_alternates = flags.empty_alternates;
     allow_unclosed_class = flags.allow_unclosed_class;
+    whole_character = false;
   };
 }
 

@@ -15,6 +15,8 @@ globsift --set [] a => SetNotAlone: --set stands alone or beside -n
 globsift --set [ => NotJson: not a JSON text
 globsift --set {} => Value(ValueError { index: None, kind: NotArray }): expected an array of glob patterns
 globsift --set [\"*.rs\",7] => Value(ValueError { index: Some(1), kind: NotText }): element 1: expected a glob pattern
+globsift --set [{\"glob\":\"*.rs\",\"x\":true}] => Value(ValueError { index: Some(0), kind: UnknownKey }): element 0: unknown key in a glob object
+globsift --set [{\"glob\":\"a\",\"literal_separator\":1}] => Value(ValueError { index: Some(0), kind: NotBool }): element 0: expected true or false
 globsift -n * => accepted";
 
 /// Returns what `Debug` shows of a command line's error, and the text of the error; or `accepted`.
