@@ -18,13 +18,22 @@ use std::alloc::{AllocError, Global};
 ///     from = index + 1;
 /// }
 /// ```
-#[derive(Drop)]
 pub struct IndexSet {
     words: Vec<u64>,
     /// A bit for each word, which is set if the word has a bit that is. So 64 words without one are passed over at once, and
     /// only words that have one are cleared.
     summary: Vec<u64>,
     ghost summed: { IsSummary words.items summary.items },
+}
+
+impl Drop for IndexSet {
+    // One call wherever a value is dropped, which keeps proofs short.
+    fn drop(self) {
+        let IndexSet {
+            words: _,
+            summary: _,
+        } = self;
+    }
 }
 
 impl IndexSet {
