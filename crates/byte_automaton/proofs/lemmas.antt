@@ -10,3 +10,4 @@ pub mod StepLists
 pub mod Changes
 pub mod Ending
 pub mod Disjoint
+pub mod LastBytes

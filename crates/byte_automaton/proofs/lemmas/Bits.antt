@@ -1,11 +1,11 @@
 -- Bits of machine words.
-use Rattle.std.proofs.Common.{suc, min, ◌++◌, ◌+◌, ◌-◌, ◌≡◌, ℕ, ◌*◌, ◌/◌, ◌%◌, ◌^◌, ◌<◌, ◌≤◌, ◌⊎◌, Bool, true, false, true≢false, not, eqb, ltb, List, length, replicate, get_or, set, refl, sym, subst, ◌∙◌, ap, inl, inr, arith, get_or-set_same, get_or-set_other, eq-eqb, ne_eqb, w64, rules}
+use Rattle.std.proofs.Common.{zero, suc, max, min, ◌++◌, ◌+◌, ◌-◌, ◌≡◌, ℕ, ◌*◌, ◌/◌, ◌%◌, ◌^◌, ◌<◌, ◌≤◌, ◌⊎◌, Bool, true, false, true≢false, not, eqb, ltb, List, length, replicate, get_or, set, refl, sym, subst, ◌∙◌, ap, inl, inr, arith, get_or-set_same, get_or-set_other, eq-eqb, ne_eqb, w64, rules}
 use borrow.Rule.Slice.PartMut.{put_mid}
 use Rattle.std.proofs.lemmas.List.{places, get_or_append_left, get_or-replicate, get_or_past, length-replicate}
 use Rattle.std.proofs.lemmas.Bool.{cases_eq, cases_lt}
 use Rattle.std.proofs.lemmas.Nat.{leading_top, and_le_l}
 use Rattle.std.proofs.Math.Nat.{div-eq_of_lt-le, pow-suc}
-use Rattle.std.proofs.lemmas.Nat.Bits.{bit_at_set_same, bit_at_set_other, bit_at_clear_same, bit_at_clear_other, bit_at-zero, bit_at-lt, bit_at_and, bit_at_ones, bit_at_ones_above, bit_at_above, shr_and_one, ones_shr, ones_shl, bit_at_mask_inside, bit_at_mask_below, bit_at-trailing_zeros}
+use Rattle.std.proofs.lemmas.Nat.Bits.{bit_at_set_same, bit_at_set_other, bit_at_clear_same, bit_at_clear_other, bit_at-zero, bit_at-lt, bit_at_and, bit_at_or, bit_at_ones, bit_at_ones_above, bit_at_above, shr_and_one, ones_shr, ones_shl, bit_at_mask_inside, bit_at_mask_below, bit_at-trailing_zeros}
 use Rattle.std.specs.Prelude.{bit_and, bit_or, ◌||◌, ◌&&◌}
 use Rattle.std.specs.Int.{bit_at, bit_not, leading_zeros, trailing_zeros}
 use Rattle.byte_automaton.specs.Bits.{bit_of}
@@ -88,6 +88,23 @@ bit_ones n k lt = bit_replicate n (2 ^ 64 - 1) k lt ∙ ap (λ x. eqb x 1) (bit_
 pub bit_in : (words : List ℕ) (k at i : ℕ) → k / 64 ≡ at → k % 64 ≡ i → bit_of words k ≡ eqb (bit_at (get_or words at 0) i) 1
 unfolding bit_of
 bit_in words k at i word bit = ap (λ x. eqb (bit_at (get_or words x 0) (k % 64)) 1) word ∙ ap (λ x. eqb (bit_at (get_or words at 0) x) 1) bit
+
+either_bit : (s x : ℕ) → s < 2 → x < 2 → eqb (max s x) 1 ≡ (eqb x 1 || eqb s 1)
+either_bit zero zero hs hx = refl
+either_bit zero (suc zero) hs hx = refl
+either_bit (suc zero) zero hs hx = refl
+either_bit (suc zero) (suc zero) hs hx = refl
+either_bit (suc (suc s)) x hs hx = absurd (omega arith)
+either_bit s (suc (suc x)) hs hx = absurd (omega arith)
+
+-- a word with the bits of two
+pub bit_joined : (set other new : List ℕ) (j k : ℕ) → k / 64 ≡ j → get_or new j 0 ≡ bit_or (get_or set j 0) (get_or other j 0) → bit_of new k ≡ (bit_of other k || bit_of set k)
+bit_joined set other new j k row is =
+    let i : ℕ = k % 64 in
+    let s : ℕ = get_or set j 0 in
+    let x : ℕ = get_or other j 0 in
+    rw (bit_in set k j i row refl, bit_in other k j i row refl)
+    (bit_in new k j i row refl ∙ ap (λ w. eqb (bit_at w i) 1) is ∙ ap (λ y. eqb y 1) (bit_at_or s x i) ∙ either_bit (bit_at s i) (bit_at x i) (bit_at-lt s i) (bit_at-lt x i))
 
 pub zero_bit : (b : ℕ) → b ≡ 0 → eqb b 1 ≡ false
 zero_bit b e = ap (λ x. eqb x 1) e
