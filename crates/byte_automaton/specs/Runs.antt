@@ -1,7 +1,8 @@
 -- What a set of states accepts.
-use Rattle.std.specs.Prelude.{ℕ, ◌<◌, ◌↔◌, List, [], length, IsTrue}
-use Rattle.byte_automaton.specs.Sets.{has_state}
-use Rattle.byte_automaton.specs.Steps.{Accepts, Machine}
+use Rattle.std.specs.Prelude.{ℕ, ◌<◌, ◌↔◌, List, [], ◌∷◌, ◌++◌, length, IsTrue}
+use Rattle.byte_automaton.specs.Sets.{has_byte, has_state}
+use Rattle.byte_automaton.specs.Steps.{Accepts, Machine, IsReached}
+use Rattle.byte_automaton.specs.declared.byte_set.ByteSet.{ByteSet}
 use Rattle.byte_automaton.specs.declared.state_set.StateSet.{StateSet}
 
 -- the number of states
@@ -19,3 +20,7 @@ HasSome m set = (t : ℕ) × (t < size m) × IsTrue (has_state set t)
 -- the set has exactly the states that lead to some end without a byte
 abbrev pub AreEnding : Machine → StateSet → Type 0
 AreEnding m set = (s : ℕ) → s < size m → IsTrue (has_state set s) ↔ ((k : ℕ) × Accepts m.states k s [])
+
+-- the set has the last byte of each text that leads to an end
+abbrev pub HasLastBytes : Machine → ByteSet → Type 0
+HasLastBytes m set = (y : List ℕ) (b k : ℕ) → IsReached m (y ++ b ∷ []) k → IsTrue (has_byte set b)

@@ -6,7 +6,7 @@ ghost use Rattle.byte_automaton.specs.Steps.{Machine, IsReached, state, final};
 ghost use Rattle.byte_automaton.specs.Alike.{AreAlike};
 ghost use Rattle.byte_automaton.specs.ByteSteps.{leads_to, step_room};
 ghost use Rattle.byte_automaton.specs.Decisions.{Decides, EndsAtDecisions};
-ghost use Rattle.byte_automaton.specs.Runs.{size, AcceptsFrom, AreEnding, HasSome};
+ghost use Rattle.byte_automaton.specs.Runs.{size, AcceptsFrom, AreEnding, HasSome, HasLastBytes};
 ghost use Rattle.byte_automaton.specs.inner.Views.{AreSound, GoesBelow, machine};
 ghost use Rattle.byte_automaton.specs.inner.Pass.{goes_now, goes_next, names, EndsBy};
 
@@ -206,6 +206,22 @@ impl Automaton {
         }
     }
 
+    /// Returns a set that has the last byte of each text that leads to some end. Returns an error if memory runs out.
+    ///
+    /// It has no byte by which no state goes on to one that leads to an end without a byte. It reads each state, takes a bit of
+    /// memory for each while it runs, and is meant for what is made from an automaton before it is run.
+    pub fn last_bytes(&self) -> Result<ByteSet, AllocError>
+        ensures { IfOk result (λ set. HasLastBytes self.now set) }
+    {
+        let mut ending = StateSet::new(*self.states.allocator(), self.state_count())?;
+        self.ending(&mut ending);
+        let mut bytes = ByteSet::nothing();
+        for s in 0..self.state_count() {
+            bytes = self.add_last_bytes(s, &ending, bytes);
+        }
+        Ok(bytes)
+    }
+
     /// Returns a set that has a byte `b` below 255 if some state reads one of `b` and `b + 1`, and not both. If it has not,
     /// what follows either byte leads to the same ends.
     ///
@@ -275,6 +291,16 @@ impl Automaton {
         ensures ends { IsTrue result ↔ EndsBy (state self.now.states s) (has_state ending.now) }
     {
         self.states[s].is_ending(s, &self.nexts, ending)
+    }
+
+    /// Returns a set with each byte more by which a state goes on to a state of `ending`.
+    fn add_last_bytes(&self, s: usize, ending: &StateSet, set: ByteSet) -> ByteSet
+        requires exists { s < size self.now }
+        requires room { size self.now ≤ state_room ending.now }
+        ensures keeps { (c : ℕ) → IsTrue (has_byte set c) → IsTrue (has_byte result c) }
+        ensures last { (c t : ℕ) → IsTrue (goes_next (state self.now.states s) s (Some c) t) → IsTrue (has_state ending.now t) → IsTrue (has_byte result c) }
+    {
+        self.states[s].add_last_bytes(s, ending, set)
     }
 
     /// Takes the steps of a state of `from`: puts into `from` what it goes on to without a byte, and into `to` what it goes

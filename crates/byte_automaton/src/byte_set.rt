@@ -75,6 +75,21 @@ impl ByteSet {
         ByteSet { words }
     }
 
+    /// Returns the set with every byte of another set more.
+    pub(crate) fn with_all(self, other: &ByteSet) -> ByteSet
+        ensures { (c : ℕ) → has_byte result c ≡ (has_byte other.now c || has_byte self c) }
+    {
+        let [a, b, c, d] = other.words;
+        ByteSet {
+            words: [
+                self.words[0] | a,
+                self.words[1] | b,
+                self.words[2] | c,
+                self.words[3] | d,
+            ],
+        }
+    }
+
     /// Returns the set with each byte `b` more for which another set has one of `b` and `b + 1`, and not both.
     pub(crate) fn with_changes(self, other: &ByteSet) -> ByteSet
         ensures { (b : ℕ) → b + 1 < 256 → has_byte result b ≡ (differ (has_byte other.now b) (has_byte other.now (b + 1)) || has_byte self b) }

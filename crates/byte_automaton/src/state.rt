@@ -147,6 +147,20 @@ impl State {
         }
     }
 
+    /// Returns a set with each byte more by which a state goes on to a state of `ending`.
+    pub fn add_last_bytes(&self, s: usize, ending: &StateSet, set: ByteSet) -> ByteSet
+        requires below { (nexts : List ℕ) × GoesBelow s (of_state nexts self.now) }
+        requires room { s < state_room ending.now }
+        ensures keeps { (c : ℕ) → IsTrue (has_byte set c) → IsTrue (has_byte result c) }
+        ensures last { (nexts : List ℕ) (c t : ℕ) → IsTrue (goes_next (of_state nexts self.now) s (Some c) t) → IsTrue (has_state ending.now t) → IsTrue (has_byte result c) }
+    {
+        match self {
+            State::Reads(bytes, next) if ending.has(*next) => set.with_all(bytes),
+            State::Stays(bytes, _, _) if ending.has(s) => set.with_all(bytes),
+            _ => set,
+        }
+    }
+
     /// Returns a set with each byte `b` more for which a state reads or stays on one of `b` and `b + 1`, and not both.
     pub fn add_changes(&self, set: ByteSet) -> ByteSet
         ensures { (nexts : List ℕ) (b : ℕ) → b + 1 < 256 → has_byte result b ≡ (differ (reads_byte (of_state nexts self.now) b) (reads_byte (of_state nexts self.now) (b + 1)) || has_byte set b) }

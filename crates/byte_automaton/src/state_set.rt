@@ -127,6 +127,14 @@ impl StateSet {
         }
     }
 
+    /// Returns whether a state is in the set.
+    pub(crate) fn has(&self, state: usize) -> bool
+        requires { state < state_room self.now }
+        ensures { result ≡ has_state self.now state }
+    {
+        has_bit(&self.words, state)
+    }
+
     /// Returns whether one of several states is in the set.
     pub(crate) fn has_any(&self, states: &[usize]) -> bool
         requires { AreBelow (state_room self.now) states.now }

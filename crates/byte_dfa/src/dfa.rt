@@ -10,7 +10,7 @@ use crate::classes::ByteClasses;
 use crate::construction::{Construction, SPECIAL};
 use crate::lists::{has_some, put_listed};
 use crate::source::Source;
-use byte_automaton::{Automaton, IndexSet};
+use byte_automaton::{Automaton, ByteSet, IndexSet};
 use std::alloc::{AllocError, Global};
 use std::marker::Model;
 use visits::Visits;
@@ -27,6 +27,8 @@ pub struct Dfa {
     start: usize,
     lists: Vec<usize>,
     index_count: usize,
+    /// A text that ends with another byte leads to no end.
+    last_bytes: ByteSet,
     source: Source,
 }
 
@@ -40,6 +42,7 @@ impl Drop for Dfa {
             start: _,
             lists: _,
             index_count: _,
+            last_bytes: _,
             source: _,
         } = self;
     }
@@ -52,7 +55,7 @@ impl Model for Dfa {
 
     ghost view = { λ d. record { source = d.source; size = length d.table.items + length d.lists.items } };
 
-    ghost invariant = { λ d. IsTableOf d.source (table_of d.class_of d.width d.table.items d.start d.lists.items d.index_count) };
+    ghost invariant = { λ d. IsTableOf d.source (table_of d.class_of d.width d.table.items d.start d.lists.items d.index_count) d.last_bytes };
 }
 
 impl Clone for Dfa {
@@ -68,6 +71,7 @@ impl Clone for Dfa {
             start: self.start,
             lists: Vec::from_slice(alloc, &self.lists)?,
             index_count: self.index_count,
+            last_bytes: self.last_bytes,
             source: self.source.copy(),
         })
     }
@@ -86,6 +90,7 @@ impl Dfa {
         ensures source { IfOk result (λ made. IfSome made (λ dfa. dfa.source ≡ automaton.now)) }
         ensures size { IfOk result (λ made. IfSome made (λ dfa. dfa.size ≤ budget)) }
     {
+        let last_bytes = automaton.last_bytes()?;
         let Some(decided) = automaton.with_decisions()? else {
             return Ok(None);
         };
@@ -104,6 +109,7 @@ impl Dfa {
             start: start * (classes.count + 2),
             lists: built.lists,
             index_count: automaton.index_count(),
+            last_bytes,
             source: Source::of(automaton),
         }))
     }
@@ -118,13 +124,16 @@ impl Dfa {
     /// Puts the index of each end that a text leads to into a set, beside what it holds.
     ///
     /// It reads at most one entry for each byte, and the lists of the states where indexes are found. It is at most one visit
-    /// for each byte, and one more. It takes no memory.
+    /// for each byte, and one more. It takes no memory. If no text with the last byte leads to an end, it is no visit.
     pub fn find(&self, text: &[u8], into: &mut IndexSet, visits: &mut Visits)
         requires { self.now.source.index_count ≤ index_room into.old }
         ensures room { index_room into.new ≡ index_room into.old }
         ensures found { (k : ℕ) → IsTrue (has_index into.new k) ↔ (IsReached self.now.source text.now k ⊎ IsTrue (has_index into.old k)) }
         ensures visits { visits.new ≤ visits.old + (length text.now + 1) }
     {
+        if self.is_excluded(text) {
+            return;
+        }
         let table = self.table.as_slice();
         let mut state = self.start;
         put_listed(&self.lists, table[state + self.width] as usize, into);
@@ -145,11 +154,14 @@ impl Dfa {
     /// Returns whether a text leads to some end. It stops at the first that is found.
     ///
     /// It reads at most one entry for each byte, and the lists of the states where indexes are found. It is at most one visit
-    /// for each byte, and one more. It takes no memory.
+    /// for each byte, and one more. It takes no memory. If no text with the last byte leads to an end, it is no visit.
     pub fn is_match(&self, text: &[u8], visits: &mut Visits) -> bool
         ensures some { IsTrue result ↔ ((k : ℕ) × IsReached self.now.source text.now k) }
         ensures visits { visits.new ≤ visits.old + (length text.now + 1) }
     {
+        if self.is_excluded(text) {
+            return false;
+        }
         let table = self.table.as_slice();
         let mut state = self.start;
         if has_some(&self.lists, table[state + self.width] as usize) {
@@ -169,6 +181,16 @@ impl Dfa {
         }
         visits.tick();
         has_some(&self.lists, table[state + self.width + 1] as usize)
+    }
+
+    /// Returns whether the last byte of a text shows that it leads to no end.
+    fn is_excluded(&self, text: &[u8]) -> bool
+        ensures { IsTrue result → (k : ℕ) → IsReached self.now.source text.now k → ⊥ }
+    {
+        match text.split_last() {
+            Some((last, _)) => !self.last_bytes.has(*last),
+            None => false,
+        }
     }
 }
 

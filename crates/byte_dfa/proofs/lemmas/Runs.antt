@@ -7,8 +7,9 @@ use Rattle.std.proofs.lemmas.Option.{slice_get_within}
 use Rattle.std.proofs.Math.Logic.{⊎_elim}
 use Rattle.std.proofs.Math.Nat.{add-mod_left}
 use Rattle.byte_automaton.specs.Decisions.{EndsAtDecisions}
-use Rattle.byte_automaton.specs.Runs.{AcceptsFrom}
+use Rattle.byte_automaton.specs.Runs.{AcceptsFrom, HasLastBytes}
 use Rattle.byte_automaton.specs.Steps.{Machine, IsReached}
+use Rattle.byte_automaton.specs.declared.byte_set.ByteSet.{ByteSet}
 use Rattle.byte_automaton.specs.declared.state_set.StateSet.{StateSet}
 use Rattle.byte_automaton.specs.inner.Pass.{is_listed}
 use Rattle.byte_automaton.specs.Texts.{AllBytes}
@@ -219,12 +220,14 @@ module _ (old m : Machine) (made : EndsAtDecisions old m) (classes : ByteClasses
       nothing f0 at y k (lt, inl a) = built.sets.dead f0 at y k a
       nothing f0 at y k (lt, inr (p, q, e, a)) = built.sets.dead f0 at p (old.index_count + k) a
 
-  pub table_is : (number : ℕ) (f : Found) → slice_get found number ≡ Some f → start ≡ number * (w + 2) → ((y : List ℕ) (k : ℕ) → AcceptsFrom m f.states y k ↔ IsReached m y k) → IsTableOf old d
-  table_is number f at is begins = record {
+  pub table_is : (number : ℕ) (f : Found) (last_bytes : ByteSet) → slice_get found number ≡ Some f → start ≡ number * (w + 2) → ((y : List ℕ) (k : ℕ) → AcceptsFrom m f.states y k ↔ IsReached m y k)
+      → HasLastBytes old last_bytes → IsTableOf old d last_bytes
+  table_is number f last_bytes at is begins last = record {
     sound = table_sound number f at is;
     finds = λ y k bytes. subst (λ s. IsTrue (finds_from d s y k) ↔ IsReached old y k) (sym is)
         (iff_trans (found_from number f y k at bytes) (iff_trans (reaches y k) (iff_sym (reached_by old m made k y bytes))));
     count = refl;
+    last = last;
   }
     where
       reaches : (y : List ℕ) (k : ℕ) → FromHere m n f.states y k ↔ ((k < old.index_count) × (IsReached m y k ⊎ ((p : List ℕ) × (q : List ℕ) × (y ≡ p ++ q) × IsReached m p (old.index_count + k))))

@@ -1,6 +1,8 @@
 -- Reading the table of a deterministic automaton.
 use Rattle.std.specs.Prelude.{◌≡◌, ℕ, ◌+◌, ◌*◌, ◌%◌, ◌<◌, ◌↔◌, Bool, false, ◌||◌, IsTrue, List, [], ◌∷◌, length, slice_index}
+use Rattle.byte_automaton.specs.Runs.{HasLastBytes}
 use Rattle.byte_automaton.specs.Steps.{Machine, IsReached}
+use Rattle.byte_automaton.specs.declared.byte_set.ByteSet.{ByteSet}
 use Rattle.byte_automaton.specs.Texts.{AllBytes}
 use Rattle.byte_automaton.specs.inner.Pass.{is_listed}
 use Rattle.byte_dfa.specs.inner.Lists.{list_at, IsList}
@@ -71,8 +73,9 @@ pub record IsTable (d : Table) : Type 0 where
   pub quiet : (s b : ℕ) → IsRow d s → b < 256 → entry d s b < special → on_entry d (after d s b) ≡ []
   pub dead : (y : List ℕ) (k : ℕ) → AllBytes y → finds_from d 0 y k ≡ false
 
--- the table finds what the automaton does
-pub record IsTableOf (m : Machine) (d : Table) : Type 0 where
+-- the table finds what the automaton does, and the set has the last byte of each text that leads to an end
+pub record IsTableOf (m : Machine) (d : Table) (last_bytes : ByteSet) : Type 0 where
   pub sound : IsTable d
   pub finds : (y : List ℕ) (k : ℕ) → AllBytes y → IsTrue (finds d y k) ↔ IsReached m y k
   pub count : d.count ≡ m.index_count
+  pub last : HasLastBytes m last_bytes

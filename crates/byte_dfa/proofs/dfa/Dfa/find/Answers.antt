@@ -1,4 +1,5 @@
-use Rattle.std.proofs.Common.{◌≡◌, ℕ, ◌+◌, ◌<◌, ◌≤◌, ◌∷◌, ◌-◌, ◌||◌, [], drop, length, get_or, slice_index, arith, sym, ap, ◌∙◌}
+use Rattle.std.proofs.Common.{◌≡◌, ℕ, ◌+◌, ◌<◌, ◌≤◌, ◌∷◌, ◌-◌, ◌||◌, inr, [], drop, length, get_or, slice_index, IsTrue, arith, sym, ap, ◌∙◌}
+use Rattle.std.proofs.Math.Logic.{⊎_elim}
 use Rattle.std.proofs.lemmas.List.{drop_more, drop_all}
 use Rattle.byte_automaton.specs.Sets.{has_index, index_room}
 use Rattle.byte_automaton.proofs.lemmas.Deciding.{all_bytes}
@@ -117,3 +118,6 @@ returns-clause-found c = λ k.
     let listed = rw (c.deref-2.ensures.value, c.as_slice-table.ensures.value) at c.put_listed-2.ensures.has k in
     let source = ap (λ (v : DfaValue). v.source) c.self.view_is in
     rw (sym source) (found_is (has_index c.put_listed-2.new.into k) (has_index c.args.into.now k) (finds d text k) _ (c.self.invariant.finds text k bytes) (listed ∙ found))
+
+pub returns-then-is_excluded-clause-found : goal.returns-then-is_excluded-clause-found
+returns-then-is_excluded-clause-found c = λ k. (λ old. inr old, λ either. ⊎_elim {C = IsTrue (has_index c.args.into.now k)} (λ now. absurd (c.is_excluded.ensures c.if-is_excluded.true k now)) (λ old. old) either)

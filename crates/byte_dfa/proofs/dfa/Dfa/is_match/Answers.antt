@@ -1,4 +1,4 @@
-use Rattle.std.proofs.Common.{◌≡◌, ℕ, ◌+◌, ◌<◌, ◌∷◌, ◌-◌, [], drop, length, get_or, slice_index, arith, sym, ap, ◌∙◌}
+use Rattle.std.proofs.Common.{◌≡◌, ℕ, ◌+◌, ◌<◌, ◌∷◌, ◌-◌, [], drop, length, get_or, slice_index, true≢false, arith, sym, ap, ◌∙◌}
 use Rattle.std.proofs.lemmas.List.{drop_more, drop_all}
 use Rattle.byte_automaton.specs.inner.Pass.{is_listed}
 use Rattle.byte_automaton.proofs.lemmas.Deciding.{all_bytes}
@@ -142,3 +142,6 @@ returns-clause-some c =
     let none = rw (c.deref-2.ensures.value, c.as_slice-table.ensures.value) at c.has_some-2.ensures.none in
     let source = ap (λ (v : DfaValue). v.source) c.self.view_is in
     rw (sym source) (whether_found c.has_some-2.result (finds d text) _ (at_end d l.state) (λ j. c.self.invariant.finds text j bytes) (λ j. rw past at l.invariant.same j) some none)
+
+pub returns-then-is_excluded-clause-some : goal.returns-then-is_excluded-clause-some
+returns-then-is_excluded-clause-some c = (λ h. absurd (true≢false (sym h)), λ (k, reached). absurd (c.is_excluded.ensures c.if-is_excluded.true k reached))
