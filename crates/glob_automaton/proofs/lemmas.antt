@@ -1,5 +1,6 @@
 pub mod Booleans
 pub mod Building
+pub mod Characters
 pub mod Cuts
 pub mod Frames
 pub mod IndexedTokens

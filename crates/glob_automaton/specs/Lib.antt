@@ -1,4 +1,5 @@
 pub mod Blank
+pub mod Characters
 pub mod Takes
 pub mod TokenMeans
 pub mod IndexedTokens

@@ -6,6 +6,7 @@ use Rattle.std.specs.Str.{bytes_eq}
 use Rattle.glob_syntax.specs.declared.options.Options.{Options}
 use Rattle.glob_syntax.specs.Token.{Token, Literal, Any, ZeroOrMore, RecursivePrefix, RecursiveSuffix, RecursiveZeroOrMore, Class, Group, Tokens, end, and_then, Branches, none, branch}
 use Rattle.glob_automaton.specs.Blank.{is_kept, any_kept}
+use Rattle.glob_automaton.specs.Characters.{is_character}
 use Rattle.glob_syntax.specs.ClassBytes.{class_has}
 
 -- ---- lists of bytes
@@ -47,6 +48,10 @@ some_cut test (c ∷ cs) = test [] (c ∷ cs) || some_cut (λ front back. test (
 abbrev pub is_wild : Options → ℕ → Bool
 is_wild o c = not (o.literal_separator && (c == slash))
 
+-- the bytes are those of one character, but not `/` under `literal_separator`
+abbrev pub is_wild_character : Options → List ℕ → Bool
+is_wild_character o b = is_character b && not (o.literal_separator && is_one_byte (λ c. c == slash) b)
+
 -- the bytes as literals compare them: under `case_insensitive` each ASCII letter as its lower case
 abbrev pub compared : Options → List ℕ → List ℕ
 compared o b = if o.case_insensitive then map to_ascii_lowercase b else b
@@ -56,7 +61,8 @@ abbrev mutual
   pub takes : Options → Token → List ℕ → Bool
   -- the bytes are the character in UTF-8
   takes o (Literal c) b = bytes_eq (compared o b) (compared o (encode_utf8 c))
-  takes o Any b = is_one_byte (is_wild o) b
+  -- under `whole_character` one character, and otherwise one byte
+  takes o Any b = if o.whole_character then is_wild_character o b else is_one_byte (is_wild o) b
   takes o ZeroOrMore b = list_all (is_wild o) b
   takes o RecursivePrefix b = is_empty b || ends_with_slash b
   takes o RecursiveSuffix b = begins_with_slash b

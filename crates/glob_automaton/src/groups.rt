@@ -111,7 +111,7 @@ pub fn add_sequence(
     requires nested { IsNested (flats tokens.now) }
     requires exit { exit < size builder.old }
     ensures within { IfOk result (λ s. s < size builder.new) }
-    ensures count { OnOk result (size builder.new ≤ size builder.old + weight (tokens_of tokens.now)) }
+    ensures count { OnOk result (size builder.new ≤ size builder.old + weight options (tokens_of tokens.now)) }
     ensures grows { Grows builder.old builder.new }
     ensures builds { IfOk result (λ s. Builds options (tokens_of tokens.now) builder.old.states builder.new.states s exit) }
 {

@@ -5,7 +5,9 @@
 //! Nothing here knows the text of a glob.
 #![tactic(auto)]
 
+mod characters;
 mod groups;
+pub mod laws;
 mod states;
 mod whole;
 

@@ -3,13 +3,16 @@
 ghost use Rattle.std.specs.Prelude.{◌≡◌, ◌+◌, ◌<◌, ◌≤◌, length, OnOk, IfOk};
 ghost use Rattle.glob_syntax.specs.ClassBytes.{class_has};
 ghost use Rattle.glob_syntax.specs.FlatTokens.{IsSimple};
+ghost use Rattle.glob_syntax.specs.Token.{Any};
 ghost use Rattle.glob_syntax.specs.Views.{flat_of};
+ghost use Rattle.glob_syntax.specs.inner.Weight.{any_weight};
 ghost use Rattle.glob_automaton.specs.Takes.{is_wild};
 ghost use Rattle.byte_automaton.specs.Runs.{size};
 ghost use Rattle.glob_automaton.specs.inner.TokenStates.{IsSetOf, is_letter};
-ghost use Rattle.glob_automaton.specs.inner.Building.{Grows, BuildsText, BuildsToSlash};
+ghost use Rattle.glob_automaton.specs.inner.Building.{Grows, BuildsText, BuildsToSlash, BuildsToken};
 ghost use Rattle.glob_automaton.specs.inner.Frames.{flat_weight, BuildsFlat};
 
+use crate::characters::add_character;
 use byte_automaton::{Builder, ByteSet};
 use glob_syntax::{Class, Options, Token};
 use std::alloc::AllocError;
@@ -81,6 +84,23 @@ fn add_to_slash(builder: &mut Builder, exit: usize) -> Result<usize, AllocError>
     Ok(start)
 }
 
+/// Adds the states of a `?`.
+fn add_any(builder: &mut Builder, options: Options, exit: usize) -> Result<usize, AllocError>
+    requires { exit < size builder.old }
+    ensures within { IfOk result (λ s. s < size builder.new) }
+    ensures count { OnOk result (size builder.new ≡ size builder.old + any_weight options) }
+    ensures grows { Grows builder.old builder.new }
+    ensures builds { IfOk result (λ s. BuildsToken options Any builder.old.states builder.new.states s exit) }
+{
+    if options.whole_character {
+        let start = add_character(builder, options, exit)?;
+        Ok(start)
+    } else {
+        let start = builder.push_read(wild_bytes(options), exit)?;
+        Ok(start)
+    }
+}
+
 /// Adds the states of one token that is no brace or comma, which lead to a state. Returns where they begin. A matching run
 /// begins there, and is at the exit after it.
 pub fn add_token(
@@ -92,7 +112,7 @@ pub fn add_token(
     requires simple { IsSimple (flat_of token.now) }
     requires exit { exit < size builder.old }
     ensures within { IfOk result (λ s. s < size builder.new) }
-    ensures count { OnOk result (size builder.new ≤ size builder.old + flat_weight (flat_of token.now)) }
+    ensures count { OnOk result (size builder.new ≤ size builder.old + flat_weight options (flat_of token.now)) }
     ensures grows { Grows builder.old builder.new }
     ensures builds { IfOk result (λ s. BuildsFlat options (flat_of token.now) builder.old.states builder.new.states s exit) }
 {
@@ -102,7 +122,7 @@ pub fn add_token(
             let text = c.encode_utf8(&mut buffer);
             add_text(builder, options, text.as_bytes(), exit)
         }
-        Token::Any => builder.push_read(wild_bytes(options), exit),
+        Token::Any => add_any(builder, options, exit),
         Token::ZeroOrMore => builder.push_stay(wild_bytes(options), &[exit]),
         Token::RecursivePrefix => add_to_slash(builder, exit),
         Token::RecursiveSuffix => {

@@ -6,6 +6,7 @@ pub mod Stars
 pub mod Reading
 pub mod FlatTokens
 pub mod ClassBytes
+pub mod StatesPerByte
 pub mod Laws
 pub mod Views
 pub mod inner

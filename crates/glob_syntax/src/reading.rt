@@ -4,6 +4,7 @@ ghost use Rattle.std.specs.Prelude.{◌≡◌, ◌*◌, ◌≤◌, length, IfOk}
 ghost use Rattle.std.specs.Str.{chars};
 ghost use Rattle.glob_syntax.specs.Reading.{reading};
 ghost use Rattle.glob_syntax.specs.FlatTokens.{IsNested};
+ghost use Rattle.glob_syntax.specs.StatesPerByte.{states_per_byte};
 ghost use Rattle.glob_syntax.specs.Views.{AgreesWith, flats, tokens_of};
 ghost use Rattle.glob_syntax.specs.inner.Weight.{weight};
 ghost use Rattle.glob_syntax.specs.inner.WellFormed.{AreWellFormed};
@@ -45,7 +46,7 @@ pub fn read_tokens(alloc: Global, options: Options, text: &str) -> Result<Vec<To
     ensures value { AgreesWith (λ v. tokens_of v.items) result (reading options (chars text.now)) }
     ensures nested { IfOk result (λ v. IsNested (flats v.items)) }
     ensures well_formed { IfOk result (λ v. AreWellFormed (tokens_of v.items)) }
-    ensures weight { IfOk result (λ v. weight (tokens_of v.items) ≤ 4 * length text.now) }
+    ensures weight { IfOk result (λ v. weight options (tokens_of v.items) ≤ states_per_byte options * length text.now) }
 {
     let characters = characters(alloc, text)?;
     let marks = read_marks(alloc, options, &characters)?;

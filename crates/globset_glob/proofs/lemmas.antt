@@ -1,4 +1,5 @@
 pub mod ByteTexts
+pub mod CharacterTexts
 pub mod ClassTexts
 pub mod ErrorEquality
 pub mod EscapeMeaning

@@ -1,10 +1,11 @@
 -- The bound on the visits of a matcher.
 use Rattle.std.specs.Prelude.{ℕ, ◌+◌, ◌*◌, List, length}
+use Rattle.glob_syntax.specs.StatesPerByte.{states_per_byte}
 use Rattle.globset_glob.specs.Means.{GlobValue}
 
--- the most visits at one position of a path: 4 for each byte of the glob's text, and 4
+-- the most visits at one position of a path: 4 for each byte of the glob's text, or 16 under `whole_character`, and 4
 abbrev pub cost : GlobValue → ℕ
-cost g = 4 * length g.text + 4
+cost g = states_per_byte g.options * length g.text + 4
 
 -- The most visits for a path. It has one position more than it has bytes.
 abbrev pub most_visits : GlobValue → List ℕ → ℕ

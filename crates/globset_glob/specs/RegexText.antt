@@ -63,13 +63,36 @@ abbrev pub with_text : Bool → List ℕ → List (List ℕ) → List (List ℕ)
 with_text true t ts = t ∷ ts
 with_text false t ts = ts
 
+-- ---- whole characters
+
+-- the ASCII characters, but not `/` under `literal_separator`
+abbrev pub ascii_text : Options → List ℕ
+ascii_text o = if o.literal_separator then codes "[\\x00-\\x2e\\x30-\\x7f]" else codes "[\\x00-\\x7f]"
+
+-- the other characters in UTF-8, by the rows of `character_rows`
+abbrev pub longer_texts : List (List ℕ)
+longer_texts =
+    codes "[\\xc2-\\xdf][\\x80-\\xbf]"
+    ∷ codes "\\xe0[\\xa0-\\xbf][\\x80-\\xbf]"
+    ∷ codes "[\\xe1-\\xec][\\x80-\\xbf][\\x80-\\xbf]"
+    ∷ codes "\\xed[\\x80-\\x9f][\\x80-\\xbf]"
+    ∷ codes "[\\xee-\\xef][\\x80-\\xbf][\\x80-\\xbf]"
+    ∷ codes "\\xf0[\\x90-\\xbf][\\x80-\\xbf][\\x80-\\xbf]"
+    ∷ codes "[\\xf1-\\xf3][\\x80-\\xbf][\\x80-\\xbf][\\x80-\\xbf]"
+    ∷ codes "\\xf4[\\x80-\\x8f][\\x80-\\xbf][\\x80-\\xbf]"
+    ∷ []
+
+-- what `?` matches: one character under `whole_character`, and otherwise one byte
+abbrev pub any_text : Options → List ℕ
+any_text o = if o.whole_character then group_text (ascii_text o ∷ longer_texts) else (if o.literal_separator then codes "[^/]" else codes ".")
+
 -- ---- tokens
 
 abbrev mutual
   -- one token
   pub token_text : Options → Token → List ℕ
   token_text o (Literal c) = char_text c
-  token_text o Any = if o.literal_separator then codes "[^/]" else codes "."
+  token_text o Any = any_text o
   token_text o ZeroOrMore = if o.literal_separator then codes "[^/]*" else codes ".*"
   token_text o RecursivePrefix = codes "(?:/?|.*/)"
   token_text o RecursiveSuffix = codes "/.*"

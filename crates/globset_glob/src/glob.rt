@@ -52,6 +52,7 @@ impl Model for Glob {
     ghost use Rattle.glob_syntax.specs.Reading.{reading};
     ghost use Rattle.globset_glob.specs.RegexText.{regex_text};
     ghost use Rattle.glob_syntax.specs.FlatTokens.{IsNested};
+    ghost use Rattle.glob_syntax.specs.StatesPerByte.{states_per_byte};
     ghost use Rattle.glob_syntax.specs.Views.{flats, tokens_of};
     ghost use Rattle.glob_syntax.specs.inner.Weight.{weight};
     ghost use Rattle.glob_syntax.specs.inner.WellFormed.{AreWellFormed};
@@ -64,7 +65,7 @@ impl Model for Glob {
       read : reading g.options (chars (string_bytes g.text)) ≡ Ok (tokens_of g.tokens.items);
       nested : IsNested (flats g.tokens.items);
       well_formed : AreWellFormed (tokens_of g.tokens.items);
-      weight : weight (tokens_of g.tokens.items) ≤ 4 * length (string_bytes g.text);
+      weight : weight g.options (tokens_of g.tokens.items) ≤ states_per_byte g.options * length (string_bytes g.text);
       regex : string_bytes g.regex ≡ regex_text g.options (tokens_of g.tokens.items);
     } };
 }
@@ -108,7 +109,8 @@ impl Glob {
     /// The text is `(?-u)`, then `(?i)` under `case_insensitive`, `^`, the tokens, and `$`. It is for engines that match
     /// bytes. `.` has to match any byte. In many engines it does not match a line feed, which the text does not change, so
     /// such an engine needs its option for that. The characters `\ . + * ? ( ) | [ ] { } ^ $ # & - ~` of the glob are
-    /// written after a `\`, in classes too. A byte above 7F is written as `\x` and two digits.
+    /// written after a `\`, in classes too. A byte above 7F is written as `\x` and two digits. Under `whole_character` a `?` is
+    /// a group with a branch for each row of Table 3-7 of the Unicode Standard, which has the bytes of characters in UTF-8.
     ///
     /// ```text
     /// a-b/**/*.{rs,é}    (?-u)^a\-b(?:/|/.*/).*\.(?:rs|\xc3\xa9)$
@@ -146,6 +148,7 @@ impl Glob {
     ghost use Rattle.globset_glob.specs.Means.{IsRead};
     ghost use Rattle.glob_syntax.specs.Reading.{reading};
     ghost use Rattle.glob_syntax.specs.FlatTokens.{IsNested};
+    ghost use Rattle.glob_syntax.specs.StatesPerByte.{states_per_byte};
     ghost use Rattle.glob_syntax.specs.Views.{flats, tokens_of};
     ghost use Rattle.glob_syntax.specs.inner.Weight.{weight};
 
@@ -174,7 +177,7 @@ impl Glob {
     pub(crate) fn tokens(&self) -> &[Token]
         ensures read { reading self.now.options (chars self.now.text) ≡ Ok (tokens_of result.now) }
         ensures nested { IsNested (flats result.now) }
-        ensures weight { weight (tokens_of result.now) ≤ 4 * length self.now.text }
+        ensures weight { weight self.now.options (tokens_of result.now) ≤ states_per_byte self.now.options * length self.now.text }
     {
         &self.tokens
     }

@@ -6,6 +6,7 @@ ghost use Rattle.glob_syntax.specs.Reading.{reading};
 ghost use Rattle.globset_glob.specs.Means.{tokens_of_glob};
 ghost use Rattle.globset_glob.specs.Values.{of_element};
 ghost use Rattle.glob_syntax.specs.FlatTokens.{IsNested};
+ghost use Rattle.glob_syntax.specs.StatesPerByte.{states_per_byte};
 ghost use Rattle.glob_syntax.specs.Views.{flats, tokens_of};
 ghost use Rattle.glob_syntax.specs.inner.Weight.{weight};
 
@@ -19,7 +20,7 @@ pub fn tokens_of(glob: &Glob) -> &[Token]
     ensures read { reading glob.now.options (chars glob.now.text) ≡ Ok (tokens_of result.now) }
     ensures tokens { tokens_of_glob glob.now ≡ tokens_of result.now }
     ensures nested { IsNested (flats result.now) }
-    ensures weight { weight (tokens_of result.now) ≤ 4 * length glob.now.text }
+    ensures weight { weight glob.now.options (tokens_of result.now) ≤ states_per_byte glob.now.options * length glob.now.text }
 {
     glob.tokens()
 }

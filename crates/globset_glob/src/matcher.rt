@@ -96,9 +96,9 @@ impl GlobMatcher {
 
     /// Does what [`is_match_candidate`](GlobMatcher::is_match_candidate) does, and adds its visits to `visits`.
     ///
-    /// These are at most `(path bytes + 1) * (4 * glob bytes + 4)` visits, also if memory runs out. The call allocates
-    /// nothing if the matcher has a deterministic automaton, and otherwise two sets of states, of one bit for each state of
-    /// the automaton.
+    /// These are at most `(path bytes + 1) * (4 * glob bytes + 4)` visits, with `16 * glob bytes + 4` in place of the second
+    /// factor under `whole_character`, also if memory runs out. The call allocates nothing if the matcher has a deterministic
+    /// automaton, and otherwise two sets of states, of one bit for each state of the automaton.
     pub fn is_match_visits(&self, path: &Candidate<'_>, visits: &mut Visits) -> Result<bool, Error>
         ensures ok { IfOk result (λ yes. yes ≡ glob_means self.now path.now) }
         ensures err { IfErr result (λ e. e ≡ out_of_memory) }

@@ -1,10 +1,10 @@
 //! The text that a glob has as a regular expression.
 
-ghost use Rattle.std.specs.Prelude.{◌≡◌, ◌<◌, ◌++◌, [], ◌∷◌, ◌&&◌, ◌||◌, not, IfOk, OnOk, take, string_bytes, string_len};
+ghost use Rattle.std.specs.Prelude.{◌≡◌, ◌<◌, ◌++◌, [], ◌∷◌, ◌&&◌, ◌||◌, not, IfOk, OnOk, take, codes, string_bytes, string_len};
 ghost use Rattle.std.specs.String.Boundary.{IsSplitPoint};
 ghost use Rattle.glob_syntax.specs.FlatTokens.{IsNested, IsSimple};
 ghost use Rattle.glob_syntax.specs.Views.{flat_of, flats, tokens_of};
-ghost use Rattle.globset_glob.specs.RegexText.{is_escaped, hexadecimal_digit, byte_text, char_text, range_text, class_text, tokens_text, flags_text, body_text, regex_text};
+ghost use Rattle.globset_glob.specs.RegexText.{is_escaped, hexadecimal_digit, byte_text, char_text, range_text, class_text, group_text, ascii_text, longer_texts, any_text, tokens_text, flags_text, body_text, regex_text};
 ghost use Rattle.globset_glob.specs.inner.RegexWriting.{chosen, opener, closer, simple_text};
 
 use glob_automaton::is_prefix_alone;
@@ -154,8 +154,7 @@ fn push_simple(text: &mut String, options: Options, token: &Token) -> Result<(),
 {
     match token {
         Token::Literal(c) => push_char(text, *c)?,
-        Token::Any if options.literal_separator => text.push_str("[^/]")?,
-        Token::Any => text.push_str(".")?,
+        Token::Any => push_any(text, options)?,
         Token::ZeroOrMore if options.literal_separator => text.push_str("[^/]*")?,
         Token::ZeroOrMore => text.push_str(".*")?,
         Token::RecursivePrefix => text.push_str("(?:/?|.*/)")?,
@@ -165,6 +164,50 @@ fn push_simple(text: &mut String, options: Options, token: &Token) -> Result<(),
         Token::Open | Token::Comma | Token::Close => unreachable!(),
     }
     Ok(())
+}
+
+/// The characters of two bytes or more, after those of one byte.
+const LONGER_CHARACTERS: &str = "|[\\xc2-\\xdf][\\x80-\\xbf]\
+    |\\xe0[\\xa0-\\xbf][\\x80-\\xbf]\
+    |[\\xe1-\\xec][\\x80-\\xbf][\\x80-\\xbf]\
+    |\\xed[\\x80-\\x9f][\\x80-\\xbf]\
+    |[\\xee-\\xef][\\x80-\\xbf][\\x80-\\xbf]\
+    |\\xf0[\\x90-\\xbf][\\x80-\\xbf][\\x80-\\xbf]\
+    |[\\xf1-\\xf3][\\x80-\\xbf][\\x80-\\xbf][\\x80-\\xbf]\
+    |\\xf4[\\x80-\\x8f][\\x80-\\xbf][\\x80-\\xbf])";
+
+/// Pushes the text of a `?`.
+fn push_any(text: &mut String, options: Options) -> Result<(), AllocError>
+    ensures { OnOk result (string_bytes text.new ≡ string_bytes text.old ++ any_text options) }
+{
+    if options.whole_character {
+        push_character(text, options)?;
+    } else if options.literal_separator {
+        text.push_str("[^/]")?;
+    } else {
+        text.push_str(".")?;
+    }
+    Ok(())
+}
+
+/// Pushes the text of a `?` that matches a whole character.
+fn push_character(text: &mut String, options: Options) -> Result<(), AllocError>
+    ensures { OnOk result (string_bytes text.new ≡ string_bytes text.old ++ group_text (ascii_text options ∷ longer_texts)) }
+{
+    text.push_str(ascii_characters(options))?;
+    text.push_str(LONGER_CHARACTERS)?;
+    Ok(())
+}
+
+/// Returns the text before `LONGER_CHARACTERS`.
+fn ascii_characters(options: Options) -> &'static str
+    ensures { result.now ≡ codes "(?:" ++ ascii_text options }
+{
+    if options.literal_separator {
+        "(?:[\\x00-\\x2e\\x30-\\x7f]"
+    } else {
+        "(?:[\\x00-\\x7f]"
+    }
 }
 
 /// Pushes the text of a class.

@@ -30,7 +30,7 @@ listed globs path = passing_indexes (λ g. is_listed g path) globs
 
 -- the most states of the glob that are run over the path
 abbrev pub states : TokenGlob → List ℕ → ℕ
-states g path = cond (needs_automaton g.options g.tokens path) (weight g.tokens + 1) 0
+states g path = cond (needs_automaton g.options g.tokens path) (weight g.options g.tokens + 1) 0
 
 -- the same of all globs of a list
 abbrev pub load : List TokenGlob → List ℕ → ℕ

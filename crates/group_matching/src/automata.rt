@@ -256,7 +256,7 @@ impl AutomataBuilder {
         requires nested { IsNested (flats tokens.now) }
         requires index { index < self.old.extensions.index_count }
         ensures tokens { OnOk result ((xs : List IndexedTokens) → IsFor self.old.by_path xs → IsFor self.new.by_path (xs ++ indexed options (tokens_of tokens.now) index ∷ [])) }
-        ensures size { OnOk result (size self.new.by_path ≤ size self.old.by_path + (weight (tokens_of tokens.now) + 1)) }
+        ensures size { OnOk result (size self.new.by_path ≤ size self.old.by_path + (weight options (tokens_of tokens.now) + 1)) }
         ensures component { self.new.by_component ≡ self.old.by_component }
         ensures extensions { self.new.extensions ≡ self.old.extensions }
     {
@@ -275,7 +275,7 @@ impl AutomataBuilder {
         requires nested { IsNested (flats tokens.now) }
         requires index { index < self.old.extensions.index_count }
         ensures tokens { OnOk result ((xs : List IndexedTokens) → IsFor self.old.by_component xs → IsFor self.new.by_component (xs ++ indexed options (tokens_of tokens.now) index ∷ [])) }
-        ensures size { OnOk result (size self.new.by_component ≤ size self.old.by_component + (weight (tokens_of tokens.now) + 1)) }
+        ensures size { OnOk result (size self.new.by_component ≤ size self.old.by_component + (weight options (tokens_of tokens.now) + 1)) }
         ensures path { self.new.by_path ≡ self.old.by_path }
         ensures extensions { self.new.extensions ≡ self.old.extensions }
     {
@@ -295,7 +295,7 @@ impl AutomataBuilder {
         requires nested { IsNested (flats tokens.now) }
         requires index { index < self.old.extensions.index_count }
         ensures tokens { OnOk result ((before : ℕ → List IndexedTokens) → AreFor self.old.extensions.machines before → AddsTokens self.old.extensions.slots before self.new.extensions key.items (indexed options (tokens_of tokens.now) index)) }
-        ensures size { OnOk result ((extension : List ℕ) → size (machine_under self.new.extensions extension) ≤ size (machine_under self.old.extensions extension) + cond (bytes_eq key.items extension) (weight (tokens_of tokens.now) + 1) 0) }
+        ensures size { OnOk result ((extension : List ℕ) → size (machine_under self.new.extensions extension) ≤ size (machine_under self.old.extensions extension) + cond (bytes_eq key.items extension) (weight options (tokens_of tokens.now) + 1) 0) }
         ensures count { self.new.extensions.index_count ≡ self.old.extensions.index_count }
         ensures path { self.new.by_path ≡ self.old.by_path }
         ensures component { self.new.by_component ≡ self.old.by_component }

@@ -124,16 +124,16 @@ blank_group f g fs (bs, branch ts us ∷ more) s (blank, rest, outer) = blank_le
 
 -- ---- how many states
 
-weight_led : (f : Frame) (fs : List Frame) (l : Levels) (t : Token)
-    → AreBlank (f ∷ fs) (all_levels l) → levels_weight (all_levels (in_level (t ∷ []) l)) ≡ token_weight t + levels_weight (all_levels l)
-weight_led f fs (none, more) t h = absurd h
-weight_led f fs (branch ts bs, more) t h = omega arith
+weight_led : (o : Options) (f : Frame) (fs : List Frame) (l : Levels) (t : Token)
+    → AreBlank (f ∷ fs) (all_levels l) → levels_weight o (all_levels (in_level (t ∷ []) l)) ≡ token_weight o t + levels_weight o (all_levels l)
+weight_led o f fs (none, more) t h = absurd h
+weight_led o f fs (branch ts bs, more) t h = omega arith
 
-weight_group : (f g : Frame) (fs : List Frame) (l : Levels)
-    → AreBlank (f ∷ g ∷ fs) (all_levels (next_branch l)) → levels_weight (all_levels (open_level l)) ≡ 1 + levels_weight (all_levels (next_branch l))
-weight_group f g fs (bs, []) (blank, rest, outer) = absurd outer
-weight_group f g fs (bs, none ∷ more) (blank, rest, outer) = absurd outer
-weight_group f g fs (bs, branch ts us ∷ more) (blank, rest, outer) = omega arith
+weight_group : (o : Options) (f g : Frame) (fs : List Frame) (l : Levels)
+    → AreBlank (f ∷ g ∷ fs) (all_levels (next_branch l)) → levels_weight o (all_levels (open_level l)) ≡ 1 + levels_weight o (all_levels (next_branch l))
+weight_group o f g fs (bs, []) (blank, rest, outer) = absurd outer
+weight_group o f g fs (bs, none ∷ more) (blank, rest, outer) = absurd outer
+weight_group o f g fs (bs, branch ts us ∷ more) (blank, rest, outer) = omega arith
 
 -- ---- the steps
 
@@ -147,12 +147,12 @@ stands_start o old e lt = record {
 }
 
 stands_token : (o : Options) (old mid new : Machine) (f : Frame) (fs : List Frame) (l : Levels) (t : Token) (s : ℕ) (b : Bool) (e : ℕ)
-    → Stands o old mid (f ∷ fs) (all_levels l) e → b ≡ is_blank_token t → s < size new → size new ≤ size mid + token_weight t
+    → Stands o old mid (f ∷ fs) (all_levels l) e → b ≡ is_blank_token t → s < size new → size new ≤ size mid + token_weight o t
     → Grows mid new → BuildsToken o t mid.states new.states s f.start
     → Stands o old new (led s b f ∷ fs) (all_levels (in_level (t ∷ []) l)) e
 stands_token o old mid new f fs l t s b e stands is lt count grows builds = record {
   grows = grows_then old mid new stands.grows grows;
-  count = let c = stands.count in omega (arith, weight_led f fs l t stands.blank);
+  count = let c = stands.count in omega (arith, weight_led o f fs l t stands.blank);
   within = let le = grows.keeps.0 in let w = stands.within in (lt, omega arith, below_more (size mid) (size new) f.starts w.2 le, within_more (size mid) (size new) fs w.3 le);
   blank = blank_led f fs l t s b stands.blank is;
   builds = λ a agrees. open_led o a f fs l t s b e (stands.builds a (agrees_old a mid.states new.states (size old) grows.keeps agrees))
@@ -189,7 +189,7 @@ pub stands_group : (o : Options) (old mid new : Machine) (f g : Frame) (fs : Lis
     → Stands o old new (led s f.rest_blank g ∷ fs) (all_levels (open_level l)) e
 stands_group o old mid new f g fs l s e stands p = record {
   grows = grows_then old mid new stands.grows (grows_push mid new s (skips (nexts_of f.starts f.exit)) p);
-  count = let c = stands.count in let n = p.len in omega (arith, weight_group f g fs l stands.blank);
+  count = let c = stands.count in let n = p.len in omega (arith, weight_group o f g fs l stands.blank);
   within = let n = p.len in let at = p.at in let w = stands.within.3 in let le : size mid ≤ size new = omega arith in
       (omega arith, omega arith, below_more (size mid) (size new) g.starts w.2 le, within_more (size mid) (size new) fs w.3 le);
   blank = blank_group f g fs l s stands.blank;
@@ -197,7 +197,7 @@ stands_group o old mid new f g fs l s e stands p = record {
 }
 
 pub stands_flat : (o : Options) (old mid new : Machine) (f : Frame) (fs : List Frame) (l : Levels) (t : Flat) (s e : ℕ)
-    → Stands o old mid (f ∷ fs) (all_levels l) e → IsNotBlank t → s < size new → size new ≤ size mid + flat_weight t
+    → Stands o old mid (f ∷ fs) (all_levels l) e → IsNotBlank t → s < size new → size new ≤ size mid + flat_weight o t
     → Grows mid new → BuildsFlat o t mid.states new.states s f.start
     → Stands o old new (led s false f ∷ fs) (all_levels (level t l)) e
 stands_flat o old mid new f fs l (simple t) s e stands is lt count grows builds = stands_token o old mid new f fs l t s false e stands (sym is) lt count grows builds
@@ -234,7 +234,7 @@ frames_length f fs l h =
     omega arith
 
 -- a list of one branch has its states alone
-pub weight_whole : (l : Levels) (n m : ℕ) → length l.1 ≡ 0 → IsSole l.0 l.1 → n ≤ m + levels_weight (all_levels l) → n ≤ m + weight (first_branch l.0)
-weight_whole (none, []) n m d is le = le
-weight_whole (branch ts bs, []) n m d is le = let e : branches_weight bs ≡ 0 = ap branches_weight is in omega arith
-weight_whole (bs, outer ∷ more) n m d is le = absurd (omega arith)
+pub weight_whole : (o : Options) (l : Levels) (n m : ℕ) → length l.1 ≡ 0 → IsSole l.0 l.1 → n ≤ m + levels_weight o (all_levels l) → n ≤ m + weight o (first_branch l.0)
+weight_whole o (none, []) n m d is le = le
+weight_whole o (branch ts bs, []) n m d is le = let e : branches_weight o bs ≡ 0 = ap (branches_weight o) is in omega arith
+weight_whole o (bs, outer ∷ more) n m d is le = absurd (omega arith)

@@ -47,8 +47,8 @@ everything_built o ts j old mid new w s e alone p q set = λ a agrees path k byt
     )
 
 -- they have some weight
-pub alone_weight : (ts : Tokens) → is_prefix_alone ts ≡ true → 1 ≤ weight ts
-alone_weight ts h = rw (alone_is ts h) (omega arith)
+pub alone_weight : (o : Options) (ts : Tokens) → is_prefix_alone ts ≡ true → 1 ≤ weight o ts
+alone_weight o ts h = rw (alone_is ts h) (omega arith)
 
 -- ---- the tokens of one glob more
 

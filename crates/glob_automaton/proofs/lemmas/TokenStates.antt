@@ -8,14 +8,15 @@ use Rattle.std.proofs.Math.Logic.{⊎_elim}
 use Rattle.glob_syntax.specs.declared.options.Options.{Options}
 use Rattle.glob_syntax.specs.Token.{Token, Literal, Any, ZeroOrMore, RecursivePrefix, RecursiveSuffix, RecursiveZeroOrMore, Class, Group, Tokens, end, and_then, Branches, none, branch}
 use Rattle.glob_syntax.specs.ClassBytes.{class_has}
-use Rattle.glob_automaton.specs.Takes.{takes, some_takes, takes_all, is_empty, is_one_byte, is_wild, begins_with_slash, ends_with_slash, slash}
+use Rattle.glob_automaton.specs.Takes.{takes, some_takes, takes_all, is_empty, is_one_byte, is_wild, is_wild_character, begins_with_slash, ends_with_slash, slash}
 use Rattle.glob_automaton.specs.Blank.{is_kept, any_kept}
 use Rattle.byte_automaton.specs.Sets.{has_byte}
 use Rattle.byte_automaton.specs.Steps.{State, reads, skips, stays, final, state, IsIn, Accepts, ends, by_byte, by_skip, by_out, by_stay}
 use Rattle.byte_automaton.specs.declared.byte_set.ByteSet.{ByteSet}
 use Rattle.byte_automaton.specs.Texts.{AllBytes}
-use Rattle.glob_automaton.specs.inner.TokenStates.{IsSetOf, is_any_byte, is_slash, Reads, Stays, spells, is_letter, IsSpelled, IsToSlash, IsBuilt, IsBuiltToken, AreBuilt}
+use Rattle.glob_automaton.specs.inner.TokenStates.{IsSetOf, is_any_byte, is_slash, Reads, Stays, spells, is_letter, IsSpelled, IsToSlash, passes, ReadsEach, AreRead, wild_rows, IsCharacter, IsBuilt, IsBuiltToken, AreBuilt}
 use Rattle.glob_automaton.proofs.lemmas.Booleans.{and_both, and_first, and_second, or_first, or_second, or_either}
+use Rattle.glob_automaton.proofs.lemmas.Characters.{some_row, wild_rows_are}
 use Rattle.glob_automaton.proofs.lemmas.Cuts.{both, cut_of, some_cut-append, empty_is}
 use Rattle.glob_automaton.proofs.lemmas.Spelling.{letter_is, spells_none, spells_more}
 use Rattle.glob_automaton.proofs.lemmas.Takes.{some_any, one_byte, ends_at, ends_push, begins_at}
@@ -213,6 +214,63 @@ module _ (a : List State) where
       rest [] h = refl
       rest (c ∷ cs) h = h
 
+  -- ---- whole characters
+
+  none_passes : (y : List ℕ) → is_empty y ≡ passes [] y
+  none_passes [] = refl
+  none_passes (c ∷ cs) = refl
+
+  one_then : (test : ℕ → Bool) (tests : List (ℕ → Bool)) (y : List ℕ) → IsTrue (both (is_one_byte test) (passes tests) y) ↔ IsTrue (passes (test ∷ tests) y)
+  one_then test tests y = (there, back y)
+    where
+      there : IsTrue (both (is_one_byte test) (passes tests) y) → IsTrue (passes (test ∷ tests) y)
+      there some =
+          let (x, z, cut, pq) = cut_of (λ front rest. is_one_byte test front && passes tests rest) y some in
+          let (c, single, has) = (one_byte test x).1 (and_first (is_one_byte test x) (passes tests z) pq) in
+          subst (λ l. IsTrue (passes (test ∷ tests) l)) (sym (cut ∙ ap (λ l. l ++ z) single))
+          (and_both (passes tests z) (test c) (and_second (is_one_byte test x) (passes tests z) pq) has)
+
+      back : (y : List ℕ) → IsTrue (passes (test ∷ tests) y) → IsTrue (both (is_one_byte test) (passes tests) y)
+      back [] h = absurd (true≢false (sym h))
+      back (c ∷ cs) h = some_cut-append (λ front rest. is_one_byte test front && passes tests rest) (c ∷ []) cs
+          (and_both (test c) (passes tests cs) (and_second (passes tests cs) (test c) h) (and_first (passes tests cs) (test c) h))
+
+  each_does : (tests : List (ℕ → Bool)) (s e : ℕ) → ReadsEach a s tests e → Does s (passes tests) e
+  each_does [] s e is = subst (Does s (passes [])) is (does_same s s is_empty (passes []) (λ y all. none_passes y) (does_none s))
+  each_does (test ∷ tests) s e (t, read, rest) =
+      does_iff s e (both (is_one_byte test) (passes tests)) (passes (test ∷ tests)) (one_then test tests)
+      (does_then s t e (is_one_byte test) (passes tests) (does_read s t test read) (each_does tests t e rest))
+
+  -- from some of the states the automaton reads what passes some row
+  abbrev RowsDo : List (List (ℕ → Bool)) → List ℕ → ℕ → ℕ → List ℕ → Type 0
+  RowsDo rows ss e k w = ((t : ℕ) × IsIn t ss × Accepts a k t w) ↔ ((y z : List ℕ) × (w ≡ y ++ z) × IsTrue (some_row rows y) × Accepts a k e z)
+
+  row_more : (row : List (ℕ → Bool)) (rows : List (List (ℕ → Bool))) (s : ℕ) (ss : List ℕ) (e k : ℕ) (w : List ℕ) → AllBytes w
+      → Does s (passes row) e → RowsDo rows ss e k w → RowsDo (row ∷ rows) (s ∷ ss) e k w
+  row_more row rows s ss e k w bytes this others = (there, back)
+    where
+      there : ((t : ℕ) × IsIn t (s ∷ ss) × Accepts a k t w) → (y z : List ℕ) × (w ≡ y ++ z) × IsTrue (some_row (row ∷ rows) y) × Accepts a k e z
+      there (t, m, h) = ⊎_elim {C = (y z : List ℕ) × (w ≡ y ++ z) × IsTrue (some_row (row ∷ rows) y) × Accepts a k e z}
+          (λ same. let (y, z, cut, p, after) = (this k w bytes).0 (subst (λ x. Accepts a k x w) same h) in (y, z, cut, or_first (passes row y) (some_row rows y) p, after))
+          (λ other. let (y, z, cut, some, after) = others.0 (t, other, h) in (y, z, cut, or_second (passes row y) (some_row rows y) some, after))
+          m
+
+      back : ((y z : List ℕ) × (w ≡ y ++ z) × IsTrue (some_row (row ∷ rows) y) × Accepts a k e z) → (t : ℕ) × IsIn t (s ∷ ss) × Accepts a k t w
+      back (y, z, cut, h, after) = ⊎_elim {C = (t : ℕ) × IsIn t (s ∷ ss) × Accepts a k t w}
+          (λ here. (s, inl refl, (this k w bytes).1 (y, z, cut, here, after)))
+          (λ later. let (t, m, rest) = others.1 (y, z, cut, later, after) in (t, inr m, rest))
+          (or_either (passes row y) (some_row rows y) h)
+
+  rows_do : (rows : List (List (ℕ → Bool))) (ss : List ℕ) (e : ℕ) → AreRead a ss rows e → (k : ℕ) (w : List ℕ) → AllBytes w → RowsDo rows ss e k w
+  rows_do [] [] e is k w bytes = (λ (t, m, h). absurd m, λ (y, z, cut, some, after). absurd (true≢false (sym some)))
+  rows_do [] (s ∷ ss) e is k w bytes = absurd is
+  rows_do (row ∷ rows) [] e is k w bytes = absurd is
+  rows_do (row ∷ rows) (s ∷ ss) e (first, rest) k w bytes = row_more row rows s ss e k w bytes (each_does row s e first) (rows_do rows ss e rest k w bytes)
+
+  character_does : (o : Options) (s e : ℕ) → IsCharacter o a s e → Does s (is_wild_character o) e
+  character_does o s e (ss, is, built) = does_same s e (some_row (wild_rows o)) (is_wild_character o) (λ y all. wild_rows_are o y)
+      (λ k w bytes. let d = rows_do (wild_rows o) ss e built k w bytes in (λ h. d.0 (skips_goes k s ss w is h), λ h. let (t, m, after) = d.1 h in by_skip s t w ss is m after))
+
   -- ---- groups
 
   group_does : (o : Options) (bs : Branches) (ss : List ℕ) (s e : ℕ) → state a s ≡ skips ss
@@ -273,7 +331,8 @@ module _ (a : List State) where
 
     token_does : (o : Options) (t : Token) (s e : ℕ) → IsBuiltToken o a s t e → Does s (takes o t) e
     token_does o (Literal c) s e h = spelled_does o (encode_utf8 c) s e h
-    token_does o Any s e h = does_read s e (is_wild o) h
+    token_does o Any s e (inl (on, h)) = does_same s e (is_wild_character o) (takes o Any) (λ y all. rw on refl) (character_does o s e h)
+    token_does o Any s e (inr (off, h)) = does_same s e (is_one_byte (is_wild o)) (takes o Any) (λ y all. rw off refl) (does_read s e (is_wild o) h)
     token_does o ZeroOrMore s e h = does_stay s e (is_wild o) h
     token_does o RecursivePrefix s e h = to_slash_does o s e h
     token_does o RecursiveSuffix s e (t, first, second) =

@@ -1,12 +1,12 @@
 -- What the states that are added for tokens match.
-use Rattle.std.specs.Prelude.{◌≡◌, ◌↔◌, ℕ, List, length, IsTrue}
+use Rattle.std.specs.Prelude.{◌≡◌, ◌↔◌, ℕ, Bool, List, length, IsTrue}
 use Rattle.glob_syntax.specs.declared.options.Options.{Options}
 use Rattle.glob_syntax.specs.Token.{Token, Tokens}
 use Rattle.byte_automaton.specs.Steps.{State, Accepts, Machine}
 use Rattle.byte_automaton.specs.Building.{Agrees, Keeps}
 use Rattle.glob_automaton.specs.TokenMeans.{means}
 use Rattle.byte_automaton.specs.Texts.{AllBytes}
-use Rattle.glob_automaton.specs.inner.TokenStates.{IsSpelled, IsToSlash, IsBuilt, IsBuiltToken}
+use Rattle.glob_automaton.specs.inner.TokenStates.{IsSpelled, IsToSlash, ReadsEach, IsCharacter, IsBuilt, IsBuiltToken}
 
 -- states were added, and nothing else changed
 pub record Grows (old new : Machine) : Type 0 where
@@ -21,6 +21,12 @@ BuildsText o bytes old new s e = (a : List State) → Agrees a new (length old) 
 
 abbrev pub BuildsToSlash : List State → List State → ℕ → ℕ → Type 0
 BuildsToSlash old new s e = (a : List State) → Agrees a new (length old) (length new) → IsToSlash a s e
+
+abbrev pub BuildsRow : List (ℕ → Bool) → List State → List State → ℕ → ℕ → Type 0
+BuildsRow tests old new s e = (a : List State) → Agrees a new (length old) (length new) → ReadsEach a s tests e
+
+abbrev pub BuildsCharacter : Options → List State → List State → ℕ → ℕ → Type 0
+BuildsCharacter o old new s e = (a : List State) → Agrees a new (length old) (length new) → IsCharacter o a s e
 
 abbrev pub BuildsToken : Options → Token → List State → List State → ℕ → ℕ → Type 0
 BuildsToken o t old new s e = (a : List State) → Agrees a new (length old) (length new) → IsBuiltToken o a s t e

@@ -94,25 +94,25 @@ AreWithin n (f ∷ fs) = (f.start < n) × (f.exit < n) × AreBelow n f.starts ×
 abbrev pub BuildsLevels : Options → List Frame → List Branches → List State → List State → ℕ → Type 0
 BuildsLevels o fs levels old new e = (a : List State) → Agrees a new (length old) (length new) → AreOpen o a fs levels e
 
-abbrev pub levels_weight : List Branches → ℕ
-levels_weight [] = 0
-levels_weight (bs ∷ more) = branches_weight bs + levels_weight more
+abbrev pub levels_weight : Options → List Branches → ℕ
+levels_weight o [] = 0
+levels_weight o (bs ∷ more) = branches_weight o bs + levels_weight o more
 
 -- the states that were added are those of the levels of the tokens so far
 pub record Stands (o : Options) (old new : Machine) (fs : List Frame) (levels : List Branches) (e : ℕ) : Type 0 where
   pub grows : Grows old new
-  pub count : size new ≤ size old + levels_weight levels
+  pub count : size new ≤ size old + levels_weight o levels
   pub within : AreWithin (size new) fs
   pub blank : AreBlank fs levels
   pub builds : BuildsLevels o fs levels old.states new.states e
 
 -- ---- one token that is no brace or comma
 
-abbrev pub flat_weight : Flat → ℕ
-flat_weight (simple t) = token_weight t
-flat_weight opening = 0
-flat_weight comma = 0
-flat_weight closing = 0
+abbrev pub flat_weight : Options → Flat → ℕ
+flat_weight o (simple t) = token_weight o t
+flat_weight o opening = 0
+flat_weight o comma = 0
+flat_weight o closing = 0
 
 abbrev pub BuildsFlat : Options → Flat → List State → List State → ℕ → ℕ → Type 0
 BuildsFlat o (simple t) old new s e = BuildsToken o t old new s e

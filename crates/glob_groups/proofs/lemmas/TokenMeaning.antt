@@ -11,10 +11,12 @@ use Rattle.std.proofs.lemmas.List.{append-nil, append_assoc}
 use Rattle.glob_syntax.specs.declared.options.Options.{Options}
 use Rattle.glob_syntax.specs.Token.{Token, Literal, Any, ZeroOrMore, RecursivePrefix, Class, Tokens, end, and_then}
 use Rattle.glob_syntax.specs.ClassBytes.{class_has}
-use Rattle.glob_automaton.specs.Takes.{is_empty, is_one_byte, is_wild, compared, takes_all, slash}
+use Rattle.glob_automaton.specs.Takes.{is_empty, is_one_byte, is_wild, is_wild_character, compared, takes_all, slash}
+use Rattle.glob_automaton.specs.Characters.{is_character}
 use Rattle.glob_automaton.specs.TokenMeans.{is_prefix, is_prefix_alone, means}
 use Rattle.glob_path.specs.PathParts.{is_separator, with_first, last_position, last_component, component_extension}
 use Rattle.glob_automaton.proofs.lemmas.Booleans.{and_both, and_first, and_second, and_none, or_either, same_truth}
+use Rattle.glob_automaton.proofs.lemmas.Characters.{characters_are_scalars}
 use Rattle.glob_automaton.proofs.lemmas.Cuts.{empty_is}
 use Rattle.glob_automaton.proofs.lemmas.Takes.{one_byte}
 use Rattle.glob_automaton.proofs.lemmas.TokenLists.{prefix_is}
@@ -144,15 +146,33 @@ all_wild_lacks o [] on h = refl
 all_wild_lacks o (c ∷ cs) on h =
     lacks_cons is_separator c cs (wild_other o c on (and_first (is_wild o c) (list_all (is_wild o) cs) h)) (all_wild_lacks o cs on (and_second (is_wild o c) (list_all (is_wild o) cs) h))
 
+slash_bytes : encode_utf8 slash ≡ slash ∷ []
+unfolding char.encode_utf8
+slash_bytes = refl
+
 has_other : (had : ℕ → Bool) → had slash ≡ false → (c : ℕ) → had c ≡ true → (c == slash) ≡ false
 has_other had none c h = ne_eqb c slash (λ e. true≢false (sym h ∙ ap had e ∙ none))
+
+-- a character that is not `/` has no `/` in its bytes
+character_lacks : (o : Options) (b : List ℕ) → o.literal_separator ≡ true → IsTrue (is_wild_character o b) → Lacks is_separator b
+character_lacks o b on h =
+    let alone = is_one_byte (λ d. d == slash) b in
+    let (c, is, same) = (characters_are_scalars b).0 (and_first (is_character b) (not (o.literal_separator && alone)) h) in
+    let apart : alone ≡ false = not-true alone (ap (λ t. not (t && alone)) (sym on) ∙ and_second (is_character b) (not (o.literal_separator && alone)) h) in
+    let other : (c == slash) ≡ false =
+    ne_eqb c slash (λ e. true≢false (sym (ap (is_one_byte (λ d. d == slash)) (same ∙ ap encode_utf8 e ∙ slash_bytes)) ∙ apart)) in
+    subst (Lacks is_separator) (sym same) (encode_lacks slash c (omega arith) other)
+
+any_lacks : (o : Options) (b : List ℕ) → o.literal_separator ≡ true → (q : Bool) → o.whole_character ≡ q → Takes o Any b → Lacks is_separator b
+any_lacks o b on true e h = character_lacks o b on (rw e at h)
+any_lacks o b on false e h = one_lacks (is_wild o) b (λ c. wild_other o c on) (rw e at h)
 
 no_slash_lacks : (o : Options) (t : Token) (b : List ℕ) → matches_no_slash o t ≡ true → Takes o t b → Lacks is_separator b
 no_slash_lacks o (Literal c) b w h =
     let same : compared o b ≡ compared o (encode_utf8 c) = (equal_bytes (compared o b) (compared o (encode_utf8 c))).1 h in
     sym (compared_position b o.case_insensitive) ∙ ap (last_position is_separator) same ∙ compared_position (encode_utf8 c) o.case_insensitive
     ∙ encode_lacks slash c (omega arith) (not-true (c == slash) w)
-no_slash_lacks o Any b w h = one_lacks (is_wild o) b (λ c. wild_other o c w) h
+no_slash_lacks o Any b w h = any_lacks o b w o.whole_character refl h
 no_slash_lacks o ZeroOrMore b w h = all_wild_lacks o b w h
 no_slash_lacks o (Class negated rs) b w h = one_lacks (class_has o negated rs) b (has_other (class_has o negated rs) (not-true (class_has o negated rs slash) w)) h
 no_slash_lacks o t b w h = absurd (true≢false (sym w))

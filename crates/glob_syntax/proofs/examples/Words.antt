@@ -24,6 +24,9 @@ blank_kept = record DEFAULT { empty_alternates = true }
 abbrev pub unclosed : Options
 unclosed = record DEFAULT { allow_unclosed_class = true }
 
+abbrev pub whole : Options
+whole = record DEFAULT { whole_character = true }
+
 -- ---- tokens and errors
 
 -- the first character of a text

@@ -1,23 +1,28 @@
 -- The weight of tokens: how many states over bytes an automaton has for them.
-use Rattle.std.specs.Prelude.{ℕ, ◌+◌, length, encode_utf8}
+use Rattle.std.specs.Prelude.{ℕ, ◌+◌, length, encode_utf8, if◌then◌else◌}
+use Rattle.glob_syntax.specs.declared.options.Options.{Options}
 use Rattle.glob_syntax.specs.Token.{Token, Literal, Any, ZeroOrMore, RecursivePrefix, RecursiveSuffix, RecursiveZeroOrMore, Class, Group, Tokens, end, and_then, Branches, none, branch}
+
+-- Seven states of a whole character read its second, third and fourth byte, eight its first, and one leads to these.
+abbrev pub any_weight : Options → ℕ
+any_weight o = if o.whole_character then 16 else 1
 
 -- A literal has a state for each of its bytes, and a group has one besides those of its branches.
 abbrev mutual
-  pub token_weight : Token → ℕ
-  token_weight (Literal c) = length (encode_utf8 c)
-  token_weight Any = 1
-  token_weight ZeroOrMore = 1
-  token_weight RecursivePrefix = 3
-  token_weight RecursiveSuffix = 2
-  token_weight RecursiveZeroOrMore = 4
-  token_weight (Class negated rs) = 1
-  token_weight (Group bs) = 1 + branches_weight bs
+  pub token_weight : Options → Token → ℕ
+  token_weight o (Literal c) = length (encode_utf8 c)
+  token_weight o Any = any_weight o
+  token_weight o ZeroOrMore = 1
+  token_weight o RecursivePrefix = 3
+  token_weight o RecursiveSuffix = 2
+  token_weight o RecursiveZeroOrMore = 4
+  token_weight o (Class negated rs) = 1
+  token_weight o (Group bs) = 1 + branches_weight o bs
 
-  pub weight : Tokens → ℕ
-  weight end = 0
-  weight (and_then t ts) = token_weight t + weight ts
+  pub weight : Options → Tokens → ℕ
+  weight o end = 0
+  weight o (and_then t ts) = token_weight o t + weight o ts
 
-  pub branches_weight : Branches → ℕ
-  branches_weight none = 0
-  branches_weight (branch ts bs) = weight ts + branches_weight bs
+  pub branches_weight : Options → Branches → ℕ
+  branches_weight o none = 0
+  branches_weight o (branch ts bs) = weight o ts + branches_weight o bs

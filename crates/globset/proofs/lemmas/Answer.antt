@@ -5,6 +5,7 @@ use Rattle.std.specs.List.{range_with_len}
 use Rattle.std.proofs.lemmas.List.{take_more, length-map}
 use Rattle.std.proofs.lemmas.List.Sums.{sum_by-append}
 use Rattle.std.proofs.Math.Nat.{mul-le-mul_left}
+use Rattle.glob_syntax.specs.StatesPerByte.{states_per_byte}
 use Rattle.glob_syntax.specs.inner.Weight.{weight}
 use Rattle.glob_groups.specs.Direct.{needs_automaton}
 use Rattle.globset_glob.specs.Means.{GlobValue, tokens_of_glob, glob_means}
@@ -58,12 +59,12 @@ of_states : (b : Bool) (n m : ℕ) → n ≤ m → cond b n 0 ≤ cond b m 0
 of_states true n m le = le
 of_states false n m le = omega arith
 
-pub size_push : (globs : List GlobValue) (g : GlobValue) (path : List ℕ) → weight (tokens_of_glob g) ≤ 4 * length g.text → tokens.load (map by_tokens globs) path ≤ load globs path
+pub size_push : (globs : List GlobValue) (g : GlobValue) (path : List ℕ) → weight g.options (tokens_of_glob g) ≤ states_per_byte g.options * length g.text → tokens.load (map by_tokens globs) path ≤ load globs path
     → tokens.load (map by_tokens (globs ++ g ∷ [])) path ≤ load (globs ++ g ∷ []) path
 size_push globs g path few before =
     let one = sum_by-append (λ x. cond (needs_automaton x.options (tokens_of_glob x) path) (cost x) 0) globs (g ∷ []) in
     let two = ap (λ xs. tokens.load xs path) (map_push globs g) ∙ sum_by-append (λ x. states x path) (map by_tokens globs) (by_tokens g ∷ []) in
-    let more = of_states (needs_automaton g.options (tokens_of_glob g) path) (weight (tokens_of_glob g) + 1) (cost g) (omega (arith, few)) in
+    let more = of_states (needs_automaton g.options (tokens_of_glob g) path) (weight g.options (tokens_of_glob g) + 1) (cost g) (omega (arith, few)) in
     omega (arith, one, two, more, before)
 
 -- the visits of groups, within those of the set

@@ -1,8 +1,8 @@
 -- Examples of the text that a glob has as a regular expression. Each row computes.
-use Rattle.std.specs.Prelude.{◌≡◌, Ok, codes, refl}
+use Rattle.std.specs.Prelude.{◌≡◌, Ok, true, codes, refl}
 use Rattle.glob_syntax.specs.declared.options.TheConstants.Options.{DEFAULT}
 use Rattle.globset_glob.proofs.examples.Unfoldings.{glob_on_literals}
-use Rattle.glob_syntax.proofs.examples.Words.{insensitive, separated, blank_kept, unclosed}
+use Rattle.glob_syntax.proofs.examples.Words.{insensitive, separated, blank_kept, unclosed, whole}
 use Rattle.globset_glob.proofs.examples.Words.{regex_of}
 
 letter : regex_of DEFAULT "a" ≡ Ok (codes "(?-u)^a$")
@@ -28,6 +28,14 @@ star_then_letter = refl
 question_separated : regex_of separated "?" ≡ Ok (codes "(?-u)^[^/]$")
 unfolding glob_on_literals
 question_separated = refl
+
+question_whole : regex_of whole "?" ≡ Ok (codes "(?-u)^(?:[\\x00-\\x7f]|[\\xc2-\\xdf][\\x80-\\xbf]|\\xe0[\\xa0-\\xbf][\\x80-\\xbf]|[\\xe1-\\xec][\\x80-\\xbf][\\x80-\\xbf]|\\xed[\\x80-\\x9f][\\x80-\\xbf]|[\\xee-\\xef][\\x80-\\xbf][\\x80-\\xbf]|\\xf0[\\x90-\\xbf][\\x80-\\xbf][\\x80-\\xbf]|[\\xf1-\\xf3][\\x80-\\xbf][\\x80-\\xbf][\\x80-\\xbf]|\\xf4[\\x80-\\x8f][\\x80-\\xbf][\\x80-\\xbf])$")
+unfolding glob_on_literals
+question_whole = refl
+
+question_whole_separated : regex_of (record separated { whole_character = true }) "?" ≡ Ok (codes "(?-u)^(?:[\\x00-\\x2e\\x30-\\x7f]|[\\xc2-\\xdf][\\x80-\\xbf]|\\xe0[\\xa0-\\xbf][\\x80-\\xbf]|[\\xe1-\\xec][\\x80-\\xbf][\\x80-\\xbf]|\\xed[\\x80-\\x9f][\\x80-\\xbf]|[\\xee-\\xef][\\x80-\\xbf][\\x80-\\xbf]|\\xf0[\\x90-\\xbf][\\x80-\\xbf][\\x80-\\xbf]|[\\xf1-\\xf3][\\x80-\\xbf][\\x80-\\xbf][\\x80-\\xbf]|\\xf4[\\x80-\\x8f][\\x80-\\xbf][\\x80-\\xbf])$")
+unfolding glob_on_literals
+question_whole_separated = refl
 
 star_separated : regex_of separated "*" ≡ Ok (codes "(?-u)^[^/]*$")
 unfolding glob_on_literals

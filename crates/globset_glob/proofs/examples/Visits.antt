@@ -1,8 +1,10 @@
--- Examples of the bound on visits: four for each byte of the glob, and four, at each position of the path. Each row computes.
-use Rattle.std.specs.Prelude.{◌≡◌, ◌+◌, ◌*◌, refl}
+-- Examples of the bound on visits: four for each byte of the glob, or sixteen where `?` matches whole characters, and four, at
+-- each position of the path. Each row computes.
+use Rattle.std.specs.Prelude.{◌≡◌, ◌+◌, ◌*◌, [], ◌∷◌, refl}
 use Rattle.glob_syntax.specs.declared.options.TheConstants.Options.{DEFAULT}
 use Rattle.globset_glob.specs.Cost.{cost, most_visits}
 use Rattle.globset_glob.proofs.examples.Unfoldings.{glob_on_literals}
+use Rattle.glob_syntax.proofs.examples.Words.{whole}
 use Rattle.globset_glob.proofs.examples.Words.{utf8, glob_of}
 
 visits_of_eight_stars : most_visits (glob_of DEFAULT "a*a*a*a*a*a*a*a*a") (utf8 "aaaaaaaaa") ≡ 720
@@ -20,3 +22,7 @@ visits_of_empty_texts = refl
 visits_of_many_stars : (1000 + 1) * cost (glob_of DEFAULT "*a*a*a*a*a*a*a*b") ≡ 68068
 unfolding glob_on_literals
 visits_of_many_stars = refl
+
+visits_of_a_whole_character : most_visits (glob_of whole "?") (0xF4 ∷ 0x8F ∷ 0xBF ∷ 0xBF ∷ []) ≡ 100
+unfolding glob_on_literals
+visits_of_a_whole_character = refl

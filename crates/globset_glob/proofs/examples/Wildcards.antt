@@ -2,7 +2,8 @@
 use Rattle.std.specs.Prelude.{◌≡◌, [], ◌∷◌, true, refl}
 use Rattle.glob_syntax.specs.declared.options.TheConstants.Options.{DEFAULT}
 use Rattle.globset_glob.proofs.examples.Unfoldings.{glob_on_literals}
-use Rattle.globset_glob.proofs.examples.Words.{matches_bytes, matches_each, matches_none}
+use Rattle.glob_syntax.proofs.examples.Words.{whole}
+use Rattle.globset_glob.proofs.examples.Words.{matches_bytes, matches_no_bytes, matches_each, matches_none}
 
 stars_between_letters : matches_each DEFAULT "a*b*c" ("abc" ∷ "a_b_c" ∷ "a___b___c" ∷ []) ≡ true
 unfolding glob_on_literals
@@ -163,3 +164,49 @@ main_in_a_folder = refl
 main_in_a_folder_not : matches_none DEFAULT "*/main.rs" ("foo.rs" ∷ "as" ∷ []) ≡ true
 unfolding glob_on_literals
 main_in_a_folder_not = refl
+
+-- ---- whole characters
+
+question_whole : matches_each whole "?" ("☃" ∷ "é" ∷ "a" ∷ "/" ∷ "😀" ∷ []) ≡ true
+unfolding glob_on_literals
+question_whole = refl
+
+questions_whole_not : matches_none whole "??" ("☃" ∷ "a" ∷ "" ∷ []) ≡ true
+unfolding glob_on_literals
+questions_whole_not = refl
+
+question_whole_between : matches_each whole "a?b" ("aéb" ∷ []) ≡ true
+unfolding glob_on_literals
+question_whole_between = refl
+
+question_no_first_byte : matches_no_bytes whole "?" (0xFF ∷ []) ≡ true
+unfolding glob_on_literals
+question_no_first_byte = refl
+
+question_longer_than_the_shortest : matches_no_bytes whole "?" (0xC0 ∷ 0x80 ∷ []) ≡ true
+unfolding glob_on_literals
+question_longer_than_the_shortest = refl
+
+question_surrogate : matches_no_bytes whole "?" (0xED ∷ 0xA0 ∷ 0x80 ∷ []) ≡ true
+unfolding glob_on_literals
+question_surrogate = refl
+
+question_above_all : matches_no_bytes whole "?" (0xF4 ∷ 0x90 ∷ 0x80 ∷ 0x80 ∷ []) ≡ true
+unfolding glob_on_literals
+question_above_all = refl
+
+question_last : matches_bytes whole "?" (0xF4 ∷ 0x8F ∷ 0xBF ∷ 0xBF ∷ []) ≡ true
+unfolding glob_on_literals
+question_last = refl
+
+star_then_question_whole : matches_bytes whole "*?" (0xFF ∷ 0xE2 ∷ 0x98 ∷ 0x83 ∷ []) ≡ true
+unfolding glob_on_literals
+star_then_question_whole = refl
+
+star_then_question_whole_not : matches_no_bytes whole "*?" (0xE2 ∷ 0x98 ∷ 0x83 ∷ 0xFF ∷ []) ≡ true
+unfolding glob_on_literals
+star_then_question_whole_not = refl
+
+class_takes_bytes : matches_none whole "[!a]" ("☃" ∷ []) ≡ true
+unfolding glob_on_literals
+class_takes_bytes = refl

@@ -1,6 +1,6 @@
 -- The text of a glob's tokens has a tree, which denotes what they match: a lemma for each kind of token, and induction.
-use Rattle.std.proofs.Common.{◌≡◌, ℕ, ◌≤◌, ◌⊎◌, inl, inr, Bool, true, false, true≢false, ◌&&◌, ◌||◌, not, List, [], ◌∷◌, ◌++◌, length, IsTrue, refl, ap, sym, ◌∙◌, subst, arith}
-use Rattle.std.specs.Prelude.{◌↔◌, encode_utf8, if◌then◌else◌, codes}
+use Rattle.std.proofs.Common.{◌≡◌, ℕ, ◌<◌, ◌≤◌, ◌⊎◌, inl, inr, Bool, true, false, true≢false, ◌&&◌, ◌||◌, not, List, [], ◌∷◌, ◌++◌, length, IsTrue, refl, ap, sym, ◌∙◌, subst, arith}
+use Rattle.std.specs.Prelude.{◌↔◌, ◌==◌, drop, encode_utf8, if◌then◌else◌, codes}
 use Rattle.std.specs.Char.{to_ascii_lowercase, to_ascii_uppercase}
 use Rattle.std.specs.List.{list_all}
 use Rattle.std.proofs.lemmas.List.{append-nil, append_assoc}
@@ -8,10 +8,13 @@ use Rattle.std.proofs.Math.Logic.{⊎_elim}
 use Rattle.glob_syntax.specs.Token.{Token, Literal, Any, ZeroOrMore, RecursivePrefix, RecursiveSuffix, RecursiveZeroOrMore, Class, Group, Tokens, end, and_then, Branches, none, branch}
 use Rattle.glob_automaton.specs.Blank.{is_kept, any_kept}
 use Rattle.glob_syntax.specs.ClassBytes.{ranges_have, class_has}
-use Rattle.glob_automaton.specs.Takes.{some_takes, takes_all, compared, is_wild, is_empty, slash}
+use Rattle.glob_automaton.specs.Takes.{some_takes, takes_all, compared, is_wild, is_wild_character, is_one_byte, is_empty, slash}
+use Rattle.glob_automaton.specs.Characters.{is_between}
 use Rattle.glob_automaton.specs.TokenMeans.{means, is_prefix_alone}
-use Rattle.globset_glob.specs.SmallRegex.{Entry, single, Atom, any_byte, byte, class_of, group_of, Item, once, repeated, optional, Row, no_item, item, Rows, no_row, row, expression, SpellsAtom, SpellsItem, SpellsRow, SpellsOthers, entries_have, class_of_has, Repeats, no_piece, one_more, DenotesAtom, DenotesItem, DenotesRow, DenotesSome}
-use Rattle.globset_glob.specs.RegexText.{byte_text, bytes_text, ranges_text, class_text, others_text, group_text, with_text, token_text, tokens_text, kept_texts, body_text, regex_text}
+use Rattle.glob_automaton.specs.inner.TokenStates.{passes, continues, is_ascii_wild}
+use Rattle.glob_automaton.proofs.lemmas.Characters.{some_row}
+use Rattle.globset_glob.specs.SmallRegex.{Entry, single, span, Atom, any_byte, byte, class_of, group_of, Item, once, repeated, optional, Row, no_item, item, Rows, no_row, row, expression, SpellsByte, SpellsEntries, SpellsAtom, SpellsItem, SpellsRow, SpellsOthers, entries_have, folded_entries_have, class_of_has, Repeats, no_piece, one_more, DenotesAtom, DenotesItem, DenotesRow, DenotesSome}
+use Rattle.globset_glob.specs.RegexText.{byte_text, bytes_text, ranges_text, class_text, others_text, group_text, with_text, ascii_text, longer_texts, token_text, tokens_text, kept_texts, body_text, regex_text}
 use Rattle.globset_glob.specs.RegexDenotes.{HasExpression}
 use Rattle.glob_syntax.specs.declared.options.Options.{Options}
 use Rattle.glob_automaton.proofs.lemmas.Booleans.{and_both, and_first, and_second, or_first, or_second, or_either}
@@ -19,6 +22,7 @@ use Rattle.glob_syntax.specs.inner.WellFormed.{AreScalars, IsWellFormed, AreWell
 use Rattle.glob_automaton.proofs.lemmas.Takes.{some_any, OneByte, one_byte}
 use Rattle.glob_automaton.proofs.lemmas.TakesByParts.{Takes, TakesAll, Then, empty_same, equal_bytes, prefix_takes, suffix_takes, between_takes, then_takes}
 use Rattle.globset_glob.proofs.lemmas.ByteTexts.{Below, IsSpelled, spells_byte, encode_below, slash_byte, byte_slash, slash_alone, spelled_more, spelled_none, spelled_one}
+use Rattle.globset_glob.proofs.lemmas.CharacterTexts.{spells_digits, same_byte, same_span, same_ascii, same_ascii_apart, regex_rows, regex_rows_are}
 use Rattle.globset_glob.proofs.lemmas.ClassTexts.{has_ranges}
 
 iff_trans : {A B C : Type 0} → A ↔ B → B ↔ C → A ↔ C
@@ -162,8 +166,8 @@ module _ (o : Options) where
   )
   wild_is false e b = rw e (λ (c, is). (c, is, refl), λ (c, is, h). (c, is))
 
-  has_one : (q : Bool) → o.literal_separator ≡ q → HasRow (if q then codes "[^/]" else codes ".") (Takes o Any)
-  has_one q e = has_same (if q then codes "[^/]" else codes ".") (DenotesItem o.case_insensitive (once (wild q))) (Takes o Any)
+  has_one : (q : Bool) → o.literal_separator ≡ q → HasRow (if q then codes "[^/]" else codes ".") (λ b. IsTrue (is_one_byte (is_wild o) b))
+  has_one q e = has_same (if q then codes "[^/]" else codes ".") (DenotesItem o.case_insensitive (once (wild q))) (λ b. IsTrue (is_one_byte (is_wild o) b))
       (λ b. iff_trans (wild_is q e b) (one_byte (is_wild o) b))
       (has_item (once (wild q)) (if q then codes "[^/]" else codes ".") (spells_wild q))
 
@@ -186,6 +190,152 @@ module _ (o : Options) where
   has_star q e = has_same (if q then codes "[^/]*" else codes ".*") (DenotesItem o.case_insensitive (repeated (wild q))) (Takes o ZeroOrMore)
       (λ b. (repeats_there q e b, repeats_back q e b))
       (has_item (repeated (wild q)) (if q then codes "[^/]*" else codes ".*") (spells_repeated q))
+
+  -- ---- whole characters
+
+  abbrev Passes : List (ℕ → Bool) → List ℕ → Type 0
+  Passes tests b = IsTrue (passes tests b)
+
+  abbrev SomeRow : List (List (ℕ → Bool)) → List ℕ → Type 0
+  SomeRow rows b = IsTrue (some_row rows b)
+
+  passes_one : (test : ℕ → Bool) (b : List ℕ) → OneByte test b ↔ Passes (test ∷ []) b
+  passes_one test [] = (λ h. absurd (let e = h.1 in cc), λ h. absurd (true≢false (sym h)))
+  passes_one test (c ∷ []) = (λ (d, is, h). (let e : d ≡ c = cc in subst (λ x. IsTrue (test x)) e h), λ h. (c, refl, h))
+  passes_one test (c ∷ d ∷ ds) = (λ h. absurd (let e = h.1 in cc), λ h. absurd (true≢false (sym h)))
+
+  passes_more : (test : ℕ → Bool) (tests : List (ℕ → Bool)) (b : List ℕ) → Then (Passes (test ∷ [])) (Passes tests) b ↔ Passes (test ∷ tests) b
+  passes_more test tests b = (there, back b)
+    where
+      there : Then (Passes (test ∷ [])) (Passes tests) b → Passes (test ∷ tests) b
+      there (x, y, cut, p, q) =
+          let (c, is, h) = (passes_one test x).1 p in
+          subst (Passes (test ∷ tests)) (sym (cut ∙ ap (λ l. l ++ y) is)) (and_both (passes tests y) (test c) q h)
+
+      back : (b : List ℕ) → Passes (test ∷ tests) b → Then (Passes (test ∷ [])) (Passes tests) b
+      back [] h = absurd (true≢false (sym h))
+      back (c ∷ cs) h = (c ∷ [], cs, refl, and_second (passes tests cs) (test c) h, and_first (passes tests cs) (test c) h)
+
+  -- one class or byte, and then the others
+  has_more_tests : (t u : List ℕ) (test : ℕ → Bool) (tests : List (ℕ → Bool)) → HasRow t (Passes (test ∷ [])) → HasRow u (Passes tests) → HasRow (t ++ u) (Passes (test ∷ tests))
+  has_more_tests t u test tests first rest = has_same (t ++ u) (Then (Passes (test ∷ [])) (Passes tests)) (Passes (test ∷ tests)) (passes_more test tests)
+      (has_then t u (Passes (test ∷ [])) (Passes tests) first rest)
+
+  -- one byte that is no letter
+  has_byte : (x : ℕ) (t : List ℕ) → 128 ≤ x → SpellsByte x t → HasRow t (Passes (is_between (x, x) ∷ []))
+  has_byte x t high spelled = has_same t (DenotesItem o.case_insensitive (once (byte x))) (Passes (is_between (x, x) ∷ []))
+      (λ b. iff_trans (λ (c, is, h). (c, is, sym (same_byte o.case_insensitive x c high) ∙ h), λ (c, is, h). (c, is, same_byte o.case_insensitive x c high ∙ h)) (passes_one (is_between (x, x)) b))
+      (has_item (once (byte x)) t spelled)
+
+  -- a class with the bytes of a test, folded or not
+  has_class_of : (es : List Entry) (t : List ℕ) (test : ℕ → Bool) → 1 ≤ length es → SpellsEntries es t → ((c : ℕ) → folded_entries_have o.case_insensitive es c ≡ test c)
+      → HasRow (codes "[" ++ t ++ codes "]") (Passes (test ∷ []))
+  has_class_of es t test some spelled same = has_same (codes "[" ++ t ++ codes "]") (DenotesItem o.case_insensitive (once (class_of false es))) (Passes (test ∷ []))
+      (λ b. iff_trans (λ (c, is, h). (c, is, sym (same c) ∙ h), λ (c, is, h). (c, is, same c ∙ h)) (passes_one test b))
+      (has_item (once (class_of false es)) (codes "[" ++ t ++ codes "]") (t, refl, spelled, some))
+
+  -- a class of one range of bytes that are no letters
+  has_span : (x y : ℕ) (u v : List ℕ) → 128 ≤ x → SpellsByte x u → SpellsByte y v → HasRow (codes "[" ++ (u ++ codes "-" ++ v) ++ codes "]") (Passes (is_between (x, y) ∷ []))
+  has_span x y u v high first last = has_class_of (span x y ∷ []) (u ++ codes "-" ++ v) (is_between (x, y)) (omega arith)
+      (u ++ codes "-" ++ v, [], sym (append-nil (u ++ codes "-" ++ v)), (u, v, refl, first, last), refl) (λ c. same_span o.case_insensitive x y c high)
+
+  has_continues : HasRow (codes "[\\x80-\\xbf]") (Passes (continues ∷ []))
+  has_continues = has_span 0x80 0xBF (codes "\\x80") (codes "\\xbf") (omega arith) (spells_byte 0x80 (omega arith)) (spells_byte 0xBF (omega arith))
+
+  -- the last two bytes, and the last three
+  has_two : HasRow (codes "[\\x80-\\xbf][\\x80-\\xbf]") (Passes (continues ∷ continues ∷ []))
+  has_two = has_more_tests (codes "[\\x80-\\xbf]") (codes "[\\x80-\\xbf]") continues (continues ∷ []) has_continues has_continues
+
+  has_three : HasRow (codes "[\\x80-\\xbf][\\x80-\\xbf][\\x80-\\xbf]") (Passes (continues ∷ continues ∷ continues ∷ []))
+  has_three = has_more_tests (codes "[\\x80-\\xbf]") (codes "[\\x80-\\xbf][\\x80-\\xbf]") continues (continues ∷ continues ∷ []) has_continues has_two
+
+  -- the ASCII characters
+  ascii_class : (q : Bool) → o.literal_separator ≡ q → HasRow (if q then codes "[\\x00-\\x2e\\x30-\\x7f]" else codes "[\\x00-\\x7f]") (Passes (is_ascii_wild o ∷ []))
+  ascii_class true e = has_class_of (span 0x00 0x2E ∷ span 0x30 0x7F ∷ []) (codes "\\x00-\\x2e\\x30-\\x7f") (is_ascii_wild o) (omega arith) (
+    codes "\\x00-\\x2e",
+    codes "\\x30-\\x7f",
+    refl,
+    (codes "\\x00", codes "\\x2e", refl, spells_digits 48 48 refl refl, spells_digits 50 101 refl refl),
+    (codes "\\x30-\\x7f", [], refl, (codes "\\x30", codes "\\x7f", refl, spells_digits 51 48 refl refl, spells_digits 55 102 refl refl), refl),
+  )
+      (λ c. same_ascii_apart o.case_insensitive c ∙ ap (λ q. is_between (0x00, 0x7F) c && not (q && (c == slash))) (sym e))
+  ascii_class false e = has_class_of (span 0x00 0x7F ∷ []) (codes "\\x00-\\x7f") (is_ascii_wild o) (omega arith)
+      (codes "\\x00-\\x7f", [], refl, (codes "\\x00", codes "\\x7f", refl, spells_digits 48 48 refl refl, spells_digits 55 102 refl refl), refl)
+      (λ c. same_ascii o.case_insensitive c ∙ and_true (is_between (0x00, 0x7F) c) ∙ ap (λ q. is_between (0x00, 0x7F) c && not (q && (c == slash))) (sym e))
+    where
+      and_true : (p : Bool) → p ≡ (p && true)
+      and_true true = refl
+      and_true false = refl
+
+  -- one row more
+  has_row_more : (t : List ℕ) (ts : List (List ℕ)) (tests : List (ℕ → Bool)) (rows : List (List (ℕ → Bool))) → HasRow t (Passes tests) → HasSome ts (SomeRow rows)
+      → HasSome (t ∷ ts) (SomeRow (tests ∷ rows))
+  has_row_more t ts tests rows first others = some_same (t ∷ ts) (λ b. Passes tests b ⊎ SomeRow rows b) (SomeRow (tests ∷ rows))
+      (λ b. (
+        λ h. ⊎_elim {C = SomeRow (tests ∷ rows) b} (λ p. or_first (passes tests b) (some_row rows b) p) (λ p. or_second (passes tests b) (some_row rows b) p) h,
+        λ h. or_either (passes tests b) (some_row rows b) h,
+      ))
+      (has_more t ts (Passes tests) (SomeRow rows) first others)
+
+  has_no_row : HasSome [] (SomeRow [])
+  has_no_row = some_same [] (λ b. ⊥) (SomeRow []) (λ b. (λ h. absurd h, λ h. true≢false (sym h))) has_no_more
+
+  has_high : (x : ℕ) → 128 ≤ x → x < 256 → HasRow (byte_text x) (Passes (is_between (x, x) ∷ []))
+  has_high x high below = has_byte x (byte_text x) high (spells_byte x below)
+
+  has_range : (x y : ℕ) → 128 ≤ x → x < 256 → y < 256 → HasRow (codes "[" ++ (byte_text x ++ codes "-" ++ byte_text y) ++ codes "]") (Passes (is_between (x, y) ∷ []))
+  has_range x y high below within = has_span x y (byte_text x) (byte_text y) high (spells_byte x below) (spells_byte y within)
+
+  -- the longer characters, row by row
+
+  has_two_bytes : HasRow (codes "[\\xc2-\\xdf][\\x80-\\xbf]") (Passes (is_between (0xC2, 0xDF) ∷ continues ∷ []))
+  has_two_bytes = has_more_tests (codes "[\\xc2-\\xdf]") (codes "[\\x80-\\xbf]") (is_between (0xC2, 0xDF)) (continues ∷ []) (has_range 0xC2 0xDF (omega arith) (omega arith) (omega arith)) has_continues
+
+  has_e0 : HasRow (codes "\\xe0[\\xa0-\\xbf][\\x80-\\xbf]") (Passes (is_between (0xE0, 0xE0) ∷ is_between (0xA0, 0xBF) ∷ continues ∷ []))
+  has_e0 = has_more_tests (codes "\\xe0") (codes "[\\xa0-\\xbf]" ++ codes "[\\x80-\\xbf]") (is_between (0xE0, 0xE0)) (is_between (0xA0, 0xBF) ∷ continues ∷ []) (has_high 0xE0 (omega arith) (omega arith))
+      (has_more_tests (codes "[\\xa0-\\xbf]") (codes "[\\x80-\\xbf]") (is_between (0xA0, 0xBF)) (continues ∷ []) (has_range 0xA0 0xBF (omega arith) (omega arith) (omega arith)) has_continues)
+
+  has_e1_to_ec : HasRow (codes "[\\xe1-\\xec][\\x80-\\xbf][\\x80-\\xbf]") (Passes (is_between (0xE1, 0xEC) ∷ continues ∷ continues ∷ []))
+  has_e1_to_ec = has_more_tests (codes "[\\xe1-\\xec]") (codes "[\\x80-\\xbf][\\x80-\\xbf]") (is_between (0xE1, 0xEC)) (continues ∷ continues ∷ []) (has_range 0xE1 0xEC (omega arith) (omega arith) (omega arith)) has_two
+
+  has_ed : HasRow (codes "\\xed[\\x80-\\x9f][\\x80-\\xbf]") (Passes (is_between (0xED, 0xED) ∷ is_between (0x80, 0x9F) ∷ continues ∷ []))
+  has_ed = has_more_tests (codes "\\xed") (codes "[\\x80-\\x9f]" ++ codes "[\\x80-\\xbf]") (is_between (0xED, 0xED)) (is_between (0x80, 0x9F) ∷ continues ∷ []) (has_high 0xED (omega arith) (omega arith))
+      (has_more_tests (codes "[\\x80-\\x9f]") (codes "[\\x80-\\xbf]") (is_between (0x80, 0x9F)) (continues ∷ []) (has_range 0x80 0x9F (omega arith) (omega arith) (omega arith)) has_continues)
+
+  has_ee_to_ef : HasRow (codes "[\\xee-\\xef][\\x80-\\xbf][\\x80-\\xbf]") (Passes (is_between (0xEE, 0xEF) ∷ continues ∷ continues ∷ []))
+  has_ee_to_ef = has_more_tests (codes "[\\xee-\\xef]") (codes "[\\x80-\\xbf][\\x80-\\xbf]") (is_between (0xEE, 0xEF)) (continues ∷ continues ∷ []) (has_range 0xEE 0xEF (omega arith) (omega arith) (omega arith)) has_two
+
+  has_f0 : HasRow (codes "\\xf0[\\x90-\\xbf][\\x80-\\xbf][\\x80-\\xbf]") (Passes (is_between (0xF0, 0xF0) ∷ is_between (0x90, 0xBF) ∷ continues ∷ continues ∷ []))
+  has_f0 = has_more_tests (codes "\\xf0") (codes "[\\x90-\\xbf]" ++ codes "[\\x80-\\xbf][\\x80-\\xbf]") (is_between (0xF0, 0xF0)) (is_between (0x90, 0xBF) ∷ continues ∷ continues ∷ []) (has_high 0xF0 (omega arith) (omega arith))
+      (has_more_tests (codes "[\\x90-\\xbf]") (codes "[\\x80-\\xbf][\\x80-\\xbf]") (is_between (0x90, 0xBF)) (continues ∷ continues ∷ []) (has_range 0x90 0xBF (omega arith) (omega arith) (omega arith)) has_two)
+
+  has_f1_to_f3 : HasRow (codes "[\\xf1-\\xf3][\\x80-\\xbf][\\x80-\\xbf][\\x80-\\xbf]") (Passes (is_between (0xF1, 0xF3) ∷ continues ∷ continues ∷ continues ∷ []))
+  has_f1_to_f3 = has_more_tests (codes "[\\xf1-\\xf3]") (codes "[\\x80-\\xbf][\\x80-\\xbf][\\x80-\\xbf]") (is_between (0xF1, 0xF3)) (continues ∷ continues ∷ continues ∷ []) (has_range 0xF1 0xF3 (omega arith) (omega arith) (omega arith)) has_three
+
+  has_f4 : HasRow (codes "\\xf4[\\x80-\\x8f][\\x80-\\xbf][\\x80-\\xbf]") (Passes (is_between (0xF4, 0xF4) ∷ is_between (0x80, 0x8F) ∷ continues ∷ continues ∷ []))
+  has_f4 = has_more_tests (codes "\\xf4") (codes "[\\x80-\\x8f]" ++ codes "[\\x80-\\xbf][\\x80-\\xbf]") (is_between (0xF4, 0xF4)) (is_between (0x80, 0x8F) ∷ continues ∷ continues ∷ []) (has_high 0xF4 (omega arith) (omega arith))
+      (has_more_tests (codes "[\\x80-\\x8f]") (codes "[\\x80-\\xbf][\\x80-\\xbf]") (is_between (0x80, 0x8F)) (continues ∷ continues ∷ []) (has_range 0x80 0x8F (omega arith) (omega arith) (omega arith)) has_two)
+
+  has_character : HasRow (group_text (ascii_text o ∷ longer_texts)) (λ b. IsTrue (is_wild_character o b))
+  has_character = has_same (group_text (ascii_text o ∷ longer_texts)) (SomeRow (regex_rows o)) (λ b. IsTrue (is_wild_character o b))
+      (λ b. (λ h. sym (regex_rows_are o b) ∙ h, λ h. regex_rows_are o b ∙ h))
+      (has_group (ascii_text o) longer_texts (SomeRow (regex_rows o))
+      (has_row_more (ascii_text o) longer_texts (is_ascii_wild o ∷ []) (drop 1 (regex_rows o)) (ascii_class o.literal_separator refl)
+      (has_row_more (codes "[\\xc2-\\xdf][\\x80-\\xbf]") (drop 1 longer_texts) (is_between (0xC2, 0xDF) ∷ continues ∷ []) (drop 2 (regex_rows o)) has_two_bytes
+      (has_row_more (codes "\\xe0[\\xa0-\\xbf][\\x80-\\xbf]") (drop 2 longer_texts) (is_between (0xE0, 0xE0) ∷ is_between (0xA0, 0xBF) ∷ continues ∷ []) (drop 3 (regex_rows o)) has_e0
+      (has_row_more (codes "[\\xe1-\\xec][\\x80-\\xbf][\\x80-\\xbf]") (drop 3 longer_texts) (is_between (0xE1, 0xEC) ∷ continues ∷ continues ∷ []) (drop 4 (regex_rows o)) has_e1_to_ec
+      (has_row_more (codes "\\xed[\\x80-\\x9f][\\x80-\\xbf]") (drop 4 longer_texts) (is_between (0xED, 0xED) ∷ is_between (0x80, 0x9F) ∷ continues ∷ []) (drop 5 (regex_rows o)) has_ed
+      (has_row_more (codes "[\\xee-\\xef][\\x80-\\xbf][\\x80-\\xbf]") (drop 5 longer_texts) (is_between (0xEE, 0xEF) ∷ continues ∷ continues ∷ []) (drop 6 (regex_rows o)) has_ee_to_ef
+      (has_row_more (codes "\\xf0[\\x90-\\xbf][\\x80-\\xbf][\\x80-\\xbf]") (drop 6 longer_texts) (is_between (0xF0, 0xF0) ∷ is_between (0x90, 0xBF) ∷ continues ∷ continues ∷ []) (drop 7 (regex_rows o)) has_f0
+      (has_row_more (codes "[\\xf1-\\xf3][\\x80-\\xbf][\\x80-\\xbf][\\x80-\\xbf]") (drop 7 longer_texts) (is_between (0xF1, 0xF3) ∷ continues ∷ continues ∷ continues ∷ []) (drop 8 (regex_rows o)) has_f1_to_f3
+      (has_row_more (codes "\\xf4[\\x80-\\x8f][\\x80-\\xbf][\\x80-\\xbf]") (drop 8 longer_texts) (is_between (0xF4, 0xF4) ∷ is_between (0x80, 0x8F) ∷ continues ∷ continues ∷ []) (drop 9 (regex_rows o)) has_f4
+      has_no_row))))))))))
+
+  has_any : (q : Bool) → o.whole_character ≡ q
+      → HasRow (if q then group_text (ascii_text o ∷ longer_texts) else (if o.literal_separator then codes "[^/]" else codes ".")) (Takes o Any)
+  has_any true e = has_same (group_text (ascii_text o ∷ longer_texts)) (λ b. IsTrue (is_wild_character o b)) (Takes o Any) (λ b. rw e (λ h. h, λ h. h)) has_character
+  has_any false e = has_same (if o.literal_separator then codes "[^/]" else codes ".") (λ b. IsTrue (is_one_byte (is_wild o) b)) (Takes o Any) (λ b. rw e (λ h. h, λ h. h))
+      (has_one o.literal_separator refl)
 
   -- ---- recursive stars
 
@@ -352,7 +502,7 @@ module _ (o : Options) where
     token_has (Literal c) w = has_same (bytes_text (encode_utf8 c)) (IsSpelled o (encode_utf8 c)) (Takes o (Literal c))
         (λ b. equal_bytes (compared o b) (compared o (encode_utf8 c)))
         (spelled_has (encode_utf8 c) (encode_below c w))
-    token_has Any w = has_one o.literal_separator refl
+    token_has Any w = has_any o.whole_character refl
     token_has ZeroOrMore w = has_star o.literal_separator refl
     token_has RecursivePrefix w = has_prefix
     token_has RecursiveSuffix w = has_suffix

@@ -1,11 +1,12 @@
 -- The automaton of one glob.
-use Rattle.std.proofs.Common.{◌≡◌, ℕ, ◌≤◌, ◌+◌, ◌*◌, Ok, inl, Bool, List, [], ◌∷◌, ◌++◌, length, IsTrue, refl, sym, subst, arith}
+use Rattle.std.proofs.Common.{◌≡◌, ℕ, ◌≤◌, ◌+◌, ◌*◌, Ok, inl, Bool, List, [], ◌∷◌, ◌++◌, length, IsTrue, refl, ap, sym, subst, arith}
 use Rattle.std.specs.Prelude.{◌↔◌}
 use Rattle.std.specs.Str.{chars}
 use Rattle.std.proofs.Math.Logic.{⊎_elim}
 use Rattle.glob_syntax.specs.declared.options.Options.{Options}
 use Rattle.glob_syntax.specs.Token.{Tokens}
 use Rattle.glob_syntax.specs.Reading.{reading}
+use Rattle.glob_syntax.specs.StatesPerByte.{states_per_byte}
 use Rattle.glob_syntax.specs.inner.Weight.{weight}
 use Rattle.byte_automaton.specs.Steps.{Machine}
 use Rattle.byte_automaton.specs.Runs.{size}
@@ -17,11 +18,11 @@ use Rattle.globset_glob.specs.inner.GlobAutomaton.{IsAutomatonOf}
 use Rattle.globset_glob.proofs.lemmas.Globs.{tokens_are}
 
 -- an automaton to which the glob's tokens were added, and nothing else
-pub automaton_is : (g : GlobValue) (o : Options) (ts : Tokens) (old new : Machine) → o ≡ g.options → reading g.options (chars g.text) ≡ Ok ts → weight ts ≤ 4 * length g.text
-    → IsFor old [] → size old ≡ 0 → ((xs : List IndexedTokens) → IsFor old xs → IsFor new (xs ++ indexed o ts 0 ∷ [])) → size new ≤ size old + (weight ts + 1) → IsAutomatonOf g new
+pub automaton_is : (g : GlobValue) (o : Options) (ts : Tokens) (old new : Machine) → o ≡ g.options → reading g.options (chars g.text) ≡ Ok ts → weight o ts ≤ states_per_byte o * length g.text
+    → IsFor old [] → size old ≡ 0 → ((xs : List IndexedTokens) → IsFor old xs → IsFor new (xs ++ indexed o ts 0 ∷ [])) → size new ≤ size old + (weight o ts + 1) → IsAutomatonOf g new
 automaton_is g o ts old new options read few none empty adds count = record {
   tokens = subst (λ us. IsFor new (indexed g.options us 0 ∷ [])) (sym (tokens_are g ts read)) (subst (λ p. IsFor new (indexed p ts 0 ∷ [])) options (adds [] none));
-  size = omega (arith, empty, count, few);
+  size = let same = ap (λ p. states_per_byte p * length g.text) options in omega (arith, empty, count, few, same);
 }
 
 -- whether a run finds something is whether the glob matches

@@ -7,6 +7,7 @@ use Rattle.std.specs.Cmp.Lexicographic.{bytes_decides}
 use Rattle.std.proofs.Math.Logic.{⊎_elim}
 use Rattle.std.proofs.lemmas.Bool.{cases_Bool}
 use Rattle.std.proofs.lemmas.List.Sums.{sum_by-append}
+use Rattle.glob_syntax.specs.declared.options.Options.{Options}
 use Rattle.glob_syntax.specs.Token.{Tokens, end, and_then}
 use Rattle.glob_syntax.specs.inner.Weight.{weight}
 use Rattle.byte_automaton.specs.Runs.{size}
@@ -134,20 +135,20 @@ some_added x xs g n text path k at tells =
       λ h. push.1 (⊎_elim {C = SomeMatches xs text k ⊎ ((x.index ≡ k) × IsTrue (means x.options x.tokens text))} (λ old. inl old) (λ new. inr (at ∙ new.0, sym tells ∙ new.1)) h),
     )
 
-needed : (g : TokenGlob) (path : List ℕ) → needs_automaton g.options g.tokens path ≡ true → states g path ≡ weight g.tokens + 1
-needed g path on = ap (λ b. cond b (weight g.tokens + 1) 0) on
+needed : (g : TokenGlob) (path : List ℕ) → needs_automaton g.options g.tokens path ≡ true → states g path ≡ weight g.options g.tokens + 1
+needed g path on = ap (λ b. cond b (weight g.options g.tokens + 1) 0) on
 
-pub weight_after : (ts : Tokens) → weight (after_prefix ts) ≤ weight ts
-weight_after end = omega arith
-weight_after (and_then t ts) = choice (is_prefix t)
+pub weight_after : (o : Options) (ts : Tokens) → weight o (after_prefix ts) ≤ weight o ts
+weight_after o end = omega arith
+weight_after o (and_then t ts) = choice (is_prefix t)
   where
-    choice : (b : Bool) → weight (cond b ts (and_then t ts)) ≤ weight (and_then t ts)
+    choice : (b : Bool) → weight o (cond b ts (and_then t ts)) ≤ weight o (and_then t ts)
     choice true = omega arith
     choice false = omega arith
 
 pub by_path_added : (globs : List TokenGlob) (g : TokenGlob) (n : ℕ) (old new : GroupParts) → n ≡ length globs → new.keys ≡ old.keys
     → ((path : List ℕ) → is_listed g path ≡ means g.options g.tokens path) → ((path : List ℕ) → needs_automaton g.options g.tokens path ≡ true)
-    → ((xs : List IndexedTokens) → IsFor old.automata.by_path xs → IsFor new.automata.by_path (xs ++ indexed g.options g.tokens n ∷ [])) → size new.automata.by_path ≤ size old.automata.by_path + (weight g.tokens + 1)
+    → ((xs : List IndexedTokens) → IsFor old.automata.by_path xs → IsFor new.automata.by_path (xs ++ indexed g.options g.tokens n ∷ [])) → size new.automata.by_path ≤ size old.automata.by_path + (weight g.options g.tokens + 1)
     → new.automata.by_component ≡ old.automata.by_component → new.automata.extensions ≡ old.automata.extensions → AreGroupsOf globs old → AreGroupsOf (globs ++ g ∷ []) new
 by_path_added globs g n old new at keys tells needs adds few component extensions before =
     tokens_added globs g n old new before tokens at keys
@@ -169,7 +170,7 @@ by_path_added globs g n old new at keys tells needs adds few component extension
 
 pub by_component_added : (globs : List TokenGlob) (g : TokenGlob) (n : ℕ) (ts : Tokens) (old new : GroupParts) → n ≡ length globs → new.keys ≡ old.keys → ts ≡ after_prefix g.tokens
     → ((path : List ℕ) → is_listed g path ≡ means g.options (after_prefix g.tokens) (last_component path)) → ((path : List ℕ) → needs_automaton g.options g.tokens path ≡ true)
-    → ((xs : List IndexedTokens) → IsFor old.automata.by_component xs → IsFor new.automata.by_component (xs ++ indexed g.options ts n ∷ [])) → size new.automata.by_component ≤ size old.automata.by_component + (weight ts + 1)
+    → ((xs : List IndexedTokens) → IsFor old.automata.by_component xs → IsFor new.automata.by_component (xs ++ indexed g.options ts n ∷ [])) → size new.automata.by_component ≤ size old.automata.by_component + (weight g.options ts + 1)
     → new.automata.by_path ≡ old.automata.by_path → new.automata.extensions ≡ old.automata.extensions → AreGroupsOf globs old → AreGroupsOf (globs ++ g ∷ []) new
 by_component_added globs g n ts old new at keys rest tells needs adds few by_path extensions before =
     tokens_added globs g n old new before tokens at keys
@@ -181,7 +182,7 @@ by_component_added globs g n ts old new at keys rest tells needs adds few by_pat
     (λ path k. subst (λ (e : SlotParts). AreFound e.slots tokens path k ↔ (AreFound old.automata.extensions.slots before.tokens path k ⊎ IsNew n g path k)) (sym extensions)
     (right_more (left_more (some_added (indexed g.options ts n) before.tokens.by_component g n (last_component path) path k refl (tells path ∙ ap (λ us. means g.options us (last_component path)) (sym rest))))))
     (λ path. let one = ap size by_path in let two = ap (λ (e : SlotParts). size (machine_under e (component_extension path))) extensions in let most = needed g path (needs path) in
-    let fewer = weight_after g.tokens in let same = ap weight rest in omega (arith, few, one, two, most, fewer, same))
+    let fewer = weight_after g.options g.tokens in let same = ap (weight g.options) rest in omega (arith, few, one, two, most, fewer, same))
   where
     tokens : TokenLists
     tokens = record {
@@ -194,7 +195,7 @@ pub by_extension_added : (globs : List TokenGlob) (g : TokenGlob) (n : ℕ) (key
     → ((path : List ℕ) → (is_listed g path ≡ means g.options g.tokens path) × (IsTrue (is_listed g path) → component_extension path ≡ key))
     → ((path : List ℕ) → bytes_eq key (component_extension path) ≡ true → needs_automaton g.options g.tokens path ≡ true)
     → ((before : ℕ → List IndexedTokens) → AreFor old.automata.extensions.machines before → AddsTokens old.automata.extensions.slots before new.automata.extensions key (indexed g.options g.tokens n))
-    → ((extension : List ℕ) → size (machine_under new.automata.extensions extension) ≤ size (machine_under old.automata.extensions extension) + cond (bytes_eq key extension) (weight g.tokens + 1) 0)
+    → ((extension : List ℕ) → size (machine_under new.automata.extensions extension) ≤ size (machine_under old.automata.extensions extension) + cond (bytes_eq key extension) (weight g.options g.tokens + 1) 0)
     → new.automata.by_path ≡ old.automata.by_path → new.automata.by_component ≡ old.automata.by_component → AreGroupsOf globs old → AreGroupsOf (globs ++ g ∷ []) new
 by_extension_added globs g n key old new at keys tells needs adds few by_path component before =
     tokens_added globs g n old new before tokens at keys
@@ -236,8 +237,8 @@ by_extension_added globs g n key old new at keys tells needs adds few by_path co
         let e = component_extension path in
         let one = ap size by_path in let two = ap size component in let most = few e in
         ⊎_elim {C = states_for new.automata path ≤ states_for old.automata path + states g path}
-        (λ y. let run = needed g path (needs path y) in let three = ap (λ b. cond b (weight g.tokens + 1) 0) y in omega (arith, one, two, most, run, three))
-        (λ off. let three = ap (λ b. cond b (weight g.tokens + 1) 0) off in omega (arith, one, two, most, three)) h
+        (λ y. let run = needed g path (needs path y) in let three = ap (λ b. cond b (weight g.options g.tokens + 1) 0) y in omega (arith, one, two, most, run, three))
+        (λ off. let three = ap (λ b. cond b (weight g.options g.tokens + 1) 0) off in omega (arith, one, two, most, three)) h
 
 -- ---- no globs
 

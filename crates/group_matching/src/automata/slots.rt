@@ -174,7 +174,7 @@ impl SlotsBuilder {
         requires nested { IsNested (flats tokens.now) }
         requires index { index < self.old.index_count }
         ensures tokens { OnOk result ((before : ℕ → List IndexedTokens) → AreFor self.old.machines before → AddsTokens self.old.slots before self.new key.items (indexed options (tokens_of tokens.now) index)) }
-        ensures size { OnOk result ((extension : List ℕ) → size (machine_under self.new extension) ≤ size (machine_under self.old extension) + cond (bytes_eq key.items extension) (weight (tokens_of tokens.now) + 1) 0) }
+        ensures size { OnOk result ((extension : List ℕ) → size (machine_under self.new extension) ≤ size (machine_under self.old extension) + cond (bytes_eq key.items extension) (weight options (tokens_of tokens.now) + 1) 0) }
         ensures count { self.new.index_count ≡ self.old.index_count }
     {
         let slot = self.slot_of(alloc, key)?;

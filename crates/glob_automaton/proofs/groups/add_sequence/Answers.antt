@@ -102,7 +102,7 @@ returns-clause-count c =
     let whole : length tokens - c.loop-i.i ≡ 0 = omega arith in
     let inv = rw whole at c.loop-i.invariant in
     let nested = c.requires.nested in
-    weight_whole (levels_of (flats tokens)) (size c.loop-i.builder) (size c.args.builder.now) (depth 0 (flats tokens) nested) (sole 0 (flats tokens) nested) inv.count
+    weight_whole c.args.options (levels_of (flats tokens)) (size c.loop-i.builder) (size c.args.builder.now) (depth 0 (flats tokens) nested) (sole 0 (flats tokens) nested) inv.count
 
 pub returns-clause-builds : goal.returns-clause-builds
 returns-clause-builds c =

@@ -9,7 +9,7 @@ use Rattle.glob_automaton.proofs.whole.add_whole.Goals as goal
 pub returns-in_ok-every-clause-count : goal.returns-in_ok-every-clause-count
 returns-in_ok-every-clause-count c =
     let alone : is_prefix_alone (tokens_of c.args.tokens.now) ≡ true = sym c.is_prefix_alone.ensures ∙ c.if-is_prefix_alone.true in
-    omega (arith, alone_weight (tokens_of c.args.tokens.now) alone, c.in_ok-end.ensures.pushed.len, c.in_ok-every.ensures.pushed.len)
+    omega (arith, alone_weight c.args.options (tokens_of c.args.tokens.now) alone, c.in_ok-end.ensures.pushed.len, c.in_ok-every.ensures.pushed.len)
 
 pub returns-in_ok-every-clause-builds : goal.returns-in_ok-every-clause-builds
 returns-in_ok-every-clause-builds c =

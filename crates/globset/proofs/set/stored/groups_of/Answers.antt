@@ -2,6 +2,7 @@ use Rattle.std.proofs.Common.{◌≡◌, ◌≤◌, ◌+◌, ◌<◌, ◌∷◌,
 use Rattle.std.specs.Prelude.{◌*◌}
 use Rattle.std.proofs.lemmas.Result.{IfOk-weaker}
 use Rattle.std.proofs.lemmas.List.{length-map, length-take-le, take_all}
+use Rattle.glob_syntax.specs.StatesPerByte.{states_per_byte}
 use Rattle.glob_syntax.specs.inner.Weight.{weight}
 use Rattle.glob_syntax.specs.Views.{tokens_of}
 use Rattle.globset_glob.specs.Means.{tokens_of_glob}
@@ -22,7 +23,7 @@ loop-index-preserved c =
     let more : take (i + 1) globs ≡ take i globs ++ g ∷ [] = first_more globs i g within c.index-globs-index.is in
     let at : i ≡ length (map by_tokens (take i globs)) = sym (length-map (take i globs) by_tokens ∙ length-take-le i globs (omega arith)) in
     let same : token_glob c.options_of.result (tokens_of c.tokens_of.result.now) ≡ by_tokens g = (λ j. token_glob (c.options_of.ensures j) (sym c.tokens_of.ensures.tokens j)) in
-    let few : weight (tokens_of_glob g) ≤ 4 * length g.text = omega (arith, ap weight c.tokens_of.ensures.tokens, c.tokens_of.ensures.weight) in
+    let few : weight g.options (tokens_of_glob g) ≤ states_per_byte g.options * length g.text = omega (arith, ap (weight g.options) c.tokens_of.ensures.tokens, c.tokens_of.ensures.weight) in
     let added = c.in_ok-add.ensures.groups (map by_tokens (take i globs)) at c.loop-index.invariant.groups in record {
       count = c.in_ok-add.ensures.count ∙ c.loop-index.invariant.count;
       groups = rw more (rw (map_push (take i globs) g) (subst (λ (x : TokenGlob). AreGroupsOf (map by_tokens (take i globs) ++ x ∷ []) c.add.new.self) same added));

@@ -26,3 +26,16 @@ returns-clause-visits c =
       ap (λ p. most_visits g p) c.path.ensures,
       ap (λ (h : GlobValue). most_visits h c.args.path.now) c.self.view_is,
     )
+
+pub returns-in_err-is_match-clause-visits : goal.returns-in_err-is_match-clause-visits
+returns-in_err-is_match-clause-visits c =
+    let g = c.self.inside.glob in
+    let positions = length c.path.result.now + 1 in
+    let all : positions * size c.self.inside.automaton ≤ positions * cost g = mul-le-mul_left positions c.self.invariant.size in
+    omega (
+      arith,
+      c.is_match.ensures.visits,
+      all,
+      ap (λ p. most_visits g p) c.path.ensures,
+      ap (λ (h : GlobValue). most_visits h c.args.path.now) c.self.view_is,
+    )

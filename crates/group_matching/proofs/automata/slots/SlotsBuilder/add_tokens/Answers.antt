@@ -55,7 +55,7 @@ pub returns-clause-size : goal.returns-clause-size
 returns-clause-size c =
     let slot = c.in_ok-slot.slot in
     let machines = c.self.inside.builders.items in
-    let more = weight (tokens_of c.args.tokens.now) + 1 in
+    let more = weight c.args.options (tokens_of c.args.tokens.now) + 1 in
     let mid = slot_parts c.self.inside.slots machines c.self.inside.none c.self.inside.index_count in
     let new = slot_parts c.self.inside.slots (set machines slot c.add_tokens.new.builder) c.self.inside.none c.self.inside.index_count in
     let at : slot_of c.self.inside.slots c.args.key.items ≡ Some slot = ap (λ (e : SlotParts). slot_of e.slots c.args.key.items) c.self.view_is ∙ c.in_ok-slot.ensures.slot in
