@@ -214,7 +214,7 @@ length_more test n = ap length (filter_more test n) ∙ length-append (filter te
     of true = refl
     of false = refl
 
-few_kept : (test : ℕ → Bool) (n : ℕ) → length (filter test (range_with_len 0 n)) ≤ n
+pub few_kept : (test : ℕ → Bool) (n : ℕ) → length (filter test (range_with_len 0 n)) ≤ n
 few_kept test zero = omega arith
 few_kept test (suc n) =
     let e : suc n ≡ n + 1 = omega arith in let more = length_more test n in let before = few_kept test n in let one = small (test n) in

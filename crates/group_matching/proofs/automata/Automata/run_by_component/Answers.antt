@@ -16,12 +16,12 @@ returns-then-state_count-eq0-clause-found c = λ xs is k.
     let none : size c.args.self.now.by_component ≡ 0 = omega (arith, c.state_count.ensures, c.if-state_count-eq0.true, ap (λ (a : AutomataParts). size a.by_component) c.self.view_is) in
     let bytes = component_bytes c.args.path.now (all_bytes c.args.path.now (λ i. omega (arith, c.type_inv.path i))) in (
       λ old. inr old,
-      λ h. ⊎_elim {C = IsTrue (has_index c.args.found.now k)} (λ some. absurd (no_matches c.args.self.now.by_component xs (last_component c.args.path.now) k none is bytes some)) (λ old. old) h,
+      λ h. ⊎_elim {C = IsTrue (has_index c.args.sets.now.marks k)} (λ some. absurd (no_matches c.args.self.now.by_component xs (last_component c.args.path.now) k none is bytes some)) (λ old. old) h,
     )
 
 pub returns-clause-found : goal.returns-clause-found
 returns-clause-found c =
-    subst (λ (a : AutomataParts). OnOk c.find.result ((xs : List IndexedTokens) → IsFor a.by_component xs → (k : ℕ) → IsTrue (has_index c.find.new.found k) ↔ (SomeMatches xs (last_component c.args.path.now) k ⊎ IsTrue (has_index c.args.found.now k))))
+    subst (λ (a : AutomataParts). OnOk c.find.result ((xs : List IndexedTokens) → IsFor a.by_component xs → (k : ℕ) → IsTrue (has_index c.find.new.found k) ↔ (SomeMatches xs (last_component c.args.path.now) k ⊎ IsTrue (has_index c.args.sets.now.marks k))))
     c.self.view_is
-    (subst (λ text. OnOk c.find.result ((xs : List IndexedTokens) → IsFor c.self.inside.by_component xs → (k : ℕ) → IsTrue (has_index c.find.new.found k) ↔ (SomeMatches xs text k ⊎ IsTrue (has_index c.args.found.now k))))
+    (subst (λ text. OnOk c.find.result ((xs : List IndexedTokens) → IsFor c.self.inside.by_component xs → (k : ℕ) → IsTrue (has_index c.find.new.found k) ↔ (SomeMatches xs text k ⊎ IsTrue (has_index c.args.sets.now.marks k))))
     (c.last_component_of-component.ensures ∙ ap last_component c.from_bytes.ensures) c.find.ensures.found)
