@@ -10,3 +10,6 @@ pub mod StepLists
 pub mod Changes
 pub mod Ending
 pub mod Disjoint
+pub mod Clearing
+pub mod IndexSets
+pub mod Summaries

@@ -1,8 +1,9 @@
 -- Sets of bytes, of states and of indexes.
-use Rattle.std.specs.Prelude.{ℕ, ◌*◌, Bool, length}
+use Rattle.std.specs.Prelude.{ℕ, ◌*◌, ◌<◌, ◌⊎◌, ◌↔◌, min, Bool, List, length, IsTrue, Contains}
 use Rattle.byte_automaton.specs.Bits.{bit_of}
 use Rattle.byte_automaton.specs.declared.byte_set.ByteSet.{ByteSet}
 use Rattle.byte_automaton.specs.declared.state_set.StateSet.{StateSet}
+use Rattle.byte_automaton.specs.declared.state_sets.StateSets.{StateSets}
 use Rattle.byte_automaton.specs.declared.index_set.IndexSet.{IndexSet}
 
 -- the set has the byte c
@@ -24,3 +25,11 @@ state_room set = 64 * length set.words.items
 -- a set has room for the indexes below this
 abbrev pub index_room : IndexSet → ℕ
 index_room set = 64 * length set.words.items
+
+-- each of two sets of states has room for the states below this
+abbrev pub sets_room : StateSets → ℕ
+sets_room sets = min (state_room sets.current) (state_room sets.next)
+
+-- the new set has what the old one has, and those of the indexes that the old one has room for
+abbrev pub HasAlso : IndexSet → IndexSet → List ℕ → Type 0
+HasAlso old new indexes = (k : ℕ) → IsTrue (has_index new k) ↔ ((Contains indexes k × (k < index_room old)) ⊎ IsTrue (has_index old k))

@@ -5,3 +5,4 @@ pub mod Pass
 pub mod Exits
 pub mod Lowering
 pub mod StepRoom
+pub mod Summary

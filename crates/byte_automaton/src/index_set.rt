@@ -1,8 +1,8 @@
 //! Sets of indexes.
 
-ghost use Rattle.std.specs.Prelude.{◌*◌, ◌^◌, ◌≤◌, length};
+ghost use Rattle.byte_automaton.specs.inner.Summary.{IsSummary};
 
-use crate::words::{first_from, set_bit, words_for};
+use crate::words::{clear_all, clear_words, first_from, first_in_word, grow, set_bit, words_for};
 use std::alloc::{AllocError, Global};
 
 /// A set of indexes, as a bit for each: the ends that a run found.
@@ -18,25 +18,78 @@ use std::alloc::{AllocError, Global};
 ///     from = index + 1;
 /// }
 /// ```
-#[derive(Drop)]
 pub struct IndexSet {
     words: Vec<u64>,
-    ghost fits: { 64 * length words.items ≤ 2 ^ 64 },
+    /// A bit for each word, which is set if the word has a bit that is. So 64 words without one are passed over at once, and
+    /// only words that have one are cleared.
+    summary: Vec<u64>,
+    ghost summed: { IsSummary words.items summary.items },
+}
+
+impl Drop for IndexSet {
+    // One call wherever a value is dropped, which keeps proofs short.
+    fn drop(self) {
+        let IndexSet {
+            words: _,
+            summary: _,
+        } = self;
+    }
 }
 
 impl IndexSet {
-    ghost use Rattle.std.specs.Prelude.{◌≡◌, ℕ, ◌<◌, ◌||◌, ◌==◌, true, false, IfOk, MatchOption};
-    ghost use Rattle.byte_automaton.specs.Sets.{has_index, index_room};
+    ghost use Rattle.std.specs.Prelude.{◌≡◌, ℕ, ◌<◌, ◌≤◌, ◌||◌, ◌==◌, ◌↔◌, true, false, IfOk, OnOk, IsOk, IsTrue, MatchOption};
+    ghost use Rattle.byte_automaton.specs.Sets.{has_index, index_room, HasAlso};
 
-    /// Returns an empty set with room for so many indexes. It takes a bit of memory for each. Returns an error if memory
-    /// runs out.
+    /// Returns an empty set with room for no index. It allocates nothing.
+    pub fn empty(alloc: Global) -> IndexSet
+        ensures room { index_room result ≡ 0 }
+        ensures none { (k : ℕ) → has_index result k ≡ false }
+    {
+        IndexSet {
+            words: Vec::new(alloc),
+            summary: Vec::new(alloc),
+        }
+    }
+
+    /// Returns an empty set with room for so many indexes. It takes a bit of memory for each, and one more for each 64. Returns
+    /// an error if memory runs out.
     pub fn new(alloc: Global, indexes: usize) -> Result<IndexSet, AllocError>
         ensures room { IfOk result (λ set. indexes ≤ index_room set) }
         ensures none { IfOk result (λ set. (k : ℕ) → has_index set k ≡ false) }
     {
-        let mut words = Vec::new(alloc);
-        words.resize(words_for(indexes), 0)?;
-        Ok(IndexSet { words })
+        let mut set = IndexSet::empty(alloc);
+        set.reserve(indexes)?;
+        Ok(set)
+    }
+
+    /// Makes room for so many indexes, if there is less. It takes a bit of memory for each, and one more for each 64. Returns an
+    /// error if memory runs out. The set has the same indexes in each case.
+    pub fn reserve(&mut self, indexes: usize) -> Result<(), AllocError>
+        ensures ok { OnOk result (indexes ≤ index_room self.new) }
+        ensures kept { index_room self.old ≤ index_room self.new }
+        ensures has { (k : ℕ) → has_index self.new k ≡ has_index self.old k }
+        ensures memory { indexes ≤ index_room self.old → IsOk result }
+    {
+        let words = words_for(indexes);
+        grow(&mut self.summary, words_for(words))?;
+        grow(&mut self.words, words)
+    }
+
+    /// Takes every index out. The time follows how many were put in; beside that, a word is written for each 4,096 indexes that
+    /// there is room for.
+    pub fn clear(&mut self)
+        ensures room { index_room self.new ≡ index_room self.old }
+        ensures none { (k : ℕ) → has_index self.new k ≡ false }
+    {
+        clear_words(&mut self.words, &self.summary);
+        clear_all(&mut self.summary);
+    }
+
+    /// Returns whether there is room for an index.
+    pub fn has_room_for(&self, index: usize) -> bool
+        ensures { IsTrue result ↔ (index < index_room self.now) }
+    {
+        index / 64 < self.words.len()
     }
 
     /// Puts an index in.
@@ -46,13 +99,30 @@ impl IndexSet {
         ensures has { (k : ℕ) → has_index self.new k ≡ ((k == index) || has_index self.old k) }
     {
         set_bit(&mut self.words, index);
+        set_bit(&mut self.summary, index / 64);
     }
 
-    /// Returns the lowest index of the set from a number on, or `None` if there is none. 64 numbers that are not in the
+    /// Puts those of some indexes in that there is room for.
+    pub fn put_all(&mut self, indexes: &[usize])
+        ensures room { index_room self.new ≡ index_room self.old }
+        ensures has { HasAlso self.old self.new indexes.now }
+    {
+        for index in indexes {
+            if self.has_room_for(*index) {
+                self.put(*index);
+            }
+        }
+    }
+
+    /// Returns the lowest index of the set from a number on, or `None` if there is none. 64 times 64 numbers that are not in the
     /// set are passed over at once.
     pub fn first_from(&self, from: usize) -> Option<usize>
         ensures { MatchOption result ((k : ℕ) → from ≤ k → has_index self.now k ≡ false) (λ at. (from ≤ at) × (has_index self.now at ≡ true) × ((k : ℕ) → from ≤ k → k < at → has_index self.now k ≡ false)) }
     {
-        first_from(&self.words, from)
+        if let Some(index) = first_in_word(&self.words, from) {
+            return Some(index);
+        }
+        let word = first_from(&self.summary, from / 64 + 1)?;
+        first_in_word(&self.words, word * 64)
     }
 }

@@ -13,6 +13,7 @@ mod index_set;
 mod run;
 mod state;
 mod state_set;
+mod state_sets;
 mod words;
 
 pub use automaton::Automaton;
@@ -21,3 +22,4 @@ pub use byte_set::ByteSet;
 pub use byte_steps::ByteSteps;
 pub use index_set::IndexSet;
 pub use state_set::StateSet;
+pub use state_sets::StateSets;

@@ -2,7 +2,7 @@
 
 ghost use Rattle.byte_automaton.specs.inner.Bounds.{AreBounds};
 
-use crate::words::{Seen, clear_between, has_bit, last_below, set_bit, words_for};
+use crate::words::{Seen, clear_between, grow, has_bit, last_below, set_bit, words_for};
 use std::alloc::{AllocError, Global};
 use visits::Visits;
 
@@ -39,11 +39,23 @@ impl Clone for StateSet {
 }
 
 impl StateSet {
-    ghost use Rattle.std.specs.Prelude.{◌≡◌, ℕ, ◌+◌, ◌<◌, ◌≤◌, ◌||◌, ◌==◌, ◌↔◌, false, IsTrue, IfOk};
+    ghost use Rattle.std.specs.Prelude.{◌≡◌, ℕ, ◌+◌, ◌<◌, ◌≤◌, ◌||◌, ◌==◌, ◌↔◌, false, IsTrue, IfOk, OnOk, IsOk};
     ghost use Rattle.byte_automaton.specs.Sets.{has_state, state_room};
     ghost use Rattle.byte_automaton.specs.Building.{AreBelow};
     ghost use Rattle.byte_automaton.specs.inner.Seen.{IsLastBelow};
     ghost use Rattle.byte_automaton.specs.inner.Pass.{is_listed};
+
+    /// Returns an empty set with room for no state. It allocates nothing.
+    pub(crate) fn empty(alloc: Global) -> StateSet
+        ensures room { state_room result ≡ 0 }
+        ensures none { (s : ℕ) → has_state result s ≡ false }
+    {
+        StateSet {
+            words: Vec::new(alloc),
+            first: usize::MAX,
+            last: 0,
+        }
+    }
 
     /// Returns an empty set with room for so many states. It takes a bit of memory for each. Returns an error if memory
     /// runs out.
@@ -59,6 +71,15 @@ impl StateSet {
             first: usize::MAX,
             last: 0,
         })
+    }
+
+    /// Makes room for so many states, if there is less. It takes a bit of memory for each. Returns an error if memory runs out.
+    pub(crate) fn reserve(&mut self, states: usize) -> Result<(), AllocError>
+        ensures ok { OnOk result (states ≤ state_room self.new) }
+        ensures kept { state_room self.old ≤ state_room self.new }
+        ensures memory { states ≤ state_room self.old → IsOk result }
+    {
+        grow(&mut self.words, words_for(states))
     }
 
     /// Takes every state out.

@@ -1,9 +1,11 @@
 //! Sets of numbers, as the bits of machine words.
 
-ghost use Rattle.std.specs.Prelude.{◌≡◌, ℕ, ◌+◌, ◌-◌, ◌*◌, ◌/◌, ◌%◌, ◌^◌, ◌<◌, ◌≤◌, ◌&&◌, ◌||◌, ◌==◌, not, true, false, length, MatchOption};
+ghost use Rattle.std.specs.Prelude.{◌≡◌, ℕ, ◌+◌, ◌-◌, ◌*◌, ◌/◌, ◌%◌, ◌^◌, ◌<◌, ◌≤◌, ◌&&◌, ◌||◌, ◌==◌, max, not, true, false, length, MatchOption, OnOk, IsOk};
 ghost use Rattle.std.specs.Int.{bit_at};
 ghost use Rattle.byte_automaton.specs.Bits.{bit_of};
 ghost use Rattle.byte_automaton.specs.inner.Seen.{IsLastBelow};
+
+use std::alloc::AllocError;
 
 /// A bit that was read, and whether it is set.
 #[derive(Clone, Copy)]
@@ -23,6 +25,20 @@ pub fn words_for(bits: usize) -> usize
     } else {
         bits / 64 + 1
     }
+}
+
+/// Adds words without a bit until there are so many words. Returns an error if memory runs out; the words are then as they were.
+pub fn grow(words: &mut Vec<u64>, count: usize) -> Result<(), AllocError>
+    ensures ok { OnOk result (count ≤ length words.new.items) }
+    ensures kept { length words.old.items ≤ length words.new.items }
+    ensures most { length words.new.items ≤ max count (length words.old.items) }
+    ensures bits { (k : ℕ) → bit_of words.new.items k ≡ bit_of words.old.items k }
+    ensures memory { count ≤ length words.old.items → IsOk result }
+{
+    if count > words.len() {
+        words.resize(count, 0)?;
+    }
+    Ok(())
 }
 
 /// Returns whether a bit is set.
@@ -70,6 +86,28 @@ pub fn clear_between(words: &mut [u64], first: usize, last: usize)
     words[first / 64..last / 64 + 1].fill(0);
 }
 
+/// Clears all bits.
+pub fn clear_all(words: &mut [u64])
+    ensures { (k : ℕ) → bit_of words.new k ≡ false }
+{
+    words.fill(0);
+}
+
+/// Clears all bits of the words whose places are set in other words.
+pub fn clear_words(words: &mut [u64], places: &[u64])
+    requires { 64 * length places.now ≤ 2 ^ 64 }
+    ensures { (k : ℕ) → bit_of words.new k ≡ (not (bit_of places.now (k / 64)) && bit_of words.old k) }
+{
+    let mut from = 0;
+    while let Some(place) = first_from(places, from) {
+        if place >= words.len() {
+            break;
+        }
+        words[place] = 0;
+        from = place + 1;
+    }
+}
+
 /// Returns the highest bit that is set below the bound, or the lowest bit of the last word below the bound where nothing
 /// in this word is set below the bound.
 pub fn last_below(words: &[u64], upto: usize) -> Seen
@@ -90,6 +128,21 @@ pub fn last_below(words: &[u64], upto: usize) -> Seen
             is_set: true,
         }
     }
+}
+
+/// Returns the lowest bit that is set in a bit's word, from this bit on.
+pub fn first_in_word(words: &[u64], from: usize) -> Option<usize>
+    ensures { MatchOption result ((k : ℕ) → from ≤ k → k / 64 ≡ from / 64 → bit_of words.now k ≡ false) (λ at. (from ≤ at) × (bit_of words.now at ≡ true) × ((k : ℕ) → from ≤ k → k < at → bit_of words.now k ≡ false)) }
+{
+    let at = from / 64;
+    if at >= words.len() {
+        return None;
+    }
+    let word = words[at] & (u64::MAX << (from % 64));
+    if word == 0 {
+        return None;
+    }
+    Some(at * 64 + word.trailing_zeros() as usize)
 }
 
 /// Returns the lowest bit that is set from a bit on.

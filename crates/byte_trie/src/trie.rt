@@ -1,6 +1,7 @@
 //! A trie.
 
-ghost use Rattle.std.specs.Prelude.{◌≡◌, ◌≢◌, ℕ, ◌+◌, ◌≤◌, ◌++◌, ◌↔◌, [], List, map, length, IsTrue, IfOk, OnOk, OnErr};
+ghost use Rattle.std.specs.Prelude.{◌≡◌, ◌≢◌, ℕ, ◌+◌, ◌≤◌, ◌↔◌, [], List, map, length, IsTrue, IfOk};
+ghost use Rattle.byte_automaton.specs.Sets.{index_room, HasAlso};
 ghost use Rattle.byte_table.specs.Entries.{indexes_under};
 ghost use Rattle.byte_trie.specs.Texts.{found, entry_of};
 ghost use Rattle.byte_trie.specs.inner.Building.{IsOrdered};
@@ -10,6 +11,7 @@ use crate::side::Side;
 use crate::text::Text;
 use crate::tree::Tree;
 use crate::walk;
+use byte_automaton::IndexSet;
 use byte_table::Entries;
 use std::alloc::{AllocError, Global};
 use std::marker::Model;
@@ -79,25 +81,19 @@ impl Trie {
         })
     }
 
-    /// Appends the indexes of the texts that the path begins or ends with: shorter texts first, and those of one text in the
-    /// order in which they were given.
+    /// Puts the indexes of the texts that the path begins or ends with into a set, beside what it holds: those that it has room
+    /// for. It takes no memory.
     ///
-    /// It is at most one visit for each byte of the path, and one more. Returns an error if memory runs out; a front part
-    /// of those indexes is then appended.
-    pub fn find(
-        &self,
-        path: &[u8],
-        into: &mut Vec<usize>,
-        visits: &mut Visits,
-    ) -> Result<(), AllocError>
-        ensures ok { OnOk result (into.new.items ≡ into.old.items ++ found self.now path.now) }
-        ensures err { OnErr result ((rest : List ℕ) × (into.new.items ++ rest ≡ into.old.items ++ found self.now path.now)) }
+    /// It is at most one visit for each byte of the path, and one more.
+    pub fn find(&self, path: &[u8], into: &mut IndexSet, visits: &mut Visits)
+        ensures room { index_room into.new ≡ index_room into.old }
+        ensures found { HasAlso into.old into.new (found self.now path.now) }
         ensures visits { visits.new ≤ visits.old + (length path.now + 1) }
     {
         if self.count == 0 {
-            return Ok(());
+            return;
         }
-        walk::find(&self.tree, self.side, path, into, visits)
+        walk::find(&self.tree, self.side, path, into, visits);
     }
 
     /// Returns whether the path begins or ends with some text. It stops at the first, and takes no memory.
@@ -113,7 +109,7 @@ impl Trie {
         walk::has_some(&self.tree, self.side, path, visits)
     }
 
-    /// Returns how many indexes `find` appends. It takes no memory.
+    /// Returns how many indexes of texts the path begins or ends with, each as often as it was given. It takes no memory.
     ///
     /// It is at most one visit for each byte of the path, and one more.
     pub fn count_matches(&self, path: &[u8], visits: &mut Visits) -> usize

@@ -1,37 +1,31 @@
 //! Walks down a tree along a path.
 
-ghost use Rattle.std.specs.Prelude.{◌≡◌, ◌≢◌, ℕ, ◌+◌, ◌≤◌, ◌<◌, ◌^◌, ◌++◌, ◌↔◌, [], List, length, IsTrue, OnOk, OnErr};
+ghost use Rattle.std.specs.Prelude.{◌≡◌, ◌≢◌, ℕ, ◌+◌, ◌≤◌, ◌<◌, ◌^◌, ◌↔◌, [], length, IsTrue};
+ghost use Rattle.byte_automaton.specs.Sets.{index_room, HasAlso};
 ghost use Rattle.byte_trie.specs.inner.Sides.{from_side};
 ghost use Rattle.byte_trie.specs.inner.Nodes.{under, along, IsTree};
 
 use crate::side::Side;
 use crate::tree::Tree;
-use std::alloc::AllocError;
+use byte_automaton::IndexSet;
 use visits::Visits;
 
-/// Appends the indexes of the nodes along a path.
-pub fn find(
-    tree: &Tree,
-    side: Side,
-    path: &[u8],
-    into: &mut Vec<usize>,
-    visits: &mut Visits,
-) -> Result<(), AllocError>
+/// Puts the indexes of the nodes along a path into a set, beside what it holds: those that it has room for.
+pub fn find(tree: &Tree, side: Side, path: &[u8], into: &mut IndexSet, visits: &mut Visits)
     requires { IsTree tree.now }
-    ensures ok { OnOk result (into.new.items ≡ into.old.items ++ along (under tree.now 0) (from_side side path.now)) }
-    ensures err { OnErr result ((rest : List ℕ) × (into.new.items ++ rest ≡ into.old.items ++ along (under tree.now 0) (from_side side path.now))) }
+    ensures room { index_room into.new ≡ index_room into.old }
+    ensures found { HasAlso into.old into.new (along (under tree.now 0) (from_side side path.now)) }
     ensures visits { visits.new ≤ visits.old + (length path.now + 1) }
 {
     let mut node = 0;
     for at in 0..path.len() + 1 {
         let reading = tree.read(node, side.byte(path, at), visits);
-        into.extend_from_slice(reading.indexes)?;
+        into.put_all(reading.indexes);
         match reading.child {
             Some(child) => node = child,
-            None => return Ok(()),
+            None => return,
         }
     }
-    Ok(())
 }
 
 /// Returns whether some node along a path has an index.

@@ -2,13 +2,13 @@
 
 ghost use Rattle.std.specs.Prelude.{◌≡◌, ◌+◌, ◌*◌, ◌≤◌, ◌↔◌, ◌⊎◌, ℕ, List, length, IsTrue, IsOk, OnOk, IfOk};
 ghost use Rattle.byte_automaton.specs.Runs.{size};
-ghost use Rattle.byte_automaton.specs.Sets.{has_index, index_room};
+ghost use Rattle.byte_automaton.specs.Sets.{has_index, index_room, sets_room};
 ghost use Rattle.glob_automaton.specs.IndexedTokens.{IndexedTokens, IsFor, SomeMatches};
 
 use crate::division::divided;
 use crate::parts::Parts;
 use crate::simulation;
-use byte_automaton::{Automaton, IndexSet};
+use byte_automaton::{Automaton, IndexSet, StateSets};
 use std::alloc::{AllocError, Global};
 use std::marker::Model;
 use visits::Visits;
@@ -96,51 +96,48 @@ impl Compiled {
 
     /// Puts the indexes of the tokens that match a text into a set, beside what it holds.
     ///
-    /// It is at most `(text bytes + 1) * states` visits. It takes two bits of memory for each state of a part that is simulated,
-    /// for one part at a time, and none if there is no such part. Returns an error if memory runs out; some of the indexes may
-    /// be in the set then.
+    /// It is at most `(text bytes + 1) * states` visits. What the sets of states held has no effect; their room grows to the states
+    /// of the largest part that is simulated, and stays as it is if there is no such part. Returns an error if memory runs out,
+    /// and so none if they have room for all states; some of the indexes may be in the set then.
     pub fn find(
         &self,
-        alloc: Global,
         text: &[u8],
+        sets: &mut StateSets,
         found: &mut IndexSet,
         visits: &mut Visits,
     ) -> Result<(), AllocError>
         requires { self.now.index_count ≤ index_room found.old }
         ensures room { index_room found.new ≡ index_room found.old }
         ensures found { OnOk result ((xs : List IndexedTokens) → IsFor self.now xs → (k : ℕ) → IsTrue (has_index found.new k) ↔ (SomeMatches xs text.now k ⊎ IsTrue (has_index found.old k))) }
-        ensures memory { size self.now ≡ 0 → IsOk result }
+        ensures kept { sets_room sets.old ≤ sets_room sets.new }
+        ensures memory { size self.now ≤ sets_room sets.old → IsOk result }
         ensures visits { visits.new ≤ visits.old + (length text.now + 1) * size self.now }
     {
-        if self.state_count() == 0 {
-            return Ok(());
-        }
         match &self.form {
-            Form::Whole(automaton) => simulation::find(alloc, automaton, text, found, visits),
-            Form::Divided(parts) => parts.find(alloc, text, found, visits),
+            Form::Whole(automaton) => simulation::find(automaton, text, sets, found, visits),
+            Form::Divided(parts) => parts.find(text, sets, found, visits),
         }
     }
 
     /// Returns whether tokens match a text.
     ///
-    /// It is at most `(text bytes + 1) * states` visits. It takes two bits of memory for each state of a part that is simulated,
-    /// for one part at a time, and none if there is no such part. Returns an error if memory runs out.
+    /// It is at most `(text bytes + 1) * states` visits. What the sets of states held has no effect; their room grows to the states
+    /// of the largest part that is simulated, and stays as it is if there is no such part. Returns an error if memory runs out,
+    /// and so none if they have room for all states.
     pub fn is_match(
         &self,
-        alloc: Global,
         text: &[u8],
+        sets: &mut StateSets,
         visits: &mut Visits,
     ) -> Result<bool, AllocError>
         ensures some { IfOk result (λ yes. (xs : List IndexedTokens) → IsFor self.now xs → IsTrue yes ↔ ((k : ℕ) × SomeMatches xs text.now k)) }
-        ensures memory { size self.now ≡ 0 → IsOk result }
+        ensures kept { sets_room sets.old ≤ sets_room sets.new }
+        ensures memory { size self.now ≤ sets_room sets.old → IsOk result }
         ensures visits { visits.new ≤ visits.old + (length text.now + 1) * size self.now }
     {
-        if self.state_count() == 0 {
-            return Ok(false);
-        }
         match &self.form {
-            Form::Whole(automaton) => simulation::is_match(alloc, automaton, text, visits),
-            Form::Divided(parts) => parts.is_match(alloc, text, visits),
+            Form::Whole(automaton) => simulation::is_match(automaton, text, sets, visits),
+            Form::Divided(parts) => parts.is_match(text, sets, visits),
         }
     }
 }

@@ -1,15 +1,15 @@
 //! The parts of an automaton, which together find what it finds.
 
-ghost use Rattle.std.specs.Prelude.{◌≡◌, ◌+◌, ◌*◌, ◌≤◌, ◌↔◌, ◌⊎◌, ℕ, length, IsTrue, OnOk, IfOk};
+ghost use Rattle.std.specs.Prelude.{◌≡◌, ◌+◌, ◌*◌, ◌≤◌, ◌↔◌, ◌⊎◌, ℕ, length, IsTrue, IsOk, OnOk, IfOk};
 ghost use Rattle.byte_automaton.specs.Runs.{size};
-ghost use Rattle.byte_automaton.specs.Sets.{has_index, index_room};
+ghost use Rattle.byte_automaton.specs.Sets.{has_index, index_room, sets_room};
 ghost use Rattle.byte_automaton.specs.Steps.{IsReached};
 ghost use Rattle.glob_matching.specs.inner.Parts.{sources, total, ArePartsOf, AreCounted, SomeReached};
 
 use crate::simulation;
-use byte_automaton::{Automaton, IndexSet};
+use byte_automaton::{Automaton, IndexSet, StateSets};
 use byte_dfa::{Dfa, Source};
-use std::alloc::{AllocError, Global};
+use std::alloc::AllocError;
 use std::marker::Model;
 use visits::Visits;
 
@@ -52,9 +52,11 @@ impl Clone for Parts {
 
     /// Returns a copy. Returns an error if memory runs out.
     fn clone(&self) -> Result<Parts, AllocError> {
+        let tables = self.tables.clone()?;
+        let automata = self.automata.clone()?;
         Ok(Parts {
-            tables: copy_of_tables(&self.tables)?,
-            automata: copy_of_automata(&self.automata)?,
+            tables,
+            automata,
             state_count: self.state_count,
             source: self.source.copy(),
         })
@@ -84,64 +86,46 @@ impl Parts {
 
     /// Puts the index of each end that a text leads to into a set, beside what it holds.
     ///
-    /// It is at most `(text bytes + 1) * states` visits. It takes two bits of memory for each state of a part that is
-    /// simulated, for one part at a time. Returns an error if memory runs out.
+    /// It is at most `(text bytes + 1) * states` visits. It makes room in the sets of states for those of the largest part that is
+    /// simulated. Returns an error if memory runs out.
     pub fn find(
         &self,
-        alloc: Global,
         text: &[u8],
+        sets: &mut StateSets,
         found: &mut IndexSet,
         visits: &mut Visits,
     ) -> Result<(), AllocError>
         requires { self.now.index_count ≤ index_room found.old }
         ensures room { index_room found.new ≡ index_room found.old }
         ensures found { OnOk result ((k : ℕ) → IsTrue (has_index found.new k) ↔ (IsReached self.now text.now k ⊎ IsTrue (has_index found.old k))) }
+        ensures kept { sets_room sets.old ≤ sets_room sets.new }
+        ensures memory { size self.now ≤ sets_room sets.old → IsOk result }
         ensures visits { visits.new ≤ visits.old + (length text.now + 1) * size self.now }
     {
         find_by_tables(&self.tables, text, found, visits);
-        find_by_simulation(alloc, &self.automata, text, found, visits)
+        find_by_simulation(&self.automata, text, sets, found, visits)
     }
 
     /// Returns whether a text leads to some end.
     ///
-    /// It is at most `(text bytes + 1) * states` visits. It takes two bits of memory for each state of a part that is
-    /// simulated, for one part at a time. Returns an error if memory runs out.
+    /// It is at most `(text bytes + 1) * states` visits. It makes room in the sets of states for those of the largest part that is
+    /// simulated. Returns an error if memory runs out.
     pub fn is_match(
         &self,
-        alloc: Global,
         text: &[u8],
+        sets: &mut StateSets,
         visits: &mut Visits,
     ) -> Result<bool, AllocError>
         ensures some { IfOk result (λ yes. IsTrue yes ↔ ((k : ℕ) × IsReached self.now text.now k)) }
+        ensures kept { sets_room sets.old ≤ sets_room sets.new }
+        ensures memory { size self.now ≤ sets_room sets.old → IsOk result }
         ensures visits { visits.new ≤ visits.old + (length text.now + 1) * size self.now }
     {
         if is_match_by_tables(&self.tables, text, visits) {
             return Ok(true);
         }
-        is_match_by_simulation(alloc, &self.automata, text, visits)
+        is_match_by_simulation(&self.automata, text, sets, visits)
     }
-}
-
-/// Returns copies of deterministic automata. Returns an error if memory runs out.
-fn copy_of_tables(tables: &Vec<Dfa>) -> Result<Vec<Dfa>, AllocError>
-    ensures { IfOk result (λ copies. copies.items ≡ tables.now.items) }
-{
-    let mut copies = Vec::with_capacity(*tables.allocator(), tables.len())?;
-    for table in tables {
-        copies.push(table.clone()?)?;
-    }
-    Ok(copies)
-}
-
-/// Returns copies of automata. Returns an error if memory runs out.
-fn copy_of_automata(automata: &Vec<Automaton>) -> Result<Vec<Automaton>, AllocError>
-    ensures { IfOk result (λ copies. copies.items ≡ automata.now.items) }
-{
-    let mut copies = Vec::with_capacity(*automata.allocator(), automata.len())?;
-    for automaton in automata {
-        copies.push(automaton.clone()?)?;
-    }
-    Ok(copies)
 }
 
 /// Puts the index of each end that a text leads to in some deterministic automaton into a set, beside what it holds.
@@ -169,37 +153,42 @@ fn is_match_by_tables(tables: &[Dfa], text: &[u8], visits: &mut Visits) -> bool
     false
 }
 
-/// Puts the index of each end that a text leads to in some automaton into a set, beside what it holds.
+/// Puts the index of each end that a text leads to in some automaton into a set, beside what it holds. The runs use the same sets
+/// of states, one after another.
 fn find_by_simulation(
-    alloc: Global,
     automata: &[Automaton],
     text: &[u8],
+    sets: &mut StateSets,
     found: &mut IndexSet,
     visits: &mut Visits,
 ) -> Result<(), AllocError>
     requires { AreCounted (index_room found.old) automata.now }
     ensures room { index_room found.new ≡ index_room found.old }
     ensures found { OnOk result ((k : ℕ) → IsTrue (has_index found.new k) ↔ (SomeReached automata.now text.now k ⊎ IsTrue (has_index found.old k))) }
+    ensures kept { sets_room sets.old ≤ sets_room sets.new }
+    ensures memory { total automata.now ≤ sets_room sets.old → IsOk result }
     ensures visits { visits.new ≤ visits.old + (length text.now + 1) * total automata.now }
 {
     for automaton in automata {
-        simulation::find(alloc, automaton, text, found, visits)?;
+        simulation::find(automaton, text, sets, found, visits)?;
     }
     Ok(())
 }
 
-/// Returns whether a text leads to some end in some automaton.
+/// Returns whether a text leads to some end in some automaton. The runs use the same sets of states, one after another.
 fn is_match_by_simulation(
-    alloc: Global,
     automata: &[Automaton],
     text: &[u8],
+    sets: &mut StateSets,
     visits: &mut Visits,
 ) -> Result<bool, AllocError>
     ensures some { IfOk result (λ yes. IsTrue yes ↔ ((k : ℕ) × SomeReached automata.now text.now k)) }
+    ensures kept { sets_room sets.old ≤ sets_room sets.new }
+    ensures memory { total automata.now ≤ sets_room sets.old → IsOk result }
     ensures visits { visits.new ≤ visits.old + (length text.now + 1) * total automata.now }
 {
     for automaton in automata {
-        if simulation::is_match(alloc, automaton, text, visits)? {
+        if simulation::is_match(automaton, text, sets, visits)? {
             return Ok(true);
         }
     }

@@ -1,5 +1,5 @@
 -- Bits of machine words.
-use Rattle.std.proofs.Common.{suc, min, ◌++◌, ◌+◌, ◌-◌, ◌≡◌, ℕ, ◌*◌, ◌/◌, ◌%◌, ◌^◌, ◌<◌, ◌≤◌, ◌⊎◌, Bool, true, false, true≢false, not, eqb, ltb, List, length, replicate, get_or, set, refl, sym, subst, ◌∙◌, ap, inl, inr, arith, get_or-set_same, get_or-set_other, eq-eqb, ne_eqb, w64, rules}
+use Rattle.std.proofs.Common.{suc, min, ◌++◌, ◌+◌, ◌-◌, ◌≡◌, ◌≢◌, ℕ, ◌*◌, ◌/◌, ◌%◌, ◌^◌, ◌<◌, ◌≤◌, ◌⊎◌, Bool, true, false, true≢false, not, eqb, ltb, List, length, replicate, get_or, set, refl, sym, subst, ◌∙◌, ap, inl, inr, arith, get_or-set_same, get_or-set_other, eq-eqb, ne_eqb, w64, rules}
 use borrow.Rule.Slice.PartMut.{put_mid}
 use Rattle.std.proofs.lemmas.List.{places, get_or_append_left, get_or-replicate, get_or_past, length-replicate}
 use Rattle.std.proofs.lemmas.Bool.{cases_eq, cases_lt}
@@ -260,4 +260,34 @@ cleared_outside words a n k within some bit =
             | inl high ↦ absurd (true≢false (sym bit ∙ cleared_inside words a n k within some low high))
             | inr after ↦ sym (kept_outside words a n k within (inr after)) ∙ bit
           ]
+    ]
+
+-- a word is set to zero
+
+pub zeroed_here : (words : List ℕ) (n k : ℕ) → n < length words → k / 64 ≡ n → bit_of (set words n 0) k ≡ false
+unfolding bit_of
+zeroed_here words n k within here =
+    ap (λ x. eqb (bit_at (get_or (set words n 0) x 0) (k % 64)) 1) here
+    ∙ ap (λ x. eqb (bit_at x (k % 64)) 1) (get_or-set_same words n 0 0 within)
+    ∙ ap (λ x. eqb x 1) (bit_at-zero (k % 64))
+
+pub zeroed_other : (words : List ℕ) (n k : ℕ) → k / 64 ≢ n → bit_of (set words n 0) k ≡ bit_of words k
+unfolding bit_of
+zeroed_other words n k other = ap (λ x. eqb (bit_at x (k % 64)) 1) (get_or-set_other words n (k / 64) 0 0 other)
+
+-- words of zeros are added
+
+pub bit_grown : (words : List ℕ) (n k : ℕ) → bit_of (words ++ replicate n 0) k ≡ bit_of words k
+unfolding bit_of
+bit_grown words n k =
+    elim (cases_lt (k / 64) (length words)) [
+      | inl lt ↦ bit_front words (replicate n 0) k lt
+      | inr past ↦
+          let there : get_or (words ++ replicate n 0) (k / 64) 0 ≡ get_or (replicate n 0) (k / 64 - length words) 0 = search (rules, places) in
+          let zero : get_or (replicate n 0) (k / 64 - length words) 0 ≡ get_or words (k / 64) 0 =
+          elim (cases_lt (k / 64 - length words) n) [
+            | inl lt ↦ get_or-replicate n (k / 64 - length words) 0 0 lt ∙ sym (get_or_past words (k / 64) 0 past)
+            | inr end ↦ get_or_past (replicate n 0) (k / 64 - length words) 0 (omega (arith, length-replicate {A = ℕ} n 0)) ∙ sym (get_or_past words (k / 64) 0 past)
+          ] in
+          ap (λ x. eqb (bit_at x (k % 64)) 1) (there ∙ zero)
     ]

@@ -67,10 +67,6 @@ pub left_some : (xs ys : List ℕ) → xs ≢ [] → xs ++ ys ≢ []
 left_some [] ys n = absurd (n refl)
 left_some (x ∷ xs) ys n = λ e. cc
 
-pub find_step : (into held next old here rest all : List ℕ) → into ++ here ≡ old ++ all → here ≡ held ++ rest → next ≡ into ++ held → next ++ rest ≡ old ++ all
-find_step into held next old here rest all h e n =
-    ap (λ l. l ++ rest) n ∙ append_assoc into held rest ∙ ap (λ l. into ++ l) (sym e) ∙ h
-
 pub here_within : (f : List ℕ → List ℕ) (p : List ℕ) → length (f []) ≤ length (along f p)
 here_within f [] = omega arith
 here_within f (b ∷ p) = omega (arith, length-append (f []) (along (λ x. f (b ∷ x)) p))

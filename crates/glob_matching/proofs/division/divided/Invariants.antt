@@ -1,5 +1,4 @@
-use Rattle.std.proofs.Common.{◌≡◌, ◌-◌, ◌≤◌, length}
-use Rattle.byte_automaton.specs.Runs.{size}
+use Rattle.std.proofs.Common.{◌≡◌, ◌-◌, length}
 use Rattle.glob_matching.specs.inner.Parts.{ArePartsBelow}
 use Rattle.glob_matching.proofs.division.divided.Given as goal
 

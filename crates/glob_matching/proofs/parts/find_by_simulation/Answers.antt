@@ -1,4 +1,4 @@
-use Rattle.std.proofs.Common.{◌+◌, length, take, ◌∙◌}
+use Rattle.std.proofs.Common.{◌+◌, length, take, sym, arith, true≢false, ◌∙◌}
 use Rattle.byte_automaton.specs.Runs.{size}
 use Rattle.glob_matching.specs.inner.Parts.{total}
 use Rattle.glob_matching.proofs.lemmas.Parts.{found_more, visits_more, visits_upto, total_more, total_upto}
@@ -24,6 +24,12 @@ loop-automaton-preserved c =
     record {
       room = c.find.ensures.room ∙ inv.room;
       found = λ k. found_more automata i m c.loop-automaton-test.true c.automaton-item.is c.args.text.now k (inv.found k) (c.in_ok-find.ensures.found k);
+      kept = omega (arith, c.find.ensures.kept, inv.kept);
       visits = rw (total_more automata i m c.loop-automaton-test.true c.automaton-item.is)
           (visits_more n (total (take i automata)) (size m) c.loop-automaton.visits c.find.new.visits c.args.visits.now c.find.ensures.visits inv.visits);
     }
+
+pub returns-in_err-find-clause-memory : goal.returns-in_err-find-clause-memory
+returns-in_err-find-clause-memory c = λ enough.
+    let upto = total_upto c.args.automata.now c.loop-automaton.automaton-index c.automaton-item.result c.loop-automaton-test.true c.automaton-item.is in
+    absurd (true≢false (sym (c.in_err-find.ensures.memory (omega (arith, upto, enough, c.loop-automaton.invariant.kept)))))

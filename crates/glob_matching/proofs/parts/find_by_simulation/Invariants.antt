@@ -1,6 +1,6 @@
 use Rattle.std.proofs.Common.{◌≡◌, ℕ, ◌+◌, ◌*◌, ◌≤◌, ◌⊎◌, IsTrue, length, take}
 use Rattle.std.specs.Prelude.{◌↔◌}
-use Rattle.byte_automaton.specs.Sets.{has_index, index_room}
+use Rattle.byte_automaton.specs.Sets.{has_index, index_room, sets_room}
 use Rattle.glob_matching.specs.inner.Parts.{SomeReached, total}
 use Rattle.glob_matching.proofs.parts.find_by_simulation.Given as goal
 
@@ -8,5 +8,6 @@ abbrev pub invariant-loop-automaton : goal.invariant-loop-automaton
 invariant-loop-automaton l = record {
   room : index_room l.found ≡ index_room l.fn.found;
   found : (k : ℕ) → IsTrue (has_index l.found k) ↔ (SomeReached (take l.automaton-index l.automata) l.text k ⊎ IsTrue (has_index l.fn.found k));
+  kept : sets_room l.fn.sets ≤ sets_room l.sets;
   visits : l.visits ≤ l.fn.visits + (length l.text + 1) * total (take l.automaton-index l.automata);
 }

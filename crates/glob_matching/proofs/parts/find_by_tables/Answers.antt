@@ -1,8 +1,7 @@
-use Rattle.std.proofs.Common.{ℕ, ◌+◌, ◌<◌, length, ap, arith, ◌∙◌}
+use Rattle.std.proofs.Common.{◌+◌, ◌<◌, length, ap, arith, ◌∙◌}
 use Rattle.byte_automaton.specs.Steps.{Machine}
-use Rattle.byte_dfa.specs.DfaValue.{DfaValue}
 use Rattle.glob_matching.specs.inner.Parts.{sources}
-use Rattle.glob_matching.proofs.lemmas.Parts.{source_at, sources_length, found_more, visits_more, all_taken}
+use Rattle.glob_matching.proofs.lemmas.Parts.{source_at, sources_length, found_more, visits_more}
 use Rattle.glob_matching.proofs.parts.find_by_tables.Goals as goal
 
 pub find-requires : goal.find-requires

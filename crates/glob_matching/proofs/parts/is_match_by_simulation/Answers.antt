@@ -1,4 +1,4 @@
-use Rattle.std.proofs.Common.{◌+◌, length, take, refl, sym, ◌∙◌, true≢false}
+use Rattle.std.proofs.Common.{◌+◌, length, take, arith, refl, sym, ◌∙◌, true≢false}
 use Rattle.byte_automaton.specs.Runs.{size}
 use Rattle.glob_matching.specs.inner.Parts.{total}
 use Rattle.glob_matching.proofs.lemmas.Parts.{some_at, none_more, visits_more, visits_upto, total_more, total_upto}
@@ -41,6 +41,12 @@ loop-automaton-preserved c =
     record {
       none = none_more automata i m c.loop-automaton-test.true c.automaton-item.is c.args.text.now inv.none
           (λ k reached. true≢false (sym (c.in_ok-is_match.ensures.some.1 (k, reached)) ∙ c.if-branch.false));
+      kept = omega (arith, c.is_match.ensures.kept, inv.kept);
       visits = rw (total_more automata i m c.loop-automaton-test.true c.automaton-item.is)
           (visits_more n (total (take i automata)) (size m) c.loop-automaton.visits c.is_match.new.visits c.args.visits.now c.is_match.ensures.visits inv.visits);
     }
+
+pub returns-in_err-is_match-clause-memory : goal.returns-in_err-is_match-clause-memory
+returns-in_err-is_match-clause-memory c = λ enough.
+    let upto = total_upto c.args.automata.now c.loop-automaton.automaton-index c.automaton-item.result c.loop-automaton-test.true c.automaton-item.is in
+    absurd (true≢false (sym (c.in_err-is_match.ensures.memory (omega (arith, upto, enough, c.loop-automaton.invariant.kept)))))

@@ -1,6 +1,6 @@
-use Rattle.std.proofs.Common.{◌≡◌, ℕ, ◌+◌, ◌<◌, length, take, refl, ap, arith, ◌∙◌, sym, true≢false}
+use Rattle.std.proofs.Common.{◌+◌, ◌<◌, length, refl, arith, ◌∙◌, sym, true≢false}
 use Rattle.glob_matching.specs.inner.Parts.{sources}
-use Rattle.glob_matching.proofs.lemmas.Parts.{source_at, sources_length, some_at, none_more, visits_more, visits_upto, all_taken}
+use Rattle.glob_matching.proofs.lemmas.Parts.{source_at, sources_length, some_at, none_more, visits_more}
 use Rattle.glob_matching.proofs.parts.is_match_by_tables.Goals as goal
 
 pub returns-then-is_match-clause-some : goal.returns-then-is_match-clause-some

@@ -1,4 +1,4 @@
-use Rattle.std.proofs.Common.{◌≡◌, true≢false, sym, inr, IsTrue, ℕ, ◌+◌, ◌<◌, ◌∷◌, [], length, get_or, drop, arith, ap, ◌∙◌}
+use Rattle.std.proofs.Common.{◌≡◌, min, true≢false, sym, inr, IsTrue, ℕ, ◌+◌, ◌<◌, ◌∷◌, [], length, get_or, drop, arith, ap, ◌∙◌}
 use Rattle.std.proofs.lemmas.List.{drop_more, drop_all}
 use Rattle.std.proofs.Math.Logic.{⊎_elim}
 use Rattle.byte_automaton.specs.Sets.{state_room, has_index}
@@ -8,8 +8,7 @@ use Rattle.byte_automaton.proofs.automaton.Automaton.find.Goals as goal
 
 pub loop-byte-init : goal.loop-byte-init
 loop-byte-init c = record {
-  now_room = omega (arith, c.start.ensures.room, c.requires.now_room);
-  next_room = c.requires.next_room;
+  room = ap (λ n. min n (state_room c.args.sets.now.next)) c.start.ensures.room;
   accepts = λ k. let start = c.start.ensures.starts c.args.text.now k in (start.1, start.0);
   visits = omega arith;
 }
@@ -25,8 +24,7 @@ loop-byte-preserved c =
     let more : drop i text ≡ byte ∷ rest = drop_more text i 0 lt in
     let took = c.step-some.ensures in
     record {
-      now_room = omega (arith, took.to_room, inv.next_room, ap state_room c.swap.ensures.x_after);
-      next_room = omega (arith, took.from_room, inv.now_room, ap state_room c.swap.ensures.y_after);
+      room = omega (arith, inv.room, took.from_room, took.to_room, ap state_room c.swap.ensures.x_after, ap state_room c.swap.ensures.y_after);
       accepts = λ k. rw c.swap.ensures.x_after (iff_trans (rw more at inv.accepts k) (took.steps rest k));
       visits = omega (arith, took.visits, inv.visits);
     }

@@ -1,14 +1,13 @@
-use Rattle.std.proofs.Common.{ℕ, ◌+◌, ◌*◌, ◌≤◌, drop}
+use Rattle.std.proofs.Common.{◌≡◌, ℕ, ◌+◌, ◌*◌, ◌≤◌, drop}
 use Rattle.std.specs.Prelude.{◌↔◌}
-use Rattle.byte_automaton.specs.Sets.{state_room}
+use Rattle.byte_automaton.specs.Sets.{sets_room}
 use Rattle.byte_automaton.specs.Steps.{IsReached}
 use Rattle.byte_automaton.specs.Runs.{AcceptsFrom, size}
 use Rattle.byte_automaton.proofs.automaton.Automaton.find.Given as goal
 
 abbrev pub invariant-loop-byte : goal.invariant-loop-byte
 invariant-loop-byte l = record {
-  now_room : size l.self ≤ state_room l.now;
-  next_room : size l.self ≤ state_room l.next;
-  accepts : (k : ℕ) → IsReached l.self l.text k ↔ AcceptsFrom l.self l.now (drop l.byte-index l.text) k;
+  room : sets_room l.sets ≡ sets_room l.fn.sets;
+  accepts : (k : ℕ) → IsReached l.self l.text k ↔ AcceptsFrom l.self l.sets.current (drop l.byte-index l.text) k;
   visits : l.visits ≤ l.fn.visits + l.byte-index * size l.self;
 }

@@ -1,22 +1,11 @@
-use Rattle.std.proofs.Common.{◌≡◌, ◌∙◌, ◌⊎◌, inr, IsTrue, ap, sym, subst, arith}
+use Rattle.std.proofs.Common.{◌≡◌, ◌∙◌, ◌⊎◌, IsTrue, ap, sym, subst, arith}
 use Rattle.std.specs.Prelude.{◌↔◌}
-use Rattle.std.proofs.Math.Logic.{⊎_elim}
-use Rattle.byte_automaton.specs.Runs.{size}
 use Rattle.byte_automaton.specs.Sets.{has_index}
 use Rattle.byte_automaton.specs.Steps.{IsReached, Machine}
 use Rattle.glob_matching.specs.inner.Compiled.{machine_of}
-use Rattle.glob_automaton.proofs.lemmas.IndexedTokens.{all_bytes}
-use Rattle.glob_matching.proofs.lemmas.Compiled.{no_matches, finds_matches}
+use Rattle.glob_matching.proofs.lemmas.Compiled.{finds_matches}
 use Rattle.glob_matching.proofs.lemmas.Parts.{on_ok}
 use Rattle.glob_matching.proofs.compiled.Compiled.find.Goals as goal
-
-pub returns-then-state_count-eq0-clause-found : goal.returns-then-state_count-eq0-clause-found
-returns-then-state_count-eq0-clause-found c = λ xs is k.
-    let none : size c.args.self.now ≡ 0 = omega (arith, c.state_count.ensures, c.if-state_count-eq0.true) in
-    let bytes = all_bytes c.args.text.now (λ i. omega (arith, c.type_inv.text i)) in (
-      λ old. inr old,
-      λ h. ⊎_elim {C = IsTrue (has_index c.args.found.now k)} (λ some. absurd (no_matches c.args.self.now xs c.args.text.now k none is bytes some)) (λ old. old) h,
-    )
 
 pub returns-in-Whole-clause-found : goal.returns-in-Whole-clause-found
 returns-in-Whole-clause-found c =

@@ -1,4 +1,3 @@
-use Rattle.std.proofs.Common.{◌≡◌}
 use Rattle.glob_matching.proofs.lemmas.Parts.{deterministic_more}
 use Rattle.glob_matching.proofs.division.Division.add.Goals as goal
 

@@ -1,4 +1,4 @@
-use Rattle.std.proofs.Common.{◌≡◌, ℕ, ◌+◌, ◌≤◌, ◌⊎◌, IsTrue, length, arith, ap, subst, ◌∙◌}
+use Rattle.std.proofs.Common.{◌+◌, ◌≤◌, ◌⊎◌, IsTrue, length, arith, ap, subst}
 use Rattle.std.specs.Prelude.{◌↔◌}
 use Rattle.byte_automaton.specs.Runs.{size}
 use Rattle.byte_automaton.specs.Sets.{has_index}
@@ -28,3 +28,8 @@ returns-clause-visits c =
     visits_upto n (length tables + total automata) (size c.args.self.now) c.find_by_simulation.new.visits c.args.visits.now few
     (visits_more n (length tables) (total automata) c.find_by_tables.new.visits c.find_by_simulation.new.visits c.args.visits.now
     (rw c.deref-2.ensures.value at c.find_by_simulation.ensures.visits) (rw c.deref.ensures.value at c.find_by_tables.ensures.visits))
+
+pub returns-clause-memory : goal.returns-clause-memory
+returns-clause-memory c = λ enough.
+    let few : total c.self.inside.automata.items ≤ size c.args.self.now = omega (arith, c.self.invariant.parts.few, ap size c.self.view_is) in
+    (rw c.deref-2.ensures.value at c.find_by_simulation.ensures.memory) (omega (arith, few, enough))
