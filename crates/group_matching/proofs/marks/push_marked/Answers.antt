@@ -1,4 +1,5 @@
 use Rattle.std.proofs.Common.{length, ap, ◌∙◌, arith}
+use Rattle.std.proofs.lemmas.Result.{err_from_is_err_and}
 use Rattle.byte_automaton.specs.Sets.{has_index}
 use Rattle.group_matching.proofs.lemmas.Indexes.{few_kept, filter_between, next_pushed}
 use Rattle.group_matching.proofs.marks.push_marked.Goals as goal
@@ -23,4 +24,5 @@ pub returns-in_err-push-clause-memory : goal.returns-in_err-push-clause-memory
 returns-in_err-push-clause-memory c = λ fits.
     let few = few_kept (has_index c.args.marks.now) c.loop-index.from in
     let same = ap length c.loop-index.invariant.sofar in
-    c.in_err-push.ensures.succeeds (omega (arith, few, same, fits, c.loop-index.into.ok.0, c.in-Some.ensures.0, c.if-index-count.false, c.loop-index.invariant.capacity))
+    let p = err_from_is_err_and c.from_residual.result c.from_residual.ensures.1 in
+    rw p.1 (c.in_err-push.ensures.succeeds (omega (arith, few, same, fits, c.loop-index.into.ok.0, c.in-Some.ensures.0, c.if-index-count.false, c.loop-index.invariant.capacity)))
