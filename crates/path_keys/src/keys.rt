@@ -1,6 +1,7 @@
 //! Indexes under keys, and the indexes that a path finds.
 
 ghost use Rattle.std.specs.Prelude.{◌≡◌, ◌≢◌, ◌+◌, ◌*◌, ◌≤◌, ◌++◌, ◌∷◌, ◌↔◌, ◌⊎◌, ◌<◌, ◌^◌, [], ℕ, List, length, map, IsTrue, MatchOption, OnOk, IfOk};
+ghost use Rattle.byte_automaton.specs.Sets.{index_room, HasAlso};
 ghost use Rattle.byte_table.specs.Entries.{indexes_under};
 ghost use Rattle.byte_trie.specs.Laws.{IsAt};
 ghost use Rattle.byte_trie.specs.Texts.{entry_of};
@@ -9,6 +10,7 @@ ghost use Rattle.glob_path.specs.PathParts.{component_extension, last_component}
 ghost use Rattle.path_keys.specs.Keys.{FindsMore, after_separator, keys_found, no_keys, with_beginning, with_component, with_components, with_end, with_extension, with_path};
 ghost use Rattle.path_keys.specs.inner.Parts.{tables_count};
 
+use byte_automaton::IndexSet;
 use byte_table::Table;
 use byte_trie::{Side, Text, Trie};
 use glob_path::{Candidate, component_extension_of, last_component_of};
@@ -74,24 +76,19 @@ impl Clone for Keys {
 }
 
 impl Keys {
-    /// Pushes the indexes that the path finds: those under it, under its last component and under the extension of that, and
-    /// those of the texts that it begins or ends with. A part of the path is only searched for if there are keys for it.
-    ///
-    /// Returns an error if memory runs out. Some of the indexes are then pushed.
-    pub fn push_found(
-        &self,
-        path: &Candidate<'_>,
-        into: &mut Vec<usize>,
-        visits: &mut Visits,
-    ) -> Result<(), AllocError>
-        ensures ok { OnOk result (into.new.items ≡ into.old.items ++ keys_found self.now path.now) }
+    /// Puts the indexes that the path finds into a set, beside what it holds: those under it, under its last component and under
+    /// the extension of that, and those of the texts that it begins or ends with. An index that the set has no room for is left
+    /// out. A part of the path is only searched for if there are keys for it. It takes no memory.
+    pub fn find(&self, path: &Candidate<'_>, found: &mut IndexSet, visits: &mut Visits)
+        ensures room { index_room found.new ≡ index_room found.old }
+        ensures found { HasAlso found.old found.new (keys_found self.now path.now) }
         ensures visits { visits.new ≤ visits.old + (3 + 2 * (length path.now + 1)) }
     {
-        into.extend_from_slice(self.by_path(path, visits))?;
-        into.extend_from_slice(self.by_component(path, visits))?;
-        into.extend_from_slice(self.by_extension(path, visits))?;
-        self.beginnings.find(path.path(), into, visits)?;
-        self.ends.find(path.path(), into, visits)
+        found.put_all(self.by_path(path, visits));
+        found.put_all(self.by_component(path, visits));
+        found.put_all(self.by_extension(path, visits));
+        self.beginnings.find(path.path(), found, visits);
+        self.ends.find(path.path(), found, visits);
     }
 
     /// Returns whether the path finds an index. It takes no memory.
