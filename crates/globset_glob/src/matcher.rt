@@ -7,7 +7,7 @@ ghost use Rattle.globset_glob.specs.inner.GlobAutomaton.{IsAutomatonOf};
 
 use crate::error::Error;
 use crate::glob::Glob;
-use byte_automaton::Automaton;
+use byte_automaton::{Automaton, StateSets};
 use glob_automaton::{add_tokens, new_builder};
 use glob_matching::Compiled;
 use glob_path::{AsPath, Candidate};
@@ -104,8 +104,8 @@ impl GlobMatcher {
         ensures err { IfErr result (λ e. e ≡ out_of_memory) }
         ensures visits { visits.new ≤ visits.old + most_visits self.now path.now }
     {
-        let alloc = self.glob.allocator();
-        Ok(self.automaton.is_match(alloc, path.path(), visits)?)
+        let mut sets = StateSets::new(self.glob.allocator());
+        Ok(self.automaton.is_match(path.path(), &mut sets, visits)?)
     }
 
     /// Returns a matcher for an equal glob, or an error if memory runs out. It copies the automata.
