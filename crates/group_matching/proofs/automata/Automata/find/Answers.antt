@@ -5,8 +5,7 @@ use Rattle.byte_automaton.specs.Runs.{size}
 use Rattle.std.proofs.Math.Logic.{⊎_elim}
 use Rattle.glob_path.specs.PathParts.{last_component, component_extension, last_position, is_separator}
 use Rattle.group_matching.specs.inner.Automata.{AutomataParts, machine_under, tokens_under}
-use Rattle.glob_matching.proofs.lemmas.Compiled.{no_matches}
-use Rattle.group_matching.proofs.lemmas.Automata.{bytes_after, three_runs}
+use Rattle.group_matching.proofs.lemmas.Automata.{bytes_after, no_matches, three_runs}
 use Rattle.group_matching.proofs.automata.Automata.find.Goals as goal
 
 pub returns-then-is_idle-clause-idle : goal.returns-then-is_idle-clause-idle
