@@ -1,7 +1,8 @@
 -- Tokens in automata, and runs.
-use Rattle.std.proofs.Common.{◌≡◌, ℕ, zero, suc, ◌+◌, ◌<◌, ◌⊎◌, inl, inr, List, [], ◌∷◌, Option, Some, None, drop, length, refl, sym, subst, ◌∙◌, arith}
+use Rattle.std.proofs.Common.{◌≡◌, ℕ, zero, suc, ◌+◌, ◌*◌, ◌<◌, ◌≤◌, ◌⊎◌, inl, inr, List, [], ◌∷◌, Option, Some, None, drop, length, length-drop, refl, ap, sym, subst, ◌∙◌, arith}
 use Rattle.std.specs.Prelude.{◌↔◌}
 use Rattle.std.proofs.Math.Logic.{⊎_elim}
+use Rattle.std.proofs.Math.Nat.{mul-le-mul_right}
 use Rattle.byte_automaton.specs.Runs.{size}
 use Rattle.byte_automaton.specs.Steps.{State, Machine, state, skips, IsIn, Accepts, ends, by_byte, by_skip, by_out, by_stay}
 use Rattle.byte_automaton.specs.Texts.{AllBytes}
@@ -21,6 +22,19 @@ bytes_after (Some k) path h = bytes_dropped (k + 1) path h
 
 pub component_bytes : (path : List ℕ) → AllBytes path → AllBytes (last_component path)
 component_bytes path h = bytes_after (last_position is_separator path) path h
+
+component_length : (o : Option ℕ) (path : List ℕ) → length (after_position path o) ≤ length path
+component_length None path = omega arith
+component_length (Some k) path = let rest = length-drop (k + 1) path in omega (arith, rest)
+
+-- the visits of a run over it, within those of a run over the path
+pub component_visits : (path text : List ℕ) (n m old new : ℕ) → text ≡ last_component path → n ≡ m → new ≤ old + (length text + 1) * n → new ≤ old + (length path + 1) * m
+component_visits path text n m old new is same few =
+    let shorter = component_length (last_position is_separator path) path in
+    let long = ap length is in
+    let fewer : length text + 1 ≤ length path + 1 = omega (arith, shorter, long) in
+    let most = mul-le-mul_right n fewer in
+    let all = ap (λ (k : ℕ). (length path + 1) * k) same in omega (arith, few, most, all)
 
 -- ---- an automaton without states
 
