@@ -3,4 +3,5 @@ pub mod Output
 pub mod Command
 pub mod Texts
 pub mod Program
+pub mod Laws
 pub mod inner

@@ -7,6 +7,7 @@
 
 mod arguments;
 mod fault;
+pub mod laws;
 mod run;
 mod sifting;
 #[cfg(test)]

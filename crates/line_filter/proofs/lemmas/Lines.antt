@@ -1,5 +1,5 @@
 -- Lines: whole ones, and the rest.
-use Rattle.std.proofs.Common.{◌≡◌, ℕ, ◌+◌, ◌<◌, List, [], ◌∷◌, ◌++◌, length, take, drop, get_or, true, false, ◌||◌, cond, ap, ◌∙◌, sym, append_assoc, refl, arith, add-one, suc, Option, None, Some, inl, inr}
+use Rattle.std.proofs.Common.{◌≡◌, ℕ, ◌+◌, ◌<◌, List, [], ◌∷◌, ◌++◌, length, take, drop, get_or, Bool, true, false, ◌||◌, cond, ap, ◌∙◌, sym, subst, append_assoc, refl, arith, add-one, suc, Option, None, Some, inl, inr}
 use Rattle.std.specs.List.{list_any, onto_first}
 use Rattle.std.proofs.lemmas.Bool.{eqb-true, cases_Bool}
 use Rattle.std.proofs.lemmas.List.{length-take, get_or-take, take-append-drop}
@@ -51,6 +51,35 @@ IsWholeLines-line line e = record {
   lines_go_on = λ more. ap lines (append_assoc line (10 ∷ []) more) ∙ lines_line line more e ∙ ap (λ (l : List (List ℕ)). l ++ lines more) (sym (lines_line line [] e));
   last_goes_on = last_line line;
 }
+
+-- a byte in front of some lines, with more lines after them
+first_goes_on : (x : ℕ) (b : Bool) (a more : List (List ℕ)) (line : List ℕ) (rest : List (List ℕ)) → a ≡ line ∷ rest → cond b ([] ∷ (a ++ more)) (onto_first x (a ++ more)) ≡ cond b ([] ∷ a) (onto_first x a) ++ more
+first_goes_on x true a more line rest e = refl
+first_goes_on x false a more line rest e = subst (λ (l : List (List ℕ)). onto_first x (l ++ more) ≡ onto_first x l ++ more) (sym e) refl
+
+-- with a byte in front of some lines there is a first line
+has_first : (x : ℕ) (b : Bool) (a : List (List ℕ)) (line : List ℕ) (rest : List (List ℕ)) → a ≡ line ∷ rest → (line' : List ℕ) × (rest' : List (List ℕ)) × (cond b ([] ∷ a) (onto_first x a) ≡ line' ∷ rest')
+has_first x true a line rest e = ([], a, refl)
+has_first x false a line rest e = (x ∷ line, rest, ap (onto_first x) e)
+
+-- bytes with an LF at their end have a first line
+first_line : (bytes : List ℕ) → (line : List ℕ) × (rest : List (List ℕ)) × (lines (bytes ++ 10 ∷ []) ≡ line ∷ rest)
+first_line [] = ([], [], refl)
+first_line (x ∷ xs) =
+    let p = first_line xs in
+    has_first x (is_lf x) (lines (xs ++ 10 ∷ [])) p.0 p.1 p.2
+
+-- the lines of bytes with an LF at their end, and then more
+lines_after : (bytes more : List ℕ) → lines ((bytes ++ 10 ∷ []) ++ more) ≡ lines (bytes ++ 10 ∷ []) ++ lines more
+lines_after [] more = refl
+lines_after (x ∷ xs) more =
+    let p = first_line xs in
+    ap (λ (l : List (List ℕ)). cond (is_lf x) ([] ∷ l) (onto_first x l)) (lines_after xs more)
+    ∙ first_goes_on x (is_lf x) (lines (xs ++ 10 ∷ [])) (lines more) p.0 p.1 p.2
+
+-- bytes with an LF at their end are whole lines, however many LFs they have
+pub IsWholeLines-after : (bytes : List ℕ) → IsWholeLines (bytes ++ 10 ∷ [])
+IsWholeLines-after bytes = record { lines_go_on = lines_after bytes; last_goes_on = last_line bytes }
 
 -- whole lines, and then whole lines
 pub IsWholeLines-append : (a b : List ℕ) → IsWholeLines a → IsWholeLines b → IsWholeLines (a ++ b)
