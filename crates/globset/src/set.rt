@@ -133,7 +133,7 @@ impl GlobSet {
         ensures err { IfErr result (λ e. e ≡ out_of_memory) }
     {
         let Some(stored) = &self.stored else {
-            return Ok(GlobSet::empty());
+            return Ok(GlobSet { stored: None });
         };
         Ok(GlobSet {
             stored: Some(stored.clone()?),
