@@ -1,2 +1,3 @@
 pub mod Automata
 pub mod Groups
+pub mod Room

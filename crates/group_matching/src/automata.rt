@@ -1,19 +1,21 @@
 //! Globs that no text decides: automata of their tokens.
 
-ghost use Rattle.std.specs.Prelude.{◌≡◌, ◌+◌, ◌*◌, ◌<◌, ◌≤◌, ◌++◌, ◌∷◌, ◌↔◌, ◌⊎◌, [], ℕ, List, length, IsTrue, IsOk, OnOk, IfOk, MatchOption, cond};
+ghost use Rattle.std.specs.Prelude.{◌≡◌, ◌+◌, ◌*◌, ◌<◌, ◌≤◌, ◌++◌, ◌∷◌, ◌↔◌, ◌⊎◌, [], ℕ, List, length, true, false, IsTrue, IsOk, OnOk, IfOk, cond};
 ghost use Rattle.std.specs.Str.{bytes_eq};
 ghost use Rattle.byte_automaton.specs.Runs.{size};
-ghost use Rattle.byte_automaton.specs.Sets.{has_index, index_room};
+ghost use Rattle.byte_automaton.specs.Sets.{has_index, index_room, sets_room};
 ghost use Rattle.glob_automaton.specs.IndexedTokens.{IndexedTokens, IsFor, SomeMatches, indexed};
 ghost use Rattle.glob_path.specs.PathParts.{component_extension, last_component};
 ghost use Rattle.glob_syntax.specs.FlatTokens.{IsNested};
 ghost use Rattle.glob_syntax.specs.Views.{flats, tokens_of};
 ghost use Rattle.glob_syntax.specs.inner.Weight.{weight};
-ghost use Rattle.group_matching.specs.inner.Automata.{AddsTokens, AreFor, AreForLists, AreFound, AreIdle, IsFoundSet, TokenLists, machine_under, states_for, tokens_under};
+ghost use Rattle.group_matching.specs.inner.Room.{HasRoom, KeepsRoom};
+ghost use Rattle.group_matching.specs.inner.Automata.{AddsTokens, AreFor, AreForLists, AreFound, AreIdle, IsFoundSet, TokenLists, machine_under, most_size, most_states, states_for, tokens_under};
 
 mod slots;
 
-use byte_automaton::{Builder, IndexSet};
+use crate::matching_sets::MatchingSets;
+use byte_automaton::{Builder, StateSets};
 use glob_automaton::{add_tokens, new_builder};
 use glob_matching::Compiled;
 use glob_path::{Candidate, component_extension_of, last_component_of};
@@ -29,6 +31,8 @@ pub struct Automata {
     by_path: Compiled,
     by_component: Compiled,
     extensions: Slots,
+    /// The number of states of the largest of them.
+    most_states: usize,
 }
 
 impl Drop for Automata {
@@ -38,12 +42,13 @@ impl Drop for Automata {
             by_path: _,
             by_component: _,
             extensions: _,
+            most_states: _,
         } = self;
     }
 }
 
 impl Model for Automata {
-    ghost use Rattle.group_matching.specs.inner.Automata.{AutomataParts, HaveOneCount};
+    ghost use Rattle.group_matching.specs.inner.Automata.{AutomataParts, AreMeasured};
 
     ghost Value = { AutomataParts };
 
@@ -53,7 +58,7 @@ impl Model for Automata {
       extensions = a.extensions;
     } };
 
-    ghost invariant = { λ a. HaveOneCount a.by_path a.by_component a.extensions };
+    ghost invariant = { λ a. AreMeasured a.by_path a.by_component a.extensions a.most_states };
 }
 
 impl Clone for Automata {
@@ -67,6 +72,7 @@ impl Clone for Automata {
             by_path: self.by_path.clone()?,
             by_component: self.by_component.clone()?,
             extensions: self.extensions.clone()?,
+            most_states: self.most_states,
         })
     }
 }
@@ -79,59 +85,91 @@ impl Automata {
         self.extensions.index_count()
     }
 
-    /// Returns the indexes of the globs that match the path, or `None` if no automaton has to be run.
-    ///
-    /// It takes a bit of memory for each index, and two for each state of a part that is simulated;
-    /// but none if no automaton has to be run. Returns an error if memory runs out.
-    pub fn found(
+    /// Returns the number of states of the largest automaton.
+    pub fn most_states(&self) -> usize
+        ensures { result ≡ most_states self.now }
+    {
+        self.most_states
+    }
+
+    /// Marks the indexes of the globs that match the path, and no others. Returns an error if memory runs out.
+    pub fn mark(
         &self,
-        alloc: Global,
         path: &[u8],
+        sets: &mut MatchingSets,
         visits: &mut Visits,
-    ) -> Result<Option<IndexSet>, AllocError>
-        ensures found { IfOk result (λ set. MatchOption set (AreIdle self.now path.now) (λ found. IsFoundSet self.now path.now found)) }
+    ) -> Result<(), AllocError>
+        ensures room { OnOk result (self.now.extensions.index_count ≤ index_room sets.new.marks) }
+        ensures marked { OnOk result ((t : TokenLists) → AreForLists self.now t → (k : ℕ) → IsTrue (has_index sets.new.marks k) ↔ AreFound self.now.extensions.slots t path.now k) }
+        ensures kept { KeepsRoom sets.old sets.new }
+        ensures memory { HasRoom sets.old (most_states self.now) self.now.extensions.index_count → IsOk result }
+        ensures visits { visits.new ≤ visits.old + (1 + (length path.now + 1) * states_for self.now path.now) }
+    {
+        if self.find(path, sets, visits)? {
+            return Ok(());
+        }
+        sets.clear_marks(self.index_count())
+    }
+
+    /// Returns whether an automaton has to be run, and if so, marks the indexes of the globs that match the path, and no others. If
+    /// not, no glob matches, and the sets stay as they are.
+    ///
+    /// The sets get room for each index, and for each state of a part that is simulated. Returns an error if memory runs out.
+    pub fn find(
+        &self,
+        path: &[u8],
+        sets: &mut MatchingSets,
+        visits: &mut Visits,
+    ) -> Result<bool, AllocError>
+        ensures found { IfOk result (λ some. some ≡ true → IsFoundSet self.now path.now sets.new.marks) }
+        ensures idle { IfOk result (λ some. some ≡ false → AreIdle self.now path.now) }
+        ensures kept { KeepsRoom sets.old sets.new }
         ensures memory { states_for self.now path.now ≡ 0 → IsOk result }
+        ensures room { HasRoom sets.old (most_states self.now) self.now.extensions.index_count → IsOk result }
         ensures visits { visits.new ≤ visits.old + (1 + (length path.now + 1) * states_for self.now path.now) }
     {
         let by_extension = self.by_extension(&Candidate::from_bytes(path), visits);
         if self.is_idle(by_extension) {
-            return Ok(None);
+            return Ok(false);
         }
-        let mut found = IndexSet::new(alloc, self.index_count())?;
-        self.by_path.find(alloc, path, &mut found, visits)?;
-        self.run_by_component(alloc, path, &mut found, visits)?;
-        by_extension.find(alloc, path, &mut found, visits)?;
-        Ok(Some(found))
+        sets.clear_marks(self.index_count())?;
+        self.by_path
+            .find(path, &mut sets.states, &mut sets.marks, visits)?;
+        self.run_by_component(path, sets, visits)?;
+        by_extension.find(path, &mut sets.states, &mut sets.marks, visits)?;
+        Ok(true)
     }
 
     /// Returns whether some glob matches the path.
     ///
-    /// It takes two bits of memory for each state of a part that it simulates. Returns an error
-    /// if memory runs out.
+    /// The sets get room for each state of a part that is simulated. Returns an error if memory runs out.
     pub fn is_match(
         &self,
-        alloc: Global,
         path: &Candidate<'_>,
+        sets: &mut StateSets,
         visits: &mut Visits,
     ) -> Result<bool, AllocError>
         ensures some { IfOk result (λ yes. (t : TokenLists) → AreForLists self.now t → IsTrue yes ↔ ((k : ℕ) × AreFound self.now.extensions.slots t path.now k)) }
+        ensures kept { sets_room sets.old ≤ sets_room sets.new }
         ensures memory { states_for self.now path.now ≡ 0 → IsOk result }
+        ensures room { most_states self.now ≤ sets_room sets.old → IsOk result }
         ensures visits { visits.new ≤ visits.old + (1 + (length path.now + 1) * states_for self.now path.now) }
     {
-        if self.by_path.is_match(alloc, path.path(), visits)? {
+        if self.by_path.is_match(path.path(), sets, visits)? {
             return Ok(true);
         }
-        if self.is_match_by_component(alloc, path.path(), visits)? {
+        if self.is_match_by_component(path.path(), sets, visits)? {
             return Ok(true);
         }
         let by_extension = self.by_extension(path, visits);
-        by_extension.is_match(alloc, path.path(), visits)
+        by_extension.is_match(path.path(), sets, visits)
     }
 
     /// Returns the automaton of the extension of the path's last component, or one without states if it has none. The extension
     /// is only searched for if some extension has an automaton.
     fn by_extension(&self, path: &Candidate<'_>, visits: &mut Visits) -> &Compiled
         ensures automaton { result.now ≡ machine_under self.now.extensions (component_extension path.now) }
+        ensures most { size result.now ≤ most_size self.now.extensions.machines }
         ensures count { result.now.index_count ≡ self.now.extensions.index_count }
         ensures tokens { (by_slot : ℕ → List IndexedTokens) → AreFor self.now.extensions.machines by_slot → IsFor result.now (tokens_under by_slot self.now.extensions.slots (component_extension path.now)) }
         ensures visits { visits.new ≤ visits.old + 1 }
@@ -152,44 +190,45 @@ impl Automata {
             && by_extension.state_count() == 0
     }
 
-    /// Puts the indexes of the globs that the path's last component matches into a set. The component is only searched for if
-    /// there are states.
+    /// Marks the indexes of the globs that the path's last component matches, beside those that are marked. The component is only
+    /// searched for if there are states.
     fn run_by_component(
         &self,
-        alloc: Global,
         path: &[u8],
-        found: &mut IndexSet,
+        sets: &mut MatchingSets,
         visits: &mut Visits,
     ) -> Result<(), AllocError>
-        requires { self.now.extensions.index_count ≤ index_room found.old }
-        ensures room { index_room found.new ≡ index_room found.old }
-        ensures found { OnOk result ((xs : List IndexedTokens) → IsFor self.now.by_component xs → (k : ℕ) → IsTrue (has_index found.new k) ↔ (SomeMatches xs (last_component path.now) k ⊎ IsTrue (has_index found.old k))) }
-        ensures memory { size self.now.by_component ≡ 0 → IsOk result }
+        requires { self.now.extensions.index_count ≤ index_room sets.old.marks }
+        ensures found { OnOk result ((xs : List IndexedTokens) → IsFor self.now.by_component xs → (k : ℕ) → IsTrue (has_index sets.new.marks k) ↔ (SomeMatches xs (last_component path.now) k ⊎ IsTrue (has_index sets.old.marks k))) }
+        ensures kept { KeepsRoom sets.old sets.new }
+        ensures memory { size self.now.by_component ≤ sets_room sets.old.states → IsOk result }
         ensures visits { visits.new ≤ visits.old + (length path.now + 1) * size self.now.by_component }
     {
         if self.by_component.state_count() == 0 {
             return Ok(());
         }
         let component = last_component_of(&Candidate::from_bytes(path));
-        self.by_component.find(alloc, component, found, visits)
+        self.by_component
+            .find(component, &mut sets.states, &mut sets.marks, visits)
     }
 
     /// Returns whether the path's last component matches tokens. It is only searched for if there are states.
     fn is_match_by_component(
         &self,
-        alloc: Global,
         path: &[u8],
+        sets: &mut StateSets,
         visits: &mut Visits,
     ) -> Result<bool, AllocError>
         ensures some { IfOk result (λ yes. (xs : List IndexedTokens) → IsFor self.now.by_component xs → IsTrue yes ↔ ((k : ℕ) × SomeMatches xs (last_component path.now) k)) }
-        ensures memory { size self.now.by_component ≡ 0 → IsOk result }
+        ensures kept { sets_room sets.old ≤ sets_room sets.new }
+        ensures memory { size self.now.by_component ≤ sets_room sets.old → IsOk result }
         ensures visits { visits.new ≤ visits.old + (length path.now + 1) * size self.now.by_component }
     {
         if self.by_component.state_count() == 0 {
             return Ok(false);
         }
         let component = last_component_of(&Candidate::from_bytes(path));
-        self.by_component.is_match(alloc, component, visits)
+        self.by_component.is_match(component, sets, visits)
     }
 }
 
@@ -313,10 +352,18 @@ impl AutomataBuilder {
             by_component,
             extensions,
         } = self;
+        let by_path = Compiled::new(alloc, by_path.finish())?;
+        let by_component = Compiled::new(alloc, by_component.finish())?;
+        let extensions = extensions.finish(alloc)?;
+        let most_states = by_path
+            .state_count()
+            .max(by_component.state_count())
+            .max(extensions.most_states());
         Ok(Automata {
-            by_path: Compiled::new(alloc, by_path.finish())?,
-            by_component: Compiled::new(alloc, by_component.finish())?,
-            extensions: extensions.finish(alloc)?,
+            by_path,
+            by_component,
+            extensions,
+            most_states,
         })
     }
 }

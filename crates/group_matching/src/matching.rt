@@ -1,84 +1,98 @@
 //! Which globs of a list match a path.
 
-ghost use Rattle.std.specs.Prelude.{◌≡◌, ◌≢◌, ◌+◌, ◌*◌, ◌++◌, ◌≤◌, ◌<◌, ◌↔◌, ◌⊎◌, [], List, ℕ, IfOk, IsOk, OnOk, OnErr, IsTrue, Contains, filter, length};
-ghost use Rattle.std.specs.List.{range_with_len};
-ghost use Rattle.std.specs.List.Sorted.{IsStrictlyIncreasing};
+ghost use Rattle.std.specs.Prelude.{◌≡◌, ◌≢◌, ◌+◌, ◌*◌, ◌≤◌, ◌↔◌, [], List, ℕ, IfOk, IsOk, OnOk, OnErr, IsTrue, length, vec_capacity};
 ghost use Rattle.byte_automaton.specs.Sets.{has_index, index_room};
-ghost use Rattle.group_matching.specs.Globs.{TokenGlob, listed, load, most_visits};
+ghost use Rattle.group_matching.specs.Globs.{TokenGlob, is_listed_at, listed, load, most_visits};
 ghost use Rattle.group_matching.specs.Indexes.{ContainsAllBelow};
+ghost use Rattle.group_matching.specs.inner.Room.{HasRoom, KeepsRoom};
 ghost use Rattle.group_matching.specs.inner.Automata.{AreIdle, IsFoundSet};
-ghost use Rattle.group_matching.specs.inner.Groups.{AreGroupsOf, group_count};
-ghost use Rattle.path_keys.specs.Keys.{keys_found};
+ghost use Rattle.group_matching.specs.inner.Groups.{AreGroupsOf, group_count, group_states};
 
 use crate::groups::Groups;
+use crate::marks::{are_all_marked, push_marked};
+use crate::matching_sets::MatchingSets;
 use byte_automaton::IndexSet;
 use glob_path::Candidate;
-use std::alloc::{AllocError, Global};
+use std::alloc::AllocError;
 use visits::Visits;
 
 impl Groups {
+    /// Returns the number of states of the largest automaton.
+    pub fn most_states(&self) -> usize
+        ensures { result ≡ group_states self.now }
+    {
+        self.automata.most_states()
+    }
+
     /// Replaces the vector's items by the indexes, ascending, of the globs that are not silent and match the path.
     ///
-    /// It grows the vector for the indexes. If an automaton has to be run, it takes a bit of memory for each glob, and two for
-    /// each state of a part that is simulated. Returns an error if memory runs out. The vector is then empty.
+    /// The sets get room for each index, and for each state of a part that is simulated; the vector grows for the indexes. Returns
+    /// an error if memory runs out, and so none if the sets have that room and the vector a capacity for all indexes. After an
+    /// error the vector is empty.
     pub fn find(
         &self,
-        alloc: Global,
         path: &Candidate<'_>,
+        sets: &mut MatchingSets,
         into: &mut Vec<usize>,
         visits: &mut Visits,
     ) -> Result<(), AllocError>
         ensures ok { OnOk result ((globs : List TokenGlob) → AreGroupsOf globs self.now → length globs ≡ group_count self.now → into.new.items ≡ listed globs path.now) }
         ensures cleared { OnErr result (into.new.items ≡ []) }
+        ensures kept { KeepsRoom sets.old sets.new }
+        ensures room { HasRoom sets.old (group_states self.now) (group_count self.now) → group_count self.now ≤ vec_capacity into.old → IsOk result }
         ensures visits { (globs : List TokenGlob) → AreGroupsOf globs self.now → visits.new ≤ visits.old + most_visits globs path.now }
     {
         into.clear();
-        if let Err(error) = self.push_found(alloc, path, into, visits) {
+        self.mark(path, sets, visits)?;
+        if let Err(error) = push_marked(&sets.marks, self.automata.index_count(), into) {
             into.clear();
             return Err(error);
         }
-        merge(into);
         Ok(())
     }
 
     /// Returns whether some glob that is not silent matches the path.
     ///
-    /// If a part of an automaton has to be simulated, it takes two bits of memory for each state of that part. Returns an
-    /// error if memory runs out, and so none if no glob needs an automaton for the path.
+    /// The sets get room for each state of a part that is simulated. Returns an error if memory runs out, and so none if they
+    /// have that room, or if no glob needs an automaton for the path.
     pub fn is_match(
         &self,
-        alloc: Global,
         path: &Candidate<'_>,
+        sets: &mut MatchingSets,
         visits: &mut Visits,
     ) -> Result<bool, AllocError>
         ensures some { IfOk result (λ yes. (globs : List TokenGlob) → AreGroupsOf globs self.now → IsTrue yes ↔ (listed globs path.now ≢ [])) }
+        ensures kept { KeepsRoom sets.old sets.new }
+        ensures room { HasRoom sets.old (group_states self.now) (group_count self.now) → IsOk result }
         ensures memory { (globs : List TokenGlob) → AreGroupsOf globs self.now → load globs path.now ≡ 0 → IsOk result }
         ensures visits { (globs : List TokenGlob) → AreGroupsOf globs self.now → visits.new ≤ visits.old + most_visits globs path.now }
     {
         if self.keys.is_match(path, visits) {
             return Ok(true);
         }
-        self.automata.is_match(alloc, path, visits)
+        self.automata.is_match(path, &mut sets.states, visits)
     }
 
     /// Returns whether every glob matches the path and none is silent.
     ///
-    /// If an automaton has to be run, it takes a bit of memory for each glob, two for each simulated state, and a vector for
-    /// indexes. Returns an error if memory runs out, and so none if no glob needs an automaton for the path.
+    /// If an automaton has to be run, the sets get room for each index, and for each state of a part that is simulated. Returns
+    /// an error if memory runs out, and so none if they have that room, or if no glob needs an automaton for the path.
     pub fn matches_all(
         &self,
-        alloc: Global,
         path: &Candidate<'_>,
+        sets: &mut MatchingSets,
         visits: &mut Visits,
     ) -> Result<bool, AllocError>
         ensures all { IfOk result (λ yes. (globs : List TokenGlob) → AreGroupsOf globs self.now → length globs ≡ group_count self.now → IsTrue yes ↔ ContainsAllBelow (listed globs path.now) (length globs)) }
+        ensures kept { KeepsRoom sets.old sets.new }
+        ensures room { HasRoom sets.old (group_states self.now) (group_count self.now) → IsOk result }
         ensures memory { (globs : List TokenGlob) → AreGroupsOf globs self.now → load globs path.now ≡ 0 → IsOk result }
         ensures visits { (globs : List TokenGlob) → AreGroupsOf globs self.now → visits.new ≤ visits.old + most_visits globs path.now }
     {
-        match self.automata.found(alloc, path.path(), visits)? {
-            Some(found) => self.finds_all(alloc, &found, path, visits),
-            None => Ok(self.keys_are_all(path, visits)),
+        if self.automata.find(path.path(), sets, visits)? {
+            return Ok(self.finds_all(path, &mut sets.marks, visits));
         }
+        Ok(self.keys_are_all(path, visits))
     }
 
     /// Returns whether every index is found, if no automaton has to be run.
@@ -90,80 +104,32 @@ impl Groups {
         self.keys.count_found(path, visits) == Some(self.automata.index_count())
     }
 
-    /// Returns whether every index is found, where automata found those of a set. Returns an error if memory runs out.
-    fn finds_all(
-        &self,
-        alloc: Global,
-        found: &IndexSet,
-        path: &Candidate<'_>,
-        visits: &mut Visits,
-    ) -> Result<bool, AllocError>
-        requires { IsFoundSet self.now.automata path.now found.now }
-        ensures all { IfOk result (λ yes. (globs : List TokenGlob) → AreGroupsOf globs self.now → length globs ≡ group_count self.now → IsTrue yes ↔ ContainsAllBelow (listed globs path.now) (length globs)) }
+    /// Returns whether every index is found, where those that automata found are marked.
+    fn finds_all(&self, path: &Candidate<'_>, marks: &mut IndexSet, visits: &mut Visits) -> bool
+        requires { IsFoundSet self.now.automata path.now marks.old }
+        ensures all { (globs : List TokenGlob) → AreGroupsOf globs self.now → length globs ≡ group_count self.now → IsTrue result ↔ ContainsAllBelow (listed globs path.now) (length globs) }
+        ensures room { index_room marks.new ≡ index_room marks.old }
         ensures visits { visits.new ≤ visits.old + (3 + 2 * (length path.now + 1)) }
     {
-        let mut indexes = Vec::new(alloc);
-        self.push_with(found, path, &mut indexes, visits)?;
-        merge(&mut indexes);
-        Ok(indexes.len() == self.automata.index_count())
+        self.keys.find(path, marks, visits);
+        are_all_marked(marks, self.automata.index_count())
     }
 
-    /// Pushes the indexes onto an empty vector, in no order. If memory runs out, some of them are pushed.
-    fn push_found(
+    /// Marks the indexes of the globs that are not silent and match the path, and no others. Returns an error if memory runs
+    /// out.
+    fn mark(
         &self,
-        alloc: Global,
         path: &Candidate<'_>,
-        into: &mut Vec<usize>,
+        sets: &mut MatchingSets,
         visits: &mut Visits,
     ) -> Result<(), AllocError>
-        requires { into.old.items ≡ [] }
-        ensures found { OnOk result ((globs : List TokenGlob) → AreGroupsOf globs self.now → length globs ≡ group_count self.now → (k : ℕ) → Contains into.new.items k ↔ Contains (listed globs path.now) k) }
+        ensures marked { OnOk result ((globs : List TokenGlob) → AreGroupsOf globs self.now → length globs ≡ group_count self.now → (k : ℕ) → IsTrue (has_index sets.new.marks k) ↔ IsTrue (is_listed_at globs path.now k)) }
+        ensures kept { KeepsRoom sets.old sets.new }
+        ensures room { HasRoom sets.old (group_states self.now) (group_count self.now) → IsOk result }
         ensures visits { (globs : List TokenGlob) → AreGroupsOf globs self.now → visits.new ≤ visits.old + most_visits globs path.now }
     {
-        match self.automata.found(alloc, path.path(), visits)? {
-            Some(found) => self.push_with(&found, path, into, visits),
-            None => self.keys.push_found(path, into, visits),
-        }
+        self.automata.mark(path.path(), sets, visits)?;
+        self.keys.find(path, &mut sets.marks, visits);
+        Ok(())
     }
-
-    /// Pushes onto an empty vector the indexes of a set and those that keys find. If memory runs out, some of them are pushed.
-    fn push_with(
-        &self,
-        found: &IndexSet,
-        path: &Candidate<'_>,
-        into: &mut Vec<usize>,
-        visits: &mut Visits,
-    ) -> Result<(), AllocError>
-        requires { into.old.items ≡ [] }
-        ensures pushed { OnOk result (into.new.items ≡ filter (has_index found.now) (range_with_len 0 (group_count self.now)) ++ keys_found self.now.keys path.now) }
-        ensures visits { visits.new ≤ visits.old + (3 + 2 * (length path.now + 1)) }
-    {
-        push_indexes(found, self.automata.index_count(), into)?;
-        self.keys.push_found(path, into, visits)
-    }
-}
-
-/// Puts indexes in order, each once. It takes no memory.
-fn merge(indexes: &mut Vec<usize>)
-    ensures order { IsStrictlyIncreasing indexes.new.items }
-    ensures same { (k : ℕ) → Contains indexes.new.items k ↔ Contains indexes.old.items k }
-{
-    indexes.sort_unstable();
-    indexes.dedup();
-}
-
-/// Pushes the indexes of a set that are below `count`, ascending. If memory runs out, some of them are pushed.
-fn push_indexes(found: &IndexSet, count: usize, into: &mut Vec<usize>) -> Result<(), AllocError>
-    requires { into.old.items ≡ [] }
-    ensures { OnOk result (into.new.items ≡ filter (has_index found.now) (range_with_len 0 count)) }
-{
-    let mut from = 0;
-    while let Some(index) = found.first_from(from) {
-        if index >= count {
-            break;
-        }
-        into.push(index)?;
-        from = index + 1;
-    }
-    Ok(())
 }

@@ -1,8 +1,12 @@
 -- Tokens in automata, and runs.
-use Rattle.std.proofs.Common.{ℕ, zero, suc, ◌+◌, ◌⊎◌, inl, inr, List, [], ◌∷◌, Option, Some, None, drop}
+use Rattle.std.proofs.Common.{◌≡◌, ℕ, zero, suc, ◌+◌, ◌*◌, ◌<◌, ◌≤◌, ◌⊎◌, inl, inr, List, [], ◌∷◌, Option, Some, None, drop, length, length-drop, refl, ap, sym, subst, ◌∙◌, arith}
 use Rattle.std.specs.Prelude.{◌↔◌}
 use Rattle.std.proofs.Math.Logic.{⊎_elim}
+use Rattle.std.proofs.Math.Nat.{mul-le-mul_right}
+use Rattle.byte_automaton.specs.Runs.{size}
+use Rattle.byte_automaton.specs.Steps.{State, Machine, state, skips, IsIn, Accepts, ends, by_byte, by_skip, by_out, by_stay}
 use Rattle.byte_automaton.specs.Texts.{AllBytes}
+use Rattle.glob_automaton.specs.IndexedTokens.{IndexedTokens, SomeMatches, IsFor}
 use Rattle.glob_path.specs.PathParts.{after_position, last_component, last_position, is_separator}
 
 -- ---- the last component of a path
@@ -18,6 +22,37 @@ bytes_after (Some k) path h = bytes_dropped (k + 1) path h
 
 pub component_bytes : (path : List ℕ) → AllBytes path → AllBytes (last_component path)
 component_bytes path h = bytes_after (last_position is_separator path) path h
+
+component_length : (o : Option ℕ) (path : List ℕ) → length (after_position path o) ≤ length path
+component_length None path = omega arith
+component_length (Some k) path = let rest = length-drop (k + 1) path in omega (arith, rest)
+
+-- the visits of a run over it, within those of a run over the path
+pub component_visits : (path text : List ℕ) (n m old new : ℕ) → text ≡ last_component path → n ≡ m → new ≤ old + (length text + 1) * n → new ≤ old + (length path + 1) * m
+component_visits path text n m old new is same few =
+    let shorter = component_length (last_position is_separator path) path in
+    let long = ap length is in
+    let fewer : length text + 1 ≤ length path + 1 = omega (arith, shorter, long) in
+    let most = mul-le-mul_right n fewer in
+    let all = ap (λ (k : ℕ). (length path + 1) * k) same in omega (arith, few, most, all)
+
+-- ---- an automaton without states
+
+no_state : (k s : ℕ) (y : List ℕ) → state [] s ≡ skips [] → Accepts [] k s y → ⊥
+no_state k s y e (ends s' f) = absurd (let g = sym e ∙ f in cc)
+no_state k s y e (by_byte s' t c z w f has rest) = absurd (let g = sym e ∙ f in cc)
+no_state k s y e (by_skip s' t z ts f m rest) = let g = sym e ∙ f in let same : ts ≡ [] = cc in absurd (subst (IsIn t) same m)
+no_state k s y e (by_out s' t z w ts f m rest) = absurd (let g = sym e ∙ f in cc)
+no_state k s y e (by_stay s' c z w ts f has rest) = absurd (let g = sym e ∙ f in cc)
+
+none_accepted : (states : List State) (k s : ℕ) (y : List ℕ) → length states ≡ 0 → Accepts states k s y → ⊥
+none_accepted [] k s y e h = no_state k s y refl h
+none_accepted (x ∷ xs) k s y e h = absurd (omega (arith, e))
+
+-- it is for tokens that match nothing
+pub no_matches : (m : Machine) (xs : List IndexedTokens) (path : List ℕ) (k : ℕ) → size m ≡ 0 → IsFor m xs → AllBytes path → SomeMatches xs path k → ⊥
+no_matches m xs path k none is bytes some =
+    let (s, at, accepts) = (is m.states (λ s low high. refl) path k bytes).1 some in none_accepted m.states k s path none accepts
 
 -- ---- three runs
 

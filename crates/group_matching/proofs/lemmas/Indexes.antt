@@ -1,14 +1,10 @@
 -- The indexes of the items of a list that pass a test.
-use Rattle.std.proofs.Common.{◌≡◌, ℕ, zero, suc, ◌+◌, ◌<◌, ◌≤◌, ◌-◌, List, [], ◌∷◌, ◌++◌, append-nil, length, get_or, Bool, true, false, cond, Option, Some, None, refl, ap, sym, subst, ◌∙◌, arith}
-use Rattle.std.specs.Prelude.{◌≢◌, ◌↔◌, filter, Contains, IsTrue, MatchOption}
+use Rattle.std.proofs.Common.{◌≡◌, ℕ, zero, suc, ◌+◌, ◌<◌, ◌≤◌, ◌-◌, List, [], ◌∷◌, ◌++◌, append-nil, length, get_or, Bool, true, false, cond, refl, ap, sym, subst, ◌∙◌, arith}
+use Rattle.std.specs.Prelude.{◌↔◌, filter, Contains, IsTrue}
 use Rattle.std.specs.List.{range_with_len}
-use Rattle.std.specs.Option.{is_some}
 use Rattle.std.proofs.lemmas.List.Elements.{filter-append, filter_passes, All-filter, All-contains, All-from_get_or}
 use Rattle.std.proofs.lemmas.List.FromFn.{length-range_with_len, get_or-range_with_len}
-use Rattle.std.proofs.Common.{◌⊎◌, inl, inr, slice_index, length-append}
-use Rattle.std.specs.List.Sorted.{IsStrictlyIncreasing}
-use Rattle.std.proofs.Math.Logic.{⊎_elim}
-use Rattle.std.proofs.lemmas.Bool.Decides.{eqb_tells}
+use Rattle.std.proofs.lemmas.List.{length-append}
 use Rattle.group_matching.specs.Indexes.{passes_at, passing_indexes, ContainsAllBelow}
 
 -- ---- consecutive numbers
@@ -99,113 +95,13 @@ passes_within test [] k h = absurd (cc)
 passes_within test (x ∷ xs) zero h = omega arith
 passes_within test (x ∷ xs) (suc k) h = let e = passes_within test xs k h in omega (arith, e)
 
--- ---- any and all
-
-empty_from : (xs : List ℕ) → ((i : ℕ) → Contains xs i → ⊥) → xs ≡ []
-empty_from [] h = refl
-empty_from (x ∷ xs) h = absurd (h x (0, omega arith, refl))
-
-pub some_passes : {X : Type 0} (test : X → Bool) (xs : List X) (i : ℕ) → i < length xs → passes_at test xs i ≡ true → IsTrue true ↔ (passing_indexes test xs ≢ [])
-some_passes test xs i h p = (
-  λ y e. let held = passing_is_contained test xs i h p in let no : held.0 < length (passing_indexes test xs) = held.1 in let z : held.0 < 0 = rw e at no in omega (arith, z),
-  λ n. refl,
-)
-
-pub none_pass : {X : Type 0} (test : X → Bool) (xs : List X) → ((i : ℕ) → i < length xs → passes_at test xs i ≡ false) → IsTrue false ↔ (passing_indexes test xs ≢ [])
-none_pass test xs h = (
-  λ y. absurd (cc),
-  λ n. absurd (n (empty_from (passing_indexes test xs) (λ i held. let a = contained_passes test xs i held in let p = a.1 in let q = h i a.0 in cc))),
-)
+-- ---- all items
 
 pub all_pass : {X : Type 0} (test : X → Bool) (xs : List X) → ((i : ℕ) → i < length xs → passes_at test xs i ≡ true)
     → IsTrue true ↔ ContainsAllBelow (passing_indexes test xs) (length xs)
 all_pass test xs h = (λ y i l. passing_is_contained test xs i l (h i l), λ all. refl)
 
-pub one_fails : {X : Type 0} (test : X → Bool) (xs : List X) (i : ℕ) → i < length xs → passes_at test xs i ≡ false
-    → IsTrue false ↔ ContainsAllBelow (passing_indexes test xs) (length xs)
-one_fails test xs i l h = (λ y. absurd (cc), λ all. let p = (contained_passes test xs i (all i l)).1 in cc)
-
--- the first number that passes, if there is one, tells whether an item passes
-pub any_found : {X : Type 0} (test : X → Bool) (xs : List X) (has : ℕ → Bool) (first : Option ℕ) → ((k : ℕ) → has k ≡ passes_at test xs k)
-    → MatchOption first ((k : ℕ) → 0 ≤ k → has k ≡ false) (λ at. (0 ≤ at) × (has at ≡ true) × ((k : ℕ) → 0 ≤ k → k < at → has k ≡ false))
-    → IsTrue (is_some first) ↔ (passing_indexes test xs ≢ [])
-any_found test xs has None same none = none_pass test xs (λ i l. sym (same i) ∙ none i (omega arith))
-any_found test xs has (Some at) same (from, this, before) = let yes = sym (same at) ∙ this in some_passes test xs at (passes_within test xs at yes) yes
-
--- ---- ascending lists
-
-abbrev IsIn : ℕ → List ℕ → Type 0
-IsIn i [] = ⊥
-IsIn i (x ∷ xs) = (i ≡ x) ⊎ IsIn i xs
-
--- each number is at least low, and below the next one
-abbrev Rises : ℕ → List ℕ → Type 0
-Rises low [] = Unit {0}
-Rises low (x ∷ xs) = (low ≤ x) × Rises (x + 1) xs
-
-contains_in : (xs : List ℕ) (i : ℕ) → Contains xs i → IsIn i xs
-contains_in [] i (k, lt, e) = absurd (omega (arith, lt))
-contains_in (x ∷ xs) i (zero, lt, e) = inl (sym e)
-contains_in (x ∷ xs) i (suc k, lt, e) = inr (contains_in xs i (k, omega (arith, lt), e))
-
-in_contains : (xs : List ℕ) (i : ℕ) → IsIn i xs → Contains xs i
-in_contains [] i h = absurd h
-in_contains (x ∷ xs) i h = ⊎_elim {C = Contains (x ∷ xs) i} (λ e. (0, omega arith, sym e)) (λ r. let c = in_contains xs i r in (suc c.0, omega (arith, c.1), c.2)) h
-
-rises_from : (low x : ℕ) (xs : List ℕ) → low ≤ x → IsStrictlyIncreasing (x ∷ xs) → Rises low (x ∷ xs)
-rises_from low x [] le h = (le, record {})
-rises_from low x (y ∷ ys) le h = (
-  le,
-  rises_from (x + 1) y ys (let l = h 0 (omega arith) in omega (arith, l))
-      (λ k lt. let e : suc k + 1 ≡ suc (k + 1) = omega arith in subst (λ n. slice_index (x ∷ y ∷ ys) (suc k) < slice_index (x ∷ y ∷ ys) n) e (h (suc k) (omega (arith, lt)))),
-)
-
-rises : (xs : List ℕ) → IsStrictlyIncreasing xs → Rises 0 xs
-rises [] h = record {}
-rises (x ∷ xs) h = rises_from 0 x xs (omega arith) h
-
-picked_rises : (t : Bool) (low l : ℕ) (xs : List ℕ) → l ≤ low → Rises (low + 1) xs → Rises l xs → Rises l (cond t (low ∷ xs) xs)
-picked_rises true low l xs le r s = (le, r)
-picked_rises false low l xs le r s = s
-
-filter_rises : (test : ℕ → Bool) (n low l : ℕ) → l ≤ low → Rises l (filter test (range_with_len low n))
-filter_rises test zero low l le = record {}
-filter_rises test (suc n) low l le =
-    picked_rises (test low) low l (filter test (range_with_len (low + 1) n)) le (filter_rises test n (low + 1) (low + 1) (omega arith)) (filter_rises test n (low + 1) l (omega (arith, le)))
-
--- two such lists with the same members are the same
-same_members : (low : ℕ) (xs ys : List ℕ) → Rises low xs → Rises low ys → ((i : ℕ) → IsIn i xs ↔ IsIn i ys) → xs ≡ ys
-same_members low [] [] rx ry h = refl
-same_members low [] (y ∷ ys) rx ry h = absurd ((h y).1 (inl refl))
-same_members low (x ∷ xs) [] rx ry h = absurd ((h x).0 (inl refl))
-same_members low (x ∷ xs) (y ∷ ys) rx ry h = λ k. same k ∷ same_members (x + 1) xs ys rx.1 (subst (λ n. Rises (n + 1) ys) (sym same) ry.1) rest k
-  where
-    least : (l z : ℕ) (zs : List ℕ) → Rises l zs → IsIn z zs → l ≤ z
-    least l z [] r m = absurd m
-    least l z (c ∷ zs) r m = ⊎_elim {C = l ≤ z} (λ e. omega (arith, e, r.0)) (λ t. let a = least (c + 1) z zs r.1 t in omega (arith, a, r.0)) m
-
-    above : (c d : ℕ) (zs : List ℕ) → Rises (c + 1) zs → (d ≡ c) ⊎ IsIn d zs → c ≤ d
-    above c d zs r m = ⊎_elim {C = c ≤ d} (λ e. omega (arith, e)) (λ t. let a = least (c + 1) d zs r t in omega (arith, a)) m
-
-    same : x ≡ y
-    same = let a = above y x ys ry.1 ((h x).0 (inl refl)) in let b = above x y xs rx.1 ((h y).1 (inl refl)) in omega (arith, a, b)
-
-    rest : (i : ℕ) → IsIn i xs ↔ IsIn i ys
-    rest i = (
-      λ m. ⊎_elim {C = IsIn i ys} (λ e. let a = least (x + 1) i xs rx.1 m in absurd (omega (arith, a, e, same))) (λ t. t) ((h i).0 (inr m)),
-      λ m. ⊎_elim {C = IsIn i xs} (λ e. let a = least (y + 1) i ys ry.1 m in absurd (omega (arith, a, e, same))) (λ t. t) ((h i).1 (inr m)),
-    )
-
--- an ascending list of the indexes of the items that pass
-pub ascending_is : {X : Type 0} (test : X → Bool) (items : List X) (xs : List ℕ) → IsStrictlyIncreasing xs → ((k : ℕ) → Contains xs k ↔ Contains (passing_indexes test items) k) → xs ≡ passing_indexes test items
-ascending_is test items xs rise same =
-    let ys = passing_indexes test items in
-    same_members 0 xs ys (rises xs rise) (filter_rises (passes_at test items) (length items) 0 0 (omega arith)) (λ i. (
-      λ m. contains_in ys i ((same i).0 (in_contains xs i m)),
-      λ m. contains_in xs i ((same i).1 (in_contains ys i m)),
-    ))
-
--- ---- as many as there are items
+-- ---- how many numbers pass
 
 length_more : (test : ℕ → Bool) (n : ℕ) → length (filter test (range_with_len 0 (n + 1))) ≡ length (filter test (range_with_len 0 n)) + cond (test n) 1 0
 length_more test n = ap length (filter_more test n) ∙ length-append (filter test (range_with_len 0 n)) (cond (test n) (n ∷ []) []) ∙ ap (λ (x : ℕ). length (filter test (range_with_len 0 n)) + x) (of (test n))
@@ -214,7 +110,7 @@ length_more test n = ap length (filter_more test n) ∙ length-append (filter te
     of true = refl
     of false = refl
 
-few_kept : (test : ℕ → Bool) (n : ℕ) → length (filter test (range_with_len 0 n)) ≤ n
+pub few_kept : (test : ℕ → Bool) (n : ℕ) → length (filter test (range_with_len 0 n)) ≤ n
 few_kept test zero = omega arith
 few_kept test (suc n) =
     let e : suc n ≡ n + 1 = omega arith in let more = length_more test n in let before = few_kept test n in let one = small (test n) in
@@ -223,31 +119,3 @@ few_kept test (suc n) =
     small : (b : Bool) → cond b 1 0 ≤ 1
     small true = omega arith
     small false = omega arith
-
-all_kept : (test : ℕ → Bool) (n : ℕ) → length (filter test (range_with_len 0 n)) ≡ n → (i : ℕ) → i < n → test i ≡ true
-all_kept test zero full i lt = absurd (omega (arith, lt))
-all_kept test (suc n) full i lt = by_case (test n) refl (λ before. all_kept test n before i)
-  where
-    length_is : length (filter test (range_with_len 0 n)) + cond (test n) 1 0 ≡ n + 1
-    length_is = let e : suc n ≡ n + 1 = omega arith in sym (length_more test n) ∙ ap (λ (k : ℕ). length (filter test (range_with_len 0 k))) (sym e) ∙ full ∙ e
-
-    by_case : (b : Bool) → test n ≡ b → (length (filter test (range_with_len 0 n)) ≡ n → i < n → test i ≡ true) → test i ≡ true
-    by_case false h earlier = let z : ◌≡◌ {A = ℕ} (cond (test n) 1 0) 0 = ap (λ x. cond x 1 0) h in let few = few_kept test n in absurd (omega (arith, length_is, z, few))
-    by_case true h earlier =
-        let one : ◌≡◌ {A = ℕ} (cond (test n) 1 0) 1 = ap (λ x. cond x 1 0) h in
-        ⊎_elim {C = test i ≡ true} (λ y. ap test y.1 ∙ h) (λ other. earlier (omega (arith, length_is, one)) (let apart = other.1 in omega (arith, lt, apart))) (eqb_tells i n)
-
-keeps_all : (test : ℕ → Bool) (n : ℕ) → ((i : ℕ) → i < n → test i ≡ true) → length (filter test (range_with_len 0 n)) ≡ n
-keeps_all test zero all = refl
-keeps_all test (suc n) all =
-    let e : suc n ≡ n + 1 = omega arith in
-    let one : ◌≡◌ {A = ℕ} (cond (test n) 1 0) 1 = ap (λ x. cond x 1 0) (all n (omega arith)) in
-    let before = keeps_all test n (λ i lt. all i (omega (arith, lt))) in
-    let same = ap (λ (k : ℕ). length (filter test (range_with_len 0 k))) e in let more = length_more test n in omega (arith, same, more, one, before)
-
--- every item passes if and only if there are as many indexes as items
-pub all_by_length : {X : Type 0} (test : X → Bool) (xs : List X) → (length (passing_indexes test xs) ≡ length xs) ↔ ContainsAllBelow (passing_indexes test xs) (length xs)
-all_by_length test xs = (
-  λ full i lt. passing_is_contained test xs i lt (all_kept (passes_at test xs) (length xs) full i lt),
-  λ all. keeps_all (passes_at test xs) (length xs) (λ i lt. (contained_passes test xs i (all i lt)).1),
-)

@@ -2,11 +2,9 @@
 use Rattle.std.proofs.Common.{◌≡◌, ◌≢◌, ℕ, zero, suc, ◌+◌, ◌<◌, ◌≤◌, ◌⊎◌, inl, inr, Bool, true, false, cond, ◌||◌, ◌==◌, List, [], ◌∷◌, ◌++◌, Option, Some, None, length, IsTrue, refl, ap, sym, subst, ◌∙◌, arith}
 use Rattle.std.specs.Prelude.{◌↔◌, ◌^◌, Contains, MatchOption, filter}
 use Rattle.std.specs.List.{list_any, range_with_len}
-use Rattle.std.specs.List.Sorted.{IsStrictlyIncreasing}
 use Rattle.std.specs.Option.{option_eq}
 use Rattle.std.proofs.Math.Logic.{⊎_elim}
 use Rattle.std.proofs.lemmas.Bool.{eqb-true, eq-eqb}
-use Rattle.std.proofs.lemmas.List.Elements.{Contains-append_left, Contains-append_right, Contains-append_cases}
 use Rattle.std.proofs.lemmas.List.Sums.{sum_by-append}
 use Rattle.std.proofs.lemmas.Map.Steps.{le-length_from_below}
 use Rattle.group_matching.specs.Globs.{TokenGlob, is_listed, is_listed_at, listed}
@@ -14,7 +12,7 @@ use Rattle.group_matching.specs.Indexes.{ContainsAllBelow}
 use Rattle.path_keys.specs.Keys.{keys_found}
 use Rattle.group_matching.specs.inner.Automata.{AreFound, AreIdle}
 use Rattle.group_matching.specs.inner.Groups.{GroupParts, AreGroupsOf, listed_count}
-use Rattle.group_matching.proofs.lemmas.Indexes.{in_filter, passing_is_contained, contained_passes, passes_within, all_pass, all_by_length, ascending_is}
+use Rattle.group_matching.proofs.lemmas.Indexes.{passing_is_contained, contained_passes, passes_within, all_pass, filter_same}
 
 -- a listed glob is in the list
 in_listed : (globs : List TokenGlob) (path : List ℕ) (k : ℕ) → IsTrue (is_listed_at globs path k) → Contains (listed globs path) k
@@ -25,18 +23,36 @@ listed_in globs path k h = (contained_passes (λ g. is_listed g path) globs k h)
 
 -- ---- all indexes
 
-pub found_listed : (globs : List TokenGlob) (g : GroupParts) (path : List ℕ) (n : ℕ) (has : ℕ → Bool) (are : AreGroupsOf globs g) → length globs ≡ n
-    → ((k : ℕ) → IsTrue (has k) ↔ AreFound g.automata.extensions.slots are.tokens path k)
-    → (k : ℕ) → Contains (filter has (range_with_len 0 n) ++ keys_found g.keys path) k ↔ Contains (listed globs path) k
-found_listed globs g path n has are count same k = (
-  λ h. in_listed globs path k ((are.same path k).0 (⊎_elim {C = Contains (keys_found g.keys path) k ⊎ AreFound g.automata.extensions.slots are.tokens path k}
-      (λ front. inr ((same k).0 ((in_filter has n k).0 front).1)) (λ back. inl back) (Contains-append_cases (filter has (range_with_len 0 n)) (keys_found g.keys path) k h))),
-  λ h. let yes_at = listed_in globs path k h in
-      ⊎_elim {C = Contains (filter has (range_with_len 0 n) ++ keys_found g.keys path) k}
-      (λ key. Contains-append_right (filter has (range_with_len 0 n)) (keys_found g.keys path) k key)
-      (λ found. let within = passes_within (λ x. is_listed x path) globs k yes_at in
-      Contains-append_left (filter has (range_with_len 0 n)) (keys_found g.keys path) k ((in_filter has n k).1 (omega (arith, within, count), (same k).1 found)))
-      ((are.same path k).1 yes_at),
+-- what automata found is marked, and then what keys find: these are the listed globs
+pub marked_listed : (globs : List TokenGlob) (g : GroupParts) (path : List ℕ) (room : ℕ) (found has : ℕ → Bool) (are : AreGroupsOf globs g) → length globs ≤ room
+    → ((k : ℕ) → IsTrue (found k) ↔ AreFound g.automata.extensions.slots are.tokens path k)
+    → ((k : ℕ) → IsTrue (has k) ↔ ((Contains (keys_found g.keys path) k × (k < room)) ⊎ IsTrue (found k)))
+    → (k : ℕ) → IsTrue (has k) ↔ IsTrue (is_listed_at globs path k)
+marked_listed globs g path room found has are fits by_automata also k = (
+  λ h. (are.same path k).0 (⊎_elim {C = Contains (keys_found g.keys path) k ⊎ AreFound g.automata.extensions.slots are.tokens path k} (λ key. inl key.0) (λ f. inr ((by_automata k).0 f)) ((also k).0 h)),
+  λ yes_at. (also k).1 (⊎_elim {C = (Contains (keys_found g.keys path) k × (k < room)) ⊎ IsTrue (found k)}
+      (λ key. let within = passes_within (λ x. is_listed x path) globs k yes_at in inl (key, omega (arith, within, fits)))
+      (λ f. inr ((by_automata k).1 f)) ((are.same path k).1 yes_at)),
+)
+
+same_test : (a b : Bool) → (IsTrue a ↔ IsTrue b) → a ≡ b
+same_test true true same = refl
+same_test true false same = sym (same.0 refl)
+same_test false true same = same.1 refl
+same_test false false same = refl
+
+-- the marked indexes in order
+pub marked_are : (globs : List TokenGlob) (path : List ℕ) (n : ℕ) (has : ℕ → Bool) → length globs ≡ n → ((k : ℕ) → IsTrue (has k) ↔ IsTrue (is_listed_at globs path k))
+    → filter has (range_with_len 0 n) ≡ listed globs path
+marked_are globs path n has count same =
+    ap (λ m. filter has (range_with_len 0 m)) (sym count) ∙ filter_same has (is_listed_at globs path) (length globs) (λ k. same_test (has k) (is_listed_at globs path k) (same k))
+
+-- every index is marked
+pub all_marked : (globs : List TokenGlob) (path : List ℕ) (n : ℕ) (has : ℕ → Bool) → length globs ≡ n → ((k : ℕ) → IsTrue (has k) ↔ IsTrue (is_listed_at globs path k))
+    → ((k : ℕ) → k < n → IsTrue (has k)) ↔ ContainsAllBelow (listed globs path) (length globs)
+all_marked globs path n has count same = (
+  λ all i lt. in_listed globs path i ((same i).0 (all i (omega (arith, lt, count)))),
+  λ all k lt. (same k).1 (listed_in globs path k (all k (omega (arith, lt, count)))),
 )
 
 -- no automaton is run
@@ -121,19 +137,3 @@ all_by_keys globs g path n (Some m) are idle count fits is = (
   λ h. let same = eqb-true m n h in (keys_full globs g path are idle).0 (omega (arith, same, is, count)),
   λ all. let full = (keys_full globs g path are idle).1 all in eq-eqb m n (omega (arith, full, is, count)),
 )
-
--- a merged list is as long as there are globs just if every glob is listed
-pub all_by_found : (globs : List TokenGlob) (g : GroupParts) (path : List ℕ) (n len : ℕ) (has : ℕ → Bool) (pushed merged : List ℕ) (are : AreGroupsOf globs g) → length globs ≡ n
-    → ((k : ℕ) → IsTrue (has k) ↔ AreFound g.automata.extensions.slots are.tokens path k) → pushed ≡ filter has (range_with_len 0 n) ++ keys_found g.keys path
-    → IsStrictlyIncreasing merged → ((k : ℕ) → Contains merged k ↔ Contains pushed k) → len ≡ length merged → IsTrue (len == n) ↔ ContainsAllBelow (listed globs path) (length globs)
-all_by_found globs g path n len has pushed merged are count same is rise kept long =
-    let all = all_by_length (λ x. is_listed x path) globs in (
-      λ h. all.0 (let e = eqb-true len n h in let m = ap length merged_is in omega (arith, e, long, m, count)),
-      λ h. eq-eqb len n (let full = all.1 h in let m = ap length merged_is in omega (arith, full, long, m, count)),
-    )
-  where
-    merged_is : merged ≡ listed globs path
-    merged_is = ascending_is (λ x. is_listed x path) globs merged rise (λ k. (
-      λ m. (found_listed globs g path n has are count same k).0 (subst (λ xs. Contains xs k) is ((kept k).0 m)),
-      λ m. (kept k).1 (subst (λ xs. Contains xs k) (sym is) ((found_listed globs g path n has are count same k).1 m)),
-    ))

@@ -1,5 +1,5 @@
 -- The slots of extensions, and the tokens in them.
-use Rattle.std.proofs.Common.{◌≡◌, ◌≢◌, ℕ, zero, suc, ◌+◌, ◌<◌, ◌≤◌, ◌⊎◌, inl, inr, Bool, true, false, cond, ◌==◌, List, [], ◌∷◌, ◌++◌, Option, Some, None, length, get_or, set, refl, ap, sym, subst, ◌∙◌, arith}
+use Rattle.std.proofs.Common.{◌≡◌, ◌≢◌, ℕ, zero, suc, ◌+◌, ◌<◌, ◌≤◌, max, ◌⊎◌, inl, inr, Bool, true, false, cond, ◌==◌, List, [], ◌∷◌, ◌++◌, Option, Some, None, length, get_or, set, refl, ap, sym, subst, ◌∙◌, arith}
 use Rattle.std.specs.Option.{option_map_or}
 use Rattle.std.specs.Str.{bytes_eq}
 use Rattle.std.specs.Cmp.Lexicographic.{bytes_decides}
@@ -13,7 +13,7 @@ use Rattle.byte_table.specs.Entries.{Entry, entry, indexes_under}
 use Rattle.byte_table.specs.inner.Lists.{with_index}
 use Rattle.byte_table.proofs.lemmas.Entries.{indexes_added}
 use Rattle.glob_automaton.specs.IndexedTokens.{IndexedTokens, IsFor}
-use Rattle.group_matching.specs.inner.Automata.{SlotParts, AreSlots, AreFor, KeepsTokens, AddsTokens, first, slot_of, tokens_under, machine_under}
+use Rattle.group_matching.specs.inner.Automata.{SlotParts, AreSlots, AreFor, KeepsTokens, AddsTokens, first, most_size, slot_of, tokens_under, machine_under}
 use Rattle.group_matching.proofs.lemmas.Tables.{first_in, under_push, first_push}
 
 abbrev pub slot_parts : List Entry → List Machine → Machine → ℕ → SlotParts
@@ -233,3 +233,14 @@ pub slot_tokens : (machines : List Machine) (tokens : ℕ → List IndexedTokens
     → s < length machines → m ≡ get_or machines s m → AreFor machines tokens → IsFor m (tokens_under tokens slots extension)
 slot_tokens machines tokens slots extension s m at lt is are =
     subst (λ o. IsFor m (option_map_or tokens o [])) at (subst (λ x. IsFor x (tokens s)) (sym is) (are s m lt))
+
+-- ---- the largest automaton
+
+pub most_more : (ms : List Machine) (m : Machine) → most_size (ms ++ m ∷ []) ≡ max (size m) (most_size ms)
+most_more [] m = omega arith
+most_more (x ∷ xs) m = let rest = most_more xs m in omega (arith, rest)
+
+pub most_bounds : (machines : List Machine) (s : ℕ) (d : Machine) → s < length machines → size (get_or machines s d) ≤ most_size machines
+most_bounds [] s d lt = absurd (omega (arith, lt))
+most_bounds (m ∷ ms) zero d lt = omega arith
+most_bounds (m ∷ ms) (suc s) d lt = let rest = most_bounds ms s d (omega (arith, lt)) in omega (arith, rest)

@@ -1,5 +1,5 @@
 -- Automata of tokens, for the globs that no key decides.
-use Rattle.std.specs.Prelude.{◌≡◌, ◌≢◌, ◌⊎◌, ◌↔◌, ℕ, ◌+◌, ◌<◌, ◌≤◌, IsTrue, List, [], ◌∷◌, ◌++◌, Option, Some, length, get_or, slice_get}
+use Rattle.std.specs.Prelude.{◌≡◌, ◌≢◌, ◌⊎◌, ◌↔◌, ℕ, ◌+◌, ◌<◌, ◌≤◌, max, IsTrue, List, [], ◌∷◌, ◌++◌, Option, Some, length, get_or, slice_get}
 use Rattle.std.specs.Option.{option_map_or}
 use Rattle.byte_automaton.specs.Steps.{IsIn, Machine}
 use Rattle.byte_automaton.specs.Runs.{size}
@@ -72,10 +72,24 @@ pub record AutomataParts : Type 0 where
   pub by_component : Machine
   pub extensions : SlotParts
 
+-- the number of states of the largest of some automata
+abbrev pub most_size : List Machine → ℕ
+most_size [] = 0
+most_size (m ∷ ms) = max (size m) (most_size ms)
+
+-- the number of states of the largest of all of them
+abbrev pub most_states : AutomataParts → ℕ
+most_states a = max (max (size a.by_path) (size a.by_component)) (most_size a.extensions.machines)
+
 -- the number that each index is below is the same for all of them
 pub record HaveOneCount (by_path by_component : Machine) (extensions : SlotParts) : Type 0 where
   pub of_path : by_path.index_count ≡ extensions.index_count
   pub of_component : by_component.index_count ≡ extensions.index_count
+
+-- and the largest of them has so many states
+pub record AreMeasured (by_path by_component : Machine) (extensions : SlotParts) (most : ℕ) : Type 0 where
+  pub counts : HaveOneCount by_path by_component extensions
+  pub largest : most ≡ most_states (record { by_path = by_path; by_component = by_component; extensions = extensions })
 
 -- the tokens that automata are for
 pub record TokenLists : Type 0 where

@@ -2,7 +2,7 @@
 use Rattle.std.specs.Prelude.{◌↔◌, ◌⊎◌, ℕ, ◌≤◌, List, Contains, cond, length, sum_by, IsTrue}
 use Rattle.group_matching.specs.Globs.{TokenGlob, is_listed, is_listed_at, load}
 use Rattle.path_keys.specs.Keys.{KeyParts, keys_found}
-use Rattle.group_matching.specs.inner.Automata.{AutomataParts, TokenLists, AreForLists, AreFound, states_for}
+use Rattle.group_matching.specs.inner.Automata.{AutomataParts, TokenLists, AreForLists, AreFound, most_states, states_for}
 
 -- the keys of globs, and automata for the globs without one
 pub record GroupParts : Type 0 where
@@ -12,6 +12,10 @@ pub record GroupParts : Type 0 where
 -- the number that each index is below
 abbrev pub group_count : GroupParts → ℕ
 group_count g = g.automata.extensions.index_count
+
+-- the number of states of the largest automaton
+abbrev pub group_states : GroupParts → ℕ
+group_states g = most_states g.automata
 
 -- how many globs are listed for a path
 abbrev pub listed_count : List TokenGlob → List ℕ → ℕ

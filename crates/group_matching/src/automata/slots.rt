@@ -7,7 +7,7 @@ ghost use Rattle.glob_automaton.specs.IndexedTokens.{IndexedTokens, IsFor, index
 ghost use Rattle.glob_syntax.specs.FlatTokens.{IsNested};
 ghost use Rattle.glob_syntax.specs.Views.{flats, tokens_of};
 ghost use Rattle.glob_syntax.specs.inner.Weight.{weight};
-ghost use Rattle.group_matching.specs.inner.Automata.{AddsTokens, AreFor, KeepsTokens, machine_under, slot_of, tokens_under};
+ghost use Rattle.group_matching.specs.inner.Automata.{AddsTokens, AreFor, KeepsTokens, machine_under, most_size, slot_of, tokens_under};
 
 use byte_automaton::Builder;
 use byte_table::Table;
@@ -80,6 +80,13 @@ impl Slots {
         self.index_count
     }
 
+    /// Returns the number of states of the largest automaton. It takes time linear in the number of automata.
+    pub fn most_states(&self) -> usize
+        ensures { result ≡ most_size self.now.machines }
+    {
+        most_states(&self.automata)
+    }
+
     /// Returns whether no extension has an automaton.
     pub fn is_empty(&self) -> bool
         ensures { IsTrue result ↔ (self.now.slots ≡ []) }
@@ -90,6 +97,7 @@ impl Slots {
     /// Returns an automaton without states.
     pub fn none(&self) -> &Compiled
         ensures none { result.now ≡ self.now.none }
+        ensures size { size result.now ≡ 0 }
         ensures count { result.now.index_count ≡ self.now.index_count }
         ensures tokens { IsFor result.now [] }
     {
@@ -99,6 +107,7 @@ impl Slots {
     /// Returns the automaton of an extension, or one without states if it has none. It is one visit.
     pub fn automaton_of(&self, extension: &[u8], visits: &mut Visits) -> &Compiled
         ensures automaton { result.now ≡ machine_under self.now extension.now }
+        ensures most { size result.now ≤ most_size self.now.machines }
         ensures count { result.now.index_count ≡ self.now.index_count }
         ensures tokens { (by_slot : ℕ → List IndexedTokens) → AreFor self.now.machines by_slot → IsFor result.now (tokens_under by_slot self.now.slots extension.now) }
         ensures visits { visits.new ≡ visits.old + 1 }
@@ -226,6 +235,17 @@ impl SlotsBuilder {
             index_count,
         })
     }
+}
+
+/// Returns the number of states of the largest automaton.
+fn most_states(automata: &[Compiled]) -> usize
+    ensures { result ≡ most_size automata.now }
+{
+    let mut most = 0;
+    for automaton in automata {
+        most = automaton.state_count().max(most);
+    }
+    most
 }
 
 /// Returns the automata of builders. Returns an error if memory runs out.

@@ -5,8 +5,7 @@ use Rattle.glob_automaton.specs.IndexedTokens.{IndexedTokens, SomeMatches, IsFor
 use Rattle.glob_automaton.proofs.lemmas.IndexedTokens.{all_bytes}
 use Rattle.glob_path.specs.PathParts.{last_component}
 use Rattle.group_matching.specs.inner.Automata.{AutomataParts}
-use Rattle.glob_matching.proofs.lemmas.Compiled.{no_matches}
-use Rattle.group_matching.proofs.lemmas.Automata.{component_bytes}
+use Rattle.group_matching.proofs.lemmas.Automata.{component_bytes, no_matches}
 use Rattle.group_matching.proofs.automata.Automata.is_match_by_component.Goals as goal
 
 pub returns-then-state_count-eq0-clause-some : goal.returns-then-state_count-eq0-clause-some

@@ -1,10 +1,10 @@
-use Rattle.group_matching.specs.Globs.{is_listed}
-use Rattle.group_matching.proofs.lemmas.Indexes.{ascending_is}
+use Rattle.std.proofs.Common.{◌≡◌, length, ap, arith, ◌∙◌}
+use Rattle.byte_automaton.specs.Sets.{has_index}
+use Rattle.group_matching.specs.inner.Groups.{GroupParts, group_count}
+use Rattle.group_matching.proofs.lemmas.Matching.{marked_are}
 use Rattle.group_matching.proofs.groups.Groups.find.Goals as goal
 
 pub returns-clause-ok : goal.returns-clause-ok
-returns-clause-ok c = λ globs are count.
-    ascending_is (λ g. is_listed g c.args.path.now) globs c.merge.new.indexes.items c.merge.ensures.order (λ k. (
-      λ m. (c.in_default.ensures.found globs are count k).0 ((c.merge.ensures.same k).0 m),
-      λ m. (c.merge.ensures.same k).1 ((c.in_default.ensures.found globs are count k).1 m),
-    ))
+returns-clause-ok c = λ globs are counted.
+    let n : length globs ≡ c.index_count.result = omega (arith, counted, c.index_count.ensures, ap (λ (p : GroupParts). group_count p) c.self.view_is) in
+    c.in_default.ensures.pushed ∙ marked_are globs c.args.path.now c.index_count.result (has_index c.mark.new.sets.marks) n (c.in_ok-mark.ensures.marked globs are counted)

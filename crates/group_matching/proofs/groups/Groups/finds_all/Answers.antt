@@ -1,16 +1,20 @@
-use Rattle.std.proofs.Common.{◌≡◌, ◌==◌, length, ap, sym, subst, arith}
-use Rattle.std.specs.Prelude.{◌↔◌, IsTrue}
-use Rattle.byte_automaton.specs.Sets.{has_index}
-use Rattle.group_matching.specs.Globs.{listed}
-use Rattle.group_matching.specs.Indexes.{ContainsAllBelow}
-use Rattle.group_matching.specs.inner.Groups.{GroupParts, group_count}
-use Rattle.group_matching.proofs.lemmas.Matching.{all_by_found}
+use Rattle.std.proofs.Common.{◌≡◌, ◌≤◌, length, ap, sym, subst, arith}
+use Rattle.byte_automaton.specs.Sets.{has_index, index_room}
+use Rattle.group_matching.specs.inner.Automata.{IsFoundSet}
+use Rattle.group_matching.specs.inner.Groups.{GroupParts, AreGroupsOf, group_count}
+use Rattle.group_matching.proofs.lemmas.Groups.{group_parts}
+use Rattle.group_matching.proofs.lemmas.Matching.{all_marked, marked_listed}
 use Rattle.group_matching.proofs.groups.Groups.finds_all.Goals as goal
 
 pub returns-clause-all : goal.returns-clause-all
 returns-clause-all c = λ globs are counted.
-    let g : GroupParts = c.args.self.now in
-    let same : c.index_count.result ≡ group_count g = omega (arith, c.index_count.ensures, ap (λ (p : GroupParts). group_count p) c.self.view_is) in
-    subst (λ n. IsTrue (c.len.result == n) ↔ ContainsAllBelow (listed globs c.args.path.now) (length globs)) (sym same)
-    (all_by_found globs g c.args.path.now (group_count g) c.len.result (has_index c.args.found.now) c.push_with.new.into.items c.merge.new.indexes.items are counted
-    (c.requires.same are.tokens are.are_for) c.in_ok-push_with.ensures.pushed c.merge.ensures.order c.merge.ensures.same (omega (arith, c.len.ensures, c.merge.new.indexes.ok.0)))
+    let path = c.args.path.now in
+    let g = group_parts c.self.inside.keys c.self.inside.automata in
+    let groups = subst (λ (p : GroupParts). AreGroupsOf globs p) (sym c.self.view_is) are in
+    let by_automata = subst (λ (p : GroupParts). IsFoundSet p.automata path c.args.marks.now) (sym c.self.view_is) c.requires in
+    let same = ap (λ (p : GroupParts). group_count p) c.self.view_is in
+    let fits : length globs ≤ index_room c.args.marks.now = omega (arith, counted, same, by_automata.room) in
+    let n : length globs ≡ c.index_count.result = omega (arith, counted, same, c.index_count.ensures) in
+    let marked = marked_listed globs g path (index_room c.args.marks.now) (has_index c.args.marks.now) (has_index c.find.new.found) groups fits (by_automata.same groups.tokens groups.are_for) c.find.ensures.found in
+    let all = all_marked globs path c.index_count.result (has_index c.find.new.found) n marked in
+    (λ yes. all.0 (c.are_all_marked.ensures.0 yes), λ every. c.are_all_marked.ensures.1 (all.1 every))

@@ -1,12 +1,13 @@
 use Rattle.std.proofs.Common.{◌≡◌, Some, None, [], ap, sym, subst, arith, ◌∙◌}
 use Rattle.std.specs.Prelude.{get_or, slice_index_or}
 use Rattle.std.specs.Option.{option_map_or}
+use Rattle.byte_automaton.specs.Runs.{size}
 use Rattle.byte_automaton.specs.Steps.{Machine}
 use Rattle.byte_table.specs.Entries.{indexes_under}
 use Rattle.glob_automaton.specs.IndexedTokens.{IsFor}
-use Rattle.group_matching.specs.inner.Automata.{SlotParts, AreFor, first, machine_under, slot_of, tokens_under}
+use Rattle.group_matching.specs.inner.Automata.{SlotParts, AreFor, first, machine_under, most_size, slot_of, tokens_under}
 use Rattle.group_matching.proofs.lemmas.Tables.{first_in, first_none, first_some}
-use Rattle.group_matching.proofs.lemmas.Slots.{any_default, slot_tokens}
+use Rattle.group_matching.proofs.lemmas.Slots.{any_default, most_bounds, slot_tokens}
 use Rattle.group_matching.proofs.automata.slots.Slots.automaton_of.Goals as goal
 
 pub index-requires : goal.index-requires
@@ -48,3 +49,12 @@ returns-in-len1-up-clause-tokens c = λ by_slot are.
     let lt = c.self.invariant.held c.args.extension.now slot (first_in (indexes_under c.self.inside.slots c.args.extension.now) slot at) in
     subst (λ (e : SlotParts). IsFor c.index.result.now (tokens_under by_slot e.slots c.args.extension.now)) c.self.view_is
     (slot_tokens machines by_slot c.self.inside.slots c.args.extension.now slot c.index.result.now (sym at) lt c.index.ensures (subst (λ (e : SlotParts). AreFor e.machines by_slot) (sym c.self.view_is) are))
+
+pub returns-in-len1-up-clause-most : goal.returns-in-len1-up-clause-most
+returns-in-len1-up-clause-most c =
+    let slot = slice_index_or c.get.result.now 0 0 in
+    let machines = c.self.inside.automata.items in
+    let at : slot_of c.self.inside.slots c.args.extension.now ≡ Some slot = ap first (sym c.get.ensures.indexes) ∙ first_some c.get.result.now 0 c.in-len1-up.len_at_least in
+    let lt = c.self.invariant.held c.args.extension.now slot (first_in (indexes_under c.self.inside.slots c.args.extension.now) slot at) in
+    let bound = most_bounds machines slot c.index.result.now lt in
+    omega (arith, bound, ap size c.index.ensures, ap (λ (e : SlotParts). most_size e.machines) c.self.view_is)

@@ -5,12 +5,11 @@ use Rattle.byte_automaton.specs.Runs.{size}
 use Rattle.std.proofs.Math.Logic.{⊎_elim}
 use Rattle.glob_path.specs.PathParts.{last_component, component_extension, last_position, is_separator}
 use Rattle.group_matching.specs.inner.Automata.{AutomataParts, machine_under, tokens_under}
-use Rattle.glob_matching.proofs.lemmas.Compiled.{no_matches}
-use Rattle.group_matching.proofs.lemmas.Automata.{bytes_after, three_runs}
-use Rattle.group_matching.proofs.automata.Automata.found.Goals as goal
+use Rattle.group_matching.proofs.lemmas.Automata.{bytes_after, no_matches, three_runs}
+use Rattle.group_matching.proofs.automata.Automata.find.Goals as goal
 
-pub returns-then-is_idle-clause-found : goal.returns-then-is_idle-clause-found
-returns-then-is_idle-clause-found c =
+pub returns-then-is_idle-clause-idle : goal.returns-then-is_idle-clause-idle
+returns-then-is_idle-clause-idle c = λ off.
     let path = c.args.path.now in
     let nil = c.is_idle.ensures.0 c.if-is_idle.true in
     let same = ap (λ p. size (machine_under c.args.self.now.extensions (component_extension p))) c.from_bytes.ensures in
@@ -26,18 +25,18 @@ returns-then-is_idle-clause-found c =
     }
 
 pub returns-clause-found : goal.returns-clause-found
-returns-clause-found c = record {
+returns-clause-found c = λ on. record {
   size =
       let same = ap (λ p. size (machine_under c.args.self.now.extensions (component_extension p))) c.from_bytes.ensures in
       let last = ap size c.by_extension-by_extension.ensures.automaton in
       let some : (size c.args.self.now.by_path + (size c.args.self.now.by_component + size c.by_extension-by_extension.result.now) ≡ 0) → ⊥ = (λ nil. let on = c.is_idle.ensures.1 nil in let off = c.if-is_idle.false in absurd (cc)) in
       omega (arith, last, same, some);
-  room = omega (arith, c.in_ok-found.ensures.room, c.index_count.ensures, c.in_ok-find.ensures.room, c.in_ok-run_by_component.ensures.room, c.in_ok-find-2.ensures.room);
+  room = omega (arith, c.in_ok-clear_marks.ensures.room, c.index_count.ensures, c.in_ok-find.ensures.room, c.in_ok-run_by_component.ensures.kept.indexes, c.in_ok-find-2.ensures.room);
   same = λ t are k.
       let extension_tokens = tokens_under t.by_slot c.args.self.now.extensions.slots (component_extension c.args.path.now) in
       let one = c.in_ok-find.ensures.found t.by_path (subst (λ (a : AutomataParts). IsFor a.by_path t.by_path) (sym c.self.view_is) are.path) k in
       let two = c.in_ok-run_by_component.ensures.found t.by_component are.component k in
       let are_for = subst (λ p. IsFor c.by_extension-by_extension.result.now (tokens_under t.by_slot c.args.self.now.extensions.slots (component_extension p))) c.from_bytes.ensures (c.by_extension-by_extension.ensures.tokens t.by_slot are.slots) in
       let three = c.in_ok-find-2.ensures.found extension_tokens are_for k in
-      let empty = c.in_ok-found.ensures.none k in three_runs (λ h. absurd (cc)) one two three;
+      let empty = c.in_ok-clear_marks.ensures.none k in three_runs (λ h. absurd (cc)) one two three;
 }

@@ -1,0 +1,17 @@
+use Rattle.std.proofs.Common.{◌≡◌, ◌≤◌, length, ap, sym, subst, arith}
+use Rattle.std.specs.Prelude.{◌↔◌, IsTrue}
+use Rattle.byte_automaton.specs.Sets.{has_index, index_room}
+use Rattle.group_matching.specs.inner.Automata.{AreFound}
+use Rattle.group_matching.specs.inner.Groups.{GroupParts, AreGroupsOf, group_count}
+use Rattle.group_matching.proofs.lemmas.Groups.{group_parts}
+use Rattle.group_matching.proofs.lemmas.Matching.{marked_listed}
+use Rattle.group_matching.proofs.groups.Groups.mark.Goals as goal
+
+pub returns-clause-marked : goal.returns-clause-marked
+returns-clause-marked c = λ globs are counted.
+    let g = group_parts c.self.inside.keys c.self.inside.automata in
+    let groups = subst (λ (p : GroupParts). AreGroupsOf globs p) (sym c.self.view_is) are in
+    let fits : length globs ≤ index_room c.mark.new.sets.marks = omega (arith, counted, ap (λ (p : GroupParts). group_count p) c.self.view_is, c.in_ok-mark.ensures.room) in
+    marked_listed globs g c.args.path.now (index_room c.mark.new.sets.marks) (has_index c.mark.new.sets.marks) (has_index c.find.new.found) groups fits
+    (λ k. subst (λ p. IsTrue (has_index c.mark.new.sets.marks k) ↔ AreFound g.automata.extensions.slots groups.tokens p k) c.path.ensures (c.in_ok-mark.ensures.marked groups.tokens groups.are_for k))
+    c.find.ensures.found
