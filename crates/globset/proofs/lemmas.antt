@@ -1,4 +1,5 @@
 pub mod Answer
+pub mod Scratches
 pub mod Laws
 pub mod SetFromValue
 pub mod SliceItems

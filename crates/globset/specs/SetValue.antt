@@ -1,15 +1,20 @@
--- Sets and builders as contracts see them: as lists of globs.
-use Rattle.std.specs.Prelude.{List}
+-- Sets, builders and scratches as contracts see them: as lists of globs, and as numbers.
+use Rattle.std.specs.Prelude.{ℕ, ◌≤◌, List, length}
 use Rattle.globset_glob.specs.Means.{GlobValue}
 
--- A set is seen as the list of its globs, each a text and options. The first has index 0. Two sets are equal if their
--- lists are.
-abbrev pub SetValue : Type 0
-SetValue = List GlobValue
+-- A set is seen as the list of its globs, each a text and options, and one number: the states of its largest automaton. The
+-- first glob has index 0.
+pub record SetValue : Type 0 where
+  pub globs : List GlobValue
+  pub states : ℕ
 
 -- the globs of a set, in order
 abbrev pub set_globs : SetValue → List GlobValue
-set_globs s = s
+set_globs s = s.globs
+
+-- the states of the largest automaton of a set
+abbrev pub set_states : SetValue → ℕ
+set_states s = s.states
 
 -- A builder is seen as the list of the globs that were added, the first first.
 abbrev pub BuilderValue : Type 0
@@ -18,3 +23,13 @@ BuilderValue = List GlobValue
 -- the globs of a builder, in the order in which they were added
 abbrev pub builder_globs : BuilderValue → List GlobValue
 builder_globs b = b
+
+-- A scratch is seen as two numbers: of the states that an automaton may have, and of the globs that a set may have.
+pub record ScratchValue : Type 0 where
+  pub states : ℕ
+  pub indexes : ℕ
+
+-- The scratch fits the set: neither number is below that of the set.
+pub record Fits (scratch : ScratchValue) (set : SetValue) : Type 0 where
+  pub states : set_states set ≤ scratch.states
+  pub indexes : length (set_globs set) ≤ scratch.indexes

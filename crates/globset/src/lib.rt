@@ -3,7 +3,7 @@
 //! - A [`Glob`] is one parsed pattern: [`Glob::new`] parses it under the default options, and [`GlobBuilder`] under
 //!   others.
 //! - A [`GlobMatcher`] matches one glob against paths.
-//! - A [`GlobSet`] matches many globs against a path at once.
+//! - A [`GlobSet`] matches many globs against a path at once. With a [`Scratch`] it takes no memory for that.
 //! - [`escape`] returns a pattern that matches the given text and nothing else.
 //! - [`Glob::from_value`] and [`GlobSet::from_value`] read JSON values.
 //!
@@ -26,4 +26,4 @@ pub use globset_glob::{
     AsPath, Candidate, Error, ErrorKind, Glob, GlobBuilder, GlobMatcher, ValueError,
     ValueErrorKind, Visits, escape,
 };
-pub use set::GlobSet;
+pub use set::{GlobSet, Scratch};

@@ -5,16 +5,19 @@ ghost use Rattle.std.specs.Borrow.{Bor};
 ghost use Rattle.std.specs.Iterator.{Drains, IsFinite};
 ghost use Rattle.globset_glob.specs.Errors.{out_of_memory};
 ghost use Rattle.globset_glob.specs.Means.{GlobValue};
-ghost use Rattle.globset.specs.SetValue.{set_globs, builder_globs};
+ghost use Rattle.globset.specs.SetValue.{set_globs, set_states, builder_globs};
 
 mod all;
 mod any;
 mod matches;
+mod scratch;
 mod stored;
 mod value;
+mod with;
 
 use crate::builder::GlobSetBuilder;
 use globset_glob::{Error, Glob};
+pub use scratch::Scratch;
 use std::alloc::{AllocError, Global};
 use std::fmt;
 use std::marker::Model;
@@ -22,7 +25,7 @@ use stored::Stored;
 
 /// Globs that are matched against a path together. Each has an index, from 0, in the order in which they were given.
 ///
-/// Contracts see the list of the globs.
+/// Contracts see the list of the globs, and the number of states of the largest automaton that was made for them.
 ///
 /// [`GlobSet::matches`] returns the indexes of the globs that match a path. Silent globs are left out: a glob is silent
 /// if it is case-sensitive and is parsed like `**/..`. It counts in [`GlobSet::len`], so [`GlobSet::matches_all`] is
@@ -46,11 +49,11 @@ impl Drop for GlobSet {
 
 impl Model for GlobSet {
     ghost use Rattle.globset.specs.SetValue.{SetValue};
-    ghost use Rattle.globset.specs.inner.StoredGlobs.{stored_globs};
+    ghost use Rattle.globset.specs.inner.StoredGlobs.{stored_set};
 
     ghost Value = { SetValue };
 
-    ghost view = { λ s. stored_globs s.stored };
+    ghost view = { λ s. stored_set s.stored };
 }
 
 impl GlobSet {
@@ -83,6 +86,16 @@ impl GlobSet {
     {
         match &self.stored {
             Some(stored) => stored.len(),
+            None => 0,
+        }
+    }
+
+    /// Returns the number of states of the largest automaton.
+    fn most_states(&self) -> usize
+        ensures { result ≡ set_states self.now }
+    {
+        match &self.stored {
+            Some(stored) => stored.most_states(),
             None => 0,
         }
     }
@@ -120,7 +133,7 @@ impl GlobSet {
         ensures err { IfErr result (λ e. e ≡ out_of_memory) }
     {
         let Some(stored) = &self.stored else {
-            return Ok(GlobSet::empty());
+            return Ok(GlobSet { stored: None });
         };
         Ok(GlobSet {
             stored: Some(stored.clone()?),

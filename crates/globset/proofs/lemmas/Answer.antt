@@ -15,7 +15,11 @@ use Rattle.group_matching.specs.Indexes.{passes_at}
 use Rattle.globset.specs.Silent.{silent, is_listed}
 use Rattle.globset.specs.Answer.{answer}
 use Rattle.globset.specs.Work.{load, most_set_visits}
-use Rattle.globset.specs.inner.StoredGlobs.{by_tokens}
+use Rattle.group_matching.specs.declared.matching_sets.MatchingSets.{MatchingSets}
+use Rattle.group_matching.specs.inner.Groups.{GroupParts, group_count, group_states}
+use Rattle.group_matching.specs.inner.Room.{HasRoom}
+use Rattle.globset.specs.SetValue.{SetValue, set_globs, set_states}
+use Rattle.globset.specs.inner.StoredGlobs.{AreStored, by_tokens, set_value}
 
 -- ---- globs by their tokens
 
@@ -69,3 +73,23 @@ size_push globs g path few before =
 -- the visits of groups, within those of the set
 pub visits_within : (globs : List GlobValue) (path : List ℕ) → tokens.load (map by_tokens globs) path ≤ load globs path → most_visits (map by_tokens globs) path ≤ most_set_visits globs path
 visits_within globs path size = let most = mul-le-mul_left (length path + 1) size in omega (arith, most)
+
+-- ---- what is stored
+
+-- the visits of groups, within those of the set
+pub visits_stored : (globs : List GlobValue) (g : GroupParts) (set : SetValue) (path : List ℕ) (old new : ℕ) → AreStored globs g → globs ≡ set_globs set → new ≤ old + most_visits (map by_tokens globs) path
+    → new ≤ old + most_set_visits (set_globs set) path
+visits_stored globs g set path old new are is few = let within = visits_within globs path (are.size path) in let same = ap (λ (gs : List GlobValue). most_set_visits gs path) is in omega (arith, within, few, same)
+
+-- no glob needs an automaton
+pub no_load : (globs : List GlobValue) (g : GroupParts) (set : SetValue) (path : List ℕ) → AreStored globs g → globs ≡ set_globs set → load (set_globs set) path ≡ 0 → tokens.load (map by_tokens globs) path ≡ 0
+no_load globs g set path are is none = let few = are.size path in let same = ap (λ (gs : List GlobValue). load gs path) is in omega (arith, few, same, none)
+
+-- room for the set is room for the groups
+pub room_stored : (globs : List GlobValue) (g : GroupParts) (set : SetValue) (sets : MatchingSets) → AreStored globs g → set_value globs (group_states g) ≡ set → HasRoom sets (set_states set) (length (set_globs set)) → HasRoom sets (group_states g) (group_count g)
+room_stored globs g set sets are is room =
+    let of_states = ap set_states is in
+    let of_globs = ap (λ (s : SetValue). length (set_globs s)) is in record {
+      for_states = omega (arith, room.for_states, of_states);
+      for_indexes = omega (arith, room.for_indexes, of_globs, are.count);
+    }

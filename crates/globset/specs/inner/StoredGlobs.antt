@@ -1,15 +1,19 @@
--- The globs of a set, by what the set stores. No contract cites this: contracts see a set as its list of globs.
+-- The value of a set, by what the set stores. No contract cites this.
 use Rattle.std.specs.Prelude.{◌≡◌, ◌≤◌, ℕ, List, [], Option, None, Some, length, map}
 use Rattle.globset_glob.specs.Means.{GlobValue, tokens_of_glob}
 use Rattle.group_matching.specs.Globs as tokens
 use Rattle.group_matching.specs.Globs.{TokenGlob, token_glob}
+use Rattle.globset.specs.SetValue.{SetValue}
 use Rattle.globset.specs.Work.{load}
 use Rattle.group_matching.specs.inner.Groups.{GroupParts, AreGroupsOf, group_count}
 
--- None where nothing is stored, as in `GlobSet::empty`, and otherwise the globs that are stored
-abbrev pub stored_globs : Option (List GlobValue) → List GlobValue
-stored_globs None = []
-stored_globs (Some globs) = globs
+abbrev pub set_value : List GlobValue → ℕ → SetValue
+set_value globs states = record { globs = globs; states = states }
+
+-- no globs and no states where nothing is stored, as in `GlobSet::empty`, and otherwise what is stored
+abbrev pub stored_set : Option SetValue → SetValue
+stored_set None = set_value [] 0
+stored_set (Some set) = set
 
 -- the glob by its tokens
 abbrev pub by_tokens : GlobValue → TokenGlob

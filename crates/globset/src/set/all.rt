@@ -46,8 +46,7 @@ impl GlobSet {
     /// It adds at most `4 + 2 * (path bytes + 1)`, and `path bytes + 1` times `4 * glob bytes + 4` for each glob that needs an
     /// automaton for the path, also if memory runs out; and none if the set has no globs. It looks up the path and its parts in
     /// four tables and two tries, and runs at most three automata, each once. If one of these has states, the call takes a bit of
-    /// memory for each glob, a vector for the indexes that are found, and two bits for each state of a part that is
-    /// simulated.
+    /// memory for each glob, and two for each state of a part that is simulated.
     ///
     /// Returns an error if memory runs out, and no other. It needs no memory if no glob needs an automaton for the path: if
     /// each of them is direct, or requires an extension that the path lacks.
@@ -70,6 +69,6 @@ impl GlobSet {
         let Some(stored) = &self.stored else {
             return Ok(true);
         };
-        stored.matches_all(path, visits)
+        stored.matches_all(path, &mut stored.new_sets(), visits)
     }
 }

@@ -64,6 +64,6 @@ impl GlobSet {
         let Some(stored) = &self.stored else {
             return Ok(false);
         };
-        stored.is_match(path, visits)
+        stored.is_match(path, &mut stored.new_sets(), visits)
     }
 }

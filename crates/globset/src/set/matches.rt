@@ -73,8 +73,8 @@ impl GlobSet {
     ///
     /// It adds at most `4 + 2 * (path bytes + 1)`, and `path bytes + 1` times `4 * glob bytes + 4` for each glob that needs an
     /// automaton for the path, also if memory runs out; and none if the set has no globs. It looks up the path and its parts in
-    /// four tables and two tries, and runs at most three automata, each once. If one of these has states, the call takes a bit of
-    /// memory for each glob, and two bits for each state of a part that is simulated. The vector grows for the indexes.
+    /// four tables and two tries, and runs at most three automata, each once. The call takes a bit of memory for each glob, and two for
+    /// each state of a part that is simulated. The vector grows for the indexes.
     ///
     /// Returns an error if memory runs out, and no other; the vector is then empty. It needs no memory if the set has no globs.
     pub fn matches_visits(
@@ -97,6 +97,6 @@ impl GlobSet {
         let Some(stored) = &self.stored else {
             return Ok(());
         };
-        stored.find(path, into, visits)
+        stored.find(path, &mut stored.new_sets(), into, visits)
     }
 }

@@ -1,14 +1,16 @@
 //! What a set stores.
 
-ghost use Rattle.std.specs.Prelude.{◌≡◌, ◌≢◌, ◌↔◌, [], ℕ, ◌+◌, ◌≤◌, IfOk, IfErr, IsOk, OnOk, OnErr, IsTrue, length};
+ghost use Rattle.std.specs.Prelude.{◌≡◌, ◌≢◌, ◌↔◌, [], ℕ, ◌+◌, ◌≤◌, IfOk, IfErr, IsOk, OnOk, OnErr, IsTrue, length, vec_capacity};
 ghost use Rattle.globset_glob.specs.Errors.{out_of_memory};
 ghost use Rattle.globset.specs.Answer.{answer};
+ghost use Rattle.globset.specs.SetValue.{set_globs, set_states};
 ghost use Rattle.globset.specs.Work.{load, most_set_visits};
 ghost use Rattle.globset.specs.inner.StoredGlobs.{AreStored};
 ghost use Rattle.group_matching.specs.Indexes.{ContainsAllBelow};
+ghost use Rattle.group_matching.specs.inner.Room.{HasRoom, KeepsRoom};
 
 use globset_glob::{Candidate, Error, Glob, Visits, options_of, tokens_of};
-use group_matching::{Groups, GroupsBuilder};
+use group_matching::{Groups, GroupsBuilder, MatchingSets};
 use std::alloc::{AllocError, Global};
 use std::fmt;
 use std::marker::Model;
@@ -30,13 +32,16 @@ impl Drop for Stored {
 }
 
 impl Model for Stored {
-    ghost use Rattle.std.specs.Prelude.{List};
-    ghost use Rattle.globset_glob.specs.Means.{GlobValue};
+    ghost use Rattle.globset.specs.SetValue.{SetValue};
     ghost use Rattle.globset.specs.inner.StoredGlobs.{AreStored};
+    ghost use Rattle.group_matching.specs.inner.Groups.{group_states};
 
-    ghost Value = { List GlobValue };
+    ghost Value = { SetValue };
 
-    ghost view = { λ s. s.globs.items };
+    ghost view = { λ s. record {
+      globs = s.globs.items;
+      states = group_states s.groups;
+    } };
 
     ghost invariant = { λ s. AreStored s.globs.items s.groups };
 }
@@ -44,7 +49,7 @@ impl Model for Stored {
 impl Stored {
     /// Puts each of these globs into its group. Returns an error if memory runs out, and no other.
     pub fn new(globs: Vec<Glob>) -> Result<Stored, Error>
-        ensures ok { IfOk result (λ s. s ≡ globs.items) }
+        ensures ok { IfOk result (λ s. set_globs s ≡ globs.items) }
         ensures err { IfErr result (λ e. e ≡ out_of_memory) }
     {
         let groups = groups_of(*globs.allocator(), &globs)?;
@@ -53,9 +58,21 @@ impl Stored {
 
     /// Returns the number of globs.
     pub fn len(&self) -> usize
-        ensures { result ≡ length self.now }
+        ensures { result ≡ length (set_globs self.now) }
     {
         self.globs.len()
+    }
+
+    /// Returns the number of states of the largest automaton.
+    pub fn most_states(&self) -> usize
+        ensures { result ≡ set_states self.now }
+    {
+        self.groups.most_states()
+    }
+
+    /// Returns sets without room, to match with. It allocates nothing.
+    pub fn new_sets(&self) -> MatchingSets {
+        MatchingSets::new(*self.globs.allocator())
     }
 
     /// Replaces the vector's items by the indexes, ascending, of the globs that are not silent and match the path.
@@ -64,43 +81,57 @@ impl Stored {
     pub fn find(
         &self,
         path: &Candidate<'_>,
+        sets: &mut MatchingSets,
         into: &mut Vec<usize>,
         visits: &mut Visits,
     ) -> Result<(), Error>
-        ensures ok { OnOk result (into.new.items ≡ answer self.now path.now) }
+        ensures ok { OnOk result (into.new.items ≡ answer (set_globs self.now) path.now) }
         ensures err { IfErr result (λ e. e ≡ out_of_memory) }
         ensures cleared { OnErr result (into.new.items ≡ []) }
-        ensures visits { visits.new ≤ visits.old + most_set_visits self.now path.now }
+        ensures kept { KeepsRoom sets.old sets.new }
+        ensures room { HasRoom sets.old (set_states self.now) (length (set_globs self.now)) → length (set_globs self.now) ≤ vec_capacity into.old → IsOk result }
+        ensures visits { visits.new ≤ visits.old + most_set_visits (set_globs self.now) path.now }
     {
-        let alloc = *self.globs.allocator();
-        self.groups.find(alloc, path, into, visits)?;
+        self.groups.find(path, sets, into, visits)?;
         Ok(())
     }
 
     /// Returns whether some glob that is not silent matches the path.
     ///
     /// Returns an error if memory runs out, and no other.
-    pub fn is_match(&self, path: &Candidate<'_>, visits: &mut Visits) -> Result<bool, Error>
-        ensures ok { IfOk result (λ yes. IsTrue yes ↔ (answer self.now path.now ≢ [])) }
+    pub fn is_match(
+        &self,
+        path: &Candidate<'_>,
+        sets: &mut MatchingSets,
+        visits: &mut Visits,
+    ) -> Result<bool, Error>
+        ensures ok { IfOk result (λ yes. IsTrue yes ↔ (answer (set_globs self.now) path.now ≢ [])) }
         ensures err { IfErr result (λ e. e ≡ out_of_memory) }
-        ensures memory { load self.now path.now ≡ 0 → IsOk result }
-        ensures visits { visits.new ≤ visits.old + most_set_visits self.now path.now }
+        ensures kept { KeepsRoom sets.old sets.new }
+        ensures room { HasRoom sets.old (set_states self.now) (length (set_globs self.now)) → IsOk result }
+        ensures memory { load (set_globs self.now) path.now ≡ 0 → IsOk result }
+        ensures visits { visits.new ≤ visits.old + most_set_visits (set_globs self.now) path.now }
     {
-        let alloc = *self.globs.allocator();
-        Ok(self.groups.is_match(alloc, path, visits)?)
+        Ok(self.groups.is_match(path, sets, visits)?)
     }
 
     /// Returns whether every glob matches the path and none is silent.
     ///
     /// Returns an error if memory runs out, and no other.
-    pub fn matches_all(&self, path: &Candidate<'_>, visits: &mut Visits) -> Result<bool, Error>
-        ensures ok { IfOk result (λ yes. IsTrue yes ↔ ContainsAllBelow (answer self.now path.now) (length self.now)) }
+    pub fn matches_all(
+        &self,
+        path: &Candidate<'_>,
+        sets: &mut MatchingSets,
+        visits: &mut Visits,
+    ) -> Result<bool, Error>
+        ensures ok { IfOk result (λ yes. IsTrue yes ↔ ContainsAllBelow (answer (set_globs self.now) path.now) (length (set_globs self.now))) }
         ensures err { IfErr result (λ e. e ≡ out_of_memory) }
-        ensures memory { load self.now path.now ≡ 0 → IsOk result }
-        ensures visits { visits.new ≤ visits.old + most_set_visits self.now path.now }
+        ensures kept { KeepsRoom sets.old sets.new }
+        ensures room { HasRoom sets.old (set_states self.now) (length (set_globs self.now)) → IsOk result }
+        ensures memory { load (set_globs self.now) path.now ≡ 0 → IsOk result }
+        ensures visits { visits.new ≤ visits.old + most_set_visits (set_globs self.now) path.now }
     {
-        let alloc = *self.globs.allocator();
-        Ok(self.groups.matches_all(alloc, path, visits)?)
+        Ok(self.groups.matches_all(path, sets, visits)?)
     }
 
     /// Returns an equal value, with memory of its own. Returns an error if memory runs out, and no other.

@@ -1,0 +1,97 @@
+//! The calls on a set that take no memory, with a scratch that fits it.
+
+ghost use Rattle.std.specs.Prelude.{◌≡◌, ◌≢◌, ◌+◌, ◌≤◌, ◌↔◌, [], IfErr, IsOk, OnOk, OnErr, IsTrue, length, vec_capacity};
+ghost use Rattle.globset_glob.specs.Errors.{out_of_memory};
+ghost use Rattle.globset.specs.Answer.{answer};
+ghost use Rattle.group_matching.specs.Indexes.{ContainsAllBelow};
+ghost use Rattle.globset.specs.SetValue.{Fits, set_globs};
+ghost use Rattle.globset.specs.Work.{most_set_visits};
+
+use crate::set::{GlobSet, Scratch};
+use globset_glob::{Candidate, Error, Visits};
+
+impl GlobSet {
+    /// The same as [`GlobSet::is_match_visits`], with a scratch: it takes no memory, and cannot fail.
+    ///
+    /// The scratch has to fit the set. It then fits each set that it fitted before. The call adds no more visits than
+    /// [`GlobSet::is_match_visits`] may.
+    pub fn is_match_with(
+        &self,
+        path: &Candidate<'_>,
+        scratch: &mut Scratch,
+        visits: &mut Visits,
+    ) -> bool
+        requires { Fits scratch.old self.now }
+        ensures some { IsTrue result ↔ (answer (set_globs self.now) path.now ≢ []) }
+        ensures kept { scratch.new ≡ scratch.old }
+        ensures visits { visits.new ≤ visits.old + most_set_visits (set_globs self.now) path.now }
+        ensures none { set_globs self.now ≡ [] → visits.new ≡ visits.old }
+    {
+        if self.is_empty() {
+            return false;
+        }
+        let Some(stored) = &self.stored else {
+            return false;
+        };
+        stored.is_match(path, &mut scratch.sets, visits).unwrap()
+    }
+
+    /// The same as [`GlobSet::matches_all_visits`], with a scratch: it takes no memory, and cannot fail.
+    ///
+    /// The scratch has to fit the set. It then fits each set that it fitted before. The call adds no more visits than
+    /// [`GlobSet::matches_all_visits`] may.
+    pub fn matches_all_with(
+        &self,
+        path: &Candidate<'_>,
+        scratch: &mut Scratch,
+        visits: &mut Visits,
+    ) -> bool
+        requires { Fits scratch.old self.now }
+        ensures all { IsTrue result
+            ↔ ContainsAllBelow (answer (set_globs self.now) path.now) (length (set_globs self.now)) }
+        ensures kept { scratch.new ≡ scratch.old }
+        ensures visits { visits.new ≤ visits.old + most_set_visits (set_globs self.now) path.now }
+        ensures none { set_globs self.now ≡ [] → visits.new ≡ visits.old }
+    {
+        if self.is_empty() {
+            return true;
+        }
+        let Some(stored) = &self.stored else {
+            return true;
+        };
+        stored.matches_all(path, &mut scratch.sets, visits).unwrap()
+    }
+
+    /// The same as [`GlobSet::matches_visits`], with a scratch: only the vector may take memory.
+    ///
+    /// The scratch has to fit the set. It then fits each set that it fitted before, after an error too. The call adds no more visits
+    /// than [`GlobSet::matches_visits`] may.
+    ///
+    /// Returns an error if memory runs out, and no other; the vector is then empty. It needs no memory if the vector has a capacity
+    /// of [`GlobSet::len`].
+    pub fn matches_into_with(
+        &self,
+        path: &Candidate<'_>,
+        scratch: &mut Scratch,
+        into: &mut Vec<usize>,
+        visits: &mut Visits,
+    ) -> Result<(), Error>
+        requires { Fits scratch.old self.now }
+        ensures ok { OnOk result (into.new.items ≡ answer (set_globs self.now) path.now) }
+        ensures err { IfErr result (λ e. e ≡ out_of_memory) }
+        ensures memory { length (set_globs self.now) ≤ vec_capacity into.old → IsOk result }
+        ensures cleared { OnErr result (into.new.items ≡ []) }
+        ensures kept { scratch.new ≡ scratch.old }
+        ensures visits { visits.new ≤ visits.old + most_set_visits (set_globs self.now) path.now }
+        ensures none { set_globs self.now ≡ [] → visits.new ≡ visits.old }
+    {
+        into.clear();
+        if self.is_empty() {
+            return Ok(());
+        }
+        let Some(stored) = &self.stored else {
+            return Ok(());
+        };
+        stored.find(path, &mut scratch.sets, into, visits)
+    }
+}
