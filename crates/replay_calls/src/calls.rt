@@ -8,6 +8,7 @@ mod errors;
 mod globs;
 mod kinds;
 mod matchers;
+mod scratches;
 mod set_builders;
 mod sets;
 mod value_errors;
@@ -52,6 +53,7 @@ fn shown(
         "ErrorKind" => kinds::kind(alloc, call, with),
         "ValueError" => value_errors::value_error(alloc, call, with),
         "GlobSet" => sets::set(alloc, call, globs, set, with),
+        "Scratch" => scratches::scratch(alloc, call, set, with),
         "GlobSetBuilder" => set_builders::builder(alloc, call, globs),
         _ => unknown(),
     }

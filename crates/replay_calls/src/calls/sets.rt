@@ -56,7 +56,7 @@ fn matches_candidate(alloc: Global, set: &GlobSet, path: &str) -> Result<String>
     listed(alloc, &set.matches_candidate(alloc, &Candidate::new(path))?)
 }
 
-fn listed(alloc: Global, indexes: &[usize]) -> Result<String> {
+pub fn listed(alloc: Global, indexes: &[usize]) -> Result<String> {
     Ok(list(alloc, indexes)?)
 }
 
