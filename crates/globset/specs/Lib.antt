@@ -16,6 +16,8 @@ pub use Rattle.globset_glob.specs.Stars
 pub use Rattle.globset_glob.specs.Reading
 pub use Rattle.globset_glob.specs.Blank
 pub use Rattle.globset_glob.specs.ClassBytes
+pub use Rattle.globset_glob.specs.StatesPerByte
+pub use Rattle.globset_glob.specs.Characters
 pub use Rattle.globset_glob.specs.Takes
 pub use Rattle.globset_glob.specs.TokenMeans
 pub use Rattle.globset_glob.specs.Means

@@ -16,8 +16,10 @@ pub use Rattle.glob_syntax.specs.Stars
 pub use Rattle.glob_syntax.specs.Reading
 pub use Rattle.glob_syntax.specs.FlatTokens
 pub use Rattle.glob_syntax.specs.ClassBytes
+pub use Rattle.glob_syntax.specs.StatesPerByte
 pub use Rattle.glob_syntax.specs.Views
 pub use Rattle.glob_path.specs.PathParts
 pub use Rattle.glob_automaton.specs.Blank
+pub use Rattle.glob_automaton.specs.Characters
 pub use Rattle.glob_automaton.specs.Takes
 pub use Rattle.glob_automaton.specs.TokenMeans
