@@ -11,7 +11,7 @@ mod writing;
 
 use fault::SiftFault;
 use globset::GlobSet;
-use output::Output;
+use output::{Output, scratch_for};
 use std::alloc::{AllocError, Global};
 use std::io::{Read, Write};
 use writing::write_pending;
@@ -36,8 +36,8 @@ fn zeros(alloc: Global, count: usize) -> Result<Vec<u8>, AllocError>
 /// and a tab.
 ///
 /// On success all output was written and the writer was flushed. It needs memory for what is read at once (64 KiB), pending
-/// output (64 KiB and that of one line), the beginning of a line whose end was not read yet, the indexes of one line, and what
-/// [`GlobSet::is_match_candidate`] or [`GlobSet::matches_candidate_into`] takes.
+/// output (64 KiB and that of one line), the beginning of a line whose end was not read yet, the indexes of the set's globs, and
+/// a [`Scratch`](globset::Scratch) for the set. To match a line it takes no more.
 ///
 /// # Errors
 ///
@@ -64,7 +64,8 @@ pub fn sift<R: Read, W: Write>(
     let mut rest = Vec::new(alloc);
     let mut output = Output {
         pending: Vec::with_capacity(alloc, ROOM)?,
-        indexes: Vec::new(alloc),
+        scratch: scratch_for(alloc, set)?,
+        indexes: Vec::with_capacity(alloc, set.len())?,
         any_written: false,
     };
     for _ in 0..u64::MAX {

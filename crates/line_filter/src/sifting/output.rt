@@ -4,7 +4,7 @@ ghost use Rattle.std.specs.Prelude.{◌≡◌, [], ◌++◌, ◌||◌, true, fal
 ghost use Rattle.std.specs.List.{list_any};
 ghost use Rattle.std.specs.Io.KnownBytes.{Appends};
 ghost use Rattle.globset.specs.Answer.{answer};
-ghost use Rattle.globset.specs.SetValue.{set_globs};
+ghost use Rattle.globset.specs.SetValue.{Fits, set_globs};
 ghost use Rattle.line_filter.specs.Lines.{is_lf};
 ghost use Rattle.line_filter.specs.Output.{has_match, index_column, is_matched, line_output, sifted};
 ghost use Rattle.line_filter.specs.inner.Sifting.{FailsMidway, Handles, WritesAllBut};
@@ -12,9 +12,9 @@ ghost use Rattle.line_filter.specs.inner.Sifting.{FailsMidway, Handles, WritesAl
 use super::fault::SiftFault;
 use super::index_text::push_index_text;
 use super::writing::write_pending;
-use globset::{Candidate, GlobSet};
+use globset::{Candidate, GlobSet, Scratch, Visits};
 use memchr::memchr;
-use std::alloc::AllocError;
+use std::alloc::{AllocError, Global};
 use std::io::Write;
 
 /// The pending output is written once it has at least this many bytes.
@@ -25,6 +25,8 @@ const FULL: usize = 65536;
 pub struct Output {
     /// Output that was not written yet.
     pub pending: Vec<u8>,
+    /// What the set is matched with, which it fits.
+    pub scratch: Scratch,
     /// The indexes of the last line in numbered form. Its content has no meaning between calls.
     pub indexes: Vec<usize>,
     /// Whether some line is output, be it written or pending.
@@ -39,19 +41,19 @@ impl Output {
         numbered: bool,
         line: &[u8],
     ) -> Result<bool, AllocError>
-        ensures { IfOk result (λ yes. (yes ≡ is_matched (set_globs set.now) line.now)
+        requires fits { Fits self.old.scratch set.now }
+        ensures done { IfOk result (λ yes. (yes ≡ is_matched (set_globs set.now) line.now)
             × (self.new.any_written ≡ self.old.any_written)
             × (yes ≡ true → self.new.pending.items
             ≡ self.old.pending.items ++ index_column numbered (answer (set_globs set.now) line.now))
             × (yes ≡ false → self.new.pending.items ≡ self.old.pending.items)) }
+        ensures fits { Fits self.new.scratch set.now }
     {
         let path = Candidate::from_bytes(line);
         if !numbered {
-            return is_matched(set, &path);
+            return Ok(is_matched(set, &path, &mut self.scratch));
         }
-        let Ok(()) = set.matches_candidate_into(&path, &mut self.indexes) else {
-            return Err(AllocError);
-        };
+        find(set, &path, &mut self.scratch, &mut self.indexes)?;
         if self.indexes.is_empty() {
             return Ok(false);
         }
@@ -66,8 +68,10 @@ impl Output {
         numbered: bool,
         line: &[u8],
     ) -> Result<(), AllocError>
-        ensures { OnOk result ((self.new.pending.items ≡ self.old.pending.items ++ line_output (set_globs set.now) numbered line.now)
+        requires fits { Fits self.old.scratch set.now }
+        ensures done { OnOk result ((self.new.pending.items ≡ self.old.pending.items ++ line_output (set_globs set.now) numbered line.now)
             × (self.new.any_written ≡ (self.old.any_written || is_matched (set_globs set.now) line.now))) }
+        ensures fits { Fits self.new.scratch set.now }
     {
         if !self.push_index_column(set, numbered, line)? {
             return Ok(());
@@ -86,12 +90,14 @@ impl Output {
         line: &[u8],
         writer: &mut W,
     ) -> Result<(), SiftFault>
-        ensures { MatchResult result
+        requires fits { Fits self.old.scratch set.now }
+        ensures done { MatchResult result
             (λ _. WritesAllBut (W.contents writer.old) (W.contents writer.new)
             self.new.pending.items (self.old.pending.items ++ line_output (set_globs set.now) numbered line.now)
             × (self.new.any_written ≡ (self.old.any_written || is_matched (set_globs set.now) line.now)))
             (FailsMidway (W.contents writer.old) (W.contents writer.new)
             (self.old.pending.items ++ line_output (set_globs set.now) numbered line.now)) }
+        ensures fits { Fits self.new.scratch set.now }
     {
         self.push_line_output(set, numbered, line)?;
         if self.pending.len() >= FULL {
@@ -108,12 +114,14 @@ impl Output {
         bytes: &'a [u8],
         writer: &mut W,
     ) -> Result<&'a [u8], SiftFault>
-        ensures { MatchResult result
+        requires fits { Fits self.old.scratch set.now }
+        ensures done { MatchResult result
             (λ rest. Handles (set_globs set.now) numbered bytes.now rest.now
             (W.contents writer.old) (W.contents writer.new)
             self.old.pending.items self.new.pending.items self.old.any_written self.new.any_written)
             (FailsMidway (W.contents writer.old) (W.contents writer.new)
             (self.old.pending.items ++ sifted (set_globs set.now) numbered bytes.now)) }
+        ensures fits { Fits self.new.scratch set.now }
     {
         let mut rest = bytes;
         while let Some(i) = memchr(b'\n', rest) {
@@ -132,13 +140,15 @@ impl Output {
         bytes: &[u8],
         writer: &mut W,
     ) -> Result<(), SiftFault>
-        requires { rest.old.items ≡ [] }
-        ensures { MatchResult result
+        requires fits { Fits self.old.scratch set.now }
+        requires empty { rest.old.items ≡ [] }
+        ensures done { MatchResult result
             (λ _. Handles (set_globs set.now) numbered bytes.now rest.new.items
             (W.contents writer.old) (W.contents writer.new)
             self.old.pending.items self.new.pending.items self.old.any_written self.new.any_written)
             (FailsMidway (W.contents writer.old) (W.contents writer.new)
             (self.old.pending.items ++ sifted (set_globs set.now) numbered bytes.now)) }
+        ensures fits { Fits self.new.scratch set.now }
     {
         let tail = self.handle_lines(set, numbered, bytes, writer)?;
         rest.extend_from_slice(tail)?;
@@ -155,13 +165,15 @@ impl Output {
         chunk: &[u8],
         writer: &mut W,
     ) -> Result<(), SiftFault>
-        requires { list_any is_lf rest.old.items ≡ false }
-        ensures { MatchResult result
+        requires fits { Fits self.old.scratch set.now }
+        requires no_lf { list_any is_lf rest.old.items ≡ false }
+        ensures done { MatchResult result
             (λ _. Handles (set_globs set.now) numbered (rest.old.items ++ chunk.now) rest.new.items
             (W.contents writer.old) (W.contents writer.new)
             self.old.pending.items self.new.pending.items self.old.any_written self.new.any_written)
             (FailsMidway (W.contents writer.old) (W.contents writer.new)
             (self.old.pending.items ++ sifted (set_globs set.now) numbered (rest.old.items ++ chunk.now))) }
+        ensures fits { Fits self.new.scratch set.now }
     {
         if rest.is_empty() {
             return self.handle_lines_and_keep_rest(set, numbered, rest, chunk, writer);
@@ -184,13 +196,15 @@ impl Output {
         rest: &[u8],
         writer: &mut W,
     ) -> Result<(), SiftFault>
-        requires { list_any is_lf rest.now ≡ false }
-        ensures { MatchResult result
+        requires fits { Fits self.old.scratch set.now }
+        requires no_lf { list_any is_lf rest.now ≡ false }
+        ensures done { MatchResult result
             (λ _. WritesAllBut (W.contents writer.old) (W.contents writer.new)
             self.new.pending.items (self.old.pending.items ++ sifted (set_globs set.now) numbered rest.now)
             × (self.new.any_written ≡ (self.old.any_written || has_match (set_globs set.now) rest.now)))
             (FailsMidway (W.contents writer.old) (W.contents writer.new)
             (self.old.pending.items ++ sifted (set_globs set.now) numbered rest.now)) }
+        ensures fits { Fits self.new.scratch set.now }
     {
         if rest.is_empty() {
             return Ok(());
@@ -207,13 +221,15 @@ impl Output {
         rest: &[u8],
         writer: &mut W,
     ) -> Result<bool, SiftFault>
-        requires { list_any is_lf rest.now ≡ false }
-        ensures { MatchResult result
+        requires fits { Fits self.old.scratch set.now }
+        requires no_lf { list_any is_lf rest.now ≡ false }
+        ensures done { MatchResult result
             (λ any. Appends (W.contents writer.old) (W.contents writer.new)
             (self.old.pending.items ++ sifted (set_globs set.now) numbered rest.now)
             × (any ≡ (self.old.any_written || has_match (set_globs set.now) rest.now)))
             (FailsMidway (W.contents writer.old) (W.contents writer.new)
             (self.old.pending.items ++ sifted (set_globs set.now) numbered rest.now)) }
+        ensures fits { Fits self.new.scratch set.now }
     {
         self.handle_rest(set, numbered, rest, writer)?;
         write_pending(&mut self.pending, writer)?;
@@ -225,11 +241,37 @@ impl Output {
 }
 
 /// Returns whether the set matches a path.
-fn is_matched(set: &GlobSet, path: &Candidate<'_>) -> Result<bool, AllocError>
-    ensures { IfOk result (λ yes. yes ≡ is_matched (set_globs set.now) path.now) }
+fn is_matched(set: &GlobSet, path: &Candidate<'_>, scratch: &mut Scratch) -> bool
+    requires { Fits scratch.old set.now }
+    ensures matched { result ≡ is_matched (set_globs set.now) path.now }
+    ensures fits { Fits scratch.new set.now }
 {
-    match set.is_match_candidate(path) {
-        Ok(yes) => Ok(yes),
+    set.is_match_with(path, scratch, &mut Visits::new())
+}
+
+/// Replaces the vector's items by the indexes that the set returns for a path. Returns an error if memory runs out.
+fn find(
+    set: &GlobSet,
+    path: &Candidate<'_>,
+    scratch: &mut Scratch,
+    into: &mut Vec<usize>,
+) -> Result<(), AllocError>
+    requires { Fits scratch.old set.now }
+    ensures found { OnOk result (into.new.items ≡ answer (set_globs set.now) path.now) }
+    ensures fits { Fits scratch.new set.now }
+{
+    match set.matches_into_with(path, scratch, into, &mut Visits::new()) {
+        Ok(()) => Ok(()),
+        Err(_) => Err(AllocError),
+    }
+}
+
+/// Returns a scratch that fits the set. Returns an error if memory runs out.
+pub fn scratch_for(alloc: Global, set: &GlobSet) -> Result<Scratch, AllocError>
+    ensures { IfOk result (λ scratch. Fits scratch set.now) }
+{
+    match Scratch::new(alloc, set) {
+        Ok(scratch) => Ok(scratch),
         Err(_) => Err(AllocError),
     }
 }

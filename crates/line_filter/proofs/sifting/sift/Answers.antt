@@ -2,6 +2,7 @@ use Rattle.std.proofs.Common.{[], ◌++◌, ◌≡◌, ◌<◌, ◌∙◌, refl,
 use Rattle.std.specs.List.{list_any}
 use Rattle.std.proofs.lemmas.Result.{err_from_is_err_and}
 use Rattle.std.proofs.KnownBytes.{Consumes-nil, Consumes-trans, Consumes-kept}
+use Rattle.globset.specs.SetValue.{set_globs}
 use Rattle.line_filter.specs.Lines.{is_lf}
 use Rattle.line_filter.proofs.lemmas.Sifting.{Stops-fails, Stops-start, end_result, Consumes-is, read_back}
 use Rattle.line_filter.proofs.lemmas.Handling.{Handles-pending_fails, Handles-drained, Handles-trans, Handles-fails, Handles-begin}
@@ -10,15 +11,20 @@ use Rattle.line_filter.proofs.sifting.sift.Goals as goal
 pub returns-in_err-chunk : goal.returns-in_err-chunk
 returns-in_err-chunk g c =
     let p = err_from_is_err_and c.from_residual.result c.from_residual.ensures.1 in
-    rw p.1 (Stops-start c.args.set.now c.args.numbered (g.R.Read.remaining c.args.reader.now) (g.W.Write.contents c.args.writer.now) p.0 p.2)
+    rw p.1 (Stops-start (set_globs c.args.set.now) c.args.numbered (g.R.Read.remaining c.args.reader.now) (g.W.Write.contents c.args.writer.now) p.0 p.2)
 
 pub returns-in_err-with_capacity : goal.returns-in_err-with_capacity
 returns-in_err-with_capacity g c =
     let p = err_from_is_err_and c.from_residual-in_err-with_capacity.result c.from_residual-in_err-with_capacity.ensures.1 in
-    rw p.1 (Stops-start c.args.set.now c.args.numbered (g.R.Read.remaining c.args.reader.now) (g.W.Write.contents c.args.writer.now) p.0 p.2)
+    rw p.1 (Stops-start (set_globs c.args.set.now) c.args.numbered (g.R.Read.remaining c.args.reader.now) (g.W.Write.contents c.args.writer.now) p.0 p.2)
+
+pub returns-in_err-with_capacity-2 : goal.returns-in_err-with_capacity-2
+returns-in_err-with_capacity-2 g c =
+    let p = err_from_is_err_and c.from_residual-in_err-with_capacity-2.result c.from_residual-in_err-with_capacity-2.ensures.1 in
+    rw p.1 (Stops-start (set_globs c.args.set.now) c.args.numbered (g.R.Read.remaining c.args.reader.now) (g.W.Write.contents c.args.writer.now) p.0 p.2)
 
 pub loop-init : goal.loop-init
-loop-init g c = ([], Consumes-nil _, Handles-begin _ _ _ _ _ c.new-rest.ensures.items c.in_ok-with_capacity.ensures.items, omega (arith, c.in_ok-chunk.ensures))
+loop-init g c = ([], Consumes-nil _, Handles-begin _ _ _ _ _ c.new-rest.ensures.items c.in_ok-with_capacity.ensures.items, omega (arith, c.in_ok-chunk.ensures), c.in_ok-scratch_for.ensures)
 
 pub returns-in_err-write_pending-in-Err : goal.returns-in_err-write_pending-in-Err
 returns-in_err-write_pending-in-Err g c =
@@ -35,23 +41,23 @@ returns-in-Err g c =
       Handles-drained _ _ _ _ _ _ _ _ _ _ _ i.2 c.in_ok-write_pending-in-Err.ensures.0 c.in_ok-write_pending-in-Err.ensures.1,
     )
 
-pub finish-requires : goal.finish-requires
-finish-requires g c = ap (λ (l : List ℕ). list_any is_lf l) c.as_slice.ensures.value ∙ c.loop.invariant.2.no_lf
+pub finish-requires-clause-no_lf : goal.finish-requires-clause-no_lf
+finish-requires-clause-no_lf g c = ap (λ (l : List ℕ). list_any is_lf l) c.as_slice.ensures.value ∙ c.loop.invariant.2.no_lf
 
 pub returns-then-n-eq0 : goal.returns-then-n-eq0
 returns-then-n-eq0 g c =
     let i = c.loop.invariant in
     let filled : 0 < length c.read.new.buf = omega (arith, c.read.auto.buf, c.as_mut_slice.ensures.len, c.loop.chunk.ok.0) in
     end_result _ _ i.0 (take c.in-Ok.n c.read.new.buf) _ c.as_slice.result.now _ _ _ _ _ _ _ _ c.finish.result i.1 c.in-Ok.ensures.bytes.0
-    (ap (λ k. take k c.read.new.buf) c.if-n-eq0.true) (c.in-Ok.ensures.bytes.1 c.if-n-eq0.true filled) i.2 c.as_slice.ensures.value c.finish.ensures
+    (ap (λ k. take k c.read.new.buf) c.if-n-eq0.true) (c.in-Ok.ensures.bytes.1 c.if-n-eq0.true filled) i.2 c.as_slice.ensures.value c.finish.ensures.done
 
 pub slice_bounds-handle_chunk-end : goal.slice_bounds-handle_chunk-end
 slice_bounds-handle_chunk-end g c =
     let back : c.deref.result.now ≡ c.read.new.buf = read_back c.loop.chunk.len c.read.new.buf (drop (length c.read.new.buf) c.loop.chunk.items) _ (omega (arith, c.read.auto.buf, c.as_mut_slice.ensures.len, c.loop.chunk.ok.0)) c.deref.ensures.value in
     c.in-Ok.ensures.bound.1 ∙ ap (λ (l : List ℕ). length (take c.in-Ok.n l)) (sym back)
 
-pub handle_chunk-requires : goal.handle_chunk-requires
-handle_chunk-requires g c = c.loop.invariant.2.no_lf
+pub handle_chunk-requires-clause-no_lf : goal.handle_chunk-requires-clause-no_lf
+handle_chunk-requires-clause-no_lf g c = c.loop.invariant.2.no_lf
 
 pub returns-in_err-handle_chunk : goal.returns-in_err-handle_chunk
 returns-in_err-handle_chunk g c =
@@ -60,7 +66,7 @@ returns-in_err-handle_chunk g c =
     let p = err_from_is_err_and c.from_residual-in_err-handle_chunk.result c.from_residual-in_err-handle_chunk.ensures.1 in
     rw (p.1, p.2) (Stops-fails _ _ (i.0 ++ take c.in-Ok.n c.deref.result.now) _ _ _ _ c.in_err-handle_chunk.field-0.0
     (Consumes-trans _ _ _ _ _ i.1 (Consumes-is _ _ _ _ (ap (λ (l : List ℕ). take c.in-Ok.n l) back) c.in-Ok.ensures.bytes.0))
-    (Handles-fails _ _ _ _ _ _ _ _ _ _ _ _ _ i.2 c.in_err-handle_chunk.ensures))
+    (Handles-fails _ _ _ _ _ _ _ _ _ _ _ _ _ i.2 c.in_err-handle_chunk.ensures.done))
 
 pub loop-preserved : goal.loop-preserved
 loop-preserved g c =
@@ -69,8 +75,9 @@ loop-preserved g c =
     let back : c.deref.result.now ≡ c.read.new.buf = read_back c.loop.chunk.len c.read.new.buf (drop (length c.read.new.buf) c.loop.chunk.items) _ same c.deref.ensures.value in (
       i.0 ++ take c.in-Ok.n c.deref.result.now,
       Consumes-trans _ _ _ _ _ i.1 (Consumes-is _ _ _ _ (ap (λ (l : List ℕ). take c.in-Ok.n l) back) c.in-Ok.ensures.bytes.0),
-      Handles-trans _ _ _ _ _ _ _ _ _ _ _ _ _ _ _ i.2 c.in_ok-handle_chunk.ensures,
+      Handles-trans _ _ _ _ _ _ _ _ _ _ _ _ _ _ _ i.2 c.in_ok-handle_chunk.ensures.done,
       subst (λ (k : ℕ). 0 < k) (sym (ap (λ (l : List ℕ). length l) (read_back c.loop.chunk.len c.read.new.buf (drop (length c.read.new.buf) c.loop.chunk.items) _ same refl) ∙ same ∙ c.loop.chunk.ok.0)) i.3,
+      c.handle_chunk.ensures.fits,
     )
 
 pub returns-in_err-write_pending : goal.returns-in_err-write_pending

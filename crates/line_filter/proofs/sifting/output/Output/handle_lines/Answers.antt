@@ -4,21 +4,22 @@ use Rattle.line_filter.proofs.lemmas.Handling.{Handles-start, lines_step, lines_
 use Rattle.line_filter.proofs.sifting.output.Output.handle_lines.Goals as goal
 
 pub loop-i-init : goal.loop-i-init
-loop-i-init g c = ([], refl, Handles-start _ _ [] _ _ _ refl)
+loop-i-init g c = ([], refl, c.requires.fits, Handles-start _ _ [] _ _ _ refl)
 
 pub loop-i-preserved : goal.loop-i-preserved
 loop-i-preserved g c =
     let i = c.loop-i.invariant in
-    let put = c.in_ok-handle_line.ensures in
-    lines_step _ _ _ i.0 _ c.in-Some.i _ _ _ _ _ _ _ _ _ i.1 i.2 c.in-Some.ensures put.0 put.1
+    let put = c.in_ok-handle_line.ensures.done in
+    let step = lines_step _ _ _ i.0 _ c.in-Some.i _ _ _ _ _ _ _ _ _ i.1 i.3 c.in-Some.ensures put.0 put.1 in
+    (step.0, step.1, c.handle_line.ensures.fits, step.2)
 
-pub returns : goal.returns
-returns g c =
+pub returns-clause-done : goal.returns-clause-done
+returns-clause-done g c =
     let i = c.loop-i.invariant in
-    lines_end _ _ _ i.0 c.loop-i.rest.now _ _ _ _ _ _ _ i.1 i.2 c.in_default.is c.memchr.ensures
+    lines_end _ _ _ i.0 c.loop-i.rest.now _ _ _ _ _ _ _ i.1 i.3 c.in_default.is c.memchr.ensures
 
-pub returns-in_err-handle_line : goal.returns-in_err-handle_line
-returns-in_err-handle_line g c =
+pub returns-in_err-handle_line-clause-done : goal.returns-in_err-handle_line-clause-done
+returns-in_err-handle_line-clause-done g c =
     let i = c.loop-i.invariant in
     let p = err_from_is_err_and c.from_residual.result c.from_residual.ensures.1 in
-    rw (p.1, p.2) (lines_fail _ _ _ i.0 _ c.in-Some.i _ _ _ _ _ _ _ _ i.1 i.2 c.in-Some.ensures c.in_err-handle_line.ensures)
+    rw (p.1, p.2) (lines_fail _ _ _ i.0 _ c.in-Some.i _ _ _ _ _ _ _ _ i.1 i.3 c.in-Some.ensures c.in_err-handle_line.ensures.done)
