@@ -1,19 +1,20 @@
 -- The elements of an array, read one after another.
-use Rattle.std.proofs.Common.{◌≡◌, ℕ, ◌+◌, ◌≤◌, ◌<◌, List, [], ◌∷◌, ◌++◌, ap, sym, ◌∙◌, refl, Result, Ok, Err, IfErr, drop, get_or, length, inl, inr}
+use Rattle.std.proofs.Common.{◌≡◌, ℕ, ◌+◌, ◌≤◌, ◌<◌, List, [], ◌∷◌, ◌++◌, Bool, true, false, Option, Some, None, option_and_then, if◌then◌else◌, ap, sym, ◌∙◌, refl, Result, Ok, Err, IfErr, drop, get_or, length, inl, inr}
 use Rattle.std.proofs.lemmas.List.{drop_more, drop_all}
 use Rattle.std.proofs.lemmas.Result.{IfErr-at_err}
 use Rattle.std.specs.Str.{chars}
-use Rattle.serde_json.specs.Data.{Data, null, boolean, number, string, array, object}
+use Rattle.serde_json.specs.Data.{Data, null, boolean, number, string, array, object, Members}
+use Rattle.serde_json.specs.Find.{get_member, as_str}
 use Rattle.serde_json.specs.View.{view, items_view}
 use Rattle.serde_json.specs.declared.value.Value.{Value}
 use Rattle.glob_syntax.specs.declared.fault.Fault.{Fault}
 use Rattle.glob_syntax.specs.declared.fault.Fault.TheVariants as faults
 use Rattle.globset_glob.specs.declared.json.error.ValueErrorKind.TheVariants.{Glob}
-use Rattle.globset_glob.specs.Errors.{refusal}
+use Rattle.globset_glob.specs.Errors.{refusal, glob_or_refusal}
 use Rattle.globset_glob.specs.Means.{GlobValue, default_glob, default_options}
 use Rattle.globset_glob.specs.Reading.{reading}
 use Rattle.globset_glob.specs.Token.{Tokens}
-use Rattle.globset_glob.specs.Values.{ValueErrorValue, IsValueErrorOf, of_kind, of_text, of_element, at_index, glob_of_value}
+use Rattle.globset_glob.specs.Values.{ValueErrorValue, IsValueErrorOf, of_kind, of_text, of_element, at_index, not_text, unknown_key, not_bool, glob_key, has_unknown_key, has_non_boolean, options_in, glob_of_members, glob_of_value}
 use Rattle.globset.specs.SetFromValue.{ahead_of, globs_from}
 
 -- ---- the globs read so far, and what comes after them
@@ -44,18 +45,29 @@ known_fault i text faults.UnopenedAlternates = refl
 known_fault i text faults.UnclosedAlternates = refl
 known_fault i text faults.DanglingEscape = refl
 
-known_text : (i : ℕ) (text : List ℕ) (r : Result Tokens Fault) →
-    IfErr (of_text (elim r [ Ok ts ↦ Ok (default_glob text) | Err f ↦ Err (refusal text f) ])) (λ e. of_element i e ≡ at_index i e)
-known_text i text (Ok ts) = tt
-known_text i text (Err f) = known_fault i text f
+known_text : (i : ℕ) (g : GlobValue) (r : Result Tokens Fault) →
+    IfErr (of_text (elim r [ Ok ts ↦ Ok g | Err f ↦ Err (refusal g.text f) ])) (λ e. of_element i e ≡ at_index i e)
+known_text i g (Ok ts) = tt
+known_text i g (Err f) = known_fault i g.text f
+
+known_choice : (i : ℕ) (has_unknown has_other : Bool) (g : GlobValue) →
+    IfErr (if has_unknown then Err unknown_key else (if has_other then Err not_bool else of_text (glob_or_refusal g))) (λ e. of_element i e ≡ at_index i e)
+known_choice i true has_other g = refl
+known_choice i false true g = refl
+known_choice i false false g = known_text i g (reading g.options (chars g.text))
+
+known_object : (i : ℕ) (entries : Members) (text : Option (List ℕ)) →
+    IfErr (elim text [ Some t ↦ glob_of_members entries t | None ↦ Err not_text ]) (λ e. of_element i e ≡ at_index i e)
+known_object i entries (Some text) = known_choice i (has_unknown_key entries) (has_non_boolean entries) (record { text = text; options = options_in entries })
+known_object i entries None = refl
 
 known_error : (i : ℕ) (value : Data) → IfErr (glob_of_value value) (λ e. of_element i e ≡ at_index i e)
-known_error i (string text) = known_text i text (reading default_options (chars text))
+known_error i (string text) = known_text i (default_glob text) (reading default_options (chars text))
 known_error i null = refl
 known_error i (boolean b) = refl
 known_error i (number n) = refl
 known_error i (array values) = refl
-known_error i (object entries) = refl
+known_error i (object entries) = known_object i entries (option_and_then as_str (get_member glob_key entries))
 
 -- ---- one element
 
