@@ -33,7 +33,7 @@ character_rows =
 abbrev pub is_character : List ℕ → Bool
 is_character b = list_any (λ row. are_between row b) character_rows
 
--- They are so exactly if std writes some Unicode scalar value as these bytes. It is the contract of a function of the module
--- `laws`.
+-- Bytes are those of one character exactly if std writes some Unicode scalar value as these bytes. This is the contract of a
+-- function of the module `laws`.
 abbrev pub CharactersAreScalars : Type 0
 CharactersAreScalars = (b : List ℕ) → IsTrue (is_character b) ↔ ((c : ℕ) × IsScalar c × (b ≡ encode_utf8 c))
