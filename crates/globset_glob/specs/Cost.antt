@@ -1,7 +1,7 @@
 -- The bound on the visits of a matcher.
 use Rattle.std.specs.Prelude.{ℕ, ◌+◌, ◌*◌, List, length}
 use Rattle.glob_syntax.specs.StatesPerByte.{states_per_byte}
-use Rattle.globset_glob.specs.Means.{GlobValue}
+use Rattle.glob_text.specs.Means.{GlobValue}
 
 -- the most visits at one position of a path: 4 for each byte of the glob's text, or 16 under `whole_character`, and 4
 abbrev pub cost : GlobValue → ℕ

@@ -1,3 +1,1 @@
-pub mod Equality
 pub mod GlobAutomaton
-pub mod RegexWriting

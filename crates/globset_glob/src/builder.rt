@@ -1,11 +1,11 @@
 //! The text and the options of a glob, before it is read.
 
 ghost use Rattle.std.specs.Prelude.{◌≡◌, IfOk, IfErr};
-ghost use Rattle.globset_glob.specs.Errors.{IsRefusalOf};
+ghost use Rattle.glob_text.specs.Errors.{IsRefusalOf};
 
-use crate::error::Error;
 use crate::glob::Glob;
 use glob_syntax::Options;
+use glob_text::Error;
 use std::alloc::{AllocError, Global};
 use std::marker::Model;
 
@@ -21,7 +21,7 @@ pub struct GlobBuilder<'a> {
 }
 
 impl<'a> Model for GlobBuilder<'a> {
-    ghost use Rattle.globset_glob.specs.Means.{GlobValue};
+    ghost use Rattle.glob_text.specs.Means.{GlobValue};
 
     ghost Value = { GlobValue };
 
@@ -29,7 +29,7 @@ impl<'a> Model for GlobBuilder<'a> {
 }
 
 impl<'a> GlobBuilder<'a> {
-    ghost use Rattle.globset_glob.specs.Means.{IsRead, default_glob};
+    ghost use Rattle.glob_text.specs.Means.{IsRead, default_glob};
 
     /// Returns a builder with this text and the default options: `backslash_escape` is on, and the others are off.
     pub fn new(text: &'a str) -> GlobBuilder<'a>

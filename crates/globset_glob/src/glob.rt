@@ -9,15 +9,14 @@ ghost use Rattle.std.proofs.lemmas.Cmp.{and_equiv, on_equiv, nat_list_eq_equiv};
 ghost use Rattle.std.proofs.lemmas.Slice.Eq.{bytes_eq-Decides};
 ghost use Rattle.glob_syntax.specs.contracts.options.OptionsEq.TheImpl.Laws.{laws-law};
 ghost use Rattle.glob_syntax.specs.contracts.options.OptionsHash.TheImpl.Laws.{respects_eq-law};
-ghost use Rattle.globset_glob.specs.inner.Equality.{same_glob};
-ghost use Rattle.globset_glob.specs.Errors.{out_of_memory, IsRefusalOf};
-ghost use Rattle.globset_glob.specs.Means.{GlobValue, tokens_of_glob, glob_means};
+ghost use Rattle.glob_text.specs.inner.Equality.{same_glob};
+ghost use Rattle.glob_text.specs.Errors.{out_of_memory, IsRefusalOf};
+ghost use Rattle.glob_text.specs.Means.{GlobValue, tokens_of_glob, glob_means};
 
 use crate::builder::GlobBuilder;
-use crate::error::Error;
 use crate::matcher::GlobMatcher;
-use crate::regex_text::regex_text;
-use glob_syntax::{Options, ReadError, Token, copy_of, read_tokens};
+use glob_syntax::{Options, Token, copy_of};
+use glob_text::{Error, regex_of_tokens, tokens_of_text};
 use std::alloc::{AllocError, Global};
 use std::fmt;
 use std::hash::{Hash, Hasher};
@@ -48,9 +47,9 @@ impl Drop for Glob {
 impl Model for Glob {
     ghost use Rattle.std.specs.Prelude.{◌≡◌, ◌≤◌, ◌*◌, Ok, length, string_bytes};
     ghost use Rattle.std.specs.Str.{chars};
-    ghost use Rattle.globset_glob.specs.Means.{GlobValue};
+    ghost use Rattle.glob_text.specs.Means.{GlobValue};
     ghost use Rattle.glob_syntax.specs.Reading.{reading};
-    ghost use Rattle.globset_glob.specs.RegexText.{regex_text};
+    ghost use Rattle.glob_text.specs.RegexText.{regex_text};
     ghost use Rattle.glob_syntax.specs.FlatTokens.{IsNested};
     ghost use Rattle.glob_syntax.specs.StatesPerByte.{states_per_byte};
     ghost use Rattle.glob_syntax.specs.Views.{flats, tokens_of};
@@ -71,9 +70,9 @@ impl Model for Glob {
 }
 
 impl Glob {
-    ghost use Rattle.globset_glob.specs.Means.{IsRead, default_glob, default_options};
-    ghost use Rattle.globset_glob.specs.RegexText.{regex_text};
-    ghost use Rattle.globset_glob.specs.RegexDenotes.{HasExpression};
+    ghost use Rattle.glob_text.specs.Means.{IsRead, default_glob, default_options};
+    ghost use Rattle.glob_text.specs.RegexText.{regex_text};
+    ghost use Rattle.glob_text.specs.RegexDenotes.{HasExpression};
 
     /// Reads a glob under the default options: `\` escapes, and the other options are off.
     ///
@@ -145,7 +144,7 @@ impl Glob {
 
 impl Glob {
     ghost use Rattle.std.specs.Str.{chars};
-    ghost use Rattle.globset_glob.specs.Means.{IsRead};
+    ghost use Rattle.glob_text.specs.Means.{IsRead};
     ghost use Rattle.glob_syntax.specs.Reading.{reading};
     ghost use Rattle.glob_syntax.specs.FlatTokens.{IsNested};
     ghost use Rattle.glob_syntax.specs.StatesPerByte.{states_per_byte};
@@ -158,12 +157,8 @@ impl Glob {
         ensures read { IfOk result IsRead }
         ensures err { IfErr result (IsRefusalOf options text.now) }
     {
-        let tokens = match read_tokens(alloc, options, text) {
-            Ok(tokens) => tokens,
-            Err(ReadError::Memory) => return Err(Error::out_of_memory()),
-            Err(ReadError::Fault(fault)) => return Err(Error::refusal(alloc, text, fault)),
-        };
-        let regex = regex_text(alloc, options, &tokens)?;
+        let tokens = tokens_of_text(alloc, options, text)?;
+        let regex = regex_of_tokens(alloc, options, &tokens)?;
         let text = String::from_str(alloc, text)?;
         Ok(Glob {
             text,
@@ -217,7 +212,7 @@ impl PartialEq for Glob {
 
     ghost laws = { partial_equiv_from_equiv (and_equiv (on_equiv (λ g. g.text) nat_list_eq_equiv) (on_equiv (λ g. g.options) laws-law)) };
 
-    #[tactic(auto, using(crate::proofs::lemmas::GlobEquality::equal_globs))]
+    #[tactic(auto, using(glob_text::proofs::lemmas::GlobEquality::equal_globs))]
     fn eq(&self, other: &Glob) -> bool
         ensures result { result ≡ same_glob self.now other.now }
         ensures fields { IsTrue result ↔ (self.now ≡ other.now) }

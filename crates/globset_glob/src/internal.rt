@@ -3,19 +3,17 @@
 ghost use Rattle.std.specs.Prelude.{◌≡◌, ◌≤◌, ◌*◌, Ok, length};
 ghost use Rattle.std.specs.Str.{chars};
 ghost use Rattle.glob_syntax.specs.Reading.{reading};
-ghost use Rattle.globset_glob.specs.Means.{tokens_of_glob};
-ghost use Rattle.globset_glob.specs.Values.{of_element};
+ghost use Rattle.glob_text.specs.Means.{tokens_of_glob};
 ghost use Rattle.glob_syntax.specs.FlatTokens.{IsNested};
 ghost use Rattle.glob_syntax.specs.StatesPerByte.{states_per_byte};
 ghost use Rattle.glob_syntax.specs.Views.{flats, tokens_of};
 ghost use Rattle.glob_syntax.specs.inner.Weight.{weight};
 
 use crate::glob::Glob;
-use crate::json::error::ValueError;
 use glob_syntax::{Options, Token};
 
 /// Returns the tokens that the glob's text was read as under its options.
-#[tactic(auto, using(crate::proofs::lemmas::Globs::tokens_are))]
+#[tactic(auto, using(glob_text::proofs::lemmas::Globs::tokens_are))]
 pub fn tokens_of(glob: &Glob) -> &[Token]
     ensures read { reading glob.now.options (chars glob.now.text) ≡ Ok (tokens_of result.now) }
     ensures tokens { tokens_of_glob glob.now ≡ tokens_of result.now }
@@ -30,12 +28,4 @@ pub fn options_of(glob: &Glob) -> Options
     ensures { result ≡ glob.now.options }
 {
     glob.options()
-}
-
-/// Returns the error of the element at this index of an array. An error that memory ran out is about no element, and is
-/// returned as it is.
-pub fn error_of_element(index: usize, error: ValueError) -> ValueError
-    ensures { result ≡ of_element index error }
-{
-    error.of_element(index)
 }

@@ -2,17 +2,12 @@
 
 ghost use Rattle.std.specs.Prelude.{◌≡◌, IfOk, IfErr, Ok};
 ghost use Rattle.serde_json.specs.View.{view};
-ghost use Rattle.globset_glob.specs.Errors.{out_of_memory};
-ghost use Rattle.globset_glob.specs.Means.{IsRead};
-ghost use Rattle.globset_glob.specs.Values.{IsValueErrorOf, glob_of_value, value_of_glob};
+ghost use Rattle.glob_text.specs.Errors.{out_of_memory};
+ghost use Rattle.glob_text.specs.Means.{IsRead};
+ghost use Rattle.glob_text.specs.Values.{IsValueErrorOf, glob_of_value, value_of_glob};
 
-pub mod error;
-mod object;
-
-use crate::error::Error;
 use crate::glob::Glob;
-use error::{ValueError, ValueErrorKind};
-use object::{read_object, value_of};
+use glob_text::{Error, ValueError, text_and_options, value_of};
 use serde_json::Value;
 use std::alloc::Global;
 
@@ -25,7 +20,7 @@ impl Glob {
     /// ```text
     /// {"glob":"*.rs","literal_separator":true}
     /// ```
-    #[tactic(auto, using(crate::proofs::lemmas::Values::read_back))]
+    #[tactic(auto, using(glob_text::proofs::lemmas::Values::read_back))]
     pub fn to_value(&self) -> Result<Value, Error>
         ensures ok { IfOk result (λ value. view value ≡ value_of_glob self.now) }
         ensures read_back { IfOk result (λ value. glob_of_value (view value) ≡ Ok self.now) }
@@ -52,10 +47,7 @@ impl Glob {
         ensures read { IfOk result IsRead }
         ensures err { IfErr result (IsValueErrorOf (glob_of_value (view value.now))) }
     {
-        match value {
-            Value::String(text) => Ok(Glob::new(alloc, text.as_str())?),
-            Value::Object(members) => read_object(alloc, members),
-            _ => Err(ValueError::from(ValueErrorKind::NotText)),
-        }
+        let (text, options) = text_and_options(value)?;
+        Ok(Glob::read(alloc, options, text)?)
     }
 }

@@ -1,16 +1,16 @@
 //! Matchers of one glob.
 
 ghost use Rattle.std.specs.Prelude.{◌≡◌, ◌+◌, ◌≤◌, IfOk, IfErr};
-ghost use Rattle.globset_glob.specs.Errors.{out_of_memory};
+ghost use Rattle.glob_text.specs.Errors.{out_of_memory};
 ghost use Rattle.globset_glob.specs.Cost.{most_visits};
 ghost use Rattle.globset_glob.specs.inner.GlobAutomaton.{IsAutomatonOf};
 
-use crate::error::Error;
 use crate::glob::Glob;
 use byte_automaton::{Automaton, StateSets};
 use glob_automaton::{add_tokens, new_builder};
 use glob_matching::Compiled;
 use glob_path::{AsPath, Candidate};
+use glob_text::Error;
 use std::alloc::AllocError;
 use std::fmt;
 use std::marker::Model;
@@ -46,7 +46,7 @@ impl Drop for GlobMatcher {
 }
 
 impl Model for GlobMatcher {
-    ghost use Rattle.globset_glob.specs.Means.{GlobValue};
+    ghost use Rattle.glob_text.specs.Means.{GlobValue};
     ghost use Rattle.globset_glob.specs.inner.GlobAutomaton.{IsAutomatonOf};
 
     ghost Value = { GlobValue };
@@ -57,7 +57,7 @@ impl Model for GlobMatcher {
 }
 
 impl GlobMatcher {
-    ghost use Rattle.globset_glob.specs.Means.{glob_means};
+    ghost use Rattle.glob_text.specs.Means.{glob_means};
 
     /// Returns a matcher of a glob, at the cost of [`Glob::compile_matcher`]. Returns an error if memory runs out.
     pub(crate) fn new(glob: Glob) -> Result<GlobMatcher, Error>

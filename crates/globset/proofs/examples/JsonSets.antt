@@ -2,7 +2,7 @@
 use Rattle.std.specs.Prelude.{◌≡◌, [], ◌∷◌, true, Ok, Err, codes, refl}
 use Rattle.serde_json.specs.Data.{boolean, number, unsigned, string, array, object, no_items, item, no_members, member}
 use Rattle.glob_syntax.specs.declared.fault.Fault.TheVariants.{UnclosedClass}
-use Rattle.globset_glob.specs.declared.json.error.ValueErrorKind.TheVariants.{Glob}
+use Rattle.glob_text.specs.declared.json.error.ValueErrorKind.TheVariants.{Glob}
 use Rattle.globset_glob.specs.Errors.{refusal}
 use Rattle.globset_glob.specs.Values.{of_kind, not_text, unknown_key, not_array, at_index}
 use Rattle.globset.specs.SetFromValue.{globs_of_value}

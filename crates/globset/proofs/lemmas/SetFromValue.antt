@@ -9,7 +9,7 @@ use Rattle.serde_json.specs.View.{view, items_view}
 use Rattle.serde_json.specs.declared.value.Value.{Value}
 use Rattle.glob_syntax.specs.declared.fault.Fault.{Fault}
 use Rattle.glob_syntax.specs.declared.fault.Fault.TheVariants as faults
-use Rattle.globset_glob.specs.declared.json.error.ValueErrorKind.TheVariants.{Glob}
+use Rattle.glob_text.specs.declared.json.error.ValueErrorKind.TheVariants.{Glob}
 use Rattle.globset_glob.specs.Errors.{refusal, glob_or_refusal}
 use Rattle.globset_glob.specs.Means.{GlobValue, default_glob, default_options}
 use Rattle.globset_glob.specs.Reading.{reading}

@@ -7,7 +7,8 @@ ghost use Rattle.globset.specs.SetFromValue.{globs_from, globs_of_value};
 ghost use Rattle.globset.specs.SetValue.{set_globs};
 
 use crate::set::GlobSet;
-use globset_glob::{Glob, ValueError, ValueErrorKind, error_of_element};
+use glob_text::error_of_element;
+use globset_glob::{Glob, ValueError, ValueErrorKind};
 use serde_json::Value;
 use std::alloc::Global;
 

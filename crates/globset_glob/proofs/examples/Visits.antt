@@ -3,9 +3,9 @@
 use Rattle.std.specs.Prelude.{◌≡◌, ◌+◌, ◌*◌, [], ◌∷◌, refl}
 use Rattle.glob_syntax.specs.declared.options.TheConstants.Options.{DEFAULT}
 use Rattle.globset_glob.specs.Cost.{cost, most_visits}
-use Rattle.globset_glob.proofs.examples.Unfoldings.{glob_on_literals}
+use Rattle.glob_text.proofs.examples.Unfoldings.{glob_on_literals}
 use Rattle.glob_syntax.proofs.examples.Words.{whole}
-use Rattle.globset_glob.proofs.examples.Words.{utf8, glob_of}
+use Rattle.glob_text.proofs.examples.Words.{utf8, glob_of}
 
 visits_of_eight_stars : most_visits (glob_of DEFAULT "a*a*a*a*a*a*a*a*a") (utf8 "aaaaaaaaa") ≡ 720
 unfolding glob_on_literals

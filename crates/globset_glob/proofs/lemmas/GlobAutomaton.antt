@@ -13,9 +13,9 @@ use Rattle.byte_automaton.specs.Runs.{size}
 use Rattle.glob_automaton.specs.TokenMeans.{means}
 use Rattle.glob_automaton.specs.IndexedTokens.{IndexedTokens, indexed, SomeMatches, IsFor}
 use Rattle.glob_automaton.proofs.lemmas.Booleans.{same_truth}
-use Rattle.globset_glob.specs.Means.{GlobValue, tokens_of_glob, glob_means}
+use Rattle.glob_text.specs.Means.{GlobValue, tokens_of_glob, glob_means}
 use Rattle.globset_glob.specs.inner.GlobAutomaton.{IsAutomatonOf}
-use Rattle.globset_glob.proofs.lemmas.Globs.{tokens_are}
+use Rattle.glob_text.proofs.lemmas.Globs.{tokens_are}
 
 -- an automaton to which the glob's tokens were added, and nothing else
 pub automaton_is : (g : GlobValue) (o : Options) (ts : Tokens) (old new : Machine) → o ≡ g.options → reading g.options (chars g.text) ≡ Ok ts → weight o ts ≤ states_per_byte o * length g.text

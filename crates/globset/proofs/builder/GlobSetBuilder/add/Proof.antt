@@ -26,9 +26,9 @@ use Rattle.globset_glob.specs.Means.{GlobValue}
 use Rattle.globset_glob.specs.Errors.{ErrorValue, out_of_memory}
 use Rattle.globset.specs.contracts.builder.GlobSetBuilder.{the_row as R}
 use Rattle.globset_glob.specs.contracts.glob.Glob.{the_row as GlobRow}
-use Rattle.globset_glob.specs.contracts.error.Error.{the_row as ErrorRow}
+use Rattle.glob_text.specs.contracts.error.Error.{the_row as ErrorRow}
 use Rattle.globset_glob.proofs.glob.Glob.TheLaws as glob
-use Rattle.globset_glob.proofs.error.Error.TheLaws as error
+use Rattle.glob_text.proofs.error.Error.TheLaws as error
 use Rattle.globset.specs.contracts.builder.GlobSetBuilder.add as f
 use Rattle.globset.proofs.builder.GlobSetBuilder.add.Statement.{statement}
 use Rattle.globset.proofs.builder.GlobSetBuilder.add.Code as code

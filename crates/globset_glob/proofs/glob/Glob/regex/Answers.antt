@@ -2,14 +2,14 @@ use Rattle.std.proofs.Common.{◌≡◌, ℕ, List, Ok, ap, sym, ◌∙◌, subs
 use Rattle.std.specs.Str.{chars}
 use Rattle.glob_syntax.specs.Token.{Tokens}
 use Rattle.glob_syntax.specs.Reading.{reading}
-use Rattle.globset_glob.specs.Means.{GlobValue, tokens_of_glob, glob_means}
+use Rattle.glob_text.specs.Means.{GlobValue, tokens_of_glob, glob_means}
 use Rattle.glob_automaton.specs.TokenMeans.{means}
-use Rattle.globset_glob.specs.RegexText.{regex_text}
-use Rattle.globset_glob.specs.RegexDenotes.{HasExpression}
+use Rattle.glob_text.specs.RegexText.{regex_text}
+use Rattle.glob_text.specs.RegexDenotes.{HasExpression}
 use Rattle.glob_syntax.specs.Views.{tokens_of}
 use Rattle.glob_syntax.specs.inner.WellFormed.{AreWellFormed}
-use Rattle.globset_glob.proofs.lemmas.Globs.{tokens_are}
-use Rattle.globset_glob.proofs.lemmas.Expressions.{regex_has}
+use Rattle.glob_text.proofs.lemmas.Globs.{tokens_are}
+use Rattle.glob_text.proofs.lemmas.Expressions.{regex_has}
 use Rattle.globset_glob.proofs.glob.Glob.regex.Goals as goal
 
 text_is : (g : GlobValue) (ts : Tokens) (text : List ℕ) → reading g.options (chars g.text) ≡ Ok ts → text ≡ regex_text g.options ts → text ≡ regex_text g.options (tokens_of_glob g)

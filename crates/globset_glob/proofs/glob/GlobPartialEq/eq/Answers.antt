@@ -1,6 +1,6 @@
 use Rattle.std.proofs.Common.{rules, ap}
-use Rattle.globset_glob.specs.Means.{GlobValue, glob_means}
-use Rattle.globset_glob.proofs.lemmas.GlobEquality.{equal_globs}
+use Rattle.glob_text.specs.Means.{GlobValue, glob_means}
+use Rattle.glob_text.proofs.lemmas.GlobEquality.{equal_globs}
 use Rattle.globset_glob.proofs.glob.GlobPartialEq.eq.Goals as goal
 
 pub returns-then-eq-clause-paths : goal.returns-then-eq-clause-paths

@@ -2,7 +2,7 @@ use Rattle.std.proofs.Common.{[], ◌∷◌, ◌≤◌, ◌+◌, ◌*◌, length
 use Rattle.std.proofs.Math.Nat.{mul-le-mul_left}
 use Rattle.byte_automaton.specs.Runs.{size}
 use Rattle.glob_automaton.specs.IndexedTokens.{indexed}
-use Rattle.globset_glob.specs.Means.{GlobValue, tokens_of_glob, glob_means}
+use Rattle.glob_text.specs.Means.{GlobValue, tokens_of_glob, glob_means}
 use Rattle.globset_glob.specs.Cost.{cost, most_visits}
 use Rattle.globset_glob.proofs.lemmas.GlobAutomaton.{one_matches}
 use Rattle.globset_glob.proofs.matcher.GlobMatcher.is_match_visits.Goals as goal

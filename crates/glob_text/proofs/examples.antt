@@ -1,0 +1,15 @@
+pub mod Words
+pub mod Unfoldings
+mod Backslashes
+mod Case
+mod Classes
+mod Escape
+mod Groups
+mod Literals
+mod ParentDirectories
+mod Recursive
+mod RegexTexts
+mod Separator
+mod SmallRegex
+mod Values
+mod Wildcards

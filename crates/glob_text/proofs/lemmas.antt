@@ -1,0 +1,12 @@
+pub mod ByteTexts
+pub mod CharacterTexts
+pub mod ClassTexts
+pub mod ErrorEquality
+pub mod EscapeMeaning
+pub mod EscapeReading
+pub mod Expressions
+pub mod GlobEquality
+pub mod Globs
+pub mod Members
+pub mod RegexWriting
+pub mod Values

@@ -1,0 +1,63 @@
+-- Errors of globs, and the texts that they display.
+use Rattle.std.specs.Prelude.{◌≡◌, ℕ, List, ◌++◌, Option, Some, None, encode_utf8, codes, string_bytes, ◌⊎◌, Result, Ok, Err}
+use Rattle.glob_text.specs.declared.error.kind.ErrorKind.{ErrorKind}
+use Rattle.glob_text.specs.declared.error.kind.ErrorKind.TheVariants as kinds
+use Rattle.glob_syntax.specs.declared.fault.Fault.{Fault}
+use Rattle.glob_syntax.specs.declared.fault.Fault.TheVariants as faults
+use Rattle.glob_syntax.specs.declared.options.Options.{Options}
+use Rattle.glob_text.specs.Means.{GlobValue}
+use Rattle.glob_syntax.specs.Reading.{HasFault, reading}
+use Rattle.std.specs.Str.{chars}
+
+-- An error as contracts see it: the rejected text, if it holds one, and its kind.
+pub record ErrorValue : Type 0 where
+  pub glob : Option (List ℕ)
+  pub kind : ErrorKind
+
+-- The error that memory ran out. It holds no text.
+abbrev pub out_of_memory : ErrorValue
+out_of_memory = record { glob = None; kind = kinds.OutOfMemory }
+
+-- the kind of the error of a text with this fault
+abbrev pub kind_of : Fault → ErrorKind
+kind_of faults.UnclosedClass = kinds.UnclosedClass
+kind_of (faults.InvalidRange start end) = kinds.InvalidRange start end
+kind_of faults.UnopenedAlternates = kinds.UnopenedAlternates
+kind_of faults.UnclosedAlternates = kinds.UnclosedAlternates
+kind_of faults.DanglingEscape = kinds.DanglingEscape
+
+-- The error of a text with this fault. It holds the text.
+abbrev pub refusal : List ℕ → Fault → ErrorValue
+refusal text f = record { glob = Some text; kind = kind_of f }
+
+-- The glob of a text under its options, or if the text has a fault, the error of its first fault.
+abbrev pub glob_or_refusal : GlobValue → Result GlobValue ErrorValue
+glob_or_refusal g = elim (reading g.options (chars g.text)) [ Ok ts ↦ Ok g | Err f ↦ Err (refusal g.text f) ]
+
+-- The error is one that reading the text under these options may return: that of the text's first fault, or that memory ran
+-- out.
+abbrev pub IsRefusalOf : Options → List ℕ → ErrorValue → Type 0
+IsRefusalOf o text e = (e ≡ out_of_memory) ⊎ ((f : Fault) × HasFault o (chars text) f × (e ≡ refusal text f))
+
+-- ---- displayed texts
+
+-- what a kind displays
+abbrev pub kind_text : ErrorKind → List ℕ
+kind_text kinds.UnclosedClass = codes "unclosed character class; missing ']'"
+kind_text (kinds.InvalidRange start end) = codes "invalid range; '" ++ encode_utf8 start ++ codes "' > '" ++ encode_utf8 end ++ codes "'"
+kind_text kinds.UnopenedAlternates = codes "unopened alternate group; missing '{' (maybe escape '}' with '[}]'?)"
+kind_text kinds.UnclosedAlternates = codes "unclosed alternate group; missing '}' (maybe escape '{' with '[{]'?)"
+kind_text kinds.DanglingEscape = codes "dangling '\\'"
+kind_text kinds.OutOfMemory = codes "out of memory"
+kind_text kinds.InvalidRecursive = codes "invalid use of **; must be one path component"
+kind_text kinds.NestedAlternates = codes "nested alternate groups are not allowed"
+kind_text (kinds.Regex text) = string_bytes text
+
+-- what an error displays, by the text that it holds and by what its kind displays
+abbrev pub text_with : Option (List ℕ) → List ℕ → List ℕ
+text_with None kind = kind
+text_with (Some glob) kind = codes "error parsing glob '" ++ glob ++ codes "': " ++ kind
+
+-- what an error displays
+abbrev pub error_text : ErrorValue → List ℕ
+error_text e = text_with e.glob (kind_text e.kind)

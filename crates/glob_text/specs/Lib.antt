@@ -1,0 +1,9 @@
+pub mod Means
+pub mod SmallRegex
+pub mod RegexText
+pub mod RegexDenotes
+pub mod Errors
+pub mod Equality
+pub mod Values
+pub mod Escape
+pub mod inner

@@ -1,0 +1,168 @@
+//! Errors of globs.
+
+ghost use Rattle.std.specs.Prelude.{◌≡◌, ◌⊎◌, ◌↔◌, IfOk, IfErr, IsTrue};
+ghost use Rattle.std.specs.Cmp.{partial_equiv_from_equiv};
+ghost use Rattle.glob_text.specs.Errors.{out_of_memory};
+ghost use Rattle.glob_text.specs.Equality.{SameError};
+ghost use Rattle.glob_text.specs.inner.Equality.{same_error, same_error_laws};
+
+pub mod kind;
+
+use glob_syntax::Fault;
+use kind::ErrorKind;
+use std::alloc::{AllocError, AllocFailed, Global};
+use std::fmt;
+use std::marker::Model;
+
+/// An error of reading a glob, or of any other call that runs out of memory.
+///
+/// The error of a rejected text holds that text. If memory runs out, also for the copy of that text, the kind is
+/// [`ErrorKind::OutOfMemory`] and the error holds no text.
+#[derive(Debug)]
+pub struct Error {
+    glob: Option<String>,
+    kind: ErrorKind,
+}
+
+impl Drop for Error {
+    // One call wherever a value is dropped, which keeps proofs short.
+    fn drop(self) {
+        let Error { glob: _, kind: _ } = self;
+    }
+}
+
+impl Model for Error {
+    ghost use Rattle.std.specs.Prelude.{string_bytes};
+    ghost use Rattle.std.specs.Option.{option_map};
+    ghost use Rattle.glob_text.specs.Errors.{ErrorValue};
+
+    ghost Value = { ErrorValue };
+
+    ghost view = { λ e. record { glob = option_map string_bytes e.glob; kind = e.kind } };
+}
+
+impl Error {
+    ghost use Rattle.std.specs.Option.{option_map};
+    ghost use Rattle.glob_text.specs.Errors.{refusal};
+
+    /// Returns the error of a text with this fault. If the text cannot be copied, it says that memory ran out.
+    pub(crate) fn refusal(alloc: Global, text: &str, fault: Fault) -> Error
+        ensures { (result ≡ out_of_memory) ⊎ (result ≡ refusal text.now fault) }
+    {
+        let Ok(glob) = String::from_str(alloc, text) else {
+            return Error::out_of_memory();
+        };
+        Error {
+            glob: Some(glob),
+            kind: ErrorKind::of(fault),
+        }
+    }
+
+    /// Returns the error that memory ran out.
+    pub(crate) fn out_of_memory() -> Error
+        ensures { result ≡ out_of_memory }
+    {
+        Error {
+            glob: None,
+            kind: ErrorKind::OutOfMemory,
+        }
+    }
+
+    /// Returns the rejected text, or `None` if memory ran out.
+    pub fn glob(&self) -> Option<&str>
+        ensures { option_map (λ s. s.now) result ≡ self.now.glob }
+    {
+        match &self.glob {
+            Some(glob) => Some(glob.as_str()),
+            None => None,
+        }
+    }
+
+    /// Returns the kind of the error.
+    pub fn kind(&self) -> &ErrorKind
+        ensures { result.now ≡ self.now.kind }
+    {
+        &self.kind
+    }
+
+    /// Returns an equal error, or an error if memory runs out.
+    pub fn clone(&self) -> Result<Error, Error>
+        ensures ok { IfOk result (λ e. SameError e self.now) }
+        ensures equal { IfOk result (λ e. IsTrue (⟦<Error as PartialEq>⟧.eq e self.now)) }
+        ensures err { IfErr result (λ e. e ≡ out_of_memory) }
+    {
+        Ok(Clone::clone(self)?)
+    }
+}
+
+/// An equal error. The error of the call says that memory ran out.
+impl Clone for Error {
+    ghost is_clone = { λ e f. SameError f e };
+
+    fn clone(&self) -> Result<Error, AllocError> {
+        let kind = Clone::clone(&self.kind)?;
+        let glob = match &self.glob {
+            Some(glob) => Some(glob.clone()?),
+            None => None,
+        };
+        Ok(Error { glob, kind })
+    }
+}
+
+/// Errors are equal if their texts and their kinds are. It allocates nothing.
+impl PartialEq for Error {
+    ghost eq = { same_error };
+
+    ghost laws = { partial_equiv_from_equiv same_error_laws };
+
+    #[tactic(auto, using(crate::proofs::lemmas::ErrorEquality::equal_errors))]
+    fn eq(&self, other: &Error) -> bool
+        ensures result { result ≡ same_error self.now other.now }
+        ensures same { IsTrue result ↔ SameError self.now other.now }
+    {
+        self.glob == other.glob && self.kind == other.kind
+    }
+}
+
+/// Each error is equal to itself.
+impl Eq for Error {
+    ghost laws = { same_error_laws };
+}
+
+/// `error parsing glob '<glob>': <kind>`, or only the kind's text if the error holds no glob text.
+impl fmt::Display for Error {
+    ghost use Rattle.std.specs.Prelude.{Some};
+    ghost use Rattle.glob_text.specs.Errors.{error_text};
+
+    ghost output = { λ e. Some (error_text e) };
+
+    fn fmt<W: fmt::Write>(&self, f: &mut fmt::Formatter<W>) -> fmt::Result {
+        match &self.glob {
+            Some(glob) => {
+                let kind = &self.kind;
+                write!(f, "error parsing glob '{glob}': {kind}")
+            }
+            None => self.kind.fmt(f),
+        }
+    }
+}
+
+impl std::error::Error for Error {}
+
+/// The error that memory ran out, so that `?` converts std's.
+impl From<AllocError> for Error {
+    ghost from_gives = { λ _ e. e ≡ out_of_memory };
+
+    fn from(_e: AllocError) -> Error {
+        Error::out_of_memory()
+    }
+}
+
+/// The error that memory ran out, so that `?` converts the error of `Vec::push` and the like.
+impl<T: Drop> From<AllocFailed<T>> for Error {
+    ghost from_gives = { λ _ e. e ≡ out_of_memory };
+
+    fn from(_e: AllocFailed<T>) -> Error {
+        Error::out_of_memory()
+    }
+}

@@ -1,0 +1,264 @@
+//! Errors of reading a JSON value.
+
+ghost use Rattle.std.specs.Prelude.{◌≡◌, ◌↔◌, IsTrue};
+ghost use Rattle.std.specs.Cmp.{partial_equiv_from_equiv};
+ghost use Rattle.glob_text.specs.Equality.{SameValueKind, SameValueError};
+ghost use Rattle.glob_text.specs.Values.{of_element};
+ghost use Rattle.glob_text.specs.inner.Equality.{same_value_kind, same_value_kind_laws, same_value_error, same_value_error_laws};
+
+use crate::error::Error;
+use crate::error::kind::ErrorKind;
+use std::alloc::{AllocError, AllocFailed};
+use std::fmt;
+use std::marker::Model;
+
+/// Why a JSON value, or an element of a JSON array, is rejected, or that memory ran out.
+#[derive(Debug, Drop)]
+pub enum ValueErrorKind {
+    /// It is neither a text nor an object with a text under `glob`.
+    NotText,
+    /// It is an object with a key other than `glob` and those of options.
+    UnknownKey,
+    /// It is an object in which an option is neither true nor false.
+    NotBool,
+    /// It is not an array.
+    NotArray,
+    /// The content of the text is rejected as a glob, or memory ran out.
+    Glob(Error),
+}
+
+/// An equal kind. The error says that memory ran out.
+impl Clone for ValueErrorKind {
+    ghost is_clone = { λ k l. SameValueKind l k };
+
+    fn clone(&self) -> Result<ValueErrorKind, AllocError> {
+        match self {
+            ValueErrorKind::NotText => Ok(ValueErrorKind::NotText),
+            ValueErrorKind::UnknownKey => Ok(ValueErrorKind::UnknownKey),
+            ValueErrorKind::NotBool => Ok(ValueErrorKind::NotBool),
+            ValueErrorKind::NotArray => Ok(ValueErrorKind::NotArray),
+            ValueErrorKind::Glob(error) => Ok(ValueErrorKind::Glob(Clone::clone(error)?)),
+        }
+    }
+}
+
+/// Kinds are equal if they are the same variant, and its errors are equal. It allocates nothing.
+impl PartialEq for ValueErrorKind {
+    ghost eq = { same_value_kind };
+
+    ghost laws = { partial_equiv_from_equiv same_value_kind_laws };
+
+    #[tactic(auto, using(crate::proofs::lemmas::ErrorEquality::equal_value_kinds))]
+    fn eq(&self, other: &ValueErrorKind) -> bool
+        ensures result { result ≡ same_value_kind self.now other.now }
+        ensures same { IsTrue result ↔ SameValueKind self.now other.now }
+    {
+        match (self, other) {
+            (ValueErrorKind::NotText, ValueErrorKind::NotText) => true,
+            (ValueErrorKind::UnknownKey, ValueErrorKind::UnknownKey) => true,
+            (ValueErrorKind::NotBool, ValueErrorKind::NotBool) => true,
+            (ValueErrorKind::NotArray, ValueErrorKind::NotArray) => true,
+            (ValueErrorKind::Glob(error), ValueErrorKind::Glob(other)) => error == other,
+            _ => false,
+        }
+    }
+}
+
+/// Each kind is equal to itself.
+impl Eq for ValueErrorKind {
+    ghost laws = { same_value_kind_laws };
+}
+
+impl fmt::Display for ValueErrorKind {
+    ghost use Rattle.std.specs.Prelude.{Some};
+    ghost use Rattle.glob_text.specs.Values.{value_kind_text};
+
+    ghost output = { λ kind. Some (value_kind_text kind) };
+
+    fn fmt<W: fmt::Write>(&self, f: &mut fmt::Formatter<W>) -> fmt::Result {
+        match self {
+            ValueErrorKind::NotText => f.write_str("expected a glob pattern"),
+            ValueErrorKind::UnknownKey => f.write_str("unknown key in a glob object"),
+            ValueErrorKind::NotBool => f.write_str("expected true or false"),
+            ValueErrorKind::NotArray => f.write_str("expected an array of glob patterns"),
+            ValueErrorKind::Glob(error) => error.fmt(f),
+        }
+    }
+}
+
+/// An error of reading a glob, or a set of globs, from a JSON value.
+///
+/// The error of an element of an array holds the element's index. If memory runs out, the kind is
+/// [`ValueErrorKind::Glob`] with an error of the kind [`ErrorKind::OutOfMemory`], and the error holds no index.
+#[derive(Debug)]
+pub struct ValueError {
+    index: Option<usize>,
+    kind: ValueErrorKind,
+}
+
+impl Drop for ValueError {
+    // One call wherever a value is dropped, which keeps proofs short.
+    fn drop(self) {
+        let ValueError { index: _, kind: _ } = self;
+    }
+}
+
+impl Model for ValueError {
+    ghost use Rattle.glob_text.specs.Values.{ValueErrorValue};
+
+    ghost Value = { ValueErrorValue };
+
+    ghost view = { λ e. record { index = e.index; kind = e.kind } };
+}
+
+/// An equal error. The error of the call says that memory ran out.
+impl Clone for ValueError {
+    ghost is_clone = { λ e f. SameValueError f e };
+
+    fn clone(&self) -> Result<ValueError, AllocError> {
+        Ok(ValueError {
+            index: self.index,
+            kind: self.kind.clone()?,
+        })
+    }
+}
+
+/// Errors are equal if their indexes and their kinds are. It allocates nothing.
+impl PartialEq for ValueError {
+    ghost eq = { same_value_error };
+
+    ghost laws = { partial_equiv_from_equiv same_value_error_laws };
+
+    #[tactic(auto, using(crate::proofs::lemmas::ErrorEquality::equal_value_errors))]
+    fn eq(&self, other: &ValueError) -> bool
+        ensures result { result ≡ same_value_error self.now other.now }
+        ensures same { IsTrue result ↔ SameValueError self.now other.now }
+    {
+        self.index == other.index && self.kind == other.kind
+    }
+}
+
+/// Each error is equal to itself.
+impl Eq for ValueError {
+    ghost laws = { same_value_error_laws };
+}
+
+impl ValueError {
+    ghost use Rattle.std.specs.Prelude.{◌≡◌};
+    ghost use Rattle.glob_text.specs.Values.{is_memory, of_element};
+
+    /// Returns the index of the first rejected element, or `None` if the error is not about an element of an array.
+    pub fn index(&self) -> Option<usize>
+        ensures { result ≡ self.now.index }
+    {
+        self.index
+    }
+
+    /// Returns the kind of the error.
+    pub fn kind(&self) -> &ValueErrorKind
+        ensures { result.now ≡ self.now.kind }
+    {
+        &self.kind
+    }
+
+    /// Returns the error with this index. If it says that memory ran out, it is unchanged.
+    pub(crate) fn of_element(self, index: usize) -> ValueError
+        ensures { result ≡ of_element index self }
+    {
+        if self.is_memory() {
+            return self;
+        }
+        let ValueError { index: _, kind } = self;
+        ValueError {
+            index: Some(index),
+            kind,
+        }
+    }
+
+    /// Returns whether memory ran out.
+    fn is_memory(&self) -> bool
+        ensures { result ≡ is_memory self.now.kind }
+    {
+        match &self.kind {
+            ValueErrorKind::Glob(error) => matches!(error.kind(), ErrorKind::OutOfMemory),
+            _ => false,
+        }
+    }
+}
+
+/// Returns the error of the element at this index of an array. An error that memory ran out is about no element, and is
+/// returned as it is.
+pub fn error_of_element(index: usize, error: ValueError) -> ValueError
+    ensures { result ≡ of_element index error }
+{
+    error.of_element(index)
+}
+
+/// `element <index>: <kind>`, or only the kind's text if the error holds no index.
+impl fmt::Display for ValueError {
+    ghost use Rattle.std.specs.Prelude.{Some};
+    ghost use Rattle.glob_text.specs.Values.{value_error_text};
+
+    ghost output = { λ e. Some (value_error_text e) };
+
+    fn fmt<W: fmt::Write>(&self, f: &mut fmt::Formatter<W>) -> fmt::Result {
+        match self.index {
+            Some(index) => {
+                let kind = &self.kind;
+                write!(f, "element {index}: {kind}")
+            }
+            None => self.kind.fmt(f),
+        }
+    }
+}
+
+impl std::error::Error for ValueError {}
+
+/// An error with no index.
+impl From<ValueErrorKind> for ValueError {
+    ghost use Rattle.std.specs.Prelude.{◌≡◌};
+    ghost use Rattle.glob_text.specs.Values.{of_kind};
+
+    ghost from_gives = { λ kind e. e ≡ of_kind kind };
+
+    fn from(kind: ValueErrorKind) -> ValueError {
+        ValueError { index: None, kind }
+    }
+}
+
+/// An error with no index, of the kind [`ValueErrorKind::Glob`].
+impl From<Error> for ValueError {
+    ghost use Rattle.std.specs.Prelude.{◌≡◌};
+    ghost use Rattle.glob_text.specs.Values.{of_kind};
+    ghost use Rattle.glob_text.specs.declared.json.error.ValueErrorKind.TheVariants.{Glob};
+
+    ghost from_gives = { λ error e. e ≡ of_kind (Glob error) };
+
+    fn from(error: Error) -> ValueError {
+        ValueError::from(ValueErrorKind::Glob(error))
+    }
+}
+
+/// The error that memory ran out, so that `?` converts std's.
+impl From<AllocError> for ValueError {
+    ghost use Rattle.std.specs.Prelude.{◌≡◌};
+    ghost use Rattle.glob_text.specs.Values.{value_out_of_memory};
+
+    ghost from_gives = { λ _ e. e ≡ value_out_of_memory };
+
+    fn from(error: AllocError) -> ValueError {
+        ValueError::from(Error::from(error))
+    }
+}
+
+/// The error that memory ran out, so that `?` converts the error of `Vec::push` and the like.
+impl<T: Drop> From<AllocFailed<T>> for ValueError {
+    ghost use Rattle.std.specs.Prelude.{◌≡◌};
+    ghost use Rattle.glob_text.specs.Values.{value_out_of_memory};
+
+    ghost from_gives = { λ _ e. e ≡ value_out_of_memory };
+
+    fn from(error: AllocFailed<T>) -> ValueError {
+        ValueError::from(Error::from(error))
+    }
+}

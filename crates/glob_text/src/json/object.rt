@@ -1,0 +1,186 @@
+//! Globs with options as JSON objects.
+
+ghost use Rattle.std.specs.Prelude.{◌≡◌, false, true, option_map, Err, IfOk, MatchOption, MatchResult, OnOk, string_bytes};
+ghost use Rattle.serde_json.specs.Find.{get_member};
+ghost use Rattle.serde_json.specs.View.{members_view, view};
+ghost use Rattle.glob_text.specs.Errors.{glob_or_refusal};
+ghost use Rattle.glob_text.specs.Values.{glob_of_object, has_non_boolean, has_unknown_key, of_kind, of_text};
+ghost use Rattle.glob_text.specs.Values.{is_known_key, is_non_boolean, keyed_options, option_in, options_in};
+ghost use Rattle.glob_text.specs.Values.{value_of_glob, with_option, with_options};
+
+use super::error::ValueErrorKind;
+use glob_syntax::Options;
+use serde_json::{Map, Value, put};
+use std::alloc::{AllocError, Global};
+
+/// Returns the text and the options of the glob that the members of an object stand for.
+pub fn members_text_and_options(
+    members: &Map<String, Value>,
+) -> Result<(&str, Options), ValueErrorKind>
+    ensures { MatchResult result
+        (λ (text, options). glob_of_object (members_view members.now.entries) ≡ of_text (glob_or_refusal (record { text = text.now; options = options })))
+        (λ kind. glob_of_object (members_view members.now.entries) ≡ Err (of_kind kind)) }
+{
+    let Some(Value::String(text)) = member(members, "glob") else {
+        return Err(ValueErrorKind::NotText);
+    };
+    if has_unknown_key(members) {
+        return Err(ValueErrorKind::UnknownKey);
+    }
+    match read_options(members) {
+        Some(options) => Ok((text.as_str(), options)),
+        None => Err(ValueErrorKind::NotBool),
+    }
+}
+
+/// Returns the value under this key.
+fn member<'v>(members: &'v Map<String, Value>, key: &str) -> Option<&'v Value>
+    ensures { option_map (λ value. view value.now) result ≡ get_member key.now (members_view members.now.entries) }
+{
+    members.get(key)
+}
+
+/// Returns whether some key is neither `glob` nor that of an option.
+#[tactic(auto, using(crate::proofs::lemmas::Members::pass_known, crate::proofs::lemmas::Members::find_unknown))]
+fn has_unknown_key(members: &Map<String, Value>) -> bool
+    ensures { result ≡ has_unknown_key (members_view members.now.entries) }
+{
+    for (key, _) in members.iter() {
+        if !is_known_key(key.as_str()) {
+            return true;
+        }
+    }
+    false
+}
+
+/// Returns whether an object may have this key.
+fn is_known_key(key: &str) -> bool
+    ensures { result ≡ is_known_key key.now }
+{
+    matches!(
+        key,
+        "glob"
+            | "case_insensitive"
+            | "literal_separator"
+            | "backslash_escape"
+            | "empty_alternates"
+            | "allow_unclosed_class"
+            | "whole_character"
+    )
+}
+
+/// Returns the options of these members, or `None` if one of them is neither true nor false.
+fn read_options(members: &Map<String, Value>) -> Option<Options>
+    ensures { MatchOption result (has_non_boolean (members_view members.now.entries) ≡ true)
+        (λ options. (has_non_boolean (members_view members.now.entries) ≡ false) × (options ≡ options_in (members_view members.now.entries))) }
+{
+    let default = Options::DEFAULT;
+    Some(Options {
+        case_insensitive: read_option(members, "case_insensitive", default.case_insensitive)?,
+        literal_separator: read_option(members, "literal_separator", default.literal_separator)?,
+        backslash_escape: read_option(members, "backslash_escape", default.backslash_escape)?,
+        empty_alternates: read_option(members, "empty_alternates", default.empty_alternates)?,
+        allow_unclosed_class: read_option(
+            members,
+            "allow_unclosed_class",
+            default.allow_unclosed_class,
+        )?,
+        whole_character: read_option(members, "whole_character", default.whole_character)?,
+    })
+}
+
+/// Returns the option under this key, which is `default` if there is none, or `None` if it is neither true nor false.
+fn read_option(members: &Map<String, Value>, key: &str, default: bool) -> Option<bool>
+    ensures { MatchOption result (is_non_boolean (members_view members.now.entries) key.now ≡ true)
+        (λ on. (is_non_boolean (members_view members.now.entries) key.now ≡ false) × (on ≡ option_in (members_view members.now.entries) key.now default)) }
+{
+    match member(members, key) {
+        Some(value) => value.as_bool(),
+        None => Some(default),
+    }
+}
+
+/// Returns the value of a glob with this text and these options.
+#[tactic(auto, using(crate::proofs::lemmas::Values::text_of_defaults, crate::proofs::lemmas::Values::object_of_others))]
+pub fn value_of(alloc: Global, text: String, options: Options) -> Result<Value, AllocError>
+    ensures { IfOk result (λ value. view value ≡ value_of_glob (record { text = string_bytes text; options = options })) }
+{
+    let text = Value::String(text);
+    if options == Options::DEFAULT {
+        return Ok(text);
+    }
+    let mut members = Map::new(alloc);
+    put(&mut members, alloc, "glob", text)?;
+    put_options(&mut members, alloc, options)?;
+    Ok(Value::Object(members))
+}
+
+/// Adds each option that does not have its default.
+fn put_options(
+    members: &mut Map<String, Value>,
+    alloc: Global,
+    options: Options,
+) -> Result<(), AllocError>
+    ensures { OnOk result (members_view members.new.entries ≡ with_options (keyed_options options) (members_view members.old.entries)) }
+{
+    let default = Options::DEFAULT;
+    put_option(
+        members,
+        alloc,
+        "case_insensitive",
+        options.case_insensitive,
+        default.case_insensitive,
+    )?;
+    put_option(
+        members,
+        alloc,
+        "literal_separator",
+        options.literal_separator,
+        default.literal_separator,
+    )?;
+    put_option(
+        members,
+        alloc,
+        "backslash_escape",
+        options.backslash_escape,
+        default.backslash_escape,
+    )?;
+    put_option(
+        members,
+        alloc,
+        "empty_alternates",
+        options.empty_alternates,
+        default.empty_alternates,
+    )?;
+    put_option(
+        members,
+        alloc,
+        "allow_unclosed_class",
+        options.allow_unclosed_class,
+        default.allow_unclosed_class,
+    )?;
+    put_option(
+        members,
+        alloc,
+        "whole_character",
+        options.whole_character,
+        default.whole_character,
+    )
+}
+
+/// Adds an option, unless it has its default.
+fn put_option(
+    members: &mut Map<String, Value>,
+    alloc: Global,
+    key: &str,
+    value: bool,
+    default: bool,
+) -> Result<(), AllocError>
+    ensures { OnOk result (members_view members.new.entries
+        ≡ with_option (record { key = key.now; value = value; default = default }) (members_view members.old.entries)) }
+{
+    if value == default {
+        return Ok(());
+    }
+    put(members, alloc, key, Value::Bool(value))
+}
