@@ -18,6 +18,17 @@ use std::marker::Model;
 ///
 /// The error of a rejected text holds that text. If memory runs out, also for the copy of that text, the kind is
 /// [`ErrorKind::OutOfMemory`] and the error holds no text.
+///
+/// ```rust
+/// use globset::{ErrorKind, Glob};
+/// use std::string::ToString;
+///
+/// let error = Glob::new(alloc, "a[z-a]").expect_err(rt, "the range goes down");
+/// assert_eq!(rt; error.glob(), Some("a[z-a]"));
+/// assert_eq!(rt; error.kind(), &ErrorKind::InvalidRange('z', 'a'));
+/// let text = error.to_string(alloc)?;
+/// assert_eq!(rt; text.as_str(), "error parsing glob 'a[z-a]': invalid range; 'z' > 'a'");
+/// ```
 #[derive(Debug)]
 pub struct Error {
     glob: Option<String>,

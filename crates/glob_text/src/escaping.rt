@@ -15,6 +15,15 @@ use std::alloc::{AllocError, Global};
 /// the other default options, the result matches only the text, whatever the text is.
 ///
 /// The time is linear in the length of the text. Returns an error if memory runs out.
+///
+/// ```rust
+/// use globset::{Glob, escape};
+///
+/// let text = escape(alloc, "a[1].c")?;
+/// assert_eq!(rt; text.as_str(), "a[[]1[]].c");
+/// let matcher = Glob::new(alloc, text.as_str())?.compile_matcher()?;
+/// assert!(rt; matcher.is_match("a[1].c")? && !matcher.is_match("a1.c")?);
+/// ```
 pub fn escape(alloc: Global, text: &str) -> Result<String, Error>
     ensures text { IfOk result (λ s. string_bytes s ≡ escaped text.now) }
     ensures escape_default { IfOk result (λ s. IsTrue (has_no_backslash text.now) → MeansOnly (default_glob (string_bytes s)) text.now) }

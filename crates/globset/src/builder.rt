@@ -9,10 +9,16 @@ use std::marker::Model;
 ///
 /// Contracts see the list of the globs.
 ///
-/// ```text
+/// ```rust
+/// use globset::{Glob, GlobSetBuilder};
+///
 /// let mut builder = GlobSetBuilder::new(alloc);
 /// builder.add(Glob::new(alloc, "*.c")?)?.add(Glob::new(alloc, "*.h")?)?;
-/// let set = builder.build()?;
+/// let sources = builder.build()?;
+/// builder.add(Glob::new(alloc, "Makefile")?)?;
+/// let all = builder.build()?;
+/// assert!(rt; !sources.is_match("Makefile")?);
+/// assert!(rt; all.is_match("Makefile")?);
 /// ```
 #[derive(Debug, Drop)]
 pub struct GlobSetBuilder {

@@ -41,6 +41,15 @@ pub fn failed_add_keeps(builder: &mut GlobSetBuilder, glob: Glob) -> Result<(), 
 
 /// After [`GlobSetBuilder::add`] returned an error, more globs can be added: this adds `other` if adding `glob` failed,
 /// and returns whether `glob` was added.
+///
+/// ```rust
+/// use globset::laws::add_after_error;
+/// use globset::{Glob, GlobSetBuilder};
+///
+/// let mut builder = GlobSetBuilder::new(alloc);
+/// let first = add_after_error(&mut builder, Glob::new(alloc, "a")?, Glob::new(alloc, "b")?)?;
+/// assert!(rt; builder.build()?.is_match(if first { "a" } else { "b" })?);
+/// ```
 pub fn add_after_error(builder: &mut GlobSetBuilder, glob: Glob, other: Glob) -> Result<bool, Error>
     ensures ok { IfOk result (λ first.
         builder_globs builder.new ≡ builder_globs builder.old ++ (if first then glob else other) ∷ []) }

@@ -31,10 +31,24 @@ use stored::Stored;
 /// if it is case-sensitive and is parsed like `**/..`. It counts in [`GlobSet::len`], so [`GlobSet::matches_all`] is
 /// false on every path if the set has a silent glob.
 ///
-/// ```text
-/// let set = GlobSet::new(alloc, [&Glob::new(alloc, "*.c")?, &Glob::new(alloc, "src/*")?])?;
+/// ```rust
+/// use globset::{Glob, GlobSet};
+///
+/// let globs = [Glob::new(alloc, "*.c")?, Glob::new(alloc, "src/*")?];
+/// let set = GlobSet::new(alloc, &globs)?;
 /// assert_eq!(rt; set.matches(alloc, "src/a.c")?.as_slice(), [0, 1].as_slice());
+/// assert!(rt; set.is_match("a.c")?);
 /// assert!(rt; !set.matches_all("a.c")?);
+/// ```
+///
+/// A silent glob, which matches paths by itself, but not in a set:
+///
+/// ```rust
+/// use globset::{Glob, GlobSet};
+///
+/// let glob = Glob::new(alloc, "**/..")?;
+/// assert!(rt; glob.compile_matcher()?.is_match("a/..")?);
+/// assert!(rt; !GlobSet::new(alloc, [&glob])?.is_match("a/..")?);
 /// ```
 pub struct GlobSet {
     stored: Option<Stored>,

@@ -11,8 +11,13 @@ use std::marker::Model;
 
 /// Sets the options of a glob, and reads the glob under them.
 ///
-/// ```text
-/// GlobBuilder::new("*.RS").case_insensitive(true).literal_separator(true).build(alloc)?
+/// ```rust
+/// use globset::GlobBuilder;
+///
+/// let glob = GlobBuilder::new("*.RS").case_insensitive(true).literal_separator(true).build(alloc)?;
+/// let matcher = glob.compile_matcher()?;
+/// assert!(rt; matcher.is_match("lib.rs")?);
+/// assert!(rt; !matcher.is_match("src/lib.rs")?);
 /// ```
 #[derive(Debug, Drop)]
 pub struct GlobBuilder<'a> {
@@ -61,6 +66,15 @@ impl<'a> GlobBuilder<'a> {
     }
 
     /// Sets whether a `\` outside classes escapes the next character, which then matches itself. On by default.
+    ///
+    /// ```rust
+    /// use globset::{Glob, GlobBuilder};
+    ///
+    /// let escaped = Glob::new(alloc, r"a\*")?.compile_matcher()?;
+    /// assert!(rt; escaped.is_match("a*")? && !escaped.is_match(r"a\b")?);
+    /// let plain = GlobBuilder::new(r"a\*").backslash_escape(false).build(alloc)?.compile_matcher()?;
+    /// assert!(rt; plain.is_match(r"a\b")? && !plain.is_match("a*")?);
+    /// ```
     pub fn backslash_escape(&mut self, yes: bool) -> &mut GlobBuilder<'a>
         ensures same_reference { result.ghost_name ≡ self.entry.ghost_name }
         ensures value { result.now ≡ record self.old { options = record self.old.options { backslash_escape = yes } } }
@@ -72,6 +86,15 @@ impl<'a> GlobBuilder<'a> {
     /// Sets whether a group keeps its empty branches, as the second of `{a,}`, which then match the empty text. A branch
     /// that contains only groups of empty branches counts as empty. If it is off, empty branches are dropped. Off by
     /// default.
+    ///
+    /// ```rust
+    /// use globset::{Glob, GlobBuilder};
+    ///
+    /// let dropped = Glob::new(alloc, "lib{,64}")?.compile_matcher()?;
+    /// assert!(rt; dropped.is_match("lib64")? && !dropped.is_match("lib")?);
+    /// let kept = GlobBuilder::new("lib{,64}").empty_alternates(true).build(alloc)?.compile_matcher()?;
+    /// assert!(rt; kept.is_match("lib64")? && kept.is_match("lib")?);
+    /// ```
     pub fn empty_alternates(&mut self, yes: bool) -> &mut GlobBuilder<'a>
         ensures same_reference { result.ghost_name ≡ self.entry.ghost_name }
         ensures value { result.now ≡ record self.old { options = record self.old.options { empty_alternates = yes } } }
@@ -81,6 +104,14 @@ impl<'a> GlobBuilder<'a> {
     }
 
     /// Sets whether a `[` with no closing `]` matches itself. If it is off, such a `[` is an error. Off by default.
+    ///
+    /// ```rust
+    /// use globset::{Glob, GlobBuilder};
+    ///
+    /// assert!(rt; Glob::new(alloc, "a[*").is_err());
+    /// let glob = GlobBuilder::new("a[*").allow_unclosed_class(true).build(alloc)?;
+    /// assert!(rt; glob.compile_matcher()?.is_match("a[b")?);
+    /// ```
     pub fn allow_unclosed_class(&mut self, yes: bool) -> &mut GlobBuilder<'a>
         ensures same_reference { result.ghost_name ≡ self.entry.ghost_name }
         ensures value { result.now ≡ record self.old { options = record self.old.options { allow_unclosed_class = yes } } }
@@ -92,6 +123,15 @@ impl<'a> GlobBuilder<'a> {
     /// Sets whether `?` matches one whole character: the bytes of a Unicode scalar value in UTF-8, except `/` under
     /// `literal_separator`. If it is off, `?` matches one byte. `*`, classes and all else match bytes in both cases. Off by
     /// default.
+    ///
+    /// ```rust
+    /// use globset::{Glob, GlobBuilder};
+    ///
+    /// let bytes = Glob::new(alloc, "?")?.compile_matcher()?;
+    /// assert!(rt; bytes.is_match("e")? && !bytes.is_match("é")?);
+    /// let characters = GlobBuilder::new("?").whole_character(true).build(alloc)?.compile_matcher()?;
+    /// assert!(rt; characters.is_match("e")? && characters.is_match("é")?);
+    /// ```
     pub fn whole_character(&mut self, yes: bool) -> &mut GlobBuilder<'a>
         ensures same_reference { result.ghost_name ≡ self.entry.ghost_name }
         ensures value { result.now ≡ record self.old { options = record self.old.options { whole_character = yes } } }

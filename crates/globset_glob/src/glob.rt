@@ -25,6 +25,16 @@ use std::marker::Model;
 /// A glob pattern that was read.
 ///
 /// Contracts see a glob as its text and its options. Every glob has tokens, which the text and the options determine.
+///
+/// ```rust
+/// use globset::{Glob, GlobBuilder};
+///
+/// let glob = Glob::new(alloc, "src/*.rs")?;
+/// assert_eq!(rt; glob.glob(), "src/*.rs");
+/// assert!(rt; glob.compile_matcher()?.is_match("src/lib.rs")?);
+/// assert!(rt; glob == Glob::new(alloc, "src/*.rs")?);
+/// assert!(rt; glob != GlobBuilder::new("src/*.rs").literal_separator(true).build(alloc)?);
+/// ```
 pub struct Glob {
     text: String,
     options: Options,
@@ -111,8 +121,11 @@ impl Glob {
     /// written after a `\`, in classes too. A byte above 7F is written as `\x` and two digits. Under `whole_character` a `?` is
     /// a group with a branch for each row of Table 3-7 of the Unicode Standard, which has the bytes of characters in UTF-8.
     ///
-    /// ```text
-    /// a-b/**/*.{rs,é}    (?-u)^a\-b(?:/|/.*/).*\.(?:rs|\xc3\xa9)$
+    /// ```rust
+    /// use globset::Glob;
+    ///
+    /// let glob = Glob::new(alloc, "a-b/**/*.{rs,é}")?;
+    /// assert_eq!(rt; glob.regex(), r"(?-u)^a\-b(?:/|/.*/).*\.(?:rs|\xc3\xa9)$");
     /// ```
     pub fn regex(&self) -> &str
         ensures text { result.now ≡ regex_text self.now.options (tokens_of_glob self.now) }

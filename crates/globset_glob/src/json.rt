@@ -17,8 +17,14 @@ impl Glob {
     /// The value is the glob's text if every option has its default. Otherwise it is an object, with the text under the key
     /// `glob` and each option that does not have its default under the option's name. Its keys are in ascending order.
     ///
-    /// ```text
-    /// {"glob":"*.rs","literal_separator":true}
+    /// ```rust
+    /// use globset::{Glob, GlobBuilder};
+    ///
+    /// let glob = GlobBuilder::new("*.rs").literal_separator(true).build(alloc)?;
+    /// let value = glob.to_value()?;
+    /// let text = value.to_string(alloc)?;
+    /// assert_eq!(rt; text.as_str(), r#"{"glob":"*.rs","literal_separator":true}"#);
+    /// assert!(rt; Glob::from_value(alloc, &value)? == glob);
     /// ```
     #[tactic(auto, using(glob_text::proofs::lemmas::Values::read_back))]
     pub fn to_value(&self) -> Result<Value, Error>

@@ -30,6 +30,15 @@ fn automaton_of(glob: &Glob) -> Result<Automaton, AllocError>
 ///
 /// Contracts see a matcher as its glob. It has an automaton for the glob, which is made with it, and a deterministic one if
 /// that is not too large. Nothing is kept from one call to the next.
+///
+/// ```rust
+/// use globset::Glob;
+///
+/// let matcher = Glob::new(alloc, "docs/**")?.compile_matcher()?;
+/// assert!(rt; matcher.is_match("docs/a/b.md")?);
+/// assert!(rt; !matcher.is_match("docs")?);
+/// assert_eq!(rt; matcher.glob().glob(), "docs/**");
+/// ```
 pub struct GlobMatcher {
     glob: Glob,
     automaton: Compiled,
@@ -86,6 +95,13 @@ impl GlobMatcher {
     }
 
     /// Returns whether the glob matches a candidate's path, or an error if memory runs out.
+    ///
+    /// ```rust
+    /// use globset::{Candidate, Glob};
+    ///
+    /// let matcher = Glob::new(alloc, "*.c")?.compile_matcher()?;
+    /// assert!(rt; matcher.is_match_candidate(&Candidate::from_bytes(b"\xff.c"))?);
+    /// ```
     pub fn is_match_candidate(&self, path: &Candidate<'_>) -> Result<bool, Error>
         ensures ok { IfOk result (λ yes. yes ≡ glob_means self.now path.now) }
         ensures err { IfErr result (λ e. e ≡ out_of_memory) }

@@ -12,6 +12,20 @@ use std::alloc::AllocError;
 use std::fmt;
 
 /// Why a glob text is rejected, or that memory ran out.
+///
+/// ```rust
+/// use globset::{ErrorKind, Glob};
+///
+/// let hint = match Glob::new(alloc, "*.{c,h") {
+///     Ok(_) => "it is a glob",
+///     Err(error) => match error.kind() {
+///         ErrorKind::UnclosedAlternates => "write the missing }",
+///         ErrorKind::OutOfMemory => "try again later",
+///         _ => "it is no glob",
+///     },
+/// };
+/// assert_eq!(rt; hint, "write the missing }");
+/// ```
 #[derive(Debug, Drop)]
 pub enum ErrorKind {
     /// A `[` has no closing `]`.

@@ -13,6 +13,15 @@ use std::fmt;
 use std::marker::Model;
 
 /// Why a JSON value, or an element of a JSON array, is rejected, or that memory ran out.
+///
+/// ```rust
+/// use globset::{Glob, ValueErrorKind};
+/// use serde_json::Value;
+///
+/// let value = Value::from_str(alloc, r#"{"glob": "*.c", "case": true}"#)?;
+/// let error = Glob::from_value(alloc, &value).expect_err(rt, "no option has this name");
+/// assert_eq!(rt; error.kind(), &ValueErrorKind::UnknownKey);
+/// ```
 #[derive(Debug, Drop)]
 pub enum ValueErrorKind {
     /// It is neither a text nor an object with a text under `glob`.
@@ -90,6 +99,17 @@ impl fmt::Display for ValueErrorKind {
 ///
 /// The error of an element of an array holds the element's index. If memory runs out, the kind is
 /// [`ValueErrorKind::Glob`] with an error of the kind [`ErrorKind::OutOfMemory`], and the error holds no index.
+///
+/// ```rust
+/// use globset::GlobSet;
+/// use serde_json::Value;
+/// use std::string::ToString;
+///
+/// let value = Value::from_str(alloc, r#"["*.c", 7]"#)?;
+/// let error = GlobSet::from_value(alloc, &value).expect_err(rt, "7 is no glob");
+/// assert_eq!(rt; error.index(), Some(1));
+/// assert_eq!(rt; error.to_string(alloc)?.as_str(), "element 1: expected a glob pattern");
+/// ```
 #[derive(Debug)]
 pub struct ValueError {
     index: Option<usize>,

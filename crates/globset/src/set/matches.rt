@@ -41,6 +41,17 @@ impl GlobSet {
 
     /// Replaces the vector's items by the indexes that [`GlobSet::matches`] returns. The vector's capacity is reused.
     ///
+    /// ```rust
+    /// use globset::{Glob, GlobSet};
+    ///
+    /// let set = GlobSet::new(alloc, [&Glob::new(alloc, "*.c")?])?;
+    /// let mut indexes = Vec::new(alloc);
+    /// set.matches_into("a.c", &mut indexes)?;
+    /// assert_eq!(rt; indexes.as_slice(), [0].as_slice());
+    /// set.matches_into("a.h", &mut indexes)?;
+    /// assert!(rt; indexes.is_empty());
+    /// ```
+    ///
     /// Returns an error if memory runs out, and no other; the vector is then empty. It needs no memory if the set has no globs.
     pub fn matches_into<P: AsPath>(&self, path: P, into: &mut Vec<usize>) -> Result<(), Error>
         ensures ok { OnOk result (into.new.items ≡ answer (set_globs self.now) (P.text path)) }

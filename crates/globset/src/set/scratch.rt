@@ -18,14 +18,22 @@ use std::marker::Model;
 ///
 /// Contracts see two numbers: of states, and of indexes.
 ///
-/// ```text
+/// ```rust
+/// use globset::{Candidate, Glob, GlobSet, Scratch, Visits};
+///
+/// let globs = [Glob::new(alloc, "*.c")?, Glob::new(alloc, "src/*")?];
+/// let set = GlobSet::new(alloc, &globs)?;
 /// let mut scratch = Scratch::new(alloc, &set)?;
+/// let mut indexes = Vec::with_capacity(alloc, set.len())?;
 /// let mut visits = Visits::new();
-/// for path in paths {
-///     if set.is_match_with(&Candidate::new(path), &mut scratch, &mut visits) {
-///         found += 1;
-///     }
-/// }
+///
+/// let path = Candidate::new("src/a.c");
+/// assert!(rt; set.is_match_with(&path, &mut scratch, &mut visits));
+/// set.matches_into_with(&path, &mut scratch, &mut indexes, &mut visits)?;
+/// assert_eq!(rt; indexes.as_slice(), [0, 1].as_slice());
+///
+/// let path = Candidate::new("a.c");
+/// assert!(rt; !set.matches_all_with(&path, &mut scratch, &mut visits));
 /// ```
 pub struct Scratch {
     states: usize,

@@ -21,6 +21,15 @@ impl GlobSet {
     /// - the error of the first element that is not a glob, with its index;
     /// - [`ValueErrorKind::NotArray`] if the value is not an array, with no index;
     /// - [`ValueErrorKind::Glob`] of an out-of-memory error if memory runs out, with no index.
+    ///
+    /// ```rust
+    /// use globset::GlobSet;
+    /// use serde_json::Value;
+    ///
+    /// let text = r#"["*.rs", {"glob": "*.MD", "case_insensitive": true}]"#;
+    /// let set = GlobSet::from_value(alloc, &Value::from_str(alloc, text)?)?;
+    /// assert_eq!(rt; set.matches(alloc, "readme.md")?.as_slice(), [1].as_slice());
+    /// ```
     pub fn from_value(alloc: Global, value: &Value) -> Result<GlobSet, ValueError>
         ensures ok { IfOk result (λ set. globs_of_value (view value.now) ≡ Ok (set_globs set)) }
         ensures err { IfErr result (IsValueErrorOf (globs_of_value (view value.now))) }
