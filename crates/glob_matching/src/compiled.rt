@@ -6,6 +6,7 @@ ghost use Rattle.byte_automaton.specs.Sets.{has_index, index_room, sets_room};
 ghost use Rattle.glob_automaton.specs.IndexedTokens.{IndexedTokens, IsFor, SomeMatches};
 
 use crate::division::divided;
+use crate::engine::Engine;
 use crate::parts::Parts;
 use crate::simulation;
 use byte_automaton::{Automaton, IndexSet, StateSets};
@@ -56,7 +57,7 @@ impl Clone for Compiled {
 }
 
 impl Compiled {
-    /// Returns an automaton in parts. Returns an error if memory runs out.
+    /// Returns an automaton in parts, which the engine makes deterministic or not. Returns an error if memory runs out.
     ///
     /// A part has the states from one start to another, and begins in as many starts as its limits allow. It has at most 2,048
     /// states. Its table and lists have at most `2^27 / states` numbers, and 96 for each state and 2,048 more; if it has one
@@ -64,10 +65,14 @@ impl Compiled {
     /// numbers are made for all parts, with those of parts that are given up because they would have more. What cannot be
     /// made deterministic within these limits is simulated. So it takes time and memory linear in the states, up to the
     /// factors of these limits.
-    pub fn new(alloc: Global, automaton: Automaton) -> Result<Compiled, AllocError>
+    pub fn new(
+        alloc: Global,
+        engine: Engine,
+        automaton: Automaton,
+    ) -> Result<Compiled, AllocError>
         ensures { IfOk result (λ c. c ≡ automaton) }
     {
-        match divided(alloc, &automaton)? {
+        match divided(alloc, engine, &automaton)? {
             Some(parts) => Ok(Compiled {
                 form: Form::Divided(parts),
             }),

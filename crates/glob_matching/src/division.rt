@@ -6,6 +6,7 @@ ghost use Rattle.byte_automaton.specs.Parts.{IsPart};
 ghost use Rattle.byte_automaton.specs.Runs.{size};
 ghost use Rattle.glob_matching.specs.inner.Parts.{ArePartsBelow};
 
+use crate::engine::Engine;
 use crate::parts::Parts;
 use byte_automaton::Automaton;
 use byte_dfa::Dfa;
@@ -67,11 +68,15 @@ struct Part {
 ///
 /// A part has the states up to some start, from behind an earlier one. There are as many starts in it as halving leaves:
 /// all that are left, or else half of them, until it can be made deterministic. What cannot is simulated.
-pub fn divided(alloc: Global, automaton: &Automaton) -> Result<Option<Parts>, AllocError>
+pub fn divided(
+    alloc: Global,
+    engine: Engine,
+    automaton: &Automaton,
+) -> Result<Option<Parts>, AllocError>
     ensures { IfOk result (λ made. IfSome made (λ parts. parts ≡ automaton.now)) }
 {
     let starts = automaton.starts().len();
-    let mut division = Division::new(alloc);
+    let mut division = Division::new(alloc, engine);
     let mut high = 0;
     let mut first = 0;
     let mut count = starts;
@@ -100,14 +105,17 @@ pub fn divided(alloc: Global, automaton: &Automaton) -> Result<Option<Parts>, Al
 
 impl Division {
     /// Returns a division that has no parts.
-    fn new(alloc: Global) -> Division
+    fn new(alloc: Global, engine: Engine) -> Division
         ensures tables { result.tables.items ≡ [] }
         ensures automata { result.automata.items ≡ [] }
     {
         Division {
             tables: Vec::new(alloc),
             automata: Vec::new(alloc),
-            room: MOST_NUMBERS_TOGETHER,
+            room: match engine {
+                Engine::Deterministic => MOST_NUMBERS_TOGETHER,
+                Engine::Simulated => 0,
+            },
         }
     }
 

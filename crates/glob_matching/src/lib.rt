@@ -7,7 +7,9 @@
 
 mod compiled;
 mod division;
+mod engine;
 mod parts;
 mod simulation;
 
 pub use compiled::Compiled;
+pub use engine::Engine;

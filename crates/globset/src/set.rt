@@ -16,6 +16,7 @@ mod value;
 mod with;
 
 use crate::builder::GlobSetBuilder;
+use glob_matching::Engine;
 use globset_glob::{Error, Glob};
 pub use scratch::Scratch;
 use std::alloc::{AllocError, Global};
@@ -138,7 +139,7 @@ impl GlobSet {
         for glob in globs {
             copies.push(glob.clone()?)?;
         }
-        GlobSet::from_globs(copies)
+        GlobSet::from_globs(Engine::Deterministic, copies)
     }
 
     /// Returns an equal set, with memory of its own. Returns an error if memory runs out, and no other.
@@ -154,13 +155,29 @@ impl GlobSet {
         })
     }
 
-    /// Returns the set of these globs. Returns an error if memory runs out, and no other.
-    fn from_globs(globs: Vec<Glob>) -> Result<GlobSet, Error>
+    /// Returns a set of the same globs, whose automata are simulated. Returns an error if memory runs out, and no other.
+    ///
+    /// It is for tests, which compare it with this set.
+    #[doc(hidden)]
+    pub fn simulated(&self) -> Result<GlobSet, Error>
+        ensures ok { IfOk result (λ s. set_globs s ≡ set_globs self.now) }
+        ensures err { IfErr result (λ e. e ≡ out_of_memory) }
+    {
+        let Some(stored) = &self.stored else {
+            return Ok(GlobSet { stored: None });
+        };
+        Ok(GlobSet {
+            stored: Some(stored.simulated()?),
+        })
+    }
+
+    /// Returns the set of these globs, with automata that this engine runs. Returns an error if memory runs out, and no other.
+    fn from_globs(engine: Engine, globs: Vec<Glob>) -> Result<GlobSet, Error>
         ensures ok { IfOk result (λ set. set_globs set ≡ globs.items) }
         ensures err { IfErr result (λ e. e ≡ out_of_memory) }
     {
         Ok(GlobSet {
-            stored: Some(Stored::new(globs)?),
+            stored: Some(Stored::new(engine, globs)?),
         })
     }
 }

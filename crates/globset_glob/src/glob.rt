@@ -15,6 +15,7 @@ ghost use Rattle.glob_text.specs.Means.{GlobValue, tokens_of_glob, glob_means};
 
 use crate::builder::GlobBuilder;
 use crate::matcher::GlobMatcher;
+use glob_matching::Engine;
 use glob_syntax::{Options, Token, copy_of};
 use glob_text::{Error, regex_of_tokens, tokens_of_text};
 use std::alloc::{AllocError, Global};
@@ -151,7 +152,18 @@ impl Glob {
         ensures ok { IfOk result (λ m. m ≡ self.now) }
         ensures err { IfErr result (λ e. e ≡ out_of_memory) }
     {
-        GlobMatcher::new(self.clone()?)
+        GlobMatcher::new(Engine::Deterministic, self.clone()?)
+    }
+
+    /// Returns a matcher for an equal glob, whose automaton is simulated. Returns an error if memory runs out.
+    ///
+    /// It is for tests, which compare it with the other matcher.
+    #[doc(hidden)]
+    pub fn compile_simulated(&self) -> Result<GlobMatcher, Error>
+        ensures ok { IfOk result (λ m. m ≡ self.now) }
+        ensures err { IfErr result (λ e. e ≡ out_of_memory) }
+    {
+        GlobMatcher::new(Engine::Simulated, self.clone()?)
     }
 }
 

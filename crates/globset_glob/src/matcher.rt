@@ -8,7 +8,7 @@ ghost use Rattle.globset_glob.specs.inner.GlobAutomaton.{IsAutomatonOf};
 use crate::glob::Glob;
 use byte_automaton::{Automaton, StateSets};
 use glob_automaton::{add_tokens, new_builder};
-use glob_matching::Compiled;
+use glob_matching::{Compiled, Engine};
 use glob_path::{AsPath, Candidate};
 use glob_text::Error;
 use std::alloc::AllocError;
@@ -69,11 +69,11 @@ impl GlobMatcher {
     ghost use Rattle.glob_text.specs.Means.{glob_means};
 
     /// Returns a matcher of a glob, at the cost of [`Glob::compile_matcher`]. Returns an error if memory runs out.
-    pub(crate) fn new(glob: Glob) -> Result<GlobMatcher, Error>
+    pub(crate) fn new(engine: Engine, glob: Glob) -> Result<GlobMatcher, Error>
         ensures ok { IfOk result (λ m. m ≡ glob) }
         ensures err { IfErr result (λ e. e ≡ out_of_memory) }
     {
-        let automaton = Compiled::new(glob.allocator(), automaton_of(&glob)?)?;
+        let automaton = Compiled::new(glob.allocator(), engine, automaton_of(&glob)?)?;
         Ok(GlobMatcher { glob, automaton })
     }
 

@@ -17,7 +17,7 @@ mod slots;
 use crate::matching_sets::MatchingSets;
 use byte_automaton::{Builder, StateSets};
 use glob_automaton::{add_tokens, new_builder};
-use glob_matching::Compiled;
+use glob_matching::{Compiled, Engine};
 use glob_path::{Candidate, component_extension_of, last_component_of};
 use glob_syntax::{Options, Token};
 use slots::{Slots, SlotsBuilder};
@@ -344,7 +344,7 @@ impl AutomataBuilder {
     }
 
     /// Returns what was added. Returns an error if memory runs out.
-    pub fn finish(self, alloc: Global) -> Result<Automata, AllocError>
+    pub fn finish(self, alloc: Global, engine: Engine) -> Result<Automata, AllocError>
         ensures { IfOk result (λ automata. automata ≡ self) }
     {
         let AutomataBuilder {
@@ -352,9 +352,9 @@ impl AutomataBuilder {
             by_component,
             extensions,
         } = self;
-        let by_path = Compiled::new(alloc, by_path.finish())?;
-        let by_component = Compiled::new(alloc, by_component.finish())?;
-        let extensions = extensions.finish(alloc)?;
+        let by_path = Compiled::new(alloc, engine, by_path.finish())?;
+        let by_component = Compiled::new(alloc, engine, by_component.finish())?;
+        let extensions = extensions.finish(alloc, engine)?;
         let most_states = by_path
             .state_count()
             .max(by_component.state_count())

@@ -8,6 +8,7 @@ ghost use Rattle.group_matching.specs.inner.Groups.{AreGroupsOf, group_count};
 
 use crate::automata::{Automata, AutomataBuilder};
 use glob_groups::{Group, group_of, tokens_after_prefix};
+use glob_matching::Engine;
 use glob_syntax::{Options, Token};
 use path_keys::{Keys, KeysBuilder};
 use std::alloc::{AllocError, Global};
@@ -127,14 +128,14 @@ impl GroupsBuilder {
         }
     }
 
-    /// Returns the groups of the globs that were added. Returns an error if memory runs out.
-    pub fn finish(self, alloc: Global) -> Result<Groups, AllocError>
+    /// Returns the groups of the globs that were added, with automata that this engine runs. Returns an error if memory runs out.
+    pub fn finish(self, alloc: Global, engine: Engine) -> Result<Groups, AllocError>
         ensures { IfOk result (λ groups. groups ≡ self) }
     {
         let GroupsBuilder { keys, automata } = self;
         Ok(Groups {
             keys: keys.finish(alloc)?,
-            automata: automata.finish(alloc)?,
+            automata: automata.finish(alloc, engine)?,
         })
     }
 }

@@ -9,6 +9,7 @@ ghost use Rattle.globset.specs.inner.StoredGlobs.{AreStored};
 ghost use Rattle.group_matching.specs.Indexes.{ContainsAllBelow};
 ghost use Rattle.group_matching.specs.inner.Room.{HasRoom, KeepsRoom};
 
+use glob_matching::Engine;
 use globset_glob::{Candidate, Error, Glob, Visits, options_of, tokens_of};
 use group_matching::{Groups, GroupsBuilder, MatchingSets};
 use std::alloc::{AllocError, Global};
@@ -47,12 +48,13 @@ impl Model for Stored {
 }
 
 impl Stored {
-    /// Puts each of these globs into its group. Returns an error if memory runs out, and no other.
-    pub fn new(globs: Vec<Glob>) -> Result<Stored, Error>
+    /// Puts each of these globs into its group, with automata that this engine runs. Returns an error if memory runs out, and no
+    /// other.
+    pub fn new(engine: Engine, globs: Vec<Glob>) -> Result<Stored, Error>
         ensures ok { IfOk result (λ s. set_globs s ≡ globs.items) }
         ensures err { IfErr result (λ e. e ≡ out_of_memory) }
     {
-        let groups = groups_of(*globs.allocator(), &globs)?;
+        let groups = groups_of(*globs.allocator(), engine, &globs)?;
         Ok(Stored { globs, groups })
     }
 
@@ -143,17 +145,25 @@ impl Stored {
         let groups = self.groups.clone()?;
         Ok(Stored { globs, groups })
     }
+
+    /// Returns the same globs, with automata that are simulated. Returns an error if memory runs out, and no other.
+    pub fn simulated(&self) -> Result<Stored, Error>
+        ensures ok { IfOk result (λ s. set_globs s ≡ set_globs self.now) }
+        ensures err { IfErr result (λ e. e ≡ out_of_memory) }
+    {
+        Stored::new(Engine::Simulated, self.globs.clone()?)
+    }
 }
 
-/// Returns the groups of these globs. Returns an error if memory runs out.
-fn groups_of(alloc: Global, globs: &[Glob]) -> Result<Groups, AllocError>
+/// Returns the groups of these globs, with automata that this engine runs. Returns an error if memory runs out.
+fn groups_of(alloc: Global, engine: Engine, globs: &[Glob]) -> Result<Groups, AllocError>
     ensures { IfOk result (AreStored globs.now) }
 {
     let mut builder = GroupsBuilder::new(alloc, globs.len());
     for (index, glob) in globs.iter().enumerate() {
         builder.add(alloc, options_of(glob), tokens_of(glob), index)?;
     }
-    builder.finish(alloc)
+    builder.finish(alloc, engine)
 }
 
 /// Only the globs: the groups can be large, and follow from them.

@@ -7,6 +7,7 @@ ghost use Rattle.globset.specs.SetFromValue.{globs_from, globs_of_value};
 ghost use Rattle.globset.specs.SetValue.{set_globs};
 
 use crate::set::GlobSet;
+use glob_matching::Engine;
 use glob_text::error_of_element;
 use globset_glob::{Glob, ValueError, ValueErrorKind};
 use serde_json::Value;
@@ -35,7 +36,7 @@ impl GlobSet {
         ensures err { IfErr result (IsValueErrorOf (globs_of_value (view value.now))) }
     {
         match value {
-            Value::Array(values) => Ok(GlobSet::from_globs(read_globs(alloc, values)?)?),
+            Value::Array(values) => Ok(GlobSet::from_globs(Engine::Deterministic, read_globs(alloc, values)?)?),
             _ => Err(ValueError::from(ValueErrorKind::NotArray)),
         }
     }
