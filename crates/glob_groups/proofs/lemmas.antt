@@ -4,5 +4,6 @@ pub mod EndMeaning
 pub mod Endings
 pub mod FlatTests
 pub mod Groups
+pub mod Keys
 pub mod Silent
 pub mod TokenMeaning

@@ -1,1 +1,2 @@
+pub mod ByKey
 pub mod FlatTests

@@ -7,6 +7,7 @@ ghost use Rattle.glob_groups.specs.Groups.{after_prefix, automaton_group, sensit
 ghost use Rattle.glob_groups.specs.GroupMeaning.{IsGroupOf, group_seen};
 
 mod conditions;
+mod direct;
 mod key;
 
 use crate::silence::{is_recursive_prefix, is_silent};

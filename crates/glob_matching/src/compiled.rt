@@ -65,11 +65,7 @@ impl Compiled {
     /// numbers are made for all parts, with those of parts that are given up because they would have more. What cannot be
     /// made deterministic within these limits is simulated. So it takes time and memory linear in the states, up to the
     /// factors of these limits.
-    pub fn new(
-        alloc: Global,
-        engine: Engine,
-        automaton: Automaton,
-    ) -> Result<Compiled, AllocError>
+    pub fn new(alloc: Global, engine: Engine, automaton: Automaton) -> Result<Compiled, AllocError>
         ensures { IfOk result (λ c. c ≡ automaton) }
     {
         match divided(alloc, engine, &automaton)? {
