@@ -32,8 +32,7 @@ impl Glob {
         ensures read_back { IfOk result (λ value. glob_of_value (view value) ≡ Ok self.now) }
         ensures err { IfErr result (λ e. e ≡ out_of_memory) }
     {
-        let text = String::from_str(self.allocator(), self.glob())?;
-        Ok(value_of(self.allocator(), text, self.options())?)
+        Ok(value_of(self.allocator(), self.glob(), self.options())?)
     }
 
     /// Reads a glob from a JSON value: a text, which is read under the default options, as by [`Glob::new`], or an object.

@@ -1,6 +1,6 @@
 //! Globs with options as JSON objects.
 
-ghost use Rattle.std.specs.Prelude.{◌≡◌, false, true, option_map, Err, IfOk, MatchOption, MatchResult, OnOk, string_bytes};
+ghost use Rattle.std.specs.Prelude.{◌≡◌, false, true, option_map, Err, IfOk, MatchOption, MatchResult, OnOk};
 ghost use Rattle.serde_json.specs.Find.{get_member};
 ghost use Rattle.serde_json.specs.View.{members_view, view};
 ghost use Rattle.glob_text.specs.Errors.{glob_or_refusal};
@@ -100,12 +100,12 @@ fn read_option(members: &Map<String, Value>, key: &str, default: bool) -> Option
     }
 }
 
-/// Returns the value of a glob with this text and these options.
+/// Returns the value of a glob with this text and these options. Returns an error if memory runs out.
 #[tactic(auto, using(crate::proofs::lemmas::Values::text_of_defaults, crate::proofs::lemmas::Values::object_of_others))]
-pub fn value_of(alloc: Global, text: String, options: Options) -> Result<Value, AllocError>
-    ensures { IfOk result (λ value. view value ≡ value_of_glob (record { text = string_bytes text; options = options })) }
+pub fn value_of(alloc: Global, text: &str, options: Options) -> Result<Value, AllocError>
+    ensures { IfOk result (λ value. view value ≡ value_of_glob (record { text = text.now; options = options })) }
 {
-    let text = Value::String(text);
+    let text = Value::String(String::from_str(alloc, text)?);
     if options == Options::DEFAULT {
         return Ok(text);
     }
