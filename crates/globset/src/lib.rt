@@ -58,21 +58,21 @@
 //! | `**/` at the start | nothing, or bytes that end with `/` | `**/a` matches `a`, `x/y/a` and `/a`, and not `xa` |
 //! | `/**` at the end | bytes that begin with `/` | `a/**` matches `a/x/y` and `a/`, and not `a` |
 //! | `/**/` | `/`, or bytes that begin and end with `/` | `a/**/b` matches `a/b` and `a/x/y/b`, and not `a/xb` |
-//! | `**` alone | every path | `**` matches `a`, `x/y` and `/` |
+//! | `**` or `**/` alone | every path | `**` matches `a`, `x/y` and `/` |
 //! | `{a,b}` | what `a` or `b` matches, which are globs | `*.{c,h}` matches `a.c` and `a.h`, and not `a.{c,h}` |
 //! | `[ab]`, `[a-z]` | one byte of the class | `[a-c]x` matches `ax` and `bx`, and not `dx` |
 //! | `[!ab]`, `[^ab]` | one byte that is not in the class | `[!a-c]x` matches `dx` and `/x`, and not `ax` |
 //! | `\` | the character after it | `\*` matches `*`, and not `a` |
 //! | another character | its bytes in UTF-8 | `é.c` matches `é.c`, and not `e.c` |
 //!
-//! **Paths.** A path is not changed before matching. `.` and `..` are components like others: `*/b` matches `../b`, and
-//! `a/../b` is another path than `b`. Each `/` has to be matched, also one at the start or at the end, and a second one in a
-//! row. A component that begins with `.` is matched like others. Only two things depend on `..`: [`Candidate::basename`]
+//! **Paths.** A path is not changed before matching. `.` and `..` are components like others, so `*/b` matches `../b`. The
+//! path `a/../b` is another one than `b`. Each `/` has to be matched, also one at the start or at the end, and a second one in
+//! a row. A component that begins with `.` is matched like others. Only two things depend on `..`: [`Candidate::basename`]
 //! returns nothing if the last component is `..`, and in a set the glob `**/..` matches no path (see [`GlobSet`]).
 //!
-//! **Stars.** `**` is more than two `*` only between separators: with a `/`, or the start or end of the glob or of a branch in
-//! braces, on each side. Several in a row, as in `**/**/a`, match what one does. Any other run of stars, as in `a**`, `**a`
-//! and `a***b`, is that many `*`, and matches what one `*` does. `{**,a}` has two `*`, since `**` alone is a whole glob.
+//! **Stars.** `**` is more than two `*` only alone, or as a whole component: between two `/`, or between a `/` and the start
+//! or end of the glob or of a branch in braces. Several in a row, as in `**/**/a`, match what one does. Any other run of
+//! stars, as in `a**`, `**a`, `a***b` and `{**,a}`, is that many `*`, and matches what one `*` does.
 //!
 //! **Braces.** What stands between the commas are branches, and each is a glob with its own `**`: `x{**/a,b}` matches `xa`,
 //! `xy/a` and `xb`. Braces nest to any depth. A branch is left out if it is empty, or only has branches in braces that are
@@ -82,7 +82,7 @@
 //! **Classes** match one byte. A range has both of its ends. The first character after `[`, `[!` or `[^` is in the class
 //! whatever it is: `[]]`, `[!]]` and `[-a]` are classes. So is a `-` at the end. A `\` in a class escapes nothing, and is in
 //! it. A `/` in a class is matched under `literal_separator`, too, and by `[!a]`. A character that is not ASCII stands for its
-//! bytes: `[é]` matches one byte, C3 or A9, and not `é`, which is both.
+//! bytes: `[é]` matches one byte, C3 or A9, and not `é`, which is both. `docs/DEFINITIONS.md` has the bytes of a range of them.
 //!
 //! ## Options
 //!
