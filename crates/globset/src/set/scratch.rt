@@ -89,6 +89,18 @@ impl Scratch {
 
     /// Returns whether the scratch fits the set: whether neither of its numbers is below the set's. It fits the set that it was made
     /// for.
+    ///
+    /// ```rust
+    /// use globset::{Candidate, Glob, GlobSet, Scratch, Visits};
+    ///
+    /// let small = GlobSet::new(alloc, [&Glob::new(alloc, "*.c")?])?;
+    /// let large = GlobSet::new(alloc, [&Glob::new(alloc, "*a*")?, &Glob::new(alloc, "*b*")?])?;
+    /// let mut scratch = Scratch::new(alloc, &small)?;
+    /// if !scratch.fits(&large) {
+    ///     scratch = Scratch::new(alloc, &large)?;
+    /// }
+    /// assert!(rt; large.is_match_with(&Candidate::new("cab"), &mut scratch, &mut Visits::new()));
+    /// ```
     pub fn fits(&self, set: &GlobSet) -> bool
         ensures { IsTrue result ↔ Fits self.now set.now }
     {
