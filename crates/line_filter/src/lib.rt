@@ -10,8 +10,6 @@ mod fault;
 pub mod laws;
 mod run;
 mod sifting;
-#[cfg(test)]
-mod tests;
 
 pub use crate::arguments::command;
 pub use crate::arguments::fault::CommandFault;

@@ -8,10 +8,6 @@ use std::fmt;
 pub enum RowError {
     /// No row is of this kind.
     UnknownKind,
-    /// No call has this name.
-    UnknownCall,
-    /// What is to be rejected is read without an error.
-    NoError,
     /// There are fewer columns than the row needs.
     MissingColumn,
     /// The bytes of a column are not written as they should be.
@@ -32,8 +28,6 @@ impl fmt::Display for RowError {
     fn fmt<W: fmt::Write>(&self, f: &mut fmt::Formatter<W>) -> fmt::Result {
         f.write_str(match self {
             RowError::UnknownKind => "no row is of this kind",
-            RowError::UnknownCall => "no call has this name",
-            RowError::NoError => "this is read without an error",
             RowError::MissingColumn => "a column is missing",
             RowError::BadColumn => "a column has bytes that are not written as they should be",
             RowError::NotUtf8 => "a column is not UTF-8",
