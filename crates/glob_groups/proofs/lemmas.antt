@@ -1,3 +1,4 @@
+pub mod BeforeEnding
 pub mod Components
 pub mod Direct
 pub mod EndMeaning

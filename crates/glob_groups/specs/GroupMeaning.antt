@@ -10,7 +10,7 @@ use Rattle.glob_groups.specs.declared.group.Group.{Group}
 use Rattle.glob_groups.specs.declared.group.Group.TheVariants as held
 use Rattle.glob_groups.specs.Silent.{are_listed}
 use Rattle.glob_groups.specs.Direct.{needs_automaton}
-use Rattle.glob_groups.specs.Groups.{GroupValue, Silent, WholePath, LastComponent, Extension, LastComponents, End, Beginning, RequiredExtension, ByLastComponent, ByPath, after_prefix, group_of_tokens}
+use Rattle.glob_groups.specs.Groups.{GroupValue, Silent, WholePath, LastComponent, Extension, LastComponents, End, Beginning, RequiredExtension, ByLastComponent, ByPath, after_prefix, before_ending, group_of_tokens}
 
 -- a group of the program
 abbrev pub group_seen : Group → GroupValue
@@ -41,8 +41,10 @@ Tells (LastComponents key) o ts path = IsTrue (are_listed o ts path) ↔ ((path 
 Tells (End key) o ts path = IsTrue (are_listed o ts path) ↔ ((front : List ℕ) × (front ++ key ≡ path))
 -- for the paths that begin with the key
 Tells (Beginning key) o ts path = IsTrue (are_listed o ts path) ↔ ((rest : List ℕ) × (key ++ rest ≡ path))
--- only for paths whose last component has the key as its extension, and of these for the ones that the tokens match
-Tells (RequiredExtension key) o ts path = (are_listed o ts path ≡ means o ts path) × (IsTrue (are_listed o ts path) → component_extension path ≡ key)
+-- only for paths whose last component has the key as its extension; and for a path that ends with the key, if the tokens before
+-- the ending match what is before the key
+Tells (RequiredExtension key) o ts path =
+    (IsTrue (are_listed o ts path) → component_extension path ≡ key) × ((front : List ℕ) → front ++ key ≡ path → are_listed o ts path ≡ means o (before_ending ts) front)
 -- for the paths whose last component the tokens after RecursivePrefix match
 Tells ByLastComponent o ts path = are_listed o ts path ≡ means o (after_prefix ts) (last_component path)
 -- for the paths that the tokens match

@@ -6,7 +6,7 @@ use Rattle.glob_syntax.specs.ClassBytes.{class_has}
 use Rattle.glob_automaton.specs.Takes.{slash}
 use Rattle.glob_automaton.specs.TokenMeans.{is_prefix}
 use Rattle.glob_groups.specs.Silent.{are_silent}
-use Rattle.glob_groups.specs.TokenTests.{is_literal_except, first_and_rest, some_all_pass, literal_text, ending, is_whole_path, is_last_components, is_star_extension, is_end, is_beginning, is_below_folder}
+use Rattle.glob_groups.specs.TokenTests.{is_literal_except, first_and_rest, some_all_pass, literal_text, ending, is_extension, is_whole_path, is_last_components, is_star_extension, is_end, is_beginning, is_below_folder}
 
 -- The token is a literal other than `/`, a class without the byte of `/`, or under `literal_separator` `?` or `*`. What it
 -- matches has no `/`.
@@ -21,6 +21,11 @@ matches_no_slash o t = false
 abbrev pub after_prefix : Tokens → Tokens
 after_prefix end = end
 after_prefix (and_then t ts) = if is_prefix t then ts else and_then t ts
+
+-- the tokens before the last ones, if these are a literal `.` and any literals other than `.` and `/`; otherwise all tokens
+abbrev pub before_ending : Tokens → Tokens
+before_ending end = end
+before_ending (and_then t ts) = if is_extension (and_then t ts) then end else and_then t (before_ending ts)
 
 -- RecursivePrefix, and one or more literals other than `/`
 abbrev pub is_last_component : Tokens → Bool
@@ -50,7 +55,7 @@ pub data GroupValue : Type 0 where
   End : List ℕ → GroupValue
   -- the beginning of the path
   Beginning : List ℕ → GroupValue
-  -- an automaton, but only for paths whose last component has this extension
+  -- an automaton that is run on what is before the extension, but only for paths whose last component has this extension
   RequiredExtension : List ℕ → GroupValue
   -- an automaton that is run on the path's last component
   ByLastComponent : GroupValue

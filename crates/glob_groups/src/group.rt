@@ -3,7 +3,7 @@
 ghost use Rattle.std.specs.Prelude.{◌≡◌, IfOk};
 ghost use Rattle.glob_syntax.specs.FlatTokens.{IsNested};
 ghost use Rattle.glob_syntax.specs.Views.{flats, tokens_of};
-ghost use Rattle.glob_groups.specs.Groups.{after_prefix, automaton_group, sensitive_group};
+ghost use Rattle.glob_groups.specs.Groups.{after_prefix, automaton_group, before_ending, sensitive_group};
 ghost use Rattle.glob_groups.specs.GroupMeaning.{IsGroupOf, group_seen};
 
 mod conditions;
@@ -36,8 +36,8 @@ pub enum Group {
     End(Vec<u8>),
     /// The glob matches the paths that begin with the key.
     Beginning(Vec<u8>),
-    /// The glob matches only paths whose last component has the key as its extension. An automaton for the glob tells which
-    /// of them.
+    /// The glob matches only paths whose last component has the key as its extension, and of these the ones whose bytes before
+    /// the key match [`tokens_before_ending`]. An automaton for these tokens tells which bytes do.
     RequiredExtension(Vec<u8>),
     /// The glob matches the paths whose last component matches [`tokens_after_prefix`]. An automaton for these tokens tells
     /// which components do.
@@ -77,6 +77,22 @@ pub fn tokens_after_prefix(tokens: &[Token]) -> &[Token]
         return rest;
     }
     tokens
+}
+
+/// Returns the tokens that the bytes before the key have to match for a glob of the group [`Group::RequiredExtension`]: all
+/// tokens before the key's. If the last tokens are no extension, these are all tokens.
+pub fn tokens_before_ending(tokens: &[Token]) -> &[Token]
+    requires { IsNested (flats tokens.now) }
+    ensures tokens { tokens_of result.now ≡ before_ending (tokens_of tokens.now) }
+    ensures nested { IsNested (flats result.now) }
+{
+    match ending(tokens) {
+        Some(last) => {
+            let end = tokens.len() - last.len();
+            &tokens[..end]
+        }
+        None => tokens,
+    }
 }
 
 /// Returns the group of the tokens of a case-sensitive glob that is not silent.

@@ -4,4 +4,4 @@
 mod group;
 mod silence;
 
-pub use group::{Group, group_of, tokens_after_prefix};
+pub use group::{Group, group_of, tokens_after_prefix, tokens_before_ending};

@@ -10,7 +10,7 @@ ghost use Rattle.glob_syntax.specs.FlatTokens.{IsNested};
 ghost use Rattle.glob_syntax.specs.Views.{flats, tokens_of};
 ghost use Rattle.glob_syntax.specs.inner.Weight.{weight};
 ghost use Rattle.group_matching.specs.inner.Room.{HasRoom, KeepsRoom};
-ghost use Rattle.group_matching.specs.inner.Automata.{AddsTokens, AreFor, AreForLists, AreFound, AreIdle, IsFoundSet, TokenLists, machine_under, most_size, most_states, states_for, tokens_under};
+ghost use Rattle.group_matching.specs.inner.Automata.{AddsTokens, AreFor, AreForLists, AreFound, AreIdle, IsFoundSet, TokenLists, before_extension, machine_under, most_size, most_states, states_for, tokens_under};
 
 mod slots;
 
@@ -136,7 +136,7 @@ impl Automata {
         self.by_path
             .find(path, &mut sets.states, &mut sets.marks, visits)?;
         self.run_by_component(path, sets, visits)?;
-        by_extension.find(path, &mut sets.states, &mut sets.marks, visits)?;
+        run_by_extension(by_extension, path, sets, visits)?;
         Ok(true)
     }
 
@@ -162,7 +162,7 @@ impl Automata {
             return Ok(true);
         }
         let by_extension = self.by_extension(path, visits);
-        by_extension.is_match(path.path(), sets, visits)
+        is_match_by_extension(by_extension, path.path(), sets, visits)
     }
 
     /// Returns the automaton of the extension of the path's last component, or one without states if it has none. The extension
@@ -230,6 +230,55 @@ impl Automata {
         let component = last_component_of(&Candidate::from_bytes(path));
         self.by_component.is_match(component, sets, visits)
     }
+}
+
+/// Marks the indexes of the globs whose tokens match the path before its extension, beside those that are marked. The extension
+/// is only searched for if there are states.
+fn run_by_extension(
+    automaton: &Compiled,
+    path: &[u8],
+    sets: &mut MatchingSets,
+    visits: &mut Visits,
+) -> Result<(), AllocError>
+    requires { automaton.now.index_count ≤ index_room sets.old.marks }
+    ensures found { OnOk result ((xs : List IndexedTokens) → IsFor automaton.now xs → (k : ℕ) → IsTrue (has_index sets.new.marks k) ↔ (SomeMatches xs (before_extension path.now) k ⊎ IsTrue (has_index sets.old.marks k))) }
+    ensures kept { KeepsRoom sets.old sets.new }
+    ensures memory { size automaton.now ≤ sets_room sets.old.states → IsOk result }
+    ensures visits { visits.new ≤ visits.old + (length path.now + 1) * size automaton.now }
+{
+    if automaton.state_count() == 0 {
+        return Ok(());
+    }
+    let text = before_extension(path);
+    automaton.find(text, &mut sets.states, &mut sets.marks, visits)
+}
+
+/// Returns whether the path before its extension matches tokens. The extension is only searched for if there are states.
+fn is_match_by_extension(
+    automaton: &Compiled,
+    path: &[u8],
+    sets: &mut StateSets,
+    visits: &mut Visits,
+) -> Result<bool, AllocError>
+    ensures some { IfOk result (λ yes. (xs : List IndexedTokens) → IsFor automaton.now xs → IsTrue yes ↔ ((k : ℕ) × SomeMatches xs (before_extension path.now) k)) }
+    ensures kept { sets_room sets.old ≤ sets_room sets.new }
+    ensures memory { size automaton.now ≤ sets_room sets.old → IsOk result }
+    ensures visits { visits.new ≤ visits.old + (length path.now + 1) * size automaton.now }
+{
+    if automaton.state_count() == 0 {
+        return Ok(false);
+    }
+    let text = before_extension(path);
+    automaton.is_match(text, sets, visits)
+}
+
+/// Returns the bytes of a path before the extension of its last component.
+fn before_extension(path: &[u8]) -> &[u8]
+    ensures { result.now ≡ before_extension path.now }
+{
+    let extension = component_extension_of(&Candidate::from_bytes(path));
+    let end = path.len() - extension.len();
+    &path[..end]
 }
 
 /// Makes [`Automata`].

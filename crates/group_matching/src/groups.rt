@@ -7,7 +7,7 @@ ghost use Rattle.group_matching.specs.Globs.{TokenGlob, token_glob};
 ghost use Rattle.group_matching.specs.inner.Groups.{AreGroupsOf, group_count};
 
 use crate::automata::{Automata, AutomataBuilder};
-use glob_groups::{Group, group_of, tokens_after_prefix};
+use glob_groups::{Group, group_of, tokens_after_prefix, tokens_before_ending};
 use glob_matching::Engine;
 use glob_syntax::{Options, Token};
 use path_keys::{Keys, KeysBuilder};
@@ -117,8 +117,9 @@ impl GroupsBuilder {
             Group::End(key) => self.keys.add_end(key, index),
             Group::Beginning(key) => self.keys.add_beginning(key, index),
             Group::RequiredExtension(key) => {
+                let rest = tokens_before_ending(tokens);
                 self.automata
-                    .add_by_extension(alloc, key, options, tokens, index)
+                    .add_by_extension(alloc, key, options, rest, index)
             }
             Group::ByLastComponent => {
                 let rest = tokens_after_prefix(tokens);

@@ -9,11 +9,11 @@ use Rattle.glob_syntax.specs.Reading.{Levels, in_branch, open_level, first_branc
 use Rattle.glob_syntax.specs.FlatTokens.{Flat, simple, opening, comma, closing, levels_of, tree_of, Nests, IsNested}
 use Rattle.glob_syntax.specs.Views.{flat_of, flats}
 use Rattle.glob_syntax.proofs.lemmas.FlatTokens.{depth}
-use Rattle.glob_automaton.proofs.lemmas.Booleans.{and_first, and_second, and_none}
+use Rattle.glob_automaton.proofs.lemmas.Booleans.{and_both, and_first, and_second, and_none}
 use Rattle.glob_groups.specs.Silent.{is_dot}
 use Rattle.glob_groups.specs.TokenTests as tree
 use Rattle.glob_groups.specs.inner.FlatTests as flat
-use Rattle.glob_groups.specs.inner.FlatTests.{is_simple_that, all_simple_pass}
+use Rattle.glob_groups.specs.inner.FlatTests.{EndsInExtension, is_simple_that, all_simple_pass}
 use Rattle.glob_groups.proofs.lemmas.Silent.{dot_is, simple_is}
 use Rattle.glob_groups.proofs.lemmas.FlatTests.{is_plain, tree_simple, all_same, extension_simple, text_more, text_same}
 
@@ -153,6 +153,15 @@ dot_found ts j t e dot plain =
     ap (λ l. Some (flat.literal_text (flats l))) (take_all (length ts - j) (drop j ts) (omega (arith, length-drop j ts)) ∙ e)
     ∙ ap (λ f. Some (flat.literal_text (f ∷ back))) is
     ∙ sym (ap flat.ending (cut_at ts j t e ∙ ap (λ f. flats (take j ts) ++ f ∷ back) is) ∙ dot_ends (flats (take j ts)) back plain)
+
+pub dot_cut : (ts : List held.Token) (j : ℕ) (t : held.Token) → drop j ts ≡ t ∷ drop (j + 1) ts → is_simple_that is_dot (flat_of t) ≡ true → all_simple_pass is_plain (flats (drop (j + 1) ts)) ≡ true
+    → EndsInExtension ts (take (length ts - j) (drop j ts))
+dot_cut ts j t e dot plain =
+    let all : take (length ts - j) (drop j ts) ≡ drop j ts = take_all (length ts - j) (drop j ts) (omega (arith, length-drop j ts)) in record {
+      before = take j ts;
+      cut = sym (take-append-drop j ts) ∙ ap (λ l. take j ts ++ l) (sym all);
+      extension = ap (λ l. flat.is_extension (flats l)) (all ∙ e) ∙ and_both (is_simple_that is_dot (flat_of t)) (all_simple_pass is_plain (flats (drop (j + 1) ts))) dot plain;
+    }
 
 -- the token at j is neither plain nor a `.`, and those after it are plain
 pub none_found : (ts : List held.Token) (j : ℕ) (t : held.Token) → drop j ts ≡ t ∷ drop (j + 1) ts → is_simple_that is_plain (flat_of t) ≡ false → is_simple_that is_dot (flat_of t) ≡ false

@@ -69,7 +69,7 @@ last_components_same = first_same is_prefix (λ bs. refl) flat.is_whole_path tre
 abbrev pub is_plain : Token → Bool
 is_plain t = is_literal_except (46 ∷ slash ∷ []) t
 
-extension_same : (ts : List Flat) → IsNested ts → flat.is_extension ts ≡ tree.is_extension (tree_of ts)
+pub extension_same : (ts : List Flat) → IsNested ts → flat.is_extension ts ≡ tree.is_extension (tree_of ts)
 extension_same = first_same is_dot (λ bs. refl) (all_simple_pass is_plain) (all_pass is_plain) (all_same is_plain (λ bs. refl))
 
 star_extension_same : (ts : List Flat) → IsNested ts → flat.is_star_extension ts ≡ tree.is_star_extension (tree_of ts)

@@ -12,6 +12,7 @@ use Rattle.glob_groups.specs.Groups.{GroupValue, Silent, ByLastComponent, ByPath
 use Rattle.glob_groups.specs.GroupMeaning.{group_seen, Tells, runs_automaton, IsGroupOf}
 use Rattle.glob_groups.specs.Direct.{is_direct, has_ending, needs_automaton}
 use Rattle.glob_groups.specs.declared.group.Group.{Group}
+use Rattle.glob_groups.proofs.lemmas.BeforeEnding.{before_ending_means}
 use Rattle.glob_groups.proofs.lemmas.Direct.{other_not_direct, ending_needs, insensitive_needs}
 use Rattle.glob_groups.proofs.lemmas.EndMeaning.{last_components_means, end_means, beginning_means, below_folder_means}
 use Rattle.glob_groups.proofs.lemmas.TokenMeaning.{whole_path_means, last_component_means, any_extension_means, ending_required, by_last_component_means}
@@ -58,9 +59,13 @@ automaton_tells o ts path loud = by_case (is_by_last_component o ts) refl
     by_case true h = listed_means o ts path loud ∙ by_last_component_means o path ts h
     by_case false h = listed_means o ts path loud
 
-ending_tells : (o : Options) (ts : Tokens) (path : List ℕ) → are_silent o ts ≡ false → o.case_insensitive ≡ false → (last : Option (List ℕ)) → ending ts ≡ last → Tells (ending_group o ts last) o ts path
-ending_tells o ts path loud off (Some key) e = (listed_means o ts path loud, λ yes. ending_required o ts path key off e (sym (listed_means o ts path loud) ∙ yes))
-ending_tells o ts path loud off None e = automaton_tells o ts path loud
+ending_tells : (o : Options) (ts : Tokens) (path : List ℕ) → are_silent o ts ≡ false → o.case_insensitive ≡ false → is_last_component ts ≡ false → (last : Option (List ℕ)) → ending ts ≡ last
+    → Tells (ending_group o ts last) o ts path
+ending_tells o ts path loud off other (Some key) e = (
+  λ yes. ending_required o ts path key off e (sym (listed_means o ts path loud) ∙ yes),
+  λ front at. listed_means o ts path loud ∙ before_ending_means o ts path key front off other e at,
+)
+ending_tells o ts path loud off other None e = automaton_tells o ts path loud
 
 sensitive_tells : (o : Options) (ts : Tokens) (path : List ℕ) → are_silent o ts ≡ false → o.case_insensitive ≡ false → Tells (sensitive_group o ts) o ts path
 sensitive_tells o ts path loud off =
@@ -71,7 +76,7 @@ sensitive_tells o ts path loud off =
     of_choice C (is_end o ts) _ _ (λ h. subst (λ b. IsTrue b ↔ ((front : List ℕ) × (front ++ literal_text ts ≡ path))) (sym same) (end_means o path off ts h)) (λ e.
     of_choice C (is_beginning o ts) _ _ (λ h. subst (λ b. IsTrue b ↔ ((rest : List ℕ) × (literal_text ts ++ rest ≡ path))) (sym same) (beginning_means o path off ts h)) (λ f.
     of_choice C (is_below_folder ts) _ _ (λ h. subst (λ b. IsTrue b ↔ ((rest : List ℕ) × ((literal_text ts ++ slash ∷ []) ++ rest ≡ path))) (sym same) (below_folder_means o path off ts h)) (λ g.
-    ending_tells o ts path loud off (ending ts) refl)))))))
+    ending_tells o ts path loud off b (ending ts) refl)))))))
   where
     same : are_listed o ts path ≡ means o ts path
     same = listed_means o ts path loud

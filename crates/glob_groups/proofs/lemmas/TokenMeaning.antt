@@ -219,7 +219,7 @@ literals_any excluded (and_then t ts) h = absurd (true≢false (sym h))
 abbrev AreExtension : Tokens → Type 0
 AreExtension ts = IsExtension (literal_text ts) × (all_pass (is_literal_except []) ts ≡ true)
 
-extension_literals : (ts : Tokens) → is_extension ts ≡ true → AreExtension ts
+pub extension_literals : (ts : Tokens) → is_extension ts ≡ true → AreExtension ts
 extension_literals = by_first AreExtension silent.is_dot (Literal 46) (all_pass (is_literal_except (46 ∷ slash ∷ []))) dot_is (λ us all. (
   record {
     after = literal_text us;
@@ -231,7 +231,7 @@ extension_literals = by_first AreExtension silent.is_dot (Literal 46) (all_pass 
 ))
 
 -- a path ends with the extension of its last component
-extension_end : (b : List ℕ) → EndsWith b (component_extension b)
+pub extension_end : (b : List ℕ) → EndsWith b (component_extension b)
 extension_end b = ⊎_elim {C = EndsWith b (component_extension b)}
     (λ none. (b, sym (append-nil b) ∙ ap (λ l. b ++ l) (sym none)))
     (λ has. let p = split b in (p.front ++ has.before, p.cut ∙ ap (λ l. p.front ++ l) has.cut ∙ sym (append_assoc p.front has.before (component_extension b))))
@@ -326,7 +326,7 @@ ending_taken o (and_then t ts) b k off e h = by_case (λ y later q. ending_taken
         let (k_is, (front, at)) = rest y later q in
         (k_is, (x ++ front, cut ∙ ap (λ l. x ++ l) at ∙ sym (append_assoc x front k)))
 
-no_ending : (ts : Tokens) → is_prefix_alone ts ≡ true → ending ts ≡ None
+pub no_ending : (ts : Tokens) → is_prefix_alone ts ≡ true → ending ts ≡ None
 no_ending end h = absurd (true≢false (sym h))
 no_ending (and_then RecursivePrefix end) h = refl
 no_ending (and_then t end) h = absurd (true≢false (sym h))

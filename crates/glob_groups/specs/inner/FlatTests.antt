@@ -1,9 +1,11 @@
 -- Tests of flat tokens, as the program makes them.
-use Rattle.std.specs.Prelude.{ℕ, Bool, false, not, ◌&&◌, ◌||◌, List, [], ◌∷◌, ◌++◌, Option, Some, None, if◌then◌else◌, encode_utf8}
+use Rattle.std.specs.Prelude.{◌≡◌, ℕ, Bool, true, false, not, ◌&&◌, ◌||◌, List, [], ◌∷◌, ◌++◌, Option, Some, None, if◌then◌else◌, encode_utf8}
 use Rattle.std.specs.List.{list_all}
 use Rattle.glob_syntax.specs.declared.options.Options.{Options}
 use Rattle.glob_syntax.specs.Token.{Token, Literal}
+use Rattle.glob_syntax.specs.declared.token.Token as held
 use Rattle.glob_syntax.specs.FlatTokens.{Flat, simple, opening, comma, closing}
+use Rattle.glob_syntax.specs.Views.{flats}
 use Rattle.glob_automaton.specs.Takes.{slash}
 use Rattle.glob_automaton.specs.TokenMeans.{is_prefix}
 use Rattle.glob_groups.specs.Silent.{is_dot}
@@ -101,3 +103,9 @@ is_by_last_component o ts = first_and_rest is_prefix (some_all_simple_pass (matc
 abbrev pub ending : List Flat → Option (List ℕ)
 ending [] = None
 ending (t ∷ ts) = if is_extension (t ∷ ts) then Some (literal_text (t ∷ ts)) else ending ts
+
+-- the tokens are others, and then these, which are an extension
+pub record EndsInExtension (tokens last : List held.Token) : Type 0 where
+  pub before : List held.Token
+  pub cut : tokens ≡ before ++ last
+  pub extension : is_extension (flats last) ≡ true

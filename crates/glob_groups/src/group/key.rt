@@ -1,10 +1,10 @@
 //! The keys of globs: bytes of their literals.
 
-ghost use Rattle.std.specs.Prelude.{◌≡◌, IfOk, [], ◌∷◌, ◌++◌};
+ghost use Rattle.std.specs.Prelude.{◌≡◌, IfOk, IfSome, [], ◌∷◌, ◌++◌};
 ghost use Rattle.std.specs.Option.{option_map};
 ghost use Rattle.glob_syntax.specs.Views.{flats};
 ghost use Rattle.glob_automaton.specs.Takes.{slash};
-ghost use Rattle.glob_groups.specs.inner.FlatTests.{ending, literal_text};
+ghost use Rattle.glob_groups.specs.inner.FlatTests.{EndsInExtension, ending, literal_text};
 
 use crate::group::conditions::is_literal_except;
 use crate::silence::is_dot;
@@ -40,7 +40,8 @@ pub fn literal_text_and_slash(alloc: Global, tokens: &[Token]) -> Result<Vec<u8>
 /// Returns the tokens from the last literal `.` on if all tokens after it are literals other than `/`, and `None` otherwise. It
 /// reads the tokens from the end to that `.`, or to the first one that is not such a literal.
 pub fn ending(tokens: &[Token]) -> Option<&[Token]>
-    ensures { option_map (λ last. literal_text (flats last.now)) result ≡ ending (flats tokens.now) }
+    ensures text { option_map (λ last. literal_text (flats last.now)) result ≡ ending (flats tokens.now) }
+    ensures last { IfSome result (λ last. EndsInExtension tokens.now last.now) }
 {
     for i in 0..tokens.len() {
         let at = tokens.len() - 1 - i;

@@ -1,13 +1,17 @@
 -- Tokens in automata, and runs.
-use Rattle.std.proofs.Common.{◌≡◌, ℕ, zero, suc, ◌+◌, ◌*◌, ◌<◌, ◌≤◌, ◌⊎◌, inl, inr, List, [], ◌∷◌, Option, Some, None, drop, length, length-drop, refl, ap, sym, subst, ◌∙◌, arith}
+use Rattle.std.proofs.Common.{◌≡◌, ℕ, zero, suc, ◌+◌, ◌-◌, ◌*◌, ◌<◌, ◌≤◌, ◌⊎◌, inl, inr, List, [], ◌∷◌, ◌++◌, Option, Some, None, drop, take, length, length-drop, refl, ap, sym, subst, ◌∙◌, arith}
 use Rattle.std.specs.Prelude.{◌↔◌}
 use Rattle.std.proofs.Math.Logic.{⊎_elim}
 use Rattle.std.proofs.Math.Nat.{mul-le-mul_right}
+use Rattle.std.proofs.Math.Seq.{take-append_seam}
+use Rattle.std.proofs.lemmas.List.{length-append}
 use Rattle.byte_automaton.specs.Runs.{size}
 use Rattle.byte_automaton.specs.Steps.{State, Machine, state, skips, IsIn, Accepts, ends, by_byte, by_skip, by_out, by_stay}
 use Rattle.byte_automaton.specs.Texts.{AllBytes}
 use Rattle.glob_automaton.specs.IndexedTokens.{IndexedTokens, SomeMatches, IsFor}
-use Rattle.glob_path.specs.PathParts.{after_position, last_component, last_position, is_separator}
+use Rattle.glob_groups.proofs.lemmas.TokenMeaning.{extension_end}
+use Rattle.glob_path.specs.PathParts.{after_position, component_extension, last_component, last_position, is_separator}
+use Rattle.group_matching.specs.inner.Automata.{before_extension}
 
 -- ---- the last component of a path
 
@@ -23,6 +27,13 @@ bytes_after (Some k) path h = bytes_dropped (k + 1) path h
 pub component_bytes : (path : List ℕ) → AllBytes path → AllBytes (last_component path)
 component_bytes path h = bytes_after (last_position is_separator path) path h
 
+-- a bound on visits for a text, within that for a longer one
+shorter_visits : (a b n m old new : ℕ) → a ≤ b → n ≡ m → new ≤ old + (a + 1) * n → new ≤ old + (b + 1) * m
+shorter_visits a b n m old new le same few =
+    let fewer : a + 1 ≤ b + 1 = omega (arith, le) in
+    let most = mul-le-mul_right n fewer in
+    let all = ap (λ (k : ℕ). (b + 1) * k) same in omega (arith, few, most, all)
+
 component_length : (o : Option ℕ) (path : List ℕ) → length (after_position path o) ≤ length path
 component_length None path = omega arith
 component_length (Some k) path = let rest = length-drop (k + 1) path in omega (arith, rest)
@@ -32,9 +43,32 @@ pub component_visits : (path text : List ℕ) (n m old new : ℕ) → text ≡ l
 component_visits path text n m old new is same few =
     let shorter = component_length (last_position is_separator path) path in
     let long = ap length is in
-    let fewer : length text + 1 ≤ length path + 1 = omega (arith, shorter, long) in
-    let most = mul-le-mul_right n fewer in
-    let all = ap (λ (k : ℕ). (length path + 1) * k) same in omega (arith, few, most, all)
+    shorter_visits (length text) (length path) n m old new (omega (arith, shorter, long)) same few
+
+-- ---- a path before its extension
+
+pub extension_cut : (path : List ℕ) → before_extension path ++ component_extension path ≡ path
+extension_cut path =
+    let (front, cut) = extension_end path in
+    let count : length path - length (component_extension path) ≡ length front = let all = ap length cut in let parts = length-append front (component_extension path) in omega (arith, all, parts) in
+    let same : before_extension path ≡ front = ap (λ k. take k path) count ∙ ap (take (length front)) cut ∙ take-append_seam front (component_extension path) in
+    ap (λ l. l ++ component_extension path) same ∙ sym cut
+
+bytes_taken : (n : ℕ) (path : List ℕ) → AllBytes path → AllBytes (take n path)
+bytes_taken zero path h = tt
+bytes_taken (suc n) [] h = tt
+bytes_taken (suc n) (c ∷ cs) h = (h.0, bytes_taken n cs h.1)
+
+pub before_bytes : (path : List ℕ) → AllBytes path → AllBytes (before_extension path)
+before_bytes path h = bytes_taken (length path - length (component_extension path)) path h
+
+-- the visits of a run over it, within those of a run over the path
+pub before_visits : (path text : List ℕ) (n old new : ℕ) → text ≡ before_extension path → new ≤ old + (length text + 1) * n → new ≤ old + (length path + 1) * n
+before_visits path text n old new is few =
+    let long = ap length (extension_cut path) in
+    let parts = length-append (before_extension path) (component_extension path) in
+    let same = ap length is in
+    shorter_visits (length text) (length path) n n old new (omega (arith, long, parts, same)) refl few
 
 -- ---- an automaton without states
 

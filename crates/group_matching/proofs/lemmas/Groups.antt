@@ -16,12 +16,14 @@ use Rattle.glob_automaton.specs.IndexedTokens.{IndexedTokens, SomeMatches, IsFor
 use Rattle.glob_automaton.proofs.lemmas.IndexedTokens.{some_push}
 use Rattle.glob_path.specs.PathParts.{last_component, component_extension}
 use Rattle.glob_groups.specs.Direct.{needs_automaton}
-use Rattle.glob_groups.specs.Groups.{after_prefix}
+use Rattle.glob_groups.specs.Groups.{after_prefix, before_ending}
+use Rattle.glob_groups.proofs.lemmas.BeforeEnding.{weight_before}
 use Rattle.group_matching.specs.Globs.{TokenGlob, is_listed, is_listed_at, states, load}
 use Rattle.byte_table.specs.Entries.{indexes_under}
 use Rattle.path_keys.specs.Keys.{KeyParts, MoreIn, keys_found}
-use Rattle.group_matching.specs.inner.Automata.{AutomataParts, SlotParts, TokenLists, AreForLists, AreFor, AreFound, AddsTokens, first, machine_under, states_for, tokens_under}
+use Rattle.group_matching.specs.inner.Automata.{AutomataParts, SlotParts, TokenLists, AreForLists, AreFor, AreFound, AddsTokens, before_extension, first, machine_under, states_for, tokens_under}
 use Rattle.group_matching.specs.inner.Groups.{GroupParts, AreGroupsOf, listed_count}
+use Rattle.group_matching.proofs.lemmas.Automata.{extension_cut}
 
 -- ---- one glob more
 
@@ -191,13 +193,13 @@ by_component_added globs g n ts old new at keys rest tells needs adds few by_pat
       by_slot = before.tokens.by_slot;
     }
 
-pub by_extension_added : (globs : List TokenGlob) (g : TokenGlob) (n : ℕ) (key : List ℕ) (old new : GroupParts) → n ≡ length globs → new.keys ≡ old.keys
-    → ((path : List ℕ) → (is_listed g path ≡ means g.options g.tokens path) × (IsTrue (is_listed g path) → component_extension path ≡ key))
+pub by_extension_added : (globs : List TokenGlob) (g : TokenGlob) (n : ℕ) (key : List ℕ) (ts : Tokens) (old new : GroupParts) → n ≡ length globs → new.keys ≡ old.keys → ts ≡ before_ending g.tokens
+    → ((path : List ℕ) → (IsTrue (is_listed g path) → component_extension path ≡ key) × ((front : List ℕ) → front ++ key ≡ path → is_listed g path ≡ means g.options (before_ending g.tokens) front))
     → ((path : List ℕ) → bytes_eq key (component_extension path) ≡ true → needs_automaton g.options g.tokens path ≡ true)
-    → ((before : ℕ → List IndexedTokens) → AreFor old.automata.extensions.machines before → AddsTokens old.automata.extensions.slots before new.automata.extensions key (indexed g.options g.tokens n))
-    → ((extension : List ℕ) → size (machine_under new.automata.extensions extension) ≤ size (machine_under old.automata.extensions extension) + cond (bytes_eq key extension) (weight g.options g.tokens + 1) 0)
+    → ((before : ℕ → List IndexedTokens) → AreFor old.automata.extensions.machines before → AddsTokens old.automata.extensions.slots before new.automata.extensions key (indexed g.options ts n))
+    → ((extension : List ℕ) → size (machine_under new.automata.extensions extension) ≤ size (machine_under old.automata.extensions extension) + cond (bytes_eq key extension) (weight g.options ts + 1) 0)
     → new.automata.by_path ≡ old.automata.by_path → new.automata.by_component ≡ old.automata.by_component → AreGroupsOf globs old → AreGroupsOf (globs ++ g ∷ []) new
-by_extension_added globs g n key old new at keys tells needs adds few by_path component before =
+by_extension_added globs g n key ts old new at keys rest tells needs adds few by_path component before =
     tokens_added globs g n old new before tokens at keys
     (record {
       path = subst (λ m. IsFor m before.tokens.by_path) (sym by_path) before.are_for.path;
@@ -207,7 +209,7 @@ by_extension_added globs g n key old new at keys tells needs adds few by_path co
     (λ path k. right_more (right_more (by_key path k (cases_Bool (bytes_eq key (component_extension path))))))
     (λ path. by_size path (cases_Bool (bytes_eq key (component_extension path))))
   where
-    now : AddsTokens old.automata.extensions.slots before.tokens.by_slot new.automata.extensions key (indexed g.options g.tokens n)
+    now : AddsTokens old.automata.extensions.slots before.tokens.by_slot new.automata.extensions key (indexed g.options ts n)
     now = adds before.tokens.by_slot before.are_for.slots
 
     tokens : TokenLists
@@ -218,17 +220,20 @@ by_extension_added globs g n key old new at keys tells needs adds few by_path co
     }
 
     by_key : (path : List ℕ) (k : ℕ) → (bytes_eq key (component_extension path) ≡ true) ⊎ (bytes_eq key (component_extension path) ≡ false)
-        → SomeMatches (tokens_under now.tokens new.automata.extensions.slots (component_extension path)) path k
-        ↔ (SomeMatches (tokens_under before.tokens.by_slot old.automata.extensions.slots (component_extension path)) path k ⊎ IsNew n g path k)
+        → SomeMatches (tokens_under now.tokens new.automata.extensions.slots (component_extension path)) (before_extension path) k
+        ↔ (SomeMatches (tokens_under before.tokens.by_slot old.automata.extensions.slots (component_extension path)) (before_extension path) k ⊎ IsNew n g path k)
     by_key path k h =
         let e = component_extension path in
+        let text : List ℕ = before_extension path in
         let was = tokens_under before.tokens.by_slot old.automata.extensions.slots e in
-        ⊎_elim {C = SomeMatches (tokens_under now.tokens new.automata.extensions.slots e) path k ↔ (SomeMatches was path k ⊎ IsNew n g path k)}
-        (λ y. subst (λ xs. SomeMatches xs path k ↔ (SomeMatches was path k ⊎ IsNew n g path k)) (sym (now.added e (sym ((bytes_decides key e).0 y))))
-        (some_added (indexed g.options g.tokens n) was g n path path k refl (tells path).0))
-        (λ off. subst (λ xs. SomeMatches xs path k ↔ (SomeMatches was path k ⊎ IsNew n g path k)) (sym (now.others e (λ is. let y = (bytes_decides key e).1 (sym is) in absurd (cc)))) (
+        ⊎_elim {C = SomeMatches (tokens_under now.tokens new.automata.extensions.slots e) text k ↔ (SomeMatches was text k ⊎ IsNew n g path k)}
+        (λ y.
+        let cut : text ++ key ≡ path = ap (λ l. text ++ l) ((bytes_decides key e).0 y) ∙ extension_cut path in
+        subst (λ xs. SomeMatches xs text k ↔ (SomeMatches was text k ⊎ IsNew n g path k)) (sym (now.added e (sym ((bytes_decides key e).0 y))))
+        (some_added (indexed g.options ts n) was g n text path k refl ((tells path).1 text cut ∙ ap (λ us. means g.options us text) (sym rest))))
+        (λ off. subst (λ xs. SomeMatches xs text k ↔ (SomeMatches was text k ⊎ IsNew n g path k)) (sym (now.others e (λ is. let y = (bytes_decides key e).1 (sym is) in absurd (cc)))) (
           (λ some. inl some),
-          (λ either. ⊎_elim {C = SomeMatches was path k} (λ some. some) (λ new. let is = (tells path).1 new.1 in let y = (bytes_decides key e).1 (sym is) in absurd (cc)) either),
+          (λ either. ⊎_elim {C = SomeMatches was text k} (λ some. some) (λ new. let is = (tells path).0 new.1 in let y = (bytes_decides key e).1 (sym is) in absurd (cc)) either),
         )) h
 
     by_size : (path : List ℕ) → (bytes_eq key (component_extension path) ≡ true) ⊎ (bytes_eq key (component_extension path) ≡ false)
@@ -236,9 +241,10 @@ by_extension_added globs g n key old new at keys tells needs adds few by_path co
     by_size path h =
         let e = component_extension path in
         let one = ap size by_path in let two = ap size component in let most = few e in
+        let fewer = weight_before g.options g.tokens in let same = ap (weight g.options) rest in
         ⊎_elim {C = states_for new.automata path ≤ states_for old.automata path + states g path}
-        (λ y. let run = needed g path (needs path y) in let three = ap (λ b. cond b (weight g.options g.tokens + 1) 0) y in omega (arith, one, two, most, run, three))
-        (λ off. let three = ap (λ b. cond b (weight g.options g.tokens + 1) 0) off in omega (arith, one, two, most, three)) h
+        (λ y. let run = needed g path (needs path y) in let three = ap (λ b. cond b (weight g.options ts + 1) 0) y in omega (arith, one, two, most, run, three, fewer, same))
+        (λ off. let three = ap (λ b. cond b (weight g.options ts + 1) 0) off in omega (arith, one, two, most, three)) h
 
 -- ---- no globs
 
@@ -261,7 +267,7 @@ no_globs keys a nil path component slots machines path_size component_size none_
   same = λ path k. (
     λ h. absurd (⊎_elim {C = ⊥} (λ key. not_in_none (keys_found keys path) k (nil path) key)
         (λ some. ⊎_elim {C = ⊥} (λ none. none) (λ later. ⊎_elim {C = ⊥} (λ none. none)
-        (λ under. subst (λ es. SomeMatches (tokens_under (λ s. []) es (component_extension path)) path k) slots under) later) some) h),
+        (λ under. subst (λ es. SomeMatches (tokens_under (λ s. []) es (component_extension path)) (before_extension path) k) slots under) later) some) h),
     λ h. absurd (none_listed path k h),
   );
   once = λ path. let none = ap length (nil path) in omega (arith, none);

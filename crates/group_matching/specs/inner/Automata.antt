@@ -1,5 +1,5 @@
 -- Automata of tokens, for the globs that no key decides.
-use Rattle.std.specs.Prelude.{◌≡◌, ◌≢◌, ◌⊎◌, ◌↔◌, ℕ, ◌+◌, ◌<◌, ◌≤◌, max, IsTrue, List, [], ◌∷◌, ◌++◌, Option, Some, length, get_or, slice_get}
+use Rattle.std.specs.Prelude.{◌≡◌, ◌≢◌, ◌⊎◌, ◌↔◌, ℕ, ◌+◌, ◌-◌, ◌<◌, ◌≤◌, max, IsTrue, List, [], ◌∷◌, ◌++◌, Option, Some, length, get_or, slice_get, take}
 use Rattle.std.specs.Option.{option_map_or}
 use Rattle.byte_automaton.specs.Steps.{IsIn, Machine}
 use Rattle.byte_automaton.specs.Runs.{size}
@@ -66,7 +66,7 @@ pub record AddsTokens (slots : List Entry) (before : ℕ → List IndexedTokens)
 
 -- ---- all of them
 
--- automata that are run on the whole path, on its last component, and on paths with an extension
+-- automata that are run on the whole path, on its last component, and before its extension
 pub record AutomataParts : Type 0 where
   pub by_path : Machine
   pub by_component : Machine
@@ -102,9 +102,14 @@ pub record AreForLists (a : AutomataParts) (t : TokenLists) : Type 0 where
   pub component : IsFor a.by_component t.by_component
   pub slots : AreFor a.extensions.machines t.by_slot
 
+-- the bytes of a path before the extension of its last component
+abbrev pub before_extension : List ℕ → List ℕ
+before_extension path = take (length path - length (component_extension path)) path
+
 -- tokens of the index k match the part of the path that they are run on
 abbrev pub AreFound : List Entry → TokenLists → List ℕ → ℕ → Type 0
-AreFound slots t path k = SomeMatches t.by_path path k ⊎ (SomeMatches t.by_component (last_component path) k ⊎ SomeMatches (tokens_under t.by_slot slots (component_extension path)) path k)
+AreFound slots t path k =
+    SomeMatches t.by_path path k ⊎ (SomeMatches t.by_component (last_component path) k ⊎ SomeMatches (tokens_under t.by_slot slots (component_extension path)) (before_extension path) k)
 
 -- the states that are run for a path
 abbrev pub states_for : AutomataParts → List ℕ → ℕ

@@ -80,7 +80,7 @@ returns-in-Some c =
     (row_fails _ _ (end_same c.args.options fs c.requires) c.is_end.ensures c.if-is_end.false
     (row_fails _ _ (beginning_same c.args.options fs c.requires) c.is_beginning.ensures c.if-is_beginning.false
     (row_fails _ _ (below_folder_same fs c.requires) c.is_below_folder.ensures c.if-is_below_folder.false
-    (ap (ending_group c.args.options (tokens_of c.args.tokens.now)) (ap Some c.in_ok-literal_text-7.ensures ∙ c.in-Some.ensures ∙ ending_same fs c.requires))))))))
+    (ap (ending_group c.args.options (tokens_of c.args.tokens.now)) (ap Some c.in_ok-literal_text-7.ensures ∙ c.in-Some.ensures.text ∙ ending_same fs c.requires))))))))
 
 pub returns : goal.returns
 returns c =
@@ -92,4 +92,4 @@ returns c =
     (row_fails _ _ (end_same c.args.options fs c.requires) c.is_end.ensures c.if-is_end.false
     (row_fails _ _ (beginning_same c.args.options fs c.requires) c.is_beginning.ensures c.if-is_beginning.false
     (row_fails _ _ (below_folder_same fs c.requires) c.is_below_folder.ensures c.if-is_below_folder.false
-    (c.automaton_group.ensures ∙ ap (ending_group c.args.options (tokens_of c.args.tokens.now)) (c.in_default.ensures ∙ ending_same fs c.requires))))))))
+    (c.automaton_group.ensures ∙ ap (ending_group c.args.options (tokens_of c.args.tokens.now)) (c.in_default.ensures.text ∙ ending_same fs c.requires))))))))

@@ -3,7 +3,7 @@ use Rattle.std.specs.Prelude.{◌↔◌, IsTrue, List}
 use Rattle.std.proofs.lemmas.Result.{IfOk-weaker}
 use Rattle.glob_automaton.specs.IndexedTokens.{IndexedTokens, SomeMatches, IsFor}
 use Rattle.glob_path.specs.PathParts.{last_component, component_extension}
-use Rattle.group_matching.specs.inner.Automata.{AutomataParts, TokenLists, AreForLists, AreFound, tokens_under}
+use Rattle.group_matching.specs.inner.Automata.{AutomataParts, TokenLists, AreForLists, AreFound, before_extension, tokens_under}
 use Rattle.group_matching.proofs.lemmas.Automata.{last_run}
 use Rattle.group_matching.proofs.automata.Automata.is_match.Goals as goal
 
@@ -22,7 +22,7 @@ pub returns-clause-some : goal.returns-clause-some
 returns-clause-some c =
     let path = c.args.path.now in
     let automaton = c.by_extension-by_extension.result.now in
-    IfOk-weaker c.is_match-2.result (λ yes. (xs : List IndexedTokens) → IsFor automaton xs → IsTrue yes ↔ ((k : ℕ) × SomeMatches xs c.path-3.result.now k))
+    IfOk-weaker c.is_match_by_extension.result (λ yes. (xs : List IndexedTokens) → IsFor automaton xs → IsTrue yes ↔ ((k : ℕ) × SomeMatches xs (before_extension c.path-3.result.now) k))
     (λ yes. (t : TokenLists) → AreForLists c.args.self.now t → IsTrue yes ↔ ((k : ℕ) × AreFound c.args.self.now.extensions.slots t path k))
     (λ yes tells t are.
     let by_path = subst (λ (a : AutomataParts). IsFor a.by_path t.by_path) (sym c.self.view_is) are.path in
@@ -32,5 +32,5 @@ returns-clause-some c =
     (λ k some.
     let found = (c.in_ok-is_match_by_component.ensures.some t.by_component are.component).1 (k, subst (λ text. SomeMatches t.by_component (last_component text) k) (sym c.path-2.ensures) some) in
     let none = c.if-branch-2.false in absurd (cc))
-    (subst (λ text. IsTrue yes ↔ ((k : ℕ) × SomeMatches extension_tokens text k)) c.path-3.ensures (tells extension_tokens (c.by_extension-by_extension.ensures.tokens t.by_slot are.slots))))
-    c.is_match-2.ensures.some
+    (subst (λ text. IsTrue yes ↔ ((k : ℕ) × SomeMatches extension_tokens (before_extension text) k)) c.path-3.ensures (tells extension_tokens (c.by_extension-by_extension.ensures.tokens t.by_slot are.slots))))
+    c.is_match_by_extension.ensures.some

@@ -76,7 +76,7 @@ returns-in-RequiredExtension-clause-groups c =
     let old = group_parts c.self.inside.keys c.self.inside.automata in
     let new = group_parts c.self.inside.keys c.add_by_extension.new.self in
     both_on_ok c.add_by_extension.result
-    (λ adds few globs at before. by_extension_added globs g c.args.index c.in-RequiredExtension.key.items old new at refl tells needs adds few c.add_by_extension.ensures.path c.add_by_extension.ensures.component (subst (λ (p : GroupParts). AreGroupsOf globs p) (sym c.self.view_is) before))
+    (λ adds few globs at before. by_extension_added globs g c.args.index c.in-RequiredExtension.key.items (tokens_of c.tokens_before_ending-rest.result.now) old new at refl c.tokens_before_ending-rest.ensures.tokens tells needs adds few c.add_by_extension.ensures.path c.add_by_extension.ensures.component (subst (λ (p : GroupParts). AreGroupsOf globs p) (sym c.self.view_is) before))
     c.add_by_extension.ensures.tokens c.add_by_extension.ensures.size
 
 pub returns-in-ByLastComponent-clause-groups : goal.returns-in-ByLastComponent-clause-groups
