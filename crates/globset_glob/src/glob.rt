@@ -15,7 +15,6 @@ ghost use Rattle.glob_text.specs.Means.{GlobValue, tokens_of_glob, glob_means};
 
 use crate::builder::GlobBuilder;
 use crate::matcher::GlobMatcher;
-use glob_matching::Engine;
 use glob_syntax::{Options, Token, copy_of};
 use glob_text::{Error, regex_of_tokens, tokens_of_text};
 use std::alloc::{AllocError, Global};
@@ -145,14 +144,14 @@ impl Glob {
 
     /// Returns a matcher for an equal glob, or an error if memory runs out.
     ///
-    /// It makes an automaton, in time and memory linear in the glob's text. If that has at most 2,048 states, it makes a
-    /// deterministic one too, and gives it up if its table and lists would have more than 40,960 numbers, or 512 for each state.
-    /// To find one of them may take reading each state.
+    /// If the glob's literals decide alone, it copies them. Otherwise it makes an automaton, in time and memory linear in the glob's
+    /// text. If that has at most 2,048 states, it makes a deterministic one too, and gives it up if its table and lists would have
+    /// more than 40,960 numbers, or 512 for each state. To find one of them may take reading each state.
     pub fn compile_matcher(&self) -> Result<GlobMatcher, Error>
         ensures ok { IfOk result (λ m. m ≡ self.now) }
         ensures err { IfErr result (λ e. e ≡ out_of_memory) }
     {
-        GlobMatcher::new(Engine::Deterministic, self.clone()?)
+        GlobMatcher::new(self.clone()?)
     }
 
     /// Returns a matcher for an equal glob, whose automaton is simulated. Returns an error if memory runs out.
@@ -163,7 +162,7 @@ impl Glob {
         ensures ok { IfOk result (λ m. m ≡ self.now) }
         ensures err { IfErr result (λ e. e ≡ out_of_memory) }
     {
-        GlobMatcher::new(Engine::Simulated, self.clone()?)
+        GlobMatcher::simulated(self.clone()?)
     }
 }
 

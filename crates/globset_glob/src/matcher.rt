@@ -3,12 +3,12 @@
 ghost use Rattle.std.specs.Prelude.{◌≡◌, ◌+◌, ◌≤◌, IfOk, IfErr};
 ghost use Rattle.glob_text.specs.Errors.{out_of_memory};
 ghost use Rattle.globset_glob.specs.Cost.{most_visits};
-ghost use Rattle.globset_glob.specs.inner.GlobAutomaton.{IsAutomatonOf};
+
+mod form;
 
 use crate::glob::Glob;
-use byte_automaton::{Automaton, StateSets};
-use glob_automaton::{add_tokens, new_builder};
-use glob_matching::{Compiled, Engine};
+use form::Form;
+use glob_matching::Engine;
 use glob_path::{AsPath, Candidate};
 use glob_text::Error;
 use std::alloc::AllocError;
@@ -16,19 +16,10 @@ use std::fmt;
 use std::marker::Model;
 use visits::Visits;
 
-/// Returns the automaton of a glob, whose tokens have the index 0.
-fn automaton_of(glob: &Glob) -> Result<Automaton, AllocError>
-    ensures { IfOk result (λ a. IsAutomatonOf glob.now a) }
-{
-    let alloc = glob.allocator();
-    let mut builder = new_builder(alloc, 1);
-    add_tokens(alloc, &mut builder, glob.options(), glob.tokens(), 0)?;
-    Ok(builder.finish())
-}
-
 /// Tells whether a glob matches a path.
 ///
-/// Contracts see a matcher as its glob. It has an automaton for the glob, which is made with it, and a deterministic one if
+/// Contracts see a matcher as its glob. If the glob's literals decide alone, as those of `*.rs` and `src/**` do, it compares them
+/// with the path or a part of it. Otherwise it has an automaton for the glob, which is made with it, and a deterministic one if
 /// that is not too large. Nothing is kept from one call to the next.
 ///
 /// ```rust
@@ -41,40 +32,46 @@ fn automaton_of(glob: &Glob) -> Result<Automaton, AllocError>
 /// ```
 pub struct GlobMatcher {
     glob: Glob,
-    automaton: Compiled,
+    form: Form,
 }
 
 impl Drop for GlobMatcher {
     // One call wherever a value is dropped, which keeps proofs short.
     fn drop(self) {
-        let GlobMatcher {
-            glob: _,
-            automaton: _,
-        } = self;
+        let GlobMatcher { glob: _, form: _ } = self;
     }
 }
 
 impl Model for GlobMatcher {
     ghost use Rattle.glob_text.specs.Means.{GlobValue};
-    ghost use Rattle.globset_glob.specs.inner.GlobAutomaton.{IsAutomatonOf};
+    ghost use Rattle.globset_glob.specs.inner.GlobAutomaton.{IsFormOf};
 
     ghost Value = { GlobValue };
 
     ghost view = { λ m. m.glob };
 
-    ghost invariant = { λ m. IsAutomatonOf m.glob m.automaton };
+    ghost invariant = { λ m. IsFormOf m.glob m.form };
 }
 
 impl GlobMatcher {
     ghost use Rattle.glob_text.specs.Means.{glob_means};
 
     /// Returns a matcher of a glob, at the cost of [`Glob::compile_matcher`]. Returns an error if memory runs out.
-    pub(crate) fn new(engine: Engine, glob: Glob) -> Result<GlobMatcher, Error>
+    pub(crate) fn new(glob: Glob) -> Result<GlobMatcher, Error>
         ensures ok { IfOk result (λ m. m ≡ glob) }
         ensures err { IfErr result (λ e. e ≡ out_of_memory) }
     {
-        let automaton = Compiled::new(glob.allocator(), engine, automaton_of(&glob)?)?;
-        Ok(GlobMatcher { glob, automaton })
+        let form = Form::of(&glob)?;
+        Ok(GlobMatcher { glob, form })
+    }
+
+    /// Returns a matcher of a glob with an automaton that is simulated. Returns an error if memory runs out.
+    pub(crate) fn simulated(glob: Glob) -> Result<GlobMatcher, Error>
+        ensures ok { IfOk result (λ m. m ≡ glob) }
+        ensures err { IfErr result (λ e. e ≡ out_of_memory) }
+    {
+        let form = Form::automaton(Engine::Simulated, &glob)?;
+        Ok(GlobMatcher { glob, form })
     }
 
     /// Returns the glob.
@@ -113,26 +110,24 @@ impl GlobMatcher {
     /// Does what [`is_match_candidate`](GlobMatcher::is_match_candidate) does, and adds its visits to `visits`.
     ///
     /// These are at most `(path bytes + 1) * (4 * glob bytes + 4)` visits, with `16 * glob bytes + 4` in place of the second
-    /// factor under `whole_character`, also if memory runs out. The call allocates nothing if the matcher has a deterministic
-    /// automaton, and otherwise two sets of states, of one bit for each state of the automaton.
+    /// factor under `whole_character`, also if memory runs out. The call allocates nothing if the matcher compares literals or has
+    /// a deterministic automaton, and otherwise two sets of states, of one bit for each state of the automaton.
     pub fn is_match_visits(&self, path: &Candidate<'_>, visits: &mut Visits) -> Result<bool, Error>
         ensures ok { IfOk result (λ yes. yes ≡ glob_means self.now path.now) }
         ensures err { IfErr result (λ e. e ≡ out_of_memory) }
         ensures visits { visits.new ≤ visits.old + most_visits self.now path.now }
     {
-        let mut sets = StateSets::new(self.glob.allocator());
-        Ok(self.automaton.is_match(path.path(), &mut sets, visits)?)
+        Ok(self.form.is_match(self.glob.allocator(), path, visits)?)
     }
 
-    /// Returns a matcher for an equal glob, or an error if memory runs out. It copies the automata.
+    /// Returns a matcher for an equal glob, or an error if memory runs out. It copies the automaton.
     pub fn clone(&self) -> Result<GlobMatcher, Error>
         ensures ok { IfOk result (λ m. m ≡ self.now) }
         ensures err { IfErr result (λ e. e ≡ out_of_memory) }
     {
-        Ok(GlobMatcher {
-            glob: self.glob.clone()?,
-            automaton: self.automaton.clone()?,
-        })
+        let glob = self.glob.clone()?;
+        let form = self.form.copy_for(&glob)?;
+        Ok(GlobMatcher { glob, form })
     }
 }
 

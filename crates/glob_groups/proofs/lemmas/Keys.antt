@@ -1,5 +1,5 @@
 -- Groups of which a key alone decides: a key at the beginning or the end of a path, and what the group says.
-use Rattle.std.proofs.Common.{◌≡◌, ℕ, ◌⊎◌, inl, inr, Bool, true, false, true≢false, not, ◌&&◌, List, [], ◌∷◌, ◌++◌, IsTrue, length, refl, ap, sym, ◌∙◌, subst}
+use Rattle.std.proofs.Common.{◌≡◌, ℕ, ◌⊎◌, inr, Bool, true, false, true≢false, not, ◌&&◌, List, [], ◌∷◌, ◌++◌, IsTrue, refl, ap, sym, ◌∙◌}
 use Rattle.std.specs.Prelude.{◌↔◌, ◌≢◌, if◌then◌else◌}
 use Rattle.std.proofs.Math.Logic.{⊎_elim}
 use Rattle.std.proofs.lemmas.List.{append_assoc, append_cancel_right}
@@ -10,7 +10,7 @@ use Rattle.glob_syntax.specs.declared.options.Options.{Options}
 use Rattle.glob_syntax.specs.Token.{Tokens}
 use Rattle.glob_groups.specs.Silent.{are_silent, are_listed}
 use Rattle.glob_groups.specs.Groups.{Silent, automaton_group, sensitive_group, group_of_tokens}
-use Rattle.glob_groups.specs.GroupMeaning.{IsGroupOf, group_seen, Tells}
+use Rattle.glob_groups.specs.GroupMeaning.{IsGroupOf, group_seen}
 use Rattle.glob_groups.specs.inner.ByKey.{is_by_key}
 use Rattle.glob_groups.specs.declared.group.Group.{Group}
 

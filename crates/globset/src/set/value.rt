@@ -36,7 +36,10 @@ impl GlobSet {
         ensures err { IfErr result (IsValueErrorOf (globs_of_value (view value.now))) }
     {
         match value {
-            Value::Array(values) => Ok(GlobSet::from_globs(Engine::Deterministic, read_globs(alloc, values)?)?),
+            Value::Array(values) => Ok(GlobSet::from_globs(
+                Engine::Deterministic,
+                read_globs(alloc, values)?,
+            )?),
             _ => Err(ValueError::from(ValueErrorKind::NotArray)),
         }
     }

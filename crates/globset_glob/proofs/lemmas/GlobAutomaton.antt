@@ -1,8 +1,9 @@
--- The automaton of one glob.
+-- The automaton and the key of one glob.
 use Rattle.std.proofs.Common.{◌≡◌, ℕ, ◌≤◌, ◌+◌, ◌*◌, Ok, inl, Bool, List, [], ◌∷◌, ◌++◌, length, IsTrue, refl, ap, sym, subst, arith}
 use Rattle.std.specs.Prelude.{◌↔◌}
 use Rattle.std.specs.Str.{chars}
 use Rattle.std.proofs.Math.Logic.{⊎_elim}
+use Rattle.std.proofs.Math.Nat.{mul-le-mul_left}
 use Rattle.glob_syntax.specs.declared.options.Options.{Options}
 use Rattle.glob_syntax.specs.Token.{Tokens}
 use Rattle.glob_syntax.specs.Reading.{reading}
@@ -14,6 +15,7 @@ use Rattle.glob_automaton.specs.TokenMeans.{means}
 use Rattle.glob_automaton.specs.IndexedTokens.{IndexedTokens, indexed, SomeMatches, IsFor}
 use Rattle.glob_automaton.proofs.lemmas.Booleans.{same_truth}
 use Rattle.glob_text.specs.Means.{GlobValue, tokens_of_glob, glob_means}
+use Rattle.globset_glob.specs.Cost.{cost, most_visits}
 use Rattle.globset_glob.specs.inner.GlobAutomaton.{IsAutomatonOf}
 use Rattle.glob_text.proofs.lemmas.Globs.{tokens_are}
 
@@ -34,3 +36,16 @@ one_matches g path found h =
       λ y. let (k, some) = h.0 y in ⊎_elim {C = IsTrue matches} (λ this. this.1) (λ no. absurd no) some,
       λ y. h.1 (0, inl (refl, y)),
     )
+
+-- whether a key matches is whether the glob does
+pub key_matches_glob : (g : GlobValue) (path : List ℕ) (found : Bool) → found ≡ means g.options (tokens_of_glob g) path → found ≡ glob_means g path
+unfolding glob_means
+key_matches_glob g path found e = e
+
+-- a glob may have a visit for each path
+pub one_visit : (g : GlobValue) (path : List ℕ) → 1 ≤ most_visits g path
+one_visit g path =
+    let positions = length path + 1 in
+    let some : 1 ≤ cost g = omega arith in
+    let all : positions * 1 ≤ positions * cost g = mul-le-mul_left positions some in
+    omega (arith, all)

@@ -1,13 +1,22 @@
--- The automaton of one glob.
-use Rattle.std.specs.Prelude.{◌≤◌, [], ◌∷◌}
+-- By what a matcher decides: the key or the automaton of one glob.
+use Rattle.std.specs.Prelude.{◌≡◌, ◌≤◌, true, [], ◌∷◌}
 use Rattle.byte_automaton.specs.Steps.{Machine}
 use Rattle.byte_automaton.specs.Runs.{size}
 use Rattle.glob_automaton.specs.IndexedTokens.{indexed, IsFor}
+use Rattle.glob_groups.specs.GroupMeaning.{IsGroupOf, group_seen}
+use Rattle.glob_groups.specs.inner.ByKey.{is_by_key}
 use Rattle.glob_text.specs.Means.{GlobValue, tokens_of_glob}
 use Rattle.globset_glob.specs.Cost.{cost}
+use Rattle.globset_glob.specs.declared.matcher.form.Form.{Form}
+use Rattle.globset_glob.specs.declared.matcher.form.Form.TheVariants.{Key, Automaton}
 
--- It is for the tokens of the glob, under the index 0. It has at most as many states as the glob may have visits for each
+-- An automaton is for the tokens of the glob, under the index 0. It has at most as many states as the glob may have visits for each
 -- position of a path.
 pub record IsAutomatonOf (g : GlobValue) (m : Machine) : Type 0 where
   pub tokens : IsFor m (indexed g.options (tokens_of_glob g) 0 ∷ [])
   pub size : size m ≤ cost g
+
+-- A key is that of the glob's group, and decides alone which paths the glob matches. An automaton is that of the glob.
+abbrev pub IsFormOf : GlobValue → Form → Type 0
+IsFormOf g (Key group) = IsGroupOf g.options (tokens_of_glob g) group × (is_by_key (group_seen group) ≡ true)
+IsFormOf g (Automaton m) = IsAutomatonOf g m

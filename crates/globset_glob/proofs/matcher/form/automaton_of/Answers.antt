@@ -1,6 +1,6 @@
 use Rattle.glob_syntax.specs.Views.{tokens_of}
 use Rattle.globset_glob.proofs.lemmas.GlobAutomaton.{automaton_is}
-use Rattle.globset_glob.proofs.matcher.automaton_of.Goals as goal
+use Rattle.globset_glob.proofs.matcher.form.automaton_of.Goals as goal
 
 pub returns : goal.returns
 returns c =

@@ -1,0 +1,88 @@
+//! By what a matcher decides.
+
+ghost use Rattle.std.specs.Prelude.{◌≡◌, ◌+◌, ◌≤◌, IfOk};
+ghost use Rattle.globset_glob.specs.Cost.{most_visits};
+ghost use Rattle.glob_text.specs.Means.{GlobValue, glob_means};
+ghost use Rattle.globset_glob.specs.inner.GlobAutomaton.{IsAutomatonOf, IsFormOf};
+
+use crate::glob::Glob;
+use byte_automaton::{Automaton, StateSets};
+use glob_automaton::{add_tokens, new_builder};
+use glob_groups::{Group, group_of};
+use glob_matching::{Compiled, Engine};
+use glob_path::Candidate;
+use std::alloc::{AllocError, Global};
+use visits::Visits;
+
+/// By what a matcher decides whether its glob matches a path.
+#[derive(Drop)]
+pub enum Form {
+    /// A key, which is compared with the path or a part of it.
+    Key(Group),
+    /// An automaton, which is run over the path.
+    Automaton(Compiled),
+}
+
+impl Form {
+    /// Returns the key of a glob if it decides alone, and otherwise an automaton. Returns an error if memory runs out.
+    pub fn of(glob: &Glob) -> Result<Form, AllocError>
+        ensures { IfOk result (IsFormOf glob.now) }
+    {
+        let group = group_of(glob.allocator(), glob.options(), glob.tokens())?;
+        if group.is_by_key() {
+            return Ok(Form::Key(group));
+        }
+        Form::automaton(Engine::Deterministic, glob)
+    }
+
+    /// Returns the automaton of a glob, which this engine runs. Returns an error if memory runs out.
+    pub fn automaton(engine: Engine, glob: &Glob) -> Result<Form, AllocError>
+        ensures { IfOk result (IsFormOf glob.now) }
+    {
+        let automaton = Compiled::new(glob.allocator(), engine, automaton_of(glob)?)?;
+        Ok(Form::Automaton(automaton))
+    }
+
+    /// Returns whether the glob matches a path. Returns an error if memory runs out, and none if a key decides.
+    pub fn is_match(
+        &self,
+        alloc: Global,
+        path: &Candidate<'_>,
+        visits: &mut Visits,
+    ) -> Result<bool, AllocError>
+        ensures some { IfOk result (λ yes. (g : GlobValue) → IsFormOf g self.now → yes ≡ glob_means g path.now) }
+        ensures visits { (g : GlobValue) → IsFormOf g self.now → visits.new ≤ visits.old + most_visits g path.now }
+    {
+        match self {
+            Form::Key(group) => {
+                // As in a table, a look at a key is one visit.
+                visits.tick();
+                Ok(group.key_matches(path))
+            }
+            Form::Automaton(automaton) => {
+                automaton.is_match(path.path(), &mut StateSets::new(alloc), visits)
+            }
+        }
+    }
+
+    /// Returns the form of an equal glob: a copy of the automaton, or the key once more. Returns an error if memory runs out.
+    pub fn copy_for(&self, glob: &Glob) -> Result<Form, AllocError>
+        requires { IsFormOf glob.now self.now }
+        ensures { IfOk result (IsFormOf glob.now) }
+    {
+        match self {
+            Form::Key(_) => Form::of(glob),
+            Form::Automaton(automaton) => Ok(Form::Automaton(automaton.clone()?)),
+        }
+    }
+}
+
+/// Returns the automaton of a glob, whose tokens have the index 0.
+fn automaton_of(glob: &Glob) -> Result<Automaton, AllocError>
+    ensures { IfOk result (λ a. IsAutomatonOf glob.now a) }
+{
+    let alloc = glob.allocator();
+    let mut builder = new_builder(alloc, 1);
+    add_tokens(alloc, &mut builder, glob.options(), glob.tokens(), 0)?;
+    Ok(builder.finish())
+}
