@@ -1,6 +1,6 @@
 use Rattle.std.proofs.Common.{sym, ◌∙◌}
 use Rattle.glob_syntax.specs.Views.{tokens_of}
-use Rattle.globset_glob.proofs.lemmas.Globs.{tokens_are}
+use Rattle.glob_text.proofs.lemmas.Globs.{tokens_are}
 use Rattle.globset_glob.proofs.matcher.form.Form.of.Goals as goal
 
 pub returns-then-is_by_key : goal.returns-then-is_by_key
