@@ -11,12 +11,13 @@ use serde_json::Value;
 use std::alloc::Global;
 use std::hash::{DefaultHasher, Hash, Hasher};
 
-/// The globs that rows so far added, and a set of them.
+/// The globs that rows so far added, and two sets of them: of the second, all automata are simulated.
 #[derive(Drop)]
 pub struct Globs {
     alloc: Global,
     globs: Vec<Glob>,
     set: GlobSet,
+    simulated: GlobSet,
 }
 
 impl Case for Globs {
@@ -25,6 +26,7 @@ impl Case for Globs {
             alloc,
             globs: Vec::new(alloc),
             set: GlobSet::empty(),
+            simulated: GlobSet::empty(),
         }
     }
 
@@ -77,16 +79,17 @@ impl Globs {
     fn push(&mut self, glob: Glob) -> Result<(), Error> {
         self.globs.push(glob)?;
         self.set = GlobSet::new(self.alloc, &self.globs)?;
+        self.simulated = self.set.simulated()?;
         Ok(())
     }
 
-    /// Returns whether a glob matches a path, by its matcher and by a set of it alone.
+    /// Returns whether a glob matches a path, by its matcher and by a set of it alone, each of them also if it is simulated.
     fn is_match(&self, columns: &mut Columns<'_>) -> Result<String> {
         is_match(self.alloc, &read(self.alloc, columns)??, columns)
     }
 
     /// Returns the indexes that the set returns for a path, whether all globs match it, and the indexes of the globs whose
-    /// own matchers match it.
+    /// own matchers match it. The simulated set and simulated matchers have to return the same.
     fn path(&self, columns: &mut Columns<'_>) -> Result<String> {
         self.answers(&Candidate::from_bytes(&columns.bytes(self.alloc)?))
     }
@@ -99,7 +102,33 @@ impl Globs {
         if self.set.is_match_candidate(path)? == indexes.is_empty() {
             return shown::copied(self.alloc, "is_match and matches differ");
         }
+        if !self.is_simulated_alike(path, indexes)? {
+            return shown::copied(self.alloc, "the set and the simulated set differ");
+        }
         self.shown_answers(path, &list(self.alloc, indexes)?)
+    }
+
+    /// Returns whether the simulated set returns these indexes, and what else the set returns.
+    fn is_simulated_alike(&self, path: &Candidate<'_>, indexes: &[usize]) -> Result<bool, Error> {
+        Ok(
+            self.simulated_indexes_are(path, indexes)?
+                && self.simulated.is_match_candidate(path)? != indexes.is_empty()
+                && self.simulated.matches_all_candidate(path)?
+                    == self.set.matches_all_candidate(path)?,
+        )
+    }
+
+    fn simulated_indexes_are(
+        &self,
+        path: &Candidate<'_>,
+        indexes: &[usize],
+    ) -> Result<bool, Error> {
+        Ok(
+            self.simulated
+                .matches_candidate(self.alloc, path)?
+                .as_slice()
+                == indexes,
+        )
     }
 
     fn shown_answers(&self, path: &Candidate<'_>, indexes: &str) -> Result<String> {
@@ -109,13 +138,29 @@ impl Globs {
 
     /// Returns the indexes of the globs whose own matchers match a path.
     fn each(&self, path: &Candidate<'_>) -> Result<String> {
-        Ok(list(self.alloc, &self.matching(path)?)?)
+        self.compared_each(path, &self.matching(path, false)?)
     }
 
-    fn matching(&self, path: &Candidate<'_>) -> Result<Vec<usize>, Error> {
+    fn compared_each(&self, path: &Candidate<'_>, indexes: &[usize]) -> Result<String> {
+        if !self.simulated_matchers_find(path, indexes)? {
+            return shown::copied(self.alloc, "a matcher and a simulated matcher differ");
+        }
+        Ok(list(self.alloc, indexes)?)
+    }
+
+    fn simulated_matchers_find(
+        &self,
+        path: &Candidate<'_>,
+        indexes: &[usize],
+    ) -> Result<bool, Error> {
+        Ok(self.matching(path, true)?.as_slice() == indexes)
+    }
+
+    /// Returns the indexes of the globs whose own matchers match a path, or whose simulated matchers do.
+    fn matching(&self, path: &Candidate<'_>, simulated: bool) -> Result<Vec<usize>, Error> {
         let mut indexes = Vec::new(self.alloc);
         for (i, glob) in self.globs.iter().enumerate() {
-            if matches_by_itself(glob, path)? {
+            if matches_by(glob, path, simulated)? {
                 indexes.push(i)?;
             }
         }
@@ -160,6 +205,7 @@ impl Globs {
     fn replace(&mut self, set: GlobSet) -> Result<String> {
         self.globs.clear();
         self.set = set;
+        self.simulated = self.set.simulated()?;
         shown::length(self.alloc, self.set.len())
     }
 }
@@ -175,11 +221,28 @@ fn is_match(alloc: Global, glob: &Glob, columns: &mut Columns<'_>) -> Result<Str
 
 fn compared_matches(alloc: Global, glob: &Glob, path: &Candidate<'_>) -> Result<String> {
     let matcher = matches_by_itself(glob, path)?;
-    let set = matches_in_a_set(alloc, glob, path)?;
+    let (set, simulated) = matches_in_a_set(alloc, glob, path)?;
+    if matches_by_simulation(glob, path)? != matcher {
+        return shown::copied(alloc, "the matcher and the simulated matcher differ");
+    }
+    if simulated != set {
+        return shown::copied(alloc, "the set and the simulated set differ");
+    }
     if matcher != set {
         return shown::copied(alloc, "the matcher and the set differ");
     }
     shown::copied(alloc, yes_or_no(matcher))
+}
+
+/// Returns whether a glob matches a path, by a matcher, or by a simulated one.
+fn matches_by(glob: &Glob, path: &Candidate<'_>, simulated: bool) -> Result<bool, Error>
+    ensures { IfOk result (λ yes. yes ≡ glob_means glob.now path.now) }
+{
+    if simulated {
+        matches_by_simulation(glob, path)
+    } else {
+        matches_by_itself(glob, path)
+    }
 }
 
 /// Returns whether a glob matches a path, by a matcher.
@@ -189,8 +252,31 @@ fn matches_by_itself(glob: &Glob, path: &Candidate<'_>) -> Result<bool, Error>
     glob.compile_matcher()?.is_match_candidate(path)
 }
 
-fn matches_in_a_set(alloc: Global, glob: &Glob, path: &Candidate<'_>) -> Result<bool, Error> {
-    GlobSet::new(alloc, [glob])?.is_match_candidate(path)
+/// Returns whether a glob matches a path, by a matcher with an automaton that is simulated.
+fn matches_by_simulation(glob: &Glob, path: &Candidate<'_>) -> Result<bool, Error>
+    ensures { IfOk result (λ yes. yes ≡ glob_means glob.now path.now) }
+{
+    glob.compile_simulated()?.is_match_candidate(path)
+}
+
+/// Returns whether a set of a glob alone matches a path, and whether a simulated one does.
+fn matches_in_a_set(
+    alloc: Global,
+    glob: &Glob,
+    path: &Candidate<'_>,
+) -> Result<(bool, bool), Error> {
+    matches_of(&GlobSet::new(alloc, [glob])?, path)
+}
+
+fn matches_of(set: &GlobSet, path: &Candidate<'_>) -> Result<(bool, bool), Error> {
+    Ok((
+        set.is_match_candidate(path)?,
+        matches_of_simulated(set, path)?,
+    ))
+}
+
+fn matches_of_simulated(set: &GlobSet, path: &Candidate<'_>) -> Result<bool, Error> {
+    set.simulated()?.is_match_candidate(path)
 }
 
 /// Returns whether the glob of the next columns, or its error, is equal to this one.
