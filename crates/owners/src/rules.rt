@@ -1,0 +1,110 @@
+//! The rules of an owners file, read as GitHub reads those of a `CODEOWNERS`.
+//!
+//! - `#` begins a comment, which ends with the line. A line that has nothing else is skipped.
+//! - Every other line is a rule: a pattern, and after spaces or tabs its owners. They may be missing: then what the pattern
+//!   matches has no owners.
+//! - The last rule that matches a path decides.
+//! - `*` and `?` do not match `/`. `**/` at the start and `/**/` match any folders, and `/**` at the end what is in a folder.
+//! - A pattern with a `/` that is not its last character matches from the root. Every other one matches at any depth.
+//! - A pattern matches everything in the folders that it matches, unless it ends in `/*`. One that ends in `/` matches nothing
+//!   else.
+//!
+//! It differs from GitHub in this: `{a,b}` and `[ab]` match `a` and `b`, owners are not looked up, and a pattern that cannot be
+//! read is an error.
+
+ghost use Rattle.globset.specs.SetValue.{Fits};
+
+use anyhow::{Result, anyhow};
+use globset::{Candidate, Error, GlobBuilder, GlobSet, GlobSetBuilder, Scratch, Visits};
+use std::alloc::Global;
+
+/// The rules of an owners file, and all the memory that they are matched with.
+#[derive(Drop)]
+pub struct Rules<'t> {
+    set: GlobSet,
+    /// For each glob of the set, the owners of its rule.
+    owners: Vec<&'t str>,
+    scratch: Scratch,
+    matching: Vec<usize>,
+    ghost fits: { Fits scratch set },
+}
+
+impl<'t> Rules<'t> {
+    /// Reads an owners file. Returns an error with its line if a pattern cannot be read, or an error if memory runs out.
+    pub fn read(alloc: Global, text: &'t str) -> Result<Rules<'t>> {
+        let mut globs = GlobSetBuilder::new(alloc);
+        let mut owners = Vec::new(alloc);
+        for (i, line) in text.lines().enumerate() {
+            if let Err(error) = push_line(alloc, &mut globs, &mut owners, line) {
+                return Err(anyhow!("line {}: {line}: {}", i + 1, error.kind()));
+            }
+        }
+        Ok(Rules::new(alloc, globs.build()?, owners)?)
+    }
+
+    fn new(alloc: Global, set: GlobSet, owners: Vec<&'t str>) -> Result<Rules<'t>, Error> {
+        let scratch = Scratch::new(alloc, &set)?;
+        let matching = Vec::with_capacity(alloc, set.len())?;
+        Ok(Rules {
+            set,
+            owners,
+            scratch,
+            matching,
+        })
+    }
+
+    /// Returns the owners of the last rule that matches a path, or `None` if none does.
+    pub fn owners(&mut self, path: &str) -> Result<Option<&'t str>, Error> {
+        self.set.matches_into_with(
+            &Candidate::new(path),
+            &mut self.scratch,
+            &mut self.matching,
+            &mut Visits::new(),
+        )?;
+        Ok(match self.matching.last() {
+            Some(last) => self.owners.get(*last).copied(),
+            None => None,
+        })
+    }
+}
+
+/// Adds the globs of a line, and for each of them the owners.
+fn push_line<'t>(
+    alloc: Global,
+    globs: &mut GlobSetBuilder,
+    owners: &mut Vec<&'t str>,
+    line: &'t str,
+) -> Result<(), Error> {
+    let (rule, _comment) = line.split_once('#').unwrap_or((line, ""));
+    let (pattern, names) = rule
+        .trim()
+        .split_once([' ', '\t'])
+        .unwrap_or((rule.trim(), ""));
+    let path = pattern.strip_suffix('/').unwrap_or(pattern);
+    if path.is_empty() {
+        return Ok(());
+    }
+    let depth = if path.contains('/') { "" } else { "**/" };
+    let path = path.strip_prefix('/').unwrap_or(path);
+    for end in ends_of(pattern) {
+        let glob = format!(in alloc; "{depth}{path}{end}")?;
+        globs.add(
+            GlobBuilder::new(glob.as_str())
+                .literal_separator(true)
+                .build(alloc)?,
+        )?;
+        owners.push(names.trim())?;
+    }
+    Ok(())
+}
+
+/// Returns what follows the path of a pattern in its globs.
+fn ends_of(pattern: &str) -> &'static [&'static str] {
+    if pattern.ends_with("/*") {
+        &[""]
+    } else if pattern.ends_with('/') {
+        &["/**"]
+    } else {
+        &["", "/**"]
+    }
+}
