@@ -2,8 +2,11 @@
 
 ghost use Rattle.byte_automaton.specs.inner.Bounds.{AreBounds};
 
-use crate::words::{Seen, clear_between, grow, has_bit, last_below, set_bit, words_for};
+use crate::words::{
+    Seen, clear_between, grow, has_bit, hash_between, last_below, set_bit, words_for,
+};
 use std::alloc::{AllocError, Global};
+use std::hash::{FoldHasher, Hasher};
 use visits::Visits;
 
 /// A set of states, as a bit for each.
@@ -11,7 +14,7 @@ use visits::Visits;
 /// It is made once, and holds sets of states of any automaton that has at most as many states as it has room for. Only an
 /// automaton's calls tell which states are in it. To read or clear it takes time linear in the distance between its lowest and
 /// its highest state, however much room it has.
-#[derive(PartialEq, Eq, Hash, Drop)]
+#[derive(PartialEq, Eq, Drop)]
 pub struct StateSet {
     words: Vec<u64>,
     /// No lower state is in the set, so words before it are neither read nor cleared.
@@ -146,6 +149,15 @@ impl StateSet {
             }
         }
         false
+    }
+
+    /// Hashes the set by the words between its lowest and its highest state. Equal sets have equal hashes.
+    pub fn hash_members(&self, hasher: &mut FoldHasher) {
+        if self.last < self.first {
+            return;
+        }
+        hasher.write_usize(self.first);
+        hash_between(&self.words, self.first, self.last, hasher);
     }
 
     /// Returns whether no state is in both of two sets.

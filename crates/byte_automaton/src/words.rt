@@ -6,6 +6,7 @@ ghost use Rattle.byte_automaton.specs.Bits.{bit_of};
 ghost use Rattle.byte_automaton.specs.inner.Seen.{IsLastBelow};
 
 use std::alloc::AllocError;
+use std::hash::{FoldHasher, Hasher};
 
 /// A bit that was read, and whether it is set.
 #[derive(Clone, Copy)]
@@ -84,6 +85,16 @@ pub fn clear_between(words: &mut [u64], first: usize, last: usize)
     ensures others { (k : ℕ) → bit_of words.new k ≡ true → bit_of words.old k ≡ true }
 {
     words[first / 64..last / 64 + 1].fill(0);
+}
+
+/// Hashes the words of the bits between these two.
+pub fn hash_between(words: &[u64], first: usize, last: usize, hasher: &mut FoldHasher)
+    requires order { first ≤ last }
+    requires within { last < 64 * length words.now }
+{
+    for word in &words[first / 64..last / 64 + 1] {
+        hasher.write_u64(*word);
+    }
 }
 
 /// Clears all bits.

@@ -12,7 +12,7 @@ use crate::lists::push_list;
 use byte_automaton::{Automaton, ByteSteps, IndexSet, StateSet};
 use std::alloc::{AllocError, Global};
 use std::collections::HashMap;
-use std::hash::{FoldHasher, Hash, Hasher};
+use std::hash::{FoldHasher, Hasher};
 use visits::Visits;
 
 /// An entry from here on leads to a state that is dead, or where indexes are found on entry.
@@ -273,6 +273,6 @@ impl Construction {
 /// Returns the hash of a set of states.
 fn hash_of(states: &StateSet) -> u64 {
     let mut hasher = FoldHasher::default();
-    states.hash(&mut hasher);
+    states.hash_members(&mut hasher);
     hasher.finish()
 }
