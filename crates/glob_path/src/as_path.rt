@@ -6,6 +6,14 @@ ghost use Rattle.std.specs.Prelude.{◌≡◌, ℕ, List, string_bytes};
 ///
 /// A `Path`, an `OsStr` and the like have no text of their own. Pass their text, or pass their bytes to
 /// [`Candidate::from_bytes`](crate::Candidate::from_bytes).
+///
+/// ```rust
+/// use globset::Glob;
+///
+/// let matcher = Glob::new(alloc, "*.c")?.compile_matcher()?;
+/// let path = String::from_str(alloc, "a.c")?;
+/// assert!(rt; matcher.is_match("a.c")? && matcher.is_match(&path)? && matcher.is_match(path)?);
+/// ```
 pub trait AsPath: Drop {
     ghost text: { Self → List ℕ };
 

@@ -14,6 +14,16 @@ use std::marker::Model;
 /// Contracts see a candidate as the path's bytes. A path is a list of bytes, UTF-8 or not. Its only separator is `/`, and
 /// it is not changed before matching. `path`, `basename` and `ext` return slices of the bytes that the candidate was made
 /// from, not copies, so they may be used as long as those bytes, also after the candidate is dropped.
+///
+/// ```rust
+/// use globset::{Candidate, Glob};
+///
+/// let path = Candidate::from_bytes(b"src/a.b.c");
+/// assert_eq!(rt; path.path(), b"src/a.b.c".as_slice());
+/// assert_eq!(rt; path.basename(), b"a.b.c".as_slice());
+/// assert_eq!(rt; path.ext(), b".c".as_slice());
+/// assert!(rt; Glob::new(alloc, "*.c")?.compile_matcher()?.is_match_candidate(&path)?);
+/// ```
 #[derive(Drop)]
 pub struct Candidate<'a> {
     path: &'a [u8],

@@ -19,6 +19,14 @@ enum Ticks {
 ///
 /// In a running program a count has no size, and counting takes no time. In contracts it is a number without an upper
 /// bound.
+///
+/// ```rust
+/// use globset::{Candidate, Glob, Visits};
+///
+/// let matcher = Glob::new(alloc, "*.c")?.compile_matcher()?;
+/// let mut visits = Visits::new();
+/// assert!(rt; matcher.is_match_visits(&Candidate::new("a.c"), &mut visits)?);
+/// ```
 #[derive(Drop)]
 pub struct Visits {
     ticks: Snapshot<Ticks>,
