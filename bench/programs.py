@@ -1,6 +1,8 @@
 """The two programs that are compared: where they are, and how they are built when they are missing."""
 
+import glob
 import os
+import re
 import shutil
 import subprocess
 import sys
@@ -10,7 +12,9 @@ OUT = os.path.join(HERE, "out")
 PROGRAM_CRATE = os.path.join(os.path.dirname(HERE), "crates", "globsift")
 INSTALLED_CRATES = "/usr/share/cargo/registry"
 PACKAGES = ["librust-globset-dev", "librust-memchr-dev"]
-DEBIAN = "deb http://deb.debian.org/debian sid main\n"
+# Debian's newest release, whatever this machine runs, since older ones have a much older globset.
+RELEASE = "sid"
+SOURCES = ["/etc/apt/sources.list", "/etc/apt/sources.list.d/*.list", "/etc/apt/sources.list.d/*.sources"]
 
 
 def say(text):
@@ -29,10 +33,24 @@ def globset_version(crates):
     return max(versions, key=lambda version: [int(number) for number in version.split(".")], default=None)
 
 
-def download_crates():
+def mirror():
+    """The address of a mirror of Debian: the first one in this system's list of sources."""
+    for name in (name for pattern in SOURCES for name in sorted(glob.glob(pattern))):
+        with open(name) as file:
+            for line in file:
+                found = re.match(r"(?:deb\s+(?:\[[^]]*\]\s*)?|URIs:(?:\s*|.*\s))(\S+/debian/?)(?:\s|$)", line)
+                if found:
+                    return found[1]
+    raise SystemExit(
+        f"This system's list of sources ({', '.join(SOURCES)}) has no mirror of Debian, whose address ends in /debian. "
+        "Name one by --mirror, or a folder that has the sources of globset, memchr and what these use by --crates."
+    )
+
+
+def download_crates(address):
     """Unpacks the Debian packages with the crates below `OUT`, without installing them; returns the folder of crates.
 
-    They are those of Debian's newest release, whatever this machine runs, since older ones have a much older globset.
+    They come from the mirror with this address.
     """
     apt, packages, root = (os.path.join(OUT, name) for name in ("apt", "packages", "root"))
     for folder in (f"{apt}/lists/partial", f"{apt}/cache/archives/partial", packages, root):
@@ -40,7 +58,7 @@ def download_crates():
     # Empty, so that apt takes no package for installed.
     open(f"{apt}/status", "w").close()
     with open(f"{apt}/sources.list", "w") as file:
-        file.write(DEBIAN)
+        file.write(f"deb {address} {RELEASE} main\n")
     settings = {
         "Dir::State::lists": f"{apt}/lists",
         "Dir::State::status": f"{apt}/status",
@@ -49,7 +67,7 @@ def download_crates():
         "Dir::Etc::sourceparts": "/dev/null",
     }
     apt_get = ["apt-get", "-q"] + [word for name, value in settings.items() for word in ("-o", f"{name}={value}")]
-    say("Downloading the crates from Debian")
+    say(f"Downloading the crates of Debian {RELEASE} from {address}")
     run(apt_get + ["update"], stdout=sys.stderr)
     wanted = run(
         apt_get + ["--simulate", "--no-install-recommends", "install"] + PACKAGES, capture_output=True, text=True
@@ -62,24 +80,32 @@ def download_crates():
     return root + INSTALLED_CRATES
 
 
-def find_crates(given):
-    """The folder of crates to build the baseline from: a given one, the installed one, or a downloaded one."""
+def find_crates(given, address):
+    """The folder of crates to build the baseline from: a given one, the installed one, or a downloaded one.
+
+    It is downloaded from the mirror with this address, or, if that is None, from the system's own.
+    """
     downloaded = os.path.join(OUT, "root") + INSTALLED_CRATES
     for folder in [given] if given else [INSTALLED_CRATES, downloaded]:
         if globset_version(folder):
             return os.path.abspath(folder)
     if given:
         raise SystemExit(f"{given} has no globset")
-    return download_crates()
+    return download_crates(address or mirror())
 
 
 def baseline(crates):
     """Builds the baseline from a folder of crates; returns the program's path."""
+    return build(os.path.join(HERE, "baseline"), "baseline", crates)
+
+
+def build(source, name, crates):
+    """Builds the program of this name that has its source in a folder, from a folder of crates; returns the program's path."""
     version = globset_version(crates)
-    say(f"Building the baseline with globset {version}")
-    project = os.path.join(OUT, f"baseline-{version}")
+    say(f"Building the {name} with globset {version}")
+    project = os.path.join(OUT, f"{name}-{version}")
     shutil.rmtree(project, ignore_errors=True)
-    shutil.copytree(os.path.join(HERE, "baseline"), project)
+    shutil.copytree(source, project)
     target = os.path.join(OUT, "target")
     run(
         [
@@ -89,7 +115,7 @@ def baseline(crates):
         ],
         cwd=project,
     )
-    return os.path.join(target, "release", "baseline")
+    return os.path.join(target, "release", name)
 
 
 def globsift():

@@ -6,30 +6,40 @@
 
 mod table;
 
-use anyhow::{Context, Result};
+use example_io::{Fault, Output, Paths, Program};
 use itertools::Itertools;
-use std::{env, fs, io};
+use std::process::ExitCode;
+use std::rt::Runtime;
 use table::Table;
 
-fn main(rt: HostRuntime) -> Result<()> {
-    let file = env::args(&rt)?
-        .nth(1)
-        .context("usage: file_types TABLE < PATHS")?;
-    let text = fs::read_to_string(&rt, file.as_str())?;
-    let table = Table::read(rt.alloc(), text.as_str())?;
-    let paths = io::read_to_string(rt.alloc(), rt.reader())?;
-    print_types(&rt, table, paths.as_str())
+const PROGRAM: Program = Program {
+    name: "file_types",
+    help: "usage: file_types FILE < PATHS
+
+Each line of FILE is a type and its globs, as in: make: [Mm]akefile, *.mk
+Each line of standard input is a path. It is written to standard output with a tab and its types, or - if it has none.
+The exit status is 0, or 2 after an error, whose text is written to standard error.",
+};
+
+fn main(rt: HostRuntime) -> ExitCode {
+    PROGRAM.exit(&rt, run(&rt))
 }
 
-/// Prints each line with its types.
-fn print_types(rt: &(impl AllocGlobal + Print), mut table: Table<'_>, paths: &str) -> Result<()> {
-    for path in paths.lines() {
+/// Prints each path with its types.
+fn run(rt: &(impl Runtime + AllocGlobal)) -> Result<(), Fault> {
+    let Some(file) = PROGRAM.open(rt)? else {
+        return Ok(());
+    };
+    let mut table = Table::read(rt.alloc(), &file)?;
+    let paths = Paths::read(rt)?;
+    let mut output = Output::new(rt.alloc());
+    for path in paths.iter() {
         let types = table.types(rt.alloc(), path)?;
-        if types.is_empty() {
-            println!(rt; "{path}\t-")?;
-        } else {
-            println!(rt; "{path}\t{}", types.iter().join(rt.alloc(), ",")?)?;
-        }
+        let names = match types.as_slice() {
+            [] => String::from_str(rt.alloc(), "-")?,
+            names => names.iter().join(rt.alloc(), ",")?,
+        };
+        output.push_line(&[path, b"\t", names.as_bytes()])?;
     }
-    Ok(())
+    output.write(rt)
 }

@@ -6,9 +6,9 @@
 
 ghost use Rattle.globset.specs.SetValue.{Fits};
 
-use anyhow::{Context, Result, anyhow, ensure};
+use example_io::{Fault, TextFile};
 use globset::{Candidate, Error, Glob, GlobSet, GlobSetBuilder, Scratch, Visits};
-use std::alloc::Global;
+use std::alloc::{AllocError, Global};
 
 /// A table of types, and all the memory that its globs are matched with.
 #[derive(Drop)]
@@ -24,18 +24,17 @@ pub struct Table<'t> {
 impl<'t> Table<'t> {
     /// Reads a table. Returns an error with its line if a line has no colon, a type has a line already or a glob cannot be
     /// read, or an error if memory runs out.
-    pub fn read(alloc: Global, text: &'t str) -> Result<Table<'t>> {
+    pub fn read(alloc: Global, file: &'t TextFile) -> Result<Table<'t>, Fault> {
         let mut globs = GlobSetBuilder::new(alloc);
         let mut names = Vec::new(alloc);
-        for (i, line) in text.lines().enumerate() {
-            if let Err(error) = push_line(alloc, &mut globs, &mut names, line) {
-                return Err(anyhow!("line {}: {error}", i + 1));
-            }
+        for (i, line) in file.lines(alloc)?.iter().enumerate() {
+            push_line(alloc, &mut globs, &mut names, file, i + 1, line)?;
         }
-        Ok(Table::new(alloc, globs.build()?, names)?)
+        Ok(Table::new(alloc, globs, names).map_err(out_of_memory)?)
     }
 
-    fn new(alloc: Global, set: GlobSet, names: Vec<&'t str>) -> Result<Table<'t>, Error> {
+    fn new(alloc: Global, globs: GlobSetBuilder, names: Vec<&'t str>) -> Result<Table<'t>, Error> {
+        let set = globs.build()?;
         let scratch = Scratch::new(alloc, &set)?;
         let matching = Vec::with_capacity(alloc, set.len())?;
         Ok(Table {
@@ -47,14 +46,16 @@ impl<'t> Table<'t> {
     }
 
     /// Returns the types of a path, in the order of the table, each once.
-    pub fn types(&mut self, alloc: Global, path: &str) -> Result<Vec<&'t str>, Error> {
-        let component = path.rsplit_once('/').map_or(path, |(_, last)| last);
-        self.set.matches_into_with(
-            &Candidate::new(component),
-            &mut self.scratch,
-            &mut self.matching,
-            &mut Visits::new(),
-        )?;
+    pub fn types(&mut self, alloc: Global, path: &[u8]) -> Result<Vec<&'t str>, AllocError> {
+        let component = path.rsplit(|byte| *byte == b'/').next().unwrap_or(path);
+        self.set
+            .matches_into_with(
+                &Candidate::from_bytes(component),
+                &mut self.scratch,
+                &mut self.matching,
+                &mut Visits::new(),
+            )
+            .map_err(out_of_memory)?;
         let mut types = Vec::new(alloc);
         for index in &self.matching {
             if let Some(name) = self.names.get(*index) {
@@ -66,24 +67,46 @@ impl<'t> Table<'t> {
     }
 }
 
-/// Adds the globs of a line, and for each of them the name of its type.
+/// Adds the globs of a line of the file, and for each of them the name of its type. Returns an error with the line's number.
 fn push_line<'t>(
     alloc: Global,
     globs: &mut GlobSetBuilder,
     names: &mut Vec<&'t str>,
+    file: &TextFile,
+    number: usize,
     line: &'t str,
-) -> Result<()> {
+) -> Result<(), Fault> {
     if line.is_empty() || line.starts_with('#') {
         return Ok(());
     }
-    let (name, list) = line.split_once(':').context("this line has no colon")?;
-    ensure!(!names.contains(&name), "the type {name} has a line already");
-    for text in list.split(", ") {
-        match Glob::new(alloc, text.trim()) {
-            Ok(glob) => globs.add(glob)?,
-            Err(error) => return Err(error.into()),
-        };
+    let Some((name, list)) = line.split_once(':') else {
+        return Err(file.fault(alloc, number, line.as_bytes(), "this line has no colon"));
+    };
+    if names.contains(&name) {
+        return Err(file.fault(
+            alloc,
+            number,
+            name.as_bytes(),
+            "this type has a line already",
+        ));
+    }
+    for glob in list.split(", ") {
+        let glob = glob.trim();
+        if let Err(error) = push_glob(alloc, globs, glob) {
+            return Err(file.fault(alloc, number, glob.as_bytes(), error.kind()));
+        }
         names.push(name)?;
     }
     Ok(())
+}
+
+/// Adds a glob. Returns an error if it cannot be read, or memory runs out.
+fn push_glob(alloc: Global, globs: &mut GlobSetBuilder, glob: &str) -> Result<(), Error> {
+    globs.add(Glob::new(alloc, glob)?)?;
+    Ok(())
+}
+
+/// Returns the error that memory ran out: a set has no other one.
+fn out_of_memory(_error: Error) -> AllocError {
+    AllocError
 }

@@ -6,3 +6,4 @@ pub mod SliceItems
 pub mod WalkNames
 pub mod WalkParameters
 pub mod WalkResults
+pub mod Shared

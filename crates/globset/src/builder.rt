@@ -52,7 +52,7 @@ impl GlobSetBuilder {
     /// Adds a glob after the others, and returns the builder, so that calls can be chained.
     ///
     /// Returns an error if memory runs out, and no other. The builder then has the globs that it had before the call,
-    /// and the new glob is dropped.
+    /// and the new glob is dropped. [`GlobSetBuilder::push`] does the same, for code that goes on after an error.
     pub fn add(&mut self, glob: Glob) -> Result<&mut GlobSetBuilder, Error>
         ensures* lends { sem 𝓛 (LendsItself self.entry result) }
         ensures ok { IfOk result (λ b. (b.ghost_name ≡ self.entry.ghost_name)
@@ -65,8 +65,34 @@ impl GlobSetBuilder {
         }
     }
 
+    /// Adds a glob after the others, as [`GlobSetBuilder::add`] does, which calls it, and returns no reference to the builder.
+    ///
+    /// Returns an error if memory runs out, and no other. The builder then has the globs that it had before the call, and more
+    /// globs can be added to it; the new glob is dropped.
+    ///
+    /// ```rust
+    /// use globset::{Glob, GlobSetBuilder};
+    ///
+    /// let mut builder = GlobSetBuilder::new(alloc);
+    /// let mut added = 0;
+    /// for text in ["*.c", "*.h"] {
+    ///     if builder.push(Glob::new(alloc, text)?).is_ok() {
+    ///         added += 1;
+    ///     }
+    /// }
+    /// assert_eq!(rt; builder.build()?.len(), added);
+    /// ```
+    pub fn push(&mut self, glob: Glob) -> Result<(), Error>
+        ensures ok { OnOk result (builder_globs self.new ≡ builder_globs self.old ++ glob ∷ []) }
+        ensures kept { OnErr result (builder_globs self.new ≡ builder_globs self.old) }
+        ensures err { IfErr result (λ e. e ≡ out_of_memory) }
+    {
+        self.pats.push(glob)?;
+        Ok(())
+    }
+
     /// Returns the set of the globs that were added, in order. They are copied: the builder is unchanged, and more
-    /// globs can be added to it.
+    /// globs can be added to it. [`GlobSetBuilder::take_set`] copies none of them.
     ///
     /// It takes time and memory linear in the texts of the globs, except that some of these are sorted. The factor is largest
     /// for globs that need an automaton: a deterministic one has up to 512 numbers for each state and 2,048 more, and to find one
@@ -80,6 +106,31 @@ impl GlobSetBuilder {
         GlobSet::new(*self.pats.allocator(), &self.pats)
     }
 
+    /// Takes the globs out of the builder, and returns the set of them, in order. They are moved, and not copied: afterwards
+    /// the builder has no globs, and can be used again.
+    ///
+    /// It takes time and memory as [`GlobSetBuilder::build`] does, except for the copies.
+    ///
+    /// Returns an error if memory runs out, and no other. The builder then has the globs that it had before the call.
+    ///
+    /// ```rust
+    /// use globset::{Glob, GlobSetBuilder};
+    ///
+    /// let mut builder = GlobSetBuilder::new(alloc);
+    /// builder.add(Glob::new(alloc, "*.c")?)?.add(Glob::new(alloc, "*.h")?)?;
+    /// let sources = builder.take_set()?;
+    /// assert_eq!(rt; sources.matches(alloc, "a.h")?.as_slice(), [1].as_slice());
+    /// assert!(rt; builder.build()?.is_empty());
+    /// ```
+    pub fn take_set(&mut self) -> Result<GlobSet, Error>
+        ensures ok { IfOk result (λ s. set_globs s ≡ builder_globs self.old) }
+        ensures emptied { OnOk result (builder_globs self.new ≡ []) }
+        ensures kept { OnErr result (builder_globs self.new ≡ builder_globs self.old) }
+        ensures err { IfErr result (λ e. e ≡ out_of_memory) }
+    {
+        GlobSet::take_globs(&mut self.pats)
+    }
+
     /// Returns an equal builder, with memory of its own. Returns an error if memory runs out, and no other.
     pub fn clone(&self) -> Result<GlobSetBuilder, Error>
         ensures ok { IfOk result (λ b. b ≡ self.now) }
@@ -87,15 +138,6 @@ impl GlobSetBuilder {
     {
         let pats = self.pats.clone()?;
         Ok(GlobSetBuilder { pats })
-    }
-
-    fn push(&mut self, glob: Glob) -> Result<(), Error>
-        ensures ok { OnOk result (builder_globs self.new ≡ builder_globs self.old ++ glob ∷ []) }
-        ensures kept { OnErr result (builder_globs self.new ≡ builder_globs self.old) }
-        ensures err { IfErr result (λ e. e ≡ out_of_memory) }
-    {
-        self.pats.push(glob)?;
-        Ok(())
     }
 }
 

@@ -6,7 +6,10 @@ ghost use Rattle.globset.specs.Laws.{AddKeeps, OneGlobSet, OrderRenames};
 ghost use Rattle.globset.specs.SetValue.{builder_globs};
 
 use crate::builder::GlobSetBuilder;
-use globset_glob::{Error, Glob};
+use crate::set::{GlobSet, Scratch};
+use globset_glob::{
+    Candidate, Error, ErrorKind, Glob, GlobBuilder, GlobMatcher, ValueError, ValueErrorKind, Visits,
+};
 
 /// One more glob after the others adds at most its own index, at the end of the indexes. The others stay as they are.
 pub fn add_keeps()
@@ -62,3 +65,22 @@ pub fn add_after_error(builder: &mut GlobSetBuilder, glob: Glob, other: Glob) ->
     failed_add_keeps(builder, other)?;
     Ok(false)
 }
+
+/// Values of these types can be sent to another thread, and shared between threads.
+pub fn can_be_shared<'a>() {
+    is_shared::<Glob>();
+    is_shared::<GlobBuilder<'a>>();
+    is_shared::<GlobMatcher>();
+    is_shared::<GlobSet>();
+    is_shared::<GlobSetBuilder>();
+    is_shared::<Scratch>();
+    is_shared::<Candidate<'a>>();
+    is_shared::<Error>();
+    is_shared::<ErrorKind>();
+    is_shared::<ValueError>();
+    is_shared::<ValueErrorKind>();
+    is_shared::<Visits>();
+}
+
+/// Requires of a type that its values can be sent to another thread, and shared between threads.
+fn is_shared<T: Send + Sync>() {}

@@ -1,6 +1,6 @@
 //! Sets of globs.
 
-ghost use Rattle.std.specs.Prelude.{◌≡◌, ◌↔◌, List, [], IfOk, IfErr, IsTrue, length, map};
+ghost use Rattle.std.specs.Prelude.{◌≡◌, ◌↔◌, List, [], IfOk, IfErr, OnOk, OnErr, IsTrue, length, map};
 ghost use Rattle.std.specs.Borrow.{Bor};
 ghost use Rattle.std.specs.Iterator.{Drains, IsFinite};
 ghost use Rattle.globset_glob.specs.Errors.{out_of_memory};
@@ -168,6 +168,19 @@ impl GlobSet {
         };
         Ok(GlobSet {
             stored: Some(stored.simulated()?),
+        })
+    }
+
+    /// Takes the globs out of a vector, and returns the set of them, in order. They are not copied. Returns an error if memory
+    /// runs out, and no other; the vector then has the globs that it had before the call.
+    pub(crate) fn take_globs(globs: &mut Vec<Glob>) -> Result<GlobSet, Error>
+        ensures ok { IfOk result (λ set. set_globs set ≡ globs.old.items) }
+        ensures emptied { OnOk result (globs.new.items ≡ []) }
+        ensures kept { OnErr result (globs.new ≡ globs.old) }
+        ensures err { IfErr result (λ e. e ≡ out_of_memory) }
+    {
+        Ok(GlobSet {
+            stored: Some(Stored::take_globs(globs)?),
         })
     }
 

@@ -2,15 +2,17 @@
 
 ghost use Rattle.std.specs.Prelude.{◌≡◌, ◌+◌, ◌≤◌, IfOk, IfErr};
 ghost use Rattle.glob_text.specs.Errors.{out_of_memory};
-ghost use Rattle.globset_glob.specs.Cost.{most_visits};
+ghost use Rattle.globset_glob.specs.Cost.{cost, most_visits};
 
 mod form;
+mod scratch;
 
 use crate::glob::Glob;
 use form::Form;
 use glob_matching::Engine;
 use glob_path::{AsPath, Candidate};
 use glob_text::Error;
+pub use scratch::MatcherScratch;
 use std::alloc::AllocError;
 use std::fmt;
 use std::marker::Model;
@@ -118,6 +120,35 @@ impl GlobMatcher {
         ensures visits { visits.new ≤ visits.old + most_visits self.now path.now }
     {
         Ok(self.form.is_match(self.glob.allocator(), path, visits)?)
+    }
+
+    /// Does what [`is_match_visits`](GlobMatcher::is_match_visits) does, with memory that is handed in: it takes none, and
+    /// cannot fail.
+    ///
+    /// The scratch has to fit the matcher, as `Scratch::fits_matcher` tells. It then fits what it fitted before. The call adds
+    /// no more visits than `is_match_visits` may.
+    ///
+    /// ```rust
+    /// use globset::{Candidate, Glob, Scratch, Visits};
+    ///
+    /// let matcher = Glob::new(alloc, "*{foo,bar}*")?.compile_matcher()?;
+    /// let mut scratch = Scratch::for_matcher(alloc, &matcher)?;
+    /// let mut visits = Visits::new();
+    /// assert!(rt; matcher.is_match_with(&Candidate::new("a/foo"), &mut scratch, &mut visits));
+    /// assert!(rt; !matcher.is_match_with(&Candidate::new("a/fo"), &mut scratch, &mut visits));
+    /// ```
+    pub fn is_match_with<S: MatcherScratch>(
+        &self,
+        path: &Candidate<'_>,
+        scratch: &mut S,
+        visits: &mut Visits,
+    ) -> bool
+        requires { cost self.now ≤ S.states scratch.old }
+        ensures matches { result ≡ glob_means self.now path.now }
+        ensures kept { scratch.new ≡ scratch.old }
+        ensures visits { visits.new ≤ visits.old + most_visits self.now path.now }
+    {
+        self.form.is_match_with(path, scratch, visits)
     }
 
     /// Returns a matcher for an equal glob, or an error if memory runs out. It copies the automaton.

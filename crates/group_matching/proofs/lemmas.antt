@@ -4,3 +4,4 @@ pub mod Indexes
 pub mod Matching
 pub mod Slots
 pub mod Tables
+pub mod Shared

@@ -1,11 +1,15 @@
 //! The memory that matching takes.
 
-ghost use Rattle.std.specs.Prelude.{◌≡◌, ◌≤◌, ℕ, false, IfOk, IsOk, OnOk};
-ghost use Rattle.byte_automaton.specs.Sets.{has_index, index_room};
+ghost use Rattle.std.specs.Prelude.{◌≡◌, ◌+◌, ◌*◌, ◌≤◌, ◌↔◌, ℕ, List, false, length, IfOk, IsOk, IsTrue, OnOk};
+ghost use Rattle.byte_automaton.specs.Runs.{size};
+ghost use Rattle.byte_automaton.specs.Sets.{has_index, index_room, sets_room};
+ghost use Rattle.glob_automaton.specs.IndexedTokens.{IndexedTokens, IsFor, SomeMatches};
 ghost use Rattle.group_matching.specs.inner.Room.{HasRoom, KeepsRoom};
 
 use byte_automaton::{IndexSet, StateSets};
+use glob_matching::Compiled;
 use std::alloc::{AllocError, Global};
+use visits::Visits;
 
 /// Sets that a call works with: of the states that a simulated automaton is in, and of the indexes that are found, which are
 /// marked there.
@@ -46,9 +50,37 @@ impl MatchingSets {
         ensures { IfOk result (λ sets. HasRoom sets states indexes) }
     {
         let mut sets = MatchingSets::new(alloc);
-        sets.states.reserve(states)?;
-        sets.marks.reserve(indexes)?;
+        sets.reserve(states, indexes)?;
         Ok(sets)
+    }
+
+    /// Makes room for automata of so many states and for the indexes below a number, where there is less. Returns an error if
+    /// memory runs out; the sets then have as much room as before, or more.
+    pub fn reserve(&mut self, states: usize, indexes: usize) -> Result<(), AllocError>
+        ensures ok { OnOk result (HasRoom self.new states indexes) }
+        ensures kept { KeepsRoom self.old self.new }
+        ensures memory { HasRoom self.old states indexes → IsOk result }
+    {
+        self.states.reserve(states)?;
+        self.marks.reserve(indexes)
+    }
+
+    /// Returns whether tokens match a text, by one automaton.
+    ///
+    /// It is at most `(text bytes + 1) * states` visits. Returns an error if memory runs out, and so none if the sets have room
+    /// for all states of the automaton.
+    pub fn is_match(
+        &mut self,
+        automaton: &Compiled,
+        text: &[u8],
+        visits: &mut Visits,
+    ) -> Result<bool, AllocError>
+        ensures some { IfOk result (λ yes. (xs : List IndexedTokens) → IsFor automaton.now xs → IsTrue yes ↔ ((k : ℕ) × SomeMatches xs text.now k)) }
+        ensures kept { KeepsRoom self.old self.new }
+        ensures room { size automaton.now ≤ sets_room self.old.states → IsOk result }
+        ensures visits { visits.new ≤ visits.old + (length text.now + 1) * size automaton.now }
+    {
+        automaton.is_match(text, &mut self.states, visits)
     }
 
     /// Takes every mark out, and makes room for the indexes below a number where there is less. Returns an error if memory

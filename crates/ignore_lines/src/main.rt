@@ -4,28 +4,40 @@
 //! is for, as `git ls-files` prints it.
 #![tactic(auto)]
 
+mod cuts;
+mod patterns;
 mod rules;
 
-use anyhow::{Context, Result};
+use example_io::{Fault, Output, Paths, Program};
 use rules::Rules;
-use std::{env, fs, io};
+use std::process::ExitCode;
+use std::rt::Runtime;
 
-fn main(rt: HostRuntime) -> Result<()> {
-    let file = env::args(&rt)?
-        .nth(1)
-        .context("usage: ignore_lines FILE < PATHS")?;
-    let text = fs::read_to_string(&rt, file.as_str())?;
-    let rules = Rules::read(rt.alloc(), text.as_str())?;
-    let paths = io::read_to_string(rt.alloc(), rt.reader())?;
-    print_kept(&rt, rules, paths.as_str())
+const PROGRAM: Program = Program {
+    name: "ignore_lines",
+    help: "usage: ignore_lines FILE < PATHS
+
+FILE has patterns, one a line, as a .gitignore has them.
+Each line of standard input is the path of a file. Those that FILE does not ignore are written to standard output.
+The exit status is 0, or 2 after an error, whose text is written to standard error.",
+};
+
+fn main(rt: HostRuntime) -> ExitCode {
+    PROGRAM.exit(&rt, run(&rt))
 }
 
-/// Prints the lines that are not ignored.
-fn print_kept(rt: &impl Print, mut rules: Rules, paths: &str) -> Result<()> {
-    for path in paths.lines() {
+/// Prints the paths that are not ignored.
+fn run(rt: &(impl Runtime + AllocGlobal)) -> Result<(), Fault> {
+    let Some(file) = PROGRAM.open(rt)? else {
+        return Ok(());
+    };
+    let mut rules = Rules::read(rt.alloc(), &file)?;
+    let paths = Paths::read(rt)?;
+    let mut output = Output::new(rt.alloc());
+    for path in paths.iter() {
         if !rules.ignore(path)? {
-            println!(rt; "{path}")?;
+            output.push_line(&[path])?;
         }
     }
-    Ok(())
+    output.write(rt)
 }

@@ -19,8 +19,8 @@ use writing::write_pending;
 /// How many bytes are read at once.
 const CHUNK: usize = 65536;
 
-/// The first capacity of the pending output: a full buffer and a line more.
-const ROOM: usize = 69632;
+/// The first capacity of the pending output: as much as is collected, and a line more.
+const ROOM: usize = 73728;
 
 /// Returns a vector of `count` zero bytes, to read into.
 fn zeros(alloc: Global, count: usize) -> Result<Vec<u8>, AllocError>
@@ -35,8 +35,12 @@ fn zeros(alloc: Global, count: usize) -> Result<Vec<u8>, AllocError>
 /// `numbered`, each line starts with the indexes that the set returns for it, ascending, in decimal and separated by `,`,
 /// and a tab.
 ///
+/// All output for what was read is written before the next read, which may wait: so the output for a line is written as soon as
+/// its LF was read. For an input that does not wait these are large pieces, since up to 64 KiB are read at once. The writer is
+/// flushed at the end alone.
+///
 /// On success all output was written and the writer was flushed. It needs memory for what is read at once (64 KiB), pending
-/// output (64 KiB and that of one line), the beginning of a line whose end was not read yet, the indexes of the set's globs, and
+/// output (68 KiB and that of one line), the beginning of a line whose end was not read yet, the indexes of the set's globs, and
 /// a [`Scratch`](globset::Scratch) for the set. To match a line it takes no more.
 ///
 /// # Errors
@@ -69,12 +73,10 @@ pub fn sift<R: Read, W: Write>(
         any_written: false,
     };
     for _ in 0..u64::MAX {
+        write_pending(&mut output.pending, writer)?;
         let n = match reader.read(chunk.as_mut_slice()) {
             Ok(n) => n,
-            Err(_) => {
-                write_pending(&mut output.pending, writer)?;
-                return Err(SiftFault::Read);
-            }
+            Err(_) => return Err(SiftFault::Read),
         };
         if n == 0 {
             return output.finish(set, numbered, rest.as_slice(), writer);

@@ -6,27 +6,36 @@
 
 mod rules;
 
-use anyhow::{Context, Result};
+use example_io::{Fault, Output, Paths, Program};
 use rules::Rules;
-use std::{env, fs, io};
+use std::process::ExitCode;
+use std::rt::Runtime;
 
-fn main(rt: HostRuntime) -> Result<()> {
-    let file = env::args(&rt)?
-        .nth(1)
-        .context("usage: owners FILE < PATHS")?;
-    let text = fs::read_to_string(&rt, file.as_str())?;
-    let rules = Rules::read(rt.alloc(), text.as_str())?;
-    let paths = io::read_to_string(rt.alloc(), rt.reader())?;
-    print_owners(&rt, rules, paths.as_str())
+const PROGRAM: Program = Program {
+    name: "owners",
+    help: "usage: owners FILE < PATHS
+
+Each line of FILE is a pattern and its owners, as a CODEOWNERS has them.
+Each line of standard input is the path of a file. It is written to standard output with a tab and its owners, or - if there
+are none.
+The exit status is 0, or 2 after an error, whose text is written to standard error.",
+};
+
+fn main(rt: HostRuntime) -> ExitCode {
+    PROGRAM.exit(&rt, run(&rt))
 }
 
-/// Prints each line with its owners.
-fn print_owners(rt: &impl Print, mut rules: Rules<'_>, paths: &str) -> Result<()> {
-    for path in paths.lines() {
-        match rules.owners(path)? {
-            None | Some("") => println!(rt; "{path}\t-")?,
-            Some(owners) => println!(rt; "{path}\t{owners}")?,
-        }
+/// Prints each path with its owners.
+fn run(rt: &(impl Runtime + AllocGlobal)) -> Result<(), Fault> {
+    let Some(file) = PROGRAM.open(rt)? else {
+        return Ok(());
+    };
+    let mut rules = Rules::read(rt.alloc(), &file)?;
+    let paths = Paths::read(rt)?;
+    let mut output = Output::new(rt.alloc());
+    for path in paths.iter() {
+        let owners = rules.owners(path)?.unwrap_or("-");
+        output.push_line(&[path, b"\t", owners.as_bytes()])?;
     }
-    Ok(())
+    output.write(rt)
 }

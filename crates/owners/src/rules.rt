@@ -14,9 +14,9 @@
 
 ghost use Rattle.globset.specs.SetValue.{Fits};
 
-use anyhow::{Result, anyhow};
+use example_io::{Fault, TextFile};
 use globset::{Candidate, Error, GlobBuilder, GlobSet, GlobSetBuilder, Scratch, Visits};
-use std::alloc::Global;
+use std::alloc::{AllocError, Global};
 
 /// The rules of an owners file, and all the memory that they are matched with.
 #[derive(Drop)]
@@ -31,18 +31,20 @@ pub struct Rules<'t> {
 
 impl<'t> Rules<'t> {
     /// Reads an owners file. Returns an error with its line if a pattern cannot be read, or an error if memory runs out.
-    pub fn read(alloc: Global, text: &'t str) -> Result<Rules<'t>> {
+    pub fn read(alloc: Global, file: &'t TextFile) -> Result<Rules<'t>, Fault> {
         let mut globs = GlobSetBuilder::new(alloc);
         let mut owners = Vec::new(alloc);
-        for (i, line) in text.lines().enumerate() {
-            if let Err(error) = push_line(alloc, &mut globs, &mut owners, line) {
-                return Err(anyhow!("line {}: {line}: {}", i + 1, error.kind()));
+        for (i, line) in file.lines(alloc)?.iter().enumerate() {
+            let (pattern, names) = rule_of(line);
+            if let Err(error) = push_rule(alloc, &mut globs, &mut owners, pattern, names) {
+                return Err(file.fault(alloc, i + 1, pattern.as_bytes(), error.kind()));
             }
         }
-        Ok(Rules::new(alloc, globs.build()?, owners)?)
+        Ok(Rules::new(alloc, globs, owners).map_err(out_of_memory)?)
     }
 
-    fn new(alloc: Global, set: GlobSet, owners: Vec<&'t str>) -> Result<Rules<'t>, Error> {
+    fn new(alloc: Global, globs: GlobSetBuilder, owners: Vec<&'t str>) -> Result<Rules<'t>, Error> {
+        let set = globs.build()?;
         let scratch = Scratch::new(alloc, &set)?;
         let matching = Vec::with_capacity(alloc, set.len())?;
         Ok(Rules {
@@ -53,33 +55,40 @@ impl<'t> Rules<'t> {
         })
     }
 
-    /// Returns the owners of the last rule that matches a path, or `None` if none does.
-    pub fn owners(&mut self, path: &str) -> Result<Option<&'t str>, Error> {
-        self.set.matches_into_with(
-            &Candidate::new(path),
-            &mut self.scratch,
-            &mut self.matching,
-            &mut Visits::new(),
-        )?;
-        Ok(match self.matching.last() {
+    /// Returns the owners of the last rule that matches a path, or `None` if none does, or that rule has no owners.
+    pub fn owners(&mut self, path: &[u8]) -> Result<Option<&'t str>, AllocError> {
+        self.set
+            .matches_into_with(
+                &Candidate::from_bytes(path),
+                &mut self.scratch,
+                &mut self.matching,
+                &mut Visits::new(),
+            )
+            .map_err(out_of_memory)?;
+        let owners = match self.matching.last() {
             Some(last) => self.owners.get(*last).copied(),
             None => None,
-        })
+        };
+        Ok(owners.filter(|owners| !owners.is_empty()))
     }
 }
 
-/// Adds the globs of a line, and for each of them the owners.
-fn push_line<'t>(
+/// Returns the pattern and the owners of a line. The pattern is empty if the line has none.
+fn rule_of(line: &str) -> (&str, &str) {
+    let (rule, _comment) = line.split_once('#').unwrap_or((line, ""));
+    let rule = rule.trim();
+    let (pattern, owners) = rule.split_once([' ', '\t']).unwrap_or((rule, ""));
+    (pattern, owners.trim())
+}
+
+/// Adds the globs of a rule, if it has a pattern, and for each of them the owners.
+fn push_rule<'t>(
     alloc: Global,
     globs: &mut GlobSetBuilder,
     owners: &mut Vec<&'t str>,
-    line: &'t str,
+    pattern: &str,
+    names: &'t str,
 ) -> Result<(), Error> {
-    let (rule, _comment) = line.split_once('#').unwrap_or((line, ""));
-    let (pattern, names) = rule
-        .trim()
-        .split_once([' ', '\t'])
-        .unwrap_or((rule.trim(), ""));
     let path = pattern.strip_suffix('/').unwrap_or(pattern);
     if path.is_empty() {
         return Ok(());
@@ -93,7 +102,7 @@ fn push_line<'t>(
                 .literal_separator(true)
                 .build(alloc)?,
         )?;
-        owners.push(names.trim())?;
+        owners.push(names)?;
     }
     Ok(())
 }
@@ -107,4 +116,9 @@ fn ends_of(pattern: &str) -> &'static [&'static str] {
     } else {
         &["", "/**"]
     }
+}
+
+/// Returns the error that memory ran out: a set has no other one.
+fn out_of_memory(_error: Error) -> AllocError {
+    AllocError
 }

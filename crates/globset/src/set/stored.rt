@@ -13,8 +13,8 @@ use glob_matching::Engine;
 use globset_glob::{Candidate, Error, Glob, Visits, options_of, tokens_of};
 use group_matching::{Groups, GroupsBuilder, MatchingSets};
 use std::alloc::{AllocError, Global};
-use std::fmt;
 use std::marker::Model;
+use std::{fmt, mem};
 
 /// The globs of a set, and the groups that decide which of them match a path. The index of a glob is its position.
 pub struct Stored {
@@ -55,6 +55,21 @@ impl Stored {
         ensures err { IfErr result (λ e. e ≡ out_of_memory) }
     {
         let groups = groups_of(*globs.allocator(), engine, &globs)?;
+        Ok(Stored { globs, groups })
+    }
+
+    /// Takes the globs out of a vector, and puts each of them into its group. They are not copied. Returns an error if memory
+    /// runs out, and no other; the vector then has the globs that it had before the call.
+    pub fn take_globs(globs: &mut Vec<Glob>) -> Result<Stored, Error>
+        ensures ok { IfOk result (λ s. set_globs s ≡ globs.old.items) }
+        ensures emptied { OnOk result (globs.new.items ≡ []) }
+        ensures kept { OnErr result (globs.new ≡ globs.old) }
+        ensures err { IfErr result (λ e. e ≡ out_of_memory) }
+    {
+        let alloc = *globs.allocator();
+        // The globs stay where they are until nothing can fail any more.
+        let groups = groups_of(alloc, Engine::Deterministic, globs)?;
+        let globs = mem::replace(globs, Vec::new(alloc));
         Ok(Stored { globs, groups })
     }
 

@@ -1,5 +1,5 @@
 -- By what a matcher decides: the key or the automaton of one glob.
-use Rattle.std.specs.Prelude.{◌≡◌, ◌≤◌, true, [], ◌∷◌}
+use Rattle.std.specs.Prelude.{◌≡◌, ◌≤◌, ℕ, true, [], ◌∷◌}
 use Rattle.byte_automaton.specs.Steps.{Machine}
 use Rattle.byte_automaton.specs.Runs.{size}
 use Rattle.glob_automaton.specs.IndexedTokens.{indexed, IsFor}
@@ -20,3 +20,8 @@ pub record IsAutomatonOf (g : GlobValue) (m : Machine) : Type 0 where
 abbrev pub IsFormOf : GlobValue → Form → Type 0
 IsFormOf g (Key group) = IsGroupOf g.options (tokens_of_glob g) group × (is_by_key (group_seen group) ≡ true)
 IsFormOf g (Automaton m) = IsAutomatonOf g m
+
+-- the states of the automaton; a key has none
+abbrev pub form_states : Form → ℕ
+form_states (Key group) = 0
+form_states (Automaton m) = size m

@@ -3,9 +3,10 @@
 ghost use Rattle.std.specs.Prelude.{◌≡◌, ◌+◌, ◌≤◌, IfOk};
 ghost use Rattle.globset_glob.specs.Cost.{most_visits};
 ghost use Rattle.glob_text.specs.Means.{GlobValue, glob_means};
-ghost use Rattle.globset_glob.specs.inner.GlobAutomaton.{IsAutomatonOf, IsFormOf};
+ghost use Rattle.globset_glob.specs.inner.GlobAutomaton.{IsAutomatonOf, IsFormOf, form_states};
 
 use crate::glob::Glob;
+use crate::matcher::scratch::MatcherScratch;
 use byte_automaton::{Automaton, StateSets};
 use glob_automaton::{add_tokens, new_builder};
 use glob_groups::{Group, group_of};
@@ -62,6 +63,27 @@ impl Form {
             Form::Automaton(automaton) => {
                 automaton.is_match(path.path(), &mut StateSets::new(alloc), visits)
             }
+        }
+    }
+
+    /// Returns whether the glob matches a path, with memory that is handed in. It takes none.
+    pub fn is_match_with<S: MatcherScratch>(
+        &self,
+        path: &Candidate<'_>,
+        scratch: &mut S,
+        visits: &mut Visits,
+    ) -> bool
+        requires { form_states self.now ≤ S.states scratch.old }
+        ensures some { (g : GlobValue) → IsFormOf g self.now → result ≡ glob_means g path.now }
+        ensures kept { scratch.new ≡ scratch.old }
+        ensures visits { (g : GlobValue) → IsFormOf g self.now → visits.new ≤ visits.old + most_visits g path.now }
+    {
+        match self {
+            Form::Key(group) => {
+                visits.tick();
+                group.key_matches(path)
+            }
+            Form::Automaton(automaton) => scratch.run(automaton, path.path(), visits),
         }
     }
 

@@ -145,3 +145,17 @@ Handles-begin globs numbered rest h w e f =
 pub Handles-rest_is : (globs : List GlobValue) (numbered : Bool) (bytes rest rest' : List ℕ) (w w1 : Option (List ℕ)) (h h1 : List ℕ) (o o1 : Bool) → rest' ≡ rest →
     Handles globs numbered bytes rest w w1 h h1 o o1 → Handles globs numbered bytes rest' w w1 h h1 o o1
 Handles-rest_is globs numbered bytes rest rest' w w1 h h1 o o1 e m = subst (λ (l : List ℕ). Handles globs numbered bytes l w w1 h h1 o o1) (sym e) m
+
+-- what was pending was written, or a part of it
+pub Handles-written : (globs : List GlobValue) (numbered : Bool) (bytes rest : List ℕ) (w w1 w2 : Option (List ℕ)) (h h1 h2 : List ℕ) (o o1 : Bool) →
+    Handles globs numbered bytes rest w w1 h h1 o o1 → WritesAllBut w1 w2 h2 h1 → Handles globs numbered bytes rest w w2 h h2 o o1
+Handles-written globs numbered bytes rest w w1 w2 h h1 h2 o o1 m p = record {
+  whole = m.whole;
+  bytes_are = m.bytes_are;
+  no_lf = m.no_lf;
+  whole_lines = m.whole_lines;
+  out = m.out ++ p.0;
+  written = Appends-trans w w1 w2 m.out p.0 m.written p.1;
+  output = append_assoc m.out p.0 h2 ∙ ap (λ l. m.out ++ l) p.2 ∙ m.output;
+  any_is = m.any_is;
+}

@@ -17,8 +17,9 @@ use memchr::memchr;
 use std::alloc::{AllocError, Global};
 use std::io::Write;
 
-/// The pending output is written once it has at least this many bytes.
-const FULL: usize = 65536;
+/// The pending output is written before each read, and once it has at least this many bytes: more than are read at once, so that
+/// the plain output for what is read at once is mostly one write.
+const FULL: usize = 69632;
 
 /// The output that is still to be written, and whether there was any. The vectors keep their capacity from line to line.
 #[derive(Drop)]

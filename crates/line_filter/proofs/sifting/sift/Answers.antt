@@ -5,7 +5,7 @@ use Rattle.std.proofs.KnownBytes.{Consumes-nil, Consumes-trans, Consumes-kept}
 use Rattle.globset.specs.SetValue.{set_globs}
 use Rattle.line_filter.specs.Lines.{is_lf}
 use Rattle.line_filter.proofs.lemmas.Sifting.{Stops-fails, Stops-start, end_result, Consumes-is, read_back}
-use Rattle.line_filter.proofs.lemmas.Handling.{Handles-pending_fails, Handles-drained, Handles-trans, Handles-fails, Handles-begin}
+use Rattle.line_filter.proofs.lemmas.Handling.{Handles-pending_fails, Handles-drained, Handles-trans, Handles-fails, Handles-begin, Handles-written}
 use Rattle.line_filter.proofs.sifting.sift.Goals as goal
 
 pub returns-in_err-chunk : goal.returns-in_err-chunk
@@ -26,19 +26,12 @@ returns-in_err-with_capacity-2 g c =
 pub loop-init : goal.loop-init
 loop-init g c = ([], Consumes-nil _, Handles-begin _ _ _ _ _ c.new-rest.ensures.items c.in_ok-with_capacity.ensures.items, omega (arith, c.in_ok-chunk.ensures), c.in_ok-scratch_for.ensures)
 
-pub returns-in_err-write_pending-in-Err : goal.returns-in_err-write_pending-in-Err
-returns-in_err-write_pending-in-Err g c =
-    let i = c.loop.invariant in
-    let p = err_from_is_err_and c.from_residual-in_err-write_pending-in-Err.result c.from_residual-in_err-write_pending-in-Err.ensures.1 in
-    rw (p.1, p.2) (Stops-fails _ _ i.0 _ _ _ _ c.in_err-write_pending-in-Err.field-0.0 (Consumes-kept _ _ _ _ i.1 c.in-Err.ensures.bytes)
-    (Handles-pending_fails _ _ _ _ _ _ _ _ _ _ _ _ i.2 c.in_err-write_pending-in-Err.ensures))
-
 pub returns-in-Err : goal.returns-in-Err
 returns-in-Err g c =
     let i = c.loop.invariant in (
       i.0,
       Consumes-kept _ _ _ _ i.1 c.in-Err.ensures.bytes,
-      Handles-drained _ _ _ _ _ _ _ _ _ _ _ i.2 c.in_ok-write_pending-in-Err.ensures.0 c.in_ok-write_pending-in-Err.ensures.1,
+      Handles-drained _ _ _ _ _ _ _ _ _ _ _ i.2 c.in_ok-write_pending.ensures.0 c.in_ok-write_pending.ensures.1,
     )
 
 pub finish-requires-clause-no_lf : goal.finish-requires-clause-no_lf
@@ -49,7 +42,7 @@ returns-then-n-eq0 g c =
     let i = c.loop.invariant in
     let filled : 0 < length c.read.new.buf = omega (arith, c.read.auto.buf, c.as_mut_slice.ensures.len, c.loop.chunk.ok.0) in
     end_result _ _ i.0 (take c.in-Ok.n c.read.new.buf) _ c.as_slice.result.now _ _ _ _ _ _ _ _ c.finish.result i.1 c.in-Ok.ensures.bytes.0
-    (ap (λ k. take k c.read.new.buf) c.if-n-eq0.true) (c.in-Ok.ensures.bytes.1 c.if-n-eq0.true filled) i.2 c.as_slice.ensures.value c.finish.ensures.done
+    (ap (λ k. take k c.read.new.buf) c.if-n-eq0.true) (c.in-Ok.ensures.bytes.1 c.if-n-eq0.true filled) (Handles-written _ _ _ _ _ _ _ _ _ _ _ _ c.loop.invariant.2 c.in_ok-write_pending.ensures.0) c.as_slice.ensures.value c.finish.ensures.done
 
 pub slice_bounds-handle_chunk-end : goal.slice_bounds-handle_chunk-end
 slice_bounds-handle_chunk-end g c =
@@ -66,7 +59,7 @@ returns-in_err-handle_chunk g c =
     let p = err_from_is_err_and c.from_residual-in_err-handle_chunk.result c.from_residual-in_err-handle_chunk.ensures.1 in
     rw (p.1, p.2) (Stops-fails _ _ (i.0 ++ take c.in-Ok.n c.deref.result.now) _ _ _ _ c.in_err-handle_chunk.field-0.0
     (Consumes-trans _ _ _ _ _ i.1 (Consumes-is _ _ _ _ (ap (λ (l : List ℕ). take c.in-Ok.n l) back) c.in-Ok.ensures.bytes.0))
-    (Handles-fails _ _ _ _ _ _ _ _ _ _ _ _ _ i.2 c.in_err-handle_chunk.ensures.done))
+    (Handles-fails _ _ _ _ _ _ _ _ _ _ _ _ _ (Handles-written _ _ _ _ _ _ _ _ _ _ _ _ c.loop.invariant.2 c.in_ok-write_pending.ensures.0) c.in_err-handle_chunk.ensures.done))
 
 pub loop-preserved : goal.loop-preserved
 loop-preserved g c =
@@ -75,7 +68,7 @@ loop-preserved g c =
     let back : c.deref.result.now ≡ c.read.new.buf = read_back c.loop.chunk.len c.read.new.buf (drop (length c.read.new.buf) c.loop.chunk.items) _ same c.deref.ensures.value in (
       i.0 ++ take c.in-Ok.n c.deref.result.now,
       Consumes-trans _ _ _ _ _ i.1 (Consumes-is _ _ _ _ (ap (λ (l : List ℕ). take c.in-Ok.n l) back) c.in-Ok.ensures.bytes.0),
-      Handles-trans _ _ _ _ _ _ _ _ _ _ _ _ _ _ _ i.2 c.in_ok-handle_chunk.ensures.done,
+      Handles-trans _ _ _ _ _ _ _ _ _ _ _ _ _ _ _ (Handles-written _ _ _ _ _ _ _ _ _ _ _ _ c.loop.invariant.2 c.in_ok-write_pending.ensures.0) c.in_ok-handle_chunk.ensures.done,
       subst (λ (k : ℕ). 0 < k) (sym (ap (λ (l : List ℕ). length l) (read_back c.loop.chunk.len c.read.new.buf (drop (length c.read.new.buf) c.loop.chunk.items) _ same refl) ∙ same ∙ c.loop.chunk.ok.0)) i.3,
       c.handle_chunk.ensures.fits,
     )
@@ -87,10 +80,17 @@ returns-in_err-write_pending g c =
     rw (p.1, p.2) (Stops-fails _ _ i.0 _ _ _ _ c.in_err-write_pending.field-0.0 i.1
     (Handles-pending_fails _ _ _ _ _ _ _ _ _ _ _ _ i.2 c.in_err-write_pending.ensures))
 
+pub returns-in_err-write_pending-2 : goal.returns-in_err-write_pending-2
+returns-in_err-write_pending-2 g c =
+    let i = c.loop.invariant in
+    let p = err_from_is_err_and c.from_residual-in_err-write_pending-2.result c.from_residual-in_err-write_pending-2.ensures.1 in
+    rw (p.1, p.2) (Stops-fails _ _ i.0 _ _ _ _ c.in_err-write_pending-2.field-0.0 i.1
+    (Handles-pending_fails _ _ _ _ _ _ _ _ _ _ _ _ i.2 c.in_err-write_pending-2.ensures))
+
 pub returns : goal.returns
 returns g c =
     let i = c.loop.invariant in (
       i.0,
       i.1,
-      Handles-drained _ _ _ _ _ _ _ _ _ _ _ i.2 c.in_ok-write_pending.ensures.0 c.in_ok-write_pending.ensures.1,
+      Handles-drained _ _ _ _ _ _ _ _ _ _ _ i.2 c.in_ok-write_pending-2.ensures.0 c.in_ok-write_pending-2.ensures.1,
     )

@@ -1,0 +1,268 @@
+/* Each call once or more, on each kind of object, with each status that it has. memory.c is for GLOBSET_OUT_OF_MEMORY. */
+#include "check.h"
+
+static void versions(void) {
+    CHECK(globset_version() == GLOBSET_VERSION && GLOBSET_VERSION == 4021);
+    CHECK(globset_interface() == GLOBSET_INTERFACE);
+}
+
+/* Texts that are refused, with the kind and the characters of the first error, and what it says. */
+static void refused(void) {
+    static const struct {
+        const char *text;
+        uint32_t kind, start, end;
+        const char *says;
+    } rows[] = {
+        {"a[b", GLOBSET_UNCLOSED_CLASS, 0, 0, "error parsing glob 'a[b': unclosed character class; missing ']'"},
+        {"[z-a]", GLOBSET_INVALID_RANGE, 'z', 'a', "error parsing glob '[z-a]': invalid range; 'z' > 'a'"},
+        {"[\xc3\xa9-a]", GLOBSET_INVALID_RANGE, 0xe9, 'a',
+         "error parsing glob '[\xc3\xa9-a]': invalid range; '\xc3\xa9' > 'a'"},
+        {"a}", GLOBSET_UNOPENED_ALTERNATES, 0, 0,
+         "error parsing glob 'a}': unopened alternate group; missing '{' (maybe escape '}' with '[}]'?)"},
+        {"{a,b", GLOBSET_UNCLOSED_ALTERNATES, 0, 0,
+         "error parsing glob '{a,b': unclosed alternate group; missing '}' (maybe escape '{' with '[{]'?)"},
+        {"a\\", GLOBSET_DANGLING_ESCAPE, 0, 0, "error parsing glob 'a\\': dangling '\\'"},
+    };
+    for (size_t i = 0; i < sizeof rows / sizeof *rows; i++) {
+        globset_error error = {77, 78, 79};
+        globset_glob glob = {{&error}};
+        char room[200];
+        size_t needed = 1000;
+        CHECK(globset_glob_new(TEXT(rows[i].text), 0, &error, &glob) == GLOBSET_REJECTED);
+        CHECK(error.kind == rows[i].kind && error.start == rows[i].start && error.end == rows[i].end);
+        CHECK(glob.object.at == &error);
+        memset(room, '#', sizeof room);
+        CHECK(globset_error_text(TEXT(rows[i].text), 0, room, sizeof room, &needed) == GLOBSET_DONE);
+        CHECK(needed == strlen(rows[i].says) && memcmp(room, rows[i].says, needed) == 0 && room[needed] == '#');
+        needed = 1000;
+        CHECK(globset_error_text(TEXT(rows[i].text), 0, NULL, 0, &needed) == GLOBSET_TOO_SMALL);
+        CHECK(needed == strlen(rows[i].says));
+    }
+}
+
+/* The other statuses of a text: each leaves what was there. */
+static void not_read(void) {
+    globset_error error = {77, 78, 79};
+    globset_glob glob = {{&error}};
+    char room[8] = "#######";
+    size_t needed = 1000;
+    CHECK(globset_glob_new("\xff", 1, 0, &error, &glob) == GLOBSET_NOT_UTF8);
+    CHECK(globset_glob_new("a", 1, 64, &error, &glob) == GLOBSET_UNKNOWN_OPTION);
+    CHECK(globset_glob_new("\xff", 1, UINT32_MAX, &error, &glob) == GLOBSET_UNKNOWN_OPTION);
+    CHECK(error.kind == 77 && error.start == 78 && error.end == 79 && glob.object.at == &error);
+    CHECK(globset_error_text("\xff", 1, 0, room, 8, &needed) == GLOBSET_NOT_UTF8);
+    CHECK(globset_error_text("a[", 2, 64, room, 8, &needed) == GLOBSET_UNKNOWN_OPTION);
+    CHECK(globset_error_text("*.c", 3, 0, room, 8, &needed) == GLOBSET_NO);
+    CHECK(globset_error_text("a[", 2, GLOBSET_ALLOW_UNCLOSED_CLASS, room, 8, &needed) == GLOBSET_NO);
+    CHECK(memcmp(room, "#######", 8) == 0);
+}
+
+/* Each option decides one path, which the default decides otherwise. */
+static void options(void) {
+    static const struct {
+        uint32_t bits;
+        const char *text, *path;
+        int by_default, with;
+    } rows[] = {
+        {GLOBSET_CASE_INSENSITIVE, "a.C", "A.c", 0, 1},   {GLOBSET_LITERAL_SEPARATOR, "*.c", "a/b.c", 1, 0},
+        {GLOBSET_NO_BACKSLASH_ESCAPE, "a\\*", "a\\b", 0, 1}, {GLOBSET_EMPTY_ALTERNATES, "a{,b}", "a", 0, 1},
+        {GLOBSET_WHOLE_CHARACTER, "?", "\xc3\xa9", 0, 1},
+    };
+    globset_work work;
+    CHECK(globset_work_new(&work) == GLOBSET_DONE);
+    for (size_t i = 0; i < sizeof rows / sizeof *rows; i++) {
+        for (int with = 0; with < 2; with++) {
+            globset_glob glob = glob_of(rows[i].text, with ? rows[i].bits : 0);
+            globset_matcher matcher;
+            CHECK(globset_matcher_new(glob, &matcher) == GLOBSET_DONE);
+            globset_glob_free(glob);
+            int wanted = with ? rows[i].with : rows[i].by_default;
+            CHECK(globset_matcher_is_match(matcher, &work, TEXT(rows[i].path)) == (wanted ? GLOBSET_YES : GLOBSET_NO));
+            globset_matcher_free(matcher);
+        }
+    }
+    globset_error error;
+    globset_glob glob = glob_of("a[*", GLOBSET_ALLOW_UNCLOSED_CLASS), none;
+    CHECK(globset_glob_new("a[*", 3, 0, &error, &none) == GLOBSET_REJECTED);
+    globset_glob_free(glob);
+    glob = glob_of("x", 63);
+    globset_glob_free(glob);
+    globset_work_free(work);
+}
+
+/* A text and paths with NULs, and paths that are not UTF-8. */
+static void bytes(void) {
+    globset_error error;
+    globset_glob glob;
+    globset_matcher matcher;
+    globset_work work;
+    CHECK(globset_work_new(&work) == GLOBSET_DONE);
+    CHECK(globset_glob_new("a\0*", 3, 0, &error, &glob) == GLOBSET_DONE);
+    CHECK(globset_matcher_new(glob, &matcher) == GLOBSET_DONE);
+    CHECK(globset_matcher_is_match(matcher, &work, "a\0\0b", 4) == GLOBSET_YES);
+    CHECK(globset_matcher_is_match(matcher, &work, "a\0\xff", 3) == GLOBSET_YES);
+    CHECK(globset_matcher_is_match(matcher, &work, "a", 1) == GLOBSET_NO);
+    globset_glob_free(glob);
+    globset_matcher_free(matcher);
+    CHECK(globset_glob_new(NULL, 0, 0, &error, &glob) == GLOBSET_DONE);
+    CHECK(globset_matcher_new(glob, &matcher) == GLOBSET_DONE);
+    CHECK(globset_matcher_is_match(matcher, &work, NULL, 0) == GLOBSET_YES);
+    CHECK(globset_matcher_is_match(matcher, &work, "a", 1) == GLOBSET_NO);
+    globset_glob_free(glob);
+    globset_matcher_free(matcher);
+    globset_work_free(work);
+}
+
+static void texts(void) {
+    char room[64];
+    size_t needed = 0;
+    globset_glob glob = glob_of("*.{c,h}", 0);
+    static const char regex[] = "(?-u)^.*\\.(?:c|h)$";
+    memset(room, '#', sizeof room);
+    CHECK(globset_glob_regex(glob, room, sizeof room, &needed) == GLOBSET_DONE);
+    CHECK(needed == strlen(regex) && memcmp(room, regex, needed) == 0 && room[needed] == '#');
+    CHECK(globset_glob_regex(glob, room, needed, &needed) == GLOBSET_DONE);
+    CHECK(globset_glob_regex(glob, NULL, 0, &needed) == GLOBSET_TOO_SMALL && needed == strlen(regex));
+    globset_glob_free(glob);
+    memset(room, '#', sizeof room);
+    CHECK(globset_escape("a[1]*", 5, room, 3, &needed) == GLOBSET_TOO_SMALL && needed == 11 && room[0] == '#');
+    CHECK(globset_escape("a[1]*", 5, room, 11, &needed) == GLOBSET_DONE && needed == 11);
+    CHECK(memcmp(room, "a[[]1[]][*]#", 12) == 0);
+    CHECK(globset_escape("\0", 1, room, 1, &needed) == GLOBSET_DONE && needed == 1 && room[0] == '\0');
+    CHECK(globset_escape(NULL, 0, NULL, 0, &needed) == GLOBSET_DONE && needed == 0);
+    CHECK(globset_escape("\xff", 1, room, 64, &needed) == GLOBSET_NOT_UTF8);
+}
+
+static void sets(void) {
+    static const char *const globs[] = {"*.c", "src/*", "**/..", "*a*b*"};
+    globset_set set = set_of(globs, 4), empty = set_of(globs, 0), some = set_of(globs, 2);
+    globset_work work;
+    globset_indexes found;
+    CHECK(globset_work_new(&work) == GLOBSET_DONE);
+    CHECK(globset_set_len(set) == 4 && globset_set_len(empty) == 0);
+    CHECK(globset_set_is_match(empty, &work, TEXT("a.c")) == GLOBSET_NO);
+    CHECK(globset_set_matches_all(empty, &work, TEXT("a.c")) == GLOBSET_YES);
+    CHECK(globset_set_is_match(set, &work, TEXT("a.c")) == GLOBSET_YES);
+    CHECK(globset_set_is_match(set, &work, TEXT("x/..")) == GLOBSET_NO);
+    CHECK(globset_set_matches_all(set, &work, TEXT("src/ab.c")) == GLOBSET_NO);
+    CHECK(globset_set_matches_all(some, &work, TEXT("src/x.c")) == GLOBSET_YES);
+    CHECK(globset_set_matches_all(some, &work, TEXT("x.c")) == GLOBSET_NO);
+    CHECK(globset_set_matches(set, &work, TEXT("src/ab.c"), &found) == GLOBSET_DONE);
+    CHECK(found.count == 3 && found.at[0] == 0 && found.at[1] == 1 && found.at[2] == 3);
+    CHECK(globset_set_matches(set, &work, TEXT("x"), &found) == GLOBSET_DONE && found.count == 0);
+    CHECK(globset_set_matches(some, &work, TEXT("src/ab"), &found) == GLOBSET_DONE && found.count == 1 && found.at[0] == 1);
+    CHECK(globset_set_matches(empty, &work, TEXT("x"), &found) == GLOBSET_DONE && found.count == 0);
+    CHECK(globset_work_fit_set(&work, set) == GLOBSET_DONE);
+    globset_work_free(work);
+    globset_set_free(set);
+    globset_set_free(empty);
+    globset_set_free(some);
+}
+
+/* A builder that is built twice: the globs go into the first set. */
+static void builders(void) {
+    globset_builder builder;
+    globset_set first, second;
+    globset_glob glob = glob_of("*.c", 0);
+    CHECK(globset_builder_new(&builder) == GLOBSET_DONE);
+    CHECK(globset_builder_add(&builder, glob) == GLOBSET_DONE && globset_builder_add(&builder, glob) == GLOBSET_DONE);
+    CHECK(globset_builder_build(&builder, &first) == GLOBSET_DONE && globset_set_len(first) == 2);
+    CHECK(globset_builder_add(&builder, glob) == GLOBSET_DONE);
+    CHECK(globset_builder_build(&builder, &second) == GLOBSET_DONE && globset_set_len(second) == 1);
+    globset_glob_free(glob);
+    globset_builder_free(builder);
+    globset_set_free(first);
+    globset_set_free(second);
+}
+
+static void many(void) {
+    static const char *const globs[] = {"*.c", "*a*b*"};
+    globset_set set = set_of(globs, 2);
+    globset_work work;
+    uint8_t answers[5];
+    static const char paths[] = "x.cx.hab\xff.c#";
+    static const size_t ends[] = {3, 6, 6, 8, 11};
+    static const uint8_t wanted[] = {1, 0, 0, 1, 1};
+    CHECK(globset_work_new(&work) == GLOBSET_DONE);
+    CHECK(globset_set_is_match_many(set, &work, paths, 11, ends, answers, 5) == GLOBSET_DONE);
+    CHECK(memcmp(answers, wanted, 5) == 0);
+    CHECK(globset_set_is_match_many(set, &work, NULL, 0, NULL, NULL, 0) == GLOBSET_DONE);
+    memset(answers, 7, 5);
+    CHECK(globset_set_is_match_many(set, &work, paths, 10, ends, answers, 5) == GLOBSET_BAD_ENDS);
+    static const size_t descending[] = {3, 2};
+    CHECK(globset_set_is_match_many(set, &work, paths, 11, descending, answers, 2) == GLOBSET_BAD_ENDS);
+    globset_lent lent = globset_lend(set.object);
+    CHECK(globset_raw_set_is_match_many(&lent, &work.object, (const uint8_t *)paths, 11, ends, 5, answers, 4) ==
+          GLOBSET_BAD_ENDS);
+    CHECK(answers[0] == 7 && answers[1] == 7 && answers[4] == 7);
+    globset_work_free(work);
+    globset_set_free(set);
+}
+
+/* Objects of the wrong kind, each in each place. They are as they were. No object is lent and owned in one call. */
+static void wrong_kinds(void) {
+    static const char *const globs[] = {"*.c"};
+    globset_glob glob = glob_of("*.c", 0);
+    globset_matcher matcher;
+    globset_builder builder;
+    globset_set set = set_of(globs, 1);
+    globset_work work;
+    CHECK(globset_matcher_new(glob, &matcher) == GLOBSET_DONE);
+    CHECK(globset_builder_new(&builder) == GLOBSET_DONE && globset_work_new(&work) == GLOBSET_DONE);
+    globset_owned *const objects[5] = {&glob.object, &matcher.object, &builder.object, &set.object, &work.object};
+    const uint8_t *path = (const uint8_t *)"a.c";
+    for (int i = 0; i < 5; i++) {
+        globset_lent lent = globset_lend(*objects[i]);
+        globset_owned out = {&lent};
+        uint8_t byte = 9;
+        size_t size = 9;
+        const size_t end = 3;
+        globset_indexes found = {globset_no_indexes, 0};
+        CHECK(i == 0 || globset_raw_glob_regex(&lent, &byte, 1, &size) == GLOBSET_WRONG_KIND);
+        CHECK(i == 0 || globset_raw_matcher_new(&lent, &out) == GLOBSET_WRONG_KIND);
+        CHECK(i == 0 || i == 2 || globset_raw_builder_add(&builder.object, &lent) == GLOBSET_WRONG_KIND);
+        CHECK(i == 1 || i == 4 || globset_raw_matcher_is_match(&lent, &work.object, path, 3) == GLOBSET_WRONG_KIND);
+        CHECK(i == 3 || globset_raw_set_len(&lent, &size) == GLOBSET_WRONG_KIND);
+        if (i < 3) {
+            CHECK(globset_raw_set_is_match(&lent, &work.object, path, 3) == GLOBSET_WRONG_KIND);
+            CHECK(globset_raw_set_matches_all(&lent, &work.object, path, 3) == GLOBSET_WRONG_KIND);
+            CHECK(globset_raw_set_matches(&lent, &work.object, path, 3, &found) == GLOBSET_WRONG_KIND && found.count == 0);
+            CHECK(globset_raw_set_is_match_many(&lent, &work.object, path, 3, &end, 1, &byte, 1) == GLOBSET_WRONG_KIND);
+        }
+        CHECK(i == 1 || i == 3 || i == 4 || globset_raw_work_fit(&work.object, &lent) == GLOBSET_WRONG_KIND);
+        CHECK(byte == 9 && size == 9 && out.at == &lent);
+        globset_lent lent_set = globset_lend(set.object);
+        CHECK(i >= 3 || globset_raw_set_is_match(&lent_set, objects[i], path, 3) == GLOBSET_WRONG_KIND);
+        CHECK(i >= 3 || globset_raw_set_matches_all(&lent_set, objects[i], path, 3) == GLOBSET_WRONG_KIND);
+        CHECK(i >= 3 || globset_raw_set_matches(&lent_set, objects[i], path, 3, &found) == GLOBSET_WRONG_KIND);
+        CHECK(i >= 3 || globset_raw_set_is_match_many(&lent_set, objects[i], path, 3, &end, 1, &byte, 1) == GLOBSET_WRONG_KIND);
+        CHECK(i >= 3 || globset_raw_work_fit(objects[i], &lent_set) == GLOBSET_WRONG_KIND);
+        CHECK(i >= 2 || globset_raw_builder_build(objects[i], &out) == GLOBSET_WRONG_KIND);
+    }
+    globset_lent lent_glob = globset_lend(glob.object);
+    globset_owned out = {&lent_glob};
+    CHECK(globset_raw_builder_add(&set.object, &lent_glob) == GLOBSET_WRONG_KIND);
+    CHECK(globset_raw_builder_build(&set.object, &out) == GLOBSET_WRONG_KIND && out.at == &lent_glob);
+    CHECK(globset_set_is_match(set, &work, "a.c", 3) == GLOBSET_YES);
+    CHECK(globset_matcher_is_match(matcher, &work, "a.c", 3) == GLOBSET_YES);
+    globset_glob_free(glob);
+    globset_matcher_free(matcher);
+    globset_builder_free(builder);
+    globset_set_free(set);
+    globset_work_free(work);
+}
+
+int main(void) {
+    versions();
+    refused();
+    not_read();
+    options();
+    bytes();
+    texts();
+    sets();
+    builders();
+    many();
+    wrong_kinds();
+    puts("calls: passed");
+    return 0;
+}

@@ -1,0 +1,44 @@
+/* Eight threads, one set and one matcher, which each thread borrows. Each has a work of its own. */
+#include "check.h"
+
+#include <pthread.h>
+
+enum { THREADS = 8, ROUNDS = 300, PATHS = 8 };
+
+static globset_set set;
+static globset_matcher matcher;
+
+static const char *const paths[PATHS] = {"src/a/b/main.c", "x.rs", "a", "b/c/d.txt", "abcabc", "src/zz/q.h", "", "/"};
+/* Of each path: how many of the globs below match it, and whether *b*c* does. */
+static const size_t counts[PATHS] = {2, 1, 2, 3, 2, 1, 0, 0};
+static const int by_matcher[PATHS] = {1, 0, 0, 1, 1, 0, 0, 0};
+
+static void *ask(void *unused) {
+    globset_work work;
+    globset_indexes found;
+    CHECK(globset_work_new(&work) == GLOBSET_DONE);
+    for (int round = 0; round < ROUNDS; round++) {
+        for (int i = 0; i < PATHS; i++) {
+            CHECK(globset_set_matches(set, &work, TEXT(paths[i]), &found) == GLOBSET_DONE && found.count == counts[i]);
+            CHECK(globset_set_is_match(set, &work, TEXT(paths[i])) == (counts[i] > 0 ? GLOBSET_YES : GLOBSET_NO));
+            CHECK(globset_matcher_is_match(matcher, &work, TEXT(paths[i])) == (by_matcher[i] ? GLOBSET_YES : GLOBSET_NO));
+        }
+    }
+    globset_work_free(work);
+    return unused;
+}
+
+int main(void) {
+    static const char *const globs[] = {"a", "*.rs", "src/**/*.{c,h}", "*b*c*", "**/d.*", "[ab]*"};
+    pthread_t threads[THREADS];
+    set = set_of(globs, 6);
+    globset_glob glob = glob_of("*b*c*", 0);
+    CHECK(globset_matcher_new(glob, &matcher) == GLOBSET_DONE);
+    globset_glob_free(glob);
+    for (int i = 0; i < THREADS; i++) CHECK(pthread_create(&threads[i], NULL, ask, NULL) == 0);
+    for (int i = 0; i < THREADS; i++) CHECK(pthread_join(threads[i], NULL) == 0);
+    globset_set_free(set);
+    globset_matcher_free(matcher);
+    puts("threads: passed");
+    return 0;
+}

@@ -1,0 +1,128 @@
+#!/usr/bin/env python3
+"""Makes the wheel of the module globset for Linux, and prints its name.
+
+Usage: build_wheel.py LIBRARY FOLDER
+
+LIBRARY is the shared library libglobset.so, which the wheel holds, and FOLDER is where the wheel is put. The same files give
+the same wheel, byte by byte; its files have the time SOURCE_DATE_EPOCH, or 1980. It needs `readelf`, to find what the library
+needs of the C library, and nothing else beside Python.
+"""
+
+import base64
+import hashlib
+import os
+import re
+import subprocess
+import sys
+import time
+import zipfile
+
+HERE = os.path.dirname(os.path.realpath(__file__))
+TOP = os.path.dirname(os.path.dirname(HERE))
+MODULE = ("__init__.py", "_library.py", "py.typed")
+LICENSES = ("COPYING", "LICENSE-MIT", "UNLICENSE")
+# The parts of the GNU C library, which every Linux that a tag `manylinux` names has.
+C_LIBRARY = {"libc.so.6", "libm.so.6", "libpthread.so.0", "libdl.so.2", "ld-linux-x86-64.so.2", "libgcc_s.so.1"}
+
+METADATA = """Metadata-Version: 2.1
+Name: globset
+Version: {version}
+Summary: Globs and sets of globs: which paths match patterns such as src/**/*.py
+License: MIT OR Unlicense
+{licenses}Keywords: glob,pattern,path,gitignore,match
+Classifier: License :: OSI Approved :: MIT License
+Classifier: License :: OSI Approved :: The Unlicense (Unlicense)
+Classifier: Operating System :: POSIX :: Linux
+Classifier: Programming Language :: Python :: 3
+Classifier: Typing :: Typed
+Requires-Python: >=3.8
+Description-Content-Type: text/markdown
+
+{description}"""
+
+WHEEL = """Wheel-Version: 1.0
+Generator: build_wheel.py
+Root-Is-Purelib: false
+{tags}"""
+
+
+def read(path):
+    with open(path, "rb") as file:
+        return file.read()
+
+
+def version():
+    """Returns the version that the module has."""
+    return re.search(r'(?m)^__version__ = "([^"]+)"$', read(f"{HERE}/globset/__init__.py").decode())[1]
+
+
+def readelf(option, library):
+    command, environment = ["readelf", "--wide", option, library], {**os.environ, "LC_ALL": "C"}
+    ran = subprocess.run(command, stdout=subprocess.PIPE, check=True, env=environment)
+    return ran.stdout.decode()
+
+
+def platforms(library):
+    """Returns the systems that the library runs on, as tags: by the version of the GNU C library that it needs."""
+    if "Advanced Micro Devices X86-64" not in readelf("--file-header", library):
+        raise SystemExit(f"build_wheel.py: {library} is not for x86-64")
+    needed = set(re.findall(r"\(NEEDED\)\s+Shared library: \[([^]]+)\]", readelf("--dynamic", library)))
+    if not needed <= C_LIBRARY:
+        return ["linux_x86_64"]
+    versions = re.findall(r"\bGLIBC_2\.([0-9]+)", readelf("--version-info", library))
+    # 17 is the least that all pips know that know this form of a tag.
+    least = max([17, *map(int, versions)])
+    return [f"manylinux_2_{least}_x86_64"] + ["manylinux2014_x86_64"] * (least == 17)
+
+
+def files(library, tags):
+    """Returns the files of the wheel without RECORD, by name."""
+    info = f"globset-{version()}.dist-info"
+    metadata = METADATA.format(
+        version=version(),
+        licenses="".join(f"License-File: {name}\n" for name in LICENSES),
+        description=read(f"{HERE}/README.md").decode(),
+    )
+    return {
+        **{f"globset/{name}": read(f"{HERE}/globset/{name}") for name in MODULE},
+        "globset/libglobset.so": read(library),
+        **{f"{info}/licenses/{name}": read(f"{TOP}/{name}") for name in LICENSES},
+        f"{info}/METADATA": metadata.encode(),
+        f"{info}/WHEEL": WHEEL.format(tags="".join(f"Tag: py3-none-{tag}\n" for tag in tags)).encode(),
+    }
+
+
+def record(contents):
+    """Returns the text of RECORD, which has a hash of each file, and itself without one."""
+    lines = []
+    for name, content in contents.items():
+        digest = base64.urlsafe_b64encode(hashlib.sha256(content).digest()).decode().rstrip("=")
+        lines.append(f"{name},sha256={digest},{len(content)}\n")
+    return "".join(lines) + f"globset-{version()}.dist-info/RECORD,,\n"
+
+
+def write(path, contents):
+    """Writes the files into a zip, whose bytes follow from them alone."""
+    moment = max(int(os.environ.get("SOURCE_DATE_EPOCH", "0")), 315532800)
+    with zipfile.ZipFile(path, "w", zipfile.ZIP_DEFLATED) as wheel:
+        for name, content in contents.items():
+            entry = zipfile.ZipInfo(name, time.gmtime(moment)[:6])
+            entry.create_system = 3
+            entry.external_attr = (0o100755 if name.endswith(".so") else 0o100644) << 16
+            wheel.writestr(entry, content, zipfile.ZIP_DEFLATED)
+
+
+def main():
+    if len(sys.argv) != 3:
+        raise SystemExit("Usage: build_wheel.py LIBRARY FOLDER")
+    library, folder = sys.argv[1:]
+    tags = platforms(library)
+    contents = files(library, tags)
+    contents[f"globset-{version()}.dist-info/RECORD"] = record(contents).encode()
+    name = f"globset-{version()}-py3-none-{'.'.join(tags)}.whl"
+    write(os.path.join(folder, name), contents)
+    print(name)
+
+
+if __name__ == "__main__":
+    main()

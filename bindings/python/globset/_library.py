@@ -1,0 +1,168 @@
+"""The C library by ctypes: the numbers, types and functions of globset.h, and the memory that calls use."""
+
+from __future__ import annotations
+
+import ctypes
+import os
+from collections import deque
+from typing import Any, Callable, Deque, List
+
+# What a call returns.
+DONE, NO, YES, OUT_OF_MEMORY, REJECTED = range(5)
+TOO_SMALL = 9
+
+# GLOBSET_INTERFACE of the header that this file was written after.
+INTERFACE = 1
+
+
+class Owned(ctypes.Structure):
+    """globset_owned: an object that the caller owns."""
+
+    _fields_ = [("at", ctypes.c_void_p)]
+
+
+class Lent(ctypes.Structure):
+    """globset_lent: an object that is lent to a call."""
+
+    _fields_ = [("at", ctypes.c_void_p)]
+
+
+class Error(ctypes.Structure):
+    """globset_error: the error of a text."""
+
+    _fields_ = [("kind", ctypes.c_uint32), ("start", ctypes.c_uint32), ("end", ctypes.c_uint32)]
+
+
+class Indexes(ctypes.Structure):
+    """globset_indexes: indexes that a work lends."""
+
+    _fields_ = [("at", ctypes.c_void_p), ("count", ctypes.c_size_t)]
+
+
+def _load() -> ctypes.CDLL:
+    """Loads the library beside this file, or if there is none, the one that the system's loader finds."""
+    beside = os.path.join(os.path.dirname(os.path.abspath(__file__)), "libglobset.so")
+    library = ctypes.CDLL(beside if os.path.exists(beside) else "libglobset.so.0")
+    if library.globset_interface() != INTERFACE:
+        raise ImportError(f"libglobset has the interface {library.globset_interface()}, and the module needs {INTERFACE}")
+    return library
+
+
+_library = _load()
+_BYTES, _SIZE = ctypes.c_char_p, ctypes.c_size_t
+# Addresses of values of the types above, of which a call is given `byref`, or the number, which takes less time.
+_OWNED = _LENT = _ERROR = _INDEXES = _RESULT = ctypes.c_void_p
+_ROOM = (ctypes.c_void_p, _SIZE, _RESULT)
+
+
+def _declare(name: str, *types: Any, result: Any = ctypes.c_uint32) -> Callable[..., Any]:
+    function = _library[f"globset_{name}"]
+    function.argtypes, function.restype = types, result
+    return function
+
+
+glob_new = _declare("raw_glob_new", _BYTES, _SIZE, ctypes.c_uint32, _ERROR, _OWNED)
+error_text = _declare("raw_error_text", _BYTES, _SIZE, ctypes.c_uint32, *_ROOM)
+glob_regex = _declare("raw_glob_regex", _LENT, *_ROOM)
+matcher_new = _declare("raw_matcher_new", _LENT, _OWNED)
+matcher_is_match = _declare("raw_matcher_is_match", _LENT, _OWNED, _BYTES, _SIZE)
+builder_new = _declare("raw_builder_new", _OWNED)
+builder_add = _declare("raw_builder_add", _OWNED, _LENT)
+builder_build = _declare("raw_builder_build", _OWNED, _OWNED)
+set_is_match = _declare("raw_set_is_match", _LENT, _OWNED, _BYTES, _SIZE)
+set_matches_all = _declare("raw_set_matches_all", _LENT, _OWNED, _BYTES, _SIZE)
+set_matches = _declare("raw_set_matches", _LENT, _OWNED, _BYTES, _SIZE, _INDEXES)
+set_is_match_many = _declare(
+    "raw_set_is_match_many", _LENT, _OWNED, _BYTES, _SIZE, ctypes.c_void_p, _SIZE, ctypes.c_void_p, _SIZE
+)
+escape = _declare("raw_escape", _BYTES, _SIZE, *_ROOM)
+version = _declare("version")
+_work_new = _declare("raw_work_new", _OWNED)
+_free = _declare("raw_free", Owned, result=None)
+
+
+class Object(Owned):
+    """An object of the library, which is freed when nothing refers to this value. At first it is none."""
+
+    # `free` is an argument, since at the end of the interpreter names of modules may be gone.
+    def __del__(self, free: Callable[[Owned], None] = _free) -> None:
+        if self.at:
+            free(self)
+
+
+class Work:
+    """What one call uses at a time: a work of the library, and places for the call's arguments."""
+
+    __slots__ = ("_object", "_indexes", "_found", "lent", "lent_at", "at", "indexes_at")
+
+    _NONE = (ctypes.c_size_t * 1)()
+
+    def __init__(self) -> None:
+        self._object = Object()
+        self.at = ctypes.addressof(self._object)
+        raise_unless_done(_work_new(self.at))
+        self.lent = Lent()
+        self.lent_at = ctypes.addressof(self.lent)
+        self._indexes = Indexes()
+        self.indexes_at = ctypes.addressof(self._indexes)
+        # The field `at` of `_indexes`, seen as a pointer to indexes.
+        self._found = ctypes.POINTER(ctypes.c_size_t).from_buffer(self._indexes)
+        self.clear_indexes()
+
+    def clear_indexes(self, none: int = ctypes.addressof(_NONE)) -> None:
+        """Makes the place for indexes valid, as it has to be before a call that writes them."""
+        self._indexes.at = none
+        self._indexes.count = 0
+
+    def indexes(self) -> List[int]:
+        """Returns the indexes that the last call found."""
+        return self._found[: self._indexes.count]
+
+
+# The works that no call uses. A call takes one, and puts it back after it has copied what the work lends. So there are as many
+# works as there were calls at a time, and each is in one call, whichever thread makes it: also if a signal's handler or a
+# finalizer makes a call while another of the same thread is not over. `pop` and `append` of a deque need no lock. A work that
+# an exception keeps from being put back is freed.
+_works: Deque[Work] = deque()
+put_back = _works.append
+
+
+def take_work(pop: Callable[[], Work] = _works.pop) -> Work:
+    """Returns a work that no other call uses."""
+    try:
+        return pop()
+    except IndexError:
+        return Work()
+
+
+def failure(status: int) -> Exception:
+    """Returns the exception for a status that is no answer."""
+    if status == OUT_OF_MEMORY:
+        return MemoryError()
+    return RuntimeError(f"globset: a call returned the status {status}")
+
+
+def raise_unless_done(status: int) -> None:
+    """Raises an exception for any status but that of a call that did what it is for."""
+    if status != DONE:
+        raise failure(status)
+
+
+def answer(status: int) -> bool:
+    """Returns the answer that a status is, or raises an exception."""
+    if status == YES:
+        return True
+    if status == NO:
+        return False
+    raise failure(status)
+
+
+def text_of(call: Callable[..., int], *arguments: Any) -> str:
+    """Returns the text that a call writes into room that it is given after these arguments."""
+    needed = ctypes.c_size_t(256)
+    status = TOO_SMALL
+    while status == TOO_SMALL:
+        room = ctypes.create_string_buffer(max(needed.value, 1))
+        status = call(*arguments, room, len(room), ctypes.byref(needed))
+    raise_unless_done(status)
+    return ctypes.string_at(room, needed.value).decode()

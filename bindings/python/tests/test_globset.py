@@ -1,0 +1,452 @@
+"""Tests of the module globset: its calls, exceptions and types, threads, and the end of the interpreter."""
+
+import copy
+import doctest
+import gc
+import os
+import pathlib
+import pickle
+import re
+import resource
+import signal
+import subprocess
+import sys
+import threading
+import time
+import unittest
+from unittest import mock
+
+import globset
+from globset import ErrorKind, Glob, GlobError, GlobSet, escape
+
+HERE = os.path.dirname(os.path.dirname(os.path.realpath(__file__)))
+TOP = os.path.dirname(os.path.dirname(HERE))
+# A block of Python in a document, and what it prints.
+EXAMPLE = r"```python\n((?:(?!```).*\n)*)```\n\n```text\n((?:(?!```).*\n)*)```\n"
+
+# The table of README.md on the syntax: a glob, paths that it matches, and paths that it does not match.
+SYNTAX = [
+    ("a?c", ["abc", "a/c"], ["ac"]),
+    ("*.c", ["a.c", ".c", "src/a.c"], []),
+    ("**/a", ["a", "x/y/a"], ["xa"]),
+    ("a/**", ["a/x/y", "a/"], ["a"]),
+    ("a/**/b", ["a/b", "a/x/b"], ["a/xb"]),
+    ("**", ["a", "x/y"], []),
+    ("{a,b{c,d}}", ["a", "bc"], ["b"]),
+    ("[a-c]", ["b"], ["d"]),
+    ("[!a-c]", ["d", "/"], ["b"]),
+    ("\\*", ["*"], ["a"]),
+    ("[é]", [], ["é"]),
+]
+
+# A rejected text, the kind of its error, the characters of a range, and what is printed after the text.
+ERRORS = [
+    ("[a", ErrorKind.UNCLOSED_CLASS, None, None, "unclosed character class; missing ']'"),
+    ("a[z-a]", ErrorKind.INVALID_RANGE, "z", "a", "invalid range; 'z' > 'a'"),
+    ("[☃-é]", ErrorKind.INVALID_RANGE, "☃", "é", "invalid range; '☃' > 'é'"),
+    ("a}", ErrorKind.UNOPENED_ALTERNATES, None, None, "unopened alternate group; missing '{' (maybe escape '}' with '[}]'?)"),
+    ("{a,b", ErrorKind.UNCLOSED_ALTERNATES, None, None, "unclosed alternate group; missing '}' (maybe escape '{' with '[{]'?)"),
+    ("a\\", ErrorKind.DANGLING_ESCAPE, None, None, "dangling '\\'"),
+]
+
+
+class TextPath:
+    def __init__(self, path):
+        self.path = path
+
+    def __fspath__(self):
+        return self.path
+
+
+def run_python(program, *arguments):
+    """Runs a program in an interpreter of its own, which finds the same module."""
+    folder = os.path.dirname(os.path.dirname(globset.__file__))
+    return subprocess.run(
+        [sys.executable, "-X", "dev", *arguments, "-c", program],
+        stdout=subprocess.PIPE,
+        stderr=subprocess.PIPE,
+        env={**os.environ, "PYTHONPATH": folder, "PYTHONDONTWRITEBYTECODE": "1"},
+        timeout=60,
+    )
+
+
+class Globs(unittest.TestCase):
+    def test_syntax(self):
+        for pattern, matching, others in SYNTAX:
+            for path, wanted in [(path, True) for path in matching] + [(path, False) for path in others]:
+                with self.subTest(pattern=pattern, path=path):
+                    self.assertIs(Glob(pattern).match(path), wanted)
+                    self.assertIs(GlobSet([pattern]).match(path), wanted)
+
+    def test_options(self):
+        for pattern, options, path in [
+            ("*.C", {"case_insensitive": True}, "a.c"),
+            ("a*c", {"literal_separator": False}, "a/c"),
+            ("a\\", {"backslash_escape": False}, "a\\"),
+            ("a{,b}", {"empty_alternates": True}, "a"),
+            ("[a", {"allow_unclosed_class": True}, "[a"),
+            ("?", {"whole_character": True}, "é"),
+        ]:
+            with self.subTest(pattern=pattern, options=options):
+                self.assertTrue(Glob(pattern, **options).match(path))
+                name, value = next(iter(options.items()))
+                try:
+                    self.assertFalse(Glob(pattern, **{name: not value}).match(path))
+                except GlobError:
+                    self.assertIn(name, ("backslash_escape", "allow_unclosed_class"))
+
+    def test_options_are_keywords(self):
+        with self.assertRaises(TypeError):
+            Glob("a", True)
+
+    def test_pattern_and_regex(self):
+        glob = Glob("src/*.é", literal_separator=True)
+        self.assertEqual(glob.pattern, "src/*.é")
+        self.assertEqual(glob.regex, r"(?-u)^src/[^/]*\.\xc3\xa9$")
+        self.assertEqual(Glob("a" * 1000).regex, f"(?-u)^{'a' * 1000}$")
+        with self.assertRaises(AttributeError):
+            glob.pattern = "a"
+
+    def test_equality_and_hash(self):
+        self.assertEqual(Glob("a"), Glob("a"))
+        self.assertEqual(hash(Glob("a")), hash(Glob("a")))
+        self.assertNotEqual(Glob("a"), Glob("b"))
+        self.assertNotEqual(Glob("a"), "a")
+        for name in ["case_insensitive", "literal_separator", "empty_alternates", "allow_unclosed_class", "whole_character"]:
+            self.assertNotEqual(Glob("a"), Glob("a", **{name: True}))
+        self.assertNotEqual(Glob("a"), Glob("a", backslash_escape=False))
+        self.assertEqual(len({Glob("a"), Glob("a"), Glob("b")}), 2)
+
+    def test_repr(self):
+        self.assertEqual(repr(Glob("a'b")), "Glob(\"a'b\")")
+        glob = Glob("a", case_insensitive=True, backslash_escape=False)
+        self.assertEqual(repr(glob), "Glob('a', case_insensitive=True, backslash_escape=False)")
+        self.assertEqual(eval(repr(glob)), glob)
+        globs = GlobSet(["a", Glob("b", whole_character=True)])
+        self.assertEqual(repr(globs), "GlobSet([Glob('a'), Glob('b', whole_character=True)])")
+
+    def test_copies(self):
+        glob = Glob("*.A", case_insensitive=True)
+        globs = GlobSet([glob, "b"])
+        for made in [copy.copy, copy.deepcopy, lambda value: pickle.loads(pickle.dumps(value))]:
+            self.assertEqual(made(glob), glob)
+            self.assertTrue(made(glob).match("x.a"))
+            self.assertEqual(made(globs).globs, globs.globs)
+            self.assertEqual(made(globs).matches("x.a"), [0])
+            self.assertEqual(made(globs).matches("b"), [1])
+
+    def test_escape(self):
+        self.assertEqual(escape("src/**/*.{a,b}?[é]"), "src/[*][*]/[*].[{]a,b[}][?][[]é[]]")
+        self.assertEqual(escape(""), "")
+        self.assertTrue(Glob(escape("a[*]")).match("a[*]"))
+        long = "*" * 1000
+        self.assertEqual(escape(long), "[*]" * 1000)
+
+    def test_large(self):
+        glob = Glob("{" * 100_000 + "a" + "}" * 100_000)
+        self.assertTrue(glob.match("a"))
+        self.assertFalse(glob.match("b"))
+        self.assertTrue(Glob("*" + "a" * 100_000).match("a" * 200_000))
+        self.assertEqual(GlobSet(["a" * 100_000, "*"]).matches("a" * 100_000), [0, 1])
+
+    def test_version(self):
+        self.assertEqual(globset.__version__, "0.4.21")
+        self.assertEqual(globset._library.version(), 4021)
+
+
+class Errors(unittest.TestCase):
+    def test_each_kind(self):
+        self.assertEqual({kind for _, kind, _, _, _ in ERRORS}, set(ErrorKind))
+        for text, kind, start, end, said in ERRORS:
+            for make in [Glob, lambda text: GlobSet(["a", text])]:
+                with self.subTest(text=text), self.assertRaises(GlobError) as raised:
+                    make(text)
+                error = raised.exception
+                self.assertIsInstance(error, ValueError)
+                self.assertEqual(str(error), f"error parsing glob '{text}': {said}")
+                self.assertEqual((error.glob, error.kind, error.start, error.end), (text, kind, start, end))
+
+    def test_copies(self):
+        with self.assertRaises(GlobError) as raised:
+            Glob("[z-a]")
+        error = raised.exception
+        for made in [copy.copy(error), pickle.loads(pickle.dumps(error))]:
+            self.assertEqual(str(made), str(error))
+            self.assertEqual((made.glob, made.kind, made.start, made.end), ("[z-a]", ErrorKind.INVALID_RANGE, "z", "a"))
+
+    def test_options_of_an_error(self):
+        with self.assertRaises(GlobError):
+            Glob("a\\")
+        Glob("a\\", backslash_escape=False)
+        with self.assertRaises(GlobError):
+            Glob("[a\\", backslash_escape=False)
+        Glob("[a\\", backslash_escape=False, allow_unclosed_class=True)
+
+    def test_surrogate(self):
+        with self.assertRaises(ValueError):
+            Glob("a\udc80")
+
+    def test_types(self):
+        for call in [
+            lambda: Glob(b"a"),
+            lambda: Glob(7),
+            lambda: GlobSet("*.c"),
+            lambda: GlobSet(Glob("*.c")),
+            lambda: GlobSet([b"*.c"]),
+            lambda: GlobSet(7),
+            lambda: Glob("a").match(7),
+            lambda: Glob("a").match(bytearray(b"a")),
+            lambda: GlobSet(["a"]).match(None),
+            lambda: GlobSet(["a"]).matches(7),
+            lambda: GlobSet(["a"]).match_many("a"),
+            lambda: GlobSet(["a"]).match_many(["a", 7]),
+        ]:
+            with self.assertRaises(TypeError):
+                call()
+
+    def test_statuses(self):
+        library, globs, glob = globset._library, GlobSet(["a"]), Glob("a")
+        for name, call in [
+            ("set_is_match", lambda: globs.match("a")),
+            ("set_matches", lambda: globs.matches("a")),
+            ("set_matches_all", lambda: globs.matches_all("a")),
+            ("set_is_match_many", lambda: globs.match_many(["a"])),
+            ("matcher_new", lambda: glob.match("a")),
+            ("glob_regex", lambda: glob.regex),
+            ("escape", lambda: escape("a")),
+            ("glob_new", lambda: Glob("a")),
+            ("builder_new", lambda: GlobSet(["a"])),
+            ("builder_add", lambda: GlobSet(["a"])),
+            ("builder_build", lambda: GlobSet(["a"])),
+        ]:
+            with self.subTest(name=name):
+                with mock.patch.object(library, name, return_value=3), self.assertRaises(MemoryError):
+                    call()
+                with mock.patch.object(library, name, return_value=7), self.assertRaises(RuntimeError):
+                    call()
+                call()
+
+    def test_memory(self):
+        ran = run_python(
+            """
+import resource
+from globset import Glob, GlobSet, GlobError
+text = "a?" * 1_000_000
+with open("/proc/self/statm") as file:
+    used = int(file.read().split()[0]) * resource.getpagesize()
+globs = GlobSet(["*.c", "[ab]*c"])
+assert globs.matches("a.c") == [0, 1]
+resource.setrlimit(resource.RLIMIT_AS, (used + 12_000_000, used + 12_000_000))
+for _ in range(3):
+    try:
+        Glob(text)
+    except MemoryError:
+        print("out of memory")
+assert globs.matches("a.c") == [0, 1] and Glob("*.c").match("a.c")
+"""
+        )
+        self.assertEqual((ran.returncode, ran.stdout, ran.stderr), (0, b"out of memory\n" * 3, b""))
+
+
+class Paths(unittest.TestCase):
+    def test_types(self):
+        glob, globs = Glob("src/*.c"), GlobSet(["src/*.c", "*.h"])
+        paths = ["src/a.c", b"src/a.c", pathlib.PurePosixPath("src/a.c"), TextPath("src/a.c"), TextPath(b"src/a.c")]
+        for path in paths:
+            self.assertIs(glob.match(path), True)
+            self.assertIs(globs.match(path), True)
+            self.assertEqual(globs.matches(path), [0])
+            self.assertIs(globs.matches_all(path), False)
+        self.assertEqual(globs.match_many(paths), [True] * len(paths))
+        self.assertEqual(globs.match_many(iter(paths)), [True] * len(paths))
+
+    def test_bytes(self):
+        self.assertTrue(Glob("a?b").match(b"a\xffb"))
+        self.assertTrue(Glob("a?b").match(os.fsdecode(b"a\xffb")))
+        self.assertTrue(Glob("a?b").match(b"a\0b"))
+        self.assertFalse(Glob("a").match("a\0"))
+        self.assertFalse(Glob("a").match("a\n"))
+        self.assertTrue(Glob("").match(""))
+        self.assertTrue(Glob("é").match("é"))
+
+    def test_many(self):
+        globs = GlobSet(["*.c", ""])
+        self.assertEqual(globs.match_many([]), [])
+        self.assertEqual(globs.match_many([""]), [True])
+        self.assertEqual(globs.match_many(["", "", "a", "", "b.c", b"\0.c"]), [True, True, False, True, True, True])
+        paths = [f"a/{number}.{'c' if number % 3 == 0 else 'h'}" for number in range(10_000)]
+        answers = globs.match_many(paths)
+        self.assertEqual(answers, [number % 3 == 0 for number in range(10_000)])
+        self.assertEqual({type(answer) for answer in answers}, {bool})
+
+
+class Sets(unittest.TestCase):
+    def test_indexes(self):
+        globs = GlobSet(["*.py", Glob("SRC/*", case_insensitive=True), "src/**/a.*", "nothing"])
+        self.assertEqual(globs.matches("src/b/a.py"), [0, 1, 2])
+        self.assertEqual(globs.matches("src/a"), [1])
+        self.assertEqual(globs.matches("x"), [])
+        self.assertEqual({type(index) for index in globs.matches("src/b/a.py")}, {int})
+        self.assertEqual(len(globs), 4)
+        self.assertEqual([glob.pattern for glob in globs.globs], ["*.py", "SRC/*", "src/**/a.*", "nothing"])
+
+    def test_all(self):
+        self.assertTrue(GlobSet(["*.c", "a*"]).matches_all("a.c"))
+        self.assertFalse(GlobSet(["*.c", "a*"]).matches_all("b.c"))
+
+    def test_no_globs(self):
+        globs = GlobSet([])
+        self.assertEqual((globs.match("a"), globs.matches("a"), globs.matches_all("a")), (False, [], True))
+        self.assertEqual(globs.match_many(["a", "b"]), [False, False])
+        self.assertEqual(len(globs), 0)
+
+    def test_iterators(self):
+        self.assertEqual(GlobSet(f"*.{ending}" for ending in "abc").matches("x.b"), [1])
+
+    def test_same_glob(self):
+        glob = Glob("*.c")
+        self.assertEqual(GlobSet([glob, glob, "*.c"]).matches("a.c"), [0, 1, 2])
+
+    def test_left_out(self):
+        self.assertTrue(Glob("**/..").match("a/.."))
+        self.assertEqual(GlobSet(["**/.."]).matches("a/.."), [])
+
+    def test_long_answers(self):
+        globs = GlobSet([f"*{number}*" for number in range(1000)])
+        path = "".join(f"{number}," for number in range(1000))
+        self.assertEqual(globs.matches(path), list(range(1000)))
+        self.assertTrue(globs.matches_all(path))
+        self.assertEqual(globs.matches("-"), [])
+
+
+class Use(unittest.TestCase):
+    def test_threads(self):
+        globs, glob = GlobSet(["*[0-4]", "{a,b}*", "*7*"]), Glob("?*[13579]")
+        start, wrong = threading.Barrier(8), []
+
+        def ask(first):
+            start.wait()
+            for number in range(first, first + 1000):
+                text = str(number)
+                wanted = [index for index, yes in enumerate([text[-1] in "01234", False, "7" in text]) if yes]
+                if globs.matches(text) != wanted or globs.match(text) != (wanted != []) or globs.matches_all(text):
+                    wrong.append(text)
+                if glob.match(text) != (len(text) > 1 and number % 2 == 1):
+                    wrong.append(text)
+                if globs.match_many([text, f"a{text}", "x"]) != [wanted != [], True, False]:
+                    wrong.append(text)
+                if Glob(f"{text}*").match("x") or GlobSet([text, "x"]).matches("x") != [1]:
+                    wrong.append(text)
+
+        threads = [threading.Thread(target=ask, args=(first * 1000,)) for first in range(8)]
+        for thread in threads:
+            thread.start()
+        for thread in threads:
+            thread.join()
+        self.assertEqual(wrong, [])
+
+    def test_calls_inside_calls(self):
+        globs, inner = GlobSet(["a*", "*b"]), []
+
+        class Asks:
+            def __fspath__(self):
+                inner.append(globs.matches("xb"))
+                return "a"
+
+        self.assertEqual(globs.matches(Asks()), [0])
+        self.assertEqual(globs.match_many([Asks(), "x", Asks()]), [True, False, True])
+        self.assertEqual(inner, [[1]] * 3)
+
+    def test_signals(self):
+        globs, handled = GlobSet(["a*", "*b", "*c*"]), []
+        before = signal.signal(signal.SIGALRM, lambda *_: handled.append(globs.matches("xcb")))
+        signal.setitimer(signal.ITIMER_REAL, 0.0002, 0.0002)
+        try:
+            wrong, end = [], time.monotonic() + 10
+            while len(handled) < 200 and time.monotonic() < end:
+                if globs.matches("a") != [0] or globs.matches("acb") != [0, 1, 2] or globs.matches("x") != []:
+                    wrong.append(len(handled))
+        finally:
+            signal.setitimer(signal.ITIMER_REAL, 0)
+            signal.signal(signal.SIGALRM, before)
+        self.assertEqual(wrong, [])
+        self.assertNotEqual(handled, [])
+        self.assertEqual(handled, [[1, 2]] * len(handled))
+
+    def test_memory_is_freed(self):
+        def use():
+            for number in range(500):
+                globs = GlobSet([f"*a{number}*b{other}*" for other in range(20)])
+                globs.matches(f"a{number}b1")
+                globs.globs[0].match("a")
+                with self.assertRaises(GlobError):
+                    Glob("{a" * 200)
+
+        use()
+        gc.collect()
+        before = resource.getrusage(resource.RUSAGE_SELF).ru_maxrss
+        use()
+        use()
+        after = resource.getrusage(resource.RUSAGE_SELF).ru_maxrss
+        self.assertLess(after - before, 4_000, "in KiB")
+
+    def test_end_of_the_interpreter(self):
+        ran = run_python(
+            """
+import atexit, threading, time
+import globset
+glob, globs = globset.Glob("*.c"), globset.GlobSet(["*.c"])
+assert glob.match("a.c") and globs.matches("a.c") == [0]
+class Late:
+    def __init__(self): self.globs, self.me = globs, self
+    def __del__(self): self.globs.matches("a.c")
+late = Late()
+atexit.register(lambda: globs.match("a.c"))
+def ask():
+    while True:
+        globs.matches("a.c")
+for _ in range(3):
+    threading.Thread(target=ask, daemon=True).start()
+time.sleep(0.05)
+"""
+        )
+        self.assertEqual((ran.returncode, ran.stdout, ran.stderr), (0, b"", b""))
+
+    def test_fork(self):
+        globs = GlobSet(["*.c"])
+        self.assertTrue(globs.match("a.c"))
+        child = os.fork()
+        if child == 0:
+            os._exit(0 if globs.matches("a.c") == [0] and Glob("*a").match("a") else 1)
+        self.assertEqual(os.waitpid(child, 0)[1], 0)
+
+    def test_types_of_the_package(self):
+        self.assertTrue(os.path.isfile(os.path.join(os.path.dirname(globset.__file__), "py.typed")))
+
+    def test_examples_of_the_documentation(self):
+        ran = doctest.testmod(globset)
+        self.assertEqual(ran.failed, 0)
+        self.assertGreaterEqual(ran.attempted, 15)
+
+    def test_examples_of_the_documents(self):
+        count = 0
+        for name in [f"{HERE}/README.md", f"{TOP}/README.md", f"{TOP}/release/INSTALL.md"]:
+            with open(name, encoding="utf-8") as file:
+                examples = re.findall(EXAMPLE, file.read())
+            for program, wanted in examples:
+                ran = run_python(program)
+                self.assertEqual((ran.returncode, ran.stdout.decode(), ran.stderr), (0, wanted, b""), name)
+                count += 1
+        self.assertGreaterEqual(count, 3)
+
+    def test_each_name_has_an_example(self):
+        for owner in [Glob, GlobSet]:
+            for name, value in vars(owner).items():
+                if not name.startswith("_"):
+                    self.assertIn(">>>", value.__doc__, name)
+        for name in globset.__all__:
+            self.assertIn(">>>", getattr(globset, name).__doc__, name)
+
+
+if __name__ == "__main__":
+    unittest.main()

@@ -1,0 +1,57 @@
+//! Finds the C library, and tells the linker.
+//!
+//! The library is `libglobset.a` in the folder that the environment variable `GLOBSET_LIB_DIR` names, or else in the folder
+//! `lib` beside `Cargo.toml`, where a release has it.
+
+use std::{env, fs, path::Path, path::PathBuf, process};
+
+/// The number of the interface that `src/ffi.rs` declares.
+const INTERFACE: &str = "1";
+
+fn main() {
+    println!("cargo:rerun-if-changed=build.rs");
+    println!("cargo:rerun-if-env-changed=GLOBSET_LIB_DIR");
+    let folder = folder();
+    let (library, header) = (folder.join("libglobset.a"), folder.join("globset.h"));
+    println!("cargo:rerun-if-changed={}", library.display());
+    println!("cargo:rerun-if-changed={}", header.display());
+    if !library.is_file() {
+        fail(&format!(
+            "there is no file {}. Set GLOBSET_LIB_DIR to the folder that has libglobset.a, or put the library into the \
+             folder lib beside Cargo.toml.",
+            library.display()
+        ));
+    }
+    check_interface(&header);
+    println!("cargo:rustc-link-search=native={}", folder.display());
+    println!("cargo:rustc-link-lib=static=globset");
+}
+
+/// The folder that should have the library.
+fn folder() -> PathBuf {
+    let manifest = PathBuf::from(env::var_os("CARGO_MANIFEST_DIR").expect("cargo sets CARGO_MANIFEST_DIR"));
+    match env::var_os("GLOBSET_LIB_DIR") {
+        Some(folder) if !folder.is_empty() => manifest.join(folder),
+        _ => manifest.join("lib"),
+    }
+}
+
+/// Ends the build if there is a header beside the library and it is of another interface.
+fn check_interface(header: &Path) {
+    let Ok(text) = fs::read_to_string(header) else {
+        return;
+    };
+    let number = text.lines().find_map(|line| line.strip_prefix("#define GLOBSET_INTERFACE ")).map(str::trim);
+    if number != Some(INTERFACE) {
+        fail(&format!(
+            "{} has the interface {}, and this crate is for the interface {INTERFACE}.",
+            header.display(),
+            number.unwrap_or("that it does not tell")
+        ));
+    }
+}
+
+fn fail(text: &str) -> ! {
+    eprintln!("globset: {text}");
+    process::exit(1)
+}

@@ -1,0 +1,407 @@
+//! The C library behind the crate. All `unsafe` of the crate is in this file.
+//!
+//! Each `SAFETY` comment cites, in quotation marks, the sentence of `globset.h` on which the block rests. Four promises of a
+//! caller hold in every call here, and are not repeated:
+//!
+//! - "Each pointer and the length beside it are one array that stays allocated, and that nobody else writes, during the call.
+//!   At the exported functions it is never null, at length 0 too." They come from slices, strings and vectors, which are
+//!   borrowed during the call; a pointer to a result comes from a local variable.
+//! - "A handle is one that a call of this library wrote, or a copy of that. The caller neither reads nor writes through `at`."
+//!   Handles are private to this file, and are made by [`Owned::made`] alone.
+//! - "No call is made from a signal handler, nor in the child of a `fork` of a process with several threads." Safe Rust can do
+//!   neither.
+//! - "There is stack for a call". Rust has a guard page at the end of each stack.
+
+use std::{
+    alloc::{handle_alloc_error, Layout},
+    cell::Cell,
+    ffi::c_void,
+    ptr, slice,
+};
+
+/// The bits of a glob's options, as in the header.
+pub(crate) mod options {
+    pub(crate) const CASE_INSENSITIVE: u32 = 1;
+    pub(crate) const LITERAL_SEPARATOR: u32 = 2;
+    pub(crate) const NO_BACKSLASH_ESCAPE: u32 = 4;
+    pub(crate) const EMPTY_ALTERNATES: u32 = 8;
+    pub(crate) const ALLOW_UNCLOSED_CLASS: u32 = 16;
+    pub(crate) const WHOLE_CHARACTER: u32 = 32;
+}
+
+/// `globset_status`.
+type Status = u32;
+const DONE: Status = 0;
+const NO: Status = 1;
+const YES: Status = 2;
+const OUT_OF_MEMORY: Status = 3;
+const REJECTED: Status = 4;
+const TOO_SMALL: Status = 9;
+
+/// `globset_error`.
+#[repr(C)]
+#[derive(Default)]
+struct RawError {
+    kind: u32,
+    start: u32,
+    end: u32,
+}
+
+/// `globset_owned`.
+#[repr(C)]
+struct Owned {
+    at: *mut c_void,
+}
+
+/// `globset_lent`.
+#[repr(C)]
+struct Lent {
+    at: *const c_void,
+}
+
+/// `globset_indexes`.
+#[repr(C)]
+struct Indexes {
+    at: *const usize,
+    count: usize,
+}
+
+extern "C" {
+    fn globset_raw_glob_new(
+        text: *const u8,
+        text_len: usize,
+        options: u32,
+        error: *mut RawError,
+        out: *mut Owned,
+    ) -> Status;
+    fn globset_raw_glob_regex(glob: *mut Lent, room: *mut u8, room_len: usize, needed: *mut usize) -> Status;
+    fn globset_raw_matcher_new(glob: *mut Lent, out: *mut Owned) -> Status;
+    fn globset_raw_matcher_is_match(matcher: *mut Lent, work: *mut Owned, path: *const u8, path_len: usize) -> Status;
+    fn globset_raw_builder_new(out: *mut Owned) -> Status;
+    fn globset_raw_builder_add(builder: *mut Owned, glob: *mut Lent) -> Status;
+    fn globset_raw_builder_build(builder: *mut Owned, out: *mut Owned) -> Status;
+    fn globset_raw_work_new(out: *mut Owned) -> Status;
+    fn globset_raw_set_is_match(set: *mut Lent, work: *mut Owned, path: *const u8, path_len: usize) -> Status;
+    fn globset_raw_set_matches_all(set: *mut Lent, work: *mut Owned, path: *const u8, path_len: usize) -> Status;
+    fn globset_raw_set_matches(
+        set: *mut Lent,
+        work: *mut Owned,
+        path: *const u8,
+        path_len: usize,
+        indexes: *mut Indexes,
+    ) -> Status;
+    fn globset_raw_escape(
+        text: *const u8,
+        text_len: usize,
+        room: *mut u8,
+        room_len: usize,
+        needed: *mut usize,
+    ) -> Status;
+    fn globset_raw_free(object: Owned);
+    #[cfg(test)]
+    fn globset_version() -> u32;
+    #[cfg(test)]
+    fn globset_interface() -> u32;
+}
+
+/// Ends the program as Rust's own containers do when memory runs out; panics at a status that the header rules out.
+#[cold]
+fn unexpected(status: Status) -> ! {
+    if status == OUT_OF_MEMORY {
+        // The library does not tell how much memory it asked for.
+        handle_alloc_error(Layout::new::<u8>())
+    }
+    panic!("globset: the C library returned the status {status}, which its header rules out")
+}
+
+/// Returns if the call did what it is for.
+#[inline]
+fn done(status: Status) {
+    if status != DONE {
+        unexpected(status)
+    }
+}
+
+/// The answer of a question.
+#[inline]
+fn answer(status: Status) -> bool {
+    match status {
+        NO => false,
+        YES => true,
+        _ => unexpected(status),
+    }
+}
+
+impl Owned {
+    /// The object that a call makes. The call has to make one if it returns `DONE`.
+    fn made(make: impl FnOnce(*mut Owned) -> Status) -> Owned {
+        let mut owned = Owned { at: ptr::null_mut() };
+        done(make(&mut owned));
+        owned
+    }
+}
+
+/// A glob, a matcher or a set of the library, which is freed when this is dropped, and until then is only lent.
+struct Shared(Owned);
+
+// SAFETY: "An owned object is in one call at a time", with no word about its thread. The only call that a `Shared` is passed to
+// as an owned object is the one in its `drop`, when no other use of it is left.
+unsafe impl Send for Shared {}
+
+// SAFETY: "Lent objects are only read, so one object may be lent to any number of calls at once, in any threads." A reference
+// to a `Shared` gives `lend` alone.
+unsafe impl Sync for Shared {}
+
+impl Shared {
+    /// What one call is lent. "Each call gets a `globset_lent` of its own".
+    #[inline]
+    fn lend(&self) -> Lent {
+        Lent { at: self.0.at }
+    }
+}
+
+impl Drop for Shared {
+    fn drop(&mut self) {
+        let object = Owned { at: self.0.at };
+        // SAFETY: "Frees an object of any kind. The caller owns it, it is lent to nobody, and what it lends is not read any
+        // more." Calls borrow the `Shared` that they are lent, so none is left; and this is the only `free` of it.
+        unsafe { globset_raw_free(object) }
+    }
+}
+
+/// Why a text is no glob.
+pub(crate) enum ParseError {
+    UnclosedClass,
+    InvalidRange(char, char),
+    UnopenedAlternates,
+    UnclosedAlternates,
+    DanglingEscape,
+}
+
+impl ParseError {
+    fn of(error: &RawError) -> ParseError {
+        let char = |code| char::from_u32(code).expect("an end of a range is a character");
+        match error.kind {
+            1 => ParseError::UnclosedClass,
+            2 => ParseError::InvalidRange(char(error.start), char(error.end)),
+            3 => ParseError::UnopenedAlternates,
+            4 => ParseError::UnclosedAlternates,
+            5 => ParseError::DanglingEscape,
+            kind => panic!("globset: the C library returned the kind of error {kind}, which its header does not have"),
+        }
+    }
+}
+
+/// A glob of the library.
+pub(crate) struct Glob(Shared);
+
+impl Glob {
+    /// Reads a text under options.
+    pub(crate) fn new(text: &str, options: u32) -> Result<Glob, ParseError> {
+        let mut error = RawError::default();
+        let mut owned = Owned { at: ptr::null_mut() };
+        // SAFETY: "Reads a glob. GLOBSET_DONE: `out` owns the glob of exactly this text and these options." Before the call
+        // `at` "may be anything".
+        match unsafe { globset_raw_glob_new(text.as_ptr(), text.len(), options, &mut error, &mut owned) } {
+            DONE => Ok(Glob(Shared(owned))),
+            REJECTED => Err(ParseError::of(&error)),
+            status => unexpected(status),
+        }
+    }
+
+    /// The regular expression of the glob.
+    pub(crate) fn regex(&self) -> String {
+        written(64, |room, room_len, needed| {
+            // SAFETY: "Writes a regular expression that matches the paths that the glob matches."
+            unsafe { globset_raw_glob_regex(&mut self.0.lend(), room, room_len, needed) }
+        })
+    }
+}
+
+/// A matcher of the library, for one glob.
+pub(crate) struct Matcher(Shared);
+
+impl Matcher {
+    pub(crate) fn new(glob: &Glob) -> Matcher {
+        // SAFETY: "Makes a matcher of one glob. It keeps a copy of the glob, which may be freed."
+        let owned = Owned::made(|out| unsafe { globset_raw_matcher_new(&mut glob.0.lend(), out) });
+        Matcher(Shared(owned))
+    }
+
+    #[inline]
+    pub(crate) fn is_match(&self, path: &[u8]) -> bool {
+        with_work(|work| {
+            // SAFETY: "Whether the matcher's glob matches the path". The work is this thread's: "It belongs to one thread at
+            // a time."
+            answer(unsafe { globset_raw_matcher_is_match(&mut self.0.lend(), &mut work.0, path.as_ptr(), path.len()) })
+        })
+    }
+}
+
+/// A set of the library.
+pub(crate) struct Set(Shared);
+
+impl Set {
+    #[inline]
+    pub(crate) fn is_match(&self, path: &[u8]) -> bool {
+        with_work(|work| {
+            // SAFETY: "Whether some glob of the set matches the path". The work is this thread's.
+            answer(unsafe { globset_raw_set_is_match(&mut self.0.lend(), &mut work.0, path.as_ptr(), path.len()) })
+        })
+    }
+
+    #[inline]
+    pub(crate) fn matches_all(&self, path: &[u8]) -> bool {
+        with_work(|work| {
+            // SAFETY: "Whether all globs of the set match the path". The work is this thread's.
+            answer(unsafe { globset_raw_set_matches_all(&mut self.0.lend(), &mut work.0, path.as_ptr(), path.len()) })
+        })
+    }
+
+    /// Adds the indexes of the globs that match, ascending, to the end of `into`.
+    #[inline]
+    pub(crate) fn matches(&self, path: &[u8], into: &mut Vec<usize>) {
+        with_work(|work| {
+            let mut indexes = Indexes { at: ptr::NonNull::dangling().as_ptr(), count: 0 };
+            // SAFETY: "Finds the indexes of the globs of the set that match the path, ascending." The indexes handed in are
+            // valid, since there are none. The work is this thread's.
+            done(unsafe {
+                globset_raw_set_matches(&mut self.0.lend(), &mut work.0, path.as_ptr(), path.len(), &mut indexes)
+            });
+            if indexes.count > 0 {
+                // SAFETY: "`indexes` lends them; they may be read until the next call that the work is passed to". The work
+                // is borrowed until the indexes have been copied.
+                into.extend_from_slice(unsafe { slice::from_raw_parts(indexes.at, indexes.count) });
+            }
+        })
+    }
+}
+
+/// A builder of the library.
+pub(crate) struct Builder(Owned);
+
+impl Builder {
+    pub(crate) fn new() -> Builder {
+        // SAFETY: "Makes a builder without globs."
+        Builder(Owned::made(|out| unsafe { globset_raw_builder_new(out) }))
+    }
+
+    pub(crate) fn add(&mut self, glob: &Glob) {
+        // SAFETY: "Adds a copy of a glob after those that the builder has." The builder is borrowed exclusively: "An owned
+        // object is in one call at a time."
+        done(unsafe { globset_raw_builder_add(&mut self.0, &mut glob.0.lend()) })
+    }
+
+    pub(crate) fn build(mut self) -> Set {
+        // SAFETY: "Makes the set of the builder's globs, in the order in which they were added".
+        let owned = Owned::made(|out| unsafe { globset_raw_builder_build(&mut self.0, out) });
+        Set(Shared(owned))
+    }
+}
+
+impl Drop for Builder {
+    fn drop(&mut self) {
+        let object = Owned { at: self.0.at };
+        // SAFETY: "Frees an object of any kind. The caller owns it, it is lent to nobody". A builder is never lent, and this is
+        // the only `free` of it.
+        unsafe { globset_raw_free(object) }
+    }
+}
+
+/// The memory that one thread matches with. "It serves any number of sets and matchers, and grows with them."
+struct Work(Owned);
+
+impl Work {
+    fn new() -> Work {
+        // SAFETY: "Makes a work. It fits a set without globs, and is grown as it is used."
+        Work(Owned::made(|out| unsafe { globset_raw_work_new(out) }))
+    }
+}
+
+impl Drop for Work {
+    fn drop(&mut self) {
+        let object = Owned { at: self.0.at };
+        // SAFETY: "Frees an object of any kind. The caller owns it, it is lent to nobody, and what it lends is not read any
+        // more." Indexes are copied while the work is borrowed, and this is the only `free` of it.
+        unsafe { globset_raw_free(object) }
+    }
+}
+
+thread_local! {
+    static WORK: Cell<Option<Work>> = const { Cell::new(None) };
+}
+
+/// Calls with this thread's work, which is made at the thread's first call and freed when the thread ends.
+///
+/// The work is taken out of its place during the call. So a call within the call, as from a global allocator that matches
+/// paths, makes a work of its own, and so does one after the thread's place was destroyed.
+#[inline]
+fn with_work<T>(mut call: impl FnMut(&mut Work) -> T) -> T {
+    let called = WORK.try_with(|kept| {
+        let mut work = kept.take().unwrap_or_else(Work::new);
+        let returned = call(&mut work);
+        kept.set(Some(work));
+        returned
+    });
+    called.unwrap_or_else(|_| call(&mut Work::new()))
+}
+
+/// The text that a call writes into the room that it gets, which is `guess` bytes long at first, and the length that the call
+/// says it needs the next time.
+fn written(guess: usize, mut write: impl FnMut(*mut u8, usize, *mut usize) -> Status) -> String {
+    let mut room = vec![0; guess];
+    loop {
+        let mut needed = 0;
+        match write(room.as_mut_ptr(), room.len(), &mut needed) {
+            DONE => {
+                room.truncate(needed);
+                room.shrink_to_fit();
+                return String::from_utf8(room).expect("texts of the library are UTF-8");
+            }
+            TOO_SMALL => room = vec![0; needed],
+            status => unexpected(status),
+        }
+    }
+}
+
+/// The text with its special characters in brackets.
+pub(crate) fn escape(text: &str) -> String {
+    written(text.len() + 16, |room, room_len, needed| {
+        // SAFETY: "Writes the text with each of `?`, `*`, `[`, `]`, `{` and `}` in brackets".
+        unsafe { globset_raw_escape(text.as_ptr(), text.len(), room, room_len, needed) }
+    })
+}
+
+#[cfg(test)]
+mod tests {
+    use super::*;
+
+    #[test]
+    fn the_library_is_of_this_version_and_interface() {
+        // SAFETY: both calls take nothing, and return a number.
+        let numbers = unsafe { (globset_version(), globset_interface()) };
+        assert_eq!(numbers, (4021, 1));
+    }
+
+    #[test]
+    fn a_text_longer_than_the_first_room_is_asked_for_again() {
+        let text = "*".repeat(1000);
+        assert_eq!(escape(&text), "[*]".repeat(1000));
+        let glob = Glob::new(&"a".repeat(1000), 0).ok().expect("a glob");
+        assert_eq!(glob.regex(), format!("(?-u)^{}$", "a".repeat(1000)));
+    }
+
+    #[test]
+    fn a_call_within_a_call_has_a_work_of_its_own() {
+        let mut builder = Builder::new();
+        builder.add(&Glob::new("*.c", 0).ok().expect("a glob"));
+        let set = builder.build();
+        let (outer, inner) = with_work(|work| {
+            let inner = set.is_match(b"a.c");
+            // SAFETY: as in `Set::is_match`.
+            let status = unsafe { globset_raw_set_is_match(&mut set.0.lend(), &mut work.0, b"a.h".as_ptr(), 3) };
+            (answer(status), inner)
+        });
+        assert_eq!((outer, inner), (false, true));
+    }
+}

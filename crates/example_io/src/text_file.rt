@@ -1,0 +1,72 @@
+//! A file whose lines a program reads.
+
+use crate::fault::Fault;
+use std::alloc::{AllocError, Global};
+use std::fmt::Display;
+use std::rt::Files;
+use std::{fs, str};
+
+/// What some editors put at the start of a text.
+const BYTE_ORDER_MARK: &[u8] = b"\xef\xbb\xbf";
+
+/// A file, and its name.
+#[derive(Drop)]
+pub struct TextFile {
+    name: String,
+    bytes: Vec<u8>,
+}
+
+impl TextFile {
+    /// Reads a file. Returns an error if it cannot be read, or memory runs out.
+    pub fn read<R: Files + AllocGlobal>(rt: &R, name: String) -> Result<TextFile, Fault> {
+        match fs::read(rt, name.as_str()) {
+            Ok(bytes) => Ok(TextFile { name, bytes }),
+            Err(error) => Err(Fault::File { name, error }),
+        }
+    }
+
+    /// Returns the lines without LF or CRLF, and without a byte order mark at the start of the file. Returns the error of the
+    /// first line that is not UTF-8, or an error if memory runs out.
+    pub fn lines(&self, alloc: Global) -> Result<Vec<&str>, Fault> {
+        let bytes = self.bytes.as_slice();
+        let text = bytes.strip_prefix(BYTE_ORDER_MARK).unwrap_or(bytes);
+        let mut lines = Vec::new(alloc);
+        for (i, line) in text.split(|byte| *byte == b'\n').enumerate() {
+            match str::from_utf8(line) {
+                Ok(line) => lines.push(line.strip_suffix('\r').unwrap_or(line))?,
+                Err(_) => return Err(self.fault(alloc, i + 1, line, "not UTF-8")),
+            }
+        }
+        Ok(lines)
+    }
+
+    /// Returns the error of a line: its number, counted from 1, the text that is wrong, and what is wrong with it. If there is
+    /// no memory for that, returns the error that memory ran out.
+    pub fn fault(
+        &self,
+        alloc: Global,
+        number: usize,
+        text: &[u8],
+        reason: impl Display + Drop,
+    ) -> Fault {
+        match self.line_fault(alloc, number, text, reason) {
+            Ok(fault) => fault,
+            Err(error) => Fault::from(error),
+        }
+    }
+
+    fn line_fault(
+        &self,
+        alloc: Global,
+        number: usize,
+        text: &[u8],
+        reason: impl Display + Drop,
+    ) -> Result<Fault, AllocError> {
+        Ok(Fault::Line {
+            file: self.name.clone()?,
+            number,
+            text: text.to_vec(alloc)?,
+            reason: format!(in alloc; "{reason}")?,
+        })
+    }
+}

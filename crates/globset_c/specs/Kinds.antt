@@ -1,0 +1,47 @@
+-- Facts of an object that is of one kind.
+use Rattle.std.specs.Prelude.{◌≡◌, ℕ, ◌≤◌, List, Option, None, Some, ⊤}
+use Rattle.globset_glob.specs.Means.{GlobValue}
+use Rattle.globset.specs.SetValue.{SetValue, BuilderValue, ScratchValue}
+use Rattle.globset_c.specs.declared.object.Object.{Object}
+use Rattle.globset_c.specs.declared.object.Object.TheVariants.{Glob, Matcher, Builder, Set, Work}
+use Rattle.globset_c.specs.declared.object.Work.{Work as WorkValue}
+
+-- it is a glob, and P of it
+abbrev pub IfGlob : Option Object → (GlobValue → Type 0) → Type 0
+IfGlob (Some (Glob g)) P = P g
+IfGlob _ P = ⊥
+
+-- it is a matcher, and P of its glob
+abbrev pub IfMatcher : Option Object → (GlobValue → Type 0) → Type 0
+IfMatcher (Some (Matcher m)) P = P m
+IfMatcher _ P = ⊥
+
+-- it is a builder, and P of it
+abbrev pub IfBuilder : Option Object → (BuilderValue → Type 0) → Type 0
+IfBuilder (Some (Builder b)) P = P b
+IfBuilder _ P = ⊥
+
+-- it is a set, and P of it
+abbrev pub IfSet : Option Object → (SetValue → Type 0) → Type 0
+IfSet (Some (Set s)) P = P s
+IfSet _ P = ⊥
+
+-- it is a work, and P of it
+abbrev pub IfWork : Option Object → (WorkValue → Type 0) → Type 0
+IfWork (Some (Work w)) P = P w
+IfWork _ P = ⊥
+
+abbrev pub IsGlob : Option Object → Type 0
+IsGlob o = IfGlob o (λ _. ⊤)
+
+abbrev pub IsMatcher : Option Object → Type 0
+IsMatcher o = IfMatcher o (λ _. ⊤)
+
+abbrev pub IsBuilder : Option Object → Type 0
+IsBuilder o = IfBuilder o (λ _. ⊤)
+
+abbrev pub IsSet : Option Object → Type 0
+IsSet o = IfSet o (λ _. ⊤)
+
+abbrev pub IsWork : Option Object → Type 0
+IsWork o = IfWork o (λ _. ⊤)

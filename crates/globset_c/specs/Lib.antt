@@ -1,0 +1,11 @@
+pub mod Answers
+pub mod Errors
+pub mod Growth
+pub mod Held
+pub mod Kinds
+pub mod Lending
+pub mod LentAt
+pub mod Options
+pub mod Paths
+pub mod Room
+pub mod Statuses

@@ -1,0 +1,82 @@
+//! Whether every glob of a set matches a path.
+
+ghost use Rattle.std.specs.Prelude.{◌≡◌, ◌≢◌, ◌⊎◌, Some, [], ◌∷◌, IsSome};
+ghost use Rattle.globset.specs.SetValue.{Fits, FitsAsBefore};
+ghost use Rattle.globset_c.specs.Answers.{IsAll};
+ghost use Rattle.globset_c.specs.Growth.{IsGrown};
+ghost use Rattle.globset_c.specs.Kinds.{IfSet, IfWork, IsSet, IsWork};
+ghost use Rattle.globset_c.specs.Statuses.{IsOneOf};
+
+use crate::lent::Lent;
+use crate::object::{Object, Work};
+use crate::owned::Owned;
+use crate::status::{NO, OUT_OF_MEMORY, Status, WRONG_KIND, YES};
+use crate::works::fit;
+use globset::{Candidate, GlobSet, Visits};
+
+/// Returns whether every glob of a set matches a path.
+#[unsafe(no_mangle)]
+pub extern "C" fn globset_raw_set_matches_all(
+    set: &mut Lent,
+    work: &mut Owned,
+    path: &[u8],
+) -> Status
+    requires owned { IsSome work.old.object }
+    ensures owned { IsSome work.new.object }
+    ensures same_set { set.new ≡ set.old }
+    ensures yes { result ≡ YES → IfSet (Some set.old.object) (λ s. IsAll s path.now) }
+    ensures no { result ≡ NO → IfSet (Some set.old.object) (λ s. ¬ (IsAll s path.now)) }
+    ensures fits { IfSet (Some set.old.object) (λ s. IfWork work.old.object (λ w. Fits w.scratch s)) →
+        (result ≡ YES) ⊎ (result ≡ NO) }
+    ensures grown { IsGrown work.old.object work.new.object }
+    ensures right_kind { IsSet (Some set.old.object) → IsWork work.old.object → result ≢ WRONG_KIND }
+    ensures statuses { IsOneOf (NO ∷ YES ∷ OUT_OF_MEMORY ∷ WRONG_KIND ∷ []) result }
+{
+    let boxed = work.take();
+    let (boxed, status) = set.read((boxed, path), |object, (boxed, path)| {
+        matches_all_of(object, boxed, path)
+    });
+    *work = Owned::of(boxed);
+    status
+}
+
+fn matches_all_of(object: &Object, boxed: Box<Object>, path: &[u8]) -> (Box<Object>, Status)
+    ensures yes { result.1 ≡ YES → IfSet (Some object.now) (λ s. IsAll s path.now) }
+    ensures no { result.1 ≡ NO → IfSet (Some object.now) (λ s. ¬ (IsAll s path.now)) }
+    ensures fits { IfSet (Some object.now) (λ s. IfWork (Some boxed.value) (λ w. Fits w.scratch s)) →
+        (result.1 ≡ YES) ⊎ (result.1 ≡ NO) }
+    ensures grown { IsGrown (Some boxed.value) (Some result.0.value) }
+    ensures right_kind { IsSet (Some object.now) → IsWork (Some boxed.value) → result.1 ≢ WRONG_KIND }
+    ensures statuses { IsOneOf (NO ∷ YES ∷ OUT_OF_MEMORY ∷ WRONG_KIND ∷ []) result.1 }
+{
+    let Object::Set(set) = object else {
+        return (boxed, WRONG_KIND);
+    };
+    let mut boxed = boxed;
+    let status = match &mut *boxed {
+        Object::Work(work) => matches_all_in(set, work, path),
+        _ => WRONG_KIND,
+    };
+    (boxed, status)
+}
+
+fn matches_all_in(set: &GlobSet, work: &mut Work, path: &[u8]) -> Status
+    ensures yes { result ≡ YES → IsAll set.now path.now }
+    ensures no { result ≡ NO → ¬ (IsAll set.now path.now) }
+    ensures fits { Fits work.old.scratch set.now → (result ≡ YES) ⊎ (result ≡ NO) }
+    ensures others { FitsAsBefore work.old.scratch work.new.scratch }
+    ensures statuses { IsOneOf (NO ∷ YES ∷ OUT_OF_MEMORY ∷ []) result }
+{
+    if fit(work, set).is_err() {
+        return OUT_OF_MEMORY;
+    }
+    if set.matches_all_with(
+        &Candidate::from_bytes(path),
+        &mut work.scratch,
+        &mut Visits::new(),
+    ) {
+        YES
+    } else {
+        NO
+    }
+}

@@ -1,0 +1,125 @@
+//! Builders of sets.
+
+ghost use Rattle.std.specs.Prelude.{◌≡◌, ◌≢◌, Some, [], ◌∷◌, ◌++◌, IfOk, IfErr, IsSome, OnOk, OnErr};
+ghost use Rattle.globset.specs.SetValue.{builder_globs, set_globs};
+ghost use Rattle.globset_c.specs.Kinds.{IfBuilder, IfGlob, IfSet, IsBuilder, IsGlob};
+ghost use Rattle.globset_c.specs.Statuses.{IsOneOf};
+ghost use Rattle.globset_c.specs.declared.object.Failure.TheVariants.{WrongKind};
+
+use crate::lent::Lent;
+use crate::making::hand_out;
+use crate::object::{Failure, Object};
+use crate::owned::Owned;
+use crate::status::{DONE, OUT_OF_MEMORY, Status, WRONG_KIND};
+use globset::{Glob, GlobSet, GlobSetBuilder};
+use std::alloc::Global;
+
+/// Makes a builder that has no globs, and lets the caller own it.
+#[unsafe(no_mangle)]
+pub extern "C" fn globset_raw_builder_new(alloc: Global, out: &mut Owned) -> Status
+    ensures made { result ≡ DONE → IfBuilder out.new.object (λ b. builder_globs b ≡ []) }
+    ensures refused { result ≢ DONE → out.new ≡ out.old }
+    ensures statuses { IsOneOf (DONE ∷ OUT_OF_MEMORY ∷ []) result }
+{
+    match hand_out(alloc, Object::Builder(GlobSetBuilder::new(alloc)), out) {
+        Ok(()) => DONE,
+        Err(_) => OUT_OF_MEMORY,
+    }
+}
+
+/// Adds a copy of a glob after the globs of a builder.
+#[unsafe(no_mangle)]
+pub extern "C" fn globset_raw_builder_add(builder: &mut Owned, glob: &mut Lent) -> Status
+    requires owned { IsSome builder.old.object }
+    ensures owned { IsSome builder.new.object }
+    ensures same_glob { glob.new ≡ glob.old }
+    ensures added { result ≡ DONE → IfGlob (Some glob.old.object) (λ g.
+        IfBuilder builder.old.object (λ b.
+        IfBuilder builder.new.object (λ c. builder_globs c ≡ builder_globs b ++ g ∷ []))) }
+    ensures kept { result ≢ DONE → builder.new.object ≡ builder.old.object }
+    ensures right_kind { IsBuilder builder.old.object → IsGlob (Some glob.old.object) → result ≢ WRONG_KIND }
+    ensures statuses { IsOneOf (DONE ∷ OUT_OF_MEMORY ∷ WRONG_KIND ∷ []) result }
+{
+    match glob.read((), |object, ()| copy_of(object)) {
+        Ok(copy) => add(builder.as_mut(), copy),
+        Err(Failure::OutOfMemory) => OUT_OF_MEMORY,
+        Err(Failure::WrongKind) => WRONG_KIND,
+    }
+}
+
+fn copy_of(object: &Object) -> Result<Glob, Failure>
+    ensures copied { IfOk result (λ copy. IfGlob (Some object.now) (λ g. copy ≡ g)) }
+    ensures wrong_kind { IfErr result (λ why. why ≡ WrongKind → ¬ (IsGlob (Some object.now))) }
+{
+    let Object::Glob(glob) = object else {
+        return Err(Failure::WrongKind);
+    };
+    match glob.clone() {
+        Ok(copy) => Ok(copy),
+        Err(_) => Err(Failure::OutOfMemory),
+    }
+}
+
+fn add(object: &mut Object, glob: Glob) -> Status
+    ensures added { result ≡ DONE → IfBuilder (Some object.old) (λ b.
+        IfBuilder (Some object.new) (λ c. builder_globs c ≡ builder_globs b ++ glob ∷ [])) }
+    ensures kept { result ≢ DONE → object.new ≡ object.old }
+    ensures right_kind { IsBuilder (Some object.old) → result ≢ WRONG_KIND }
+    ensures statuses { IsOneOf (DONE ∷ OUT_OF_MEMORY ∷ WRONG_KIND ∷ []) result }
+{
+    let Object::Builder(builder) = object else {
+        return WRONG_KIND;
+    };
+    match builder.push(glob) {
+        Ok(()) => DONE,
+        Err(_) => OUT_OF_MEMORY,
+    }
+}
+
+/// Makes the set of a builder's globs, which are moved into it, and lets the caller own it.
+#[unsafe(no_mangle)]
+pub extern "C" fn globset_raw_builder_build(
+    alloc: Global,
+    builder: &mut Owned,
+    out: &mut Owned,
+) -> Status
+    requires owned { IsSome builder.old.object }
+    ensures owned { IsSome builder.new.object }
+    ensures built { result ≡ DONE → IfBuilder builder.old.object (λ b.
+        IfSet out.new.object (λ s. set_globs s ≡ builder_globs b)) }
+    ensures emptied { result ≡ DONE → IfBuilder builder.new.object (λ b. builder_globs b ≡ []) }
+    ensures kept { result ≢ DONE → builder.new.object ≡ builder.old.object }
+    ensures refused { result ≢ DONE → out.new ≡ out.old }
+    ensures right_kind { IsBuilder builder.old.object → result ≢ WRONG_KIND }
+    ensures statuses { IsOneOf (DONE ∷ OUT_OF_MEMORY ∷ WRONG_KIND ∷ []) result }
+{
+    // The set's place is made first, so that the globs are not lost if there is no memory for it.
+    let Ok(boxed) = Box::new(alloc, Object::Set(GlobSet::empty())) else {
+        return OUT_OF_MEMORY;
+    };
+    match build(builder.as_mut()) {
+        Ok(set) => {
+            let mut boxed = boxed;
+            *boxed = Object::Set(set);
+            *out = Owned::of(boxed);
+            DONE
+        }
+        Err(Failure::OutOfMemory) => OUT_OF_MEMORY,
+        Err(Failure::WrongKind) => WRONG_KIND,
+    }
+}
+
+fn build(object: &mut Object) -> Result<GlobSet, Failure>
+    ensures built { IfOk result (λ s. IfBuilder (Some object.old) (λ b. set_globs s ≡ builder_globs b)) }
+    ensures emptied { OnOk result (IfBuilder (Some object.new) (λ b. builder_globs b ≡ [])) }
+    ensures kept { OnErr result (object.new ≡ object.old) }
+    ensures wrong_kind { IfErr result (λ why. why ≡ WrongKind → ¬ (IsBuilder (Some object.old))) }
+{
+    let Object::Builder(builder) = object else {
+        return Err(Failure::WrongKind);
+    };
+    match builder.take_set() {
+        Ok(set) => Ok(set),
+        Err(_) => Err(Failure::OutOfMemory),
+    }
+}

@@ -1,0 +1,165 @@
+//! Globs.
+
+ghost use Rattle.std.specs.Prelude.{◌≡◌, ◌≢◌, Some, [], ◌∷◌, IfOk, IfErr, string_bytes};
+ghost use Rattle.std.specs.Str.{IsUtf8};
+ghost use Rattle.glob_text.specs.Errors.{IsRefusalOf, error_text, out_of_memory};
+ghost use Rattle.glob_text.specs.Means.{tokens_of_glob, IsRead};
+ghost use Rattle.glob_text.specs.RegexText.{regex_text};
+ghost use Rattle.globset_c.specs.Errors.{IsErrorOf, IfRejected};
+ghost use Rattle.globset_c.specs.Kinds.{IfGlob, IsGlob};
+ghost use Rattle.globset_c.specs.Options.{glob_of, options_of, IsKnown};
+ghost use Rattle.globset_c.specs.Room.{IsWritten, IsTooLong};
+ghost use Rattle.globset_c.specs.Statuses.{IsOneOf};
+ghost use Rattle.globset_c.specs.declared.globs.Unread.TheVariants.{NotUtf8, UnknownOption};
+ghost use Rattle.globset_c.specs.declared.object.Failure.TheVariants.{WrongKind};
+
+use crate::error::{TextError, told};
+use crate::lent::Lent;
+use crate::making::hand_out;
+use crate::object::{Failure, Object};
+use crate::options::{are_known, builder_of};
+use crate::owned::Owned;
+use crate::status::{
+    DONE, NO, NOT_UTF8, OUT_OF_MEMORY, REJECTED, Status, TOO_SMALL, UNKNOWN_OPTION, WRONG_KIND,
+};
+use crate::text;
+use globset::{Error, Glob};
+use std::alloc::Global;
+use std::string::ToString;
+
+/// Why a text was not read.
+enum Unread {
+    NotUtf8,
+    UnknownOption,
+}
+
+/// Reads a glob under the options that the bits stand for.
+fn read(alloc: Global, text: &[u8], options: u32) -> Result<Result<Glob, Error>, Unread>
+    ensures made { IfOk result (λ read. IfOk read (λ g. (g ≡ glob_of text.now options) × IsRead g)) }
+    ensures rejected { IfOk result (λ read. IfErr read (IsRefusalOf (options_of options) text.now)) }
+    ensures known { IfOk result (λ read. IsKnown options) }
+    ensures unknown { IfErr result (λ why. why ≡ UnknownOption → ¬ (IsKnown options)) }
+    ensures not_utf8 { IfErr result (λ why. why ≡ NotUtf8 → ¬ (IsUtf8 text.now)) }
+{
+    if !are_known(options) {
+        return Err(Unread::UnknownOption);
+    }
+    let Ok(text) = std::str::from_utf8(text) else {
+        return Err(Unread::NotUtf8);
+    };
+    Ok(builder_of(text, options).build(alloc))
+}
+
+/// Reads a glob, and lets the caller own it.
+#[unsafe(no_mangle)]
+pub extern "C" fn globset_raw_glob_new(
+    alloc: Global,
+    text: &[u8],
+    options: u32,
+    error: &mut TextError,
+    out: &mut Owned,
+) -> Status
+    ensures made { result ≡ DONE → IfGlob out.new.object (λ g. g ≡ glob_of text.now options) }
+    ensures known { result ≡ DONE → IsKnown options }
+    ensures rejected { result ≡ REJECTED → IsErrorOf text.now options error.new }
+    ensures not_utf8 { result ≡ NOT_UTF8 → ¬ (IsUtf8 text.now) }
+    ensures unknown { result ≡ UNKNOWN_OPTION → ¬ (IsKnown options) }
+    ensures refused { result ≢ DONE → out.new ≡ out.old }
+    ensures same_error { result ≢ REJECTED → error.new ≡ error.old }
+    ensures statuses { IsOneOf (DONE ∷ OUT_OF_MEMORY ∷ REJECTED ∷ NOT_UTF8 ∷ UNKNOWN_OPTION ∷ []) result }
+{
+    match read(alloc, text, options) {
+        Ok(Ok(glob)) => match hand_out(alloc, Object::Glob(glob), out) {
+            Ok(()) => DONE,
+            Err(_) => OUT_OF_MEMORY,
+        },
+        Ok(Err(refusal)) => match told(&refusal) {
+            Some(told) => {
+                *error = told;
+                REJECTED
+            }
+            None => OUT_OF_MEMORY,
+        },
+        Err(Unread::NotUtf8) => NOT_UTF8,
+        Err(Unread::UnknownOption) => UNKNOWN_OPTION,
+    }
+}
+
+/// Writes what the error of a text says.
+#[unsafe(no_mangle)]
+pub extern "C" fn globset_raw_error_text(
+    alloc: Global,
+    text: &[u8],
+    options: u32,
+    room: &mut [u8],
+    needed: &mut usize,
+) -> Status
+    ensures done { result ≡ DONE → IfRejected text.now options (λ said. IsWritten said room.old room.new needed.new) }
+    ensures too_small { result ≡ TOO_SMALL → IfRejected text.now options (λ said. IsTooLong said room.old room.new needed.new) }
+    ensures no_error { result ≡ NO → IsRead (glob_of text.now options) }
+    ensures not_utf8 { result ≡ NOT_UTF8 → ¬ (IsUtf8 text.now) }
+    ensures unknown { result ≡ UNKNOWN_OPTION → ¬ (IsKnown options) }
+    ensures refused { result ≢ DONE → room.new ≡ room.old }
+    ensures statuses { IsOneOf (DONE ∷ NO ∷ OUT_OF_MEMORY ∷ NOT_UTF8 ∷ UNKNOWN_OPTION ∷ TOO_SMALL ∷ []) result }
+{
+    match read(alloc, text, options) {
+        Ok(Ok(_)) => NO,
+        Ok(Err(refusal)) => say(alloc, &refusal, room, needed),
+        Err(Unread::NotUtf8) => NOT_UTF8,
+        Err(Unread::UnknownOption) => UNKNOWN_OPTION,
+    }
+}
+
+/// Writes what an error of a text says.
+fn say(alloc: Global, refusal: &Error, room: &mut [u8], needed: &mut usize) -> Status
+    ensures done { result ≡ DONE → IsWritten (error_text refusal.now) room.old room.new needed.new }
+    ensures too_small { result ≡ TOO_SMALL → IsTooLong (error_text refusal.now) room.old room.new needed.new }
+    ensures refused { result ≢ DONE → room.new ≡ room.old }
+    ensures of_text { result ≢ OUT_OF_MEMORY → refusal.now ≢ out_of_memory }
+    ensures statuses { IsOneOf (DONE ∷ OUT_OF_MEMORY ∷ TOO_SMALL ∷ []) result }
+{
+    if refusal.glob().is_none() {
+        return OUT_OF_MEMORY;
+    }
+    match refusal.to_string(alloc) {
+        Ok(said) => text::write(said.as_bytes(), room, needed),
+        Err(_) => OUT_OF_MEMORY,
+    }
+}
+
+/// Writes a regular expression that matches the paths that the glob matches.
+#[unsafe(no_mangle)]
+pub extern "C" fn globset_raw_glob_regex(
+    alloc: Global,
+    glob: &mut Lent,
+    room: &mut [u8],
+    needed: &mut usize,
+) -> Status
+    ensures same_glob { glob.new ≡ glob.old }
+    ensures done { result ≡ DONE → IfGlob (Some glob.old.object) (λ g.
+        IsWritten (regex_text g.options (tokens_of_glob g)) room.old room.new needed.new) }
+    ensures too_small { result ≡ TOO_SMALL → IfGlob (Some glob.old.object) (λ g.
+        IsTooLong (regex_text g.options (tokens_of_glob g)) room.old room.new needed.new) }
+    ensures refused { result ≢ DONE → room.new ≡ room.old }
+    ensures right_kind { IsGlob (Some glob.old.object) → result ≢ WRONG_KIND }
+    ensures statuses { IsOneOf (DONE ∷ OUT_OF_MEMORY ∷ WRONG_KIND ∷ TOO_SMALL ∷ []) result }
+{
+    match glob.read(alloc, |object, alloc| regex_of(alloc, object)) {
+        Ok(regex) => text::write(regex.as_bytes(), room, needed),
+        Err(Failure::OutOfMemory) => OUT_OF_MEMORY,
+        Err(Failure::WrongKind) => WRONG_KIND,
+    }
+}
+
+fn regex_of(alloc: Global, object: &Object) -> Result<String, Failure>
+    ensures text { IfOk result (λ s. IfGlob (Some object.now) (λ g. string_bytes s ≡ regex_text g.options (tokens_of_glob g))) }
+    ensures wrong_kind { IfErr result (λ why. why ≡ WrongKind → ¬ (IsGlob (Some object.now))) }
+{
+    let Object::Glob(glob) = object else {
+        return Err(Failure::WrongKind);
+    };
+    match String::from_str(alloc, glob.regex()) {
+        Ok(regex) => Ok(regex),
+        Err(_) => Err(Failure::OutOfMemory),
+    }
+}

@@ -1,0 +1,24 @@
+//! Globs and sets of globs for C. `bindings/c/globset.h` says what C has to promise, function by function.
+//!
+//! Each function that C calls is safe code. The memory behind what C owns and lends is reached by [`owned`] and [`lent`] alone.
+#![tactic(auto)]
+
+mod all;
+mod builders;
+mod error;
+mod escaping;
+mod freeing;
+mod globs;
+mod indexes;
+mod lent;
+mod making;
+mod many;
+mod matchers;
+mod object;
+mod options;
+mod owned;
+mod sets;
+mod status;
+mod text;
+mod version;
+mod works;

@@ -1,0 +1,27 @@
+//! What C can own.
+
+use globset::{Glob, GlobMatcher, GlobSet, GlobSetBuilder, Scratch};
+
+/// What a thread keeps between calls: memory to match with, and the indexes of the last call.
+#[derive(Drop)]
+pub struct Work {
+    pub scratch: Scratch,
+    pub found: Vec<usize>,
+}
+
+/// An object of one of the kinds that C can own.
+#[derive(Drop)]
+pub enum Object {
+    Glob(Glob),
+    Matcher(GlobMatcher),
+    Builder(GlobSetBuilder),
+    Set(GlobSet),
+    Work(Work),
+}
+
+/// Why a call on objects did not do what it is for.
+#[derive(Clone, Copy)]
+pub enum Failure {
+    OutOfMemory,
+    WrongKind,
+}

@@ -1,0 +1,125 @@
+//! Works: the memory that a thread matches with.
+
+ghost use Rattle.std.specs.Prelude.{◌≡◌, ◌≢◌, ◌⊎◌, ◌≤◌, Some, [], ◌∷◌, IsSome, IsOk, OnOk, OnErr, length, vec_capacity};
+ghost use Rattle.globset.specs.SetValue.{Fits, FitsAsBefore, FitsMatcher, set_globs};
+ghost use Rattle.globset_c.specs.Growth.{as_object, IsFitFor, IsGrown, HoldsIndexesOf};
+ghost use Rattle.globset_c.specs.Kinds.{IfWork, IsMatcher, IsSet, IsWork};
+ghost use Rattle.globset_c.specs.Statuses.{IsOneOf};
+
+use crate::lent::Lent;
+use crate::making::hand_out;
+use crate::object::{Object, Work};
+use crate::owned::Owned;
+use crate::status::{DONE, OUT_OF_MEMORY, Status, WRONG_KIND};
+use globset::{GlobMatcher, GlobSet, Scratch};
+use std::alloc::{AllocError, Global};
+
+/// Makes a work, and lets the caller own it.
+#[unsafe(no_mangle)]
+pub extern "C" fn globset_raw_work_new(alloc: Global, out: &mut Owned) -> Status
+    ensures made { result ≡ DONE → IsWork out.new.object }
+    ensures refused { result ≢ DONE → out.new ≡ out.old }
+    ensures statuses { IsOneOf (DONE ∷ OUT_OF_MEMORY ∷ []) result }
+{
+    let Ok(scratch) = Scratch::new(alloc, &GlobSet::empty()) else {
+        return OUT_OF_MEMORY;
+    };
+    let work = Work {
+        scratch,
+        found: Vec::new(alloc),
+    };
+    match hand_out(alloc, Object::Work(work), out) {
+        Ok(()) => DONE,
+        Err(_) => OUT_OF_MEMORY,
+    }
+}
+
+/// Makes a work fit one more set or matcher.
+#[unsafe(no_mangle)]
+pub extern "C" fn globset_raw_work_fit(work: &mut Owned, asked: &mut Lent) -> Status
+    requires owned { IsSome work.old.object }
+    ensures owned { IsSome work.new.object }
+    ensures same { asked.new ≡ asked.old }
+    ensures fits { result ≡ DONE → IsFitFor (Some asked.old.object) work.new.object }
+    ensures grown { IsGrown work.old.object work.new.object }
+    ensures memory { IsFitFor (Some asked.old.object) work.old.object → result ≡ DONE }
+    ensures right_kind { IsSet (Some asked.old.object) ⊎ IsMatcher (Some asked.old.object) → IsWork work.old.object →
+        result ≢ WRONG_KIND }
+    ensures statuses { IsOneOf (DONE ∷ OUT_OF_MEMORY ∷ WRONG_KIND ∷ []) result }
+{
+    let boxed = work.take();
+    let (boxed, status) = asked.read(boxed, |object, boxed| fit_boxed(object, boxed));
+    *work = Owned::of(boxed);
+    status
+}
+
+fn fit_boxed(object: &Object, boxed: Box<Object>) -> (Box<Object>, Status)
+    ensures fits { result.1 ≡ DONE → IsFitFor (Some object.now) (Some result.0.value) }
+    ensures grown { IsGrown (Some boxed.value) (Some result.0.value) }
+    ensures memory { IsFitFor (Some object.now) (Some boxed.value) → result.1 ≡ DONE }
+    ensures right_kind { IsSet (Some object.now) ⊎ IsMatcher (Some object.now) → IsWork (Some boxed.value) →
+        result.1 ≢ WRONG_KIND }
+    ensures statuses { IsOneOf (DONE ∷ OUT_OF_MEMORY ∷ WRONG_KIND ∷ []) result.1 }
+{
+    let mut boxed = boxed;
+    let status = match &mut *boxed {
+        Object::Work(work) => fit_object(object, work),
+        _ => WRONG_KIND,
+    };
+    (boxed, status)
+}
+
+fn fit_object(object: &Object, work: &mut Work) -> Status
+    ensures fits { result ≡ DONE → IsFitFor (Some object.now) (as_object work.new) }
+    ensures others { FitsAsBefore work.old.scratch work.new.scratch }
+    ensures memory { IsFitFor (Some object.now) (as_object work.old) → result ≡ DONE }
+    ensures right_kind { IsSet (Some object.now) ⊎ IsMatcher (Some object.now) → result ≢ WRONG_KIND }
+    ensures statuses { IsOneOf (DONE ∷ OUT_OF_MEMORY ∷ WRONG_KIND ∷ []) result }
+{
+    let fitted = match object {
+        Object::Set(set) => fit_indexes(work, set),
+        Object::Matcher(matcher) => fit_matcher(work, matcher),
+        _ => return WRONG_KIND,
+    };
+    match fitted {
+        Ok(()) => DONE,
+        Err(_) => OUT_OF_MEMORY,
+    }
+}
+
+/// Makes a work fit one more set. It takes no memory if the work fits the set already.
+pub fn fit(work: &mut Work, set: &GlobSet) -> Result<(), AllocError>
+    ensures fits { OnOk result (Fits work.new.scratch set.now) }
+    ensures others { FitsAsBefore work.old.scratch work.new.scratch }
+    ensures memory { Fits work.old.scratch set.now → IsOk result }
+    ensures same_found { work.new.found ≡ work.old.found }
+{
+    match work.scratch.fit(set) {
+        Ok(()) => Ok(()),
+        Err(_) => Err(AllocError),
+    }
+}
+
+/// Makes a work fit one more set, with room for all of its indexes. It takes no memory if the work has them already.
+pub fn fit_indexes(work: &mut Work, set: &GlobSet) -> Result<(), AllocError>
+    ensures fits { OnOk result (HoldsIndexesOf work.new set.now) }
+    ensures others { FitsAsBefore work.old.scratch work.new.scratch }
+    ensures memory { HoldsIndexesOf work.old set.now → IsOk result }
+{
+    fit(work, set)?;
+    work.found.clear();
+    work.found.reserve(set.len())
+}
+
+/// Makes a work fit one more matcher. It takes no memory if the work fits the matcher already.
+pub fn fit_matcher(work: &mut Work, matcher: &GlobMatcher) -> Result<(), AllocError>
+    ensures fits { OnOk result (FitsMatcher work.new.scratch matcher.now) }
+    ensures others { FitsAsBefore work.old.scratch work.new.scratch }
+    ensures memory { FitsMatcher work.old.scratch matcher.now → IsOk result }
+    ensures same_found { work.new.found ≡ work.old.found }
+{
+    match work.scratch.fit_matcher(matcher) {
+        Ok(()) => Ok(()),
+        Err(_) => Err(AllocError),
+    }
+}

@@ -1,0 +1,25 @@
+-- Tables, tries and keys can be sent to other threads, and shared between them.
+use denote.Param.Send.{IsSend, IsSync, sendable}
+use Rattle.std.proofs.Crossing.{crosses}
+use Rattle.std.proofs.MapsCrossing.{HashMap-send, HashMap-sync}
+use Rattle.byte_table.specs.contracts.table.Table as Table
+use Rattle.byte_trie.specs.contracts.trie.Trie as Trie
+use Rattle.path_keys.specs.contracts.keys.Keys as Keys
+
+pub table-send : IsSend Table.the_field.row
+table-send = search (sendable, crosses, HashMap-send) depth 20
+
+pub table-sync : IsSync Table.the_field.row
+table-sync = search (sendable, crosses, HashMap-sync) depth 20
+
+trie-send : IsSend Trie.the_field.row
+trie-send = search (sendable, crosses) depth 40 fits 20000
+
+trie-sync : IsSync Trie.the_field.row
+trie-sync = search (sendable, crosses) depth 40 fits 20000
+
+pub keys-send : IsSend Keys.the_field.row
+keys-send = search (sendable, table-send, trie-send) depth 20
+
+pub keys-sync : IsSync Keys.the_field.row
+keys-sync = search (sendable, table-sync, trie-sync) depth 20

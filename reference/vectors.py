@@ -1,0 +1,411 @@
+"""Makes the files of vectors: questions from a seed, and the reference's answers to them."""
+
+import json
+from collections import Counter
+from concurrent.futures import ProcessPoolExecutor
+
+import globs as definitions
+import making
+from globs import DEFAULTS, Glob, Options, Rejected, glob_means, reading
+from making import Source
+from rows import Case, escaped, letters, unescaped
+
+OPTIONS = """\
+# OPTIONS are the letters of the options that differ from the default, or `-`: i case_insensitive, s literal_separator,
+# e empty_alternates, u allow_unclosed_class, w whole_character, b no backslash_escape. Tabs separate columns. In a column a
+# backslash is `\\\\`, and a byte that is not printable is `\\xNN`, or `\\0`, `\\t`, `\\n` or `\\r`.
+"""
+MADE = "# Made by `reference/make`, which overwrites this file; the answers are those of `reference/globs.py`.\n"
+SETS = """\
+# An empty line ends a case: its globs, and paths that a set of them is asked about.
+#
+#   glob  OPTIONS  GLOB  reads  REGEX          the text is a glob, which is added to the set; REGEX is its regex()
+#   glob  OPTIONS  GLOB  fails  KIND  ERROR    the text is rejected, with an error of this kind and this text
+#   path  PATH  INDEXES  ALL  EACH    INDEXES: what `matches` of the set returns, separated by commas, or `-` for none;
+#                                     ALL: what `matches_all` returns;
+#                                     EACH: the indexes of the globs whose own matchers match the path
+#
+"""
+ALONE = """\
+#   read   OPTIONS  GLOB  reads  REGEX         the text is a glob, and REGEX is what regex() of its copy returns
+#   read   OPTIONS  GLOB  fails  KIND  ERROR   the text is rejected, with an error of this kind and this text
+#   match  OPTIONS  GLOB  PATH   ANSWER        whether the glob matches the path, by a matcher and by a set of it alone
+#
+"""
+ARRAYS = """\
+#   array  JSON  reads  LENGTH        `GlobSet::from_value` reads a set of as many globs; rows after this one ask it
+#   path   PATH  INDEXES  ALL  -      INDEXES: what `matches` of the set returns, separated by commas, or `-` for none;
+#                                     ALL: what `matches_all` returns
+#
+# Tabs separate columns. In a column a backslash is `\\\\`, and a byte that is not printable is `\\xNN`, or `\\0`, `\\t`,
+# `\\n` or `\\r`.
+"""
+TEXTS = """\
+#   read    OPTIONS  GLOB  reads  REGEX         the text is a glob, and REGEX is what regex() of its copy returns
+#   read    OPTIONS  GLOB  fails  KIND  ERROR   the text is rejected, with an error of this kind and this text
+#   equal   OPTIONS  GLOB  OPTIONS  GLOB  SAME  whether the globs, or their errors, are equal
+#   escape  TEXT  ESCAPED                       what `escape` returns
+#   parts   PATH  BASENAME  EXTENSION           the parts of a path
+#   value   JSON  reads  GLOB  WRITTEN          `Glob::from_value` reads GLOB, and `to_value` of it is WRITTEN
+#   value   JSON  fails  -  ERROR               it returns an error with no index and this text
+#   array   JSON  reads  LENGTH                 `GlobSet::from_value` reads a set of as many globs
+#   array   JSON  fails  INDEX  ERROR           it returns an error with this index, or `-` for none, and this text
+#
+"""
+
+
+class File:
+    """The lines of a file, and counts of its rows."""
+
+    def __init__(self, counts, head):
+        self.counts, self.lines, self.case = counts, (MADE + head).splitlines(), Case()
+
+    def end_case(self):
+        self.lines.append("")
+        self.case = Case()
+
+    def ask(self, *question):
+        """Adds a row: these columns, and the reference's answer to them. Returns the answer."""
+        answer = self.case.answer(list(question))
+        self.lines.append("\t".join([*question, *answer]))
+        counts = self.counts
+        counts[f"answers: {question[0]}"] += 1
+        if question[0] == "match":
+            counts["match answers: " + answer[0]] += 1
+        if question[0] == "path":
+            counts["path answers: " + ("none" if answer[0] == "-" else "some")] += 1
+            counts["path answers: all globs match"] += answer[1] == "yes"
+        return answer
+
+    def ask_glob(self, kind, glob):
+        making.count_glob(self.counts, glob)
+        return self.ask(kind, letters(glob.options), escaped(glob.text))
+
+    def ask_path(self, path):
+        making.count_path(self.counts, path)
+        self.ask("path", escaped(path))
+
+    def ask_match(self, glob, path):
+        making.count_path(self.counts, path)
+        self.ask("match", letters(glob.options), escaped(glob.text), escaped(path))
+
+
+def is_read(glob):
+    try:
+        reading(glob)
+    except Rejected:
+        return False
+    return True
+
+
+def ask_set(file, source, globs, paths):
+    """Adds a case: globs, and paths made from them."""
+    file.end_case()
+    for glob in globs:
+        file.ask_glob("glob", glob)
+    ask_paths(file, source, [glob for glob in globs if is_read(glob)], paths)
+
+
+def ask_paths(file, source, globs, paths):
+    asked = set()
+    tries = 5 if len(globs) < 50 else 2
+    for _ in range(paths if globs else 0):
+        path = making.wanted_path(source, source.pick(globs), lambda path: bool(definitions.answer(globs, path)), tries)
+        if path not in asked:
+            asked.add(path)
+            file.ask_path(path)
+
+
+# ---- adversarial.txt
+
+
+def adversarial(counts, source):
+    file = File(counts, "# Globs and paths that are hard to get right.\n#\n" + SETS + OPTIONS)
+    for _ in range(1900):
+        count = source.pick([1, 1, 1, 2, 2, 3, 4])
+        ask_set(file, source, [making.hard_glob(source) for _ in range(count)], 2 + source.below(5))
+    return file
+
+
+# ---- realistic.txt
+
+NAMES = [
+    "src", "lib", "main", "a", "b", "foo", "foo-bar", "README", "Makefile", "target", "build", "é", "☃", ".git", ".env", "v1.2",
+    "tests",
+]
+ENDINGS = [".rs", ".c", ".py", ".toml", ".lock", ".tar.gz", ".", "..", ".md", ".RS", ".js"]
+FORMS = [
+    "N", "NE", "N/NE", "*E", "**/*E", "**/N", "**/N/N", "N/**", "N/**/NE", "N/*E", "N/*", "*N", "*N*", "N*", "**/N*",
+    "**/N*E", "**/*E*", "{N,N}/*", "{N,N}E", "*{E,E}", "**/{N,N}/**", "N?E", "[ab]*E", "**/[!N]*", "N/**/*", "**", "*",
+    "**/..", "*.", "N/..", "?/..", "N/?.", "**/.*", "*/N/*E", "N{,E}", "N/N/N", "/N", "N/", "./N", "**/N/..", "**/N.", "*..",
+    "N\\/**", "???",
+]
+
+
+def filled(source, form):
+    text = ""
+    for c in form:
+        text += source.pick(NAMES) if c == "N" else source.pick(ENDINGS) if c == "E" else c
+    return text
+
+
+def realistic_glob(source):
+    options = source.options(0.5)
+    if source.chance(0.5):
+        options = DEFAULTS._replace(literal_separator=source.chance(0.5))
+    return Glob(filled(source, source.pick(FORMS)), options)
+
+
+def realistic(counts, source):
+    file = File(counts, "# Globs and paths such as projects have.\n#\n" + SETS + OPTIONS)
+    for _ in range(1000):
+        count = source.pick([1, 1, 2, 2, 3, 4, 6, 9, 14])
+        ask_set(file, source, [realistic_glob(source) for _ in range(count)], 2 + source.below(6))
+    return file
+
+
+# ---- neighbours.txt
+
+NEIGHBOURS = [
+    "a", "é", ".", "/", "\\/", "\\a", "\\*", "\\,", "\\{", ",", "?", "*", "**", "***", "[ab]", "[!a]", "[]/]", "[é-☃]",
+    "[a-c-b]", "{a,b}", "{}", "{,a}", "{{},**}", "{**/}", "[", "[b-a", "]", "-",
+]
+CONTEXTS = ["XY", "{XY}", "a/{XY,b}/c", "{{X,Y}}", "{b,X}Y"]
+STARS = [
+    "X**Y", "{X**Y}", "{X**,**Y}", "X**/**Y", "{X/**Y}", "X/**/Y**", "**/X**", "{**/X,**}Y", "X{/**}Y", "X{**/Y}",
+    "{X\\/**/Y}",
+]
+
+
+def neighbours(counts, source):
+    head = "# Every construct beside and within every other, and runs of stars between any two.\n#\n"
+    file = File(counts, head + ALONE + OPTIONS)
+    for first in NEIGHBOURS:
+        for second in NEIGHBOURS:
+            for form in [source.pick(CONTEXTS), source.pick(STARS)]:
+                options = source.options() if source.chance(0.6) else DEFAULTS
+                if "[" in (first, second) or "[b-a" in (first, second):
+                    options = options._replace(allow_unclosed_class=source.chance(0.8))
+                glob = Glob(form.replace("X", first).replace("Y", second), options)
+                if file.ask_glob("read", glob)[0] == "reads":
+                    for path in dict.fromkeys(making.path_of_glob(source, glob) for _ in range(3)):
+                        file.ask_match(glob, path)
+    return file
+
+
+# ---- many_globs.txt
+
+
+def numbered_globs():
+    """Returns functions from numbers to texts of globs: by each, a set is decided in another way."""
+    return {
+        "whole path": lambda n: f"src/dir{n % 7}/file{n}.rs",
+        "last component": lambda n: f"**/name{n}",
+        "last components": lambda n: f"**/dir{n % 5}/name{n}",
+        "extension": lambda n: f"*.e{n}",
+        "extension anywhere": lambda n: f"**/*.e{n}",
+        "end": lambda n: f"*_end{n}",
+        "end anywhere": lambda n: f"**/*end{n}",
+        "beginning": lambda n: f"beg{n}*",
+        "folder": lambda n: f"dir{n}/**",
+        "required extension": lambda n: f"a{n}*/*.e{n % 9}",
+        "by last component": lambda n: f"**/n{n}?[ab]*",
+        "classes": lambda n: f"x[{n % 10}a-c]*{n}[!b-y]",
+        "groups": lambda n: f"{{a,b{n},{{c,}}d}}/{{**/x{n},*}}",
+        "two stars": lambda n: f"**/f{n}/**/g*",
+        "many stars": lambda n: f"*a{n}*b{n % 13}*",
+        # Too many states for a deterministic automaton.
+        "many bytes": lambda n: f"*a{'?' * (12 + n % 9)}{n}*b",
+        "dots": lambda n: "**/" + "." * (1 + n % 4) + ("" if n < 4 else f"/{n}"),
+    }
+
+
+def set_options(source, kind):
+    """Returns the options of a glob of a set that is of one kind: mostly those under which the kind is decided in its way."""
+    if source.chance(0.8):
+        return DEFAULTS._replace(literal_separator=kind in ("extension anywhere", "two stars", "by last component"))
+    return source.options()
+
+
+def many_globs(counts, source):
+    file = File(counts, "# Sets of one to a thousand globs, of each kind and mixed, read from JSON.\n#\n" + ARRAYS)
+    kinds = numbered_globs()
+    sizes = [1, 2, 3, 5, 8, 17, 33, 63, 64, 65, 130]
+    for kind, text in kinds.items():
+        for size in [1, source.pick(sizes), 64 + source.below(3), 150]:
+            first = source.below(50)
+            ask_array(file, source, [Glob(text(first + n), set_options(source, kind)) for n in range(size)], f"of {kind}")
+    for size in [*range(1, 13), *sizes, 100, 128, 300, 500, 1000, 1000]:
+        globs = [Glob(source.pick(list(kinds.values()))(source.below(40)), source.options(0.4)) for _ in range(size)]
+        ask_array(file, source, globs, "of all kinds")
+    for size in [2, 10, 40, 100, 1000]:
+        globs = [source.pick([making.hard_glob, realistic_glob])(source) for _ in range(size)]
+        ask_array(file, source, [glob for glob in globs if is_read(glob)], "of hard and of realistic globs")
+    return file
+
+
+def ask_array(file, source, globs, kind):
+    file.end_case()
+    for glob in globs:
+        making.count_glob(file.counts, glob)
+    file.ask("array", escaped("[" + ",".join(map(definitions.value_of_glob, globs)) + "]"))
+    for limit in (1, 10, 100, 1000):
+        if len(globs) <= limit:
+            file.counts[f"sets {kind}"] += 1
+            file.counts[f"sets of at most {limit} globs"] += 1
+            break
+    ask_paths(file, source, globs, 12 if len(globs) < 100 else 6)
+
+
+# ---- texts.txt
+
+
+def texts(counts, source):
+    head = "# Texts: of regular expressions and of errors, escaped ones, parts of paths, JSON values.\n#\n"
+    file = File(counts, head + TEXTS + OPTIONS)
+    for _ in range(2200):
+        text = making.branch_text(source, 0)
+        file.ask_glob("read", Glob(making.broken_text(source, text) if source.chance(0.7) else text, source.options()))
+    for _ in range(450):
+        ask_equal(file, source)
+    for _ in range(600):
+        file.ask("escape", escaped(making.branch_text(source, 0)))
+    for _ in range(1100):
+        path = b"".join(source.pick(making.FRAGMENTS + [b".", b"..", b"/", b"/..", b".tar"]) for _ in range(source.below(6)))
+        making.count_path(counts, path)
+        file.ask("parts", escaped(path))
+    for _ in range(1300):
+        file.ask("value", escaped(json.dumps(value(source), ensure_ascii=source.chance(0.3))))
+    for _ in range(500):
+        file.end_case()
+        elements = [value(source) if source.chance(0.15) else value_that_reads(source) for _ in range(source.below(6))]
+        file.ask("array", escaped(json.dumps(elements if source.chance(0.95) else value(source), ensure_ascii=False)))
+    return file
+
+
+def ask_equal(file, source):
+    """Two globs that differ in nothing, or in little; both are read, or none is."""
+    one = making.hard_glob(source)
+    other = one
+    if source.chance(0.6):
+        name = source.pick(Options._fields)
+        options = one.options._replace(**{name: not getattr(one.options, name)})
+        other = source.pick([Glob(one.text, options), Glob(one.text + "a", one.options)])
+    if is_read(one) == is_read(other):
+        columns = [column for glob in (one, other) for column in (letters(glob.options), escaped(glob.text))]
+        file.ask("equal", *columns)
+
+
+def value_that_reads(source):
+    glob = making.hard_glob(source)
+    glob = Glob(glob.text, source.options()) if is_read(glob) else Glob("a*")
+    return json.loads(definitions.value_of_glob(glob)) if is_read(glob) else "*.rs"
+
+
+OTHER_VALUES = [None, True, False, 0, -7, 1.5, [], ["a"], {}, "", "[", {"glob": 7}, {"glob": None}, {"globs": "a"}]
+
+
+def value(source):
+    """Returns JSON data: a glob's own value, one with some members changed, or something else."""
+    if source.chance(0.15):
+        return source.pick(OTHER_VALUES)
+    data = value_that_reads(source)
+    if isinstance(data, str):
+        data = {"glob": data} if source.chance(0.5) else data
+    while isinstance(data, dict) and source.chance(0.6):
+        key = source.pick([*Options._fields, *Options._fields, "glob", "Glob", "x", "", "case-insensitive"])
+        if key == "glob":
+            data[key] = source.pick([making.hard_glob(source).text, making.hard_glob(source).text, "[", "a\\", 7])
+        else:
+            data[key] = source.pick([True, True, True, True, False, False, False, False, 0, None, "true"])
+    return data
+
+
+# ---- reference/commands.txt
+
+COMMANDS = """\
+# Command lines of globsift.
+#
+#   ARGUMENTS  INPUT  STATUS  OUTPUT  ERROR
+#
+# Each argument is preceded by a `|`, in place of which an argument has `\\x7C`. Tabs separate columns. In a column a backslash
+# is `\\\\`, and a byte that is not printable is `\\xNN`, or `\\0`, `\\t`, `\\n` or `\\r`.
+"""
+
+
+def commands(counts, source):
+    file = File(counts, COMMANDS)
+    for _ in range(700):
+        arguments = command_line(source)
+        paths = [b"a", b"a.rs"]
+        try:
+            globs = definitions.command(arguments)[0]
+            for glob in globs[:5]:
+                path = making.wanted_path(source, glob, lambda path: glob_means(glob, path), 3)
+                paths += [path, path.swapcase()]
+        except definitions.CommandRejected as error:
+            counts["command lines with an error: " + str(error).split("'")[0].strip()] += 1
+        given = b"".join(path + source.pick([b"\n", b"\n", b"\n", b"\r\n", b"\n\n", b""]) for path in paths)
+        columns = ["".join("|" + escaped(it).replace("|", "\\x7C") for it in arguments), escaped(given)]
+        file.lines.append("\t".join(columns + answer_of_command(columns)))
+        counts["answers: command lines"] += 1
+    return file
+
+
+def answer_of_command(columns):
+    """Returns the columns that answer a command line and its input."""
+    arguments = [unescaped(argument).decode() for argument in columns[0].split("|")[1:]]
+    try:
+        globs, numbered = definitions.command(arguments)
+    except definitions.CommandRejected as error:
+        return ["2", "", escaped(f"globsift: {error}\n")]
+    written = definitions.output(globs, numbered, unescaped(columns[1]))
+    return ["0" if written else "1", escaped(written), ""]
+
+
+def command_line(source):
+    arguments = []
+    for _ in range(source.pick([0, 1, 2, 3, 4, 5, 7, 9])):
+        kind = source.weighted({"flag": 12, "glob": 12, "--": 1, "-x": 0.5, "--set": 0.5})
+        if kind == "flag":
+            arguments.append(source.pick(["-i", "-i", "-s", "-e", "-u", "-b", "-r", "-r", "-n", "-n"]))
+        elif kind == "glob":
+            glob = source.pick([making.hard_glob, realistic_glob])(source)
+            text = glob.text if is_read(glob) or source.chance(0.2) else "*.rs"
+            arguments.append(text.replace("\0", "a"))
+        elif kind == "-x":
+            arguments.append(source.pick(["-x", "-", "-ns", "--Set", "-é", "--n"]))
+        else:
+            arguments.append(kind)
+    if source.chance(0.25):
+        elements = [value(source) if source.chance(0.1) else value_that_reads(source) for _ in range(source.below(4))]
+        text = json.dumps(elements, ensure_ascii=False)
+        nested = ["[" * depth + "]" * depth for depth in (128, 127)]
+        text = source.pick([text] * 12 + [text[:-1], text + ",", "", "'a'", *nested, "[NaN]", "{}"])
+        after = [[], [], [], [], ["-n"], ["-n", "-n"], ["-i"], ["a"], ["--"]]
+        arguments = ["-n"] * source.below(2) + ["--set", text] + source.pick(after)
+    return arguments
+
+
+FILES = {
+    "crates/replay/data/realistic.txt": realistic,
+    "crates/replay/data/adversarial.txt": adversarial,
+    "crates/replay/data/neighbours.txt": neighbours,
+    "crates/replay/data/many_globs.txt": many_globs,
+    "crates/replay/data/texts.txt": texts,
+    "reference/commands.txt": commands,
+}
+
+
+def make_file(seed, name):
+    """Returns the text of a file, and the counts of what it is made of. Each file has choices of its own."""
+    counts = Counter()
+    source = Source(1000 * seed + list(FILES).index(name))
+    return "\n".join(FILES[name](counts, source).lines) + "\n", counts
+
+
+def make(seed, jobs):
+    """Returns the text of each file by its name, and the counts of what all are made of. Makes `jobs` files at a time."""
+    with ProcessPoolExecutor(jobs) as pool:
+        made = dict(zip(FILES, pool.map(make_file, [seed] * len(FILES), FILES)))
+    return {name: text for name, (text, _) in made.items()}, sum((counts for _, counts in made.values()), Counter())
