@@ -43,7 +43,7 @@ impl Globs {
                 Err(error) => return Err(anyhow!("{number}: {line}: {}", error.kind())),
             };
         }
-        let set = globs.build()?;
+        let set = globs.take_set()?;
         let scratch = Scratch::new(alloc, &set)?;
         Ok(Globs { set, scratch })
     }
