@@ -80,6 +80,12 @@ pub fn ranges(alloc: Global, body: &[char]) -> Result<Vec<(char, char)>, AllocEr
 /// Contracts see whether it is negated, and its ranges in order. Its table of bytes is made once, when the class is read,
 /// and works under all options.
 pub struct Class {
+    parts: Box<Parts>,
+}
+
+/// What a class has. It is large, and on the heap, since most tokens are no classes.
+#[derive(Drop)]
+struct Parts {
     negated: bool,
     ranges: Vec<(char, char)>,
     /// How the ranges contain each byte.
@@ -89,11 +95,7 @@ pub struct Class {
 impl Drop for Class {
     // One call wherever a value is dropped, which keeps proofs short.
     fn drop(self) {
-        let Class {
-            negated: _,
-            ranges: _,
-            table: _,
-        } = self;
+        let Class { parts: _ } = self;
     }
 }
 
@@ -103,9 +105,9 @@ impl Model for Class {
 
     ghost Value = { ClassValue };
 
-    ghost view = { λ c. record { negated = c.negated; ranges = c.ranges.items } };
+    ghost view = { λ c. record { negated = c.parts.value.negated; ranges = c.parts.value.ranges.items } };
 
-    ghost invariant = { λ c. IsTableOf c.ranges.items c.table.items };
+    ghost invariant = { λ c. IsTableOf c.parts.value.ranges.items c.parts.value.table.items };
 }
 
 impl Class {
@@ -118,37 +120,41 @@ impl Class {
         ensures { IfOk result (λ c. c ≡ record { negated = negated; ranges = ranges.items }) }
     {
         let table = table_of(alloc, &ranges)?;
-        Ok(Class {
-            negated,
-            ranges,
-            table,
-        })
+        let parts = Box::new(
+            alloc,
+            Parts {
+                negated,
+                ranges,
+                table,
+            },
+        )?;
+        Ok(Class { parts })
     }
 
     /// Returns whether the class contains a byte under these options. This reads one entry of its table.
     pub fn has(&self, options: Options, byte: u8) -> bool
         ensures { result ≡ class_has options self.now.negated self.now.ranges byte }
     {
-        let contained = match self.table[byte as usize] {
+        let contained = match self.parts.table[byte as usize] {
             Membership::Present => true,
             Membership::OtherCase => options.case_insensitive,
             Membership::Absent => false,
         };
-        contained != self.negated
+        contained != self.parts.negated
     }
 
     /// Returns whether the class is negated.
     pub fn negated(&self) -> bool
         ensures { result ≡ self.now.negated }
     {
-        self.negated
+        self.parts.negated
     }
 
     /// Returns the ranges of the class, in order, each with its first and last character.
     pub fn ranges(&self) -> &[(char, char)]
         ensures { result.now ≡ self.now.ranges }
     {
-        &self.ranges
+        &self.parts.ranges
     }
 
     /// Returns an equal class with memory of its own.
@@ -157,12 +163,16 @@ impl Class {
     pub fn clone(&self, alloc: Global) -> Result<Class, AllocError>
         ensures { IfOk result (λ c. c ≡ self.now) }
     {
-        let ranges = Vec::from_slice(alloc, &self.ranges)?;
-        let table = Vec::from_slice(alloc, &self.table)?;
-        Ok(Class {
-            negated: self.negated,
-            ranges,
-            table,
-        })
+        let ranges = Vec::from_slice(alloc, &self.parts.ranges)?;
+        let table = Vec::from_slice(alloc, &self.parts.table)?;
+        let parts = Box::new(
+            alloc,
+            Parts {
+                negated: self.parts.negated,
+                ranges,
+                table,
+            },
+        )?;
+        Ok(Class { parts })
     }
 }

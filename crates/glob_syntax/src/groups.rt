@@ -77,7 +77,7 @@ pub fn tokens(alloc: Global, marks: &[Mark<'_>]) -> Result<Vec<Token>, AllocErro
     ensures value { IfOk result (λ v. tokens_of v.items ≡ whole (marks_of marks.now)) }
     ensures nested { IfOk result (λ v. IsNested (flats v.items)) }
 {
-    let mut tokens = Vec::new(alloc);
+    let mut tokens = Vec::with_capacity(alloc, marks.len())?;
     if is_whole_run(marks) {
         tokens.push(Token::RecursivePrefix)?;
         return Ok(tokens);

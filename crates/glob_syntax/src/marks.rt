@@ -58,7 +58,7 @@ pub fn read_marks<'a>(
 ) -> Result<Vec<Mark<'a>>, ReadError>
     ensures { AgreesWith (λ v. marks_of v.items) result (nested zero (marks options zero text.now)) }
 {
-    let mut out = Vec::new(alloc);
+    let mut out = Vec::with_capacity(alloc, text.len())?;
     let mut depth = 0;
     let mut closable = true;
     let mut rest = text;

@@ -10,7 +10,7 @@ use Rattle.glob_syntax.proofs.groups.tokens.Goals as goal
 
 pub returns-then-is_whole_run-clause-value : goal.returns-then-is_whole_run-clause-value
 returns-then-is_whole_run-clause-value c =
-    whole_run (flats c.push.new.self.items) (marks_of c.args.marks.now) (ap flats (c.in_ok-push.ensures.items ∙ ap (λ l. l ++ RecursivePrefix ∷ []) c.new-tokens.ensures.items))
+    whole_run (flats c.push.new.self.items) (marks_of c.args.marks.now) (ap flats (c.in_ok-push.ensures.items ∙ ap (λ l. l ++ RecursivePrefix ∷ []) c.in_ok-tokens.ensures.items))
     (sym c.is_whole_run.ensures ∙ c.if-is_whole_run.true)
 
 pub loop-rest-preserved : goal.loop-rest-preserved
