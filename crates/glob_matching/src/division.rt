@@ -27,6 +27,14 @@ const JOINT_NUMBERS_PER_STATE: usize = 96;
 
 const JOINT_NUMBERS: usize = 2_048;
 
+/// A part with more starts than these has a quarter of the numbers: most that need more than that need more than all of them,
+/// and are given up.
+const MANY_STARTS: usize = 64;
+
+/// How many starts to try after a part with many starts was given up. To find the most that could be kept takes longer than
+/// it saves.
+const FEW_STARTS: usize = 16;
+
 /// The most numbers of a part times its states. To find a number may take reading each state.
 const MOST_READS: usize = 1 << 27;
 
@@ -151,7 +159,7 @@ impl Division {
                     count: count_after,
                 }));
             }
-            count /= 2;
+            count = fewer(count, budget);
         }
         Ok(None)
     }
@@ -269,9 +277,25 @@ fn budget(states: usize, starts: usize) -> usize {
     let budget = if starts == 1 {
         (NUMBERS_PER_STATE * states).min(MOST_NUMBERS)
     } else {
-        JOINT_NUMBERS_PER_STATE * states + JOINT_NUMBERS
+        let budget = JOINT_NUMBERS_PER_STATE * states + JOINT_NUMBERS;
+        if starts > MANY_STARTS {
+            budget / 4
+        } else {
+            budget
+        }
     };
     budget.min(MOST_READS / states)
+}
+
+/// Returns how many starts to try after a part with `count` of them was given up, which could have `budget` numbers.
+fn fewer(count: usize, budget: usize) -> usize
+    ensures { 0 < count → result < count }
+{
+    if count > MANY_STARTS && budget > 0 {
+        FEW_STARTS
+    } else {
+        count / 2
+    }
 }
 
 /// Returns how many starts to try after a part with `count` of them, of which at most `most` were tried. It is twice as many
