@@ -1,5 +1,5 @@
 -- The steps by a byte from the states of a set.
-use Rattle.std.specs.Prelude.{ℕ, ◌<◌, ◌&&◌, ◌||◌, ◌==◌, ◌↔◌, Bool, false, List, [], ◌∷◌, IsTrue}
+use Rattle.std.specs.Prelude.{◌≡◌, ℕ, ◌<◌, ◌&&◌, ◌||◌, ◌==◌, ◌↔◌, Bool, false, List, [], ◌∷◌, IsTrue}
 use Rattle.byte_automaton.specs.Runs.{size, AcceptsFrom}
 use Rattle.byte_automaton.specs.Sets.{has_byte, has_state, state_room}
 use Rattle.byte_automaton.specs.Steps.{Accepts, Machine}
@@ -15,6 +15,19 @@ is_step_to (x ∷ xs) b t = (has_byte x.bytes b && (t == x.to)) || is_step_to xs
 -- the byte b leads to the state t
 abbrev pub leads_to : ByteSteps → ℕ → ℕ → Bool
 leads_to steps b t = is_step_to steps.by_some.items b t || has_state steps.by_every t
+
+-- some step of the list is by the byte b
+abbrev pub is_some_byte : List Step → ℕ → Bool
+is_some_byte [] b = false
+is_some_byte (x ∷ xs) b = has_byte x.bytes b || is_some_byte xs b
+
+-- some step by some bytes only is by the byte b
+abbrev pub is_by_some : ByteSteps → ℕ → Bool
+is_by_some steps b = is_some_byte steps.by_some.items b
+
+-- the byte b leads only to the states that every byte leads to
+abbrev pub LeadsAsEvery : ByteSteps → ℕ → Type 0
+LeadsAsEvery steps b = (t : ℕ) → leads_to steps b t ≡ has_state steps.by_every t
 
 -- steps have room for the states below this
 abbrev pub step_room : ByteSteps → ℕ

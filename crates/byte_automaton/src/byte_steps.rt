@@ -35,7 +35,7 @@ impl ByteSteps {
     ghost use Rattle.byte_automaton.specs.Steps.{Machine};
     ghost use Rattle.byte_automaton.specs.Runs.{AcceptsFrom};
     ghost use Rattle.byte_automaton.specs.declared.state_set.StateSet.{StateSet};
-    ghost use Rattle.byte_automaton.specs.ByteSteps.{leads_to, step_room, AreStepsOf};
+    ghost use Rattle.byte_automaton.specs.ByteSteps.{is_by_some, leads_to, step_room, AreStepsOf, LeadsAsEvery};
 
     /// Returns no steps, with room for so many states. It takes a bit of memory for each. Returns an error if memory runs
     /// out.
@@ -70,6 +70,18 @@ impl ByteSteps {
         }
         self.by_some.push(Step { bytes: *bytes, to })?;
         Ok(())
+    }
+
+    /// Returns the bytes that a step by some bytes has. Each other byte leads only where every byte does.
+    pub fn some_bytes(&self) -> ByteSet
+        ensures bytes { (b : ℕ) → has_byte result b ≡ is_by_some self.now b }
+        ensures others { (b : ℕ) → has_byte result b ≡ false → LeadsAsEvery self.now b }
+    {
+        let mut bytes = ByteSet::nothing();
+        for step in &self.by_some {
+            bytes = bytes.with_all(&step.bytes);
+        }
+        bytes
     }
 
     /// Puts the states that a byte leads to into a set. What the set held has no effect.

@@ -222,14 +222,31 @@ impl Construction {
         ensures place { IfOk result (λ fits. IsTrue fits → length self.new.rows.items ≡ (row + 1) * (classes.now.count + 2)) }
     {
         self.row_steps(automaton, row, steps)?;
+        let some = steps.some_bytes();
+        let start = self.rows.len();
+        // A class that leads only where every byte does, once its entry is written: most classes of a row lead there.
+        let mut common = None;
         for class in 0..classes.count {
-            steps.take(classes.firsts[class], to);
-            let made = self.number_of(alloc, automaton, classes, to)?;
-            let Some(number) = made else {
-                return Ok(false);
-            };
-            let entry = self.entry(number, classes.count + 2);
-            self.rows.push(entry)?;
+            let first = classes.firsts[class];
+            let is_common = !some.has(first);
+            match common {
+                Some(written) if is_common => {
+                    let entry = self.rows[start + written];
+                    self.rows.push(entry)?;
+                }
+                _ => {
+                    steps.take(first, to);
+                    let made = self.number_of(alloc, automaton, classes, to)?;
+                    let Some(number) = made else {
+                        return Ok(false);
+                    };
+                    let entry = self.entry(number, classes.count + 2);
+                    self.rows.push(entry)?;
+                }
+            }
+            if is_common {
+                common = Some(class);
+            }
         }
         self.rows.push(self.found[row].on_entry as u32)?;
         self.rows.push(self.found[row].at_end as u32)?;

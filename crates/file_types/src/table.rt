@@ -33,7 +33,11 @@ impl<'t> Table<'t> {
         Ok(Table::new(alloc, globs, names).map_err(out_of_memory)?)
     }
 
-    fn new(alloc: Global, mut globs: GlobSetBuilder, names: Vec<&'t str>) -> Result<Table<'t>, Error> {
+    fn new(
+        alloc: Global,
+        mut globs: GlobSetBuilder,
+        names: Vec<&'t str>,
+    ) -> Result<Table<'t>, Error> {
         let set = globs.take_set()?;
         let scratch = Scratch::new(alloc, &set)?;
         let matching = Vec::with_capacity(alloc, set.len())?;

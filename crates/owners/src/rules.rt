@@ -43,7 +43,11 @@ impl<'t> Rules<'t> {
         Ok(Rules::new(alloc, globs, owners).map_err(out_of_memory)?)
     }
 
-    fn new(alloc: Global, mut globs: GlobSetBuilder, owners: Vec<&'t str>) -> Result<Rules<'t>, Error> {
+    fn new(
+        alloc: Global,
+        mut globs: GlobSetBuilder,
+        owners: Vec<&'t str>,
+    ) -> Result<Rules<'t>, Error> {
         let set = globs.take_set()?;
         let scratch = Scratch::new(alloc, &set)?;
         let matching = Vec::with_capacity(alloc, set.len())?;

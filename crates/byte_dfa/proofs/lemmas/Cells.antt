@@ -1,15 +1,20 @@
 -- The rows of a table, written number after number.
 use Rattle.std.proofs.Common.{◌≡◌, ℕ, ◌+◌, ◌*◌, ◌<◌, ◌≤◌, inl, inr, List, [], ◌∷◌, ◌++◌, Some, length, slice_index, ap, sym, ◌∙◌, subst, arith, length-append}
-use Rattle.std.specs.Prelude.{slice_get}
+use Rattle.std.specs.Prelude.{◌↔◌, slice_get}
 use Rattle.std.proofs.lemmas.Bool.{cases_lt}
 use Rattle.std.proofs.lemmas.List.{get_or_append_left}
 use Rattle.std.proofs.lemmas.Nat.{mul-le}
 use Rattle.std.proofs.Math.Logic.{⊎_elim}
 use Rattle.std.proofs.Math.Seq.{get_or-append_seam}
+use Rattle.byte_automaton.specs.ByteSteps.{leads_to, AreStepsOf, LeadsAsEvery}
+use Rattle.byte_automaton.specs.Runs.{AcceptsFrom}
 use Rattle.byte_automaton.specs.Steps.{Machine}
+use Rattle.byte_automaton.specs.declared.byte_steps.ByteSteps.{ByteSteps}
+use Rattle.byte_automaton.specs.declared.state_set.StateSet.{StateSet}
 use Rattle.byte_dfa.specs.declared.construction.Found.{Found}
 use Rattle.byte_dfa.specs.inner.Building.{half, GoesTo, IsEntryTo, IsCell, AreCells, AreFoundSets, KeepsFound}
 use Rattle.byte_dfa.specs.inner.Lists.{KeepsLists}
+use Rattle.byte_dfa.proofs.lemmas.Found.{iff_trans, iff_sym}
 
 pub before_row : (i row w : ℕ) → i < row → i * (w + 2) + w + 2 ≤ row * (w + 2)
 before_row i row w lt = let h = mul-le (i + 1) (w + 2) row (w + 2) (omega arith) (omega arith) in omega (arith, h)
@@ -22,6 +27,14 @@ same_place i c row col w hc hcol e = ⊎_elim {C = (i ≡ row) × (c ≡ col)}
     (λ le. let is : i ≡ row = omega arith in (is, (let f = ap (λ x. x * (w + 2)) is in omega arith)))
     (cases_lt row i))
     (cases_lt i row)
+
+-- bytes that lead only where every byte does lead to the same ends
+pub same_bytes : (m : Machine) (from : StateSet) (steps : ByteSteps) → AreStepsOf m from steps → (a b : ℕ) → a < 256 → b < 256 → LeadsAsEvery steps a → LeadsAsEvery steps b
+    → (y : List ℕ) (k : ℕ) → AcceptsFrom m from (a ∷ y) k ↔ AcceptsFrom m from (b ∷ y) k
+same_bytes m from steps are a b la lb every every' y k = iff_trans (are a la y k) (iff_trans (
+  λ (t, lt, at, h). (t, lt, every' t ∙ sym (every t) ∙ at, h),
+  λ (t, lt, at, h). (t, lt, every t ∙ sym (every' t) ∙ at, h),
+) (iff_sym (are b lb y k)))
 
 module _ (m : Machine) (firsts : List ℕ) (w : ℕ) where
   pub cells_kept : (found : List Found) (old new rows : List ℕ) → AreFoundSets m found old → KeepsLists old new → AreCells m firsts w found old rows → AreCells m firsts w found new rows
@@ -78,6 +91,16 @@ module _ (m : Machine) (firsts : List ℕ) (w : ℕ) where
     on_entry = λ s. absurd (omega arith);
     at_end = λ s. absurd (omega arith);
   }
+
+  -- the entry of one byte is that of another which leads to the same states
+  pub cell_same : (found : List Found) (lists : List ℕ) (row col other e : ℕ) (this : Found) → slice_get found row ≡ Some this → col < w → other < w
+      → ((y : List ℕ) (k : ℕ) → AcceptsFrom m this.states (slice_index firsts col ∷ y) k ↔ AcceptsFrom m this.states (slice_index firsts other ∷ y) k)
+      → IsCell m firsts w found lists row other e → IsCell m firsts w found lists row col e
+  cell_same found lists row col other e this here short short' alike cell =
+      let (j, g, there, goes, leads) = cell.goes short' in
+      let is : this ≡ cell.this = cc (here, cell.row) in
+      let goes' : GoesTo m this.states (slice_index firsts other) g.states = subst (λ f. GoesTo m f.states (slice_index firsts other) g.states) (sym is) goes in
+      cell_goes found lists row col e j this g here there short (λ y k. iff_trans (alike y k) (goes' y k)) leads
 
   pub cell_entry : (found : List Found) (lists : List ℕ) (row e : ℕ) (this : Found) → slice_get found row ≡ Some this → e ≡ this.on_entry → IsCell m firsts w found lists row w e
   cell_entry found lists row e this here is = record {

@@ -1,5 +1,6 @@
-use Rattle.std.proofs.Common.{◌≡◌, ◌+◌, ◌*◌, ◌≤◌, length}
+use Rattle.std.proofs.Common.{◌≡◌, ℕ, ◌+◌, ◌*◌, ◌<◌, ◌≤◌, Some, length, slice_index}
 use Rattle.byte_automaton.specs.Sets.{state_room}
+use Rattle.byte_automaton.specs.ByteSteps.{LeadsAsEvery}
 use Rattle.byte_dfa.specs.inner.Building.{IsSound, KeepsFound, total}
 use Rattle.byte_dfa.proofs.construction.Construction.write_row.Given as goal
 
@@ -10,4 +11,5 @@ invariant-loop-class l = record {
   few : total l.classes l.self ≤ total l.classes l.fn.self;
   keeps : KeepsFound l.fn.self.found.items l.self.found.items;
   place : length l.self.rows.items ≡ l.row * (l.classes.count + 2) + l.class;
+  common : (written : ℕ) → l.common ≡ Some written → (written < l.class) × (slice_index l.classes.firsts written < 256) × LeadsAsEvery l.steps (slice_index l.classes.firsts written);
 }
