@@ -1,0 +1,129 @@
+"""Kinds of globs that large repositories have, and globs that are made to be slow. All are made from fixed seeds."""
+
+import random
+
+import workloads
+
+WORDS = workloads.FOLDERS + workloads.NAMES
+EXTENSIONS = workloads.EXTENSIONS
+
+
+def numbered(rng):
+    """A word, and behind half of them a number."""
+    return rng.choice(WORDS) + rng.choice(["", str(rng.randrange(100))])
+
+
+def owners(rng, index):
+    """A line of a file that says who owns which folder."""
+    end = rng.choice(["/**", "/**/*.proto", "/*.go", "*"])
+    start = rng.choice(["services/", "lib/", "**/"])
+    return f"{start}{numbered(rng)}/{rng.choice(WORDS)}{index}{end}"
+
+
+def ignored(rng, index):
+    """A line of the ignore files of many projects."""
+    name = f"{rng.choice(WORDS)}{index}"
+    start, end = rng.choice(
+        [("**/", ""), ("*.", ""), ("**/", "/**"), ("", "*"), ("**/*", "*"), ("**/.", ".*"), ("**/", "[0-9]*"), ("", "/**/x")]
+    )
+    return start + name + end
+
+
+def words(rng, index):
+    return f"*{rng.choice(WORDS)}{rng.choice(WORDS)}{rng.randrange(100)}*"
+
+
+def anchored(rng, index):
+    return f"{numbered(rng)}/{rng.choice(WORDS)}{index}/**/{rng.choice(WORDS)}_*.{rng.choice(EXTENSIONS)}"
+
+
+def endings(rng, index):
+    return f"src/*{rng.choice(WORDS)}*.e{index}"
+
+
+def names(rng, index):
+    return f"**/{rng.choice(WORDS)}?{rng.choice(WORDS)}{index}.{rng.choice(EXTENSIONS)}"
+
+
+def folded(rng, index):
+    return f"**/{rng.choice(WORDS)}{rng.choice(WORDS)}{index}.{rng.choice(EXTENSIONS)}"
+
+
+def two_parts(rng, index):
+    return f"*{rng.choice(WORDS)}{index}*{rng.choice(WORDS)}{index % 97}*"
+
+
+def no_digits(rng, index):
+    """Three words, none of which is rare in a path."""
+    return f"*{rng.choice(WORDS)}?{rng.choice(WORDS)}*{rng.choice(WORDS)}*"
+
+
+def classes(rng, index):
+    return f"*{rng.choice(WORDS)}?{rng.choice(WORDS)}*[0-9]{index % 1000}*"
+
+
+def pairs(rng, index):
+    return f"*{rng.choice(WORDS)}*{rng.choice(WORDS)}*/{rng.choice(WORDS)}*"
+
+
+def whole_paths(rng, index):
+    return f"{numbered(rng)}/{numbered(rng)}/{rng.choice(WORDS)}{index}.{rng.choice(EXTENSIONS)}"
+
+
+def last_components(rng, index):
+    return f"**/{rng.choice(WORDS)}{index}"
+
+
+def extensions(rng, index):
+    return f"**/*.ext{index}"
+
+
+# For each kind the options of its globs, and a function from a random generator and an index to a glob.
+KINDS = {
+    "owners": ([], owners),
+    "ignored": ([], ignored),
+    "words": ([], words),
+    "anchored": ([], anchored),
+    "endings": ([], endings),
+    "names": ([], names),
+    "folded": (["-i"], folded),
+    "two parts": ([], two_parts),
+    "no digits": ([], no_digits),
+    "classes": ([], classes),
+    "pairs": ([], pairs),
+    "whole paths": ([], whole_paths),
+    "last components": ([], last_components),
+    "extensions": ([], extensions),
+}
+
+
+def arguments(kind, count):
+    """The options and the globs of a set of a kind."""
+    options, make = KINDS[kind]
+    rng = random.Random(f"{kind} {count}")
+    return options + [make(rng, index) for index in range(count)]
+
+
+def numbered_endings():
+    """Globs that share a start whose automaton has many states, each with an extension of its own."""
+    return [f"*a????????.e{index}" for index in range(100_000)]
+
+
+def far_letter():
+    return ["*a" + "?" * 2_000]
+
+
+def line_of_letters():
+    rng = random.Random(21)
+    return "".join(rng.choices("abcdefghijklmnopqrstuvwxyz", k=1 << 20))
+
+
+def numbered_parts():
+    return [f"*a????????????{index}*" for index in range(300)]
+
+
+def ignore_file(end):
+    """The 167 globs of an ignore file, with the same text behind each."""
+    rng = random.Random(22)
+    globs = workloads.more_ignored() + [ignored(rng, index) for index in range(67)]
+    return [glob + end for glob in globs]
