@@ -14,3 +14,4 @@ pub mod Clearing
 pub mod IndexSets
 pub mod Summaries
 pub mod LastBytes
+pub mod Spans

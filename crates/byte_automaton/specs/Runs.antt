@@ -13,6 +13,10 @@ size m = length m.states
 abbrev pub AcceptsFrom : Machine → StateSet → List ℕ → ℕ → Type 0
 AcceptsFrom m set y k = (t : ℕ) × (t < size m) × IsTrue (has_state set t) × Accepts m.states k t y
 
+-- the same of the states below a bound alone
+abbrev pub AcceptsBelow : Machine → ℕ → StateSet → List ℕ → ℕ → Type 0
+AcceptsBelow m high set y k = (t : ℕ) × (t < high) × IsTrue (has_state set t) × Accepts m.states k t y
+
 -- some state of the automaton is in the set
 abbrev pub HasSome : Machine → StateSet → Type 0
 HasSome m set = (t : ℕ) × (t < size m) × IsTrue (has_state set t)

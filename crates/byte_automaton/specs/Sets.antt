@@ -26,9 +26,9 @@ state_room set = 64 * length set.words.items
 abbrev pub index_room : IndexSet → ℕ
 index_room set = 64 * length set.words.items
 
--- each of two sets of states has room for the states below this
+-- each of two sets of states, and the set of starts, has room for the numbers below this
 abbrev pub sets_room : StateSets → ℕ
-sets_room sets = min (state_room sets.current) (state_room sets.next)
+sets_room sets = min (state_room sets.current) (min (state_room sets.next) (index_room sets.starts))
 
 -- the new set has what the old one has, and those of the indexes that the old one has room for
 abbrev pub HasAlso : IndexSet → IndexSet → List ℕ → Type 0

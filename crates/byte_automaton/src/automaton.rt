@@ -11,6 +11,7 @@ ghost use Rattle.byte_automaton.specs.inner.Views.{AreSound, GoesBelow, machine}
 ghost use Rattle.byte_automaton.specs.inner.Pass.{goes_now, goes_next, names, EndsBy};
 
 mod parts;
+mod passes;
 
 use crate::byte_set::ByteSet;
 use crate::byte_steps::ByteSteps;
@@ -130,20 +131,7 @@ impl Automaton {
         ensures some { IsTrue result ↔ HasSome self.now to.new }
         ensures visits { visits.new ≤ visits.old + size self.now }
     {
-        to.clear();
-        let mut some = false;
-        let mut upto = self.state_count();
-        while upto > 0 {
-            let seen = from.read_below(upto, visits);
-            let s = seen.at;
-            if seen.is_set {
-                if self.take_steps(s, byte, from, to) {
-                    some = true;
-                }
-            }
-            upto = s;
-        }
-        some
+        self.step_in(0, self.state_count(), from, byte, to, visits)
     }
 
     /// Puts the index of each end that the states of a set lead to without a byte into a set of indexes, beside what it
@@ -156,17 +144,7 @@ impl Automaton {
         ensures ends { (k : ℕ) → IsTrue (has_index into.new k) ↔ (AcceptsFrom self.now from.old [] k ⊎ IsTrue (has_index into.old k)) }
         ensures visits { visits.new ≤ visits.old + size self.now }
     {
-        let mut upto = self.state_count();
-        while upto > 0 {
-            let seen = from.read_below(upto, visits);
-            let s = seen.at;
-            if seen.is_set {
-                if let Some(index) = self.leave(s, from) {
-                    into.put(index);
-                }
-            }
-            upto = s;
-        }
+        self.ends_in(0, self.state_count(), from, into, visits);
     }
 
     /// Returns whether the states of a set lead to some end without a byte. It is at most one visit for each state.
@@ -176,18 +154,7 @@ impl Automaton {
         ensures some { IsTrue result ↔ ((k : ℕ) × AcceptsFrom self.now from.old [] k) }
         ensures visits { visits.new ≤ visits.old + size self.now }
     {
-        let mut upto = self.state_count();
-        while upto > 0 {
-            let seen = from.read_below(upto, visits);
-            let s = seen.at;
-            if seen.is_set {
-                if self.leave(s, from).is_some() {
-                    return true;
-                }
-            }
-            upto = s;
-        }
-        false
+        self.has_end_in(0, self.state_count(), from, visits)
     }
 
     /// Puts the states that lead to some end without a byte into a set. What the set held has no effect.
@@ -305,7 +272,7 @@ impl Automaton {
 
     /// Takes the steps of a state of `from`: puts into `from` what it goes on to without a byte, and into `to` what it goes
     /// on to by the byte. Returns whether it put a state into `to`.
-    fn take_steps(&self, s: usize, byte: u8, from: &mut StateSet, to: &mut StateSet) -> bool
+    pub(crate) fn take_steps(&self, s: usize, byte: u8, from: &mut StateSet, to: &mut StateSet) -> bool
         requires exists { s < size self.now }
         requires from_room { size self.now ≤ state_room from.old }
         requires to_room { size self.now ≤ state_room to.old }
@@ -342,7 +309,7 @@ impl Automaton {
 
     /// Takes the steps of a state of `from` at the end of a text: puts into `from` what it goes on to without a byte.
     /// Returns its index if it is an end.
-    fn leave(&self, s: usize, from: &mut StateSet) -> Option<usize>
+    pub(crate) fn leave(&self, s: usize, from: &mut StateSet) -> Option<usize>
         requires exists { s < size self.now }
         requires room { size self.now ≤ state_room from.old }
         ensures room { state_room from.new ≡ state_room from.old }

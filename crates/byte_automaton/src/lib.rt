@@ -21,5 +21,6 @@ pub use builder::Builder;
 pub use byte_set::ByteSet;
 pub use byte_steps::ByteSteps;
 pub use index_set::IndexSet;
+pub use run::Span;
 pub use state_set::StateSet;
 pub use state_sets::StateSets;

@@ -1,15 +1,25 @@
 //! Runs of an automaton over whole texts.
 
-ghost use Rattle.std.specs.Prelude.{◌≡◌, ℕ, ◌+◌, ◌*◌, ◌≤◌, ◌⊎◌, ◌↔◌, length, IsTrue};
+ghost use Rattle.std.specs.Prelude.{◌≡◌, ℕ, ◌+◌, ◌*◌, ◌<◌, ◌≤◌, ◌⊎◌, ◌↔◌, [], length, IsTrue, IsFalse};
 ghost use Rattle.byte_automaton.specs.Sets.{has_index, index_room, sets_room};
-ghost use Rattle.byte_automaton.specs.Steps.{IsReached};
-ghost use Rattle.byte_automaton.specs.Runs.{size};
+ghost use Rattle.byte_automaton.specs.Steps.{Accepts, IsReached};
+ghost use Rattle.byte_automaton.specs.Runs.{size, AcceptsFrom};
+ghost use Rattle.byte_automaton.specs.Spans.{IsSpan, IsWithin};
 
 use crate::automaton::Automaton;
 use crate::index_set::IndexSet;
 use crate::state_sets::StateSets;
 use std::mem::swap;
 use visits::Visits;
+
+/// States of an automaton that follow each other: those from `low` to `start`.
+///
+/// A run from `start` comes to no other state, if none of them goes on to a state below `low`.
+#[derive(Clone, Copy)]
+pub struct Span {
+    pub low: usize,
+    pub start: usize,
+}
 
 impl Automaton {
     /// Puts the index of each end that a text leads to into a set of indexes, beside what it holds.
@@ -54,5 +64,98 @@ impl Automaton {
             swap(&mut sets.current, &mut sets.next);
         }
         self.has_end(&mut sets.current, visits)
+    }
+
+    /// Puts the index of each end that a text leads to from the last state of a span into a set of indexes, beside what it
+    /// holds.
+    ///
+    /// What the sets of states held has no effect. The run ends as soon as no state is left. It is at most
+    /// `(text bytes + 1) * states of the span` visits, and takes no memory.
+    pub fn find_from(
+        &self,
+        span: Span,
+        text: &[u8],
+        sets: &mut StateSets,
+        into: &mut IndexSet,
+        visits: &mut Visits,
+    )
+        requires span { IsSpan self.now span }
+        requires room { size self.now ≤ sets_room sets.old }
+        requires into_room { self.now.index_count ≤ index_room into.old }
+        ensures room { sets_room sets.new ≡ sets_room sets.old }
+        ensures starts { sets.new.starts ≡ sets.old.starts }
+        ensures into_room { index_room into.new ≡ index_room into.old }
+        ensures found { (k : ℕ) → IsTrue (has_index into.new k) ↔ (Accepts self.now.states k span.start text.now ⊎ IsTrue (has_index into.old k)) }
+        ensures visits { (width : ℕ) → span.start < span.low + width → visits.new ≤ visits.old + (length text.now + 1) * width }
+    {
+        let _states = self.state_count();
+        if !self.run_over(span, text, sets, visits) {
+            return;
+        }
+        self.ends_in(span.low, span.start + 1, &mut sets.current, into, visits);
+    }
+
+    /// Returns whether a text leads to some end from the last state of a span.
+    ///
+    /// What the sets held has no effect. The run ends as soon as no state is left. It is at most
+    /// `(text bytes + 1) * states of the span` visits, and takes no memory.
+    pub fn is_match_from(
+        &self,
+        span: Span,
+        text: &[u8],
+        sets: &mut StateSets,
+        visits: &mut Visits,
+    ) -> bool
+        requires span { IsSpan self.now span }
+        requires room { size self.now ≤ sets_room sets.old }
+        ensures room { sets_room sets.new ≡ sets_room sets.old }
+        ensures starts { sets.new.starts ≡ sets.old.starts }
+        ensures some { IsTrue result ↔ ((k : ℕ) × Accepts self.now.states k span.start text.now) }
+        ensures visits { (width : ℕ) → span.start < span.low + width → visits.new ≤ visits.old + (length text.now + 1) * width }
+    {
+        let _states = self.state_count();
+        if !self.run_over(span, text, sets, visits) {
+            return false;
+        }
+        self.has_end_in(span.low, span.start + 1, &mut sets.current, visits)
+    }
+
+    /// Makes the current set that of the states that a text leads to from the last state of a span. Returns whether there are
+    /// any; if not, the set may be another.
+    fn run_over(
+        &self,
+        span: Span,
+        text: &[u8],
+        sets: &mut StateSets,
+        visits: &mut Visits,
+    ) -> bool
+        requires span { IsSpan self.now span }
+        requires room { size self.now ≤ sets_room sets.old }
+        ensures room { sets_room sets.new ≡ sets_room sets.old }
+        ensures starts { sets.new.starts ≡ sets.old.starts }
+        ensures within { IsWithin span.low (span.start + 1) sets.new.current }
+        ensures some { IsTrue result → (k : ℕ) → Accepts self.now.states k span.start text.now ↔ AcceptsFrom self.now sets.new.current [] k }
+        ensures none { IsFalse result → (k : ℕ) → Accepts self.now.states k span.start text.now → ⊥ }
+        ensures visits { (width : ℕ) → span.start < span.low + width → visits.new ≤ visits.old + length text.now * width }
+    {
+        // What is below the number of states has a next number.
+        let _states = self.state_count();
+        sets.current.clear();
+        sets.current.put(span.start);
+        for byte in text {
+            let some = self.step_in(
+                span.low,
+                span.start + 1,
+                &mut sets.current,
+                *byte,
+                &mut sets.next,
+                visits,
+            );
+            swap(&mut sets.current, &mut sets.next);
+            if !some {
+                return false;
+            }
+        }
+        true
     }
 }

@@ -1,18 +1,23 @@
-//! The two sets of states that a run needs.
+//! The sets that a run needs.
 
 ghost use Rattle.std.specs.Prelude.{◌≡◌, ◌≤◌, OnOk, IsOk};
 ghost use Rattle.byte_automaton.specs.Sets.{sets_room};
 
+use crate::index_set::IndexSet;
 use crate::state_set::StateSet;
 use std::alloc::{AllocError, Global};
 
 /// The two sets of states that a run changes between: those that the text so far leads to, and those that one more byte leads to.
+///
+/// Beside them is a set of starts, for those who run only some of the starts of an automaton.
 ///
 /// They serve runs of any automata, one after another. A run clears each set before it uses it, so what runs before left in them
 /// has no effect.
 pub struct StateSets {
     pub(crate) current: StateSet,
     pub(crate) next: StateSet,
+    /// The starts that are run, by their places.
+    pub starts: IndexSet,
 }
 
 impl Drop for StateSets {
@@ -21,6 +26,7 @@ impl Drop for StateSets {
         let StateSets {
             current: _,
             next: _,
+            starts: _,
         } = self;
     }
 }
@@ -33,6 +39,7 @@ impl StateSets {
         StateSets {
             current: StateSet::empty(alloc),
             next: StateSet::empty(alloc),
+            starts: IndexSet::empty(alloc),
         }
     }
 
@@ -44,6 +51,7 @@ impl StateSets {
         ensures memory { states ≤ sets_room self.old → IsOk result }
     {
         self.current.reserve(states)?;
-        self.next.reserve(states)
+        self.next.reserve(states)?;
+        self.starts.reserve(states)
     }
 }

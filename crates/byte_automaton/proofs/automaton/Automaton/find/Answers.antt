@@ -1,14 +1,14 @@
 use Rattle.std.proofs.Common.{◌≡◌, min, true≢false, sym, inr, IsTrue, ℕ, ◌+◌, ◌<◌, ◌∷◌, [], length, get_or, drop, arith, ap, ◌∙◌}
 use Rattle.std.proofs.lemmas.List.{drop_more, drop_all}
 use Rattle.std.proofs.Math.Logic.{⊎_elim}
-use Rattle.byte_automaton.specs.Sets.{state_room, has_index}
+use Rattle.byte_automaton.specs.Sets.{index_room, state_room, has_index}
 use Rattle.byte_automaton.specs.Steps.{IsReached}
 use Rattle.byte_automaton.proofs.lemmas.Pass.{iff_trans, or_left}
 use Rattle.byte_automaton.proofs.automaton.Automaton.find.Goals as goal
 
 pub loop-byte-init : goal.loop-byte-init
 loop-byte-init c = record {
-  room = ap (λ n. min n (state_room c.args.sets.now.next)) c.start.ensures.room;
+  room = ap (λ n. min n (min (state_room c.args.sets.now.next) (index_room c.args.sets.now.starts))) c.start.ensures.room;
   accepts = λ k. let start = c.start.ensures.starts c.args.text.now k in (start.1, start.0);
   visits = omega arith;
 }

@@ -1,12 +1,12 @@
 use Rattle.std.proofs.Common.{◌≡◌, min, true≢false, sym, ℕ, ◌+◌, ◌<◌, ◌∷◌, [], length, get_or, drop, arith, ap, ◌∙◌}
 use Rattle.std.proofs.lemmas.List.{drop_more, drop_all}
-use Rattle.byte_automaton.specs.Sets.{state_room}
+use Rattle.byte_automaton.specs.Sets.{index_room, state_room}
 use Rattle.byte_automaton.proofs.lemmas.Pass.{iff_trans}
 use Rattle.byte_automaton.proofs.automaton.Automaton.is_match.Goals as goal
 
 pub loop-byte-init : goal.loop-byte-init
 loop-byte-init c = record {
-  room = ap (λ n. min n (state_room c.args.sets.now.next)) c.start.ensures.room;
+  room = ap (λ n. min n (min (state_room c.args.sets.now.next) (index_room c.args.sets.now.starts))) c.start.ensures.room;
   accepts = λ k. let start = c.start.ensures.starts c.args.text.now k in (start.1, start.0);
   visits = omega arith;
 }

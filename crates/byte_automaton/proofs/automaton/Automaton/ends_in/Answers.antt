@@ -1,9 +1,9 @@
-use Rattle.std.proofs.Common.{◌≡◌, [], false, arith, sym, ◌∙◌, refl}
+use Rattle.std.proofs.Common.{◌≡◌, ◌<◌, ◌≤◌, [], false, arith, sym, ◌∙◌, refl}
 use Rattle.byte_automaton.specs.Sets.{has_state, has_index}
 use Rattle.byte_automaton.specs.Steps.{state}
-use Rattle.byte_automaton.specs.Runs.{size}
 use Rattle.byte_automaton.proofs.lemmas.Pass.{iff_trans, some_found, read_passed, read_taken, stays_at_end, names_it, names_none, last_position}
-use Rattle.byte_automaton.proofs.automaton.Automaton.ends.Goals as goal
+use Rattle.byte_automaton.proofs.lemmas.Spans.{none_lower, read_from, still_from}
+use Rattle.byte_automaton.proofs.automaton.Automaton.ends_in.Goals as goal
 
 pub loop-upto-preserved-in-Some : goal.loop-upto-preserved-in-Some
 loop-upto-preserved-in-Some c =
@@ -12,8 +12,12 @@ loop-upto-preserved-in-Some c =
     let s = c.read_below-seen.result.at in
     let st = state c.args.self.now.states s in
     let left = c.in-Some.ensures in
+    let le : c.args.low ≤ s = read_from c.args.low s (has_state c.loop-upto.from) inv.none (sym last.marked ∙ c.if-seen.true) in
+    let lt : s < c.args.high = omega (arith, last.below, inv.below) in
+    let from = c.requires.closed s le lt in
     record {
-      within = omega (arith, last.below);
+      below = omega (arith, last.below, inv.below);
+      none = still_from c.args.low st from (has_state c.loop-upto.from) (has_state c.leave.new.from) left.from inv.none;
       from_room = left.room ∙ inv.from_room;
       into_room = c.put.ensures.room ∙ inv.into_room;
       holds = λ k. iff_trans (inv.holds k) (read_taken c.args.self.now.states s c.loop-upto.upto k [] (has_state c.loop-upto.from) (λ _. false) (has_index c.loop-upto.into)
@@ -21,6 +25,7 @@ loop-upto-preserved-in-Some c =
           last.below last.between (sym last.marked ∙ c.if-seen.true) left.below left.from (λ t. stays_at_end st s t)
           (λ t. c.put.ensures.has t ∙ names_it st c.in-Some.index t (has_index c.loop-upto.into t) left.end.0));
       visits = omega (arith, last.below);
+      least_visits = omega (arith, inv.visits);
     }
 
 pub loop-upto-preserved-in_default : goal.loop-upto-preserved-in_default
@@ -30,8 +35,12 @@ loop-upto-preserved-in_default c =
     let s = c.read_below-seen.result.at in
     let st = state c.args.self.now.states s in
     let left = c.in_default.ensures in
+    let le : c.args.low ≤ s = read_from c.args.low s (has_state c.loop-upto.from) inv.none (sym last.marked ∙ c.if-seen.true) in
+    let lt : s < c.args.high = omega (arith, last.below, inv.below) in
+    let from = c.requires.closed s le lt in
     record {
-      within = omega (arith, last.below);
+      below = omega (arith, last.below, inv.below);
+      none = still_from c.args.low st from (has_state c.loop-upto.from) (has_state c.leave.new.from) left.from inv.none;
       from_room = left.room ∙ inv.from_room;
       into_room = inv.into_room;
       holds = λ k. iff_trans (inv.holds k) (read_taken c.args.self.now.states s c.loop-upto.upto k [] (has_state c.loop-upto.from) (λ _. false) (has_index c.loop-upto.into)
@@ -39,6 +48,7 @@ loop-upto-preserved-in_default c =
           last.below last.between (sym last.marked ∙ c.if-seen.true) left.below left.from (λ t. stays_at_end st s t)
           (λ t. names_none st t (has_index c.loop-upto.into t) (left.end t)));
       visits = omega (arith, last.below);
+      least_visits = omega (arith, inv.visits);
     }
 
 pub loop-upto-preserved : goal.loop-upto-preserved
@@ -47,25 +57,33 @@ loop-upto-preserved c =
     let last = c.read_below-seen.ensures.seen in
     let s = c.read_below-seen.result.at in
     record {
-      within = omega (arith, last.below);
+      below = omega (arith, last.below, inv.below);
+      none = inv.none;
       from_room = inv.from_room;
       into_room = inv.into_room;
       holds = λ k. iff_trans (inv.holds k) (read_passed c.args.self.now.states s c.loop-upto.upto k [] (has_state c.loop-upto.from) (λ _. false) (has_index c.loop-upto.into)
           last.below last.between (sym last.marked ∙ c.if-seen.false));
       visits = omega (arith, last.below);
+      least_visits = omega (arith, inv.visits);
     }
 
 pub loop-upto-init : goal.loop-upto-init
 loop-upto-init c = record {
-  within = omega arith;
+  below = omega arith;
+  none = c.requires.from;
   from_room = refl;
   into_room = refl;
-  holds = λ k. rw c.state_count-upto.ensures (some_found c.args.self.now.states (size c.args.self.now) (has_state c.args.from.now) (λ _. false) (has_index c.args.into.now) k (λ _. refl));
+  holds = λ k. some_found c.args.self.now.states c.args.high (has_state c.args.from.now) (λ _. false) (has_index c.args.into.now) k (λ _. refl);
   visits = omega arith;
+  least_visits = omega arith;
 }
 
 pub returns-clause-ends : goal.returns-clause-ends
 returns-clause-ends c = λ k.
-    let past : c.loop-upto.upto ≡ 0 = omega arith in
-    let whole = iff_trans (rw past at c.loop-upto.invariant.holds k) (last_position c.args.self.now.states (has_state c.loop-upto.from) (λ _. false) (has_index c.loop-upto.into) k) in
+    let inv = c.loop-upto.invariant in
+    let a = c.args.self.now.states in
+    let past : c.loop-upto.upto ≤ c.args.low = omega arith in
+    let whole = iff_trans (inv.holds k)
+        (iff_trans (none_lower a c.args.low c.loop-upto.upto k [] (has_state c.loop-upto.from) (λ _. false) (has_index c.loop-upto.into) past inv.none)
+        (last_position a (has_state c.loop-upto.from) (λ _. false) (has_index c.loop-upto.into) k)) in
     (whole.1, whole.0)

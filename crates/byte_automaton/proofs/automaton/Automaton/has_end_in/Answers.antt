@@ -1,17 +1,20 @@
-use Rattle.std.proofs.Common.{◌≡◌, [], false, true≢false, arith, sym, ◌∙◌, refl, inl}
+use Rattle.std.proofs.Common.{◌≡◌, ℕ, ◌<◌, ◌≤◌, [], false, true, true≢false, arith, sym, ◌∙◌, refl, inl}
 use Rattle.byte_automaton.specs.Sets.{has_state}
 use Rattle.byte_automaton.specs.Steps.{state, Accepts}
-use Rattle.byte_automaton.specs.Runs.{size}
+use Rattle.byte_automaton.specs.inner.Pass.{Alive}
 use Rattle.byte_automaton.proofs.lemmas.Pass.{iff_trans, none_swept, read_passed, read_taken, stays_at_end, names_none, no_end, some_end, last_position}
-use Rattle.byte_automaton.proofs.automaton.Automaton.has_end.Goals as goal
+use Rattle.byte_automaton.proofs.lemmas.Spans.{none_lower, read_from, still_from}
+use Rattle.byte_automaton.proofs.automaton.Automaton.has_end_in.Goals as goal
 
 pub loop-upto-init : goal.loop-upto-init
 loop-upto-init c = record {
-  within = omega arith;
+  below = omega arith;
+  none = c.requires.from;
   room = refl;
-  holds = λ k. let start = none_swept c.args.self.now.states (size c.args.self.now) (has_state c.args.from.now) (λ _. false) (λ _. false) [] k
-      (λ t lt. refl) (λ _. refl) in rw c.state_count-upto.ensures (start.1, start.0);
+  holds = λ k. let start = none_swept c.args.self.now.states c.args.high (has_state c.args.from.now) (λ _. false) (λ _. false) [] k
+      (λ t lt. refl) (λ _. refl) in (start.1, start.0);
   visits = omega arith;
+  least_visits = omega arith;
 }
 
 pub loop-upto-preserved : goal.loop-upto-preserved
@@ -20,11 +23,13 @@ loop-upto-preserved c =
     let last = c.read_below-seen.ensures.seen in
     let s = c.read_below-seen.result.at in
     record {
-      within = omega (arith, last.below);
+      below = omega (arith, last.below, inv.below);
+      none = inv.none;
       room = inv.room;
       holds = λ k. iff_trans (inv.holds k) (read_passed c.args.self.now.states s c.loop-upto.upto k [] (has_state c.loop-upto.from) (λ _. false) (λ _. false)
           last.below last.between (sym last.marked ∙ c.if-seen.false));
       visits = omega (arith, last.below);
+      least_visits = omega (arith, inv.visits);
     }
 
 pub loop-upto-preserved-else-is_some : goal.loop-upto-preserved-else-is_some
@@ -34,14 +39,19 @@ loop-upto-preserved-else-is_some c =
     let s = c.read_below-seen.result.at in
     let st = state c.args.self.now.states s in
     let left = c.leave.ensures in
+    let le : c.args.low ≤ s = read_from c.args.low s (has_state c.loop-upto.from) inv.none (sym last.marked ∙ c.if-seen.true) in
+    let lt : s < c.args.high = omega (arith, last.below, inv.below) in
+    let from = c.requires.closed s le lt in
     record {
-      within = omega (arith, last.below);
+      below = omega (arith, last.below, inv.below);
+      none = still_from c.args.low st from (has_state c.loop-upto.from) (has_state c.leave.new.from) left.from inv.none;
       room = left.room ∙ inv.room;
       holds = λ k. iff_trans (inv.holds k) (read_taken c.args.self.now.states s c.loop-upto.upto k [] (has_state c.loop-upto.from) (λ _. false) (λ _. false)
           (has_state c.leave.new.from) (λ _. false) (λ _. false)
           last.below last.between (sym last.marked ∙ c.if-seen.true) left.below left.from (λ t. stays_at_end st s t)
           (λ t. names_none st t false (no_end _ _ c.leave.result left.end (sym c.is_some.ensures ∙ c.if-is_some.false) t)));
       visits = omega (arith, last.below);
+      least_visits = omega (arith, inv.visits);
     }
 
 pub returns-then-is_some-clause-some : goal.returns-then-is_some-clause-some
@@ -53,7 +63,9 @@ returns-then-is_some-clause-some c =
 
 pub returns-clause-some : goal.returns-clause-some
 returns-clause-some c =
-    let past : c.loop-upto.upto ≡ 0 = omega arith in (
-      λ h. absurd (true≢false (sym h)),
-      λ (k, h). absurd (true≢false (sym ((last_position c.args.self.now.states (has_state c.loop-upto.from) (λ _. false) (λ _. false) k).0 ((rw past at c.loop-upto.invariant.holds k).0 h)))),
-    )
+    let inv = c.loop-upto.invariant in
+    let a = c.args.self.now.states in
+    let past : c.loop-upto.upto ≤ c.args.low = omega arith in
+    let none : (k : ℕ) → Alive a (has_state c.args.from.now) c.args.high [] k → false ≡ true = λ k h. (last_position a (has_state c.loop-upto.from) (λ _. false) (λ _. false) k).0
+        ((none_lower a c.args.low c.loop-upto.upto k [] (has_state c.loop-upto.from) (λ _. false) (λ _. false) past inv.none).0 ((inv.holds k).0 h)) in
+    (λ h. absurd (true≢false (sym h)), λ (k, h). absurd (true≢false (sym (none k h))))

@@ -1,0 +1,17 @@
+use Rattle.std.proofs.Common.{◌≡◌, ◌≤◌, ◌*◌, true≢false, sym, ℕ, ◌+◌, ◌<◌, [], length, inl, inr, IsTrue, arith, ◌∙◌}
+use Rattle.std.proofs.Math.Logic.{⊎_elim}
+use Rattle.byte_automaton.specs.Sets.{has_index}
+use Rattle.byte_automaton.specs.Steps.{Accepts}
+use Rattle.byte_automaton.specs.Runs.{size, AcceptsBelow}
+use Rattle.std.specs.Prelude.{◌↔◌}
+use Rattle.byte_automaton.proofs.lemmas.Pass.{iff_trans, or_left}
+use Rattle.byte_automaton.proofs.lemmas.Spans.{within_below, within_from}
+use Rattle.byte_automaton.proofs.automaton.Automaton.find_from.Goals as goal
+
+pub returns-clause-found : goal.returns-clause-found
+returns-clause-found c = λ k.
+    let low = c.args.span.low in
+    let start = c.args.span.start in
+    let ran = c.run_over.ensures in
+    let le : start + 1 ≤ size c.args.self.now = omega (arith, c.requires.span.exists) in
+    or_left (iff_trans (ran.some c.if-not-run_over.false k) (within_below c.args.self.now low (start + 1) c.run_over.new.sets.current le ran.within [] k)) (c.ends_in.ensures.ends k)

@@ -1,0 +1,21 @@
+use Rattle.std.proofs.Common.{◌≡◌, ◌≤◌, ◌*◌, true≢false, sym, ℕ, ◌+◌, ◌<◌, [], length, inl, inr, IsTrue, arith, ◌∙◌}
+use Rattle.std.proofs.Math.Logic.{⊎_elim}
+use Rattle.byte_automaton.specs.Sets.{has_index}
+use Rattle.byte_automaton.specs.Steps.{Accepts}
+use Rattle.byte_automaton.specs.Runs.{size, AcceptsBelow}
+use Rattle.std.specs.Prelude.{◌↔◌}
+use Rattle.byte_automaton.proofs.lemmas.Pass.{iff_trans, or_left}
+use Rattle.byte_automaton.proofs.lemmas.Spans.{within_below, within_from}
+use Rattle.byte_automaton.proofs.automaton.Automaton.is_match_from.Goals as goal
+
+pub returns-clause-some : goal.returns-clause-some
+returns-clause-some c =
+    let low = c.args.span.low in
+    let start = c.args.span.start in
+    let ran = c.run_over.ensures in
+    let le : start + 1 ≤ size c.args.self.now = omega (arith, c.requires.span.exists) in
+    let same : (k : ℕ) → Accepts c.args.self.now.states k start c.args.text.now ↔ AcceptsBelow c.args.self.now (start + 1) c.run_over.new.sets.current [] k =
+        λ k. iff_trans (ran.some c.if-not-run_over.false k) (within_below c.args.self.now low (start + 1) c.run_over.new.sets.current le ran.within [] k) in (
+      λ h. let (k, found) = c.has_end_in.ensures.some.0 h in (k, (same k).1 found),
+      λ (k, r). c.has_end_in.ensures.some.1 (k, (same k).0 r),
+    )

@@ -1,0 +1,122 @@
+//! One pass over some states of an automaton that follow each other, at one position of a text.
+
+ghost use Rattle.std.specs.Prelude.{◌≡◌, ℕ, ◌+◌, ◌<◌, ◌≤◌, ◌⊎◌, ◌↔◌, ◌∷◌, [], List, IsTrue};
+ghost use Rattle.byte_automaton.specs.Sets.{has_index, state_room, index_room};
+ghost use Rattle.byte_automaton.specs.Runs.{size, AcceptsBelow, AcceptsFrom, HasSome};
+ghost use Rattle.byte_automaton.specs.Spans.{IsClosed, IsFrom, IsWithin};
+
+use crate::automaton::Automaton;
+use crate::index_set::IndexSet;
+use crate::state_set::StateSet;
+use visits::Visits;
+
+impl Automaton {
+    /// Puts the states that a byte leads to from the states of a set into another set. Returns whether there are any. What
+    /// the other set held has no effect.
+    ///
+    /// It reads the states below `high` alone, from the highest on, and none below `low`. It reads each at most once, and is one
+    /// visit for each. What a state of `from` goes on to without a byte is put into `from`, before the pass comes to it.
+    pub(crate) fn step_in(
+        &self,
+        low: usize,
+        high: usize,
+        from: &mut StateSet,
+        byte: u8,
+        to: &mut StateSet,
+        visits: &mut Visits,
+    ) -> bool
+        requires order { low ≤ high }
+        requires exist { high ≤ size self.now }
+        requires closed { IsClosed self.now low high }
+        requires from { IsFrom low from.old }
+        requires from_room { size self.now ≤ state_room from.old }
+        requires to_room { size self.now ≤ state_room to.old }
+        ensures from_room { state_room from.new ≡ state_room from.old }
+        ensures to_room { state_room to.new ≡ state_room to.old }
+        ensures within { IsWithin low high to.new }
+        ensures steps { (y : List ℕ) (k : ℕ) → AcceptsBelow self.now high from.old (byte ∷ y) k ↔ AcceptsFrom self.now to.new y k }
+        ensures some { IsTrue result ↔ HasSome self.now to.new }
+        ensures visits { visits.new + low ≤ visits.old + high }
+    {
+        to.clear();
+        let mut some = false;
+        let mut upto = high;
+        while upto > low {
+            let seen = from.read_below(upto, visits);
+            let s = seen.at;
+            if seen.is_set {
+                if self.take_steps(s, byte, from, to) {
+                    some = true;
+                }
+            }
+            upto = s;
+        }
+        some
+    }
+
+    /// Puts the index of each end that the states of a set lead to without a byte into a set of indexes, beside what it
+    /// holds. It reads the states from `low` on and below `high` alone, and is at most one visit for each.
+    pub(crate) fn ends_in(
+        &self,
+        low: usize,
+        high: usize,
+        from: &mut StateSet,
+        into: &mut IndexSet,
+        visits: &mut Visits,
+    )
+        requires order { low ≤ high }
+        requires exist { high ≤ size self.now }
+        requires closed { IsClosed self.now low high }
+        requires from { IsFrom low from.old }
+        requires from_room { size self.now ≤ state_room from.old }
+        requires into_room { self.now.index_count ≤ index_room into.old }
+        ensures from_room { state_room from.new ≡ state_room from.old }
+        ensures into_room { index_room into.new ≡ index_room into.old }
+        ensures ends { (k : ℕ) → IsTrue (has_index into.new k) ↔ (AcceptsBelow self.now high from.old [] k ⊎ IsTrue (has_index into.old k)) }
+        ensures visits { visits.new + low ≤ visits.old + high }
+    {
+        let mut upto = high;
+        while upto > low {
+            let seen = from.read_below(upto, visits);
+            let s = seen.at;
+            if seen.is_set {
+                if let Some(index) = self.leave(s, from) {
+                    into.put(index);
+                }
+            }
+            upto = s;
+        }
+    }
+
+    /// Returns whether the states of a set lead to some end without a byte. It reads the states from `low` on and below `high`
+    /// alone, and is at most one visit for each.
+    pub(crate) fn has_end_in(
+        &self,
+        low: usize,
+        high: usize,
+        from: &mut StateSet,
+        visits: &mut Visits,
+    ) -> bool
+        requires order { low ≤ high }
+        requires exist { high ≤ size self.now }
+        requires closed { IsClosed self.now low high }
+        requires from { IsFrom low from.old }
+        requires room { size self.now ≤ state_room from.old }
+        ensures room { state_room from.new ≡ state_room from.old }
+        ensures some { IsTrue result ↔ ((k : ℕ) × AcceptsBelow self.now high from.old [] k) }
+        ensures visits { visits.new + low ≤ visits.old + high }
+    {
+        let mut upto = high;
+        while upto > low {
+            let seen = from.read_below(upto, visits);
+            let s = seen.at;
+            if seen.is_set {
+                if self.leave(s, from).is_some() {
+                    return true;
+                }
+            }
+            upto = s;
+        }
+        false
+    }
+}
