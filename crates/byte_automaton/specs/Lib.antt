@@ -7,5 +7,6 @@ pub mod Runs
 pub mod Alike
 pub mod Decisions
 pub mod Parts
+pub mod Forcing
 pub mod inner
 pub mod ByteSteps

@@ -10,6 +10,7 @@ ghost use Rattle.byte_automaton.specs.Runs.{size, AcceptsFrom, AreEnding, HasSom
 ghost use Rattle.byte_automaton.specs.inner.Views.{AreSound, GoesBelow, machine};
 ghost use Rattle.byte_automaton.specs.inner.Pass.{goes_now, goes_next, names, EndsBy};
 
+mod forcing;
 mod parts;
 
 use crate::byte_set::ByteSet;
