@@ -8,5 +8,6 @@ pub mod Alike
 pub mod Decisions
 pub mod Parts
 pub mod Spans
+pub mod Forcing
 pub mod inner
 pub mod ByteSteps

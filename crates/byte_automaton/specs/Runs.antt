@@ -1,5 +1,5 @@
 -- What a set of states accepts.
-use Rattle.std.specs.Prelude.{ℕ, ◌<◌, ◌↔◌, List, [], ◌∷◌, ◌++◌, length, IsTrue}
+use Rattle.std.specs.Prelude.{ℕ, ◌+◌, ◌*◌, ◌<◌, ◌↔◌, List, [], ◌∷◌, ◌++◌, length, IsTrue}
 use Rattle.byte_automaton.specs.Sets.{has_byte, has_state}
 use Rattle.byte_automaton.specs.Steps.{Accepts, Machine, IsReached}
 use Rattle.byte_automaton.specs.declared.byte_set.ByteSet.{ByteSet}
@@ -8,6 +8,10 @@ use Rattle.byte_automaton.specs.declared.state_set.StateSet.{StateSet}
 -- the number of states
 abbrev pub size : Machine → ℕ
 size m = length m.states
+
+-- the most reads of an automaton for each position of a text: its states, and for each start three entries of a filter
+abbrev pub most_reads : Machine → ℕ
+most_reads m = size m + 3 * length m.starts
 
 -- from some state of the set the text leads to an end of the index k
 abbrev pub AcceptsFrom : Machine → StateSet → List ℕ → ℕ → Type 0

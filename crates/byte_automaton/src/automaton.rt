@@ -10,8 +10,10 @@ ghost use Rattle.byte_automaton.specs.Runs.{size, AcceptsFrom, AreEnding, HasSom
 ghost use Rattle.byte_automaton.specs.inner.Views.{AreSound, GoesBelow, machine};
 ghost use Rattle.byte_automaton.specs.inner.Pass.{goes_now, goes_next, names, EndsBy};
 
+mod forcing;
 mod parts;
 mod passes;
+mod spans;
 
 use crate::byte_set::ByteSet;
 use crate::byte_steps::ByteSteps;

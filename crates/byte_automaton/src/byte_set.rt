@@ -1,9 +1,10 @@
 //! Sets of bytes.
 
-ghost use Rattle.std.specs.Prelude.{◌≡◌, ℕ, ◌+◌, ◌<◌, ◌&&◌, ◌||◌, ◌==◌, not, true, false, slice_index_or, IsTrue, ◌↔◌};
+ghost use Rattle.std.specs.Prelude.{◌≡◌, ℕ, ◌+◌, ◌<◌, ◌&&◌, ◌||◌, ◌==◌, not, true, false, slice_index_or, IsTrue, IsFalse, MatchOption, ◌↔◌};
 ghost use Rattle.byte_automaton.specs.Alike.{differ};
 ghost use Rattle.byte_automaton.specs.Sets.{has_byte};
 ghost use Rattle.byte_automaton.specs.Decisions.{HasEvery};
+ghost use Rattle.byte_automaton.specs.Forcing.{AllFold};
 
 use crate::words::{changes, clear_bit, has_bit, set_bit};
 
@@ -122,5 +123,33 @@ impl ByteSet {
             }
         }
         true
+    }
+
+    /// Returns the byte that each byte of the set folds to, if there is one. A set of no bytes has none.
+    pub(crate) fn folded(&self) -> Option<u8>
+        ensures { MatchOption result (Unit {0}) (λ letter. AllFold self.now letter) }
+    {
+        let letter = self.some_byte()? | 0x20;
+        for i in 0..256usize {
+            if has_bit(&self.words, i) {
+                let other = i as u8 | 0x20;
+                if other != letter {
+                    return None;
+                }
+            }
+        }
+        Some(letter)
+    }
+
+    /// Returns a byte of the set, if it has one.
+    fn some_byte(&self) -> Option<u8>
+        ensures { MatchOption result ((c : ℕ) → c < 256 → IsFalse (has_byte self.now c)) (λ c. IsTrue (has_byte self.now c)) }
+    {
+        for i in 0..256usize {
+            if has_bit(&self.words, i) {
+                return Some(i as u8);
+            }
+        }
+        None
     }
 }

@@ -4,6 +4,8 @@ ghost use Rattle.std.specs.Prelude.{◌≡◌, ℕ, ◌+◌, ◌<◌, ◌≤◌,
 ghost use Rattle.byte_automaton.specs.Sets.{has_byte, has_state, state_room};
 ghost use Rattle.byte_automaton.specs.Steps.{final};
 ghost use Rattle.byte_automaton.specs.Alike.{differ, reads_byte};
+ghost use Rattle.byte_automaton.specs.Forcing.{IsNoEnd};
+ghost use Rattle.byte_automaton.specs.Parts.{AreFrom, GoesFrom};
 ghost use Rattle.byte_automaton.specs.ByteSteps.{leads_to, step_room};
 ghost use Rattle.byte_automaton.specs.inner.Exits.{StaysBefore};
 ghost use Rattle.byte_automaton.specs.inner.Views.{of_state, IsHeld, GoesBelow};
@@ -189,4 +191,31 @@ impl State {
             _ => None,
         }
     }
+
+    /// Returns a number that nothing that a state goes on to is below, or `None` if it is an end.
+    pub fn least_next(&self, s: usize, nexts: &[usize]) -> Option<usize>
+        requires held { IsHeld (length nexts.now) self.now }
+        requires below { GoesBelow s (of_state nexts.now self.now) }
+        ensures { MatchOption result ((k : ℕ) × (of_state nexts.now self.now ≡ final k)) (λ low. GoesFrom low (of_state nexts.now self.now) × IsNoEnd (of_state nexts.now self.now)) }
+    {
+        match self {
+            State::Reads(_, next) => Some(*next),
+            State::Skips(i, j) => Some(least_of(s, &nexts[*i..*j])),
+            State::Stays(_, i, j) => Some(least_of(s, &nexts[*i..*j])),
+            State::End(_) => None,
+        }
+    }
+}
+
+/// Returns a number that none of some numbers is below, and that is not above `upto`.
+fn least_of(upto: usize, numbers: &[usize]) -> usize
+    ensures { AreFrom result numbers.now }
+{
+    let mut least = upto;
+    for number in numbers {
+        if *number < least {
+            least = *number;
+        }
+    }
+    least
 }

@@ -1,3 +1,4 @@
 -- Definitions that only contracts between the crates and proofs cite.
 pub mod Compiled
 pub mod Parts
+pub mod Filtered

@@ -1,12 +1,13 @@
 //! Automata as they are run over paths.
 
 ghost use Rattle.std.specs.Prelude.{◌≡◌, ◌+◌, ◌*◌, ◌≤◌, ◌↔◌, ◌⊎◌, ℕ, List, length, IsTrue, IsOk, OnOk, IfOk};
-ghost use Rattle.byte_automaton.specs.Runs.{size};
+ghost use Rattle.byte_automaton.specs.Runs.{size, most_reads};
 ghost use Rattle.byte_automaton.specs.Sets.{has_index, index_room, sets_room};
 ghost use Rattle.glob_automaton.specs.IndexedTokens.{IndexedTokens, IsFor, SomeMatches};
 
-use crate::division::divided;
+use crate::division::{divided, joint};
 use crate::engine::Engine;
+use crate::filtered::{Filtered, filter_for};
 use crate::parts::Parts;
 use crate::simulation;
 use byte_automaton::{Automaton, IndexSet, StateSets};
@@ -14,11 +15,12 @@ use std::alloc::{AllocError, Global};
 use std::marker::Model;
 use visits::Visits;
 
-/// How an automaton is run: simulated as a whole, or in parts.
+/// How an automaton is run: simulated as a whole, in parts, or from the starts that a filter names.
 #[derive(Drop)]
 enum Form {
     Whole(Automaton),
     Divided(Parts),
+    Filtered(Filtered),
 }
 
 /// An automaton as it is run, in parts that are deterministic where they are not too large: running these takes less time for
@@ -51,6 +53,7 @@ impl Clone for Compiled {
         let form = match &self.form {
             Form::Whole(automaton) => Form::Whole(automaton.clone()?),
             Form::Divided(parts) => Form::Divided(parts.clone()?),
+            Form::Filtered(filtered) => Form::Filtered(filtered.clone()?),
         };
         Ok(Compiled { form })
     }
@@ -66,6 +69,30 @@ impl Compiled {
     /// made deterministic within these limits is simulated. So it takes time and memory linear in the states, up to the
     /// factors of these limits.
     pub fn new(alloc: Global, engine: Engine, automaton: Automaton) -> Result<Compiled, AllocError>
+        ensures { IfOk result (λ c. c ≡ automaton) }
+    {
+        if !is_large(engine, &automaton) {
+            return Compiled::divided(alloc, engine, automaton);
+        }
+        if let Some(parts) = joint(alloc, &automaton)? {
+            return Ok(Compiled {
+                form: Form::Divided(parts),
+            });
+        }
+        match filter_for(alloc, &automaton)? {
+            Some(filter) => Ok(Compiled {
+                form: Form::Filtered(Filtered::of(automaton, filter)),
+            }),
+            None => Compiled::divided(alloc, engine, automaton),
+        }
+    }
+
+    /// Returns an automaton in parts, which the engine makes deterministic or not. Returns an error if memory runs out.
+    fn divided(
+        alloc: Global,
+        engine: Engine,
+        automaton: Automaton,
+    ) -> Result<Compiled, AllocError>
         ensures { IfOk result (λ c. c ≡ automaton) }
     {
         match divided(alloc, engine, &automaton)? {
@@ -92,12 +119,13 @@ impl Compiled {
         match &self.form {
             Form::Whole(automaton) => automaton.state_count(),
             Form::Divided(parts) => parts.state_count(),
+            Form::Filtered(filtered) => filtered.state_count(),
         }
     }
 
     /// Puts the indexes of the tokens that match a text into a set, beside what it holds.
     ///
-    /// It is at most `(text bytes + 1) * states` visits. What the sets of states held has no effect; their room grows to the states
+    /// It is at most `(text bytes + 1) * (states + 3 * starts)` visits. What the sets of states held has no effect; their room grows to the states
     /// of the largest part that is simulated, and stays as it is if there is no such part. Returns an error if memory runs out,
     /// and so none if they have room for all states; some of the indexes may be in the set then.
     pub fn find(
@@ -112,17 +140,18 @@ impl Compiled {
         ensures found { OnOk result ((xs : List IndexedTokens) → IsFor self.now xs → (k : ℕ) → IsTrue (has_index found.new k) ↔ (SomeMatches xs text.now k ⊎ IsTrue (has_index found.old k))) }
         ensures kept { sets_room sets.old ≤ sets_room sets.new }
         ensures memory { size self.now ≤ sets_room sets.old → IsOk result }
-        ensures visits { visits.new ≤ visits.old + (length text.now + 1) * size self.now }
+        ensures visits { visits.new ≤ visits.old + (length text.now + 1) * most_reads self.now }
     {
         match &self.form {
             Form::Whole(automaton) => simulation::find(automaton, text, sets, found, visits),
             Form::Divided(parts) => parts.find(text, sets, found, visits),
+            Form::Filtered(filtered) => filtered.find(text, sets, found, visits),
         }
     }
 
     /// Returns whether tokens match a text.
     ///
-    /// It is at most `(text bytes + 1) * states` visits. What the sets of states held has no effect; their room grows to the states
+    /// It is at most `(text bytes + 1) * (states + 3 * starts)` visits. What the sets of states held has no effect; their room grows to the states
     /// of the largest part that is simulated, and stays as it is if there is no such part. Returns an error if memory runs out,
     /// and so none if they have room for all states.
     pub fn is_match(
@@ -134,11 +163,23 @@ impl Compiled {
         ensures some { IfOk result (λ yes. (xs : List IndexedTokens) → IsFor self.now xs → IsTrue yes ↔ ((k : ℕ) × SomeMatches xs text.now k)) }
         ensures kept { sets_room sets.old ≤ sets_room sets.new }
         ensures memory { size self.now ≤ sets_room sets.old → IsOk result }
-        ensures visits { visits.new ≤ visits.old + (length text.now + 1) * size self.now }
+        ensures visits { visits.new ≤ visits.old + (length text.now + 1) * most_reads self.now }
     {
         match &self.form {
             Form::Whole(automaton) => simulation::is_match(automaton, text, sets, visits),
             Form::Divided(parts) => parts.is_match(text, sets, visits),
+            Form::Filtered(filtered) => filtered.is_match(text, sets, visits),
         }
+    }
+}
+
+/// An automaton with more starts than these is not divided, if a filter can name those that are run.
+const MANY_STARTS: usize = 64;
+
+/// Returns whether an automaton has many starts, of which a filter may name a few, if the engine has tables at all.
+fn is_large(engine: Engine, automaton: &Automaton) -> bool {
+    match engine {
+        Engine::Deterministic => automaton.starts().len() > MANY_STARTS,
+        Engine::Simulated => false,
     }
 }

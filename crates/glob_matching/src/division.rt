@@ -111,6 +111,24 @@ pub fn divided(
     Ok(Some(division.finish(automaton)))
 }
 
+/// Returns an automaton as one deterministic part, if that is not too large. Returns an error if memory runs out.
+pub fn joint(alloc: Global, automaton: &Automaton) -> Result<Option<Parts>, AllocError>
+    ensures { IfOk result (λ made. IfSome made (λ parts. parts ≡ automaton.now)) }
+{
+    let mut division = Division::new(alloc, Engine::Deterministic);
+    let high = automaton.state_count();
+    let budget = budget(high, automaton.starts().len());
+    match division.table_of(alloc, automaton, 0, high, budget)? {
+        Some(table) => {
+            if !division.add(automaton, 0, 0, high, table)? {
+                return Ok(None);
+            }
+            Ok(Some(division.finish(automaton)))
+        }
+        None => Ok(None),
+    }
+}
+
 impl Division {
     /// Returns a division that has no parts.
     fn new(alloc: Global, engine: Engine) -> Division

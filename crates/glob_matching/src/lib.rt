@@ -8,6 +8,7 @@
 mod compiled;
 mod division;
 mod engine;
+mod filtered;
 mod parts;
 mod simulation;
 

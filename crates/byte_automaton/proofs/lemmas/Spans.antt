@@ -1,10 +1,10 @@
 -- States that lead to no lower state than those of a range.
-use Rattle.std.proofs.Common.{◌≡◌, ℕ, suc, ◌+◌, ◌<◌, ◌≤◌, ◌⊎◌, inl, inr, Bool, true, false, true≢false, List, [], ◌∷◌, Some, None, length, IsTrue, refl, ap, subst, sym, ◌∙◌, arith}
-use Rattle.std.specs.Prelude.{◌↔◌, ◌==◌, ◌||◌, ◌&&◌}
+use Rattle.std.proofs.Common.{◌≡◌, ℕ, suc, ◌+◌, ◌<◌, ◌≤◌, inl, inr, Bool, true, false, true≢false, List, [], ◌∷◌, Some, refl, ap, subst, sym, ◌∙◌, arith}
+use Rattle.std.specs.Prelude.{◌↔◌, ◌==◌, ◌||◌}
 use Rattle.std.proofs.lemmas.Bool.{eqb-true, eq-eqb, or_cases, cases_Bool, cases_lt}
 use Rattle.std.proofs.Math.Logic.{⊎_elim}
 use Rattle.byte_automaton.specs.Sets.{has_byte, has_state}
-use Rattle.byte_automaton.specs.Steps.{State, reads, skips, stays, final, state, Machine, Accepts}
+use Rattle.byte_automaton.specs.Steps.{State, reads, skips, stays, final, Machine, Accepts}
 use Rattle.byte_automaton.specs.Parts.{AreFrom, GoesFrom}
 use Rattle.byte_automaton.specs.Runs.{size, AcceptsBelow, AcceptsFrom}
 use Rattle.byte_automaton.specs.Spans.{IsWithin}

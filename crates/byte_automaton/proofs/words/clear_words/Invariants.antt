@@ -1,4 +1,4 @@
-use Rattle.std.proofs.Common.{◌≡◌, ℕ, ◌+◌, ◌-◌, ◌/◌, ◌<◌, ◌≤◌, not, length}
+use Rattle.std.proofs.Common.{◌≡◌, ℕ, ◌-◌, ◌/◌, ◌<◌, ◌≤◌, not, length}
 use Rattle.std.specs.Prelude.{◌&&◌}
 use Rattle.byte_automaton.specs.Bits.{bit_of}
 use Rattle.byte_automaton.proofs.words.clear_words.Given as goal

@@ -1,4 +1,4 @@
-use Rattle.std.proofs.Common.{◌≡◌, ◌++◌, ◌-◌, length, replicate, arith}
+use Rattle.std.proofs.Common.{◌≡◌, ◌++◌, ◌-◌, replicate, arith}
 use Rattle.std.proofs.lemmas.List.{take_all}
 use Rattle.byte_automaton.proofs.lemmas.Bits.{bit_grown}
 use Rattle.byte_automaton.proofs.words.grow.Goals as goal

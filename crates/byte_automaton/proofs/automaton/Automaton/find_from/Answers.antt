@@ -1,11 +1,7 @@
-use Rattle.std.proofs.Common.{◌≡◌, ◌≤◌, ◌*◌, true≢false, sym, ℕ, ◌+◌, ◌<◌, [], length, inl, inr, IsTrue, arith, ◌∙◌}
-use Rattle.std.proofs.Math.Logic.{⊎_elim}
-use Rattle.byte_automaton.specs.Sets.{has_index}
-use Rattle.byte_automaton.specs.Steps.{Accepts}
-use Rattle.byte_automaton.specs.Runs.{size, AcceptsBelow}
-use Rattle.std.specs.Prelude.{◌↔◌}
+use Rattle.std.proofs.Common.{◌≤◌, ◌+◌, [], arith}
+use Rattle.byte_automaton.specs.Runs.{size}
 use Rattle.byte_automaton.proofs.lemmas.Pass.{iff_trans, or_left}
-use Rattle.byte_automaton.proofs.lemmas.Spans.{within_below, within_from}
+use Rattle.byte_automaton.proofs.lemmas.Spans.{within_below}
 use Rattle.byte_automaton.proofs.automaton.Automaton.find_from.Goals as goal
 
 pub returns-clause-found : goal.returns-clause-found

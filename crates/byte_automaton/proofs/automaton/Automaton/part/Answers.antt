@@ -7,7 +7,7 @@ use Rattle.byte_automaton.specs.Building.{Pushes}
 use Rattle.byte_automaton.specs.inner.Lowering.{lowered}
 use Rattle.byte_automaton.specs.inner.Views.{of_state, GoesBelow, NamesBelow}
 use Rattle.byte_automaton.proofs.lemmas.Reading.{held_at, state_at, read_state}
-use Rattle.byte_automaton.proofs.lemmas.Parts.{AreLowered, lowered_more, is_part, all_added, only_added}
+use Rattle.byte_automaton.proofs.lemmas.Parts.{lowered_more, is_part, all_added, only_added}
 use Rattle.byte_automaton.proofs.automaton.Automaton.part.Goals as goal
 
 pub push_lowered-requires-clause-held : goal.push_lowered-requires-clause-held

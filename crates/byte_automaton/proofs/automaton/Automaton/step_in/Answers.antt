@@ -1,4 +1,4 @@
-use Rattle.std.proofs.Common.{◌≡◌, ◌<◌, ◌≤◌, ◌∷◌, Some, false, true≢false, arith, sym, ◌∙◌, refl}
+use Rattle.std.proofs.Common.{◌<◌, ◌≤◌, ◌∷◌, Some, false, true≢false, arith, sym, ◌∙◌, refl}
 use Rattle.byte_automaton.specs.Sets.{has_state}
 use Rattle.byte_automaton.specs.Steps.{state}
 use Rattle.byte_automaton.specs.inner.Pass.{goes_next}

@@ -1,5 +1,5 @@
 use Rattle.std.proofs.Common.{◌<◌, length, arith}
-use Rattle.byte_automaton.proofs.lemmas.Summaries.{word_within, none_at_all, lowest_in_next}
+use Rattle.byte_automaton.proofs.lemmas.Summaries.{word_within}
 use Rattle.byte_automaton.proofs.index_set.IndexSet.first_from.Goals as goal
 
 pub overflow_mul-word : goal.overflow_mul-word

@@ -2,7 +2,7 @@ use Rattle.std.proofs.Common.{◌≡◌, ◌+◌, ◌<◌, ◌≤◌, ◌++◌, 
 use Rattle.std.proofs.lemmas.Bool.{cases_lt}
 use Rattle.std.proofs.lemmas.List.{take_more, take_all}
 use Rattle.std.proofs.Math.Logic.{⊎_elim}
-use Rattle.byte_automaton.specs.Sets.{index_room, HasAlso}
+use Rattle.byte_automaton.specs.Sets.{index_room}
 use Rattle.byte_automaton.proofs.lemmas.IndexSets.{also_none, also_then, also_put, also_left}
 use Rattle.byte_automaton.proofs.index_set.IndexSet.put_all.Goals as goal
 use Rattle.byte_automaton.proofs.index_set.IndexSet.put_all.Goals.{then-has_room_for, else-has_room_for}

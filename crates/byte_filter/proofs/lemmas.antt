@@ -1,0 +1,4 @@
+pub mod Cuts
+pub mod Chains
+pub mod Windows
+pub mod Starts

@@ -1,0 +1,4 @@
+pub mod Windows
+pub mod Entries
+pub mod inner
+pub mod Starts

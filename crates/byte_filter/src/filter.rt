@@ -1,0 +1,159 @@
+//! A filter: parts under the keys of windows.
+
+ghost use Rattle.std.specs.Prelude.{◌≡◌, ℕ, List, ◌+◌, ◌*◌, ◌%◌, ◌<◌, ◌≤◌, ◌⊎◌, ◌↔◌, ◌++◌, ◌∷◌, [], length, IsTrue, IfOk, OnOk, OnErr};
+ghost use Rattle.byte_automaton.specs.Forcing.{folded};
+ghost use Rattle.byte_automaton.specs.Sets.{has_index, index_room};
+ghost use Rattle.byte_filter.specs.Entries.{entry, HasEntry, ArePartsBelow, IsNamed};
+ghost use Rattle.byte_filter.specs.inner.Chains.{slot_of};
+
+use byte_automaton::IndexSet;
+use std::alloc::{AllocError, Global};
+use std::marker::Model;
+use visits::Visits;
+
+/// An entry, and the chain that it is in.
+#[derive(Clone, Copy)]
+struct Link {
+    key: u32,
+    part: u32,
+    /// One more than the place of the entry before it whose key has the same slot, or 0.
+    next: u32,
+}
+
+/// Parts under the keys of windows. Contracts see the entries in the order in which they were added.
+pub struct Filter {
+    /// For each slot one more than the place of the last entry whose key has it, or 0.
+    heads: Vec<u32>,
+    links: Vec<Link>,
+}
+
+impl Drop for Filter {
+    // One call wherever a value is dropped, which keeps proofs short.
+    fn drop(self) {
+        let Filter { heads: _, links: _ } = self;
+    }
+}
+
+impl Model for Filter {
+    ghost use Rattle.std.specs.Prelude.{List};
+    ghost use Rattle.byte_filter.specs.Entries.{Entry};
+
+    ghost Value = { List Entry };
+
+    ghost use Rattle.byte_filter.specs.inner.Chains.{entries_of, AreChained};
+
+    ghost view = { λ f. entries_of f.links.items };
+
+    ghost invariant = { λ f. AreChained f.heads.items f.links.items };
+}
+
+impl Clone for Filter {
+    ghost is_clone = { λ a b. b ≡ a };
+
+    /// Returns a copy. Returns an error if memory runs out.
+    fn clone(&self) -> Result<Filter, AllocError> {
+        let alloc = *self.links.allocator();
+        Ok(Filter {
+            heads: Vec::from_slice(alloc, &self.heads)?,
+            links: Vec::from_slice(alloc, &self.links)?,
+        })
+    }
+}
+
+impl Filter {
+    /// Returns a filter of no entries, with a number of slots. Returns an error if memory runs out.
+    pub fn new(alloc: Global, slots: usize) -> Result<Filter, AllocError>
+        requires { 0 < slots }
+        ensures { IfOk result (λ filter. filter ≡ []) }
+    {
+        Ok(Filter {
+            heads: vec![in alloc; 0u32; slots]?,
+            links: Vec::new(alloc),
+        })
+    }
+
+    /// Returns the number of entries.
+    pub fn len(&self) -> usize
+        ensures { result ≡ length self.now }
+    {
+        self.links.len()
+    }
+
+    /// Adds a part under a key, after the entries that there are.
+    ///
+    /// Returns an error if memory runs out; the filter then has the entries that it had.
+    pub fn add(&mut self, key: u32, part: u32) -> Result<(), AllocError>
+        ensures ok { OnOk result (self.new ≡ self.old ++ entry key part ∷ []) }
+        ensures err { OnErr result (self.new ≡ self.old) }
+    {
+        let slot = slot(self.heads.len(), key);
+        // No memory has room for more entries than a number can count.
+        let Ok(head) = u32::try_from(self.links.len() + 1) else {
+            return Err(AllocError);
+        };
+        let next = self.heads[slot];
+        self.links.push(Link { key, part, next })?;
+        self.heads[slot] = head;
+        Ok(())
+    }
+
+    /// Puts each part with an entry under the key of a window of a text into a set, beside what it holds.
+    ///
+    /// It is at most two visits for each byte and entry; so it is none if there are no entries.
+    pub fn mark(&self, text: &[u8], marks: &mut IndexSet, visits: &mut Visits)
+        requires { ArePartsBelow (index_room marks.old) self.now }
+        ensures room { index_room marks.new ≡ index_room marks.old }
+        ensures marks { (k : ℕ) → IsTrue (has_index marks.new k) ↔ (IsNamed self.now text.now k ⊎ IsTrue (has_index marks.old k)) }
+        ensures visits { visits.new ≤ visits.old + length text.now * (2 * length self.now) }
+    {
+        if text.len() < 3 || self.links.is_empty() {
+            return;
+        }
+        let mut key = next_key(next_key(0, text[0]), text[1]);
+        for at in 0..text.len() - 2 {
+            key = next_key(key, text[at + 2]);
+            self.mark_key(key, marks, visits);
+        }
+    }
+
+    /// Puts each part with an entry under a key into a set, beside what it holds. It is at most one visit, and one for each entry.
+    fn mark_key(&self, key: u32, marks: &mut IndexSet, visits: &mut Visits)
+        requires { ArePartsBelow (index_room marks.old) self.now }
+        ensures room { index_room marks.new ≡ index_room marks.old }
+        ensures marks { (k : ℕ) → IsTrue (has_index marks.new k) ↔ (HasEntry self.now key k ⊎ IsTrue (has_index marks.old k)) }
+        ensures visits { visits.new ≤ visits.old + (1 + length self.now) }
+    {
+        visits.tick();
+        let slot = slot(self.heads.len(), key);
+        let mut at = self.heads[slot] as usize;
+        while at > 0 {
+            visits.tick();
+            let link = self.links[at - 1];
+            if link.key == key {
+                marks.put(link.part as usize);
+            }
+            at = link.next as usize;
+        }
+    }
+}
+
+/// Returns the slot of a key.
+#[tactic(auto, unfolding(crate::specs::inner::Chains::slot_of))]
+fn slot(slots: usize, key: u32) -> usize
+    requires { 0 < slots }
+    ensures is { result ≡ slot_of slots key }
+    ensures within { result < slots }
+{
+    let hash = key as usize * 2_654_435_761 % 4_294_967_296;
+    hash % slots
+}
+
+/// Returns the key of the window that ends with a byte, by that of the window that ends before it.
+#[tactic(auto, unfolding(byte_automaton::specs::Forcing::folded))]
+fn next_key(key: u32, byte: u8) -> u32
+    ensures is { result ≡ key % 65536 * 256 + folded byte }
+    ensures two { result % 65536 ≡ key % 256 * 256 + folded byte }
+    ensures one { result % 256 ≡ folded byte }
+{
+    key % 65_536 * 256 + (byte | 0x20) as u32
+}

@@ -1,0 +1,134 @@
+//! A filter for the starts of an automaton.
+
+ghost use Rattle.std.specs.Prelude.{◌≡◌, ℕ, ◌+◌, ◌*◌, ◌<◌, ◌≤◌, ◌↔◌, length, slice_index, IsTrue, IfOk, IfSome, OnOk};
+ghost use Rattle.byte_automaton.specs.Sets.{has_index, index_room};
+ghost use Rattle.byte_automaton.specs.Steps.{Accepts, IsReached, Machine};
+ghost use Rattle.byte_filter.specs.Entries.{ArePartsBelow};
+ghost use Rattle.byte_filter.specs.Starts.{IsGuarded, IsFilterOf, IsReachedMarked};
+
+use crate::filter::Filter;
+use crate::window::required_window;
+use byte_automaton::{Automaton, IndexSet};
+use std::alloc::{AllocError, Global};
+use std::marker::Model;
+use visits::Visits;
+
+/// Which starts of an automaton a text may lead from to an end: those with a window of the text, and those without a window.
+pub struct StartFilter {
+    filter: Filter,
+    /// The starts without a window.
+    always: Vec<usize>,
+    count: usize,
+}
+
+impl Drop for StartFilter {
+    // One call wherever a value is dropped, which keeps proofs short.
+    fn drop(self) {
+        let StartFilter {
+            filter: _,
+            always: _,
+            count: _,
+        } = self;
+    }
+}
+
+impl Model for StartFilter {
+    ghost use Rattle.byte_filter.specs.Starts.{Guards};
+
+    ghost Value = { Guards };
+
+    ghost use Rattle.byte_filter.specs.inner.Starts.{AreSound};
+
+    ghost view = { λ f. record { entries = f.filter; always = f.always.items; count = f.count } };
+
+    ghost invariant = { λ f. AreSound f.filter f.count };
+}
+
+impl Clone for StartFilter {
+    ghost is_clone = { λ a b. b ≡ a };
+
+    /// Returns a copy. Returns an error if memory runs out.
+    fn clone(&self) -> Result<StartFilter, AllocError> {
+        let alloc = *self.always.allocator();
+        Ok(StartFilter {
+            filter: self.filter.clone()?,
+            always: Vec::from_slice(alloc, &self.always)?,
+            count: self.count,
+        })
+    }
+}
+
+/// With fewer entries than this a pass might be more visits than [`StartFilter::mark`] promises.
+const FEWEST_ENTRIES: usize = 4;
+
+impl StartFilter {
+    /// Returns a filter for the starts of an automaton, or `None` if fewer than four of them have a window, so that there is
+    /// little to leave out. Returns an error if memory runs out.
+    ///
+    /// It reads the states below each start down to an end, once.
+    pub fn new(alloc: Global, automaton: &Automaton) -> Result<Option<StartFilter>, AllocError>
+        ensures { IfOk result (λ made. IfSome made (λ filter. IsFilterOf automaton.now filter)) }
+    {
+        let count = automaton.starts().len();
+        let mut filter = Filter::new(alloc, 16_384)?;
+        let mut always = Vec::new(alloc);
+        for i in 0..count {
+            guard(automaton, i, &mut filter, &mut always)?;
+        }
+        if filter.len() < FEWEST_ENTRIES {
+            return Ok(None);
+        }
+        Ok(Some(StartFilter {
+            filter,
+            always,
+            count,
+        }))
+    }
+
+    /// Returns the number of starts. What is marked is below it.
+    pub fn count(&self) -> usize
+        ensures { result ≡ self.now.count }
+    {
+        self.count
+    }
+
+    /// Puts the number of each start that a text may lead from to an end into a set, beside what it holds. It takes no memory.
+    ///
+    /// From the marked starts the text leads to the ends that it leads to from all. It is at most three visits for each byte and
+    /// start.
+    pub fn mark(&self, text: &[u8], marks: &mut IndexSet, visits: &mut Visits)
+        requires { self.now.count ≤ index_room marks.old }
+        ensures room { index_room marks.new ≡ index_room marks.old }
+        ensures kept { (i : ℕ) → IsTrue (has_index marks.old i) → IsTrue (has_index marks.new i) }
+        ensures marks { (m : Machine) → IsFilterOf m self.now → (i k : ℕ) → i < length m.starts → Accepts m.states k (slice_index m.starts i) text.now → IsTrue (has_index marks.new i) }
+        ensures exact { (m : Machine) → IsFilterOf m self.now → (k : ℕ) → IsReached m text.now k ↔ IsReachedMarked m marks.new text.now k }
+        ensures visits { visits.new ≤ visits.old + length text.now * (3 * self.now.count) }
+    {
+        marks.put_all(&self.always);
+        self.filter.mark(text, marks, visits);
+    }
+}
+
+/// Makes the filter have a start of an automaton: gives it an entry under a window, or lists it if it has none.
+fn guard(
+    automaton: &Automaton,
+    i: usize,
+    filter: &mut Filter,
+    always: &mut Vec<usize>,
+) -> Result<(), AllocError>
+    requires { i < length automaton.now.starts }
+    ensures guarded { OnOk result (IsGuarded automaton.now filter.new always.new.items i) }
+    ensures kept { OnOk result ((j : ℕ) → IsGuarded automaton.now filter.old always.old.items j → IsGuarded automaton.now filter.new always.new.items j) }
+    ensures below { OnOk result ((n : ℕ) → i < n → ArePartsBelow n filter.old → ArePartsBelow n filter.new) }
+    ensures len { OnOk result (length filter.new ≤ length filter.old + 1) }
+{
+    let start = automaton.starts()[i];
+    if let Ok(part) = u32::try_from(i) {
+        if let Some(key) = required_window(automaton, start) {
+            filter.add(key, part)?;
+            return Ok(());
+        }
+    }
+    always.push(i)?;
+    Ok(())
+}

@@ -1,0 +1,18 @@
+use Rattle.std.proofs.Common.{◌≡◌, ℕ, ◌+◌, ◌*◌, ◌-◌, ◌≤◌, ◌⊎◌, length, IsTrue}
+use Rattle.std.specs.Prelude.{◌↔◌}
+use Rattle.byte_automaton.specs.Sets.{has_index, index_room, sets_room}
+use Rattle.glob_matching.specs.inner.Filtered.{low_of, IsReachedBefore}
+use Rattle.glob_matching.proofs.filtered.find_from_marked.Given as goal
+
+abbrev pub invariant-loop-from : goal.invariant-loop-from
+invariant-loop-from l = record {
+  within : l.from ≤ length l.automaton.starts;
+  room : sets_room l.sets ≡ sets_room l.fn.sets;
+  starts : l.sets.starts ≡ l.fn.sets.starts;
+  found_room : index_room l.found ≡ index_room l.fn.found;
+  found : (k : ℕ) → IsTrue (has_index l.found k) ↔ (IsReachedBefore l.automaton l.fn.sets.starts l.from l.text k ⊎ IsTrue (has_index l.fn.found k));
+  visits : l.visits ≤ l.fn.visits + (length l.text + 1) * low_of l.automaton.starts l.from;
+}
+
+abbrev pub decreases-loop-from : goal.decreases-loop-from
+decreases-loop-from l = length l.automaton.starts - l.from

@@ -1,0 +1,240 @@
+//! Automata with many starts, of which those alone are run that a filter names.
+
+ghost use Rattle.std.specs.Prelude.{◌≡◌, ◌+◌, ◌*◌, ◌<◌, ◌≤◌, ◌↔◌, ◌⊎◌, ℕ, length, IsTrue, IsOk, IfOk, IfSome, MatchOption, OnOk, true, false};
+ghost use Rattle.byte_automaton.specs.Runs.{size, most_reads};
+ghost use Rattle.byte_automaton.specs.Sets.{has_index, index_room, sets_room};
+ghost use Rattle.byte_automaton.specs.Steps.{IsReached};
+ghost use Rattle.byte_filter.specs.Starts.{IsFilterOf, IsReachedMarked};
+ghost use Rattle.glob_matching.specs.inner.Filtered.{AreApart, span_at};
+
+use byte_automaton::{Automaton, IndexSet, Span, StateSets};
+use byte_filter::StartFilter;
+use std::alloc::{AllocError, Global};
+use std::marker::Model;
+use visits::Visits;
+
+/// An automaton, and a filter that names the starts that a text may lead from to an end. Contracts see the automaton.
+pub struct Filtered {
+    automaton: Automaton,
+    filter: StartFilter,
+}
+
+impl Drop for Filtered {
+    // One call wherever a value is dropped, which keeps proofs short.
+    fn drop(self) {
+        let Filtered {
+            automaton: _,
+            filter: _,
+        } = self;
+    }
+}
+
+impl Model for Filtered {
+    ghost use Rattle.byte_automaton.specs.Steps.{Machine};
+    ghost use Rattle.byte_filter.specs.Starts.{IsFilterOf};
+    ghost use Rattle.glob_matching.specs.inner.Filtered.{AreApart};
+
+    ghost Value = { Machine };
+
+    ghost view = { λ f. f.automaton };
+
+    ghost invariant = { λ f. IsFilterOf f.automaton f.filter × AreApart f.automaton };
+}
+
+impl Clone for Filtered {
+    ghost use Rattle.std.specs.Prelude.{◌≡◌};
+
+    ghost is_clone = { λ a b. b ≡ a };
+
+    /// Returns a copy. Returns an error if memory runs out.
+    fn clone(&self) -> Result<Filtered, AllocError> {
+        Ok(Filtered {
+            automaton: self.automaton.clone()?,
+            filter: self.filter.clone()?,
+        })
+    }
+}
+
+impl Filtered {
+    /// Returns an automaton with a filter for it.
+    pub fn of(automaton: Automaton, filter: StartFilter) -> Filtered
+        requires filter { IsFilterOf automaton filter }
+        requires apart { AreApart automaton }
+        ensures { result ≡ automaton }
+    {
+        Filtered { automaton, filter }
+    }
+
+    /// Returns the number of states of the automaton.
+    pub fn state_count(&self) -> usize
+        ensures { result ≡ size self.now }
+    {
+        self.automaton.state_count()
+    }
+
+    /// Puts the index of each end that a text leads to into a set, beside what it holds.
+    ///
+    /// It is at most `(text bytes + 1) * (states + 3 * starts)` visits. It makes room in the sets of states for those of the
+    /// automaton. Returns an error if memory runs out.
+    pub fn find(
+        &self,
+        text: &[u8],
+        sets: &mut StateSets,
+        found: &mut IndexSet,
+        visits: &mut Visits,
+    ) -> Result<(), AllocError>
+        requires { self.now.index_count ≤ index_room found.old }
+        ensures room { index_room found.new ≡ index_room found.old }
+        ensures found { OnOk result ((k : ℕ) → IsTrue (has_index found.new k) ↔ (IsReached self.now text.now k ⊎ IsTrue (has_index found.old k))) }
+        ensures kept { sets_room sets.old ≤ sets_room sets.new }
+        ensures memory { size self.now ≤ sets_room sets.old → IsOk result }
+        ensures visits { visits.new ≤ visits.old + (length text.now + 1) * most_reads self.now }
+    {
+        mark(&self.automaton, &self.filter, text, sets, visits)?;
+        find_from_marked(&self.automaton, text, sets, found, visits);
+        Ok(())
+    }
+
+    /// Returns whether a text leads to some end.
+    ///
+    /// It is at most `(text bytes + 1) * (states + 3 * starts)` visits. It makes room in the sets of states for those of the
+    /// automaton. Returns an error if memory runs out.
+    pub fn is_match(
+        &self,
+        text: &[u8],
+        sets: &mut StateSets,
+        visits: &mut Visits,
+    ) -> Result<bool, AllocError>
+        ensures some { IfOk result (λ yes. IsTrue yes ↔ ((k : ℕ) × IsReached self.now text.now k)) }
+        ensures kept { sets_room sets.old ≤ sets_room sets.new }
+        ensures memory { size self.now ≤ sets_room sets.old → IsOk result }
+        ensures visits { visits.new ≤ visits.old + (length text.now + 1) * most_reads self.now }
+    {
+        mark(&self.automaton, &self.filter, text, sets, visits)?;
+        Ok(is_match_from_marked(&self.automaton, text, sets, visits))
+    }
+}
+
+/// Returns a filter for an automaton, or `None` if too few starts have a window, or if a run from one start comes to states of
+/// another. Returns an error if memory runs out. It takes time and memory linear in the states.
+pub fn filter_for(
+    alloc: Global,
+    automaton: &Automaton,
+) -> Result<Option<StartFilter>, AllocError>
+    ensures { IfOk result (λ made. IfSome made (λ filter. IsFilterOf automaton.now filter × AreApart automaton.now)) }
+{
+    if !are_apart(automaton) {
+        return Ok(None);
+    }
+    StartFilter::new(alloc, automaton)
+}
+
+/// Returns whether a run from each start comes to no state but those behind the start before it. It reads each state.
+fn are_apart(automaton: &Automaton) -> bool
+    ensures { IsTrue result → AreApart automaton.now }
+{
+    let _states = automaton.state_count();
+    for i in 0..automaton.starts().len() {
+        let span = span_of(automaton, i);
+        if span.low > span.start || !automaton.is_closed(span.low, span.start + 1) {
+            return false;
+        }
+    }
+    true
+}
+
+/// Returns the states of a start: those behind the start before it.
+fn span_of(automaton: &Automaton, i: usize) -> Span
+    requires { i < length automaton.now.starts }
+    ensures span { result ≡ span_at automaton.now.starts i }
+    ensures exists { result.start < size automaton.now }
+{
+    let _states = automaton.state_count();
+    let starts = automaton.starts();
+    let low = if i == 0 { 0 } else { starts[i - 1] + 1 };
+    Span {
+        low,
+        start: starts[i],
+    }
+}
+
+/// Marks the starts that a text may lead from to an end, and no others than the filter names. It makes room in the sets for the
+/// states and starts. Returns an error if memory runs out.
+fn mark(
+    automaton: &Automaton,
+    filter: &StartFilter,
+    text: &[u8],
+    sets: &mut StateSets,
+    visits: &mut Visits,
+) -> Result<(), AllocError>
+    requires filter { IsFilterOf automaton.now filter.now }
+    requires apart { AreApart automaton.now }
+    ensures marked { OnOk result ((k : ℕ) → IsReached automaton.now text.now k ↔ IsReachedMarked automaton.now sets.new.starts text.now k) }
+    ensures room { OnOk result (size automaton.now ≤ sets_room sets.new) }
+    ensures kept { sets_room sets.old ≤ sets_room sets.new }
+    ensures memory { size automaton.now ≤ sets_room sets.old → IsOk result }
+    ensures visits { visits.new ≤ visits.old + length text.now * (3 * length automaton.now.starts) }
+{
+    sets.reserve(automaton.state_count())?;
+    sets.starts.clear();
+    filter.mark(text, &mut sets.starts, visits);
+    Ok(())
+}
+
+/// Puts the index of each end that a text leads to from a marked start into a set, beside what it holds.
+fn find_from_marked(
+    automaton: &Automaton,
+    text: &[u8],
+    sets: &mut StateSets,
+    found: &mut IndexSet,
+    visits: &mut Visits,
+)
+    requires apart { AreApart automaton.now }
+    requires room { size automaton.now ≤ sets_room sets.old }
+    requires found_room { automaton.now.index_count ≤ index_room found.old }
+    ensures room { sets_room sets.new ≡ sets_room sets.old }
+    ensures found_room { index_room found.new ≡ index_room found.old }
+    ensures found { (k : ℕ) → IsTrue (has_index found.new k) ↔ (IsReachedMarked automaton.now sets.old.starts text.now k ⊎ IsTrue (has_index found.old k)) }
+    ensures visits { visits.new ≤ visits.old + (length text.now + 1) * size automaton.now }
+{
+    let mut from = 0;
+    while let Some(i) = next_marked(automaton, &sets.starts, from) {
+        automaton.find_from(span_of(automaton, i), text, sets, found, visits);
+        from = i + 1;
+    }
+}
+
+/// Returns whether a text leads from a marked start to some end.
+fn is_match_from_marked(
+    automaton: &Automaton,
+    text: &[u8],
+    sets: &mut StateSets,
+    visits: &mut Visits,
+) -> bool
+    requires apart { AreApart automaton.now }
+    requires room { size automaton.now ≤ sets_room sets.old }
+    ensures room { sets_room sets.new ≡ sets_room sets.old }
+    ensures some { IsTrue result ↔ ((k : ℕ) × IsReachedMarked automaton.now sets.old.starts text.now k) }
+    ensures visits { visits.new ≤ visits.old + (length text.now + 1) * size automaton.now }
+{
+    let mut from = 0;
+    while let Some(i) = next_marked(automaton, &sets.starts, from) {
+        if automaton.is_match_from(span_of(automaton, i), text, sets, visits) {
+            return true;
+        }
+        from = i + 1;
+    }
+    false
+}
+
+/// Returns the first marked start from a number on.
+fn next_marked(automaton: &Automaton, marks: &IndexSet, from: usize) -> Option<usize>
+    ensures { MatchOption result ((i : ℕ) → from ≤ i → i < length automaton.now.starts → has_index marks.now i ≡ false) (λ at. (from ≤ at) × (at < length automaton.now.starts) × (has_index marks.now at ≡ true) × ((i : ℕ) → from ≤ i → i < at → has_index marks.now i ≡ false)) }
+{
+    let at = marks.first_from(from)?;
+    if at < automaton.starts().len() {
+        Some(at)
+    } else {
+        None
+    }
+}
