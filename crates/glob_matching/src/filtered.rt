@@ -197,8 +197,9 @@ fn find_from_marked(
     ensures found { (k : ℕ) → IsTrue (has_index found.new k) ↔ (IsReachedMarked automaton.now sets.old.starts text.now k ⊎ IsTrue (has_index found.old k)) }
     ensures visits { visits.new ≤ visits.old + (length text.now + 1) * size automaton.now }
 {
+    let count = automaton.starts().len();
     let mut from = 0;
-    while let Some(i) = next_marked(automaton, &sets.starts, from) {
+    while let Some(i) = next_below(&sets.starts, from, count) {
         automaton.find_from(span_of(automaton, i), text, sets, found, visits);
         from = i + 1;
     }
@@ -217,8 +218,9 @@ fn is_match_from_marked(
     ensures some { IsTrue result ↔ ((k : ℕ) × IsReachedMarked automaton.now sets.old.starts text.now k) }
     ensures visits { visits.new ≤ visits.old + (length text.now + 1) * size automaton.now }
 {
+    let count = automaton.starts().len();
     let mut from = 0;
-    while let Some(i) = next_marked(automaton, &sets.starts, from) {
+    while let Some(i) = next_below(&sets.starts, from, count) {
         if automaton.is_match_from(span_of(automaton, i), text, sets, visits) {
             return true;
         }
@@ -227,14 +229,10 @@ fn is_match_from_marked(
     false
 }
 
-/// Returns the first marked start from a number on.
-fn next_marked(automaton: &Automaton, marks: &IndexSet, from: usize) -> Option<usize>
-    ensures { MatchOption result ((i : ℕ) → from ≤ i → i < length automaton.now.starts → has_index marks.now i ≡ false) (λ at. (from ≤ at) × (at < length automaton.now.starts) × (has_index marks.now at ≡ true) × ((i : ℕ) → from ≤ i → i < at → has_index marks.now i ≡ false)) }
+/// Returns the lowest index of a set from a number on and below another, or `None` if there is none.
+fn next_below(set: &IndexSet, from: usize, end: usize) -> Option<usize>
+    ensures { MatchOption result ((i : ℕ) → from ≤ i → i < end → has_index set.now i ≡ false) (λ at. (from ≤ at) × (at < end) × (has_index set.now at ≡ true) × ((i : ℕ) → from ≤ i → i < at → has_index set.now i ≡ false)) }
 {
-    let at = marks.first_from(from)?;
-    if at < automaton.starts().len() {
-        Some(at)
-    } else {
-        None
-    }
+    let at = set.first_from(from)?;
+    if at < end { Some(at) } else { None }
 }

@@ -1,5 +1,5 @@
 -- Runs from marked starts, one after another.
-use Rattle.std.proofs.Common.{◌≡◌, ℕ, zero, suc, ◌+◌, ◌*◌, ◌<◌, ◌≤◌, ◌⊎◌, inl, inr, List, length, slice_index, IsTrue, true, false, true≢false, arith, ap, sym, subst, ◌∙◌}
+use Rattle.std.proofs.Common.{◌≡◌, ℕ, zero, suc, ◌+◌, ◌*◌, ◌-◌, ◌<◌, ◌≤◌, ◌⊎◌, inl, inr, List, length, slice_index, IsTrue, true, false, true≢false, arith, ap, sym, subst, ◌∙◌}
 use Rattle.std.specs.Prelude.{◌↔◌}
 use Rattle.std.proofs.lemmas.Bool.{cases_lt}
 use Rattle.std.proofs.lemmas.Nat.{mul-le}
@@ -39,7 +39,7 @@ module _ (m : Machine) (apart : AreApart m) where
 
   -- the visits of one more run
   pub visits_more : (p from i before now : ℕ) → from ≤ i → i < length m.starts → before ≤ now + p * low_of m.starts from → (after : ℕ)
-      → ((width : ℕ) → slice_index m.starts i < low_of m.starts i + width → after ≤ before + p * width) → after ≤ now + p * low_of m.starts (suc i)
+      → ((width : ℕ) → slice_index m.starts i < low_of m.starts i + width → after ≤ before + p * width) → after ≤ now + p * low_of m.starts (i + 1)
   visits_more p from i before now le lt so_far after this =
       let low = low_of m.starts i in
       let start = slice_index m.starts i in
@@ -50,7 +50,8 @@ module _ (m : Machine) (apart : AreApart m) where
       let first = mul-le p (low_of m.starts from) p low (omega arith) (low_more from i le (omega arith)) in
       let both : p * (low + width) ≡ p * low + p * width = omega arith in
       let same : p * (start + 1) ≡ p * (low + width) = ap (λ x. p * x) (sym sum) in
-      omega (arith, so_far, run, first, both, same)
+      let next : suc i ≡ i + 1 = omega arith in
+      subst (λ n. after ≤ now + p * low_of m.starts n) next (omega (arith, so_far, run, first, both, same))
 
   pub visits_all : (p from before now : ℕ) → from ≤ length m.starts → before ≤ now + p * low_of m.starts from → before ≤ now + p * size m
   visits_all p from before now le so_far =
@@ -59,10 +60,10 @@ module _ (m : Machine) (apart : AreApart m) where
 module _ (m : Machine) (marks : IndexSet) (y : List ℕ) (k : ℕ) where
   -- one more start was run, and those before it are not marked
   pub before_more : (from i : ℕ) → from ≤ i → i < length m.starts → has_index marks i ≡ true → ((j : ℕ) → from ≤ j → j < i → has_index marks j ≡ false)
-      → IsReachedBefore m marks (suc i) y k ↔ (Accepts m.states k (slice_index m.starts i) y ⊎ IsReachedBefore m marks from y k)
+      → IsReachedBefore m marks (i + 1) y k ↔ (Accepts m.states k (slice_index m.starts i) y ⊎ IsReachedBefore m marks from y k)
   before_more from i le lt marked between = (there, back)
     where
-      there : IsReachedBefore m marks (suc i) y k → Accepts m.states k (slice_index m.starts i) y ⊎ IsReachedBefore m marks from y k
+      there : IsReachedBefore m marks (i + 1) y k → Accepts m.states k (slice_index m.starts i) y ⊎ IsReachedBefore m marks from y k
       there (j, less, within, at, h) = ⊎_elim {C = Accepts m.states k (slice_index m.starts i) y ⊎ IsReachedBefore m marks from y k}
           (λ old. inr (j, old, within, at, h))
           (λ since. ⊎_elim {C = Accepts m.states k (slice_index m.starts i) y ⊎ IsReachedBefore m marks from y k}
@@ -71,7 +72,7 @@ module _ (m : Machine) (marks : IndexSet) (y : List ℕ) (k : ℕ) where
             (cases_lt j i))
           (cases_lt j from)
 
-      back : Accepts m.states k (slice_index m.starts i) y ⊎ IsReachedBefore m marks from y k → IsReachedBefore m marks (suc i) y k
+      back : Accepts m.states k (slice_index m.starts i) y ⊎ IsReachedBefore m marks from y k → IsReachedBefore m marks (i + 1) y k
       back (inl h) = (i, omega arith, lt, marked, h)
       back (inr (j, less, within, at, h)) = (j, omega arith, within, at, h)
 
@@ -89,11 +90,11 @@ module _ (m : Machine) (marks : IndexSet) (y : List ℕ) (k : ℕ) where
   pub found_more : {Before Now Next : Type 0} (from i : ℕ) → from ≤ i → i < length m.starts → has_index marks i ≡ true
       → ((j : ℕ) → from ≤ j → j < i → has_index marks j ≡ false)
       → Now ↔ (IsReachedBefore m marks from y k ⊎ Before) → Next ↔ (Accepts m.states k (slice_index m.starts i) y ⊎ Now)
-      → Next ↔ (IsReachedBefore m marks (suc i) y k ⊎ Before)
+      → Next ↔ (IsReachedBefore m marks (i + 1) y k ⊎ Before)
   found_more {Before = Before} {Now = Now} {Next = Next} from i le lt marked between now next =
       let more = before_more from i le lt marked between in (
-        λ h. ⊎_elim {C = IsReachedBefore m marks (suc i) y k ⊎ Before} (λ at. inl (more.1 (inl at)))
-            (λ old. ⊎_elim {C = IsReachedBefore m marks (suc i) y k ⊎ Before} (λ at. inl (more.1 (inr at))) (λ before. inr before) (now.0 old)) (next.0 h),
+        λ h. ⊎_elim {C = IsReachedBefore m marks (i + 1) y k ⊎ Before} (λ at. inl (more.1 (inl at)))
+            (λ old. ⊎_elim {C = IsReachedBefore m marks (i + 1) y k ⊎ Before} (λ at. inl (more.1 (inr at))) (λ before. inr before) (now.0 old)) (next.0 h),
         λ h. ⊎_elim {C = Next}
             (λ some. ⊎_elim {C = Next} (λ at. next.1 (inl at)) (λ at. next.1 (inr (now.1 (inl at)))) (more.0 some))
             (λ before. next.1 (inr (now.1 (inr before)))) h,
@@ -106,3 +107,12 @@ module _ (m : Machine) (marks : IndexSet) (y : List ℕ) (k : ℕ) where
         λ h. ⊎_elim {C = IsReachedMarked m marks y k ⊎ Before} (λ at. inl (all.0 at)) (λ before. inr before) (now.0 h),
         λ h. now.1 (⊎_elim {C = IsReachedBefore m marks from y k ⊎ Before} (λ at. inl (all.1 at)) (λ before. inr before) h),
       )
+
+-- facts that are the same, beside another and for some index
+
+pub beside : {P Q R S : Type 0} → P ↔ Q → R ↔ (Q ⊎ S) → R ↔ (P ⊎ S)
+beside {P = P} {Q = Q} {R = R} {S = S} same found =
+    (λ r. ⊎_elim {C = P ⊎ S} (λ q. inl (same.1 q)) (λ s. inr s) (found.0 r), λ h. ⊎_elim {C = R} (λ p. found.1 (inl (same.0 p))) (λ s. found.1 (inr s)) h)
+
+pub some_of : {R : Type 0} {P Q : ℕ → Type 0} → ((k : ℕ) → P k ↔ Q k) → R ↔ ((k : ℕ) × Q k) → R ↔ ((k : ℕ) × P k)
+some_of same some = (λ r. let (k, q) = some.0 r in (k, (same k).1 q), λ (k, p). some.1 (k, (same k).0 p))

@@ -3,8 +3,8 @@ use Rattle.byte_automaton.specs.Sets.{sets_room}
 use Rattle.glob_matching.specs.inner.Filtered.{low_of, IsReachedBefore}
 use Rattle.glob_matching.proofs.filtered.is_match_from_marked.Given as goal
 
-abbrev pub invariant-loop-from : goal.invariant-loop-from
-invariant-loop-from l = record {
+abbrev pub invariant-loop-i : goal.invariant-loop-i
+invariant-loop-i l = record {
   within : l.from ≤ length l.automaton.starts;
   room : sets_room l.sets ≡ sets_room l.fn.sets;
   starts : l.sets.starts ≡ l.fn.sets.starts;
@@ -12,5 +12,5 @@ invariant-loop-from l = record {
   visits : l.visits ≤ l.fn.visits + (length l.text + 1) * low_of l.automaton.starts l.from;
 }
 
-abbrev pub decreases-loop-from : goal.decreases-loop-from
-decreases-loop-from l = length l.automaton.starts - l.from
+abbrev pub decreases-loop-i : goal.decreases-loop-i
+decreases-loop-i l = length l.automaton.starts - l.from

@@ -1,0 +1,42 @@
+use Rattle.std.proofs.Common.{◌≡◌, ℕ, ◌+◌, ◌*◌, ◌<◌, ◌≤◌, ◌⊎◌, length, IsTrue, true, false, true≢false, ap, arith, sym, ◌∙◌}
+use Rattle.std.proofs.Math.Logic.{⊎_elim}
+use Rattle.std.specs.Prelude.{◌↔◌}
+use Rattle.byte_automaton.specs.Sets.{has_index}
+use Rattle.byte_automaton.specs.Steps.{Accepts}
+use Rattle.glob_matching.specs.inner.Filtered.{IsReachedBefore}
+use Rattle.glob_matching.proofs.lemmas.Filtered.{before_all, before_more, found_all, found_more, visits_all, visits_more}
+use Rattle.glob_matching.proofs.filtered.find_from_marked.Goals as goal
+
+pub loop-i-preserved : goal.loop-i-preserved
+loop-i-preserved c =
+    let inv = c.loop-i.invariant in
+    let m = c.args.automaton.now in
+    let marks = c.args.sets.now.starts in
+    let i = c.in-Some.i in
+    let next = c.in-Some.ensures in
+    let lt : i < length m.starts = omega (arith, next.1, ap length c.starts-count.ensures.starts) in
+    let marked : has_index marks i ≡ true = rw inv.starts at next.2 in
+    let between : (j : ℕ) → c.loop-i.from ≤ j → j < i → has_index marks j ≡ false = λ j since less. rw inv.starts at next.3 j since less in
+    let took = c.find_from.ensures in
+    record {
+      within = omega arith;
+      room = took.room ∙ inv.room;
+      starts = took.starts ∙ inv.starts;
+      found_room = took.into_room ∙ inv.found_room;
+      found = λ k. found_more m marks c.args.text.now k c.loop-i.from i next.0 lt marked between (inv.found k) (rw c.span_of.ensures.span at took.found k);
+      visits = visits_more m c.requires.apart (length c.args.text.now + 1) c.loop-i.from i c.loop-i.visits c.args.visits.now next.0 lt inv.visits c.find_from.new.visits
+          (rw c.span_of.ensures.span at took.visits);
+    }
+
+pub returns-clause-found : goal.returns-clause-found
+returns-clause-found c = λ k.
+    let inv = c.loop-i.invariant in
+    let m = c.args.automaton.now in
+    let marks = c.args.sets.now.starts in
+    let none : (j : ℕ) → c.loop-i.from ≤ j → j < length m.starts → has_index marks j ≡ false = λ j since less. rw inv.starts at c.in_default.ensures j since (omega (arith, less, ap length c.starts-count.ensures.starts)) in
+    found_all m marks c.args.text.now k c.loop-i.from none (inv.found k)
+
+pub returns-clause-visits : goal.returns-clause-visits
+returns-clause-visits c =
+    let inv = c.loop-i.invariant in
+    visits_all c.args.automaton.now c.requires.apart (length c.args.text.now + 1) c.loop-i.from c.loop-i.visits c.args.visits.now inv.within inv.visits
