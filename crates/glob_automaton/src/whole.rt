@@ -4,7 +4,7 @@ ghost use Rattle.std.specs.Prelude.{◌≡◌, ◌+◌, ◌<◌, ◌≤◌, ◌+
 ghost use Rattle.glob_syntax.specs.FlatTokens.{IsNested};
 ghost use Rattle.glob_syntax.specs.Views.{flats, tokens_of};
 ghost use Rattle.glob_syntax.specs.inner.Weight.{weight};
-ghost use Rattle.byte_automaton.specs.Runs.{size};
+ghost use Rattle.byte_automaton.specs.Runs.{size, most_reads};
 ghost use Rattle.glob_automaton.specs.TokenMeans.{is_prefix_alone};
 ghost use Rattle.glob_automaton.specs.IndexedTokens.{IndexedTokens, indexed, IsFor};
 ghost use Rattle.glob_automaton.specs.inner.Building.{Grows, BuildsWhole};
@@ -28,6 +28,7 @@ pub fn new_builder(alloc: Global, index_count: usize) -> Builder
     ensures tokens { IsFor result [] }
     ensures index_count { result.index_count ≡ index_count }
     ensures size { size result ≡ 0 }
+    ensures reads { most_reads result ≡ 0 }
 {
     Builder::new(alloc, index_count)
 }
@@ -75,6 +76,7 @@ pub fn add_tokens(
     ensures kept { OnErr result ((xs : List IndexedTokens) → IsFor builder.old xs → IsFor builder.new xs) }
     ensures index_count { builder.new.index_count ≡ builder.old.index_count }
     ensures size { OnOk result (size builder.new ≤ size builder.old + (weight options (tokens_of tokens.now) + 1)) }
+    ensures reads { OnOk result (most_reads builder.new ≤ most_reads builder.old + (weight options (tokens_of tokens.now) + 4)) }
 {
     let start = add_whole(alloc, builder, options, tokens, index)?;
     builder.add_start(start)?;

@@ -5,3 +5,4 @@ pub mod Matching
 pub mod Slots
 pub mod Tables
 pub mod Shared
+pub mod Visits

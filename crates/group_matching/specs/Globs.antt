@@ -28,13 +28,13 @@ is_listed_at globs path i = passes_at (λ g. is_listed g path) globs i
 abbrev pub listed : List TokenGlob → List ℕ → List ℕ
 listed globs path = passing_indexes (λ g. is_listed g path) globs
 
--- the most states of the glob that are run over the path
-abbrev pub states : TokenGlob → List ℕ → ℕ
-states g path = cond (needs_automaton g.options g.tokens path) (weight g.options g.tokens + 1) 0
+-- the most reads for the glob at a position of the path: its states, and three entries of a filter
+abbrev pub reads : TokenGlob → List ℕ → ℕ
+reads g path = cond (needs_automaton g.options g.tokens path) (weight g.options g.tokens + 4) 0
 
 -- the same of all globs of a list
 abbrev pub load : List TokenGlob → List ℕ → ℕ
-load globs path = sum_by (λ g. states g path) globs
+load globs path = sum_by (λ g. reads g path) globs
 
 -- the most visits for a path
 abbrev pub most_visits : List TokenGlob → List ℕ → ℕ

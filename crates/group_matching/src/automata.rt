@@ -2,7 +2,7 @@
 
 ghost use Rattle.std.specs.Prelude.{◌≡◌, ◌+◌, ◌*◌, ◌<◌, ◌≤◌, ◌++◌, ◌∷◌, ◌↔◌, ◌⊎◌, [], ℕ, List, length, true, false, IsTrue, IsOk, OnOk, IfOk, cond};
 ghost use Rattle.std.specs.Str.{bytes_eq};
-ghost use Rattle.byte_automaton.specs.Runs.{size};
+ghost use Rattle.byte_automaton.specs.Runs.{size, most_reads};
 ghost use Rattle.byte_automaton.specs.Sets.{has_index, index_room, sets_room};
 ghost use Rattle.glob_automaton.specs.IndexedTokens.{IndexedTokens, IsFor, SomeMatches, indexed};
 ghost use Rattle.glob_path.specs.PathParts.{component_extension, last_component};
@@ -10,7 +10,7 @@ ghost use Rattle.glob_syntax.specs.FlatTokens.{IsNested};
 ghost use Rattle.glob_syntax.specs.Views.{flats, tokens_of};
 ghost use Rattle.glob_syntax.specs.inner.Weight.{weight};
 ghost use Rattle.group_matching.specs.inner.Room.{HasRoom, KeepsRoom};
-ghost use Rattle.group_matching.specs.inner.Automata.{AddsTokens, AreFor, AreForLists, AreFound, AreIdle, IsFoundSet, TokenLists, before_extension, machine_under, most_size, most_states, states_for, tokens_under};
+ghost use Rattle.group_matching.specs.inner.Automata.{AddsTokens, AreFor, AreForLists, AreFound, AreIdle, IsFoundSet, TokenLists, before_extension, machine_under, most_size, most_states, reads_for, states_for, tokens_under};
 
 mod slots;
 
@@ -103,7 +103,7 @@ impl Automata {
         ensures marked { OnOk result ((t : TokenLists) → AreForLists self.now t → (k : ℕ) → IsTrue (has_index sets.new.marks k) ↔ AreFound self.now.extensions.slots t path.now k) }
         ensures kept { KeepsRoom sets.old sets.new }
         ensures memory { HasRoom sets.old (most_states self.now) self.now.extensions.index_count → IsOk result }
-        ensures visits { visits.new ≤ visits.old + (1 + (length path.now + 1) * states_for self.now path.now) }
+        ensures visits { visits.new ≤ visits.old + (1 + (length path.now + 1) * reads_for self.now path.now) }
     {
         if self.find(path, sets, visits)? {
             return Ok(());
@@ -126,7 +126,7 @@ impl Automata {
         ensures kept { KeepsRoom sets.old sets.new }
         ensures memory { states_for self.now path.now ≡ 0 → IsOk result }
         ensures room { HasRoom sets.old (most_states self.now) self.now.extensions.index_count → IsOk result }
-        ensures visits { visits.new ≤ visits.old + (1 + (length path.now + 1) * states_for self.now path.now) }
+        ensures visits { visits.new ≤ visits.old + (1 + (length path.now + 1) * reads_for self.now path.now) }
     {
         let by_extension = self.by_extension(&Candidate::from_bytes(path), visits);
         if self.is_idle(by_extension) {
@@ -153,7 +153,7 @@ impl Automata {
         ensures kept { sets_room sets.old ≤ sets_room sets.new }
         ensures memory { states_for self.now path.now ≡ 0 → IsOk result }
         ensures room { most_states self.now ≤ sets_room sets.old → IsOk result }
-        ensures visits { visits.new ≤ visits.old + (1 + (length path.now + 1) * states_for self.now path.now) }
+        ensures visits { visits.new ≤ visits.old + (1 + (length path.now + 1) * reads_for self.now path.now) }
     {
         if self.by_path.is_match(path.path(), sets, visits)? {
             return Ok(true);
@@ -202,7 +202,7 @@ impl Automata {
         ensures found { OnOk result ((xs : List IndexedTokens) → IsFor self.now.by_component xs → (k : ℕ) → IsTrue (has_index sets.new.marks k) ↔ (SomeMatches xs (last_component path.now) k ⊎ IsTrue (has_index sets.old.marks k))) }
         ensures kept { KeepsRoom sets.old sets.new }
         ensures memory { size self.now.by_component ≤ sets_room sets.old.states → IsOk result }
-        ensures visits { visits.new ≤ visits.old + (length path.now + 1) * size self.now.by_component }
+        ensures visits { visits.new ≤ visits.old + (length path.now + 1) * most_reads self.now.by_component }
     {
         if self.by_component.state_count() == 0 {
             return Ok(());
@@ -222,7 +222,7 @@ impl Automata {
         ensures some { IfOk result (λ yes. (xs : List IndexedTokens) → IsFor self.now.by_component xs → IsTrue yes ↔ ((k : ℕ) × SomeMatches xs (last_component path.now) k)) }
         ensures kept { sets_room sets.old ≤ sets_room sets.new }
         ensures memory { size self.now.by_component ≤ sets_room sets.old → IsOk result }
-        ensures visits { visits.new ≤ visits.old + (length path.now + 1) * size self.now.by_component }
+        ensures visits { visits.new ≤ visits.old + (length path.now + 1) * most_reads self.now.by_component }
     {
         if self.by_component.state_count() == 0 {
             return Ok(false);
@@ -244,7 +244,7 @@ fn run_by_extension(
     ensures found { OnOk result ((xs : List IndexedTokens) → IsFor automaton.now xs → (k : ℕ) → IsTrue (has_index sets.new.marks k) ↔ (SomeMatches xs (before_extension path.now) k ⊎ IsTrue (has_index sets.old.marks k))) }
     ensures kept { KeepsRoom sets.old sets.new }
     ensures memory { size automaton.now ≤ sets_room sets.old.states → IsOk result }
-    ensures visits { visits.new ≤ visits.old + (length path.now + 1) * size automaton.now }
+    ensures visits { visits.new ≤ visits.old + (length path.now + 1) * most_reads automaton.now }
 {
     if automaton.state_count() == 0 {
         return Ok(());
@@ -263,7 +263,7 @@ fn is_match_by_extension(
     ensures some { IfOk result (λ yes. (xs : List IndexedTokens) → IsFor automaton.now xs → IsTrue yes ↔ ((k : ℕ) × SomeMatches xs (before_extension path.now) k)) }
     ensures kept { sets_room sets.old ≤ sets_room sets.new }
     ensures memory { size automaton.now ≤ sets_room sets.old → IsOk result }
-    ensures visits { visits.new ≤ visits.old + (length path.now + 1) * size automaton.now }
+    ensures visits { visits.new ≤ visits.old + (length path.now + 1) * most_reads automaton.now }
 {
     if automaton.state_count() == 0 {
         return Ok(false);
@@ -320,10 +320,10 @@ impl AutomataBuilder {
         ensures component { IsFor result.by_component [] }
         ensures slots { result.extensions.slots ≡ [] }
         ensures machines { result.extensions.machines ≡ [] }
-        ensures none { size result.extensions.none ≡ 0 }
+        ensures none { most_reads result.extensions.none ≡ 0 }
         ensures count { result.extensions.index_count ≡ index_count }
-        ensures path_size { size result.by_path ≡ 0 }
-        ensures component_size { size result.by_component ≡ 0 }
+        ensures path_reads { most_reads result.by_path ≡ 0 }
+        ensures component_reads { most_reads result.by_component ≡ 0 }
     {
         AutomataBuilder {
             by_path: new_builder(alloc, index_count),
@@ -344,7 +344,7 @@ impl AutomataBuilder {
         requires nested { IsNested (flats tokens.now) }
         requires index { index < self.old.extensions.index_count }
         ensures tokens { OnOk result ((xs : List IndexedTokens) → IsFor self.old.by_path xs → IsFor self.new.by_path (xs ++ indexed options (tokens_of tokens.now) index ∷ [])) }
-        ensures size { OnOk result (size self.new.by_path ≤ size self.old.by_path + (weight options (tokens_of tokens.now) + 1)) }
+        ensures reads { OnOk result (most_reads self.new.by_path ≤ most_reads self.old.by_path + (weight options (tokens_of tokens.now) + 4)) }
         ensures component { self.new.by_component ≡ self.old.by_component }
         ensures extensions { self.new.extensions ≡ self.old.extensions }
     {
@@ -363,7 +363,7 @@ impl AutomataBuilder {
         requires nested { IsNested (flats tokens.now) }
         requires index { index < self.old.extensions.index_count }
         ensures tokens { OnOk result ((xs : List IndexedTokens) → IsFor self.old.by_component xs → IsFor self.new.by_component (xs ++ indexed options (tokens_of tokens.now) index ∷ [])) }
-        ensures size { OnOk result (size self.new.by_component ≤ size self.old.by_component + (weight options (tokens_of tokens.now) + 1)) }
+        ensures reads { OnOk result (most_reads self.new.by_component ≤ most_reads self.old.by_component + (weight options (tokens_of tokens.now) + 4)) }
         ensures path { self.new.by_path ≡ self.old.by_path }
         ensures extensions { self.new.extensions ≡ self.old.extensions }
     {
@@ -383,7 +383,7 @@ impl AutomataBuilder {
         requires nested { IsNested (flats tokens.now) }
         requires index { index < self.old.extensions.index_count }
         ensures tokens { OnOk result ((before : ℕ → List IndexedTokens) → AreFor self.old.extensions.machines before → AddsTokens self.old.extensions.slots before self.new.extensions key.items (indexed options (tokens_of tokens.now) index)) }
-        ensures size { OnOk result ((extension : List ℕ) → size (machine_under self.new.extensions extension) ≤ size (machine_under self.old.extensions extension) + cond (bytes_eq key.items extension) (weight options (tokens_of tokens.now) + 1) 0) }
+        ensures reads { OnOk result ((extension : List ℕ) → most_reads (machine_under self.new.extensions extension) ≤ most_reads (machine_under self.old.extensions extension) + cond (bytes_eq key.items extension) (weight options (tokens_of tokens.now) + 4) 0) }
         ensures count { self.new.extensions.index_count ≡ self.old.extensions.index_count }
         ensures path { self.new.by_path ≡ self.old.by_path }
         ensures component { self.new.by_component ≡ self.old.by_component }

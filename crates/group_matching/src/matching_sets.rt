@@ -1,7 +1,7 @@
 //! The memory that matching takes.
 
 ghost use Rattle.std.specs.Prelude.{◌≡◌, ◌+◌, ◌*◌, ◌≤◌, ◌↔◌, ℕ, List, false, length, IfOk, IsOk, IsTrue, OnOk};
-ghost use Rattle.byte_automaton.specs.Runs.{size};
+ghost use Rattle.byte_automaton.specs.Runs.{size, most_reads};
 ghost use Rattle.byte_automaton.specs.Sets.{has_index, index_room, sets_room};
 ghost use Rattle.glob_automaton.specs.IndexedTokens.{IndexedTokens, IsFor, SomeMatches};
 ghost use Rattle.group_matching.specs.inner.Room.{HasRoom, KeepsRoom};
@@ -78,7 +78,7 @@ impl MatchingSets {
         ensures some { IfOk result (λ yes. (xs : List IndexedTokens) → IsFor automaton.now xs → IsTrue yes ↔ ((k : ℕ) × SomeMatches xs text.now k)) }
         ensures kept { KeepsRoom self.old self.new }
         ensures room { size automaton.now ≤ sets_room self.old.states → IsOk result }
-        ensures visits { visits.new ≤ visits.old + (length text.now + 1) * size automaton.now }
+        ensures visits { visits.new ≤ visits.old + (length text.now + 1) * most_reads automaton.now }
     {
         automaton.is_match(text, &mut self.states, visits)
     }

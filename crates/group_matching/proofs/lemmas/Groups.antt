@@ -10,7 +10,7 @@ use Rattle.std.proofs.lemmas.List.Sums.{sum_by-append}
 use Rattle.glob_syntax.specs.declared.options.Options.{Options}
 use Rattle.glob_syntax.specs.Token.{Tokens, end, and_then}
 use Rattle.glob_syntax.specs.inner.Weight.{weight}
-use Rattle.byte_automaton.specs.Runs.{size}
+use Rattle.byte_automaton.specs.Runs.{most_reads}
 use Rattle.glob_automaton.specs.TokenMeans.{means, is_prefix}
 use Rattle.glob_automaton.specs.IndexedTokens.{IndexedTokens, SomeMatches, IsFor, indexed}
 use Rattle.glob_automaton.proofs.lemmas.IndexedTokens.{some_push}
@@ -18,10 +18,10 @@ use Rattle.glob_path.specs.PathParts.{last_component, component_extension}
 use Rattle.glob_groups.specs.Direct.{needs_automaton}
 use Rattle.glob_groups.specs.Groups.{after_prefix, before_ending}
 use Rattle.glob_groups.proofs.lemmas.BeforeEnding.{weight_before}
-use Rattle.group_matching.specs.Globs.{TokenGlob, is_listed, is_listed_at, states, load}
+use Rattle.group_matching.specs.Globs.{TokenGlob, is_listed, is_listed_at, reads, load}
 use Rattle.byte_table.specs.Entries.{indexes_under}
 use Rattle.path_keys.specs.Keys.{KeyParts, MoreIn, keys_found}
-use Rattle.group_matching.specs.inner.Automata.{AutomataParts, SlotParts, TokenLists, AreForLists, AreFor, AreFound, AddsTokens, before_extension, first, machine_under, states_for, tokens_under}
+use Rattle.group_matching.specs.inner.Automata.{AutomataParts, SlotParts, TokenLists, AreForLists, AreFor, AreFound, AddsTokens, before_extension, first, machine_under, reads_for, tokens_under}
 use Rattle.group_matching.specs.inner.Groups.{GroupParts, AreGroupsOf, listed_count}
 use Rattle.group_matching.proofs.lemmas.Automata.{extension_cut}
 
@@ -55,8 +55,8 @@ new_listed {F} {G} globs g n path k at more before =
 count_push : (globs : List TokenGlob) (g : TokenGlob) (path : List ℕ) → listed_count (globs ++ g ∷ []) path ≡ listed_count globs path + cond (is_listed g path) 1 0
 count_push globs g path = sum_by-append (λ x. cond (is_listed x path) 1 0) globs (g ∷ []) ∙ omega arith
 
-load_push : (globs : List TokenGlob) (g : TokenGlob) (path : List ℕ) → load (globs ++ g ∷ []) path ≡ load globs path + states g path
-load_push globs g path = sum_by-append (λ x. states x path) globs (g ∷ []) ∙ omega arith
+load_push : (globs : List TokenGlob) (g : TokenGlob) (path : List ℕ) → load (globs ++ g ∷ []) path ≡ load globs path + reads g path
+load_push globs g path = sum_by-append (λ x. reads x path) globs (g ∷ []) ∙ omega arith
 
 -- what follows from both, if a call succeeds
 pub both_on_ok : {T E P Q R : Type 0} (r : Result T E) → (P → Q → R) → OnOk r P → OnOk r Q → OnOk r R
@@ -89,7 +89,7 @@ keys_added globs g n old new at automata more before = record {
       ↔ ((Contains (keys_found old.keys path) k ⊎ AreFound old.automata.extensions.slots before.tokens path k) ⊎ IsNew n g path k)) (sym automata) (left_more ((more path).has k)))
       (before.same path k);
   once = λ path. omega (arith, (more path).count, before.once path, count_push globs g path);
-  size = λ path. let same = ap (λ a. states_for a path) automata in omega (arith, same, before.size path, load_push globs g path);
+  reads = λ path. let same = ap (λ a. reads_for a path) automata in omega (arith, same, before.reads path, load_push globs g path);
 }
 
 abbrev pub group_parts : KeyParts → AutomataParts → GroupParts
@@ -113,7 +113,7 @@ silent_added globs g n old at tells before = keys_added globs g n old old at ref
 
 pub tokens_added : (globs : List TokenGlob) (g : TokenGlob) (n : ℕ) (old new : GroupParts) (before : AreGroupsOf globs old) (tokens : TokenLists) → n ≡ length globs → new.keys ≡ old.keys → AreForLists new.automata tokens
     → ((path : List ℕ) (k : ℕ) → AreFound new.automata.extensions.slots tokens path k ↔ (AreFound old.automata.extensions.slots before.tokens path k ⊎ IsNew n g path k))
-    → ((path : List ℕ) → states_for new.automata path ≤ states_for old.automata path + states g path) → AreGroupsOf (globs ++ g ∷ []) new
+    → ((path : List ℕ) → reads_for new.automata path ≤ reads_for old.automata path + reads g path) → AreGroupsOf (globs ++ g ∷ []) new
 tokens_added globs g n old new before tokens at keys are more size = record {
   tokens = tokens;
   are_for = are;
@@ -122,7 +122,7 @@ tokens_added globs g n old new before tokens at keys are more size = record {
       ↔ ((Contains (keys_found old.keys path) k ⊎ AreFound old.automata.extensions.slots before.tokens path k) ⊎ IsNew n g path k)) (sym keys) (right_more (more path k)))
       (before.same path k);
   once = λ path. let same = ap (λ t. length (keys_found t path)) keys in omega (arith, same, before.once path, count_push globs g path);
-  size = λ path. omega (arith, size path, before.size path, load_push globs g path);
+  reads = λ path. omega (arith, size path, before.reads path, load_push globs g path);
 }
 
 true_as : (a b : Bool) → a ≡ b → IsTrue b ↔ IsTrue a
@@ -137,8 +137,8 @@ some_added x xs g n text path k at tells =
       λ h. push.1 (⊎_elim {C = SomeMatches xs text k ⊎ ((x.index ≡ k) × IsTrue (means x.options x.tokens text))} (λ old. inl old) (λ new. inr (at ∙ new.0, sym tells ∙ new.1)) h),
     )
 
-needed : (g : TokenGlob) (path : List ℕ) → needs_automaton g.options g.tokens path ≡ true → states g path ≡ weight g.options g.tokens + 1
-needed g path on = ap (λ b. cond b (weight g.options g.tokens + 1) 0) on
+needed : (g : TokenGlob) (path : List ℕ) → needs_automaton g.options g.tokens path ≡ true → reads g path ≡ weight g.options g.tokens + 4
+needed g path on = ap (λ b. cond b (weight g.options g.tokens + 4) 0) on
 
 pub weight_after : (o : Options) (ts : Tokens) → weight o (after_prefix ts) ≤ weight o ts
 weight_after o end = omega arith
@@ -150,7 +150,7 @@ weight_after o (and_then t ts) = choice (is_prefix t)
 
 pub by_path_added : (globs : List TokenGlob) (g : TokenGlob) (n : ℕ) (old new : GroupParts) → n ≡ length globs → new.keys ≡ old.keys
     → ((path : List ℕ) → is_listed g path ≡ means g.options g.tokens path) → ((path : List ℕ) → needs_automaton g.options g.tokens path ≡ true)
-    → ((xs : List IndexedTokens) → IsFor old.automata.by_path xs → IsFor new.automata.by_path (xs ++ indexed g.options g.tokens n ∷ [])) → size new.automata.by_path ≤ size old.automata.by_path + (weight g.options g.tokens + 1)
+    → ((xs : List IndexedTokens) → IsFor old.automata.by_path xs → IsFor new.automata.by_path (xs ++ indexed g.options g.tokens n ∷ [])) → most_reads new.automata.by_path ≤ most_reads old.automata.by_path + (weight g.options g.tokens + 4)
     → new.automata.by_component ≡ old.automata.by_component → new.automata.extensions ≡ old.automata.extensions → AreGroupsOf globs old → AreGroupsOf (globs ++ g ∷ []) new
 by_path_added globs g n old new at keys tells needs adds few component extensions before =
     tokens_added globs g n old new before tokens at keys
@@ -161,7 +161,7 @@ by_path_added globs g n old new at keys tells needs adds few component extension
     })
     (λ path k. subst (λ (e : SlotParts). AreFound e.slots tokens path k ↔ (AreFound old.automata.extensions.slots before.tokens path k ⊎ IsNew n g path k)) (sym extensions)
     (left_more (some_added (indexed g.options g.tokens n) before.tokens.by_path g n path path k refl (tells path))))
-    (λ path. let one = ap size component in let two = ap (λ (e : SlotParts). size (machine_under e (component_extension path))) extensions in let most = needed g path (needs path) in omega (arith, few, one, two, most))
+    (λ path. let one = ap most_reads component in let two = ap (λ (e : SlotParts). most_reads (machine_under e (component_extension path))) extensions in let most = needed g path (needs path) in omega (arith, few, one, two, most))
   where
     tokens : TokenLists
     tokens = record {
@@ -172,7 +172,7 @@ by_path_added globs g n old new at keys tells needs adds few component extension
 
 pub by_component_added : (globs : List TokenGlob) (g : TokenGlob) (n : ℕ) (ts : Tokens) (old new : GroupParts) → n ≡ length globs → new.keys ≡ old.keys → ts ≡ after_prefix g.tokens
     → ((path : List ℕ) → is_listed g path ≡ means g.options (after_prefix g.tokens) (last_component path)) → ((path : List ℕ) → needs_automaton g.options g.tokens path ≡ true)
-    → ((xs : List IndexedTokens) → IsFor old.automata.by_component xs → IsFor new.automata.by_component (xs ++ indexed g.options ts n ∷ [])) → size new.automata.by_component ≤ size old.automata.by_component + (weight g.options ts + 1)
+    → ((xs : List IndexedTokens) → IsFor old.automata.by_component xs → IsFor new.automata.by_component (xs ++ indexed g.options ts n ∷ [])) → most_reads new.automata.by_component ≤ most_reads old.automata.by_component + (weight g.options ts + 4)
     → new.automata.by_path ≡ old.automata.by_path → new.automata.extensions ≡ old.automata.extensions → AreGroupsOf globs old → AreGroupsOf (globs ++ g ∷ []) new
 by_component_added globs g n ts old new at keys rest tells needs adds few by_path extensions before =
     tokens_added globs g n old new before tokens at keys
@@ -183,7 +183,7 @@ by_component_added globs g n ts old new at keys rest tells needs adds few by_pat
     })
     (λ path k. subst (λ (e : SlotParts). AreFound e.slots tokens path k ↔ (AreFound old.automata.extensions.slots before.tokens path k ⊎ IsNew n g path k)) (sym extensions)
     (right_more (left_more (some_added (indexed g.options ts n) before.tokens.by_component g n (last_component path) path k refl (tells path ∙ ap (λ us. means g.options us (last_component path)) (sym rest))))))
-    (λ path. let one = ap size by_path in let two = ap (λ (e : SlotParts). size (machine_under e (component_extension path))) extensions in let most = needed g path (needs path) in
+    (λ path. let one = ap most_reads by_path in let two = ap (λ (e : SlotParts). most_reads (machine_under e (component_extension path))) extensions in let most = needed g path (needs path) in
     let fewer = weight_after g.options g.tokens in let same = ap (weight g.options) rest in omega (arith, few, one, two, most, fewer, same))
   where
     tokens : TokenLists
@@ -197,7 +197,7 @@ pub by_extension_added : (globs : List TokenGlob) (g : TokenGlob) (n : ℕ) (key
     → ((path : List ℕ) → (IsTrue (is_listed g path) → component_extension path ≡ key) × ((front : List ℕ) → front ++ key ≡ path → is_listed g path ≡ means g.options (before_ending g.tokens) front))
     → ((path : List ℕ) → bytes_eq key (component_extension path) ≡ true → needs_automaton g.options g.tokens path ≡ true)
     → ((before : ℕ → List IndexedTokens) → AreFor old.automata.extensions.machines before → AddsTokens old.automata.extensions.slots before new.automata.extensions key (indexed g.options ts n))
-    → ((extension : List ℕ) → size (machine_under new.automata.extensions extension) ≤ size (machine_under old.automata.extensions extension) + cond (bytes_eq key extension) (weight g.options ts + 1) 0)
+    → ((extension : List ℕ) → most_reads (machine_under new.automata.extensions extension) ≤ most_reads (machine_under old.automata.extensions extension) + cond (bytes_eq key extension) (weight g.options ts + 4) 0)
     → new.automata.by_path ≡ old.automata.by_path → new.automata.by_component ≡ old.automata.by_component → AreGroupsOf globs old → AreGroupsOf (globs ++ g ∷ []) new
 by_extension_added globs g n key ts old new at keys rest tells needs adds few by_path component before =
     tokens_added globs g n old new before tokens at keys
@@ -237,14 +237,14 @@ by_extension_added globs g n key ts old new at keys rest tells needs adds few by
         )) h
 
     by_size : (path : List ℕ) → (bytes_eq key (component_extension path) ≡ true) ⊎ (bytes_eq key (component_extension path) ≡ false)
-        → states_for new.automata path ≤ states_for old.automata path + states g path
+        → reads_for new.automata path ≤ reads_for old.automata path + reads g path
     by_size path h =
         let e = component_extension path in
-        let one = ap size by_path in let two = ap size component in let most = few e in
+        let one = ap most_reads by_path in let two = ap most_reads component in let most = few e in
         let fewer = weight_before g.options g.tokens in let same = ap (weight g.options) rest in
-        ⊎_elim {C = states_for new.automata path ≤ states_for old.automata path + states g path}
-        (λ y. let run = needed g path (needs path y) in let three = ap (λ b. cond b (weight g.options ts + 1) 0) y in omega (arith, one, two, most, run, three, fewer, same))
-        (λ off. let three = ap (λ b. cond b (weight g.options ts + 1) 0) off in omega (arith, one, two, most, three)) h
+        ⊎_elim {C = reads_for new.automata path ≤ reads_for old.automata path + reads g path}
+        (λ y. let run = needed g path (needs path y) in let three = ap (λ b. cond b (weight g.options ts + 4) 0) y in omega (arith, one, two, most, run, three, fewer, same))
+        (λ off. let three = ap (λ b. cond b (weight g.options ts + 4) 0) off in omega (arith, one, two, most, three)) h
 
 -- ---- no globs
 
@@ -256,8 +256,8 @@ none_listed path zero h = absurd (cc)
 none_listed path (suc k) h = absurd (cc)
 
 pub no_globs : (keys : KeyParts) (a : AutomataParts) → ((path : List ℕ) → keys_found keys path ≡ []) → IsFor a.by_path [] → IsFor a.by_component [] → a.extensions.slots ≡ [] → a.extensions.machines ≡ []
-    → size a.by_path ≡ 0 → size a.by_component ≡ 0 → size a.extensions.none ≡ 0 → AreGroupsOf [] (group_parts keys a)
-no_globs keys a nil path component slots machines path_size component_size none_size = record {
+    → most_reads a.by_path ≡ 0 → most_reads a.by_component ≡ 0 → most_reads a.extensions.none ≡ 0 → AreGroupsOf [] (group_parts keys a)
+no_globs keys a nil path component slots machines path_reads component_reads none_reads = record {
   tokens = record { by_path = []; by_component = []; by_slot = λ s. [] };
   are_for = record {
     path = path;
@@ -271,6 +271,6 @@ no_globs keys a nil path component slots machines path_size component_size none_
     λ h. absurd (none_listed path k h),
   );
   once = λ path. let none = ap length (nil path) in omega (arith, none);
-  size = λ path. let e = ap (λ es. option_map_or (λ s. get_or a.extensions.machines s a.extensions.none) (first (indexes_under es (component_extension path))) a.extensions.none) slots in
-      let last = ap size e in omega (arith, path_size, component_size, none_size, last);
+  reads = λ path. let e = ap (λ es. option_map_or (λ s. get_or a.extensions.machines s a.extensions.none) (first (indexes_under es (component_extension path))) a.extensions.none) slots in
+      let last = ap most_reads e in omega (arith, path_reads, component_reads, none_reads, last);
 }

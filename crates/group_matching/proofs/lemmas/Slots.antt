@@ -8,7 +8,7 @@ use Rattle.std.proofs.lemmas.Bool.{eq-eqb}
 use Rattle.std.proofs.lemmas.Bool.Decides.{eqb_tells}
 use Rattle.std.proofs.lemmas.List.{get_or_push, get_or_append_left, get_or-set_same, get_or-set_other, length-append, length-set}
 use Rattle.byte_automaton.specs.Steps.{IsIn, Machine}
-use Rattle.byte_automaton.specs.Runs.{size}
+use Rattle.byte_automaton.specs.Runs.{size, most_reads}
 use Rattle.byte_table.specs.Entries.{Entry, entry, indexes_under}
 use Rattle.byte_table.specs.inner.Lists.{with_index}
 use Rattle.byte_table.proofs.lemmas.Entries.{indexes_added}
@@ -113,28 +113,28 @@ slot_keeps old new key n m at is_old empty slots machines before are = record {
       (λ t there. let within = is_old.held extension t there in replaced_other n [] before t (λ e. absurd (omega (arith, e, at, within))));
 }
 
--- ---- the states of the automaton of an extension
+-- ---- the reads of the automaton of an extension
 
-abbrev size_at : List Machine → Machine → ℕ → ℕ
-size_at machines none s = size (get_or machines s none)
+abbrev reads_at : List Machine → Machine → ℕ → ℕ
+reads_at machines none s = most_reads (get_or machines s none)
 
-size_of : (machines : List Machine) (none : Machine) (o : Option ℕ) → size (option_map_or (λ s. get_or machines s none) o none) ≡ option_map_or (size_at machines none) o (size none)
-size_of machines none None = refl
-size_of machines none (Some s) = refl
+reads_of : (machines : List Machine) (none : Machine) (o : Option ℕ) → most_reads (option_map_or (λ s. get_or machines s none) o none) ≡ option_map_or (reads_at machines none) o (most_reads none)
+reads_of machines none None = refl
+reads_of machines none (Some s) = refl
 
 -- a new slot has none
-pub slot_size : (old new : SlotParts) (key : List ℕ) (n : ℕ) (m : Machine) → n ≡ length old.machines → AreSlots old.slots old.machines old.none old.index_count → size m ≡ 0
-    → new.slots ≡ old.slots ++ entry key n ∷ [] → new.machines ≡ old.machines ++ m ∷ [] → new.none ≡ old.none → (extension : List ℕ) → size (machine_under new extension) ≡ size (machine_under old extension)
-slot_size old new key n m at is_old no_states slots machines none extension =
-    size_of new.machines new.none (slot_of new.slots extension)
-    ∙ ap (λ ms. option_map_or (size_at ms new.none) (slot_of new.slots extension) (size new.none)) machines
-    ∙ ap (λ d. option_map_or (size_at (old.machines ++ m ∷ []) d) (slot_of new.slots extension) (size d)) none
-    ∙ ap (λ es. option_map_or (size_at (old.machines ++ m ∷ []) old.none) (slot_of es extension) (size old.none)) slots
-    ∙ ap (λ xs. option_map_or (size_at (old.machines ++ m ∷ []) old.none) (first xs) (size old.none)) (indexes_added old.slots key n extension)
-    ∙ first_new (bytes_eq key extension) n (indexes_under old.slots extension) (size_at (old.machines ++ m ∷ []) old.none) (size_at old.machines old.none) (size old.none)
-    (ap size (get_or_push old.machines m old.none n (sym at)) ∙ no_states ∙ sym is_old.empty)
-    (λ t there. ap size (get_or_append_left old.machines (m ∷ []) old.none t (is_old.held extension t there)))
-    ∙ sym (size_of old.machines old.none (slot_of old.slots extension))
+pub slot_reads : (old new : SlotParts) (key : List ℕ) (n : ℕ) (m : Machine) → n ≡ length old.machines → AreSlots old.slots old.machines old.none old.index_count → most_reads m ≡ 0
+    → new.slots ≡ old.slots ++ entry key n ∷ [] → new.machines ≡ old.machines ++ m ∷ [] → new.none ≡ old.none → (extension : List ℕ) → most_reads (machine_under new extension) ≡ most_reads (machine_under old extension)
+slot_reads old new key n m at is_old no_states slots machines none extension =
+    reads_of new.machines new.none (slot_of new.slots extension)
+    ∙ ap (λ ms. option_map_or (reads_at ms new.none) (slot_of new.slots extension) (most_reads new.none)) machines
+    ∙ ap (λ d. option_map_or (reads_at (old.machines ++ m ∷ []) d) (slot_of new.slots extension) (most_reads d)) none
+    ∙ ap (λ es. option_map_or (reads_at (old.machines ++ m ∷ []) old.none) (slot_of es extension) (most_reads old.none)) slots
+    ∙ ap (λ xs. option_map_or (reads_at (old.machines ++ m ∷ []) old.none) (first xs) (most_reads old.none)) (indexes_added old.slots key n extension)
+    ∙ first_new (bytes_eq key extension) n (indexes_under old.slots extension) (reads_at (old.machines ++ m ∷ []) old.none) (reads_at old.machines old.none) (most_reads old.none)
+    (ap most_reads (get_or_push old.machines m old.none n (sym at)) ∙ no_states ∙ sym is_old.empty)
+    (λ t there. ap most_reads (get_or_append_left old.machines (m ∷ []) old.none t (is_old.held extension t there)))
+    ∙ sym (reads_of old.machines old.none (slot_of old.slots extension))
 
 -- ---- tokens for a slot
 
@@ -200,30 +200,30 @@ any_default [] s d e lt = absurd (omega (arith, lt))
 any_default (m ∷ ms) zero d e lt = refl
 any_default (m ∷ ms) (suc s) d e lt = any_default ms s d e (omega (arith, lt))
 
--- one automaton has at most so many states more
-set_size : (machines : List Machine) (none : Machine) (s more : ℕ) (now : Machine) (o : Option ℕ) (b : Bool) → s < length machines → size now ≤ size (get_or machines s none) + more → (o ≡ Some s → b ≡ true)
-    → size (option_map_or (λ t. get_or (set machines s now) t none) o none) ≤ size (option_map_or (λ t. get_or machines t none) o none) + cond b more 0
-set_size machines none s more now None b lt few tells = omega arith
-set_size machines none s more now (Some t) b lt few tells =
-    ⊎_elim {C = size (get_or (set machines s now) t none) ≤ size (get_or machines t none) + cond b more 0}
+-- one automaton has at most so many reads more
+set_reads : (machines : List Machine) (none : Machine) (s more : ℕ) (now : Machine) (o : Option ℕ) (b : Bool) → s < length machines → most_reads now ≤ most_reads (get_or machines s none) + more → (o ≡ Some s → b ≡ true)
+    → most_reads (option_map_or (λ t. get_or (set machines s now) t none) o none) ≤ most_reads (option_map_or (λ t. get_or machines t none) o none) + cond b more 0
+set_reads machines none s more now None b lt few tells = omega arith
+set_reads machines none s more now (Some t) b lt few tells =
+    ⊎_elim {C = most_reads (get_or (set machines s now) t none) ≤ most_reads (get_or machines t none) + cond b more 0}
     (λ this.
     let b_is = ap (λ v. cond v more 0) (tells (ap Some this.0)) in
-    let new = ap size this.1 in
-    let old = ap (λ u. size (get_or machines u none)) this.0 in omega (arith, few, b_is, new, old))
-    (λ other. let same = ap size other.1 in omega (arith, same))
+    let new = ap most_reads this.1 in
+    let old = ap (λ u. most_reads (get_or machines u none)) this.0 in omega (arith, few, b_is, new, old))
+    (λ other. let same = ap most_reads other.1 in omega (arith, same))
     (set_at_slot machines s now t none lt)
 
-pub slot_size_added : (mid new : SlotParts) (key : List ℕ) (s more : ℕ) (d now : Machine) → AreSlots mid.slots mid.machines mid.none mid.index_count → slot_of mid.slots key ≡ Some s → s < length mid.machines
-    → new.slots ≡ mid.slots → new.machines ≡ set mid.machines s now → new.none ≡ mid.none → size now ≤ size (get_or mid.machines s d) + more
-    → (extension : List ℕ) → size (machine_under new extension) ≤ size (machine_under mid extension) + cond (bytes_eq key extension) more 0
-slot_size_added mid new key s more d now is_mid at lt slots machines none few extension =
-    let is : size (machine_under new extension) ≡ size (option_map_or (λ t. get_or (set mid.machines s now) t mid.none) (slot_of mid.slots extension) mid.none) =
-    ap (λ es. size (option_map_or (λ t. get_or new.machines t new.none) (slot_of es extension) new.none)) slots
-    ∙ ap (λ ms. size (option_map_or (λ t. get_or ms t new.none) (slot_of mid.slots extension) new.none)) machines
-    ∙ ap (λ d. size (option_map_or (λ t. get_or (set mid.machines s now) t d) (slot_of mid.slots extension) d)) none in
-    let d_is = ap size (any_default mid.machines s d mid.none lt) in
-    let within : size now ≤ size (get_or mid.machines s mid.none) + more = omega (arith, few, d_is) in
-    let le = set_size mid.machines mid.none s more now (slot_of mid.slots extension) (bytes_eq key extension) lt within (λ e. (bytes_decides key extension).1 (is_mid.apart key extension s at e)) in
+pub slot_reads_added : (mid new : SlotParts) (key : List ℕ) (s more : ℕ) (d now : Machine) → AreSlots mid.slots mid.machines mid.none mid.index_count → slot_of mid.slots key ≡ Some s → s < length mid.machines
+    → new.slots ≡ mid.slots → new.machines ≡ set mid.machines s now → new.none ≡ mid.none → most_reads now ≤ most_reads (get_or mid.machines s d) + more
+    → (extension : List ℕ) → most_reads (machine_under new extension) ≤ most_reads (machine_under mid extension) + cond (bytes_eq key extension) more 0
+slot_reads_added mid new key s more d now is_mid at lt slots machines none few extension =
+    let is : most_reads (machine_under new extension) ≡ most_reads (option_map_or (λ t. get_or (set mid.machines s now) t mid.none) (slot_of mid.slots extension) mid.none) =
+    ap (λ es. most_reads (option_map_or (λ t. get_or new.machines t new.none) (slot_of es extension) new.none)) slots
+    ∙ ap (λ ms. most_reads (option_map_or (λ t. get_or ms t new.none) (slot_of mid.slots extension) new.none)) machines
+    ∙ ap (λ d. most_reads (option_map_or (λ t. get_or (set mid.machines s now) t d) (slot_of mid.slots extension) d)) none in
+    let d_is = ap most_reads (any_default mid.machines s d mid.none lt) in
+    let within : most_reads now ≤ most_reads (get_or mid.machines s mid.none) + more = omega (arith, few, d_is) in
+    let le = set_reads mid.machines mid.none s more now (slot_of mid.slots extension) (bytes_eq key extension) lt within (λ e. (bytes_decides key extension).1 (is_mid.apart key extension s at e)) in
     omega (arith, is, le)
 
 -- ---- the automaton of a slot

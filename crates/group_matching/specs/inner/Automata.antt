@@ -2,7 +2,7 @@
 use Rattle.std.specs.Prelude.{◌≡◌, ◌≢◌, ◌⊎◌, ◌↔◌, ℕ, ◌+◌, ◌-◌, ◌<◌, ◌≤◌, max, IsTrue, List, [], ◌∷◌, ◌++◌, Option, Some, length, get_or, slice_get, take}
 use Rattle.std.specs.Option.{option_map_or}
 use Rattle.byte_automaton.specs.Steps.{IsIn, Machine}
-use Rattle.byte_automaton.specs.Runs.{size}
+use Rattle.byte_automaton.specs.Runs.{size, most_reads}
 use Rattle.byte_automaton.specs.Sets.{has_index, index_room}
 use Rattle.byte_automaton.specs.declared.index_set.IndexSet.{IndexSet}
 use Rattle.byte_table.specs.Entries.{Entry, indexes_under}
@@ -36,7 +36,7 @@ pub record AreSlots (slots : List Entry) (machines : List Machine) (none : Machi
   pub counted : (s : ℕ) (d : Machine) → s < length machines → (get_or machines s d).index_count ≡ n
   pub none_counted : none.index_count ≡ n
   -- the automaton for the others has no states
-  pub empty : size none ≡ 0
+  pub empty : most_reads none ≡ 0
   pub for_none : IsFor none []
 
 -- each automaton is for the tokens of its slot
@@ -114,6 +114,10 @@ AreFound slots t path k =
 -- the states that are run for a path
 abbrev pub states_for : AutomataParts → List ℕ → ℕ
 states_for a path = size a.by_path + (size a.by_component + size (machine_under a.extensions (component_extension path)))
+
+-- the most reads at a position of a path
+abbrev pub reads_for : AutomataParts → List ℕ → ℕ
+reads_for a path = most_reads a.by_path + (most_reads a.by_component + most_reads (machine_under a.extensions (component_extension path)))
 
 -- No state is run for a path, and nothing is found.
 pub record AreIdle (a : AutomataParts) (path : List ℕ) : Type 0 where

@@ -1,7 +1,7 @@
 //! Automata for globs that match only paths whose last component has one extension.
 
 ghost use Rattle.std.specs.Prelude.{◌≡◌, ◌+◌, ◌<◌, ◌≤◌, ◌↔◌, [], ℕ, List, length, IsTrue, OnOk, IfOk, None, Some, cond};
-ghost use Rattle.byte_automaton.specs.Runs.{size};
+ghost use Rattle.byte_automaton.specs.Runs.{size, most_reads};
 ghost use Rattle.std.specs.Str.{bytes_eq};
 ghost use Rattle.glob_automaton.specs.IndexedTokens.{IndexedTokens, IsFor, indexed};
 ghost use Rattle.glob_syntax.specs.FlatTokens.{IsNested};
@@ -160,7 +160,7 @@ impl SlotsBuilder {
         ensures slots { result.slots ≡ [] }
         ensures machines { result.machines ≡ [] }
         ensures count { result.index_count ≡ index_count }
-        ensures none { size result.none ≡ 0 }
+        ensures none { most_reads result.none ≡ 0 }
     {
         SlotsBuilder {
             slots: Table::new(alloc),
@@ -183,7 +183,7 @@ impl SlotsBuilder {
         requires nested { IsNested (flats tokens.now) }
         requires index { index < self.old.index_count }
         ensures tokens { OnOk result ((before : ℕ → List IndexedTokens) → AreFor self.old.machines before → AddsTokens self.old.slots before self.new key.items (indexed options (tokens_of tokens.now) index)) }
-        ensures size { OnOk result ((extension : List ℕ) → size (machine_under self.new extension) ≤ size (machine_under self.old extension) + cond (bytes_eq key.items extension) (weight options (tokens_of tokens.now) + 1) 0) }
+        ensures reads { OnOk result ((extension : List ℕ) → most_reads (machine_under self.new extension) ≤ most_reads (machine_under self.old extension) + cond (bytes_eq key.items extension) (weight options (tokens_of tokens.now) + 4) 0) }
         ensures count { self.new.index_count ≡ self.old.index_count }
     {
         let slot = self.slot_of(alloc, key)?;
@@ -194,7 +194,7 @@ impl SlotsBuilder {
     fn slot_of(&mut self, alloc: Global, key: Vec<u8>) -> Result<usize, AllocError>
         ensures slot { IfOk result (λ slot. slot_of self.new.slots key.items ≡ Some slot) }
         ensures tokens { OnOk result ((before : ℕ → List IndexedTokens) → AreFor self.old.machines before → KeepsTokens self.old.slots before self.new) }
-        ensures size { OnOk result ((extension : List ℕ) → size (machine_under self.new extension) ≡ size (machine_under self.old extension)) }
+        ensures reads { OnOk result ((extension : List ℕ) → most_reads (machine_under self.new extension) ≡ most_reads (machine_under self.old extension)) }
         ensures count { self.new.index_count ≡ self.old.index_count }
     {
         // These lookups are no part of matching a path, so nobody counts them.
@@ -209,7 +209,7 @@ impl SlotsBuilder {
         requires { slot_of self.old.slots key.items ≡ None }
         ensures slot { IfOk result (λ slot. slot_of self.new.slots key.items ≡ Some slot) }
         ensures tokens { OnOk result ((before : ℕ → List IndexedTokens) → AreFor self.old.machines before → KeepsTokens self.old.slots before self.new) }
-        ensures size { OnOk result ((extension : List ℕ) → size (machine_under self.new extension) ≡ size (machine_under self.old extension)) }
+        ensures reads { OnOk result ((extension : List ℕ) → most_reads (machine_under self.new extension) ≡ most_reads (machine_under self.old extension)) }
         ensures count { self.new.index_count ≡ self.old.index_count }
     {
         let slot = self.builders.len();

@@ -1,6 +1,6 @@
 use Rattle.std.proofs.Common.{◌≡◌, ℕ, List, IsTrue, subst, arith}
 use Rattle.std.specs.Prelude.{◌↔◌, IfOk}
-use Rattle.byte_automaton.specs.Runs.{size}
+use Rattle.byte_automaton.specs.Runs.{size, most_reads}
 use Rattle.glob_automaton.specs.IndexedTokens.{IndexedTokens, SomeMatches, IsFor}
 use Rattle.glob_automaton.proofs.lemmas.IndexedTokens.{all_bytes}
 use Rattle.group_matching.specs.inner.Automata.{before_extension}
@@ -22,4 +22,4 @@ returns-clause-some c =
 
 pub returns-clause-visits : goal.returns-clause-visits
 returns-clause-visits c =
-    before_visits c.args.path.now c.before_extension-text.result.now (size c.args.automaton.now) c.args.visits.now c.is_match.new.visits c.before_extension-text.ensures c.is_match.ensures.visits
+    before_visits c.args.path.now c.before_extension-text.result.now (most_reads c.args.automaton.now) c.args.visits.now c.is_match.new.visits c.before_extension-text.ensures c.is_match.ensures.visits

@@ -1,7 +1,7 @@
 use Rattle.std.proofs.Common.{◌≡◌, ℕ, ◌⊎◌, inr, List, IsTrue, subst, arith}
 use Rattle.std.specs.Prelude.{◌↔◌, OnOk}
 use Rattle.std.proofs.Math.Logic.{⊎_elim}
-use Rattle.byte_automaton.specs.Runs.{size}
+use Rattle.byte_automaton.specs.Runs.{size, most_reads}
 use Rattle.byte_automaton.specs.Sets.{has_index}
 use Rattle.glob_automaton.specs.IndexedTokens.{IndexedTokens, SomeMatches, IsFor}
 use Rattle.glob_automaton.proofs.lemmas.IndexedTokens.{all_bytes}
@@ -24,4 +24,4 @@ returns-clause-found c =
 
 pub returns-clause-visits : goal.returns-clause-visits
 returns-clause-visits c =
-    before_visits c.args.path.now c.before_extension-text.result.now (size c.args.automaton.now) c.args.visits.now c.find.new.visits c.before_extension-text.ensures c.find.ensures.visits
+    before_visits c.args.path.now c.before_extension-text.result.now (most_reads c.args.automaton.now) c.args.visits.now c.find.new.visits c.before_extension-text.ensures c.find.ensures.visits

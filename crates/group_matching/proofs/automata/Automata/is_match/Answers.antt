@@ -1,10 +1,12 @@
-use Rattle.std.proofs.Common.{inl, inr, ℕ, refl, sym, subst}
+use Rattle.std.proofs.Common.{inl, inr, ℕ, length, refl, ap, sym, subst, ◌∙◌}
 use Rattle.std.specs.Prelude.{◌↔◌, IsTrue, List}
 use Rattle.std.proofs.lemmas.Result.{IfOk-weaker}
+use Rattle.byte_automaton.specs.Runs.{most_reads}
 use Rattle.glob_automaton.specs.IndexedTokens.{IndexedTokens, SomeMatches, IsFor}
 use Rattle.glob_path.specs.PathParts.{last_component, component_extension}
-use Rattle.group_matching.specs.inner.Automata.{AutomataParts, TokenLists, AreForLists, AreFound, before_extension, tokens_under}
+use Rattle.group_matching.specs.inner.Automata.{AutomataParts, TokenLists, AreForLists, AreFound, before_extension, machine_under, tokens_under}
 use Rattle.group_matching.proofs.lemmas.Automata.{last_run}
+use Rattle.group_matching.proofs.lemmas.Visits.{three_runs, two_runs}
 use Rattle.group_matching.proofs.automata.Automata.is_match.Goals as goal
 
 pub returns-then-branch-clause-some : goal.returns-then-branch-clause-some
@@ -34,3 +36,30 @@ returns-clause-some c =
     let none = c.if-branch-2.false in absurd (cc))
     (subst (λ text. IsTrue yes ↔ ((k : ℕ) × SomeMatches extension_tokens (before_extension text) k)) c.path-3.ensures (tells extension_tokens (c.by_extension-by_extension.ensures.tokens t.by_slot are.slots))))
     c.is_match_by_extension.ensures.some
+
+pub returns-in_err-is_match_by_component-clause-visits : goal.returns-in_err-is_match_by_component-clause-visits
+returns-in_err-is_match_by_component-clause-visits c =
+    let a = c.args.self.now in
+    let path = c.args.path.now in
+    two_runs (length path) (length c.path.result.now) (length c.path-2.result.now) (most_reads a.by_path) (most_reads c.self.inside.by_path) (most_reads a.by_component)
+    (most_reads (machine_under a.extensions (component_extension path))) c.args.visits.now c.is_match.new.visits c.is_match_by_component.new.visits
+    (ap length c.path.ensures) (ap length c.path-2.ensures) (ap (λ (p : AutomataParts). most_reads p.by_path) c.self.view_is) c.is_match.ensures.visits c.is_match_by_component.ensures.visits
+
+pub returns-then-branch-2-clause-visits : goal.returns-then-branch-2-clause-visits
+returns-then-branch-2-clause-visits c =
+    let a = c.args.self.now in
+    let path = c.args.path.now in
+    two_runs (length path) (length c.path.result.now) (length c.path-2.result.now) (most_reads a.by_path) (most_reads c.self.inside.by_path) (most_reads a.by_component)
+    (most_reads (machine_under a.extensions (component_extension path))) c.args.visits.now c.is_match.new.visits c.is_match_by_component.new.visits
+    (ap length c.path.ensures) (ap length c.path-2.ensures) (ap (λ (p : AutomataParts). most_reads p.by_path) c.self.view_is) c.is_match.ensures.visits c.is_match_by_component.ensures.visits
+
+pub returns-clause-visits : goal.returns-clause-visits
+returns-clause-visits c =
+    let a = c.args.self.now in
+    let path = c.args.path.now in
+    three_runs (length path) (length c.path.result.now) (length c.path-2.result.now) (length c.path-3.result.now) (most_reads a.by_path) (most_reads c.self.inside.by_path) (most_reads a.by_component)
+    (most_reads (machine_under a.extensions (component_extension path))) (most_reads c.by_extension-by_extension.result.now) c.args.visits.now c.is_match.new.visits c.is_match_by_component.new.visits
+    c.by_extension-by_extension.new.visits c.is_match_by_extension.new.visits
+    (ap length c.path.ensures) (ap length c.path-2.ensures) (ap length c.path-3.ensures) (ap (λ (p : AutomataParts). most_reads p.by_path) c.self.view_is)
+    (ap most_reads c.by_extension-by_extension.ensures.automaton)
+    c.is_match.ensures.visits c.is_match_by_component.ensures.visits c.by_extension-by_extension.ensures.visits c.is_match_by_extension.ensures.visits

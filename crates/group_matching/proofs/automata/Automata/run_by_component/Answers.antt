@@ -1,7 +1,7 @@
 use Rattle.std.proofs.Common.{◌≡◌, ℕ, ◌⊎◌, inr, List, IsTrue, ap, subst, arith, ◌∙◌}
 use Rattle.std.specs.Prelude.{◌↔◌, OnOk}
 use Rattle.std.proofs.Math.Logic.{⊎_elim}
-use Rattle.byte_automaton.specs.Runs.{size}
+use Rattle.byte_automaton.specs.Runs.{size, most_reads}
 use Rattle.byte_automaton.specs.Sets.{has_index}
 use Rattle.glob_automaton.specs.IndexedTokens.{IndexedTokens, SomeMatches, IsFor}
 use Rattle.glob_automaton.proofs.lemmas.IndexedTokens.{all_bytes}
@@ -27,5 +27,5 @@ returns-clause-found c =
 
 pub returns-clause-visits : goal.returns-clause-visits
 returns-clause-visits c =
-    component_visits c.args.path.now c.last_component_of-component.result.now (size c.self.inside.by_component) (size c.args.self.now.by_component) c.args.visits.now c.find.new.visits
-    (c.last_component_of-component.ensures ∙ ap last_component c.from_bytes.ensures) (ap (λ (a : AutomataParts). size a.by_component) c.self.view_is) c.find.ensures.visits
+    component_visits c.args.path.now c.last_component_of-component.result.now (most_reads c.self.inside.by_component) (most_reads c.args.self.now.by_component) c.args.visits.now c.find.new.visits
+    (c.last_component_of-component.ensures ∙ ap last_component c.from_bytes.ensures) (ap (λ (a : AutomataParts). most_reads a.by_component) c.self.view_is) c.find.ensures.visits

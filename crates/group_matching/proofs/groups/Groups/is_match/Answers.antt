@@ -1,10 +1,13 @@
-use Rattle.std.proofs.Common.{sym, subst}
+use Rattle.std.proofs.Common.{◌≤◌, length, refl, sym, subst, arith}
 use Rattle.std.specs.Prelude.{◌≢◌, []}
 use Rattle.std.proofs.lemmas.Result.{IfOk-weaker}
 use Rattle.path_keys.specs.Keys.{keys_found}
 use Rattle.group_matching.specs.inner.Groups.{GroupParts, AreGroupsOf}
 use Rattle.group_matching.proofs.lemmas.Groups.{group_parts}
 use Rattle.group_matching.proofs.lemmas.Matching.{some_found, some_key}
+use Rattle.group_matching.specs.Globs.{load}
+use Rattle.group_matching.specs.inner.Automata.{reads_for}
+use Rattle.group_matching.proofs.lemmas.Visits.{with_keys}
 use Rattle.group_matching.proofs.groups.Groups.is_match.Goals as goal
 
 pub returns-then-is_match-clause-some : goal.returns-then-is_match-clause-some
@@ -17,3 +20,10 @@ returns-clause-some c =
     IfOk-weaker c.is_match-2.result _ _ (λ found same globs are.
     let groups = subst (λ (p : GroupParts). AreGroupsOf globs p) (sym c.self.view_is) are in
     some_found globs (group_parts c.self.inside.keys c.self.inside.automata) c.args.path.now found groups off (same groups.tokens groups.are_for)) c.is_match-2.ensures.some
+
+pub returns-clause-visits : goal.returns-clause-visits
+returns-clause-visits c = λ globs are.
+    let path = c.args.path.now in
+    let groups = subst (λ (p : GroupParts). AreGroupsOf globs p) (sym c.self.view_is) are in
+    with_keys (length path) (length path) (reads_for c.self.inside.automata path) (load globs path) c.args.visits.now c.is_match-2.new.visits
+    (refl) (groups.reads path) (omega (arith, c.is_match.ensures.visits, c.is_match-2.ensures.visits))

@@ -77,7 +77,7 @@ returns-in-RequiredExtension-clause-groups c =
     let new = group_parts c.self.inside.keys c.add_by_extension.new.self in
     both_on_ok c.add_by_extension.result
     (λ adds few globs at before. by_extension_added globs g c.args.index c.in-RequiredExtension.key.items (tokens_of c.tokens_before_ending-rest.result.now) old new at refl c.tokens_before_ending-rest.ensures.tokens tells needs adds few c.add_by_extension.ensures.path c.add_by_extension.ensures.component (subst (λ (p : GroupParts). AreGroupsOf globs p) (sym c.self.view_is) before))
-    c.add_by_extension.ensures.tokens c.add_by_extension.ensures.size
+    c.add_by_extension.ensures.tokens c.add_by_extension.ensures.reads
 
 pub returns-in-ByLastComponent-clause-groups : goal.returns-in-ByLastComponent-clause-groups
 returns-in-ByLastComponent-clause-groups c =
@@ -88,7 +88,7 @@ returns-in-ByLastComponent-clause-groups c =
     let new = group_parts c.self.inside.keys c.add_by_component.new.self in
     both_on_ok c.add_by_component.result
     (λ adds few globs at before. by_component_added globs g c.args.index (tokens_of c.tokens_after_prefix-rest.result.now) old new at refl c.tokens_after_prefix-rest.ensures.tokens tells (λ path. needs path refl) adds few c.add_by_component.ensures.path c.add_by_component.ensures.extensions (subst (λ (p : GroupParts). AreGroupsOf globs p) (sym c.self.view_is) before))
-    c.add_by_component.ensures.tokens c.add_by_component.ensures.size
+    c.add_by_component.ensures.tokens c.add_by_component.ensures.reads
 
 pub returns-in-ByPath-clause-groups : goal.returns-in-ByPath-clause-groups
 returns-in-ByPath-clause-groups c =
@@ -99,4 +99,4 @@ returns-in-ByPath-clause-groups c =
     let new = group_parts c.self.inside.keys c.add_by_path.new.self in
     both_on_ok c.add_by_path.result
     (λ adds few globs at before. by_path_added globs g c.args.index old new at refl tells (λ path. needs path refl) adds few c.add_by_path.ensures.component c.add_by_path.ensures.extensions (subst (λ (p : GroupParts). AreGroupsOf globs p) (sym c.self.view_is) before))
-    c.add_by_path.ensures.tokens c.add_by_path.ensures.size
+    c.add_by_path.ensures.tokens c.add_by_path.ensures.reads

@@ -2,13 +2,13 @@ use Rattle.std.proofs.Common.{◌≡◌, ◌≤◌, ◌+◌, Some, get_or, refl,
 use Rattle.std.proofs.lemmas.Result.{on_ok_weaker}
 use Rattle.glob_syntax.specs.Views.{tokens_of}
 use Rattle.glob_syntax.specs.inner.Weight.{weight}
-use Rattle.byte_automaton.specs.Runs.{size}
+use Rattle.byte_automaton.specs.Runs.{most_reads}
 use Rattle.byte_automaton.specs.Steps.{Machine}
 use Rattle.byte_table.specs.Entries.{indexes_under}
 use Rattle.glob_automaton.specs.IndexedTokens.{IsFor, indexed}
 use Rattle.group_matching.specs.inner.Automata.{SlotParts, KeepsTokens, machine_under, slot_of}
 use Rattle.group_matching.proofs.lemmas.Tables.{first_in}
-use Rattle.group_matching.proofs.lemmas.Slots.{slot_parts, slots_set, slot_adds, slot_size_added}
+use Rattle.group_matching.proofs.lemmas.Slots.{slot_parts, slots_set, slot_adds, slot_reads_added}
 use Rattle.group_matching.proofs.automata.slots.SlotsBuilder.add_tokens.Goals as goal
 
 pub index_mut-requires : goal.index_mut-requires
@@ -51,20 +51,20 @@ returns-clause-tokens c =
     (subst (λ (e : SlotParts). KeepsTokens c.args.self.now.slots before e) (sym c.self.view_is) (c.in_ok-slot.ensures.tokens before are)))
     c.add_tokens.ensures.tokens
 
-pub returns-clause-size : goal.returns-clause-size
-returns-clause-size c =
+pub returns-clause-reads : goal.returns-clause-reads
+returns-clause-reads c =
     let slot = c.in_ok-slot.slot in
     let machines = c.self.inside.builders.items in
-    let more = weight c.args.options (tokens_of c.args.tokens.now) + 1 in
+    let more = weight c.args.options (tokens_of c.args.tokens.now) + 4 in
     let mid = slot_parts c.self.inside.slots machines c.self.inside.none c.self.inside.index_count in
     let new = slot_parts c.self.inside.slots (set machines slot c.add_tokens.new.builder) c.self.inside.none c.self.inside.index_count in
     let at : slot_of c.self.inside.slots c.args.key.items ≡ Some slot = ap (λ (e : SlotParts). slot_of e.slots c.args.key.items) c.self.view_is ∙ c.in_ok-slot.ensures.slot in
     let lt = c.self.invariant.held c.args.key.items slot (first_in (indexes_under c.self.inside.slots c.args.key.items) slot at) in
     on_ok_weaker c.add_tokens.result
     (λ few extension.
-    let kept : size (machine_under mid extension) ≡ size (machine_under c.args.self.now extension) =
-    ap (λ (e : SlotParts). size (machine_under e extension)) c.self.view_is ∙ c.in_ok-slot.ensures.size extension in
-    let value = ap size c.index_mut.ensures.value in
-    let within : size c.add_tokens.new.builder ≤ size (get_or machines slot c.index_mut.result.now) + more = omega (arith, few, value) in
-    let added = slot_size_added mid new c.args.key.items slot more c.index_mut.result.now c.add_tokens.new.builder c.self.invariant at lt refl refl refl within extension in omega (arith, kept, added))
-    c.add_tokens.ensures.size
+    let kept : most_reads (machine_under mid extension) ≡ most_reads (machine_under c.args.self.now extension) =
+    ap (λ (e : SlotParts). most_reads (machine_under e extension)) c.self.view_is ∙ c.in_ok-slot.ensures.reads extension in
+    let value = ap most_reads c.index_mut.ensures.value in
+    let within : most_reads c.add_tokens.new.builder ≤ most_reads (get_or machines slot c.index_mut.result.now) + more = omega (arith, few, value) in
+    let added = slot_reads_added mid new c.args.key.items slot more c.index_mut.result.now c.add_tokens.new.builder c.self.invariant at lt refl refl refl within extension in omega (arith, kept, added))
+    c.add_tokens.ensures.reads
