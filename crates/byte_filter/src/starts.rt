@@ -1,13 +1,13 @@
 //! A filter for the starts of an automaton.
 
-ghost use Rattle.std.specs.Prelude.{◌≡◌, ℕ, ◌+◌, ◌*◌, ◌<◌, ◌≤◌, ◌↔◌, length, slice_index, IsTrue, IfOk, IfSome, OnOk};
+ghost use Rattle.std.specs.Prelude.{◌≡◌, ℕ, ◌+◌, ◌*◌, ◌<◌, ◌≤◌, ◌↔◌, length, slice_index, IsTrue, Contains, IfOk, IfSome, OnOk, MatchOption};
 ghost use Rattle.byte_automaton.specs.Sets.{has_index, index_room};
 ghost use Rattle.byte_automaton.specs.Steps.{Accepts, IsReached, Machine};
 ghost use Rattle.byte_filter.specs.Entries.{ArePartsBelow};
 ghost use Rattle.byte_filter.specs.Starts.{IsGuarded, IsFilterOf, IsReachedMarked};
 
 use crate::filter::Filter;
-use crate::window::required_window;
+use crate::window::{LONG, required_windows};
 use byte_automaton::{Automaton, IndexSet};
 use std::alloc::{AllocError, Global};
 use std::marker::Model;
@@ -72,8 +72,9 @@ impl StartFilter {
         let count = automaton.starts().len();
         let mut filter = Filter::new(alloc, 16_384)?;
         let mut always = Vec::new(alloc);
+        let mut keys = Vec::new(alloc);
         for i in 0..count {
-            guard(automaton, i, &mut filter, &mut always)?;
+            guard(automaton, i, &mut keys, &mut filter, &mut always)?;
         }
         if filter.len() < FEWEST_ENTRIES {
             return Ok(None);
@@ -109,10 +110,12 @@ impl StartFilter {
     }
 }
 
-/// Makes the filter have a start of an automaton: gives it an entry under a window, or lists it if it has none.
+/// Makes the filter have a start of an automaton: gives it an entry under a window, or lists it if it has none. `keys` is room to
+/// work in.
 fn guard(
     automaton: &Automaton,
     i: usize,
+    keys: &mut Vec<u32>,
     filter: &mut Filter,
     always: &mut Vec<usize>,
 ) -> Result<(), AllocError>
@@ -122,13 +125,25 @@ fn guard(
     ensures below { OnOk result ((n : ℕ) → i < n → ArePartsBelow n filter.old → ArePartsBelow n filter.new) }
     ensures len { OnOk result (length filter.new ≤ length filter.old + 1) }
 {
-    let start = automaton.starts()[i];
+    required_windows(automaton, automaton.starts()[i], keys)?;
     if let Ok(part) = u32::try_from(i) {
-        if let Some(key) = required_window(automaton, start) {
+        if let Some(key) = chosen(keys) {
             filter.add(key, part)?;
             return Ok(());
         }
     }
     always.push(i)?;
     Ok(())
+}
+
+/// Returns one of some keys: the first of four bytes, or else the first.
+fn chosen(keys: &[u32]) -> Option<u32>
+    ensures { MatchOption result (Unit {0}) (λ key. Contains keys.now key) }
+{
+    for key in keys {
+        if *key >= LONG {
+            return Some(*key);
+        }
+    }
+    keys.first().copied()
 }
