@@ -23,3 +23,4 @@ pub use byte_steps::ByteSteps;
 pub use index_set::IndexSet;
 pub use state_set::StateSet;
 pub use state_sets::StateSets;
+pub use words::{has_bit, set_bit};
