@@ -7,6 +7,8 @@
 #![tactic(auto)]
 
 mod filter;
+mod hashing;
+mod key_bits;
 mod starts;
 mod window;
 

@@ -70,7 +70,7 @@ impl StartFilter {
         ensures { IfOk result (λ made. IfSome made (λ filter. IsFilterOf automaton.now filter)) }
     {
         let count = automaton.starts().len();
-        let mut filter = Filter::new(alloc, 16_384)?;
+        let mut filter = Filter::new(alloc, count)?;
         let mut always = Vec::new(alloc);
         let mut keys = Vec::new(alloc);
         for i in 0..count {
