@@ -6,6 +6,7 @@
 //! leads to no end.
 #![tactic(auto)]
 
+mod counts;
 mod filter;
 mod hashing;
 mod key_bits;

@@ -1,11 +1,12 @@
 //! A filter for the starts of an automaton.
 
-ghost use Rattle.std.specs.Prelude.{◌≡◌, ℕ, ◌+◌, ◌*◌, ◌<◌, ◌≤◌, ◌↔◌, length, slice_index, IsTrue, Contains, IfOk, IfSome, OnOk, MatchOption};
+ghost use Rattle.std.specs.Prelude.{◌≡◌, ℕ, ◌+◌, ◌*◌, ◌<◌, ◌≤◌, ◌↔◌, length, slice_index, IsTrue, IfOk, IfSome, OnOk};
 ghost use Rattle.byte_automaton.specs.Sets.{has_index, index_room};
 ghost use Rattle.byte_automaton.specs.Steps.{Accepts, IsReached, Machine};
 ghost use Rattle.byte_filter.specs.Entries.{ArePartsBelow};
 ghost use Rattle.byte_filter.specs.Starts.{IsGuarded, IsFilterOf, IsReachedMarked};
 
+use crate::counts::Counts;
 use crate::filter::Filter;
 use crate::window::{LONG, required_windows};
 use byte_automaton::{Automaton, IndexSet};
@@ -65,7 +66,7 @@ impl StartFilter {
     /// Returns a filter for the starts of an automaton, or `None` if fewer than four of them have a window, so that there is
     /// little to leave out. Returns an error if memory runs out.
     ///
-    /// It reads the states below each start down to an end, once.
+    /// It reads the states below each start down to an end, twice.
     pub fn new(alloc: Global, automaton: &Automaton) -> Result<Option<StartFilter>, AllocError>
         ensures { IfOk result (λ made. IfSome made (λ filter. IsFilterOf automaton.now filter)) }
     {
@@ -73,8 +74,9 @@ impl StartFilter {
         let mut filter = Filter::new(alloc, count)?;
         let mut always = Vec::new(alloc);
         let mut keys = Vec::new(alloc);
+        let counts = counted(alloc, automaton, &mut keys)?;
         for i in 0..count {
-            guard(automaton, i, &mut keys, &mut filter, &mut always)?;
+            guard(automaton, i, &counts, &mut keys, &mut filter, &mut always)?;
         }
         if filter.len() < FEWEST_ENTRIES {
             return Ok(None);
@@ -110,11 +112,26 @@ impl StartFilter {
     }
 }
 
-/// Makes the filter have a start of an automaton: gives it an entry under a window, or lists it if it has none. `keys` is room to
-/// work in.
+/// Counts the windows of all starts of an automaton. `keys` is room to work in.
+fn counted(
+    alloc: Global,
+    automaton: &Automaton,
+    keys: &mut Vec<u32>,
+) -> Result<Counts, AllocError> {
+    let mut counts = Counts::new(alloc, automaton.starts().len())?;
+    for start in automaton.starts() {
+        required_windows(automaton, *start, keys)?;
+        counts.add(keys);
+    }
+    Ok(counts)
+}
+
+/// Makes the filter have a start of an automaton: gives it an entry under its rarest window, or lists it if it has none. `keys` is
+/// room to work in.
 fn guard(
     automaton: &Automaton,
     i: usize,
+    counts: &Counts,
     keys: &mut Vec<u32>,
     filter: &mut Filter,
     always: &mut Vec<usize>,
@@ -127,23 +144,11 @@ fn guard(
 {
     required_windows(automaton, automaton.starts()[i], keys)?;
     if let Ok(part) = u32::try_from(i) {
-        if let Some(key) = chosen(keys) {
+        if let Some(key) = counts.rarest(keys) {
             filter.add(key, part)?;
             return Ok(());
         }
     }
     always.push(i)?;
     Ok(())
-}
-
-/// Returns one of some keys: the first of four bytes, or else the first.
-fn chosen(keys: &[u32]) -> Option<u32>
-    ensures { MatchOption result (Unit {0}) (λ key. Contains keys.now key) }
-{
-    for key in keys {
-        if *key >= LONG {
-            return Some(*key);
-        }
-    }
-    keys.first().copied()
 }
