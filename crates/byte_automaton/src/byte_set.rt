@@ -1,12 +1,12 @@
 //! Sets of bytes.
 
-ghost use Rattle.std.specs.Prelude.{◌≡◌, ℕ, ◌+◌, ◌<◌, ◌&&◌, ◌||◌, ◌==◌, not, true, false, slice_index_or, IsTrue, IsFalse, MatchOption, ◌↔◌};
+ghost use Rattle.std.specs.Prelude.{◌≡◌, ℕ, ◌+◌, ◌<◌, ◌≤◌, ◌&&◌, ◌||◌, ◌==◌, not, true, false, slice_index_or, IsTrue, IsFalse, MatchOption, ◌↔◌};
 ghost use Rattle.byte_automaton.specs.Alike.{differ};
 ghost use Rattle.byte_automaton.specs.Sets.{has_byte};
 ghost use Rattle.byte_automaton.specs.Decisions.{HasEvery};
 ghost use Rattle.byte_automaton.specs.Forcing.{AllFold};
 
-use crate::words::{changes, clear_bit, has_bit, set_bit};
+use crate::words::{changes, clear_bit, first_from, has_bit, set_bit};
 
 /// A set of bytes, as 256 bits.
 ///
@@ -129,27 +129,24 @@ impl ByteSet {
     pub(crate) fn folded(&self) -> Option<u8>
         ensures { MatchOption result (Unit {0}) (λ letter. AllFold self.now letter) }
     {
-        let letter = self.some_byte()? | 0x20;
-        for i in 0..256usize {
-            if has_bit(&self.words, i) {
-                let other = i as u8 | 0x20;
-                if other != letter {
-                    return None;
-                }
+        let letter = self.first_from(0)? | 0x20;
+        let mut from = 0;
+        while let Some(byte) = self.first_from(from) {
+            if byte | 0x20 != letter {
+                return None;
             }
+            from = byte as usize + 1;
         }
         Some(letter)
     }
 
-    /// Returns a byte of the set, if it has one.
-    fn some_byte(&self) -> Option<u8>
-        ensures { MatchOption result ((c : ℕ) → c < 256 → IsFalse (has_byte self.now c)) (λ c. IsTrue (has_byte self.now c)) }
+    /// Returns the lowest byte of the set that is not below a number.
+    fn first_from(&self, from: usize) -> Option<u8>
+        ensures { MatchOption result ((c : ℕ) → from ≤ c → has_byte self.now c ≡ false) (λ byte. (from ≤ byte) × ((c : ℕ) → from ≤ c → c < byte → has_byte self.now c ≡ false)) }
     {
-        for i in 0..256usize {
-            if has_bit(&self.words, i) {
-                return Some(i as u8);
-            }
+        match first_from(&self.words, from) {
+            Some(at) => Some(at as u8),
+            None => None,
         }
-        None
     }
 }

@@ -24,3 +24,4 @@ pub use index_set::IndexSet;
 pub use run::Span;
 pub use state_set::StateSet;
 pub use state_sets::StateSets;
+pub use words::{has_bit, set_bit};

@@ -2,3 +2,4 @@ pub mod Cuts
 pub mod Chains
 pub mod Windows
 pub mod Starts
+pub mod Hashes

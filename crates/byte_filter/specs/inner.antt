@@ -1,3 +1,6 @@
 pub mod Chains
 pub mod Cuts
+pub mod Rolling
 pub mod Starts
+pub mod Hashes
+pub mod KeyBits

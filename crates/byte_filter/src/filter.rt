@@ -4,8 +4,11 @@ ghost use Rattle.std.specs.Prelude.{◌≡◌, ℕ, List, ◌+◌, ◌*◌, ◌%
 ghost use Rattle.byte_automaton.specs.Forcing.{folded};
 ghost use Rattle.byte_automaton.specs.Sets.{has_index, index_room};
 ghost use Rattle.byte_filter.specs.Entries.{entry, HasEntry, ArePartsBelow, IsNamed};
-ghost use Rattle.byte_filter.specs.inner.Chains.{slot_of};
+ghost use Rattle.byte_filter.specs.inner.Rolling.{EndsInThree};
 
+use crate::hashing::{MOST_PLACES, place};
+use crate::key_bits::KeyBits;
+use crate::window::LONG;
 use byte_automaton::IndexSet;
 use std::alloc::{AllocError, Global};
 use std::marker::Model;
@@ -22,15 +25,24 @@ struct Link {
 
 /// Parts under the keys of windows. Contracts see the entries in the order in which they were added.
 pub struct Filter {
+    /// The keys, so that one word says of most others that they have no entry.
+    keys: KeyBits,
     /// For each slot one more than the place of the last entry whose key has it, or 0.
     heads: Vec<u32>,
     links: Vec<Link>,
+    /// Whether some key may be that of a window of three bytes.
+    has_short: bool,
 }
 
 impl Drop for Filter {
     // One call wherever a value is dropped, which keeps proofs short.
     fn drop(self) {
-        let Filter { heads: _, links: _ } = self;
+        let Filter {
+            keys: _,
+            heads: _,
+            links: _,
+            has_short: _,
+        } = self;
     }
 }
 
@@ -40,11 +52,11 @@ impl Model for Filter {
 
     ghost Value = { List Entry };
 
-    ghost use Rattle.byte_filter.specs.inner.Chains.{entries_of, AreChained};
+    ghost use Rattle.byte_filter.specs.inner.Chains.{entries_of, IsSound};
 
     ghost view = { λ f. entries_of f.links.items };
 
-    ghost invariant = { λ f. AreChained f.heads.items f.links.items };
+    ghost invariant = { λ f. IsSound f.keys f.heads.items f.links.items f.has_short };
 }
 
 impl Clone for Filter {
@@ -54,21 +66,26 @@ impl Clone for Filter {
     fn clone(&self) -> Result<Filter, AllocError> {
         let alloc = *self.links.allocator();
         Ok(Filter {
+            keys: self.keys.clone()?,
             heads: Vec::from_slice(alloc, &self.heads)?,
             links: Vec::from_slice(alloc, &self.links)?,
+            has_short: self.has_short,
         })
     }
 }
 
 impl Filter {
-    /// Returns a filter of no entries, with a number of slots. Returns an error if memory runs out.
-    pub fn new(alloc: Global, slots: usize) -> Result<Filter, AllocError>
-        requires { 0 < slots }
+    /// Returns a filter of no entries, with memory for so many. With many more than these, looking for a key takes longer. Returns
+    /// an error if memory runs out.
+    pub fn new(alloc: Global, entries: usize) -> Result<Filter, AllocError>
         ensures { IfOk result (λ filter. filter ≡ []) }
     {
+        let slots = entries.clamp(1, MOST_PLACES / 3) * 3;
         Ok(Filter {
+            keys: KeyBits::new(alloc, entries)?,
             heads: vec![in alloc; 0u32; slots]?,
             links: Vec::new(alloc),
+            has_short: false,
         })
     }
 
@@ -86,7 +103,7 @@ impl Filter {
         ensures ok { OnOk result (self.new ≡ self.old ++ entry key part ∷ []) }
         ensures err { OnErr result (self.new ≡ self.old) }
     {
-        let slot = slot(self.heads.len(), key);
+        let slot = place(key, self.heads.len());
         // No memory has room for more entries than a number can count.
         let Ok(head) = u32::try_from(self.links.len() + 1) else {
             return Err(AllocError);
@@ -94,37 +111,68 @@ impl Filter {
         let next = self.heads[slot];
         self.links.push(Link { key, part, next })?;
         self.heads[slot] = head;
+        self.keys.put(key);
+        self.has_short |= key < LONG;
         Ok(())
     }
 
     /// Puts each part with an entry under the key of a window of a text into a set, beside what it holds.
     ///
-    /// It is at most two visits for each byte and entry; so it is none if there are no entries.
+    /// For each byte it is at most four visits, and two for each entry.
     pub fn mark(&self, text: &[u8], marks: &mut IndexSet, visits: &mut Visits)
         requires { ArePartsBelow (index_room marks.old) self.now }
         ensures room { index_room marks.new ≡ index_room marks.old }
         ensures marks { (k : ℕ) → IsTrue (has_index marks.new k) ↔ (IsNamed self.now text.now k ⊎ IsTrue (has_index marks.old k)) }
-        ensures visits { visits.new ≤ visits.old + length text.now * (2 * length self.now) }
+        ensures visits { visits.new ≤ visits.old + length text.now * (2 * (2 + length self.now)) }
     {
-        if text.len() < 3 || self.links.is_empty() {
+        if text.len() < 3 {
             return;
         }
-        let mut key = next_key(next_key(0, text[0]), text[1]);
-        for at in 0..text.len() - 2 {
-            key = next_key(key, text[at + 2]);
+        let mut key = first_key(text);
+        self.mark_short(key, marks, visits);
+        for at in 0..text.len() - 3 {
+            key = next_key(key, text[at + 3]);
             self.mark_key(key, marks, visits);
+            self.mark_short(key, marks, visits);
         }
     }
 
-    /// Puts each part with an entry under a key into a set, beside what it holds. It is at most one visit, and one for each entry.
+    /// Puts each part with an entry under the key that the last three bytes of a key are into a set, beside what it holds. It is at
+    /// most two visits, and one for each entry.
+    fn mark_short(&self, key: u32, marks: &mut IndexSet, visits: &mut Visits)
+        requires { ArePartsBelow (index_room marks.old) self.now }
+        ensures room { index_room marks.new ≡ index_room marks.old }
+        ensures marks { (k : ℕ) → IsTrue (has_index marks.new k) ↔ (HasEntry self.now (key % 16777216) k ⊎ IsTrue (has_index marks.old k)) }
+        ensures visits { visits.new ≤ visits.old + (2 + length self.now) }
+    {
+        if self.has_short {
+            self.mark_key(key % LONG, marks, visits);
+        }
+    }
+
+    /// Puts each part with an entry under a key into a set, beside what it holds. It is at most two visits, and one for each entry.
     fn mark_key(&self, key: u32, marks: &mut IndexSet, visits: &mut Visits)
+        requires { ArePartsBelow (index_room marks.old) self.now }
+        ensures room { index_room marks.new ≡ index_room marks.old }
+        ensures marks { (k : ℕ) → IsTrue (has_index marks.new k) ↔ (HasEntry self.now key k ⊎ IsTrue (has_index marks.old k)) }
+        ensures visits { visits.new ≤ visits.old + (2 + length self.now) }
+    {
+        visits.tick();
+        if self.keys.has(key) {
+            self.mark_chain(key, marks, visits);
+        }
+    }
+
+    /// Puts each part with an entry under a key into a set, beside what it holds: goes along the chain of the key's slot. It is at
+    /// most one visit, and one for each entry.
+    fn mark_chain(&self, key: u32, marks: &mut IndexSet, visits: &mut Visits)
         requires { ArePartsBelow (index_room marks.old) self.now }
         ensures room { index_room marks.new ≡ index_room marks.old }
         ensures marks { (k : ℕ) → IsTrue (has_index marks.new k) ↔ (HasEntry self.now key k ⊎ IsTrue (has_index marks.old k)) }
         ensures visits { visits.new ≤ visits.old + (1 + length self.now) }
     {
         visits.tick();
-        let slot = slot(self.heads.len(), key);
+        let slot = place(key, self.heads.len());
         let mut at = self.heads[slot] as usize;
         while at > 0 {
             visits.tick();
@@ -137,23 +185,21 @@ impl Filter {
     }
 }
 
-/// Returns the slot of a key.
-#[tactic(auto, unfolding(crate::specs::inner::Chains::slot_of))]
-fn slot(slots: usize, key: u32) -> usize
-    requires { 0 < slots }
-    ensures is { result ≡ slot_of slots key }
-    ensures within { result < slots }
+/// Returns the key of the first three bytes.
+fn first_key(text: &[u8]) -> u32
+    requires { 3 ≤ length text.now }
+    ensures { EndsInThree text.now 0 result }
 {
-    let hash = key as usize * 2_654_435_761 % 4_294_967_296;
-    hash % slots
+    next_key(next_key(next_key(0, text[0]), text[1]), text[2])
 }
 
-/// Returns the key of the window that ends with a byte, by that of the window that ends before it.
+/// Returns the key of the window of four bytes that ends with a byte, by that of the window that ends before it.
 #[tactic(auto, unfolding(byte_automaton::specs::Forcing::folded))]
 fn next_key(key: u32, byte: u8) -> u32
-    ensures is { result ≡ key % 65536 * 256 + folded byte }
+    ensures is { result ≡ key % 16777216 * 256 + folded byte }
+    ensures three { result % 16777216 ≡ key % 65536 * 256 + folded byte }
     ensures two { result % 65536 ≡ key % 256 * 256 + folded byte }
     ensures one { result % 256 ≡ folded byte }
 {
-    key % 65_536 * 256 + (byte | 0x20) as u32
+    key % LONG * 256 + (byte | 0x20) as u32
 }

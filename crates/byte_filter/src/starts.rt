@@ -6,8 +6,9 @@ ghost use Rattle.byte_automaton.specs.Steps.{Accepts, IsReached, Machine};
 ghost use Rattle.byte_filter.specs.Entries.{ArePartsBelow};
 ghost use Rattle.byte_filter.specs.Starts.{IsGuarded, IsFilterOf, IsReachedMarked};
 
+use crate::counts::Counts;
 use crate::filter::Filter;
-use crate::window::required_window;
+use crate::window::{LONG, required_windows};
 use byte_automaton::{Automaton, IndexSet};
 use std::alloc::{AllocError, Global};
 use std::marker::Model;
@@ -65,15 +66,17 @@ impl StartFilter {
     /// Returns a filter for the starts of an automaton, or `None` if fewer than four of them have a window, so that there is
     /// little to leave out. Returns an error if memory runs out.
     ///
-    /// It reads the states below each start down to an end, once.
+    /// It reads the states below each start down to an end, twice.
     pub fn new(alloc: Global, automaton: &Automaton) -> Result<Option<StartFilter>, AllocError>
         ensures { IfOk result (λ made. IfSome made (λ filter. IsFilterOf automaton.now filter)) }
     {
         let count = automaton.starts().len();
-        let mut filter = Filter::new(alloc, 16_384)?;
+        let mut filter = Filter::new(alloc, count)?;
         let mut always = Vec::new(alloc);
+        let mut keys = Vec::new(alloc);
+        let counts = counted(alloc, automaton, &mut keys)?;
         for i in 0..count {
-            guard(automaton, i, &mut filter, &mut always)?;
+            guard(automaton, i, &counts, &mut keys, &mut filter, &mut always)?;
         }
         if filter.len() < FEWEST_ENTRIES {
             return Ok(None);
@@ -109,10 +112,27 @@ impl StartFilter {
     }
 }
 
-/// Makes the filter have a start of an automaton: gives it an entry under a window, or lists it if it has none.
+/// Counts the windows of all starts of an automaton. `keys` is room to work in.
+fn counted(
+    alloc: Global,
+    automaton: &Automaton,
+    keys: &mut Vec<u32>,
+) -> Result<Counts, AllocError> {
+    let mut counts = Counts::new(alloc, automaton.starts().len())?;
+    for start in automaton.starts() {
+        required_windows(automaton, *start, keys)?;
+        counts.add(keys);
+    }
+    Ok(counts)
+}
+
+/// Makes the filter have a start of an automaton: gives it an entry under its rarest window, or lists it if it has none. `keys` is
+/// room to work in.
 fn guard(
     automaton: &Automaton,
     i: usize,
+    counts: &Counts,
+    keys: &mut Vec<u32>,
     filter: &mut Filter,
     always: &mut Vec<usize>,
 ) -> Result<(), AllocError>
@@ -122,9 +142,9 @@ fn guard(
     ensures below { OnOk result ((n : ℕ) → i < n → ArePartsBelow n filter.old → ArePartsBelow n filter.new) }
     ensures len { OnOk result (length filter.new ≤ length filter.old + 1) }
 {
-    let start = automaton.starts()[i];
+    required_windows(automaton, automaton.starts()[i], keys)?;
     if let Ok(part) = u32::try_from(i) {
-        if let Some(key) = required_window(automaton, start) {
+        if let Some(key) = counts.rarest(keys) {
             filter.add(key, part)?;
             return Ok(());
         }

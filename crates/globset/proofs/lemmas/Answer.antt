@@ -10,7 +10,7 @@ use Rattle.glob_syntax.specs.inner.Weight.{weight}
 use Rattle.glob_groups.specs.Direct.{needs_automaton}
 use Rattle.globset_glob.specs.Means.{GlobValue, tokens_of_glob, glob_means}
 use Rattle.globset_glob.specs.Cost.{cost}
-use Rattle.group_matching.specs.Globs.{TokenGlob, states, listed, most_visits}
+use Rattle.group_matching.specs.Globs.{TokenGlob, reads, listed, most_visits}
 use Rattle.group_matching.specs.Globs as tokens
 use Rattle.group_matching.specs.Indexes.{passes_at}
 use Rattle.globset.specs.Silent.{silent, is_listed}
@@ -67,8 +67,8 @@ pub size_push : (globs : List GlobValue) (g : GlobValue) (path : List ℕ) → w
     → tokens.load (map by_tokens (globs ++ g ∷ [])) path ≤ load (globs ++ g ∷ []) path
 size_push globs g path few before =
     let one = sum_by-append (λ x. cond (needs_automaton x.options (tokens_of_glob x) path) (cost x) 0) globs (g ∷ []) in
-    let two = ap (λ xs. tokens.load xs path) (map_push globs g) ∙ sum_by-append (λ x. states x path) (map by_tokens globs) (by_tokens g ∷ []) in
-    let more = of_states (needs_automaton g.options (tokens_of_glob g) path) (weight g.options (tokens_of_glob g) + 1) (cost g) (omega (arith, few)) in
+    let two = ap (λ xs. tokens.load xs path) (map_push globs g) ∙ sum_by-append (λ x. reads x path) (map by_tokens globs) (by_tokens g ∷ []) in
+    let more = of_states (needs_automaton g.options (tokens_of_glob g) path) (weight g.options (tokens_of_glob g) + 4) (cost g) (omega (arith, few)) in
     omega (arith, one, two, more, before)
 
 -- the visits of groups, within those of the set

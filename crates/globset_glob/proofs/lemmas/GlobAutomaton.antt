@@ -10,7 +10,7 @@ use Rattle.glob_syntax.specs.Reading.{reading}
 use Rattle.glob_syntax.specs.StatesPerByte.{states_per_byte}
 use Rattle.glob_syntax.specs.inner.Weight.{weight}
 use Rattle.byte_automaton.specs.Steps.{Machine}
-use Rattle.byte_automaton.specs.Runs.{size}
+use Rattle.byte_automaton.specs.Runs.{most_reads}
 use Rattle.glob_automaton.specs.TokenMeans.{means}
 use Rattle.glob_automaton.specs.IndexedTokens.{IndexedTokens, indexed, SomeMatches, IsFor}
 use Rattle.glob_automaton.proofs.lemmas.Booleans.{same_truth}
@@ -21,10 +21,10 @@ use Rattle.glob_text.proofs.lemmas.Globs.{tokens_are}
 
 -- an automaton to which the glob's tokens were added, and nothing else
 pub automaton_is : (g : GlobValue) (o : Options) (ts : Tokens) (old new : Machine) → o ≡ g.options → reading g.options (chars g.text) ≡ Ok ts → weight o ts ≤ states_per_byte o * length g.text
-    → IsFor old [] → size old ≡ 0 → ((xs : List IndexedTokens) → IsFor old xs → IsFor new (xs ++ indexed o ts 0 ∷ [])) → size new ≤ size old + (weight o ts + 1) → IsAutomatonOf g new
+    → IsFor old [] → most_reads old ≡ 0 → ((xs : List IndexedTokens) → IsFor old xs → IsFor new (xs ++ indexed o ts 0 ∷ [])) → most_reads new ≤ most_reads old + (weight o ts + 4) → IsAutomatonOf g new
 automaton_is g o ts old new options read few none empty adds count = record {
   tokens = subst (λ us. IsFor new (indexed g.options us 0 ∷ [])) (sym (tokens_are g ts read)) (subst (λ p. IsFor new (indexed p ts 0 ∷ [])) options (adds [] none));
-  size = let same = ap (λ p. states_per_byte p * length g.text) options in omega (arith, empty, count, few, same);
+  reads = let same = ap (λ p. states_per_byte p * length g.text) options in omega (arith, empty, count, few, same);
 }
 
 -- whether a run finds something is whether the glob matches

@@ -1,7 +1,7 @@
 -- By what a matcher decides: the key or the automaton of one glob.
 use Rattle.std.specs.Prelude.{◌≡◌, ◌≤◌, ℕ, true, [], ◌∷◌}
 use Rattle.byte_automaton.specs.Steps.{Machine}
-use Rattle.byte_automaton.specs.Runs.{size}
+use Rattle.byte_automaton.specs.Runs.{size, most_reads}
 use Rattle.glob_automaton.specs.IndexedTokens.{indexed, IsFor}
 use Rattle.glob_groups.specs.GroupMeaning.{IsGroupOf, group_seen}
 use Rattle.glob_groups.specs.inner.ByKey.{is_by_key}
@@ -10,11 +10,11 @@ use Rattle.globset_glob.specs.Cost.{cost}
 use Rattle.globset_glob.specs.declared.matcher.form.Form.{Form}
 use Rattle.globset_glob.specs.declared.matcher.form.Form.TheVariants.{Key, Automaton}
 
--- An automaton is for the tokens of the glob, under the index 0. It has at most as many states as the glob may have visits for each
--- position of a path.
+-- An automaton is for the tokens of the glob, under the index 0. At each position of a path it has at most as many reads
+-- as the glob may have visits.
 pub record IsAutomatonOf (g : GlobValue) (m : Machine) : Type 0 where
   pub tokens : IsFor m (indexed g.options (tokens_of_glob g) 0 ∷ [])
-  pub size : size m ≤ cost g
+  pub reads : most_reads m ≤ cost g
 
 -- A key is that of the glob's group, and decides alone which paths the glob matches. An automaton is that of the glob.
 abbrev pub IsFormOf : GlobValue → Form → Type 0

@@ -1,7 +1,7 @@
 //! Memory that is handed to a matcher to match with.
 
 ghost use Rattle.std.specs.Prelude.{◌≡◌, ◌+◌, ◌*◌, ◌≤◌, ◌↔◌, ℕ, List, IsTrue, length};
-ghost use Rattle.byte_automaton.specs.Runs.{size};
+ghost use Rattle.byte_automaton.specs.Runs.{size, most_reads};
 ghost use Rattle.glob_automaton.specs.IndexedTokens.{IndexedTokens, IsFor, SomeMatches};
 
 use glob_matching::Compiled;
@@ -15,10 +15,10 @@ pub trait MatcherScratch {
 
     /// Returns whether tokens match a text, by their automaton. It takes no memory, and cannot fail.
     ///
-    /// It is at most `(text bytes + 1) * states` visits. What earlier calls left in the scratch has no effect.
+    /// It is at most `(text bytes + 1) * (states + 3)` visits. What earlier calls left in the scratch has no effect.
     fn run(&mut self, automaton: &Compiled, text: &[u8], visits: &mut Visits) -> bool
         requires { size automaton.now ≤ states self.old }
         ensures some { (xs : List IndexedTokens) → IsFor automaton.now xs → IsTrue result ↔ ((k : ℕ) × SomeMatches xs text.now k) }
         ensures kept { self.new ≡ self.old }
-        ensures visits { visits.new ≤ visits.old + (length text.now + 1) * size automaton.now };
+        ensures visits { visits.new ≤ visits.old + (length text.now + 1) * most_reads automaton.now };
 }

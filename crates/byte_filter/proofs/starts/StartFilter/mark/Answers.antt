@@ -33,5 +33,5 @@ returns-clause-visits c =
     let n = length c.args.text.now in
     let p = length c.self.inside.filter in
     let inv = c.self.invariant in
-    let more : n * (2 * p) ≤ n * (3 * c.self.inside.count) = mul-le n (2 * p) n (3 * c.self.inside.count) (omega arith) (omega (arith, inv.within)) in
+    let more : n * (2 * (2 + p)) ≤ n * (3 * c.self.inside.count) = mul-le n (2 * (2 + p)) n (3 * c.self.inside.count) (omega arith) (omega (arith, inv.within, inv.enough)) in
     subst (λ x. c.mark.new.visits ≤ c.args.visits.now + n * (3 * x)) (ap (λ (g : Guards). g.count) c.self.view_is) (omega (arith, more, c.mark.ensures.visits))

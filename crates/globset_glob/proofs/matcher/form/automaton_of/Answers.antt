@@ -6,4 +6,4 @@ pub returns : goal.returns
 returns c =
     let adds = c.in_ok-add_tokens.ensures in
     rw c.finish.ensures (automaton_is c.args.glob.now c.options.result (tokens_of c.tokens.result.now) c.new_builder-builder.result c.add_tokens.new.builder c.options.ensures
-    c.tokens.ensures.read (rw c.options.ensures c.tokens.ensures.weight) c.new_builder-builder.ensures.tokens c.new_builder-builder.ensures.size adds.tokens adds.size)
+    c.tokens.ensures.read (rw c.options.ensures c.tokens.ensures.weight) c.new_builder-builder.ensures.tokens c.new_builder-builder.ensures.reads adds.tokens adds.reads)

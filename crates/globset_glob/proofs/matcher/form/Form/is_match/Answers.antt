@@ -1,7 +1,7 @@
 use Rattle.std.proofs.Common.{[], ◌∷◌, ◌≤◌, ◌+◌, ◌*◌, length, ap, ◌∙◌, subst, arith}
 use Rattle.std.proofs.Math.Nat.{mul-le-mul_left}
 use Rattle.std.proofs.lemmas.Result.{IfOk-weaker}
-use Rattle.byte_automaton.specs.Runs.{size}
+use Rattle.byte_automaton.specs.Runs.{most_reads}
 use Rattle.glob_automaton.specs.IndexedTokens.{indexed}
 use Rattle.glob_text.specs.Means.{tokens_of_glob, glob_means}
 use Rattle.globset_glob.specs.Cost.{cost}
@@ -28,5 +28,5 @@ pub returns-in-Automaton-clause-visits : goal.returns-in-Automaton-clause-visits
 returns-in-Automaton-clause-visits c = λ g is.
     let form = subst (λ (f : Form). IsFormOf g f) c.in-Automaton.is is in
     let positions = length c.path.result.now + 1 in
-    let all : positions * size c.in-Automaton.automaton ≤ positions * cost g = mul-le-mul_left positions form.size in
+    let all : positions * most_reads c.in-Automaton.automaton ≤ positions * cost g = mul-le-mul_left positions form.reads in
     omega (arith, c.is_match.ensures.visits, all, ap (λ p. (length p + 1) * cost g) c.path.ensures)

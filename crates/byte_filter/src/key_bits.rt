@@ -1,0 +1,62 @@
+//! Sets of keys that may seem to have others, too.
+
+ghost use Rattle.std.specs.Prelude.{◌≡◌, ◌*◌, ◌<◌, ◌≤◌, length};
+
+use crate::hashing::{MOST_PLACES, place};
+use byte_automaton::{has_bit, set_bit};
+use std::alloc::{AllocError, Global};
+
+/// A bit for each hash of a key: those of the keys that were put in are set.
+pub struct KeyBits {
+    words: Vec<u64>,
+    ghost some: { 0 < length words.items },
+    ghost most: { 64 * length words.items ≤ 4294967296 },
+}
+
+impl Drop for KeyBits {
+    // One call wherever a value is dropped, which keeps proofs short.
+    fn drop(self) {
+        let KeyBits { words: _ } = self;
+    }
+}
+
+impl Clone for KeyBits {
+    ghost is_clone = { λ a b. b.words.items ≡ a.words.items };
+
+    /// Returns a copy. Returns an error if memory runs out.
+    fn clone(&self) -> Result<KeyBits, AllocError> {
+        let alloc = *self.words.allocator();
+        Ok(KeyBits {
+            words: Vec::from_slice(alloc, &self.words)?,
+        })
+    }
+}
+
+impl KeyBits {
+    ghost use Rattle.std.specs.Prelude.{ℕ, IsTrue};
+    ghost use Rattle.byte_filter.specs.inner.KeyBits.{has_key};
+
+    /// Returns a set of no keys, with 64 bits for each of so many. Returns an error if memory runs out.
+    pub fn new(alloc: Global, keys: usize) -> Result<KeyBits, AllocError> {
+        let words = keys.clamp(1, MOST_PLACES / 64);
+        Ok(KeyBits {
+            words: vec![in alloc; 0u64; words]?,
+        })
+    }
+
+    /// Puts a key in.
+    pub fn put(&mut self, key: u32)
+        ensures has { IsTrue (has_key self.new key) }
+        ensures kept { (other : ℕ) → IsTrue (has_key self.old other) → IsTrue (has_key self.new other) }
+    {
+        let bit = place(key, 64 * self.words.len());
+        set_bit(&mut self.words, bit);
+    }
+
+    /// Returns whether a key was put in; perhaps `true` if it was not.
+    pub fn has(&self, key: u32) -> bool
+        ensures { result ≡ has_key self.now key }
+    {
+        has_bit(&self.words, place(key, 64 * self.words.len()))
+    }
+}
