@@ -23,6 +23,8 @@ SEPARATOR = DEFAULTS._replace(literal_separator=True)
 CHARACTER = DEFAULTS._replace(whole_character=True)
 EMPTY = DEFAULTS._replace(empty_alternates=True)
 ANY_CASE = [CASE, CASE._replace(literal_separator=True)]
+UNCLOSED = DEFAULTS._replace(allow_unclosed_class=True)
+PLAIN = [UNCLOSED, UNCLOSED._replace(backslash_escape=False)]
 
 # For each kind the forms of its globs and their options. In a form capital letters and `#` stand for what `PARTS` says.
 KINDS = {
@@ -39,7 +41,9 @@ KINDS = {
     "upper and lower case": (["*U*", "U*U", "**/U.E", "*WU*", "U/**"], [DEFAULTS, DEFAULTS, CASE]),
     "classes": (["*W[0-9]W#*", "*[LL]W*#", "**/W[!LL]#.E", "*W[L-z]#*", "*W[^/]D*", "W[]L]#*", "*[!0-9]W#"], [DEFAULTS, CASE]),
     "classes of one letter": (["*V#*", "V*W#", "**/V#", "*WCW#*", "*C?C#", "*W[L]D*"], [DEFAULTS, CASE]),
-    "alternatives": (["*.{E#,E}", "**/{W#,W}/*.{E,E}", "W/{W,W#}*", "{W#,WD}/**", "*{W,W#}D*", "{W,{W,T}#}/*"], [DEFAULTS]),
+    "alternatives": (
+        ["*.{E#,E}", "**/{W#,W}/*.{E,E}", "W/{W,W#}*", "{W#,WD}/**", "*{W,W#}D*", "{W,{W,T}#}/*", "{*W#*,W/**/W#}"], [DEFAULTS],
+    ),
     "optional branches": (
         ["*{W#,}*W", "*W{W,}#*", "W{/**,}#", "*{W{W,},}#*", "{W#,}{W,}D*", "*W#{,W}", "*T{W#,{}}T*", "*{W,{,W}}D"],
         [DEFAULTS, EMPTY],
@@ -57,7 +61,14 @@ KINDS = {
         ["*G#*", "**/G?W#", "G#*", "*W[G]#*", "{G,W}#*", "*G", "*WG*", "**/G/W#", "*G??#*", "*[!G]W#"],
         [DEFAULTS, CASE, CHARACTER, SEPARATOR],
     ),
-    "bytes one bit apart": (["*WBD*", "BWB#*", "*B*BW#", "**/WB#", "*BBBT*", "TBW*", "*{B,W}W#"], [DEFAULTS, CASE]),
+    "bytes one bit apart": (
+        ["*WBD*", "BWB#*", "*B*BW#", "**/WB#", "*BBBT*", "TBW*", "*{B,W}W#", "*WPW#*", "*TPP#", "P*WP#"], [DEFAULTS, CASE],
+    ),
+    "characters that are plain": (["*[W#*", "*W\\W#*", "W#[*", "\\W[W#", "*W\\\\W#*", "**/W#\\W", "*W,W#*"], PLAIN),
+    "runs of stars": (
+        ["**W#", "W**#", "**W**", "*W***W#*", "W#**/**/W", "**/**/W#*", "/**/W#/**", "W/**/**/W#", "W#/**/**"],
+        [DEFAULTS, SEPARATOR],
+    ),
     "extensions, names and words": (
         [
             "*.E#", "**/W#", "W#/**", "**/W/W#", "*_W#", "W/W#.E", "**/*.E#", "W#*", "*W#*", "*W#*T*", "*W?#", "W/**/W#*",
@@ -95,6 +106,7 @@ PARTS = {
     "Q": lambda source, number: with_question_marks(source, source.pick(WORDS)),
     "C": lambda source, number: class_of_both_cases(source, source.pick("abkstz")),
     "V": lambda source, number: "".join(class_of_both_cases(source, letter) for letter in source.pick(WORDS)),
+    "P": lambda source, number: class_of_pair(source.pick(ONE_BIT_APART)),
     "B": lambda source, number: "".join(literal(source.pick(source.pick(ONE_BIT_APART))) for _ in range(1 + source.below(3))),
 }
 
@@ -110,6 +122,11 @@ def with_question_marks(source, word):
 
 def class_of_both_cases(source, letter):
     return source.pick([f"[{letter}{letter.upper()}]", f"[{letter.upper()}{letter}]", letter, f"[{letter}]"])
+
+
+def class_of_pair(pair):
+    """Returns a class of these two characters. A `^` that came first would negate it."""
+    return f"[{pair[1]}{pair[0]}]" if pair[0] == "^" else f"[{pair}]"
 
 
 def literal(character):
