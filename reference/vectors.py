@@ -5,6 +5,7 @@ from collections import Counter
 from concurrent.futures import ProcessPoolExecutor
 
 import globs as definitions
+import large
 import making
 from globs import DEFAULTS, Glob, Options, Rejected, glob_means, reading
 from making import Source
@@ -245,16 +246,57 @@ def many_globs(counts, source):
 
 
 def ask_array(file, source, globs, kind):
+    ask_json_set(file, globs, kind)
+    ask_paths(file, source, globs, 12 if len(globs) < 100 else 6)
+
+
+def ask_json_set(file, globs, kind):
+    """Begins a case with the set of these globs, of a kind."""
     file.end_case()
     for glob in globs:
         making.count_glob(file.counts, glob)
     file.ask("array", escaped("[" + ",".join(map(definitions.value_of_glob, globs)) + "]"))
-    for limit in (1, 10, 100, 1000):
+    for limit in (1, 10, 100, 1000, 10_000):
         if len(globs) <= limit:
             file.counts[f"sets {kind}"] += 1
             file.counts[f"sets of at most {limit} globs"] += 1
             break
-    ask_paths(file, source, globs, 12 if len(globs) < 100 else 6)
+
+
+# ---- large_sets.txt
+
+
+def large_sets(counts, source):
+    head = "# Sets of 64 to 5,000 globs, of each kind and mixed, and paths that have most of what some glob requires.\n#\n"
+    file = File(counts, head + ARRAYS)
+    for kind in large.KINDS:
+        for size, paths in [(100, 40), (150 + source.below(150), 30), (500, 14)]:
+            ask_large(file, source, numbered_set(source, [kind], size), f"of {kind}", paths)
+    for size, paths in [(64, 30), (65, 30), (300, 30), (1000, 20)]:
+        ask_large(file, source, numbered_set(source, list(large.KINDS), size), "of all kinds of large sets", paths)
+    for size, paths in [(64, 30), (65, 30), (300, 40), (1000, 30), (2000, 20), (5000, 20)]:
+        ask_large(file, source, numbered_set(source, large.SELECTIVE, size), "of selective kinds of large sets", paths)
+    for kind in ["long words", "two words", "classes", "owners"]:
+        ask_large(file, source, numbered_set(source, [kind], 100), f"of {kind}", 6, large.long_path)
+    for size in (100, 300):
+        globs = [source.pick([making.hard_glob, realistic_glob])(source) for _ in range(size)]
+        ask_large(file, source, [glob for glob in globs if is_read(glob)], "of hard and of realistic globs", 30)
+    return file
+
+
+def numbered_set(source, kinds, size):
+    first = source.below(1000)
+    return [large.glob_of_kind(source, source.pick(kinds), first + n) for n in range(size)]
+
+
+def ask_large(file, source, globs, kind, paths, make=large.path_for):
+    ask_json_set(file, globs, kind)
+    asked = set()
+    for _ in range(paths):
+        path = large.wanted_path(source, globs, make)
+        if path not in asked:
+            asked.add(path)
+            file.ask_path(path)
 
 
 # ---- texts.txt
@@ -394,6 +436,7 @@ FILES = {
     "crates/replay/data/many_globs.txt": many_globs,
     "crates/replay/data/texts.txt": texts,
     "reference/commands.txt": commands,
+    "crates/replay/data/large_sets.txt": large_sets,
 }
 
 
