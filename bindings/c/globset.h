@@ -152,8 +152,8 @@ globset_status globset_raw_builder_new(globset_owned *out);
 globset_status globset_raw_builder_add(globset_owned *builder, globset_lent *glob);
 
 /* Makes the set of the builder's globs, in the order in which they were added: the first has index 0. GLOBSET_DONE: the
- * globs went into the set without being copied, and the builder has none. GLOBSET_WRONG_KIND and GLOBSET_OUT_OF_MEMORY, and
- * then the builder has the globs that it had. */
+ * builder has no globs any more, and their memory is given back; the set has what it needs to match. GLOBSET_WRONG_KIND and
+ * GLOBSET_OUT_OF_MEMORY, and then the builder has the globs that it had. */
 globset_status globset_raw_builder_build(globset_owned *builder, globset_owned *out);
 
 /* The number of globs of a set. GLOBSET_DONE: it is in `len`. GLOBSET_WRONG_KIND. It takes no memory. */

@@ -91,8 +91,8 @@ impl GlobSetBuilder {
         Ok(())
     }
 
-    /// Returns the set of the globs that were added, in order. They are copied: the builder is unchanged, and more
-    /// globs can be added to it. [`GlobSetBuilder::take_set`] copies none of them.
+    /// Returns the set of the globs that were added, in order. The builder is unchanged, and more globs can be added to it. The
+    /// globs are not copied: the set keeps what it needs to match.
     ///
     /// It takes time and memory linear in the texts of the globs, except that some of these are sorted. The factor is largest
     /// for globs that need an automaton: a deterministic one has up to 512 numbers for each state and 2,048 more, and to find one
@@ -103,13 +103,13 @@ impl GlobSetBuilder {
         ensures ok { IfOk result (λ s. set_globs s ≡ builder_globs self.now) }
         ensures err { IfErr result (λ e. e ≡ out_of_memory) }
     {
-        GlobSet::new(*self.pats.allocator(), &self.pats)
+        GlobSet::of_slice(*self.pats.allocator(), &self.pats)
     }
 
-    /// Takes the globs out of the builder, and returns the set of them, in order. They are moved, and not copied: afterwards
-    /// the builder has no globs, and can be used again.
+    /// Returns the set of the globs that were added, in order, and drops them: afterwards the builder has no globs, and can be
+    /// used again.
     ///
-    /// It takes time and memory as [`GlobSetBuilder::build`] does, except for the copies.
+    /// It takes time and memory as [`GlobSetBuilder::build`] does, and gives the memory of the globs back.
     ///
     /// Returns an error if memory runs out, and no other. The builder then has the globs that it had before the call.
     ///
@@ -128,7 +128,11 @@ impl GlobSetBuilder {
         ensures kept { OnErr result (builder_globs self.new ≡ builder_globs self.old) }
         ensures err { IfErr result (λ e. e ≡ out_of_memory) }
     {
-        GlobSet::take_globs(&mut self.pats)
+        let alloc = *self.pats.allocator();
+        let set = GlobSet::of_slice(alloc, &self.pats)?;
+        // The globs stay where they are until nothing can fail any more.
+        self.pats = Vec::new(alloc);
+        Ok(set)
     }
 
     /// Returns an equal builder, with memory of its own. Returns an error if memory runs out, and no other.

@@ -1,6 +1,6 @@
 //! Sets of globs.
 
-ghost use Rattle.std.specs.Prelude.{◌≡◌, ◌↔◌, List, [], IfOk, IfErr, OnOk, OnErr, IsTrue, length, map};
+ghost use Rattle.std.specs.Prelude.{◌≡◌, ◌↔◌, List, [], IfOk, IfErr, IsTrue, length, map};
 ghost use Rattle.std.specs.Borrow.{Bor};
 ghost use Rattle.std.specs.Iterator.{Drains, IsFinite};
 ghost use Rattle.globset_glob.specs.Errors.{out_of_memory};
@@ -9,6 +9,8 @@ ghost use Rattle.globset.specs.SetValue.{set_globs, set_states, builder_globs};
 
 mod all;
 mod any;
+mod building;
+mod given;
 mod matches;
 mod scratch;
 mod stored;
@@ -26,7 +28,8 @@ use stored::Stored;
 
 /// Globs that are matched against a path together. Each has an index, from 0, in the order in which they were given.
 ///
-/// Contracts see the list of the globs, and the number of states of the largest automaton that was made for them.
+/// Contracts see the list of the globs, and the number of states of the largest automaton that was made for them. The set itself
+/// keeps what it needs to match, and neither the texts nor the tokens of the globs.
 ///
 /// [`GlobSet::matches`] returns the indexes of the globs that match a path. Silent globs are left out: a glob is silent
 /// if it is case-sensitive and is parsed like `**/..`. It counts in [`GlobSet::len`], so [`GlobSet::matches_all`] is
@@ -115,7 +118,7 @@ impl GlobSet {
         }
     }
 
-    /// Returns the set of these globs, in order, each with its own options. The globs are copied.
+    /// Returns the set of these globs, in order, each with its own options. The globs are read, and not copied.
     ///
     /// The iterator has to end, and its items have to be known to the prover: those of a slice, of a `Vec` and of
     /// iterators over either are.
@@ -135,11 +138,14 @@ impl GlobSet {
             × Drains I.IntoIter.next_gives s xs × (set_globs set ≡ map (λ g. g.now) xs)) }
         ensures err { IfErr result (λ e. e ≡ out_of_memory) }
     {
-        let mut copies = Vec::new(alloc);
+        // The number of globs has to be known before the first one is added.
+        let mut references = Vec::new(alloc);
         for glob in globs {
-            copies.push(glob.clone()?)?;
+            references.push(glob)?;
         }
-        GlobSet::from_globs(Engine::Deterministic, copies)
+        Ok(GlobSet {
+            stored: Some(Stored::of_references(alloc, &references)?),
+        })
     }
 
     /// Returns an equal set, with memory of its own. Returns an error if memory runs out, and no other.
@@ -155,42 +161,26 @@ impl GlobSet {
         })
     }
 
-    /// Returns a set of the same globs, whose automata are simulated. Returns an error if memory runs out, and no other.
+    /// Returns the set of these globs, in order, whose automata are simulated. Returns an error if memory runs out, and no other.
     ///
-    /// It is for tests, which compare it with this set.
+    /// It is for tests, which compare it with the set that [`GlobSet::new`] returns.
     #[doc(hidden)]
-    pub fn simulated(&self) -> Result<GlobSet, Error>
-        ensures ok { IfOk result (λ s. set_globs s ≡ set_globs self.now) }
+    pub fn simulated(alloc: Global, globs: &[Glob]) -> Result<GlobSet, Error>
+        ensures ok { IfOk result (λ s. set_globs s ≡ globs.now) }
         ensures err { IfErr result (λ e. e ≡ out_of_memory) }
     {
-        let Some(stored) = &self.stored else {
-            return Ok(GlobSet { stored: None });
-        };
         Ok(GlobSet {
-            stored: Some(stored.simulated()?),
+            stored: Some(Stored::of_slice(alloc, Engine::Simulated, globs)?),
         })
     }
 
-    /// Takes the globs out of a vector, and returns the set of them, in order. They are not copied. Returns an error if memory
-    /// runs out, and no other; the vector then has the globs that it had before the call.
-    pub(crate) fn take_globs(globs: &mut Vec<Glob>) -> Result<GlobSet, Error>
-        ensures ok { IfOk result (λ set. set_globs set ≡ globs.old.items) }
-        ensures emptied { OnOk result (globs.new.items ≡ []) }
-        ensures kept { OnErr result (globs.new ≡ globs.old) }
+    /// Returns the set of these globs, in order. Returns an error if memory runs out, and no other.
+    pub(crate) fn of_slice(alloc: Global, globs: &[Glob]) -> Result<GlobSet, Error>
+        ensures ok { IfOk result (λ s. set_globs s ≡ globs.now) }
         ensures err { IfErr result (λ e. e ≡ out_of_memory) }
     {
         Ok(GlobSet {
-            stored: Some(Stored::take_globs(globs)?),
-        })
-    }
-
-    /// Returns the set of these globs, with automata that this engine runs. Returns an error if memory runs out, and no other.
-    fn from_globs(engine: Engine, globs: Vec<Glob>) -> Result<GlobSet, Error>
-        ensures ok { IfOk result (λ set. set_globs set ≡ globs.items) }
-        ensures err { IfErr result (λ e. e ≡ out_of_memory) }
-    {
-        Ok(GlobSet {
-            stored: Some(Stored::new(engine, globs)?),
+            stored: Some(Stored::of_slice(alloc, Engine::Deterministic, globs)?),
         })
     }
 }
@@ -221,12 +211,12 @@ impl Clone for GlobSet {
     }
 }
 
-/// `GlobSet { globs: [..] }`, with the globs in order.
+/// `GlobSet { len: .., most_states: .. }`: the number of globs, and of the states of the largest automaton.
 impl fmt::Debug for GlobSet {
     fn fmt<W: fmt::Write>(&self, f: &mut fmt::Formatter<W>) -> fmt::Result {
         match &self.stored {
             Some(stored) => stored.fmt(f),
-            None => f.write_str("GlobSet { globs: [] }"),
+            None => f.write_str("GlobSet { len: 0, most_states: 0 }"),
         }
     }
 }

@@ -17,6 +17,13 @@ use std::alloc::AllocError;
 use visits::Visits;
 
 impl Groups {
+    /// Returns the number of globs, with those that are silent.
+    pub fn len(&self) -> usize
+        ensures { result ≡ group_count self.now }
+    {
+        self.automata.index_count()
+    }
+
     /// Returns the number of states of the largest automaton.
     pub fn most_states(&self) -> usize
         ensures { result ≡ group_states self.now }

@@ -10,6 +10,7 @@ use rows::{Case, Columns, RowError, escaped, list, yes_or_no};
 use serde_json::Value;
 use std::alloc::Global;
 use std::hash::{DefaultHasher, Hash, Hasher};
+use std::slice;
 
 /// The globs that rows so far added, and two sets of them: of the second, all automata are simulated.
 #[derive(Drop)]
@@ -79,7 +80,7 @@ impl Globs {
     fn push(&mut self, glob: Glob) -> Result<(), Error> {
         self.globs.push(glob)?;
         self.set = GlobSet::new(self.alloc, &self.globs)?;
-        self.simulated = self.set.simulated()?;
+        self.simulated = GlobSet::simulated(self.alloc, &self.globs)?;
         Ok(())
     }
 
@@ -196,16 +197,20 @@ impl Globs {
 
     /// Reads a set from a JSON text, in place of the set. Returns `reads` and its length; or `fails`, the index and the error.
     fn array(&mut self, columns: &mut Columns<'_>) -> Result<String> {
-        match GlobSet::from_value(self.alloc, &json(self.alloc, columns)?) {
-            Ok(set) => self.replace(set),
+        self.read_array(&json(self.alloc, columns)?)
+    }
+
+    fn read_array(&mut self, value: &Value) -> Result<String> {
+        match GlobSet::from_value(self.alloc, value) {
+            Ok(set) => self.replace(set, value),
             Err(error) => shown::value_error(self.alloc, &error),
         }
     }
 
-    fn replace(&mut self, set: GlobSet) -> Result<String> {
+    fn replace(&mut self, set: GlobSet, value: &Value) -> Result<String> {
         self.globs.clear();
         self.set = set;
-        self.simulated = self.set.simulated()?;
+        self.simulated = GlobSet::simulated(self.alloc, &elements(self.alloc, value)?)?;
         shown::length(self.alloc, self.set.len())
     }
 }
@@ -265,18 +270,29 @@ fn matches_in_a_set(
     glob: &Glob,
     path: &Candidate<'_>,
 ) -> Result<(bool, bool), Error> {
-    matches_of(&GlobSet::new(alloc, [glob])?, path)
-}
-
-fn matches_of(set: &GlobSet, path: &Candidate<'_>) -> Result<(bool, bool), Error> {
     Ok((
-        set.is_match_candidate(path)?,
-        matches_of_simulated(set, path)?,
+        matches_of_set(alloc, glob, path)?,
+        matches_of_simulated(alloc, glob, path)?,
     ))
 }
 
-fn matches_of_simulated(set: &GlobSet, path: &Candidate<'_>) -> Result<bool, Error> {
-    set.simulated()?.is_match_candidate(path)
+fn matches_of_set(alloc: Global, glob: &Glob, path: &Candidate<'_>) -> Result<bool, Error> {
+    GlobSet::new(alloc, [glob])?.is_match_candidate(path)
+}
+
+fn matches_of_simulated(alloc: Global, glob: &Glob, path: &Candidate<'_>) -> Result<bool, Error> {
+    GlobSet::simulated(alloc, slice::from_ref(glob))?.is_match_candidate(path)
+}
+
+/// Returns the globs in a JSON array.
+fn elements(alloc: Global, value: &Value) -> Result<Vec<Glob>, ValueError> {
+    let mut globs = Vec::new(alloc);
+    if let Value::Array(values) = value {
+        for value in values {
+            globs.push(Glob::from_value(alloc, value)?)?;
+        }
+    }
+    Ok(globs)
 }
 
 /// Returns whether the glob of the next columns, or its error, is equal to this one.

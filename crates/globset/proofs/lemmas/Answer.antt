@@ -17,10 +17,10 @@ use Rattle.globset.specs.Silent.{silent, is_listed}
 use Rattle.globset.specs.Answer.{answer}
 use Rattle.globset.specs.Work.{load, most_set_visits}
 use Rattle.group_matching.specs.declared.matching_sets.MatchingSets.{MatchingSets}
-use Rattle.group_matching.specs.inner.Groups.{GroupParts, group_count, group_states}
+use Rattle.group_matching.specs.inner.Groups.{AreGroupsOf, GroupParts, group_count, group_states}
 use Rattle.group_matching.specs.inner.Room.{HasRoom}
 use Rattle.globset.specs.SetValue.{SetValue, set_globs, set_states}
-use Rattle.globset.specs.inner.StoredGlobs.{AreStored, by_tokens, set_value}
+use Rattle.globset.specs.inner.StoredGlobs.{AddedParts, AreAdded, AreStored, by_tokens, set_value}
 
 -- ---- globs by their tokens
 
@@ -70,6 +70,14 @@ size_push globs g path few before =
     let two = ap (λ xs. tokens.load xs path) (map_push globs g) ∙ sum_by-append (λ x. reads x path) (map by_tokens globs) (by_tokens g ∷ []) in
     let more = of_states (needs_automaton g.options (tokens_of_glob g) path) (weight g.options (tokens_of_glob g) + 4) (cost g) (omega (arith, few)) in
     omega (arith, one, two, more, before)
+
+-- the groups of the globs, and one glob more
+pub added_push : (before after : AddedParts) (g : GlobValue) → AreAdded before → after.given ≡ before.given ++ g ∷ [] → AreGroupsOf (map by_tokens before.given ++ by_tokens g ∷ []) after.parts
+    → weight g.options (tokens_of_glob g) ≤ states_per_byte g.options * length g.text → AreAdded after
+added_push before after g are is groups few = record {
+  groups = rw is (rw (map_push before.given g) groups);
+  size = λ path. rw is (size_push before.given g path few (are.size path));
+}
 
 -- the visits of groups, within those of the set
 pub visits_within : (globs : List GlobValue) (path : List ℕ) → tokens.load (map by_tokens globs) path ≤ load globs path → most_visits (map by_tokens globs) path ≤ most_set_visits globs path

@@ -24,3 +24,13 @@ pub record AreStored (globs : List GlobValue) (g : GroupParts) : Type 0 where
   pub groups : AreGroupsOf (map by_tokens globs) g
   pub count : group_count g ≡ length globs
   pub size : (path : List ℕ) → tokens.load (map by_tokens globs) path ≤ load globs path
+
+-- what a set is made of: the globs that were added so far, and their groups
+pub record AddedParts : Type 0 where
+  pub given : List GlobValue
+  pub parts : GroupParts
+
+-- The groups are those of the globs, of which no more states are run than their costs allow. More globs may be added.
+pub record AreAdded (a : AddedParts) : Type 0 where
+  pub groups : AreGroupsOf (map by_tokens a.given) a.parts
+  pub size : (path : List ℕ) → tokens.load (map by_tokens a.given) path ≤ load a.given path

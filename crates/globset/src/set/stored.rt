@@ -1,6 +1,6 @@
 //! What a set stores.
 
-ghost use Rattle.std.specs.Prelude.{◌≡◌, ◌≢◌, ◌↔◌, [], ℕ, ◌+◌, ◌≤◌, IfOk, IfErr, IsOk, OnOk, OnErr, IsTrue, length, vec_capacity};
+ghost use Rattle.std.specs.Prelude.{◌≡◌, ◌≢◌, ◌↔◌, [], ℕ, ◌+◌, ◌≤◌, IfOk, IfErr, IsOk, OnOk, OnErr, IsTrue, length, map, vec_capacity};
 ghost use Rattle.globset_glob.specs.Errors.{out_of_memory};
 ghost use Rattle.globset.specs.Answer.{answer};
 ghost use Rattle.globset.specs.SetValue.{set_globs, set_states};
@@ -9,16 +9,20 @@ ghost use Rattle.globset.specs.inner.StoredGlobs.{AreStored};
 ghost use Rattle.group_matching.specs.Indexes.{ContainsAllBelow};
 ghost use Rattle.group_matching.specs.inner.Room.{HasRoom, KeepsRoom};
 
+use crate::set::building::StoredBuilder;
+use crate::set::given::GivenGlobs;
 use glob_matching::Engine;
-use globset_glob::{Candidate, Error, Glob, Visits, options_of, tokens_of};
-use group_matching::{Groups, GroupsBuilder, MatchingSets};
-use std::alloc::{AllocError, Global};
+use globset_glob::{Candidate, Error, Glob, Visits};
+use group_matching::{Groups, MatchingSets};
+use std::alloc::Global;
+use std::fmt;
 use std::marker::Model;
-use std::{fmt, mem};
 
-/// The globs of a set, and the groups that decide which of them match a path. The index of a glob is its position.
+/// What a set needs to match: groups that decide which of its globs match a path. The index of a glob is its position. Of the
+/// globs themselves nothing is kept but what contracts see, which takes no memory.
 pub struct Stored {
-    globs: Vec<Glob>,
+    alloc: Global,
+    globs: GivenGlobs,
     groups: Groups,
 }
 
@@ -26,6 +30,7 @@ impl Drop for Stored {
     // One call wherever a value is dropped, which keeps proofs short.
     fn drop(self) {
         let Stored {
+            alloc: _,
             globs: _,
             groups: _,
         } = self;
@@ -40,44 +45,56 @@ impl Model for Stored {
     ghost Value = { SetValue };
 
     ghost view = { λ s. record {
-      globs = s.globs.items;
+      globs = s.globs;
       states = group_states s.groups;
     } };
 
-    ghost invariant = { λ s. AreStored s.globs.items s.groups };
+    ghost invariant = { λ s. AreStored s.globs s.groups };
 }
 
 impl Stored {
-    /// Puts each of these globs into its group, with automata that this engine runs. Returns an error if memory runs out, and no
-    /// other.
-    pub fn new(engine: Engine, globs: Vec<Glob>) -> Result<Stored, Error>
-        ensures ok { IfOk result (λ s. set_globs s ≡ globs.items) }
-        ensures err { IfErr result (λ e. e ≡ out_of_memory) }
+    /// Returns what a set stores, whose globs are in these groups.
+    pub fn of_groups(alloc: Global, globs: GivenGlobs, groups: Groups) -> Stored
+        requires { AreStored globs groups }
+        ensures { set_globs result ≡ globs }
     {
-        let groups = groups_of(*globs.allocator(), engine, &globs)?;
-        Ok(Stored { globs, groups })
+        Stored {
+            alloc,
+            globs,
+            groups,
+        }
     }
 
-    /// Takes the globs out of a vector, and puts each of them into its group. They are not copied. Returns an error if memory
-    /// runs out, and no other; the vector then has the globs that it had before the call.
-    pub fn take_globs(globs: &mut Vec<Glob>) -> Result<Stored, Error>
-        ensures ok { IfOk result (λ s. set_globs s ≡ globs.old.items) }
-        ensures emptied { OnOk result (globs.new.items ≡ []) }
-        ensures kept { OnErr result (globs.new ≡ globs.old) }
+    /// Puts each of these globs into its group, with automata that this engine runs. They are not copied. Returns an error if
+    /// memory runs out, and no other.
+    pub fn of_slice(alloc: Global, engine: Engine, globs: &[Glob]) -> Result<Stored, Error>
+        ensures ok { IfOk result (λ s. set_globs s ≡ globs.now) }
         ensures err { IfErr result (λ e. e ≡ out_of_memory) }
     {
-        let alloc = *globs.allocator();
-        // The globs stay where they are until nothing can fail any more.
-        let groups = groups_of(alloc, Engine::Deterministic, globs)?;
-        let globs = mem::replace(globs, Vec::new(alloc));
-        Ok(Stored { globs, groups })
+        let mut builder = StoredBuilder::new(alloc, globs.len());
+        for (index, glob) in globs.iter().enumerate() {
+            builder.add(glob, index)?;
+        }
+        Ok(builder.finish(engine)?)
+    }
+
+    /// Puts each of these globs into its group, as [`Stored::of_slice`] does.
+    pub fn of_references(alloc: Global, references: &[&Glob]) -> Result<Stored, Error>
+        ensures ok { IfOk result (λ s. set_globs s ≡ map (λ g. g.now) references.now) }
+        ensures err { IfErr result (λ e. e ≡ out_of_memory) }
+    {
+        let mut builder = StoredBuilder::new(alloc, references.len());
+        for (index, glob) in references.iter().enumerate() {
+            builder.add(glob, index)?;
+        }
+        Ok(builder.finish(Engine::Deterministic)?)
     }
 
     /// Returns the number of globs.
     pub fn len(&self) -> usize
         ensures { result ≡ length (set_globs self.now) }
     {
-        self.globs.len()
+        self.groups.len()
     }
 
     /// Returns the number of states of the largest automaton.
@@ -89,7 +106,7 @@ impl Stored {
 
     /// Returns sets without room, to match with. It allocates nothing.
     pub fn new_sets(&self) -> MatchingSets {
-        MatchingSets::new(*self.globs.allocator())
+        MatchingSets::new(self.alloc)
     }
 
     /// Replaces the vector's items by the indexes, ascending, of the globs that are not silent and match the path.
@@ -156,36 +173,21 @@ impl Stored {
         ensures ok { IfOk result (λ s. s ≡ self.now) }
         ensures err { IfErr result (λ e. e ≡ out_of_memory) }
     {
-        let globs = self.globs.clone()?;
         let groups = self.groups.clone()?;
-        Ok(Stored { globs, groups })
-    }
-
-    /// Returns the same globs, with automata that are simulated. Returns an error if memory runs out, and no other.
-    pub fn simulated(&self) -> Result<Stored, Error>
-        ensures ok { IfOk result (λ s. set_globs s ≡ set_globs self.now) }
-        ensures err { IfErr result (λ e. e ≡ out_of_memory) }
-    {
-        Stored::new(Engine::Simulated, self.globs.clone()?)
+        Ok(Stored {
+            alloc: self.alloc,
+            globs: self.globs.copy(),
+            groups,
+        })
     }
 }
 
-/// Returns the groups of these globs, with automata that this engine runs. Returns an error if memory runs out.
-fn groups_of(alloc: Global, engine: Engine, globs: &[Glob]) -> Result<Groups, AllocError>
-    ensures { IfOk result (AreStored globs.now) }
-{
-    let mut builder = GroupsBuilder::new(alloc, globs.len());
-    for (index, glob) in globs.iter().enumerate() {
-        builder.add(alloc, options_of(glob), tokens_of(glob), index)?;
-    }
-    builder.finish(alloc, engine)
-}
-
-/// Only the globs: the groups can be large, and follow from them.
+/// The number of globs, and of the states of the largest automaton.
 impl fmt::Debug for Stored {
     fn fmt<W: fmt::Write>(&self, f: &mut fmt::Formatter<W>) -> fmt::Result {
         f.debug_struct("GlobSet")
-            .field("globs", &self.globs)
+            .field("len", &self.len())
+            .field("most_states", &self.most_states())
             .finish()
     }
 }

@@ -7,6 +7,8 @@ ghost use Rattle.globset.specs.SetFromValue.{globs_from, globs_of_value};
 ghost use Rattle.globset.specs.SetValue.{set_globs};
 
 use crate::set::GlobSet;
+use crate::set::building::StoredBuilder;
+use crate::set::stored::Stored;
 use glob_matching::Engine;
 use glob_text::error_of_element;
 use globset_glob::{Glob, ValueError, ValueErrorKind};
@@ -36,26 +38,25 @@ impl GlobSet {
         ensures err { IfErr result (IsValueErrorOf (globs_of_value (view value.now))) }
     {
         match value {
-            Value::Array(values) => Ok(GlobSet::from_globs(
-                Engine::Deterministic,
-                read_globs(alloc, values)?,
-            )?),
+            Value::Array(values) => Ok(GlobSet {
+                stored: Some(read_globs(alloc, values)?),
+            }),
             _ => Err(ValueError::from(ValueErrorKind::NotArray)),
         }
     }
 }
 
-/// Returns the globs of these elements of an array.
-fn read_globs(alloc: Global, values: &[Value]) -> Result<Vec<Glob>, ValueError>
-    ensures { MatchResult result (λ globs. globs_from 0 (items_view values.now) ≡ Ok globs.items)
+/// Returns what the set of the globs of these elements of an array stores. Each glob is dropped once it is added.
+fn read_globs(alloc: Global, values: &[Value]) -> Result<Stored, ValueError>
+    ensures { MatchResult result (λ stored. globs_from 0 (items_view values.now) ≡ Ok (set_globs stored))
         (IsValueErrorOf (globs_from 0 (items_view values.now))) }
 {
-    let mut globs = Vec::with_capacity(alloc, values.len())?;
+    let mut builder = StoredBuilder::new(alloc, values.len());
     for (index, value) in values.iter().enumerate() {
         match Glob::from_value(alloc, value) {
-            Ok(glob) => globs.push(glob)?,
+            Ok(glob) => builder.add(&glob, index)?,
             Err(error) => return Err(error_of_element(index, error)),
         }
     }
-    Ok(globs)
+    Ok(builder.finish(Engine::Deterministic)?)
 }

@@ -1,5 +1,5 @@
-use Rattle.std.proofs.Common.{◌≡◌, map}
+use Rattle.std.proofs.Common.{◌≡◌}
 use Rattle.globset.proofs.set.GlobSet.new.Given as goal
 
 abbrev pub invariant-loop-glob : goal.invariant-loop-glob
-invariant-loop-glob g l = l.copies.items ≡ map (λ glob. glob.now) l.yielded
+invariant-loop-glob g l = l.references.items ≡ l.yielded

@@ -12,7 +12,7 @@ use Rattle.globset.proofs.set.stored.Stored.matches_all.Goals as goal
 
 pub returns-clause-ok : goal.returns-clause-ok
 returns-clause-ok c =
-    let globs = c.self.inside.globs.items in
+    let globs = c.self.inside.globs in
     let counted = length-map globs by_tokens ∙ sym c.self.invariant.count in
     subst (λ (gs : List GlobValue). IsTrue c.in_ok-matches_all.field-0 ↔ ContainsAllBelow (answer gs c.args.path.now) (length gs)) (ap set_globs c.self.view_is)
     (subst (λ (n : ℕ). IsTrue c.in_ok-matches_all.field-0 ↔ ContainsAllBelow (answer globs c.args.path.now) n) (length-map globs by_tokens)
@@ -21,21 +21,21 @@ returns-clause-ok c =
 
 pub returns-clause-visits : goal.returns-clause-visits
 returns-clause-visits c =
-    visits_stored c.self.inside.globs.items c.self.inside.groups c.args.self.now c.args.path.now c.args.visits.now c.matches_all.new.visits c.self.invariant (ap set_globs c.self.view_is)
-    (c.matches_all.ensures.visits (map by_tokens c.self.inside.globs.items) c.self.invariant.groups)
+    visits_stored c.self.inside.globs c.self.inside.groups c.args.self.now c.args.path.now c.args.visits.now c.matches_all.new.visits c.self.invariant (ap set_globs c.self.view_is)
+    (c.matches_all.ensures.visits (map by_tokens c.self.inside.globs) c.self.invariant.groups)
 
 pub returns-in_err-matches_all-clause-visits : goal.returns-in_err-matches_all-clause-visits
 returns-in_err-matches_all-clause-visits c =
-    visits_stored c.self.inside.globs.items c.self.inside.groups c.args.self.now c.args.path.now c.args.visits.now c.matches_all.new.visits c.self.invariant (ap set_globs c.self.view_is)
-    (c.matches_all.ensures.visits (map by_tokens c.self.inside.globs.items) c.self.invariant.groups)
+    visits_stored c.self.inside.globs c.self.inside.groups c.args.self.now c.args.path.now c.args.visits.now c.matches_all.new.visits c.self.invariant (ap set_globs c.self.view_is)
+    (c.matches_all.ensures.visits (map by_tokens c.self.inside.globs) c.self.invariant.groups)
 
 pub returns-in_err-matches_all-clause-room : goal.returns-in_err-matches_all-clause-room
 returns-in_err-matches_all-clause-room c = λ room.
     let p = err_from_is_err_and c.from_residual.result c.from_residual.ensures.1 in
-    rw p.1 (c.in_err-matches_all.ensures.room (room_stored c.self.inside.globs.items c.self.inside.groups c.args.self.now c.args.sets.now c.self.invariant c.self.view_is room))
+    rw p.1 (c.in_err-matches_all.ensures.room (room_stored c.self.inside.globs c.self.inside.groups c.args.self.now c.args.sets.now c.self.invariant c.self.view_is room))
 
 pub returns-in_err-matches_all-clause-memory : goal.returns-in_err-matches_all-clause-memory
 returns-in_err-matches_all-clause-memory c = λ none.
     let p = err_from_is_err_and c.from_residual.result c.from_residual.ensures.1 in
-    rw p.1 (c.in_err-matches_all.ensures.memory (map by_tokens c.self.inside.globs.items) c.self.invariant.groups
-    (no_load c.self.inside.globs.items c.self.inside.groups c.args.self.now c.args.path.now c.self.invariant (ap set_globs c.self.view_is) none))
+    rw p.1 (c.in_err-matches_all.ensures.memory (map by_tokens c.self.inside.globs) c.self.invariant.groups
+    (no_load c.self.inside.globs c.self.inside.groups c.args.self.now c.args.path.now c.self.invariant (ap set_globs c.self.view_is) none))
