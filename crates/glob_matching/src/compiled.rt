@@ -6,7 +6,7 @@ ghost use Rattle.byte_automaton.specs.Sets.{has_index, index_room, sets_room};
 ghost use Rattle.glob_automaton.specs.IndexedTokens.{IndexedTokens, IsFor, SomeMatches};
 
 use crate::division::{divided, joint};
-use crate::engine::Engine;
+use crate::budget::Budget;
 use crate::filtered::{Filtered, filter_for};
 use crate::parts::Parts;
 use crate::simulation;
@@ -60,21 +60,26 @@ impl Clone for Compiled {
 }
 
 impl Compiled {
-    /// Returns an automaton in parts, which the engine makes deterministic or not. Returns an error if memory runs out.
+    /// Returns an automaton in parts, as far as the budget allows it deterministic ones. Returns an error if memory runs out.
     ///
     /// A part has the states from one start to another, and begins in as many starts as its limits allow. It has at most 2,048
     /// states. Its table and lists have at most `2^27 / states` numbers, and 96 for each state and 2,048 more; if it has one
     /// start, 512 for each state and 40,960 in all. To find one of them may take reading each state of the part. At most 2^22
-    /// numbers are made for all parts, with those of parts that are given up because they would have more. What cannot be
-    /// made deterministic within these limits is simulated. So it takes time and memory linear in the states, up to the
-    /// factors of these limits.
-    pub fn new(alloc: Global, engine: Engine, automaton: Automaton) -> Result<Compiled, AllocError>
+    /// numbers are made for all parts of a set, with those of parts that are given up because they would have more, and at most
+    /// 512 parts are tried. What cannot be made deterministic within these limits is simulated. An automaton of more than 64
+    /// starts that is not deterministic as a whole is not divided: a filter names the starts that are run. So it takes time and
+    /// memory linear in the states, up to the factors of these limits.
+    pub fn new(
+        alloc: Global,
+        budget: &mut Budget,
+        automaton: Automaton,
+    ) -> Result<Compiled, AllocError>
         ensures { IfOk result (λ c. c ≡ automaton) }
     {
-        if !is_large(engine, &automaton) {
-            return Compiled::divided(alloc, engine, automaton);
+        if !is_large(*budget, &automaton) {
+            return Compiled::divided(alloc, budget, automaton);
         }
-        if let Some(parts) = joint(alloc, &automaton)? {
+        if let Some(parts) = joint(alloc, budget, &automaton)? {
             return Ok(Compiled {
                 form: Form::Divided(parts),
             });
@@ -83,19 +88,19 @@ impl Compiled {
             Some(filter) => Ok(Compiled {
                 form: Form::Filtered(Filtered::of(automaton, filter)),
             }),
-            None => Compiled::divided(alloc, engine, automaton),
+            None => Compiled::divided(alloc, budget, automaton),
         }
     }
 
-    /// Returns an automaton in parts, which the engine makes deterministic or not. Returns an error if memory runs out.
+    /// Returns an automaton in parts, as far as the budget allows it deterministic ones. Returns an error if memory runs out.
     fn divided(
         alloc: Global,
-        engine: Engine,
+        budget: &mut Budget,
         automaton: Automaton,
     ) -> Result<Compiled, AllocError>
         ensures { IfOk result (λ c. c ≡ automaton) }
     {
-        match divided(alloc, engine, &automaton)? {
+        match divided(alloc, budget, &automaton)? {
             Some(parts) => Ok(Compiled {
                 form: Form::Divided(parts),
             }),
@@ -176,10 +181,7 @@ impl Compiled {
 /// An automaton with more starts than these is not divided, if a filter can name those that are run.
 const MANY_STARTS: usize = 64;
 
-/// Returns whether an automaton has many starts, of which a filter may name a few, if the engine has tables at all.
-fn is_large(engine: Engine, automaton: &Automaton) -> bool {
-    match engine {
-        Engine::Deterministic => automaton.starts().len() > MANY_STARTS,
-        Engine::Simulated => false,
-    }
+/// Returns whether an automaton has many starts, of which a filter may name a few.
+fn is_large(budget: Budget, automaton: &Automaton) -> bool {
+    !budget.simulates_all() && automaton.starts().len() > MANY_STARTS
 }

@@ -6,7 +6,7 @@ ghost use Rattle.byte_automaton.specs.Parts.{IsPart};
 ghost use Rattle.byte_automaton.specs.Runs.{size};
 ghost use Rattle.glob_matching.specs.inner.Parts.{ArePartsBelow};
 
-use crate::engine::Engine;
+use crate::budget::Budget;
 use crate::parts::Parts;
 use byte_automaton::Automaton;
 use byte_dfa::Dfa;
@@ -38,15 +38,12 @@ const FEW_STARTS: usize = 16;
 /// The most numbers of a part times its states. To find a number may take reading each state.
 const MOST_READS: usize = 1 << 27;
 
-/// The most numbers of all parts, with those that are given up.
-const MOST_NUMBERS_TOGETHER: usize = 1 << 22;
-
 /// The parts of an automaton so far.
 struct Division {
     tables: Vec<Dfa>,
     automata: Vec<Automaton>,
-    /// How many numbers may still be made.
-    room: usize,
+    /// What may still be made deterministic.
+    left: Budget,
 }
 
 impl Drop for Division {
@@ -55,7 +52,7 @@ impl Drop for Division {
         let Division {
             tables: _,
             automata: _,
-            room: _,
+            left: _,
         } = self;
     }
 }
@@ -78,13 +75,13 @@ struct Part {
 /// all that are left, or else half of them, until it can be made deterministic. What cannot is simulated.
 pub fn divided(
     alloc: Global,
-    engine: Engine,
+    budget: &mut Budget,
     automaton: &Automaton,
 ) -> Result<Option<Parts>, AllocError>
     ensures { IfOk result (λ made. IfSome made (λ parts. parts ≡ automaton.now)) }
 {
     let starts = automaton.starts().len();
-    let mut division = Division::new(alloc, engine);
+    let mut division = Division::new(alloc, *budget);
     let mut high = 0;
     let mut first = 0;
     let mut count = starts;
@@ -108,17 +105,24 @@ pub fn divided(
     if !division.simulate(automaton, high, automaton.state_count())? {
         return Ok(None);
     }
+    *budget = division.left;
     Ok(Some(division.finish(automaton)))
 }
 
 /// Returns an automaton as one deterministic part, if that is not too large. Returns an error if memory runs out.
-pub fn joint(alloc: Global, automaton: &Automaton) -> Result<Option<Parts>, AllocError>
+pub fn joint(
+    alloc: Global,
+    budget: &mut Budget,
+    automaton: &Automaton,
+) -> Result<Option<Parts>, AllocError>
     ensures { IfOk result (λ made. IfSome made (λ parts. parts ≡ automaton.now)) }
 {
-    let mut division = Division::new(alloc, Engine::Deterministic);
+    let mut division = Division::new(alloc, *budget);
     let high = automaton.state_count();
-    let budget = budget(high, automaton.starts().len());
-    match division.table_of(alloc, automaton, 0, high, budget)? {
+    let most = most_numbers(high, automaton.starts().len());
+    let table = division.table_of(alloc, automaton, 0, high, most)?;
+    *budget = division.left;
+    match table {
         Some(table) => {
             if !division.add(automaton, 0, 0, high, table)? {
                 return Ok(None);
@@ -131,17 +135,14 @@ pub fn joint(alloc: Global, automaton: &Automaton) -> Result<Option<Parts>, Allo
 
 impl Division {
     /// Returns a division that has no parts.
-    fn new(alloc: Global, engine: Engine) -> Division
+    fn new(alloc: Global, left: Budget) -> Division
         ensures tables { result.tables.items ≡ [] }
         ensures automata { result.automata.items ≡ [] }
     {
         Division {
             tables: Vec::new(alloc),
             automata: Vec::new(alloc),
-            room: match engine {
-                Engine::Deterministic => MOST_NUMBERS_TOGETHER,
-                Engine::Simulated => 0,
-            },
+            left,
         }
     }
 
@@ -166,10 +167,10 @@ impl Division {
         let mut count = most.min(automaton.starts().len() - first);
         while count > 0 {
             let high = border(automaton, first + count);
-            let budget = budget(high.saturating_sub(low), count);
-            let table = self.table_of(alloc, automaton, low, high, budget)?;
+            let numbers = most_numbers(high.saturating_sub(low), count);
+            let table = self.table_of(alloc, automaton, low, high, numbers)?;
             if let Some(table) = table {
-                let count_after = count_after(count, most, table.size(), budget);
+                let count_after = count_after(count, most, table.size(), numbers);
                 return Ok(Some(Part {
                     table,
                     high,
@@ -177,12 +178,12 @@ impl Division {
                     count: count_after,
                 }));
             }
-            count = fewer(count, budget);
+            count = fewer(count, numbers);
         }
         Ok(None)
     }
 
-    /// Returns a deterministic automaton of the states from `low` on and below `high`, of at most `budget` numbers, if there
+    /// Returns a deterministic automaton of the states from `low` on and below `high`, of at most `most` numbers, if there
     /// is room for so many.
     fn table_of(
         &mut self,
@@ -190,7 +191,7 @@ impl Division {
         automaton: &Automaton,
         low: usize,
         high: usize,
-        budget: usize,
+        most: usize,
     ) -> Result<Option<Dfa>, AllocError>
         requires { high ≤ size automaton.now }
         ensures part { IfOk result (λ made. IfSome made (λ table. IsPart automaton.now low high table.source)) }
@@ -198,18 +199,18 @@ impl Division {
         ensures tables { self.new.tables ≡ self.old.tables }
         ensures automata { self.new.automata ≡ self.old.automata }
     {
-        if low >= high || budget == 0 || budget > self.room {
+        if low >= high || most == 0 || !self.left.allows(most) {
             return Ok(None);
         }
         let Some(part) = automaton.part(low, high)? else {
             return Ok(None);
         };
-        let table = Dfa::new(alloc, &part, budget)?;
+        let table = Dfa::new(alloc, &part, most)?;
         // A table that was given up took as long to make as one that is kept.
-        self.room -= match &table {
-            Some(table) => table.size().min(budget),
-            None => budget,
-        };
+        self.left = self.left.after(match &table {
+            Some(table) => table.size(),
+            None => most,
+        });
         Ok(table)
     }
 
@@ -266,7 +267,7 @@ impl Division {
         let Division {
             tables,
             automata,
-            room: _,
+            left: _,
         } = self;
         Parts::of(automaton, tables, automata)
     }
@@ -288,7 +289,7 @@ fn border(automaton: &Automaton, count: usize) -> usize
 }
 
 /// Returns the most numbers that a part of so many states and starts may have.
-fn budget(states: usize, starts: usize) -> usize {
+fn most_numbers(states: usize, starts: usize) -> usize {
     if states == 0 || states > MOST_STATES {
         return 0;
     }

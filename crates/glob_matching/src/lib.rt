@@ -5,6 +5,7 @@
 //! glob.
 #![tactic(auto)]
 
+mod budget;
 mod compiled;
 mod division;
 mod engine;
@@ -12,5 +13,6 @@ mod filtered;
 mod parts;
 mod simulation;
 
+pub use budget::Budget;
 pub use compiled::Compiled;
 pub use engine::Engine;

@@ -17,7 +17,7 @@ mod slots;
 use crate::matching_sets::MatchingSets;
 use byte_automaton::{Builder, StateSets};
 use glob_automaton::{add_tokens, new_builder};
-use glob_matching::{Compiled, Engine};
+use glob_matching::{Budget, Compiled, Engine};
 use glob_path::{Candidate, component_extension_of, last_component_of};
 use glob_syntax::{Options, Token};
 use slots::{Slots, SlotsBuilder};
@@ -401,9 +401,10 @@ impl AutomataBuilder {
             by_component,
             extensions,
         } = self;
-        let by_path = Compiled::new(alloc, engine, by_path.finish())?;
-        let by_component = Compiled::new(alloc, engine, by_component.finish())?;
-        let extensions = extensions.finish(alloc, engine)?;
+        let mut budget = Budget::new(engine);
+        let by_path = Compiled::new(alloc, &mut budget, by_path.finish())?;
+        let by_component = Compiled::new(alloc, &mut budget, by_component.finish())?;
+        let extensions = extensions.finish(alloc, &mut budget)?;
         let most_states = by_path
             .state_count()
             .max(by_component.state_count())

@@ -10,7 +10,7 @@ use crate::matcher::scratch::MatcherScratch;
 use byte_automaton::{Automaton, StateSets};
 use glob_automaton::{add_tokens, new_builder};
 use glob_groups::{Group, group_of};
-use glob_matching::{Compiled, Engine};
+use glob_matching::{Budget, Compiled, Engine};
 use glob_path::Candidate;
 use std::alloc::{AllocError, Global};
 use visits::Visits;
@@ -40,7 +40,8 @@ impl Form {
     pub fn automaton(engine: Engine, glob: &Glob) -> Result<Form, AllocError>
         ensures { IfOk result (IsFormOf glob.now) }
     {
-        let automaton = Compiled::new(glob.allocator(), engine, automaton_of(glob)?)?;
+        let mut budget = Budget::new(engine);
+        let automaton = Compiled::new(glob.allocator(), &mut budget, automaton_of(glob)?)?;
         Ok(Form::Automaton(automaton))
     }
 

@@ -12,7 +12,7 @@ ghost use Rattle.group_matching.specs.inner.Automata.{AddsTokens, AreFor, KeepsT
 use byte_automaton::Builder;
 use byte_table::Table;
 use glob_automaton::{add_tokens, new_builder};
-use glob_matching::{Compiled, Engine};
+use glob_matching::{Budget, Compiled};
 use glob_syntax::{Options, Token};
 use std::alloc::{AllocError, Global};
 use std::marker::Model;
@@ -219,7 +219,7 @@ impl SlotsBuilder {
     }
 
     /// Returns what was added. Returns an error if memory runs out.
-    pub fn finish(self, alloc: Global, engine: Engine) -> Result<Slots, AllocError>
+    pub fn finish(self, alloc: Global, budget: &mut Budget) -> Result<Slots, AllocError>
         ensures { IfOk result (λ slots. slots ≡ self) }
     {
         let SlotsBuilder {
@@ -230,7 +230,7 @@ impl SlotsBuilder {
         } = self;
         Ok(Slots {
             slots,
-            automata: finished(alloc, engine, builders)?,
+            automata: finished(alloc, budget, builders)?,
             none: Compiled::simulated(none.finish()),
             index_count,
         })
@@ -251,14 +251,14 @@ fn most_states(automata: &[Compiled]) -> usize
 /// Returns the automata of builders. Returns an error if memory runs out.
 fn finished(
     alloc: Global,
-    engine: Engine,
+    budget: &mut Budget,
     builders: Vec<Builder>,
 ) -> Result<Vec<Compiled>, AllocError>
     ensures { IfOk result (λ automata. automata.items ≡ builders.items) }
 {
     let mut automata = Vec::with_capacity(alloc, builders.len())?;
     for builder in builders {
-        automata.push(Compiled::new(alloc, engine, builder.finish())?)?;
+        automata.push(Compiled::new(alloc, budget, builder.finish())?)?;
     }
     Ok(automata)
 }
