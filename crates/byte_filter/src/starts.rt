@@ -95,6 +95,13 @@ impl StartFilter {
         self.count
     }
 
+    /// Returns the number of starts that are marked for each text, since they have no window.
+    pub fn always_count(&self) -> usize
+        ensures { result ≡ length self.now.always }
+    {
+        self.always.len()
+    }
+
     /// Puts the number of each start that a text may lead from to an end into a set, beside what it holds. It takes no memory.
     ///
     /// From the marked starts the text leads to the ends that it leads to from all. It is at most three visits for each byte and

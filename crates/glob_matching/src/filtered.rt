@@ -115,6 +115,9 @@ impl Filtered {
     }
 }
 
+/// At most one start in so many may have no window, and so be run for each text. More are faster in parts.
+const FEW: usize = 4;
+
 /// Returns a filter for an automaton, or `None` if too few starts have a window, or if a run from one start comes to states of
 /// another. Returns an error if memory runs out. It takes time and memory linear in the states.
 pub fn filter_for(
@@ -126,7 +129,10 @@ pub fn filter_for(
     if !are_apart(automaton) {
         return Ok(None);
     }
-    StartFilter::new(alloc, automaton)
+    match StartFilter::new(alloc, automaton)? {
+        Some(filter) if filter.always_count() <= filter.count() / FEW => Ok(Some(filter)),
+        _ => Ok(None),
+    }
 }
 
 /// Returns whether a run from each start comes to no state but those behind the start before it. It reads each state.
