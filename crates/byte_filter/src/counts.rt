@@ -3,7 +3,6 @@
 ghost use Rattle.std.specs.Prelude.{◌<◌, ◌≤◌, length};
 
 use crate::hashing::{MOST_PLACES, place};
-use crate::window::LONG;
 use std::alloc::{AllocError, Global};
 
 /// How often each key was counted, at most: keys of the same hash are counted together.
@@ -39,8 +38,7 @@ impl Counts {
         }
     }
 
-    /// Returns one of some keys: of those of four bytes, or else of all, the one that was counted least often, and of these the one
-    /// whose bytes are the rarest in texts.
+    /// Returns one of some keys: the one that was counted least often, and of these the one whose bytes are the rarest in texts.
     pub fn rarest(&self, keys: &[u32]) -> Option<u32>
         ensures { MatchOption result (Unit {0}) (λ key. Contains keys.now key) }
     {
@@ -59,8 +57,7 @@ impl Counts {
     /// Returns a number that is the greater the more texts are expected to have a window with the key.
     fn frequency(&self, key: u32) -> u64 {
         let count = self.counts[place(key, self.counts.len())] as u64;
-        let few_bytes = (key < LONG) as u64;
-        few_bytes << 40 | count << 8 | commonness(key) as u64
+        count << 8 | commonness(key) as u64
     }
 }
 

@@ -1,14 +1,15 @@
 //! A filter for the starts of an automaton.
 
-ghost use Rattle.std.specs.Prelude.{◌≡◌, ℕ, ◌+◌, ◌*◌, ◌<◌, ◌≤◌, ◌↔◌, length, slice_index, IsTrue, IfOk, IfSome, OnOk};
+ghost use Rattle.std.specs.Prelude.{◌≡◌, ℕ, ◌+◌, ◌*◌, ◌<◌, ◌≤◌, ◌⊎◌, ◌↔◌, length, slice_index, Contains, IsTrue, IfOk, IfSome, OnOk, MatchOption};
 ghost use Rattle.byte_automaton.specs.Sets.{has_index, index_room};
 ghost use Rattle.byte_automaton.specs.Steps.{Accepts, IsReached, Machine};
 ghost use Rattle.byte_filter.specs.Entries.{ArePartsBelow};
 ghost use Rattle.byte_filter.specs.Starts.{IsGuarded, IsFilterOf, IsReachedMarked};
+ghost use Rattle.byte_filter.specs.inner.Cuts.{AreForced, AreRequired};
 
 use crate::counts::Counts;
 use crate::filter::Filter;
-use crate::window::{LONG, required_windows};
+use crate::window::{StartWindows, find_required, forced_bytes};
 use byte_automaton::{Automaton, IndexSet};
 use std::alloc::{AllocError, Global};
 use std::marker::Model;
@@ -73,10 +74,12 @@ impl StartFilter {
         let count = automaton.starts().len();
         let mut filter = Filter::new(alloc, count)?;
         let mut always = Vec::new(alloc);
-        let mut keys = Vec::new(alloc);
-        let counts = counted(alloc, automaton, &mut keys)?;
+        let bytes = forced_bytes(alloc, automaton)?;
+        let mut windows = StartWindows::new(alloc);
+        let counts = counted(alloc, automaton, &bytes, &mut windows)?;
         for i in 0..count {
-            guard(automaton, i, &counts, &mut keys, &mut filter, &mut always)?;
+            find_required(automaton, &bytes, automaton.starts()[i], &mut windows)?;
+            guard(&windows, &counts, i, &mut filter, &mut always)?;
         }
         if filter.len() < FEWEST_ENTRIES {
             return Ok(None);
@@ -119,43 +122,53 @@ impl StartFilter {
     }
 }
 
-/// Counts the windows of all starts of an automaton. `keys` is room to work in.
+/// Counts the windows of all starts of an automaton. `bytes` has the byte that each state forces, and `windows` is room to work in.
 fn counted(
     alloc: Global,
     automaton: &Automaton,
-    keys: &mut Vec<u32>,
-) -> Result<Counts, AllocError> {
+    bytes: &[u8],
+    windows: &mut StartWindows,
+) -> Result<Counts, AllocError>
+    requires { AreForced automaton.now bytes.now }
+{
     let mut counts = Counts::new(alloc, automaton.starts().len())?;
     for start in automaton.starts() {
-        required_windows(automaton, *start, keys)?;
-        counts.add(keys);
+        find_required(automaton, bytes, *start, windows)?;
+        counts.add(&windows.short);
+        counts.add(&windows.long);
     }
     Ok(counts)
 }
 
-/// Makes the filter have a start of an automaton: gives it an entry under its rarest window, or lists it if it has none. `keys` is
-/// room to work in.
+/// Makes the filter have the start of the number `i`: gives it an entry under one of its windows, or lists it if it has none.
 fn guard(
-    automaton: &Automaton,
-    i: usize,
+    windows: &StartWindows,
     counts: &Counts,
-    keys: &mut Vec<u32>,
+    i: usize,
     filter: &mut Filter,
     always: &mut Vec<usize>,
 ) -> Result<(), AllocError>
-    requires { i < length automaton.now.starts }
-    ensures guarded { OnOk result (IsGuarded automaton.now filter.new always.new.items i) }
-    ensures kept { OnOk result ((j : ℕ) → IsGuarded automaton.now filter.old always.old.items j → IsGuarded automaton.now filter.new always.new.items j) }
+    ensures guarded { OnOk result ((m : Machine) → AreRequired m (slice_index m.starts i) windows.now.short.items windows.now.long.items → IsGuarded m filter.new always.new.items i) }
+    ensures kept { OnOk result ((m : Machine) (j : ℕ) → IsGuarded m filter.old always.old.items j → IsGuarded m filter.new always.new.items j) }
     ensures below { OnOk result ((n : ℕ) → i < n → ArePartsBelow n filter.old → ArePartsBelow n filter.new) }
     ensures len { OnOk result (length filter.new ≤ length filter.old + 1) }
 {
-    required_windows(automaton, automaton.starts()[i], keys)?;
     if let Ok(part) = u32::try_from(i) {
-        if let Some(key) = counts.rarest(keys) {
+        if let Some(key) = rarest(windows, counts) {
             filter.add(key, part)?;
             return Ok(());
         }
     }
     always.push(i)?;
     Ok(())
+}
+
+/// Returns the key of the rarest window of four bytes, or if there is none, of three.
+fn rarest(windows: &StartWindows, counts: &Counts) -> Option<u32>
+    ensures { MatchOption result (Unit {0}) (λ key. Contains windows.now.long.items key ⊎ Contains windows.now.short.items key) }
+{
+    match counts.rarest(&windows.long) {
+        Some(key) => Some(key),
+        None => counts.rarest(&windows.short),
+    }
 }

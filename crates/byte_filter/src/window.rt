@@ -1,28 +1,73 @@
 //! Windows that every text has which leads from a state to an end.
 
-ghost use Rattle.std.specs.Prelude.{◌≡◌, ℕ, ◌+◌, ◌*◌, ◌<◌, ◌≤◌, OnOk, MatchOption};
+ghost use Rattle.std.specs.Prelude.{◌≡◌, ℕ, ◌+◌, ◌*◌, ◌<◌, ◌≤◌, length, IfOk, OnOk, MatchOption};
+ghost use Rattle.byte_automaton.specs.Forcing.{Forces};
 ghost use Rattle.byte_automaton.specs.Runs.{size};
-ghost use Rattle.byte_filter.specs.Windows.{AreRequired};
-ghost use Rattle.byte_filter.specs.inner.Cuts.{ReadsThree, Stands};
+ghost use Rattle.byte_automaton.specs.Steps.{Machine, state};
+ghost use Rattle.byte_filter.specs.inner.Cuts.{AreForced, AreRequired, ReadsThree, Stands};
 
 use byte_automaton::Automaton;
-use std::alloc::AllocError;
+use std::alloc::{AllocError, Global};
 
 /// The keys of windows of four bytes are not below this, and those of three bytes are. A folded byte is not 0.
 pub const LONG: u32 = 16_777_216;
 
-/// Puts the keys of windows into a list that each text has which leads from a state to an end: of all that the states below
-/// it force. What the list held has no effect. Returns an error if memory runs out.
+/// The keys of the windows that every text has which leads from a start to an end.
+#[derive(Drop)]
+pub struct StartWindows {
+    /// Those of three bytes, in the order in which they are in a text.
+    pub short: Vec<u32>,
+    /// Those of four bytes.
+    pub long: Vec<u32>,
+}
+
+impl StartWindows {
+    /// Returns no windows.
+    pub fn new(alloc: Global) -> StartWindows {
+        StartWindows {
+            short: Vec::new(alloc),
+            long: Vec::new(alloc),
+        }
+    }
+}
+
+/// Returns the byte that each state forces, folded, or 0 where it forces none. Returns an error if memory runs out.
+pub fn forced_bytes(alloc: Global, automaton: &Automaton) -> Result<Vec<u8>, AllocError>
+    ensures { IfOk result (λ bytes. AreForced automaton.now bytes.items) }
+{
+    let mut bytes = Vec::new(alloc);
+    for s in 0..automaton.state_count() {
+        bytes.push(forced_byte(automaton, s))?;
+    }
+    Ok(bytes)
+}
+
+/// Returns the byte that a state forces, folded, or 0 if it forces none.
+fn forced_byte(automaton: &Automaton, s: usize) -> u8
+    requires { s < size automaton.now }
+    ensures { 0 < result → Forces (state automaton.now.states s) s result }
+{
+    match automaton.forced_byte(s) {
+        Some(byte) => byte,
+        None => 0,
+    }
+}
+
+/// Makes the windows those that each text has which leads from a state to an end: all that the states below it force. `bytes` has
+/// the byte that each state forces. Returns an error if memory runs out.
 ///
 /// It reads the states from `start` down to an end.
-pub fn required_windows(
+pub fn find_required(
     automaton: &Automaton,
+    bytes: &[u8],
     start: usize,
-    keys: &mut Vec<u32>,
+    windows: &mut StartWindows,
 ) -> Result<(), AllocError>
-    ensures { OnOk result (AreRequired automaton.now start keys.new.items) }
+    requires { AreForced automaton.now bytes.now }
+    ensures { OnOk result (AreRequired automaton.now start windows.new.short.items windows.new.long.items) }
 {
-    keys.clear();
+    windows.short.clear();
+    windows.long.clear();
     if start >= automaton.state_count() {
         return Ok(());
     }
@@ -30,7 +75,7 @@ pub fn required_windows(
     let mut above = start + 1;
     while above > 0 {
         let s = above - 1;
-        push_windows(automaton, start, least, s, keys)?;
+        push_windows(automaton, bytes, start, least, s, windows)?;
         let Some(next) = automaton.least_next(s) else {
             return Ok(());
         };
@@ -46,39 +91,44 @@ pub fn required_windows(
 /// below `least`, and `s` is not above that.
 fn push_windows(
     automaton: &Automaton,
+    bytes: &[u8],
     start: usize,
     least: usize,
     s: usize,
-    keys: &mut Vec<u32>,
+    windows: &mut StartWindows,
 ) -> Result<(), AllocError>
+    requires bytes { AreForced automaton.now bytes.now }
     requires within { s < size automaton.now }
     requires order { s ≤ start }
     requires stands { (t : ℕ) → s < t → t ≤ start → Stands automaton.now.states least t }
-    ensures { OnOk result (AreRequired automaton.now start keys.old.items → AreRequired automaton.now start keys.new.items) }
+    ensures { OnOk result (AreRequired automaton.now start windows.old.short.items windows.old.long.items → AreRequired automaton.now start windows.new.short.items windows.new.long.items) }
 {
     if s > least {
         return Ok(());
     }
-    let Some(three) = forced_three(automaton, s) else {
+    let Some(three) = forced_three(bytes, s) else {
         return Ok(());
     };
-    keys.push(three)?;
-    if let Some(fourth) = automaton.forced_byte(s - 3) {
-        keys.push(three * 256 + fourth as u32)?;
+    windows.short.push(three)?;
+    let fourth = bytes[s - 3];
+    if fourth > 0 {
+        windows.long.push(three * 256 + fourth as u32)?;
     }
     Ok(())
 }
 
-/// Returns the key of the first three bytes, folded, of every text that leads from a state to an end.
-fn forced_three(automaton: &Automaton, s: usize) -> Option<u32>
-    requires { s < size automaton.now }
-    ensures { MatchOption result (Unit {0}) (λ key. (3 ≤ s) × (key < 16777216) × ReadsThree automaton.now.states s key) }
+/// Returns the key of the first three bytes, folded, of every text that leads from a state to an end, if the state and the two
+/// below it force them.
+fn forced_three(bytes: &[u8], s: usize) -> Option<u32>
+    requires { s < length bytes.now }
+    ensures { MatchOption result (Unit {0}) (λ key. (3 ≤ s) × (key < 16777216) × ((m : Machine) → AreForced m bytes.now → ReadsThree m.states s key)) }
 {
     if s < 3 {
         return None;
     }
-    let first = automaton.forced_byte(s)?;
-    let second = automaton.forced_byte(s - 1)?;
-    let third = automaton.forced_byte(s - 2)?;
+    let (first, second, third) = (bytes[s], bytes[s - 1], bytes[s - 2]);
+    if first == 0 || second == 0 || third == 0 {
+        return None;
+    }
     Some((first as u32 * 256 + second as u32) * 256 + third as u32)
 }

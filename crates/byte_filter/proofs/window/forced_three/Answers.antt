@@ -1,11 +1,16 @@
-use Rattle.std.proofs.Common.{◌-◌, arith}
+use Rattle.std.proofs.Common.{◌-◌, slice_index, arith}
+use Rattle.byte_automaton.specs.Steps.{Machine}
+use Rattle.byte_filter.specs.inner.Cuts.{AreForced}
 use Rattle.byte_filter.proofs.lemmas.Cuts.{three_forced}
 use Rattle.byte_filter.proofs.window.forced_three.Goals as goal
 
 pub returns : goal.returns
-returns c = (
-  omega arith,
-  omega arith,
-  three_forced c.args.automaton.now.states c.args.s (c.args.s - 1) (c.args.s - 2) c.in_ok-first.first c.in_ok-second.second c.in_ok-third.third
-      (omega arith) (omega arith) c.in_ok-first.ensures c.in_ok-second.ensures c.in_ok-third.ensures,
-)
+returns c =
+    let bytes = c.args.bytes.now in
+    let s = c.args.s in (
+      omega arith,
+      omega (arith, c.type_inv.bytes s, c.type_inv.bytes (s - 1), c.type_inv.bytes (s - 2)),
+      λ (m : Machine) (h : AreForced m bytes).
+          three_forced m.states s (s - 1) (s - 2) (slice_index bytes s) (slice_index bytes (s - 1)) (slice_index bytes (s - 2)) (omega arith) (omega arith)
+          (h.forced s (omega (arith, h.len, c.requires)) (omega arith)) (h.forced (s - 1) (omega (arith, h.len, c.requires)) (omega arith)) (h.forced (s - 2) (omega (arith, h.len, c.requires)) (omega arith)),
+    )

@@ -1,17 +1,21 @@
-use Rattle.std.proofs.Common.{◌≡◌, arith, ap, sym, subst, length}
+use Rattle.std.proofs.Common.{◌≡◌, ℕ, List, slice_index, arith, ap, sym, subst, length}
 use Rattle.std.proofs.lemmas.Bool.{cases_lt}
 use Rattle.std.proofs.Math.Logic.{⊎_elim}
 use Rattle.byte_filter.specs.Starts.{IsGuarded}
+use Rattle.byte_filter.specs.inner.Cuts.{AreRequired}
 use Rattle.byte_filter.proofs.starts.StartFilter.new.Goals as goal
 
 pub loop-i-preserved : goal.loop-i-preserved
 loop-i-preserved c =
     let m = c.args.automaton.now in
     let always = c.guard.new.always.items in
+    let windows = c.find_required.new.windows in
+    let required : AreRequired m (slice_index m.starts c.loop-i.i) windows.short.items windows.long.items =
+    subst (λ (starts : List ℕ). AreRequired m (slice_index starts c.loop-i.i) windows.short.items windows.long.items) c.starts.ensures.starts c.in_ok-find_required.ensures in
     record {
       guarded = λ j lt. ⊎_elim {C = IsGuarded m c.guard.new.filter always j}
-          (λ before. c.in_ok-guard.ensures.kept j (c.loop-i.invariant.guarded j before))
-          (λ past. let is : j ≡ c.loop-i.i = omega arith in subst (IsGuarded m c.guard.new.filter always) (sym is) c.in_ok-guard.ensures.guarded)
+          (λ before. c.in_ok-guard.ensures.kept m j (c.loop-i.invariant.guarded j before))
+          (λ past. let is : j ≡ c.loop-i.i = omega arith in subst (IsGuarded m c.guard.new.filter always) (sym is) (c.in_ok-guard.ensures.guarded m required))
           (cases_lt j c.loop-i.i);
       below = c.in_ok-guard.ensures.below (length c.starts-count.result.now) c.loop-i-test.true c.loop-i.invariant.below;
       len = omega (arith, c.loop-i.invariant.len, c.in_ok-guard.ensures.len);

@@ -1,6 +1,6 @@
 use Rattle.std.proofs.Common.{◌-◌, arith}
 use Rattle.byte_filter.proofs.lemmas.Cuts.{stands_more}
-use Rattle.byte_filter.proofs.window.required_windows.Goals as goal
+use Rattle.byte_filter.proofs.window.find_required.Goals as goal
 
 pub loop-above-preserved-then-next-least : goal.loop-above-preserved-then-next-least
 loop-above-preserved-then-next-least c =
