@@ -3,3 +3,4 @@ pub mod Chains
 pub mod Windows
 pub mod Starts
 pub mod Hashes
+pub mod Signatures

@@ -1,4 +1,6 @@
 pub mod Windows
+pub mod Hashes
+pub mod Signs
 pub mod Entries
 pub mod inner
 pub mod Starts

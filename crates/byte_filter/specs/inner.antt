@@ -2,5 +2,5 @@ pub mod Chains
 pub mod Cuts
 pub mod Rolling
 pub mod Starts
-pub mod Hashes
 pub mod KeyBits
+pub mod Signatures

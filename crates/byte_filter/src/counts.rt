@@ -2,7 +2,10 @@
 
 ghost use Rattle.std.specs.Prelude.{◌<◌, ◌≤◌, length};
 
+use crate::filter::Signs;
 use crate::hashing::{MOST_PLACES, place};
+use crate::signature::{ANY_TEXT, sign};
+use crate::window::LONG;
 use std::alloc::{AllocError, Global};
 
 /// How often each key was counted, at most: keys of the same hash are counted together.
@@ -21,6 +24,7 @@ impl Drop for Counts {
 
 impl Counts {
     ghost use Rattle.std.specs.Prelude.{Contains, MatchOption};
+    ghost use Rattle.byte_filter.specs.inner.Signatures.{AreSignsOfSome};
 
     /// Returns counts for the windows of so many starts. Returns an error if memory runs out.
     pub fn new(alloc: Global, starts: usize) -> Result<Counts, AllocError> {
@@ -54,10 +58,73 @@ impl Counts {
         rarest
     }
 
+    /// Returns the signs of some keys: of those that were counted least often, but of no part of the window that is named. If there
+    /// are fewer such keys than signs, the others are the sign that each text has.
+    ///
+    /// Every third key is taken before the others, since windows that overlap say much the same.
+    pub fn signs(&self, keys: &[u32], named: u32) -> Signs
+        ensures { AreSignsOfSome keys.now result }
+    {
+        let mut rarest = RarestSigns::new();
+        for i in 0..keys.len() {
+            let key = keys[i];
+            if key != named && key != named / 256 && key != named % LONG {
+                let overlaps = (i % 3 > 0) as u64;
+                rarest.offer(sign(key), overlaps << 40 | self.frequency(key));
+            }
+        }
+        rarest.signs
+    }
+
     /// Returns a number that is the greater the more texts are expected to have a window with the key.
     fn frequency(&self, key: u32) -> u64 {
         let count = self.counts[place(key, self.counts.len())] as u64;
         count << 8 | commonness(key) as u64
+    }
+}
+
+/// The signs of the lowest frequencies of those that were offered.
+#[derive(Clone, Copy)]
+struct RarestSigns {
+    signs: Signs,
+    frequencies: [u64; 8],
+}
+
+impl RarestSigns {
+    ghost use Rattle.std.specs.Prelude.{◌≡◌, ℕ, ◌⊎◌, slice_index};
+
+    /// Returns no signs but the one that each text has.
+    fn new() -> RarestSigns
+        ensures { (i : ℕ) → i < 8 → slice_index result.signs i ≡ 255 }
+    {
+        RarestSigns {
+            signs: [ANY_TEXT; 8],
+            frequencies: [u64::MAX; 8],
+        }
+    }
+
+    /// Takes a sign in place of the one of the highest frequency, if its own is lower.
+    fn offer(&mut self, sign: u8, frequency: u64)
+        ensures { (i : ℕ) → i < 8 → (slice_index self.new.signs i ≡ sign) ⊎ (slice_index self.new.signs i ≡ slice_index self.old.signs i) }
+    {
+        let highest = self.highest();
+        if frequency < self.frequencies[highest] && !self.signs.contains(&sign) {
+            self.signs[highest] = sign;
+            self.frequencies[highest] = frequency;
+        }
+    }
+
+    /// Returns the place of the sign of the highest frequency.
+    fn highest(&self) -> usize
+        ensures { result < 8 }
+    {
+        let mut highest = 0;
+        for i in 1..8 {
+            if self.frequencies[i] > self.frequencies[highest] {
+                highest = i;
+            }
+        }
+        highest
     }
 }
 

@@ -1,26 +1,46 @@
 //! A filter: parts under the keys of windows.
 
 ghost use Rattle.std.specs.Prelude.{◌≡◌, ℕ, List, ◌+◌, ◌*◌, ◌%◌, ◌<◌, ◌≤◌, ◌⊎◌, ◌↔◌, ◌++◌, ◌∷◌, [], length, IsTrue, IfOk, OnOk, OnErr};
-ghost use Rattle.byte_automaton.specs.Forcing.{folded};
 ghost use Rattle.byte_automaton.specs.Sets.{has_index, index_room};
 ghost use Rattle.byte_filter.specs.Entries.{entry, HasEntry, ArePartsBelow, IsNamed};
-ghost use Rattle.byte_filter.specs.inner.Rolling.{EndsInThree};
+ghost use Rattle.byte_filter.specs.Signs.{AreSigned};
+ghost use Rattle.byte_filter.specs.inner.Signatures.{IsOf};
 
 use crate::hashing::{MOST_PLACES, place};
 use crate::key_bits::KeyBits;
+use crate::rolling::{first_key, next_key};
+use crate::signature::Signature;
 use crate::window::LONG;
 use byte_automaton::IndexSet;
 use std::alloc::{AllocError, Global};
 use std::marker::Model;
 use visits::Visits;
 
+/// The signs of an entry.
+pub type Signs = [u8; 8];
+
 /// An entry, and the chain that it is in.
 #[derive(Clone, Copy)]
 struct Link {
     key: u32,
     part: u32,
+    signs: Signs,
     /// One more than the place of the entry before it whose key has the same slot, or 0.
     next: u32,
+}
+
+impl Link {
+    /// Returns whether the key is that of the entry, and a text has its signs. The text has to be that of the signature.
+    fn is_named(self, key: u32, text: &[u8], signature: &mut Signature) -> bool
+        requires { IsOf text.now signature.old }
+        ensures of { IsOf text.now signature.new }
+        ensures named { IsTrue result ↔ ((self.key ≡ key) × AreSigned text.now self.signs) }
+    {
+        if self.key != key {
+            return false;
+        }
+        signature.has_all(text, &self.signs)
+    }
 }
 
 /// Parts under the keys of windows. Contracts see the entries in the order in which they were added.
@@ -99,8 +119,8 @@ impl Filter {
     /// Adds a part under a key, after the entries that there are.
     ///
     /// Returns an error if memory runs out; the filter then has the entries that it had.
-    pub fn add(&mut self, key: u32, part: u32) -> Result<(), AllocError>
-        ensures ok { OnOk result (self.new ≡ self.old ++ entry key part ∷ []) }
+    pub fn add(&mut self, key: u32, part: u32, signs: Signs) -> Result<(), AllocError>
+        ensures ok { OnOk result (self.new ≡ self.old ++ entry key part signs ∷ []) }
         ensures err { OnErr result (self.new ≡ self.old) }
     {
         let slot = place(key, self.heads.len());
@@ -109,14 +129,19 @@ impl Filter {
             return Err(AllocError);
         };
         let next = self.heads[slot];
-        self.links.push(Link { key, part, next })?;
+        self.links.push(Link {
+            key,
+            part,
+            signs,
+            next,
+        })?;
         self.heads[slot] = head;
         self.keys.put(key);
         self.has_short |= key < LONG;
         Ok(())
     }
 
-    /// Puts each part with an entry under the key of a window of a text into a set, beside what it holds.
+    /// Puts each part with an entry under the key of a window of a text, which has its signs, into a set, beside what it holds.
     ///
     /// For each byte it is at most four visits, and two for each entry.
     pub fn mark(&self, text: &[u8], marks: &mut IndexSet, visits: &mut Visits)
@@ -128,47 +153,74 @@ impl Filter {
         if text.len() < 3 {
             return;
         }
+        let mut signature = Signature::new();
         let mut key = first_key(text);
-        self.mark_short(key, marks, visits);
+        self.mark_short(key, text, &mut signature, marks, visits);
         for at in 0..text.len() - 3 {
             key = next_key(key, text[at + 3]);
-            self.mark_key(key, marks, visits);
-            self.mark_short(key, marks, visits);
+            self.mark_key(key, text, &mut signature, marks, visits);
+            self.mark_short(key, text, &mut signature, marks, visits);
         }
     }
 
-    /// Puts each part with an entry under the key that the last three bytes of a key are into a set, beside what it holds. It is at
-    /// most two visits, and one for each entry.
-    fn mark_short(&self, key: u32, marks: &mut IndexSet, visits: &mut Visits)
-        requires { ArePartsBelow (index_room marks.old) self.now }
+    /// Does so for the entries under the key that the last three bytes of a key are. It is at most two visits, and one for each
+    /// entry.
+    fn mark_short(
+        &self,
+        key: u32,
+        text: &[u8],
+        signature: &mut Signature,
+        marks: &mut IndexSet,
+        visits: &mut Visits,
+    )
+        requires room { ArePartsBelow (index_room marks.old) self.now }
+        requires of { IsOf text.now signature.old }
+        ensures of { IsOf text.now signature.new }
         ensures room { index_room marks.new ≡ index_room marks.old }
-        ensures marks { (k : ℕ) → IsTrue (has_index marks.new k) ↔ (HasEntry self.now (key % 16777216) k ⊎ IsTrue (has_index marks.old k)) }
+        ensures marks { (k : ℕ) → IsTrue (has_index marks.new k) ↔ (HasEntry self.now text.now (key % 16777216) k ⊎ IsTrue (has_index marks.old k)) }
         ensures visits { visits.new ≤ visits.old + (2 + length self.now) }
     {
         if self.has_short {
-            self.mark_key(key % LONG, marks, visits);
+            self.mark_key(key % LONG, text, signature, marks, visits);
         }
     }
 
-    /// Puts each part with an entry under a key into a set, beside what it holds. It is at most two visits, and one for each entry.
-    fn mark_key(&self, key: u32, marks: &mut IndexSet, visits: &mut Visits)
-        requires { ArePartsBelow (index_room marks.old) self.now }
+    /// Does so for the entries under a key. It is at most two visits, and one for each entry.
+    fn mark_key(
+        &self,
+        key: u32,
+        text: &[u8],
+        signature: &mut Signature,
+        marks: &mut IndexSet,
+        visits: &mut Visits,
+    )
+        requires room { ArePartsBelow (index_room marks.old) self.now }
+        requires of { IsOf text.now signature.old }
+        ensures of { IsOf text.now signature.new }
         ensures room { index_room marks.new ≡ index_room marks.old }
-        ensures marks { (k : ℕ) → IsTrue (has_index marks.new k) ↔ (HasEntry self.now key k ⊎ IsTrue (has_index marks.old k)) }
+        ensures marks { (k : ℕ) → IsTrue (has_index marks.new k) ↔ (HasEntry self.now text.now key k ⊎ IsTrue (has_index marks.old k)) }
         ensures visits { visits.new ≤ visits.old + (2 + length self.now) }
     {
         visits.tick();
         if self.keys.has(key) {
-            self.mark_chain(key, marks, visits);
+            self.mark_chain(key, text, signature, marks, visits);
         }
     }
 
-    /// Puts each part with an entry under a key into a set, beside what it holds: goes along the chain of the key's slot. It is at
-    /// most one visit, and one for each entry.
-    fn mark_chain(&self, key: u32, marks: &mut IndexSet, visits: &mut Visits)
-        requires { ArePartsBelow (index_room marks.old) self.now }
+    /// Does so for the entries under a key, which are in the chain of its slot. It is at most one visit, and one for each entry.
+    fn mark_chain(
+        &self,
+        key: u32,
+        text: &[u8],
+        signature: &mut Signature,
+        marks: &mut IndexSet,
+        visits: &mut Visits,
+    )
+        requires room { ArePartsBelow (index_room marks.old) self.now }
+        requires of { IsOf text.now signature.old }
+        ensures of { IsOf text.now signature.new }
         ensures room { index_room marks.new ≡ index_room marks.old }
-        ensures marks { (k : ℕ) → IsTrue (has_index marks.new k) ↔ (HasEntry self.now key k ⊎ IsTrue (has_index marks.old k)) }
+        ensures marks { (k : ℕ) → IsTrue (has_index marks.new k) ↔ (HasEntry self.now text.now key k ⊎ IsTrue (has_index marks.old k)) }
         ensures visits { visits.new ≤ visits.old + (1 + length self.now) }
     {
         visits.tick();
@@ -177,29 +229,11 @@ impl Filter {
         while at > 0 {
             visits.tick();
             let link = self.links[at - 1];
-            if link.key == key {
-                marks.put(link.part as usize);
-            }
+            let part = link.part as usize;
             at = link.next as usize;
+            if link.is_named(key, text, signature) {
+                marks.put(part);
+            }
         }
     }
-}
-
-/// Returns the key of the first three bytes.
-fn first_key(text: &[u8]) -> u32
-    requires { 3 ≤ length text.now }
-    ensures { EndsInThree text.now 0 result }
-{
-    next_key(next_key(next_key(0, text[0]), text[1]), text[2])
-}
-
-/// Returns the key of the window of four bytes that ends with a byte, by that of the window that ends before it.
-#[tactic(auto, unfolding(byte_automaton::specs::Forcing::folded))]
-fn next_key(key: u32, byte: u8) -> u32
-    ensures is { result ≡ key % 16777216 * 256 + folded byte }
-    ensures three { result % 16777216 ≡ key % 65536 * 256 + folded byte }
-    ensures two { result % 65536 ≡ key % 256 * 256 + folded byte }
-    ensures one { result % 256 ≡ folded byte }
-{
-    key % LONG * 256 + (byte | 0x20) as u32
 }

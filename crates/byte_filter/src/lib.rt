@@ -10,6 +10,8 @@ mod counts;
 mod filter;
 mod hashing;
 mod key_bits;
+mod rolling;
+mod signature;
 mod starts;
 mod window;
 

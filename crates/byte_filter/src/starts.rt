@@ -155,7 +155,7 @@ fn guard(
 {
     if let Ok(part) = u32::try_from(i) {
         if let Some(key) = rarest(windows, counts) {
-            filter.add(key, part)?;
+            filter.add(key, part, counts.signs(&windows.short, key))?;
             return Ok(());
         }
     }

@@ -2,7 +2,7 @@
 use Rattle.std.specs.Prelude.{ℕ, ◌*◌, Bool, length}
 use Rattle.byte_automaton.specs.Bits.{bit_of}
 use Rattle.byte_filter.specs.declared.key_bits.KeyBits.{KeyBits}
-use Rattle.byte_filter.specs.inner.Hashes.{place_of}
+use Rattle.byte_filter.specs.Hashes.{place_of}
 
 -- the bit of the key's hash is set
 abbrev pub has_key : KeyBits → ℕ → Bool

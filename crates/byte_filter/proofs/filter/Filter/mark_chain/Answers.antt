@@ -1,14 +1,14 @@
-use Rattle.std.proofs.Common.{◌≡◌, ℕ, ◌+◌, ◌-◌, ◌<◌, ◌⊎◌, ◌||◌, inl, inr, IsTrue, length, arith, refl, ap, sym, subst, ◌∙◌}
+use Rattle.std.proofs.Common.{◌≡◌, ℕ, ◌+◌, ◌-◌, ◌<◌, ◌⊎◌, ◌||◌, inl, inr, IsTrue, true≢false, length, arith, refl, ap, sym, subst, ◌∙◌}
 use Rattle.std.specs.Prelude.{◌↔◌, ◌==◌}
 use Rattle.std.proofs.Math.Logic.{⊎_elim}
 use Rattle.byte_automaton.specs.Sets.{has_index, index_room}
 use Rattle.byte_filter.specs.Entries.{HasEntry, ArePartsBelow}
 use Rattle.byte_filter.specs.inner.Chains.{link_at, IsLast, HasEntryFrom}
-use Rattle.byte_filter.specs.inner.Hashes.{place_of}
+use Rattle.byte_filter.specs.Hashes.{place_of}
+use Rattle.byte_filter.specs.Signs.{AreSigned}
 use Rattle.byte_filter.specs.declared.filter.Link.{Link}
 use Rattle.byte_filter.proofs.lemmas.Chains.{link_is, part_below, has_from, from_has, next_put, next_passed}
 use Rattle.byte_filter.proofs.filter.Filter.mark_chain.Goals as goal
-use Rattle.byte_filter.proofs.filter.Filter.mark_chain.Goals.{then-link-key, else-link-key}
 
 pub put-requires : goal.put-requires
 put-requires c =
@@ -16,13 +16,14 @@ put-requires c =
     let i = c.loop-at.at - 1 in
     let lt : i < length links = omega (arith, c.loop-at.invariant.upto) in
     let link : c.index-link.result.now ≡ link_at links i = link_is links i c.index-link.result.now lt c.index-link.ensures in
-    let below = part_below (index_room c.args.marks.now) links i (subst (ArePartsBelow (index_room c.args.marks.now)) (sym c.self.view_is) c.requires) lt in
+    let below = part_below (index_room c.args.marks.now) links i (subst (ArePartsBelow (index_room c.args.marks.now)) (sym c.self.view_is) c.requires.room) lt in
     omega (arith, below, ap (λ (l : Link). l.part) link, c.loop-at.invariant.room)
 
-pub loop-at-preserved : goal.loop-at-preserved
-loop-at-preserved c =
+pub loop-at-preserved-then-is_named : goal.loop-at-preserved-then-is_named
+loop-at-preserved-then-is_named c =
     let links = c.self.inside.links.items in
     let slots = length c.self.inside.heads.items in
+    let y = c.args.text.now in
     let inv = c.loop-at.invariant in
     let i = c.loop-at.at - 1 in
     let at : i + 1 ≡ c.loop-at.at = omega arith in
@@ -31,21 +32,41 @@ loop-at-preserved c =
     let next : c.index-link.result.now.next ≡ (link_at links i).next = ap (λ (l : Link). l.next) link in
     let last : IsLast links slots i (place_of slots (link_at links i).key) c.index-link.result.now.next = subst (IsLast links slots i (place_of slots (link_at links i).key)) (sym next) (c.self.invariant.chained.nexts_at i lt) in
     let same : place_of slots (link_at links i).key ≡ place_of slots c.args.key = inv.slot i at in
-    let marked : (k : ℕ) → IsTrue (has_index c.loop-at.marks k) ↔ (HasEntryFrom links (i + 1) c.args.key k ⊎ IsTrue (has_index c.args.marks.now k)) =
-    λ k. subst (λ x. IsTrue (has_index c.loop-at.marks k) ↔ (HasEntryFrom links x c.args.key k ⊎ IsTrue (has_index c.args.marks.now k))) (sym at) (inv.marks k) in
+    let marked : (k : ℕ) → IsTrue (has_index c.loop-at.marks k) ↔ (HasEntryFrom links y (i + 1) c.args.key k ⊎ IsTrue (has_index c.args.marks.now k)) =
+    λ k. subst (λ x. IsTrue (has_index c.loop-at.marks k) ↔ (HasEntryFrom links y x c.args.key k ⊎ IsTrue (has_index c.args.marks.now k))) (sym at) (inv.marks k) in
     record {
-      room = elim c.if-link-key.branch [
-        | then-link-key w ↦ rw w.marks-is (w.put.ensures.room ∙ inv.room)
-        | else-link-key w ↦ rw w.marks-is inv.room
-      ];
+      of = c.is_named.ensures.of;
+      room = c.put.ensures.room ∙ inv.room;
       upto = omega (arith, last.within, inv.upto);
       slot = λ j e. last.slot j e ∙ same;
-      marks = elim c.if-link-key.branch [
-        | then-link-key w ↦ rw w.marks-is (next_put links slots c.args.key i c.index-link.result.now.next last same lt (has_index c.args.marks.now) (has_index c.loop-at.marks) (has_index w.put.new.self) marked
-            (sym (ap (λ (l : Link). l.key) link) ∙ w.if-link-key.true) (λ k. subst (λ p. has_index w.put.new.self k ≡ ((k == p) || has_index c.loop-at.marks k)) (ap (λ (l : Link). l.part) link) (w.put.ensures.has k)))
-        | else-link-key w ↦ rw w.marks-is (next_passed links slots c.args.key i c.index-link.result.now.next last same lt (has_index c.args.marks.now) (has_index c.loop-at.marks) (has_index c.loop-at.marks) marked
-            (λ e. w.if-link-key.false (ap (λ (l : Link). l.key) link ∙ e)) (λ k. refl))
-      ];
+      marks = next_put links y slots c.args.key i c.index-link.result.now.next last same lt (has_index c.args.marks.now) (has_index c.loop-at.marks) (has_index c.put.new.self) marked
+          (subst (λ (l : Link). (l.key ≡ c.args.key) × AreSigned y l.signs) link (c.is_named.ensures.named.0 c.if-is_named.true))
+          (λ k. subst (λ p. has_index c.put.new.self k ≡ ((k == p) || has_index c.loop-at.marks k)) (ap (λ (l : Link). l.part) link) (c.put.ensures.has k));
+      visits = omega (arith, inv.visits, c.tick-in-loop-at.ensures, last.within);
+    }
+
+pub loop-at-preserved : goal.loop-at-preserved
+loop-at-preserved c =
+    let links = c.self.inside.links.items in
+    let slots = length c.self.inside.heads.items in
+    let y = c.args.text.now in
+    let inv = c.loop-at.invariant in
+    let i = c.loop-at.at - 1 in
+    let at : i + 1 ≡ c.loop-at.at = omega arith in
+    let lt : i < length links = omega (arith, inv.upto) in
+    let link : c.index-link.result.now ≡ link_at links i = link_is links i c.index-link.result.now lt c.index-link.ensures in
+    let next : c.index-link.result.now.next ≡ (link_at links i).next = ap (λ (l : Link). l.next) link in
+    let last : IsLast links slots i (place_of slots (link_at links i).key) c.index-link.result.now.next = subst (IsLast links slots i (place_of slots (link_at links i).key)) (sym next) (c.self.invariant.chained.nexts_at i lt) in
+    let same : place_of slots (link_at links i).key ≡ place_of slots c.args.key = inv.slot i at in
+    let marked : (k : ℕ) → IsTrue (has_index c.loop-at.marks k) ↔ (HasEntryFrom links y (i + 1) c.args.key k ⊎ IsTrue (has_index c.args.marks.now k)) =
+    λ k. subst (λ x. IsTrue (has_index c.loop-at.marks k) ↔ (HasEntryFrom links y x c.args.key k ⊎ IsTrue (has_index c.args.marks.now k))) (sym at) (inv.marks k) in
+    record {
+      of = c.is_named.ensures.of;
+      room = inv.room;
+      upto = omega (arith, last.within, inv.upto);
+      slot = λ j e. last.slot j e ∙ same;
+      marks = next_passed links y slots c.args.key i c.index-link.result.now.next last same lt (has_index c.args.marks.now) (has_index c.loop-at.marks) (has_index c.loop-at.marks) marked
+          (λ e. true≢false (sym (c.is_named.ensures.named.1 (subst (λ (l : Link). (l.key ≡ c.args.key) × AreSigned y l.signs) (sym link) e)) ∙ c.if-is_named.false)) (λ k. refl);
       visits = omega (arith, inv.visits, c.tick-in-loop-at.ensures, last.within);
     }
 
@@ -55,12 +76,12 @@ returns-clause-marks c =
     let inv = c.loop-at.invariant in
     let zero_at : c.loop-at.at ≡ 0 = omega arith in
     λ k. (
-      λ h. ⊎_elim {C = HasEntry c.args.self.now c.args.key k ⊎ IsTrue (has_index c.args.marks.now k)}
-          (λ m. inl (subst (λ es. HasEntry es c.args.key k) c.self.view_is (has_from links c.args.key k (subst (λ x. HasEntryFrom links x c.args.key k) zero_at m))))
+      λ h. ⊎_elim {C = HasEntry c.args.self.now c.args.text.now c.args.key k ⊎ IsTrue (has_index c.args.marks.now k)}
+          (λ m. inl (subst (λ es. HasEntry es c.args.text.now c.args.key k) c.self.view_is (has_from links c.args.text.now c.args.key k (subst (λ x. HasEntryFrom links c.args.text.now x c.args.key k) zero_at m))))
           (λ old. inr old)
           ((inv.marks k).0 h),
-      λ h. (inv.marks k).1 (⊎_elim {C = HasEntryFrom links c.loop-at.at c.args.key k ⊎ IsTrue (has_index c.args.marks.now k)}
-          (λ m. inl (subst (λ x. HasEntryFrom links x c.args.key k) (sym zero_at) (from_has links c.args.key k (subst (λ es. HasEntry es c.args.key k) (sym c.self.view_is) m))))
+      λ h. (inv.marks k).1 (⊎_elim {C = HasEntryFrom links c.args.text.now c.loop-at.at c.args.key k ⊎ IsTrue (has_index c.args.marks.now k)}
+          (λ m. inl (subst (λ x. HasEntryFrom links c.args.text.now x c.args.key k) (sym zero_at) (from_has links c.args.text.now c.args.key k (subst (λ es. HasEntry es c.args.text.now c.args.key k) (sym c.self.view_is) m))))
           (λ old. inr old)
           h),
     )

@@ -9,7 +9,7 @@ pub returns-else-self-clause-marks : goal.returns-else-self-clause-marks
 returns-else-self-clause-marks c = λ k. (
   λ old. inr old,
   λ h. ⊎_elim {C = IsTrue (has_index c.args.marks.now k)}
-      (λ m. absurd (none_short c.self.inside.links.items c.args.key k (c.self.invariant.long c.if-self.false) (subst (λ es. HasEntry es (c.args.key % 16777216) k) (sym c.self.view_is) m)))
+      (λ m. absurd (none_short c.self.inside.links.items c.args.text.now c.args.key k (c.self.invariant.long c.if-self.false) (subst (λ es. HasEntry es c.args.text.now (c.args.key % 16777216) k) (sym c.self.view_is) m)))
       (λ old. old)
       h,
 )
