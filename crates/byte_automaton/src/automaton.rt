@@ -274,7 +274,13 @@ impl Automaton {
 
     /// Takes the steps of a state of `from`: puts into `from` what it goes on to without a byte, and into `to` what it goes
     /// on to by the byte. Returns whether it put a state into `to`.
-    pub(crate) fn take_steps(&self, s: usize, byte: u8, from: &mut StateSet, to: &mut StateSet) -> bool
+    pub(crate) fn take_steps(
+        &self,
+        s: usize,
+        byte: u8,
+        from: &mut StateSet,
+        to: &mut StateSet,
+    ) -> bool
         requires exists { s < size self.now }
         requires from_room { size self.now ≤ state_room from.old }
         requires to_room { size self.now ≤ state_room to.old }

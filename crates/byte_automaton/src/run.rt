@@ -122,13 +122,7 @@ impl Automaton {
 
     /// Makes the current set that of the states that a text leads to from the last state of a span. Returns whether there are
     /// any; if not, the set may be another.
-    fn run_over(
-        &self,
-        span: Span,
-        text: &[u8],
-        sets: &mut StateSets,
-        visits: &mut Visits,
-    ) -> bool
+    fn run_over(&self, span: Span, text: &[u8], sets: &mut StateSets, visits: &mut Visits) -> bool
         requires span { IsSpan self.now span }
         requires room { size self.now ≤ sets_room sets.old }
         ensures room { sets_room sets.new ≡ sets_room sets.old }

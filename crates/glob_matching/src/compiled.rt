@@ -5,8 +5,8 @@ ghost use Rattle.byte_automaton.specs.Runs.{size, most_reads};
 ghost use Rattle.byte_automaton.specs.Sets.{has_index, index_room, sets_room};
 ghost use Rattle.glob_automaton.specs.IndexedTokens.{IndexedTokens, IsFor, SomeMatches};
 
-use crate::division::{divided, joint};
 use crate::budget::Budget;
+use crate::division::{divided, joint};
 use crate::filtered::{Filtered, filter_for};
 use crate::parts::Parts;
 use crate::simulation;

@@ -120,10 +120,7 @@ const FEW: usize = 4;
 
 /// Returns a filter for an automaton, or `None` if too few starts have a window, or if a run from one start comes to states of
 /// another. Returns an error if memory runs out. It takes time and memory linear in the states.
-pub fn filter_for(
-    alloc: Global,
-    automaton: &Automaton,
-) -> Result<Option<StartFilter>, AllocError>
+pub fn filter_for(alloc: Global, automaton: &Automaton) -> Result<Option<StartFilter>, AllocError>
     ensures { IfOk result (λ made. IfSome made (λ filter. IsFilterOf automaton.now filter × AreApart automaton.now)) }
 {
     if !are_apart(automaton) {

@@ -44,9 +44,9 @@ pub still_from : (low : ℕ) (st : State) → GoesFrom low st → (now now' : �
     → ((t : ℕ) → t < low → now t ≡ false) → (t : ℕ) → t < low → now' t ≡ false
 still_from low st from now now' is none t lt = ⊎_elim {C = now' t ≡ false}
     (λ yes. ⊎_elim {C = now' t ≡ false}
-      (λ go. let le = goes_now_to low st from t go in absurd (omega arith))
-      (λ old. absurd (true≢false (sym old ∙ none t lt)))
-      (or_cases (goes_now st t) (now t) (sym (is t) ∙ yes)))
+    (λ go. let le = goes_now_to low st from t go in absurd (omega arith))
+    (λ old. absurd (true≢false (sym old ∙ none t lt)))
+    (or_cases (goes_now st t) (now t) (sym (is t) ∙ yes)))
     (λ no. no)
     (cases_Bool (now' t))
 

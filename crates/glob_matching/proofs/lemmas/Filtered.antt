@@ -17,7 +17,7 @@ module _ (m : Machine) (apart : AreApart m) where
   low_more from zero le lt = let none : from ≡ 0 = omega arith in subst (λ n. low_of m.starts n ≤ 0) (sym none) (omega arith)
   low_more from (suc i) le lt = ⊎_elim {C = low_of m.starts from ≤ low_of m.starts (suc i)}
       (λ less. let before = low_more from i (omega arith) (omega arith) in
-          let order = (apart i (omega arith)).order in omega (arith, before, order))
+      let order = (apart i (omega arith)).order in omega (arith, before, order))
       (λ same. let is : from ≡ suc i = omega arith in subst (λ n. low_of m.starts n ≤ low_of m.starts (suc i)) (sym is) (omega arith))
       (cases_lt from (suc i))
 
@@ -67,9 +67,9 @@ module _ (m : Machine) (marks : IndexSet) (y : List ℕ) (k : ℕ) where
       there (j, less, within, at, h) = ⊎_elim {C = Accepts m.states k (slice_index m.starts i) y ⊎ IsReachedBefore m marks from y k}
           (λ old. inr (j, old, within, at, h))
           (λ since. ⊎_elim {C = Accepts m.states k (slice_index m.starts i) y ⊎ IsReachedBefore m marks from y k}
-            (λ before. absurd (true≢false (sym at ∙ between j since before)))
-            (λ here. let same : j ≡ i = omega arith in inl (subst (λ n. Accepts m.states k (slice_index m.starts n) y) same h))
-            (cases_lt j i))
+          (λ before. absurd (true≢false (sym at ∙ between j since before)))
+          (λ here. let same : j ≡ i = omega arith in inl (subst (λ n. Accepts m.states k (slice_index m.starts n) y) same h))
+          (cases_lt j i))
           (cases_lt j from)
 
       back : Accepts m.states k (slice_index m.starts i) y ⊎ IsReachedBefore m marks from y k → IsReachedBefore m marks (i + 1) y k

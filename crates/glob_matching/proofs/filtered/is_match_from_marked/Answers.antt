@@ -56,7 +56,7 @@ returns-then-is_match_from-clause-visits c =
     let marked : has_index marks i ≡ true = rw inv.starts at next.2 in
     let between : (j : ℕ) → c.loop-i.from ≤ j → j < i → has_index marks j ≡ false = λ j since less. rw inv.starts at next.3 j since less in
     let after = visits_more m c.requires.apart (length c.args.text.now + 1) c.loop-i.from i c.loop-i.visits c.args.visits.now next.0 lt inv.visits c.is_match_from.new.visits
-        (rw c.span_of.ensures.span at c.is_match_from.ensures.visits) in
+    (rw c.span_of.ensures.span at c.is_match_from.ensures.visits) in
     visits_all m c.requires.apart (length c.args.text.now + 1) (i + 1) c.is_match_from.new.visits c.args.visits.now (omega arith) after
 
 pub returns-clause-some : goal.returns-clause-some

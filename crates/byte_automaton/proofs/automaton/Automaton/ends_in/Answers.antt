@@ -84,6 +84,6 @@ returns-clause-ends c = λ k.
     let a = c.args.self.now.states in
     let past : c.loop-upto.upto ≤ c.args.low = omega arith in
     let whole = iff_trans (inv.holds k)
-        (iff_trans (none_lower a c.args.low c.loop-upto.upto k [] (has_state c.loop-upto.from) (λ _. false) (has_index c.loop-upto.into) past inv.none)
-        (last_position a (has_state c.loop-upto.from) (λ _. false) (has_index c.loop-upto.into) k)) in
+    (iff_trans (none_lower a c.args.low c.loop-upto.upto k [] (has_state c.loop-upto.from) (λ _. false) (has_index c.loop-upto.into) past inv.none)
+    (last_position a (has_state c.loop-upto.from) (λ _. false) (has_index c.loop-upto.into) k)) in
     (whole.1, whole.0)

@@ -67,5 +67,5 @@ returns-clause-some c =
     let a = c.args.self.now.states in
     let past : c.loop-upto.upto ≤ c.args.low = omega arith in
     let none : (k : ℕ) → Alive a (has_state c.args.from.now) c.args.high [] k → false ≡ true = λ k h. (last_position a (has_state c.loop-upto.from) (λ _. false) (λ _. false) k).0
-        ((none_lower a c.args.low c.loop-upto.upto k [] (has_state c.loop-upto.from) (λ _. false) (λ _. false) past inv.none).0 ((inv.holds k).0 h)) in
+    ((none_lower a c.args.low c.loop-upto.upto k [] (has_state c.loop-upto.from) (λ _. false) (λ _. false) past inv.none).0 ((inv.holds k).0 h)) in
     (λ h. absurd (true≢false (sym h)), λ (k, h). absurd (true≢false (sym (none k h))))

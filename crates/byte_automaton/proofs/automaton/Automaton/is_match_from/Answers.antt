@@ -13,7 +13,7 @@ returns-clause-some c =
     let ran = c.run_over.ensures in
     let le : start + 1 ≤ size c.args.self.now = omega (arith, c.requires.span.exists) in
     let same : (k : ℕ) → Accepts c.args.self.now.states k start c.args.text.now ↔ AcceptsBelow c.args.self.now (start + 1) c.run_over.new.sets.current [] k =
-        λ k. iff_trans (ran.some c.if-not-run_over.false k) (within_below c.args.self.now low (start + 1) c.run_over.new.sets.current le ran.within [] k) in (
+    λ k. iff_trans (ran.some c.if-not-run_over.false k) (within_below c.args.self.now low (start + 1) c.run_over.new.sets.current le ran.within [] k) in (
       λ h. let (k, found) = c.has_end_in.ensures.some.0 h in (k, (same k).1 found),
       λ (k, r). c.has_end_in.ensures.some.1 (k, (same k).0 r),
     )

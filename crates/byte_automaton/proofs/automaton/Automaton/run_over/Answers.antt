@@ -52,7 +52,7 @@ returns-then-not-some-clause-none c = λ _ k h.
     let low = c.args.span.low in
     let start = c.args.span.start in
     let accepts = iff_trans (rw more at inv.accepts k)
-        (within_below c.args.self.now low (start + 1) c.loop-byte.sets.current (omega (arith, c.requires.span.exists)) inv.within (byte ∷ rest) k) in
+    (within_below c.args.self.now low (start + 1) c.loop-byte.sets.current (omega (arith, c.requires.span.exists)) inv.within (byte ∷ rest) k) in
     let (t, within, at, left) = (took.steps rest k).0 (accepts.0 h) in
     true≢false (sym (took.some.1 (t, within, at)) ∙ c.if-not-some.true)
 
