@@ -30,6 +30,7 @@ use visits::Visits;
 /// share an automaton, with an end for each that names its index.
 pub struct Automaton {
     states: Vec<State>,
+    sets: Vec<ByteSet>,
     nexts: Vec<usize>,
     starts: Vec<usize>,
     index_count: usize,
@@ -40,6 +41,7 @@ impl Drop for Automaton {
     fn drop(self) {
         let Automaton {
             states: _,
+            sets: _,
             nexts: _,
             starts: _,
             index_count: _,
@@ -50,9 +52,9 @@ impl Drop for Automaton {
 impl Model for Automaton {
     ghost Value = { Machine };
 
-    ghost view = { λ a. machine a.nexts.items a.states.items a.starts.items a.index_count };
+    ghost view = { λ a. machine a.sets.items a.nexts.items a.states.items a.starts.items a.index_count };
 
-    ghost invariant = { λ a. AreSound a.nexts.items a.states.items a.starts.items a.index_count };
+    ghost invariant = { λ a. AreSound a.sets.items a.nexts.items a.states.items a.starts.items a.index_count };
 }
 
 impl Clone for Automaton {
@@ -63,6 +65,7 @@ impl Clone for Automaton {
         let alloc = *self.states.allocator();
         Ok(Automaton {
             states: Vec::from_slice(alloc, &self.states)?,
+            sets: Vec::from_slice(alloc, &self.sets)?,
             nexts: Vec::from_slice(alloc, &self.nexts)?,
             starts: Vec::from_slice(alloc, &self.starts)?,
             index_count: self.index_count,
@@ -74,15 +77,17 @@ impl Automaton {
     /// Returns an automaton of these parts.
     pub(crate) fn from_parts(
         states: Vec<State>,
+        sets: Vec<ByteSet>,
         nexts: Vec<usize>,
         starts: Vec<usize>,
         index_count: usize,
     ) -> Automaton
-        requires { AreSound nexts.items states.items starts.items index_count }
-        ensures { result ≡ machine nexts.items states.items starts.items index_count }
+        requires { AreSound sets.items nexts.items states.items starts.items index_count }
+        ensures { result ≡ machine sets.items nexts.items states.items starts.items index_count }
     {
         Automaton {
             states,
+            sets,
             nexts,
             starts,
             index_count,
@@ -200,7 +205,7 @@ impl Automaton {
     {
         let mut changes = ByteSet::nothing();
         for state in &self.states {
-            changes = state.add_changes(changes);
+            changes = state.add_changes(&self.sets, changes);
         }
         changes
     }
@@ -225,9 +230,10 @@ impl Automaton {
             };
             states.push(state)?;
         }
+        let sets = Vec::from_slice(alloc, &self.sets)?;
         let nexts = Vec::from_slice(alloc, &self.nexts)?;
         let starts = Vec::from_slice(alloc, &self.starts)?;
-        Ok(Some(Automaton::from_parts(states, nexts, starts, index_count)))
+        Ok(Some(Automaton::from_parts(states, sets, nexts, starts, index_count)))
     }
 
     /// Returns the index that a state decides.
@@ -235,7 +241,7 @@ impl Automaton {
         requires { s < size self.now }
         ensures { MatchOption result ((k : ℕ) → Decides self.now.states s k → ⊥) (λ k. Decides self.now.states s k × (k < self.now.index_count)) }
     {
-        match self.states[s].only_exit(s, &self.nexts) {
+        match self.states[s].only_exit(s, &self.sets) {
             Some(exit) => self.index_of(exit),
             None => None,
         }
@@ -269,7 +275,7 @@ impl Automaton {
         ensures keeps { (c : ℕ) → IsTrue (has_byte set c) → IsTrue (has_byte result c) }
         ensures last { (c t : ℕ) → IsTrue (goes_next (state self.now.states s) s (Some c) t) → IsTrue (has_state ending.now t) → IsTrue (has_byte result c) }
     {
-        self.states[s].add_last_bytes(s, ending, set)
+        self.states[s].add_last_bytes(s, &self.sets, ending, set)
     }
 
     /// Takes the steps of a state of `from`: puts into `from` what it goes on to without a byte, and into `to` what it goes
@@ -292,7 +298,7 @@ impl Automaton {
         ensures some { IsTrue result → (t : ℕ) × (t ≤ s) × IsTrue (goes_next (state self.now.states s) s (Some byte) t) }
         ensures none { IsFalse result → (t : ℕ) → goes_next (state self.now.states s) s (Some byte) t ≡ false }
     {
-        self.states[s].take_steps(s, &self.nexts, byte, from, to)
+        self.states[s].take_steps(s, &self.sets, &self.nexts, byte, from, to)
     }
 
     /// Puts what a state of `from` goes on to without a byte into `from`, and its step by a byte into `into`. Returns an error
@@ -312,7 +318,7 @@ impl Automaton {
         ensures from { (t : ℕ) → has_state from.new t ≡ (goes_now (state self.now.states s) t || has_state from.old t) }
         ensures into { OnOk result ((b t : ℕ) → b < 256 → leads_to into.new b t ≡ (goes_next (state self.now.states s) s (Some b) t || leads_to into.old b t)) }
     {
-        self.states[s].put_steps(s, &self.nexts, from, into)
+        self.states[s].put_steps(s, &self.sets, &self.nexts, from, into)
     }
 
     /// Takes the steps of a state of `from` at the end of a text: puts into `from` what it goes on to without a byte.

@@ -1,10 +1,11 @@
 //! How an automaton is made.
 
-ghost use Rattle.std.specs.Prelude.{◌≡◌, ◌<◌, ◌++◌, ◌∷◌, [], length, OnOk, OnErr, IfOk};
+ghost use Rattle.std.specs.Prelude.{◌≡◌, ℕ, ◌<◌, ◌++◌, ◌∷◌, [], List, length, OnOk, OnErr, IfOk};
 ghost use Rattle.byte_automaton.specs.Steps.{Machine, reads, skips, stays, final};
 ghost use Rattle.byte_automaton.specs.Building.{AreBelow, Pushes};
 ghost use Rattle.byte_automaton.specs.Runs.{size};
-ghost use Rattle.byte_automaton.specs.inner.Views.{AreSound, machine};
+ghost use Rattle.byte_automaton.specs.declared.byte_set.ByteSet.{ByteSet};
+ghost use Rattle.byte_automaton.specs.inner.Views.{AreSound, machine, set_at};
 
 use crate::automaton::Automaton;
 use crate::byte_set::ByteSet;
@@ -23,7 +24,7 @@ use std::marker::Model;
 /// let end = builder.push_end(0)?;
 /// let letter = builder.push_read(ByteSet::only(b'c'), end)?;
 /// let dot = builder.push_read(ByteSet::only(b'.'), letter)?;
-/// let start = builder.push_stay(ByteSet::everything(), &[dot])?;
+/// let start = builder.push_stay(ByteSet::everything(), dot)?;
 /// builder.add_start(start)?;
 /// let automaton = builder.finish();
 /// ```
@@ -31,10 +32,15 @@ use std::marker::Model;
 /// Each call that pushes returns an error if memory runs out, and then changes nothing.
 pub struct Builder {
     states: Vec<State>,
-    /// What the states go on to without a byte, one state after the other.
+    /// The sets of bytes of the states. A set can stand here more than once.
+    sets: Vec<ByteSet>,
+    /// What states go on to without a byte: for each that was pushed with a list, the length of the list and then the list.
     nexts: Vec<usize>,
     starts: Vec<usize>,
     index_count: usize,
+    /// For each place of a set, the number of the set of this place that was pushed last. Most sets that are pushed are found
+    /// here, and not pushed again.
+    recent: [u32; 256],
 }
 
 impl Drop for Builder {
@@ -42,9 +48,11 @@ impl Drop for Builder {
     fn drop(self) {
         let Builder {
             states: _,
+            sets: _,
             nexts: _,
             starts: _,
             index_count: _,
+            recent: _,
         } = self;
     }
 }
@@ -52,9 +60,9 @@ impl Drop for Builder {
 impl Model for Builder {
     ghost Value = { Machine };
 
-    ghost view = { λ b. machine b.nexts.items b.states.items b.starts.items b.index_count };
+    ghost view = { λ b. machine b.sets.items b.nexts.items b.states.items b.starts.items b.index_count };
 
-    ghost invariant = { λ b. AreSound b.nexts.items b.states.items b.starts.items b.index_count };
+    ghost invariant = { λ b. AreSound b.sets.items b.nexts.items b.states.items b.starts.items b.index_count };
 }
 
 impl Builder {
@@ -66,9 +74,11 @@ impl Builder {
     {
         Builder {
             states: Vec::new(alloc),
+            sets: Vec::new(alloc),
             nexts: Vec::new(alloc),
             starts: Vec::new(alloc),
             index_count,
+            recent: [0; 256],
         }
     }
 
@@ -86,7 +96,8 @@ impl Builder {
         ensures unchanged { OnErr result (self.new ≡ self.old) }
     {
         let at = self.states.len();
-        self.states.push(State::Reads(bytes, next))?;
+        let set = hold_set(&mut self.sets, &mut self.recent, bytes)?;
+        self.states.push(State::Reads(set, next))?;
         Ok(at)
     }
 
@@ -97,21 +108,20 @@ impl Builder {
         ensures unchanged { OnErr result (self.new ≡ self.old) }
     {
         let at = self.states.len();
-        let (from, to) = hold(&mut self.nexts, nexts)?;
-        self.states.push(State::Skips(from, to))?;
+        let list = hold_list(&mut self.nexts, nexts)?;
+        self.states.push(State::Skips(list))?;
         Ok(at)
     }
 
-    /// Pushes a state that stays on each byte of the set, and goes on to each of some states without a byte. Returns its
-    /// number.
-    pub fn push_stay(&mut self, bytes: ByteSet, nexts: &[usize]) -> Result<usize, AllocError>
-        requires { AreBelow (size self.old) nexts.now }
-        ensures pushed { IfOk result (λ s. Pushes self.old self.new s (stays bytes nexts.now)) }
+    /// Pushes a state that stays on each byte of the set, and goes on to a state without a byte. Returns its number.
+    pub fn push_stay(&mut self, bytes: ByteSet, exit: usize) -> Result<usize, AllocError>
+        requires { exit < size self.old }
+        ensures pushed { IfOk result (λ s. Pushes self.old self.new s (stays bytes (exit ∷ []))) }
         ensures unchanged { OnErr result (self.new ≡ self.old) }
     {
         let at = self.states.len();
-        let (from, to) = hold(&mut self.nexts, nexts)?;
-        self.states.push(State::Stays(bytes, from, to))?;
+        let set = hold_set(&mut self.sets, &mut self.recent, bytes)?;
+        self.states.push(State::Stays(set, exit))?;
         Ok(at)
     }
 
@@ -144,21 +154,50 @@ impl Builder {
     {
         let Builder {
             states,
+            sets,
             nexts,
             starts,
             index_count: count,
+            recent: _,
         } = self;
-        Automaton::from_parts(states, nexts, starts, count)
+        Automaton::from_parts(states, sets, nexts, starts, count)
     }
 }
 
-/// Appends what a state goes on to, and returns the range of it.
-fn hold(held: &mut Vec<usize>, nexts: &[usize]) -> Result<(usize, usize), AllocError>
-    ensures range { IfOk result (λ r. (r.0 ≡ length held.old.items) × (r.1 ≡ length held.new.items)) }
-    ensures items { OnOk result (held.new.items ≡ held.old.items ++ nexts.now) }
-    ensures unchanged { OnErr result (held.new.items ≡ held.old.items) }
+/// Appends the length of a list, and the list. Returns the place of the length.
+fn hold_list(held: &mut Vec<usize>, list: &[usize]) -> Result<usize, AllocError>
+    ensures at { IfOk result (λ at. at ≡ length held.old.items) }
+    ensures items { OnOk result (held.new.items ≡ held.old.items ++ length list.now ∷ list.now) }
+    ensures more { (more : List ℕ) × (held.new.items ≡ held.old.items ++ more) }
 {
-    let from = held.len();
-    held.extend_from_slice(nexts)?;
-    Ok((from, held.len()))
+    let at = held.len();
+    held.push(list.len())?;
+    held.extend_from_slice(list)?;
+    Ok(at)
+}
+
+/// Returns the number of a set, which is appended if it is not the last that was appended of those with its place.
+///
+/// Returns an error if memory runs out, or numbers do, which are used up by sets of 128 GiB.
+fn hold_set(
+    sets: &mut Vec<ByteSet>,
+    recent: &mut [u32; 256],
+    bytes: ByteSet,
+) -> Result<u32, AllocError>
+    ensures held { IfOk result (λ n. (n < length sets.new.items) × (set_at sets.new.items n ≡ bytes)) }
+    ensures more { (more : List ByteSet) × (sets.new.items ≡ sets.old.items ++ more) }
+{
+    let place = bytes.place();
+    let number = recent[place];
+    if let Some(set) = sets.get(number as usize) {
+        if set.is(&bytes) {
+            return Ok(number);
+        }
+    }
+    let Ok(number) = u32::try_from(sets.len()) else {
+        return Err(AllocError);
+    };
+    sets.push(bytes)?;
+    recent[place] = number;
+    Ok(number)
 }

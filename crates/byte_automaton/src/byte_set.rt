@@ -113,6 +113,24 @@ impl ByteSet {
         has_bit(&self.words, byte as usize)
     }
 
+    /// Returns whether the set is another set.
+    pub(crate) fn is(&self, other: &ByteSet) -> bool
+        ensures { IsTrue result → self.now ≡ other.now }
+    {
+        self.words == other.words
+    }
+
+    /// Returns a place for the set in a table of 256 places. Sets of one byte have different places.
+    pub(crate) fn place(&self) -> usize
+        ensures { result < 256 }
+    {
+        let [a, b, c, d] = self.words;
+        let count = a.count_ones() + b.count_ones() + c.count_ones() + d.count_ones();
+        let lowest = self.first_from(0).unwrap_or(0);
+        // The factor keeps sets of many bytes, which often have the same lowest one, apart from each other.
+        (lowest as usize + 37 * count as usize) % 256
+    }
+
     /// Returns whether the set has every byte.
     pub(crate) fn is_everything(&self) -> bool
         ensures { IsTrue result ↔ HasEvery self.now }

@@ -38,64 +38,64 @@ named_more n m (skips us) le h = tt
 named_more n m (stays w us) le h = tt
 named_more n m (final k) le h = omega arith
 
-pub each_next : (P : ℕ → State → Type 0) (nexts : List ℕ) (xs : List declared.State) (x : declared.State)
-    → ((s : ℕ) → s < length xs → P s (state (of_states nexts xs) s)) → P (length xs) (of_state nexts x)
-    → (s : ℕ) → s < length xs + 1 → P s (state (of_states nexts (xs ++ x ∷ [])) s)
-each_next P nexts xs x each this s lt =
-    let old = of_states nexts xs in
-    let len : length old ≡ length xs = length-map xs (of_state nexts) in
-    subst (λ l. P s (state l s)) (sym (states_push nexts xs x))
-    (⊎_elim {C = P s (state (old ++ of_state nexts x ∷ []) s)}
-    (λ before. subst (P s) (sym (pushed_before old (of_state nexts x) s (omega arith))) (each s before))
+pub each_next : (P : ℕ → State → Type 0) (sets : List ByteSet) (nexts : List ℕ) (xs : List declared.State) (x : declared.State)
+    → ((s : ℕ) → s < length xs → P s (state (of_states sets nexts xs) s)) → P (length xs) (of_state sets nexts x)
+    → (s : ℕ) → s < length xs + 1 → P s (state (of_states sets nexts (xs ++ x ∷ [])) s)
+each_next P sets nexts xs x each this s lt =
+    let old = of_states sets nexts xs in
+    let len : length old ≡ length xs = length-map xs (of_state sets nexts) in
+    subst (λ l. P s (state l s)) (sym (states_push sets nexts xs x))
+    (⊎_elim {C = P s (state (old ++ of_state sets nexts x ∷ []) s)}
+    (λ before. subst (P s) (sym (pushed_before old (of_state sets nexts x) s (omega arith))) (each s before))
     (λ after. let is : length old ≡ s = omega arith in
-    subst (λ n. P n (state (old ++ of_state nexts x ∷ []) n)) is (subst (P (length old)) (sym (pushed_last old (of_state nexts x))) (subst (λ n. P n (of_state nexts x)) (sym len) this)))
+    subst (λ n. P n (state (old ++ of_state sets nexts x ∷ []) n)) is (subst (P (length old)) (sym (pushed_last old (of_state sets nexts x))) (subst (λ n. P n (of_state sets nexts x)) (sym len) this)))
     (cases_lt s (length xs)))
 
 -- the states so far, up to the state s
-pub record AreDecided (m : Machine) (nexts : List ℕ) (xs : List declared.State) (s : ℕ) : Type 0 where
+pub record AreDecided (m : Machine) (sets : List ByteSet) (nexts : List ℕ) (xs : List declared.State) (s : ℕ) : Type 0 where
   pub len : length xs ≡ s
-  pub sound : AreSound nexts xs [] (m.index_count * 2)
-  pub states : (t : ℕ) → t < s → IsAtDecision m.states m.index_count t (state (of_states nexts xs) t)
+  pub sound : AreSound sets nexts xs [] (m.index_count * 2)
+  pub states : (t : ℕ) → t < s → IsAtDecision m.states m.index_count t (state (of_states sets nexts xs) t)
 
-module _ (m : Machine) (nexts : List ℕ) (states : List declared.State) (starts : List ℕ) (n : ℕ) (value : machine nexts states starts n ≡ m) (sound : AreSound nexts states starts n)
-    (xs : List declared.State) (s : ℕ) (so_far : AreDecided m nexts xs s) where
+module _ (m : Machine) (sets : List ByteSet) (nexts : List ℕ) (states : List declared.State) (starts : List ℕ) (n : ℕ) (value : machine sets nexts states starts n ≡ m) (sound : AreSound sets nexts states starts n)
+    (xs : List declared.State) (s : ℕ) (so_far : AreDecided m sets nexts xs s) where
   count : n ≡ m.index_count
   count = ap (λ (o : Machine). o.index_count) value
 
-  one_more : (x : declared.State) → AreSound nexts (xs ++ x ∷ []) [] (m.index_count * 2) → IsAtDecision m.states m.index_count s (of_state nexts x) → AreDecided m nexts (xs ++ x ∷ []) (s + 1)
+  one_more : (x : declared.State) → AreSound sets nexts (xs ++ x ∷ []) [] (m.index_count * 2) → IsAtDecision m.states m.index_count s (of_state sets nexts x) → AreDecided m sets nexts (xs ++ x ∷ []) (s + 1)
   one_more x sound' at = record {
     len = omega (arith, length-append xs (x ∷ []), so_far.len);
     sound = sound';
-    states = λ t lt. each_next (λ t'. IsAtDecision m.states m.index_count t') nexts xs x (λ t' lt'. so_far.states t' (omega (arith, so_far.len)))
-        (subst (λ t'. IsAtDecision m.states m.index_count t' (of_state nexts x)) (sym so_far.len) at) t (omega (arith, so_far.len));
+    states = λ t lt. each_next (λ t'. IsAtDecision m.states m.index_count t') sets nexts xs x (λ t' lt'. so_far.states t' (omega (arith, so_far.len)))
+        (subst (λ t'. IsAtDecision m.states m.index_count t' (of_state sets nexts x)) (sym so_far.len) at) t (omega (arith, so_far.len));
   }
 
   -- an end in place of the next state
-  pub decided_more : (k : ℕ) → Decides m.states s k → k < m.index_count → AreDecided m nexts (xs ++ End (n + k) ∷ []) (s + 1)
+  pub decided_more : (k : ℕ) → Decides m.states s k → k < m.index_count → AreDecided m sets nexts (xs ++ End (n + k) ∷ []) (s + 1)
   decided_more k decides lt =
       let same : n ≡ m.index_count = count in
-      one_more (End (n + k)) (sound_push nexts xs (End (n + k)) [] (m.index_count * 2) so_far.sound tt tt (omega arith)) (inl (k, decides, ap (λ j. final (j + k)) count))
+      one_more (End (n + k)) (sound_push sets nexts xs (End (n + k)) [] (m.index_count * 2) so_far.sound tt tt (omega arith)) (inl (k, decides, ap (λ j. final (j + k)) count))
 
   -- the next state as it is
-  pub same_more : (x : declared.State) → s < length states → x ≡ get_or states s x → ((k : ℕ) → Decides m.states s k → ⊥) → AreDecided m nexts (xs ++ x ∷ []) (s + 1)
+  pub same_more : (x : declared.State) → s < length states → x ≡ get_or states s x → ((k : ℕ) → Decides m.states s k → ⊥) → AreDecided m sets nexts (xs ++ x ∷ []) (s + 1)
   same_more x lt is none =
       let same : n ≡ m.index_count = count in
-      let st = state_at nexts states s x lt is in
+      let st = state_at sets nexts states s x lt is in
       one_more x
-      (sound_push nexts xs x [] (m.index_count * 2) so_far.sound (held_at (length nexts) states s x sound.held lt is)
-      (subst (λ t. GoesBelow t (of_state nexts x)) (sym so_far.len) (subst (GoesBelow s) st (sound.down s)))
-      (named_more n (m.index_count * 2) (of_state nexts x) (omega arith) (subst (NamesBelow n) st (sound.named s))))
-      (inr (none, sym (read_state m nexts states starts n s x value lt is)))
+      (sound_push sets nexts xs x [] (m.index_count * 2) so_far.sound (held_at sets nexts states s x sound.held lt is)
+      (subst (λ t. GoesBelow t (of_state sets nexts x)) (sym so_far.len) (subst (GoesBelow s) st (sound.down s)))
+      (named_more n (m.index_count * 2) (of_state sets nexts x) (omega arith) (subst (NamesBelow n) st (sound.named s))))
+      (inr (none, sym (read_state m sets nexts states starts n s x value lt is)))
 
-pub all_decisions : (m new : Machine) (nexts : List ℕ) (xs : List declared.State) (starts : List ℕ)
-    → machine nexts xs starts (m.index_count * 2) ≡ new → starts ≡ m.starts → length xs ≡ length m.states
-    → ((s : ℕ) → s < length xs → IsAtDecision m.states m.index_count s (state (of_states nexts xs) s))
+pub all_decisions : (m new : Machine) (sets : List ByteSet) (nexts : List ℕ) (xs : List declared.State) (starts : List ℕ)
+    → machine sets nexts xs starts (m.index_count * 2) ≡ new → starts ≡ m.starts → length xs ≡ length m.states
+    → ((s : ℕ) → s < length xs → IsAtDecision m.states m.index_count s (state (of_states sets nexts xs) s))
     → ((s : ℕ) → NamesBelow m.index_count (state m.states s))
     → EndsAtDecisions m new
-all_decisions m new nexts xs starts is begun len each named = subst (EndsAtDecisions m) is record {
+all_decisions m new sets nexts xs starts is begun len each named = subst (EndsAtDecisions m) is record {
   below = λ s k e. subst (NamesBelow m.index_count) e (named s);
   states = at;
-  len = length-map xs (of_state nexts) ∙ len;
+  len = length-map xs (of_state sets nexts) ∙ len;
   starts = begun;
   index_count = refl;
 }
@@ -103,8 +103,8 @@ all_decisions m new nexts xs starts is begun len each named = subst (EndsAtDecis
     none : (s k : ℕ) → length m.states ≤ s → Decides m.states s k → ⊥
     none s k past (w, t, e, every, f) = let other : skips [] ≡ stays w (t ∷ []) = sym (get_or_past m.states s (skips []) past) ∙ e in cc
 
-    at : (s : ℕ) → IsAtDecision m.states m.index_count s (state (of_states nexts xs) s)
-    at s = ⊎_elim {C = IsAtDecision m.states m.index_count s (state (of_states nexts xs) s)}
+    at : (s : ℕ) → IsAtDecision m.states m.index_count s (state (of_states sets nexts xs) s)
+    at s = ⊎_elim {C = IsAtDecision m.states m.index_count s (state (of_states sets nexts xs) s)}
         (λ low. each s low)
-        (λ past. inr (λ k. none s k (omega arith), get_or_past (of_states nexts xs) s (skips []) (omega (arith, length-map xs (of_state nexts))) ∙ sym (get_or_past m.states s (skips []) (omega arith))))
+        (λ past. inr (λ k. none s k (omega arith), get_or_past (of_states sets nexts xs) s (skips []) (omega (arith, length-map xs (of_state sets nexts))) ∙ sym (get_or_past m.states s (skips []) (omega arith))))
         (cases_lt s (length xs))

@@ -1,11 +1,11 @@
 -- What a push does to the parts of an automaton.
-use Rattle.std.proofs.Common.{◌≡◌, ℕ, ◌+◌, ◌-◌, ◌<◌, ◌≤◌, inl, inr, List, [], ◌∷◌, ◌++◌, length, take, drop, slice_range, arith, refl, ap, sym, subst, ◌∙◌}
+use Rattle.std.proofs.Common.{◌≡◌, ℕ, zero, suc, ◌+◌, ◌-◌, ◌<◌, ◌≤◌, inl, inr, List, [], ◌∷◌, ◌++◌, length, take, drop, slice_index, slice_range, arith, refl, ap, sym, subst, ◌∙◌}
 use Rattle.std.proofs.lemmas.Bool.{cases_lt}
-use Rattle.std.proofs.lemmas.List.{length-map, length-append, map-append, get_or_append_left, get_or_push, get_or_past, length-drop, take-append-le, drop-append-le, take_all}
-use Rattle.std.proofs.Math.Seq.{drop-append_seam}
-use Rattle.byte_automaton.specs.Steps.{State, skips, stays, state, Machine}
-use Rattle.byte_automaton.specs.Building.{Pushes}
-use Rattle.byte_automaton.specs.inner.Views.{of_state, of_states, IsHeld, AreHeld, GoesBelow, NamesBelow, AreSound, machine}
+use Rattle.std.proofs.lemmas.List.{length-map, length-append, map-append, get_or_append_left, get_or_push, get_or_past, length-drop, take-append-le, drop-append-le, take_all, append_assoc}
+use Rattle.std.proofs.Math.Seq.{drop-append_seam, get_or-append_seam}
+use Rattle.byte_automaton.specs.Steps.{State, reads, skips, stays, state, Machine}
+use Rattle.byte_automaton.specs.Building.{AreBelow, Pushes}
+use Rattle.byte_automaton.specs.inner.Views.{exits_at, of_state, of_states, IsHeld, AreHeld, GoesBelow, NamesBelow, AreSound, machine}
 use Rattle.std.specs.Prelude.{Result, Ok, Err, OnErr}
 use Rattle.byte_automaton.specs.declared.byte_set.ByteSet.{ByteSet}
 use Rattle.byte_automaton.specs.declared.state.State as declared
@@ -45,104 +45,121 @@ each_pushed P old st each this none s =
           ]
     ]
 
--- the list of next states may grow
+-- the lists of sets and of next states may grow
 
 pub range_more : (xs more : List ℕ) (i j : ℕ) → i ≤ j → j ≤ length xs → slice_range (xs ++ more) i j ≡ slice_range xs i j
 range_more xs more i j le within =
     ap (take (j - i)) (drop-append-le i xs more (omega arith)) ∙ take-append-le (j - i) (drop i xs) more (omega (arith, length-drop i xs))
 
-pub state_more : (nexts more : List ℕ) (x : declared.State) → IsHeld (length nexts) x → of_state (nexts ++ more) x ≡ of_state nexts x
-state_more nexts more (Reads w t) h = refl
-state_more nexts more (Skips i j) h = ap skips (range_more nexts more i j h.0 h.1)
-state_more nexts more (Stays w i j) h = ap (stays w) (range_more nexts more i j h.0 h.1)
-state_more nexts more (End k) h = refl
+count_more : (nexts more : List ℕ) (at : ℕ) → at < length nexts → slice_index (nexts ++ more) at ≡ slice_index nexts at
+count_more nexts more at lt = get_or_append_left nexts more 0 at lt
 
-pub states_more : (nexts more : List ℕ) (xs : List declared.State) → AreHeld (length nexts) xs → of_states (nexts ++ more) xs ≡ of_states nexts xs
-states_more nexts more [] h = refl
-states_more nexts more (x ∷ xs) h = rw (state_more nexts more x h.0) (ap (λ l. of_state nexts x ∷ l) (states_more nexts more xs h.1))
+exits_more : (nexts more : List ℕ) (at : ℕ) → at + slice_index nexts at < length nexts → exits_at (nexts ++ more) at ≡ exits_at nexts at
+exits_more nexts more at lt =
+    ap (λ count. slice_range (nexts ++ more) (at + 1) (at + 1 + count)) (count_more nexts more at (omega (arith, lt)))
+    ∙ range_more nexts more (at + 1) (at + 1 + slice_index nexts at) (omega arith) (omega (arith, lt))
 
-pub held_more : (n m : ℕ) (x : declared.State) → n ≤ m → IsHeld n x → IsHeld m x
-held_more n m (Reads w t) le h = tt
-held_more n m (Skips i j) le h = (h.0, omega arith)
-held_more n m (Stays w i j) le h = (h.0, omega arith)
-held_more n m (End k) le h = tt
+state_more : (sets ss : List ByteSet) (nexts more : List ℕ) (x : declared.State) → IsHeld sets nexts x → of_state (sets ++ ss) (nexts ++ more) x ≡ of_state sets nexts x
+state_more sets ss nexts more (Reads n t) h = ap (λ w. reads w t) (get_or_append_left sets ss (record { words = [] }) n h)
+state_more sets ss nexts more (Skips at) h = ap skips (exits_more nexts more at h)
+state_more sets ss nexts more (Stays n t) h = ap (λ w. stays w (t ∷ [])) (get_or_append_left sets ss (record { words = [] }) n h)
+state_more sets ss nexts more (End k) h = refl
 
-pub all_held_more : (n m : ℕ) (xs : List declared.State) → n ≤ m → AreHeld n xs → AreHeld m xs
-all_held_more n m [] le h = tt
-all_held_more n m (x ∷ xs) le h = (held_more n m x le h.0, all_held_more n m xs le h.1)
+states_more : (sets ss : List ByteSet) (nexts more : List ℕ) (xs : List declared.State) → AreHeld sets nexts xs → of_states (sets ++ ss) (nexts ++ more) xs ≡ of_states sets nexts xs
+states_more sets ss nexts more [] h = refl
+states_more sets ss nexts more (x ∷ xs) h = rw (state_more sets ss nexts more x h.0) (ap (λ l. of_state sets nexts x ∷ l) (states_more sets ss nexts more xs h.1))
 
-pub held_push : (n : ℕ) (xs : List declared.State) (x : declared.State) → AreHeld n xs → IsHeld n x → AreHeld n (xs ++ x ∷ [])
-held_push n [] x h this = (this, tt)
-held_push n (y ∷ ys) x h this = (h.0, held_push n ys x h.1 this)
+held_more : (sets ss : List ByteSet) (nexts more : List ℕ) (x : declared.State) → IsHeld sets nexts x → IsHeld (sets ++ ss) (nexts ++ more) x
+held_more sets ss nexts more (Reads n t) h = omega (arith, h, length-append sets ss)
+held_more sets ss nexts more (Skips at) h = omega (arith, h, count_more nexts more at (omega (arith, h)), length-append nexts more)
+held_more sets ss nexts more (Stays n t) h = omega (arith, h, length-append sets ss)
+held_more sets ss nexts more (End k) h = tt
 
-pub states_push : (nexts : List ℕ) (xs : List declared.State) (x : declared.State) → of_states nexts (xs ++ x ∷ []) ≡ of_states nexts xs ++ of_state nexts x ∷ []
-states_push nexts xs x = map-append (of_state nexts) xs (x ∷ [])
+all_held_more : (sets ss : List ByteSet) (nexts more : List ℕ) (xs : List declared.State) → AreHeld sets nexts xs → AreHeld (sets ++ ss) (nexts ++ more) xs
+all_held_more sets ss nexts more [] h = tt
+all_held_more sets ss nexts more (x ∷ xs) h = (held_more sets ss nexts more x h.0, all_held_more sets ss nexts more xs h.1)
 
--- the parts stay sound
+pub held_push : (sets : List ByteSet) (nexts : List ℕ) (xs : List declared.State) (x : declared.State) → AreHeld sets nexts xs → IsHeld sets nexts x → AreHeld sets nexts (xs ++ x ∷ [])
+held_push sets nexts [] x h this = (this, tt)
+held_push sets nexts (y ∷ ys) x h this = (h.0, held_push sets nexts ys x h.1 this)
 
-pub sound_more : (nexts more : List ℕ) (xs : List declared.State) (starts : List ℕ) (n : ℕ) → AreSound nexts xs starts n → AreSound (nexts ++ more) xs starts n
-sound_more nexts more xs starts n sound =
-    let same = sym (states_more nexts more xs sound.held) in record {
-      held = all_held_more (length nexts) (length (nexts ++ more)) xs (omega (arith, length-append nexts more)) sound.held;
-      down = λ s. subst (λ l. GoesBelow s (state l s)) same (sound.down s);
-      named = λ s. subst (λ l. NamesBelow n (state l s)) same (sound.named s);
-      begun = sound.begun;
-    }
+pub states_push : (sets : List ByteSet) (nexts : List ℕ) (xs : List declared.State) (x : declared.State) → of_states sets nexts (xs ++ x ∷ []) ≡ of_states sets nexts xs ++ of_state sets nexts x ∷ []
+states_push sets nexts xs x = map-append (of_state sets nexts) xs (x ∷ [])
 
-pub sound_push : (nexts : List ℕ) (xs : List declared.State) (x : declared.State) (starts : List ℕ) (n : ℕ) → AreSound nexts xs starts n
-    → IsHeld (length nexts) x → GoesBelow (length xs) (of_state nexts x) → NamesBelow n (of_state nexts x) → AreSound nexts (xs ++ x ∷ []) starts n
-sound_push nexts xs x starts n sound held below named =
-    let old = of_states nexts xs in
-    let st = of_state nexts x in
-    let len : length old ≡ length xs = length-map xs (of_state nexts) in
+pub sound_push : (sets : List ByteSet) (nexts : List ℕ) (xs : List declared.State) (x : declared.State) (starts : List ℕ) (n : ℕ) → AreSound sets nexts xs starts n
+    → IsHeld sets nexts x → GoesBelow (length xs) (of_state sets nexts x) → NamesBelow n (of_state sets nexts x) → AreSound sets nexts (xs ++ x ∷ []) starts n
+sound_push sets nexts xs x starts n sound held below named =
+    let old = of_states sets nexts xs in
+    let st = of_state sets nexts x in
+    let len : length old ≡ length xs = length-map xs (of_state sets nexts) in
     let more = length-append xs (x ∷ []) in
-    let is = sym (states_push nexts xs x) in record {
-      held = held_push (length nexts) xs x sound.held held;
+    let is = sym (states_push sets nexts xs x) in record {
+      held = held_push sets nexts xs x sound.held held;
       down = λ s. subst (λ l. GoesBelow s (state l s)) is (each_pushed GoesBelow old st sound.down (subst (λ k. GoesBelow k st) (sym len) below) (λ t i lt. absurd (omega arith)) s);
       named = λ s. subst (λ l. NamesBelow n (state l s)) is (each_pushed (λ t. NamesBelow n) old st sound.named named (λ t. tt) s);
       begun = λ i lt. let before = sound.begun i lt in omega arith;
     }
 
--- a range that was appended
-pub range_last : (xs more : List ℕ) (i j : ℕ) → i ≡ length xs → j ≡ length (xs ++ more) → slice_range (xs ++ more) i j ≡ more
-range_last xs more i j from to =
-    let len = length-append xs more in
-    ap (λ n. take (j - i) (drop n (xs ++ more))) from ∙ ap (take (j - i)) (drop-append_seam xs more) ∙ take_all (j - i) more (omega arith)
-
--- a state that goes on to the states that were appended
-
-pub skips_last : (nexts more : List ℕ) (i j : ℕ) → i ≡ length nexts → j ≡ length (nexts ++ more) → of_state (nexts ++ more) (Skips i j) ≡ skips more
-skips_last nexts more i j from to = ap skips (range_last nexts more i j from to)
-
-pub stays_last : (w : ByteSet) (nexts more : List ℕ) (i j : ℕ) → i ≡ length nexts → j ≡ length (nexts ++ more) → of_state (nexts ++ more) (Stays w i j) ≡ stays w more
-stays_last w nexts more i j from to = ap (stays w) (range_last nexts more i j from to)
-
-pub sound_with : (nexts more : List ℕ) (xs : List declared.State) (x : declared.State) (st : State) (starts : List ℕ) (n : ℕ) → AreSound nexts xs starts n
-    → of_state (nexts ++ more) x ≡ st → IsHeld (length (nexts ++ more)) x → GoesBelow (length xs) st → NamesBelow n st → AreSound (nexts ++ more) (xs ++ x ∷ []) starts n
-sound_with nexts more xs x st starts n sound is held below named =
-    sound_push (nexts ++ more) xs x starts n (sound_more nexts more xs starts n sound) held (subst (GoesBelow (length xs)) (sym is) below) (subst (NamesBelow n) (sym is) named)
-
-pub pushes_with : (m : Machine) (nexts more : List ℕ) (xs : List declared.State) (x : declared.State) (st : State) (starts : List ℕ) (n s : ℕ)
-    → machine nexts xs starts n ≡ m → AreHeld (length nexts) xs → of_state (nexts ++ more) x ≡ st → s ≡ length xs
-    → Pushes m (machine (nexts ++ more) (xs ++ x ∷ []) starts n) s st
-pushes_with m nexts more xs x st starts n s value held is at =
-    let old = machine nexts xs starts n in
-    let new = machine (nexts ++ more) (xs ++ x ∷ []) starts n in
-    let one : new.states ≡ old.states ++ st ∷ [] = states_push (nexts ++ more) xs x ∙ ap (λ l. l ++ of_state (nexts ++ more) x ∷ []) (states_more nexts more xs held) ∙ ap (λ u. of_states nexts xs ++ u ∷ []) is in
-    let number : length old.states ≡ s = length-map xs (of_state nexts) ∙ sym at in
-    subst (λ (o : Machine). Pushes o new s st) value (subst (λ k. Pushes old new k st) number (pushes old new st one refl refl))
-
--- the value is as it was
-pub machine_more : (m : Machine) (nexts more : List ℕ) (xs : List declared.State) (starts : List ℕ) (n : ℕ)
-    → machine nexts xs starts n ≡ m → AreHeld (length nexts) xs → machine (nexts ++ more) xs starts n ≡ m
-machine_more m nexts more xs starts n value held = ap (λ l. machine_of l starts n) (states_more nexts more xs held) ∙ value
+-- a list that was appended behind its length
+pub list_last : (xs list : List ℕ) → exits_at (xs ++ length list ∷ list) (length xs) ≡ list
+list_last xs list =
+    let count : slice_index (xs ++ length list ∷ list) (length xs) ≡ length list = get_or-append_seam xs (length list) list 0 in
+    let cut : (xs ++ length list ∷ []) ++ list ≡ xs ++ length list ∷ list = append_assoc xs (length list ∷ []) list in
+    let len : length (xs ++ length list ∷ []) ≡ length xs + 1 = length-append xs (length list ∷ []) in
+    ap (λ c. slice_range (xs ++ length list ∷ list) (length xs + 1) (length xs + 1 + c)) count
+    ∙ subst (λ l. slice_range l (length xs + 1) (length xs + 1 + length list) ≡ list) cut (range_last (xs ++ length list ∷ []) list (length xs + 1) (length xs + 1 + length list) (sym len) (omega (arith, len, length-append (xs ++ length list ∷ []) list)))
   where
-    machine_of : List State → List ℕ → ℕ → Machine
-    machine_of states starts' n' = record {
-      states = states;
-      starts = starts';
-      index_count = n';
-    }
+    range_last : (ys more : List ℕ) (i j : ℕ) → i ≡ length ys → j ≡ length (ys ++ more) → slice_range (ys ++ more) i j ≡ more
+    range_last ys more i j from to =
+        let len = length-append ys more in
+        ap (λ n. take (j - i) (drop n (ys ++ more))) from ∙ ap (take (j - i)) (drop-append_seam ys more) ∙ take_all (j - i) more (omega arith)
+
+pub list_held : (sets : List ByteSet) (xs list : List ℕ) → IsHeld sets (xs ++ length list ∷ list) (Skips (length xs))
+list_held sets xs list = omega (arith, get_or-append_seam xs (length list) list 0, length-append xs (length list ∷ list))
+
+-- the parts of an automaton, and its lists with more
+module _ (m : Machine) (sets sets' ss : List ByteSet) (nexts nexts' more : List ℕ) (are : sets' ≡ sets ++ ss) (nexts_are : nexts' ≡ nexts ++ more)
+    (xs : List declared.State) (starts : List ℕ) (n : ℕ) (value : machine sets nexts xs starts n ≡ m) (sound : AreSound sets nexts xs starts n) where
+  same : of_states sets' nexts' xs ≡ of_states sets nexts xs
+  same = rw (are, nexts_are) (states_more sets ss nexts more xs sound.held)
+
+  -- they stay sound
+  pub sound_more : AreSound sets' nexts' xs starts n
+  sound_more = record {
+    held = rw (are, nexts_are) (all_held_more sets ss nexts more xs sound.held);
+    down = λ s. subst (λ l. GoesBelow s (state l s)) (sym same) (sound.down s);
+    named = λ s. subst (λ l. NamesBelow n (state l s)) (sym same) (sound.named s);
+    begun = sound.begun;
+  }
+
+  -- the value is as it was
+  pub machine_more : machine sets' nexts' xs starts n ≡ m
+  machine_more = ap (λ l. machine_of l starts n) same ∙ value
+    where
+      machine_of : List State → List ℕ → ℕ → Machine
+      machine_of states starts' n' = record {
+        states = states;
+        starts = starts';
+        index_count = n';
+      }
+
+  -- a state is pushed
+  module _ (x : declared.State) (st : State) (is : of_state sets' nexts' x ≡ st) where
+    pub sound_with : IsHeld sets' nexts' x → GoesBelow (length xs) st → NamesBelow n st → AreSound sets' nexts' (xs ++ x ∷ []) starts n
+    sound_with held below named =
+        sound_push sets' nexts' xs x starts n sound_more held (subst (GoesBelow (length xs)) (sym is) below) (subst (NamesBelow n) (sym is) named)
+
+    pub pushes_with : (s : ℕ) → s ≡ length xs → Pushes m (machine sets' nexts' (xs ++ x ∷ []) starts n) s st
+    pushes_with s at =
+        let old = machine sets nexts xs starts n in
+        let new = machine sets' nexts' (xs ++ x ∷ []) starts n in
+        let one : new.states ≡ old.states ++ st ∷ [] = states_push sets' nexts' xs x ∙ ap (λ l. l ++ of_state sets' nexts' x ∷ []) same ∙ ap (λ u. of_states sets nexts xs ++ u ∷ []) is in
+        let number : length old.states ≡ s = length-map xs (of_state sets nexts) ∙ sym at in
+        subst (λ (o : Machine). Pushes o new s st) value (subst (λ k. Pushes old new k st) number (pushes old new st one refl refl))
+
+pub one_below : (t n : ℕ) → t < n → AreBelow n (t ∷ [])
+one_below t n lt zero within = lt
+one_below t n lt (suc i) within = absurd (omega arith)
 
 pub on_err : {T E P : Type 0} (r : Result T E) → P → OnErr r P
 on_err (Ok x) p = tt

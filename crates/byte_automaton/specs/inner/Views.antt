@@ -1,29 +1,38 @@
--- The states as an automaton keeps them: the states that they go on to without a byte lie in one list.
-use Rattle.std.specs.Prelude.{ℕ, ◌<◌, ◌≤◌, List, [], ◌∷◌, map, length, slice_range}
+-- The states as an automaton keeps them: sets of bytes lie in one list, and what a state goes on to without a byte in another.
+use Rattle.std.specs.Prelude.{ℕ, ◌+◌, ◌<◌, List, [], ◌∷◌, map, length, slice_index, slice_index_or, slice_range}
 use Rattle.byte_automaton.specs.Steps.{State, reads, skips, stays, final, state, Machine}
 use Rattle.byte_automaton.specs.Building.{AreBelow}
+use Rattle.byte_automaton.specs.declared.byte_set.ByteSet.{ByteSet}
 use Rattle.byte_automaton.specs.declared.state.State as declared
 use Rattle.byte_automaton.specs.declared.state.State.TheVariants.{Reads, Skips, Stays, End}
 
-abbrev pub of_state : List ℕ → declared.State → State
-of_state nexts (Reads w t) = reads w t
-of_state nexts (Skips i j) = skips (slice_range nexts i j)
-of_state nexts (Stays w i j) = stays w (slice_range nexts i j)
-of_state nexts (End k) = final k
+-- the set with the number n; one past the last has no byte
+abbrev pub set_at : List ByteSet → ℕ → ByteSet
+set_at sets n = slice_index_or sets n (record { words = [] })
 
-abbrev pub of_states : List ℕ → List declared.State → List State
-of_states nexts states = map (of_state nexts) states
+-- the states that stand in the list behind their count
+abbrev pub exits_at : List ℕ → ℕ → List ℕ
+exits_at nexts at = slice_range nexts (at + 1) (at + 1 + slice_index nexts at)
 
--- the state's range lies in a list of n numbers
-abbrev pub IsHeld : ℕ → declared.State → Type 0
-IsHeld n (Reads w t) = Unit {0}
-IsHeld n (Skips i j) = (i ≤ j) × (j ≤ n)
-IsHeld n (Stays w i j) = (i ≤ j) × (j ≤ n)
-IsHeld n (End k) = Unit {0}
+abbrev pub of_state : List ByteSet → List ℕ → declared.State → State
+of_state sets nexts (Reads n t) = reads (set_at sets n) t
+of_state sets nexts (Skips at) = skips (exits_at nexts at)
+of_state sets nexts (Stays n t) = stays (set_at sets n) (t ∷ [])
+of_state sets nexts (End k) = final k
 
-abbrev pub AreHeld : ℕ → List declared.State → Type 0
-AreHeld n [] = Unit {0}
-AreHeld n (x ∷ xs) = IsHeld n x × AreHeld n xs
+abbrev pub of_states : List ByteSet → List ℕ → List declared.State → List State
+of_states sets nexts states = map (of_state sets nexts) states
+
+-- the state's set is one of the sets, and the states that it goes on to lie in the list
+abbrev pub IsHeld : List ByteSet → List ℕ → declared.State → Type 0
+IsHeld sets nexts (Reads n t) = n < length sets
+IsHeld sets nexts (Skips at) = at + slice_index nexts at < length nexts
+IsHeld sets nexts (Stays n t) = n < length sets
+IsHeld sets nexts (End k) = Unit {0}
+
+abbrev pub AreHeld : List ByteSet → List ℕ → List declared.State → Type 0
+AreHeld sets nexts [] = Unit {0}
+AreHeld sets nexts (x ∷ xs) = IsHeld sets nexts x × AreHeld sets nexts xs
 
 -- what the state goes on to has a lower number
 abbrev pub GoesBelow : ℕ → State → Type 0
@@ -40,16 +49,16 @@ NamesBelow n (stays w us) = Unit {0}
 NamesBelow n (final k) = k < n
 
 -- what is true of the parts of each automaton
-pub record AreSound (nexts : List ℕ) (states : List declared.State) (starts : List ℕ) (n : ℕ) : Type 0 where
-  pub held : AreHeld (length nexts) states
-  pub down : (s : ℕ) → GoesBelow s (state (of_states nexts states) s)
-  pub named : (s : ℕ) → NamesBelow n (state (of_states nexts states) s)
+pub record AreSound (sets : List ByteSet) (nexts : List ℕ) (states : List declared.State) (starts : List ℕ) (n : ℕ) : Type 0 where
+  pub held : AreHeld sets nexts states
+  pub down : (s : ℕ) → GoesBelow s (state (of_states sets nexts states) s)
+  pub named : (s : ℕ) → NamesBelow n (state (of_states sets nexts states) s)
   pub begun : AreBelow (length states) starts
 
 -- the value of an automaton of these parts
-abbrev pub machine : List ℕ → List declared.State → List ℕ → ℕ → Machine
-machine nexts states starts n = record {
-  states = of_states nexts states;
+abbrev pub machine : List ByteSet → List ℕ → List declared.State → List ℕ → ℕ → Machine
+machine sets nexts states starts n = record {
+  states = of_states sets nexts states;
   starts = starts;
   index_count = n;
 }

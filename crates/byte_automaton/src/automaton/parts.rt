@@ -10,7 +10,8 @@ ghost use Rattle.byte_automaton.specs.inner.Views.{of_state, IsHeld, GoesBelow, 
 
 use crate::automaton::Automaton;
 use crate::builder::Builder;
-use crate::state::State;
+use crate::byte_set::ByteSet;
+use crate::state::{State, exits_of, set_of};
 use std::alloc::{AllocError, Global};
 
 impl Automaton {
@@ -35,7 +36,8 @@ impl Automaton {
         let alloc = *self.states.allocator();
         let mut builder = Builder::new(alloc, self.index_count);
         for s in low..high {
-            let pushed = push_lowered(alloc, self.states[s], &self.nexts, low, &mut builder)?;
+            let state = self.states[s];
+            let pushed = push_lowered(alloc, state, &self.sets, &self.nexts, low, &mut builder)?;
             if !pushed {
                 return Ok(None);
             }
@@ -65,35 +67,36 @@ impl Automaton {
 fn push_lowered(
     alloc: Global,
     state: State,
+    sets: &[ByteSet],
     nexts: &[usize],
     low: usize,
     builder: &mut Builder,
 ) -> Result<bool, AllocError>
-    requires held { IsHeld (length nexts.now) state }
-    requires below { GoesBelow (low + size builder.old) (of_state nexts.now state) }
-    requires named { NamesBelow builder.old.index_count (of_state nexts.now state) }
-    ensures pushed { IfOk result (λ yes. IsTrue yes → Pushes builder.old builder.new (size builder.old) (lowered low (of_state nexts.now state))) }
-    ensures from { IfOk result (λ yes. IsTrue yes → GoesFrom low (of_state nexts.now state)) }
-    ensures out { IfOk result (λ yes. IsFalse yes → GoesFrom low (of_state nexts.now state) → ⊥) }
+    requires held { IsHeld sets.now nexts.now state }
+    requires below { GoesBelow (low + size builder.old) (of_state sets.now nexts.now state) }
+    requires named { NamesBelow builder.old.index_count (of_state sets.now nexts.now state) }
+    ensures pushed { IfOk result (λ yes. IsTrue yes → Pushes builder.old builder.new (size builder.old) (lowered low (of_state sets.now nexts.now state))) }
+    ensures from { IfOk result (λ yes. IsTrue yes → GoesFrom low (of_state sets.now nexts.now state)) }
+    ensures out { IfOk result (λ yes. IsFalse yes → GoesFrom low (of_state sets.now nexts.now state) → ⊥) }
 {
     match state {
-        State::Reads(bytes, next) => {
+        State::Reads(set, next) => {
             if next < low {
                 return Ok(false);
             }
-            builder.push_read(bytes, next - low)?;
+            builder.push_read(*set_of(sets, set), next - low)?;
         }
-        State::Skips(i, j) => {
-            let Some(lowered) = all_lowered(alloc, &nexts[i..j], low)? else {
+        State::Skips(at) => {
+            let Some(lowered) = all_lowered(alloc, exits_of(nexts, at), low)? else {
                 return Ok(false);
             };
             builder.push_skip(&lowered)?;
         }
-        State::Stays(bytes, i, j) => {
-            let Some(lowered) = all_lowered(alloc, &nexts[i..j], low)? else {
+        State::Stays(set, exit) => {
+            if exit < low {
                 return Ok(false);
-            };
-            builder.push_stay(bytes, &lowered)?;
+            }
+            builder.push_stay(*set_of(sets, set), exit - low)?;
         }
         State::End(index) => {
             builder.push_end(index)?;

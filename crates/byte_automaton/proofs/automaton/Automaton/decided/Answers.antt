@@ -1,4 +1,4 @@
-use Rattle.std.proofs.Common.{◌<◌, length, arith, ap, subst}
+use Rattle.std.proofs.Common.{[], ◌<◌, length, arith, ap, subst}
 use Rattle.std.proofs.lemmas.List.{length-map}
 use Rattle.byte_automaton.specs.Runs.{size}
 use Rattle.byte_automaton.specs.inner.Views.{GoesBelow, of_state}
@@ -6,40 +6,42 @@ use Rattle.byte_automaton.proofs.lemmas.Reading.{held_at, state_at, read_state}
 use Rattle.byte_automaton.proofs.lemmas.Decisions.{decides_none, decides_by}
 use Rattle.byte_automaton.proofs.automaton.Automaton.decided.Goals as goal
 
-pub only_exit-requires-clause-held : goal.only_exit-requires-clause-held
-only_exit-requires-clause-held c =
+pub only_exit-requires : goal.only_exit-requires
+only_exit-requires c =
+    let sets = c.self.inside.sets.items in
     let nexts = c.self.inside.nexts.items in
     let states = c.self.inside.states.items in
-    let lt : c.args.s < length states = omega (arith, c.requires, ap size c.self.view_is, length-map states (of_state nexts)) in
-    rw c.deref.ensures.value (held_at (length nexts) states c.args.s c.index.result.now c.self.invariant.held lt c.index.ensures)
-
-pub only_exit-requires-clause-below : goal.only_exit-requires-clause-below
-only_exit-requires-clause-below c =
-    let nexts = c.self.inside.nexts.items in
-    let states = c.self.inside.states.items in
-    let lt : c.args.s < length states = omega (arith, c.requires, ap size c.self.view_is, length-map states (of_state nexts)) in
-    rw c.deref.ensures.value (subst (GoesBelow c.args.s) (state_at nexts states c.args.s c.index.result.now lt c.index.ensures) (c.self.invariant.down c.args.s))
+    let lt : c.args.s < length states = omega (arith, c.requires, ap size c.self.view_is, length-map states (of_state sets nexts)) in
+    rw c.deref.ensures.value record {
+      below = (
+        nexts,
+        held_at sets nexts states c.args.s c.index.result.now c.self.invariant.held lt c.index.ensures,
+        subst (GoesBelow c.args.s) (state_at sets nexts states c.args.s c.index.result.now lt c.index.ensures) (c.self.invariant.down c.args.s),
+      );
+    }
 
 pub returns-in-None : goal.returns-in-None
 returns-in-None c =
     let inside = c.self.inside in
+    let sets = inside.sets.items in
     let nexts = inside.nexts.items in
     let states = inside.states.items in
     let m = c.args.self.now in
-    let lt : c.args.s < length states = omega (arith, c.requires, ap size c.self.view_is, length-map states (of_state nexts)) in
-    let is = read_state m nexts states inside.starts.items inside.index_count c.args.s c.index.result.now c.self.view_is lt c.index.ensures in
-    decides_none m.states c.args.s (of_state nexts c.index.result.now) is (rw c.deref.ensures.value at c.in-None.ensures.exit)
+    let lt : c.args.s < length states = omega (arith, c.requires, ap size c.self.view_is, length-map states (of_state sets nexts)) in
+    let is = read_state m sets nexts states inside.starts.items inside.index_count c.args.s c.index.result.now c.self.view_is lt c.index.ensures in
+    decides_none m.states c.args.s (of_state sets nexts c.index.result.now) is (rw c.deref.ensures.value at c.in-None.ensures.exit nexts)
 
 pub returns-in-Some : goal.returns-in-Some
 returns-in-Some c =
     let inside = c.self.inside in
+    let sets = inside.sets.items in
     let nexts = inside.nexts.items in
     let states = inside.states.items in
     let m = c.args.self.now in
-    let lt : c.args.s < length states = omega (arith, c.requires, ap size c.self.view_is, length-map states (of_state nexts)) in
-    let is = read_state m nexts states inside.starts.items inside.index_count c.args.s c.index.result.now c.self.view_is lt c.index.ensures in
-    let exit = rw c.deref.ensures.value at (c.in-Some.ensures.exit).0 in
-    decides_by m.states m.index_count c.args.s c.in-Some.exit (of_state nexts c.index.result.now) c.index_of.result is exit c.index_of.ensures
+    let lt : c.args.s < length states = omega (arith, c.requires, ap size c.self.view_is, length-map states (of_state sets nexts)) in
+    let is = read_state m sets nexts states inside.starts.items inside.index_count c.args.s c.index.result.now c.self.view_is lt c.index.ensures in
+    let exit = rw c.deref.ensures.value at (c.in-Some.ensures.exit nexts).0 in
+    decides_by m.states m.index_count c.args.s c.in-Some.exit (of_state sets nexts c.index.result.now) c.index_of.result is exit c.index_of.ensures
 
 pub index_of-requires : goal.index_of-requires
-index_of-requires c = omega (arith, c.in-Some.ensures.exit.1)
+index_of-requires c = omega (arith, (c.in-Some.ensures.exit []).1)

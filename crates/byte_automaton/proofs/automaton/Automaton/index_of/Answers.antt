@@ -9,12 +9,13 @@ use Rattle.byte_automaton.proofs.automaton.Automaton.index_of.Goals as goal
 pub returns-in-End : goal.returns-in-End
 returns-in-End c =
     let inside = c.self.inside in
+    let sets = inside.sets.items in
     let nexts = inside.nexts.items in
     let states = inside.states.items in
     let m = c.args.self.now in
-    let lt : c.args.s < length states = omega (arith, c.requires, ap size c.self.view_is, length-map states (of_state nexts)) in
+    let lt : c.args.s < length states = omega (arith, c.requires, ap size c.self.view_is, length-map states (of_state sets nexts)) in
     let is : state m.states c.args.s ≡ final c.in-End.index =
-    read_state m nexts states inside.starts.items inside.index_count c.args.s c.index.result.now c.self.view_is lt c.index.ensures ∙ ap (of_state nexts) c.in-End.is in (
+    read_state m sets nexts states inside.starts.items inside.index_count c.args.s c.index.result.now c.self.view_is lt c.index.ensures ∙ ap (of_state sets nexts) c.in-End.is in (
       is,
       subst (λ (o : Machine). c.in-End.index < o.index_count) c.self.view_is
           (subst (NamesBelow inside.index_count) (ap (λ (o : Machine). state o.states c.args.s) c.self.view_is ∙ is) (c.self.invariant.named c.args.s)),
@@ -23,8 +24,9 @@ returns-in-End c =
 pub returns-in_default : goal.returns-in_default
 returns-in_default c = λ k e.
     let inside = c.self.inside in
+    let sets = inside.sets.items in
     let nexts = inside.nexts.items in
     let states = inside.states.items in
-    let lt : c.args.s < length states = omega (arith, c.requires, ap size c.self.view_is, length-map states (of_state nexts)) in
-    let is = read_state c.args.self.now nexts states inside.starts.items inside.index_count c.args.s c.index.result.now c.self.view_is lt c.index.ensures in
-    c.in_default.not-End k (is_end nexts c.index.result.now k (sym is ∙ e))
+    let lt : c.args.s < length states = omega (arith, c.requires, ap size c.self.view_is, length-map states (of_state sets nexts)) in
+    let is = read_state c.args.self.now sets nexts states inside.starts.items inside.index_count c.args.s c.index.result.now c.self.view_is lt c.index.ensures in
+    c.in_default.not-End k (is_end sets nexts c.index.result.now k (sym is ∙ e))

@@ -6,25 +6,24 @@ use Rattle.byte_automaton.specs.inner.Views.{GoesBelow, of_state}
 use Rattle.byte_automaton.proofs.lemmas.Reading.{held_at, state_at}
 use Rattle.byte_automaton.proofs.automaton.Automaton.is_ending.Goals as goal
 
-pub is_ending-requires-clause-held : goal.is_ending-requires-clause-held
-is_ending-requires-clause-held c =
-    let nexts = c.self.inside.nexts.items in
-    let states = c.self.inside.states.items in
-    let lt : c.args.s < length states = omega (arith, c.requires.exists, ap size c.self.view_is, length-map states (of_state nexts)) in
-    rw c.deref.ensures.value (held_at (length nexts) states c.args.s c.index.result.now c.self.invariant.held lt c.index.ensures)
-
 pub is_ending-requires-clause-below : goal.is_ending-requires-clause-below
 is_ending-requires-clause-below c =
+    let sets = c.self.inside.sets.items in
     let nexts = c.self.inside.nexts.items in
     let states = c.self.inside.states.items in
-    let lt : c.args.s < length states = omega (arith, c.requires.exists, ap size c.self.view_is, length-map states (of_state nexts)) in
-    rw c.deref.ensures.value (subst (GoesBelow c.args.s) (state_at nexts states c.args.s c.index.result.now lt c.index.ensures) (c.self.invariant.down c.args.s))
+    let lt : c.args.s < length states = omega (arith, c.requires.exists, ap size c.self.view_is, length-map states (of_state sets nexts)) in
+    rw c.deref.ensures.value (
+      sets,
+      held_at sets nexts states c.args.s c.index.result.now c.self.invariant.held lt c.index.ensures,
+      subst (GoesBelow c.args.s) (state_at sets nexts states c.args.s c.index.result.now lt c.index.ensures) (c.self.invariant.down c.args.s),
+    )
 
 pub returns-clause-ends : goal.returns-clause-ends
 returns-clause-ends c =
+    let sets = c.self.inside.sets.items in
     let nexts = c.self.inside.nexts.items in
     let states = c.self.inside.states.items in
-    let lt : c.args.s < length states = omega (arith, c.requires.exists, ap size c.self.view_is, length-map states (of_state nexts)) in
-    let is : state c.args.self.now.states c.args.s ≡ of_state nexts c.index.result.now =
-    sym (ap (λ (m : Machine). state m.states c.args.s) c.self.view_is) ∙ state_at nexts states c.args.s c.index.result.now lt c.index.ensures in
-    rw is (rw c.deref.ensures.value at c.is_ending.ensures)
+    let lt : c.args.s < length states = omega (arith, c.requires.exists, ap size c.self.view_is, length-map states (of_state sets nexts)) in
+    let is : state c.args.self.now.states c.args.s ≡ of_state sets nexts c.index.result.now =
+    sym (ap (λ (m : Machine). state m.states c.args.s) c.self.view_is) ∙ state_at sets nexts states c.args.s c.index.result.now lt c.index.ensures in
+    rw is (rw c.deref.ensures.value at c.is_ending.ensures sets)

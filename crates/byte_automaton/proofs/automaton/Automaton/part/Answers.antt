@@ -13,46 +13,50 @@ use Rattle.byte_automaton.proofs.automaton.Automaton.part.Goals as goal
 pub push_lowered-requires-clause-held : goal.push_lowered-requires-clause-held
 push_lowered-requires-clause-held c =
     let inside = c.self.inside in
+    let sets = inside.sets.items in
     let nexts = inside.nexts.items in
     let states = inside.states.items in
     let s = c.loop-s.s in
-    let lt : s < length states = omega (arith, c.requires.within, ap size c.self.view_is, length-map states (of_state nexts)) in
-    rw c.deref.ensures.value (held_at (length nexts) states s c.index.result.now c.self.invariant.held lt c.index.ensures)
+    let lt : s < length states = omega (arith, c.requires.within, ap size c.self.view_is, length-map states (of_state sets nexts)) in
+    rw (c.deref.ensures.value, c.deref-in-loop-s.ensures.value) (held_at sets nexts states s c.index-state.result.now c.self.invariant.held lt c.index-state.ensures)
 
 pub push_lowered-requires-clause-below : goal.push_lowered-requires-clause-below
 push_lowered-requires-clause-below c =
     let inside = c.self.inside in
+    let sets = inside.sets.items in
     let nexts = inside.nexts.items in
     let states = inside.states.items in
     let s = c.loop-s.s in
-    let lt : s < length states = omega (arith, c.requires.within, ap size c.self.view_is, length-map states (of_state nexts)) in
-    rw c.deref.ensures.value (subst (λ n. GoesBelow n (of_state nexts c.index.result.now)) (sym c.loop-s.invariant.len)
-    (subst (GoesBelow s) (state_at nexts states s c.index.result.now lt c.index.ensures) (c.self.invariant.down s)))
+    let lt : s < length states = omega (arith, c.requires.within, ap size c.self.view_is, length-map states (of_state sets nexts)) in
+    rw (c.deref.ensures.value, c.deref-in-loop-s.ensures.value) (subst (λ n. GoesBelow n (of_state sets nexts c.index-state.result.now)) (sym c.loop-s.invariant.len)
+    (subst (GoesBelow s) (state_at sets nexts states s c.index-state.result.now lt c.index-state.ensures) (c.self.invariant.down s)))
 
 pub push_lowered-requires-clause-named : goal.push_lowered-requires-clause-named
 push_lowered-requires-clause-named c =
     let inside = c.self.inside in
+    let sets = inside.sets.items in
     let nexts = inside.nexts.items in
     let states = inside.states.items in
     let s = c.loop-s.s in
-    let lt : s < length states = omega (arith, c.requires.within, ap size c.self.view_is, length-map states (of_state nexts)) in
+    let lt : s < length states = omega (arith, c.requires.within, ap size c.self.view_is, length-map states (of_state sets nexts)) in
     let count : inside.index_count ≡ c.loop-s.builder.index_count = ap (λ (m : Machine). m.index_count) c.self.view_is ∙ sym c.loop-s.invariant.index_count in
-    rw c.deref.ensures.value (subst (λ n. NamesBelow n (of_state nexts c.index.result.now)) count
-    (subst (NamesBelow inside.index_count) (state_at nexts states s c.index.result.now lt c.index.ensures) (c.self.invariant.named s)))
+    rw (c.deref.ensures.value, c.deref-in-loop-s.ensures.value) (subst (λ n. NamesBelow n (of_state sets nexts c.index-state.result.now)) count
+    (subst (NamesBelow inside.index_count) (state_at sets nexts states s c.index-state.result.now lt c.index-state.ensures) (c.self.invariant.named s)))
 
 pub loop-s-preserved : goal.loop-s-preserved
 loop-s-preserved c =
     let inside = c.self.inside in
+    let sets = inside.sets.items in
     let nexts = inside.nexts.items in
     let states = inside.states.items in
     let s = c.loop-s.s in
     let m = c.args.self.now in
     let inv = c.loop-s.invariant in
-    let lt : s < length states = omega (arith, c.requires.within, ap size c.self.view_is, length-map states (of_state nexts)) in
-    let is = read_state m nexts states inside.starts.items inside.index_count s c.index.result.now c.self.view_is lt c.index.ensures in
+    let lt : s < length states = omega (arith, c.requires.within, ap size c.self.view_is, length-map states (of_state sets nexts)) in
+    let is = read_state m sets nexts states inside.starts.items inside.index_count s c.index-state.result.now c.self.view_is lt c.index-state.ensures in
     let pushed = c.in_ok-pushed.ensures.pushed c.if-not-pushed.false in
-    let pushes : Pushes c.loop-s.builder c.push_lowered.new.builder (size c.loop-s.builder) (lowered c.args.low (state m.states s)) = rw is (rw c.deref.ensures.value at pushed) in
-    let from : GoesFrom c.args.low (state m.states s) = rw is (rw c.deref.ensures.value at c.in_ok-pushed.ensures.from c.if-not-pushed.false) in
+    let pushes : Pushes c.loop-s.builder c.push_lowered.new.builder (size c.loop-s.builder) (lowered c.args.low (state m.states s)) = rw is (rw (c.deref.ensures.value, c.deref-in-loop-s.ensures.value) at pushed) in
+    let from : GoesFrom c.args.low (state m.states s) = rw is (rw (c.deref.ensures.value, c.deref-in-loop-s.ensures.value) at c.in_ok-pushed.ensures.from c.if-not-pushed.false) in
     record {
       len = omega (arith, inv.len, pushes.len);
       starts = pushes.starts ∙ inv.starts;

@@ -7,14 +7,16 @@ use Rattle.byte_automaton.proofs.automaton.Automaton.put_steps.Goals as goal
 
 pub put_steps-requires-clause-held : goal.put_steps-requires-clause-held
 put_steps-requires-clause-held c =
+    let sets = c.self.inside.sets.items in
     let nexts = c.self.inside.nexts.items in
     let states = c.self.inside.states.items in
-    let lt : c.args.s < length states = omega (arith, c.requires.exists, ap size c.self.view_is, length-map states (of_state nexts)) in
-    rw c.deref.ensures.value (held_at (length nexts) states c.args.s c.index.result.now c.self.invariant.held lt c.index.ensures)
+    let lt : c.args.s < length states = omega (arith, c.requires.exists, ap size c.self.view_is, length-map states (of_state sets nexts)) in
+    rw (c.deref.ensures.value, c.deref-2.ensures.value) (held_at sets nexts states c.args.s c.index.result.now c.self.invariant.held lt c.index.ensures)
 
 pub put_steps-requires-clause-below : goal.put_steps-requires-clause-below
 put_steps-requires-clause-below c =
+    let sets = c.self.inside.sets.items in
     let nexts = c.self.inside.nexts.items in
     let states = c.self.inside.states.items in
-    let lt : c.args.s < length states = omega (arith, c.requires.exists, ap size c.self.view_is, length-map states (of_state nexts)) in
-    rw c.deref.ensures.value (subst (GoesBelow c.args.s) (state_at nexts states c.args.s c.index.result.now lt c.index.ensures) (c.self.invariant.down c.args.s))
+    let lt : c.args.s < length states = omega (arith, c.requires.exists, ap size c.self.view_is, length-map states (of_state sets nexts)) in
+    rw (c.deref.ensures.value, c.deref-2.ensures.value) (subst (GoesBelow c.args.s) (state_at sets nexts states c.args.s c.index.result.now lt c.index.ensures) (c.self.invariant.down c.args.s))

@@ -10,7 +10,7 @@ use Rattle.byte_automaton.proofs.automaton.Automaton.start.Goals as goal
 pub returns-clause-starts : goal.returns-clause-starts
 returns-clause-starts c =
     let inside = c.self.inside in
-    let count : length inside.states.items ≡ size c.args.self.now = sym (length-map inside.states.items (of_state inside.nexts.items)) ∙ ap size c.self.view_is in
+    let count : length inside.states.items ≡ size c.args.self.now = sym (length-map inside.states.items (of_state inside.sets.items inside.nexts.items)) ∙ ap size c.self.view_is in
     starts_put c.args.self.now inside.starts.items (length inside.states.items) (has_state c.clear.new.self) (has_state c.put_all.new.self)
     (ap (λ (m : Machine). m.starts) c.self.view_is) count c.self.invariant.begun
     (λ t lt. c.clear.ensures.none t)

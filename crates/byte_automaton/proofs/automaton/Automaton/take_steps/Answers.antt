@@ -8,23 +8,26 @@ use Rattle.byte_automaton.proofs.automaton.Automaton.take_steps.Goals as goal
 
 pub take_steps-requires-clause-held : goal.take_steps-requires-clause-held
 take_steps-requires-clause-held c =
+    let sets = c.self.inside.sets.items in
     let nexts = c.self.inside.nexts.items in
     let states = c.self.inside.states.items in
-    let lt : c.args.s < length states = omega (arith, c.requires.exists, ap size c.self.view_is, length-map states (of_state nexts)) in
-    rw c.deref.ensures.value (held_at (length nexts) states c.args.s c.index.result.now c.self.invariant.held lt c.index.ensures)
+    let lt : c.args.s < length states = omega (arith, c.requires.exists, ap size c.self.view_is, length-map states (of_state sets nexts)) in
+    rw (c.deref.ensures.value, c.deref-2.ensures.value) (held_at sets nexts states c.args.s c.index.result.now c.self.invariant.held lt c.index.ensures)
 
 pub take_steps-requires-clause-below : goal.take_steps-requires-clause-below
 take_steps-requires-clause-below c =
+    let sets = c.self.inside.sets.items in
     let nexts = c.self.inside.nexts.items in
     let states = c.self.inside.states.items in
-    let lt : c.args.s < length states = omega (arith, c.requires.exists, ap size c.self.view_is, length-map states (of_state nexts)) in
-    rw c.deref.ensures.value (subst (GoesBelow c.args.s) (state_at nexts states c.args.s c.index.result.now lt c.index.ensures) (c.self.invariant.down c.args.s))
+    let lt : c.args.s < length states = omega (arith, c.requires.exists, ap size c.self.view_is, length-map states (of_state sets nexts)) in
+    rw (c.deref.ensures.value, c.deref-2.ensures.value) (subst (GoesBelow c.args.s) (state_at sets nexts states c.args.s c.index.result.now lt c.index.ensures) (c.self.invariant.down c.args.s))
 
 pub returns-clause-some : goal.returns-clause-some
 returns-clause-some c = λ h.
+    let sets = c.self.inside.sets.items in
     let nexts = c.self.inside.nexts.items in
     let states = c.self.inside.states.items in
-    let lt : c.args.s < length states = omega (arith, c.requires.exists, ap size c.self.view_is, length-map states (of_state nexts)) in
-    let is : state c.args.self.now.states c.args.s ≡ of_state nexts c.index.result.now =
-    sym (ap (λ (m : Machine). state m.states c.args.s) c.self.view_is) ∙ state_at nexts states c.args.s c.index.result.now lt c.index.ensures in
-    rw is (rw c.deref.ensures.value at c.take_steps.ensures.some h)
+    let lt : c.args.s < length states = omega (arith, c.requires.exists, ap size c.self.view_is, length-map states (of_state sets nexts)) in
+    let is : state c.args.self.now.states c.args.s ≡ of_state sets nexts c.index.result.now =
+    sym (ap (λ (m : Machine). state m.states c.args.s) c.self.view_is) ∙ state_at sets nexts states c.args.s c.index.result.now lt c.index.ensures in
+    rw is (rw (c.deref.ensures.value, c.deref-2.ensures.value) at c.take_steps.ensures.some h)

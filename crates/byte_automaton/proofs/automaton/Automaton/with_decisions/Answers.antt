@@ -12,11 +12,12 @@ pub from_parts-requires : goal.from_parts-requires
 from_parts-requires c =
     let inside = c.self.inside in
     let inv = c.loop-s.invariant in
-    let same_nexts : c.in_ok-nexts.nexts.items ≡ inside.nexts.items = c.in_ok-nexts.ensures.items ∙ c.deref.ensures.value in
-    let same_starts : c.in_ok-starts.starts.items ≡ inside.starts.items = c.in_ok-starts.ensures.items ∙ c.deref-2.ensures.value in
+    let same_sets : c.in_ok-sets.sets.items ≡ inside.sets.items = c.in_ok-sets.ensures.items ∙ c.deref.ensures.value in
+    let same_nexts : c.in_ok-nexts.nexts.items ≡ inside.nexts.items = c.in_ok-nexts.ensures.items ∙ c.deref-2.ensures.value in
+    let same_starts : c.in_ok-starts.starts.items ≡ inside.starts.items = c.in_ok-starts.ensures.items ∙ c.deref-3.ensures.value in
     let count : c.in-Some.index_count ≡ c.args.self.now.index_count * 2 = c.in-Some.ensures.1 ∙ ap (λ (m : Machine). m.index_count * 2) c.self.view_is in
     let begun : AreBelow (length c.loop-s.states.items) inside.starts.items = λ i lt. let below = c.self.invariant.begun i lt in omega (arith, inv.len) in
-    rw (same_nexts, same_starts, count) record {
+    rw (same_sets, same_nexts, same_starts, count) record {
       held = inv.sound.held;
       down = inv.sound.down;
       named = inv.sound.named;
@@ -40,13 +41,14 @@ loop-s-preserved c =
     let inside = c.self.inside in
     let inv = c.loop-s.invariant in
     let m = c.args.self.now in
+    let sets = inside.sets.items in
     let nexts = inside.nexts.items in
-    let so_far : AreDecided m nexts c.loop-s.states.items c.loop-s.s = record { len = inv.len; sound = inv.sound; states = inv.states } in
-    let more : AreDecided m nexts (c.loop-s.states.items ++ c.match-decided.state ∷ []) (c.loop-s.s + 1) =
+    let so_far : AreDecided m sets nexts c.loop-s.states.items c.loop-s.s = record { len = inv.len; sound = inv.sound; states = inv.states } in
+    let more : AreDecided m sets nexts (c.loop-s.states.items ++ c.match-decided.state ∷ []) (c.loop-s.s + 1) =
     elim c.match-decided.branch [
-      | in-Some-decided w ↦ rw w.state-is (decided_more m nexts inside.states.items inside.starts.items inside.index_count c.self.view_is c.self.invariant
+      | in-Some-decided w ↦ rw w.state-is (decided_more m sets nexts inside.states.items inside.starts.items inside.index_count c.self.view_is c.self.invariant
           c.loop-s.states.items c.loop-s.s so_far w.in-Some-decided.index w.in-Some-decided.ensures.0 w.in-Some-decided.ensures.1)
-      | in-None w ↦ rw w.state-is (same_more m nexts inside.states.items inside.starts.items inside.index_count c.self.view_is c.self.invariant
+      | in-None w ↦ rw w.state-is (same_more m sets nexts inside.states.items inside.starts.items inside.index_count c.self.view_is c.self.invariant
           c.loop-s.states.items c.loop-s.s so_far w.index.result.now (omega arith) w.index.ensures w.in-None.ensures)
     ] in
     rw c.in_ok-push.ensures.items record { len = more.len; sound = more.sound; states = more.states }
@@ -56,12 +58,13 @@ returns c =
     let inside = c.self.inside in
     let inv = c.loop-s.invariant in
     let m = c.args.self.now in
-    let same_nexts : c.in_ok-nexts.nexts.items ≡ inside.nexts.items = c.in_ok-nexts.ensures.items ∙ c.deref.ensures.value in
-    let same_starts : c.in_ok-starts.starts.items ≡ inside.starts.items = c.in_ok-starts.ensures.items ∙ c.deref-2.ensures.value in
+    let same_sets : c.in_ok-sets.sets.items ≡ inside.sets.items = c.in_ok-sets.ensures.items ∙ c.deref.ensures.value in
+    let same_nexts : c.in_ok-nexts.nexts.items ≡ inside.nexts.items = c.in_ok-nexts.ensures.items ∙ c.deref-2.ensures.value in
+    let same_starts : c.in_ok-starts.starts.items ≡ inside.starts.items = c.in_ok-starts.ensures.items ∙ c.deref-3.ensures.value in
     let count : c.in-Some.index_count ≡ m.index_count * 2 = c.in-Some.ensures.1 ∙ ap (λ (o : Machine). o.index_count * 2) c.self.view_is in
-    let value : machine inside.nexts.items c.loop-s.states.items inside.starts.items (m.index_count * 2) ≡ c.from_parts.result =
-    rw (sym same_nexts, sym same_starts, sym count) (sym c.from_parts.ensures) in
-    let len : length c.loop-s.states.items ≡ length m.states = omega (arith, inv.len, ap size c.self.view_is, length-map inside.states.items (of_state inside.nexts.items)) in
-    all_decisions m c.from_parts.result inside.nexts.items c.loop-s.states.items inside.starts.items value
+    let value : machine inside.sets.items inside.nexts.items c.loop-s.states.items inside.starts.items (m.index_count * 2) ≡ c.from_parts.result =
+    rw (sym same_sets, sym same_nexts, sym same_starts, sym count) (sym c.from_parts.ensures) in
+    let len : length c.loop-s.states.items ≡ length m.states = omega (arith, inv.len, ap size c.self.view_is, length-map inside.states.items (of_state inside.sets.items inside.nexts.items)) in
+    all_decisions m c.from_parts.result inside.sets.items inside.nexts.items c.loop-s.states.items inside.starts.items value
     (ap (λ (o : Machine). o.starts) c.self.view_is) len (λ s lt. inv.states s (omega (arith, inv.len)))
     (subst (λ (o : Machine). (s : ℕ) → NamesBelow o.index_count (state o.states s)) c.self.view_is c.self.invariant.named)

@@ -1,45 +1,64 @@
-use Rattle.std.proofs.Common.{◌≡◌, ◌++◌, length, arith, ap, ◌∙◌, sym}
-use Rattle.std.proofs.lemmas.List.{length-map, length-append}
+use Rattle.std.proofs.Common.{◌∷◌, [], ◌<◌, length, arith, ap, sym}
+use Rattle.std.proofs.lemmas.List.{append-nil, length-map}
 use Rattle.byte_automaton.specs.Steps.{stays}
 use Rattle.byte_automaton.specs.Runs.{size}
 use Rattle.byte_automaton.specs.inner.Views.{of_state}
 use Rattle.byte_automaton.specs.declared.state.State.TheVariants.{Stays}
-use Rattle.byte_automaton.proofs.lemmas.Pushing.{stays_last, sound_more, sound_with, pushes_with, machine_more, on_err}
+use Rattle.byte_automaton.proofs.lemmas.Pushing.{sound_more, sound_with, pushes_with, machine_more, one_below, on_err}
 use Rattle.byte_automaton.proofs.builder.Builder.push_stay.Goals as goal
+
+pub invariant_of-self : goal.invariant_of-self
+invariant_of-self c =
+    let inside = c.self.inside in
+    let nexts = inside.nexts.items in
+    let more = c.in_err-set.ensures.more in
+    sound_more c.args.self.now inside.sets.items c.hold_set.new.sets.items more.0 nexts nexts [] more.1 (sym (append-nil nexts))
+    inside.states.items inside.starts.items inside.index_count c.self.view_is c.self.invariant
+
+pub returns-in_err-set-clause-unchanged : goal.returns-in_err-set-clause-unchanged
+returns-in_err-set-clause-unchanged c =
+    let inside = c.self.inside in
+    let nexts = inside.nexts.items in
+    let more = c.in_err-set.ensures.more in
+    on_err c.from_residual.result (machine_more c.args.self.now inside.sets.items c.hold_set.new.sets.items more.0 nexts nexts [] more.1 (sym (append-nil nexts))
+    inside.states.items inside.starts.items inside.index_count c.self.view_is c.self.invariant)
 
 pub invariant_of-self-in_err-push : goal.invariant_of-self-in_err-push
 invariant_of-self-in_err-push c =
-    rw (c.in_err-push.ensures.items, c.in_ok-from.ensures.items)
-    (sound_more c.self.inside.nexts.items c.args.nexts.now c.self.inside.states.items c.self.inside.starts.items c.self.inside.index_count c.self.invariant)
+    let inside = c.self.inside in
+    let nexts = inside.nexts.items in
+    let more = c.in_ok-set.ensures.more in
+    rw c.in_err-push.ensures.items (sound_more c.args.self.now inside.sets.items c.hold_set.new.sets.items more.0 nexts nexts [] more.1 (sym (append-nil nexts))
+    inside.states.items inside.starts.items inside.index_count c.self.view_is c.self.invariant)
 
 pub returns-in_err-push-clause-unchanged : goal.returns-in_err-push-clause-unchanged
 returns-in_err-push-clause-unchanged c =
-    on_err c.from_residual-in_err-push.result (rw (c.in_err-push.ensures.items, c.in_ok-from.ensures.items)
-    (machine_more c.args.self.now c.self.inside.nexts.items c.args.nexts.now c.self.inside.states.items c.self.inside.starts.items c.self.inside.index_count c.self.view_is c.self.invariant.held))
+    let inside = c.self.inside in
+    let nexts = inside.nexts.items in
+    let more = c.in_ok-set.ensures.more in
+    on_err c.from_residual-in_err-push.result (rw c.in_err-push.ensures.items (machine_more c.args.self.now inside.sets.items c.hold_set.new.sets.items more.0 nexts nexts [] more.1 (sym (append-nil nexts))
+    inside.states.items inside.starts.items inside.index_count c.self.view_is c.self.invariant))
 
 pub invariant_of-self-2 : goal.invariant_of-self-2
 invariant_of-self-2 c =
-    let nexts = c.self.inside.nexts.items in
-    let states = c.self.inside.states.items in
-    let more = c.args.nexts.now in
-    let range = c.in_ok-from.ensures.range in
-    let from : c.in_ok-from.from ≡ length nexts = range.0 in
-    let to : c.in_ok-from.to ≡ length (nexts ++ more) = range.1 ∙ ap length c.in_ok-from.ensures.items in
-    let count : size c.args.self.now ≡ length states = sym (ap size c.self.view_is) ∙ length-map states (of_state nexts) in
-    rw (c.in_ok-push.ensures.items, c.in_ok-from.ensures.items)
-    (sound_with nexts more states (Stays c.args.bytes c.in_ok-from.from c.in_ok-from.to) (stays c.args.bytes c.args.nexts.now) c.self.inside.starts.items c.self.inside.index_count c.self.invariant
-    (stays_last c.args.bytes nexts c.args.nexts.now c.in_ok-from.from c.in_ok-from.to from to)
-    (omega (arith, length-append nexts more), omega arith)
-    (λ i lt. let below = c.requires i lt in omega arith)
-    tt)
+    let inside = c.self.inside in
+    let nexts = inside.nexts.items in
+    let states = inside.states.items in
+    let more = c.in_ok-set.ensures.more in
+    let held = c.in_ok-set.ensures.held in
+    let lt : c.args.exit < length states = omega (arith, c.requires, ap size c.self.view_is, length-map states (of_state inside.sets.items nexts)) in
+    rw c.in_ok-push.ensures.items (sound_with c.args.self.now inside.sets.items c.hold_set.new.sets.items more.0 nexts nexts [] more.1 (sym (append-nil nexts))
+    states inside.starts.items inside.index_count c.self.view_is c.self.invariant
+    (Stays c.in_ok-set.set c.args.exit) (stays c.args.bytes (c.args.exit ∷ [])) (ap (λ w. stays w (c.args.exit ∷ [])) held.1)
+    held.0 (one_below c.args.exit (length states) lt) tt)
 
 pub returns-clause-pushed : goal.returns-clause-pushed
 returns-clause-pushed c =
-    let nexts = c.self.inside.nexts.items in
-    let states = c.self.inside.states.items in
-    let more = c.args.nexts.now in
-    let range = c.in_ok-from.ensures.range in
-    let to : c.in_ok-from.to ≡ length (nexts ++ more) = range.1 ∙ ap length c.in_ok-from.ensures.items in
-    rw (c.in_ok-push.ensures.items, c.in_ok-from.ensures.items)
-    (pushes_with c.args.self.now nexts more states (Stays c.args.bytes c.in_ok-from.from c.in_ok-from.to) (stays c.args.bytes c.args.nexts.now) c.self.inside.starts.items c.self.inside.index_count c.len-at.result
-    c.self.view_is c.self.invariant.held (stays_last c.args.bytes nexts c.args.nexts.now c.in_ok-from.from c.in_ok-from.to range.0 to) (omega (arith, c.len-at.ensures, c.self.inside.states.ok.0)))
+    let inside = c.self.inside in
+    let nexts = inside.nexts.items in
+    let more = c.in_ok-set.ensures.more in
+    let held = c.in_ok-set.ensures.held in
+    rw c.in_ok-push.ensures.items (pushes_with c.args.self.now inside.sets.items c.hold_set.new.sets.items more.0 nexts nexts [] more.1 (sym (append-nil nexts))
+    inside.states.items inside.starts.items inside.index_count c.self.view_is c.self.invariant
+    (Stays c.in_ok-set.set c.args.exit) (stays c.args.bytes (c.args.exit ∷ [])) (ap (λ w. stays w (c.args.exit ∷ [])) held.1)
+    c.len-at.result (omega (arith, c.len-at.ensures, inside.states.ok.0)))
