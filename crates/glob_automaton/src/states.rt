@@ -79,7 +79,7 @@ fn add_to_slash(builder: &mut Builder, exit: usize) -> Result<usize, AllocError>
     ensures builds { IfOk result (λ s. BuildsToSlash builder.old.states builder.new.states s exit) }
 {
     let slash = builder.push_read(ByteSet::only(b'/'), exit)?;
-    let stay = builder.push_stay(ByteSet::everything(), &[slash])?;
+    let stay = builder.push_stay(ByteSet::everything(), slash)?;
     let start = builder.push_skip(&[exit, stay])?;
     Ok(start)
 }
@@ -123,10 +123,10 @@ pub fn add_token(
             add_text(builder, options, text.as_bytes(), exit)
         }
         Token::Any => add_any(builder, options, exit),
-        Token::ZeroOrMore => builder.push_stay(wild_bytes(options), &[exit]),
+        Token::ZeroOrMore => builder.push_stay(wild_bytes(options), exit),
         Token::RecursivePrefix => add_to_slash(builder, exit),
         Token::RecursiveSuffix => {
-            let rest = builder.push_stay(ByteSet::everything(), &[exit])?;
+            let rest = builder.push_stay(ByteSet::everything(), exit)?;
             builder.push_read(ByteSet::only(b'/'), rest)
         }
         Token::RecursiveZeroOrMore => {

@@ -50,7 +50,7 @@ fn add_whole(
 {
     let end = builder.push_end(index)?;
     if is_prefix_alone(tokens) {
-        let every = builder.push_stay(ByteSet::everything(), &[end])?;
+        let every = builder.push_stay(ByteSet::everything(), end)?;
         Ok(every)
     } else {
         let start = add_sequence(alloc, builder, options, tokens, end)?;
