@@ -15,3 +15,5 @@ pub mod IndexSets
 pub mod Summaries
 pub mod LastBytes
 pub mod Spans
+pub mod WordSets
+pub mod WordPass

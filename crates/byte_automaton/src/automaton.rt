@@ -11,6 +11,7 @@ ghost use Rattle.byte_automaton.specs.inner.Views.{AreSound, GoesBelow, machine}
 ghost use Rattle.byte_automaton.specs.inner.Pass.{goes_now, goes_next, names, EndsBy};
 
 mod forcing;
+mod in_word;
 mod parts;
 mod passes;
 mod spans;

@@ -14,6 +14,7 @@ mod run;
 mod state;
 mod state_set;
 mod state_sets;
+mod word_set;
 mod words;
 
 pub use automaton::Automaton;

@@ -6,9 +6,12 @@ ghost use Rattle.byte_automaton.specs.Steps.{Accepts, IsReached};
 ghost use Rattle.byte_automaton.specs.Runs.{size, AcceptsFrom};
 ghost use Rattle.byte_automaton.specs.Spans.{IsSpan, IsWithin};
 
+mod in_word;
+
 use crate::automaton::Automaton;
 use crate::index_set::IndexSet;
 use crate::state_sets::StateSets;
+use crate::word_set::WORD_STATES;
 use std::mem::swap;
 use visits::Visits;
 
@@ -89,6 +92,10 @@ impl Automaton {
         ensures visits { (width : ℕ) → span.start < span.low + width → visits.new ≤ visits.old + (length text.now + 1) * width }
     {
         let _states = self.state_count();
+        if span.start - span.low < WORD_STATES {
+            self.find_in_word(span, text, into, visits);
+            return;
+        }
         if !self.run_over(span, text, sets, visits) {
             return;
         }
@@ -114,6 +121,9 @@ impl Automaton {
         ensures visits { (width : ℕ) → span.start < span.low + width → visits.new ≤ visits.old + (length text.now + 1) * width }
     {
         let _states = self.state_count();
+        if span.start - span.low < WORD_STATES {
+            return self.is_match_in_word(span, text, visits);
+        }
         if !self.run_over(span, text, sets, visits) {
             return false;
         }

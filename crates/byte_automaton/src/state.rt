@@ -12,6 +12,8 @@ ghost use Rattle.byte_automaton.specs.inner.Exits.{StaysBefore};
 ghost use Rattle.byte_automaton.specs.inner.Views.{set_at, exits_at, of_state, IsHeld, GoesBelow};
 ghost use Rattle.byte_automaton.specs.inner.Pass.{goes_now, goes_next, names, EndsBy};
 
+mod in_word;
+
 use crate::byte_set::ByteSet;
 use crate::byte_steps::ByteSteps;
 use crate::state_set::StateSet;

@@ -9,7 +9,7 @@ use Rattle.byte_automaton.specs.Parts.{AreFrom, GoesFrom}
 use Rattle.byte_automaton.specs.Runs.{size, AcceptsBelow, AcceptsFrom}
 use Rattle.byte_automaton.specs.Spans.{IsWithin}
 use Rattle.byte_automaton.specs.inner.Views.{GoesBelow}
-use Rattle.byte_automaton.specs.inner.Pass.{is_listed, goes_now, goes_next, Holds}
+use Rattle.byte_automaton.specs.inner.Pass.{is_listed, goes_now, goes_next, Alive, Holds}
 use Rattle.byte_automaton.proofs.lemmas.Pass.{and_second, or_first}
 use Rattle.byte_automaton.specs.declared.state_set.StateSet.{StateSet}
 
@@ -95,11 +95,11 @@ pub one_put : (start : ℕ) (cleared put : ℕ → Bool) → ((t : ℕ) → clea
 one_put start cleared put none has t = has t ∙ ap (λ q. (t == start) || q) (none t)
 
 -- the last state of a span alone is in the set
-pub one_accepts : (m : Machine) (start : ℕ) (set : StateSet) → start < size m → ((t : ℕ) → has_state set t ≡ ((t == start) || false)) → (y : List ℕ) (k : ℕ)
-    → Accepts m.states k start y ↔ AcceptsFrom m set y k
-one_accepts m start set lt is y k = (λ h. (start, lt, is start ∙ or_first (start == start) false (eq-eqb start start refl), h), back)
+pub one_accepts : (m : Machine) (start : ℕ) (has : ℕ → Bool) → start < size m → ((t : ℕ) → has t ≡ ((t == start) || false)) → (y : List ℕ) (k : ℕ)
+    → Accepts m.states k start y ↔ Alive m.states has (size m) y k
+one_accepts m start has lt is y k = (λ h. (start, lt, is start ∙ or_first (start == start) false (eq-eqb start start refl), h), back)
   where
-    back : AcceptsFrom m set y k → Accepts m.states k start y
+    back : Alive m.states has (size m) y k → Accepts m.states k start y
     back (t, less, at, h) = ⊎_elim {C = Accepts m.states k start y}
         (λ same. let is_start : t ≡ start = eqb-true t start same in subst (λ s. Accepts m.states k s y) is_start h)
         (λ no. absurd (true≢false (sym no)))

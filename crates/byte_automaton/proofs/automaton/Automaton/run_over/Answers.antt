@@ -14,7 +14,7 @@ loop-byte-init c =
       room = ap (λ n. min n (min (state_room c.args.sets.now.next) (index_room c.args.sets.now.starts))) (c.put.ensures.room ∙ c.clear.ensures.room);
       starts = refl;
       within = one_within c.args.span.low start c.put.new.self c.requires.span.order is;
-      accepts = λ k. one_accepts c.args.self.now start c.put.new.self c.requires.span.exists is c.args.text.now k;
+      accepts = λ k. one_accepts c.args.self.now start (has_state c.put.new.self) c.requires.span.exists is c.args.text.now k;
       visits = λ width lt. omega arith;
     }
 
