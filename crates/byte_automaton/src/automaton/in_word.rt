@@ -32,7 +32,7 @@ impl Automaton {
         ensures from { (t : ℕ) → has_in_word from.new t ≡ (goes_now (state self.now.states s) t || has_in_word from.old t) }
         ensures to { (t : ℕ) → has_in_word to.new t ≡ (goes_next (state self.now.states s) s (Some byte) t || has_in_word to.old t) }
     {
-        self.states[s].take_steps_in_word(s, &self.nexts, byte, from, to);
+        self.states[s].take_steps_in_word(s, &self.sets, &self.nexts, byte, from, to);
     }
 
     /// Takes the steps of a state of `from` at the end of a text: puts into `from` what it goes on to without a byte.

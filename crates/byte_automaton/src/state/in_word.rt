@@ -1,13 +1,15 @@
 //! Steps of a state where the sets of states are words.
 
-ghost use Rattle.std.specs.Prelude.{◌≡◌, ℕ, ◌+◌, ◌<◌, ◌≤◌, ◌||◌, length, false, Some, None, MatchOption};
+ghost use Rattle.std.specs.Prelude.{◌≡◌, ℕ, ◌+◌, ◌<◌, ◌≤◌, ◌||◌, List, false, Some, None, MatchOption};
 ghost use Rattle.byte_automaton.specs.Steps.{final};
+ghost use Rattle.byte_automaton.specs.declared.byte_set.ByteSet.{ByteSet};
 ghost use Rattle.byte_automaton.specs.Parts.{GoesFrom};
 ghost use Rattle.byte_automaton.specs.inner.Views.{of_state, IsHeld, GoesBelow};
 ghost use Rattle.byte_automaton.specs.inner.Pass.{goes_now, goes_next, names};
 ghost use Rattle.byte_automaton.specs.inner.WordSets.{has_in_word};
 
-use crate::state::State;
+use crate::byte_set::ByteSet;
+use crate::state::{State, exits_of, set_of};
 use crate::word_set::WordSet;
 
 impl State {
@@ -16,32 +18,33 @@ impl State {
     pub fn take_steps_in_word(
         &self,
         s: usize,
+        sets: &[ByteSet],
         nexts: &[usize],
         byte: u8,
         from: &mut WordSet,
         to: &mut WordSet,
     )
-        requires held { IsHeld (length nexts.now) self.now }
-        requires below { GoesBelow s (of_state nexts.now self.now) }
-        requires above { GoesFrom from.old.low (of_state nexts.now self.now) }
+        requires held { IsHeld sets.now nexts.now self.now }
+        requires below { GoesBelow s (of_state sets.now nexts.now self.now) }
+        requires above { GoesFrom from.old.low (of_state sets.now nexts.now self.now) }
         requires order { from.old.low ≤ s }
         requires within { s < from.old.low + 64 }
         requires low { to.old.low ≡ from.old.low }
         ensures from_low { from.new.low ≡ from.old.low }
         ensures to_low { to.new.low ≡ to.old.low }
-        ensures from { (t : ℕ) → has_in_word from.new t ≡ (goes_now (of_state nexts.now self.now) t || has_in_word from.old t) }
-        ensures to { (t : ℕ) → has_in_word to.new t ≡ (goes_next (of_state nexts.now self.now) s (Some byte) t || has_in_word to.old t) }
+        ensures from { (t : ℕ) → has_in_word from.new t ≡ (goes_now (of_state sets.now nexts.now self.now) t || has_in_word from.old t) }
+        ensures to { (t : ℕ) → has_in_word to.new t ≡ (goes_next (of_state sets.now nexts.now self.now) s (Some byte) t || has_in_word to.old t) }
     {
         match self {
-            State::Reads(bytes, next) => {
-                if bytes.has(byte) {
+            State::Reads(set, next) => {
+                if set_of(sets, *set).has(byte) {
                     to.put(*next);
                 }
             }
-            State::Skips(i, j) => from.put_all(&nexts[*i..*j]),
-            State::Stays(bytes, i, j) => {
-                from.put_all(&nexts[*i..*j]);
-                if bytes.has(byte) {
+            State::Skips(at) => from.put_all(exits_of(nexts, *at)),
+            State::Stays(set, exit) => {
+                from.put(*exit);
+                if set_of(sets, *set).has(byte) {
                     to.put(s);
                 }
             }
@@ -52,22 +55,20 @@ impl State {
     /// Takes the steps of a state at the end of the text: puts into `from` what it goes on to without a byte. Returns its index
     /// if it is an end.
     pub fn leave_in_word(&self, s: usize, nexts: &[usize], from: &mut WordSet) -> Option<usize>
-        requires held { IsHeld (length nexts.now) self.now }
-        requires below { GoesBelow s (of_state nexts.now self.now) }
-        requires above { GoesFrom from.old.low (of_state nexts.now self.now) }
+        requires below { (sets : List ByteSet) × IsHeld sets nexts.now self.now × GoesBelow s (of_state sets nexts.now self.now) × GoesFrom from.old.low (of_state sets nexts.now self.now) }
         requires within { s < from.old.low + 64 }
         ensures low { from.new.low ≡ from.old.low }
-        ensures from { (t : ℕ) → has_in_word from.new t ≡ (goes_now (of_state nexts.now self.now) t || has_in_word from.old t) }
-        ensures end { MatchOption result ((k : ℕ) → names (of_state nexts.now self.now) None k ≡ false) (λ k. of_state nexts.now self.now ≡ final k) }
+        ensures from { (sets : List ByteSet) (t : ℕ) → has_in_word from.new t ≡ (goes_now (of_state sets nexts.now self.now) t || has_in_word from.old t) }
+        ensures end { (sets : List ByteSet) → MatchOption result ((k : ℕ) → names (of_state sets nexts.now self.now) None k ≡ false) (λ k. of_state sets nexts.now self.now ≡ final k) }
     {
         match self {
             State::Reads(_, _) => None,
-            State::Skips(i, j) => {
-                from.put_all(&nexts[*i..*j]);
+            State::Skips(at) => {
+                from.put_all(exits_of(nexts, *at));
                 None
             }
-            State::Stays(_, i, j) => {
-                from.put_all(&nexts[*i..*j]);
+            State::Stays(_, exit) => {
+                from.put(*exit);
                 None
             }
             State::End(index) => Some(*index),

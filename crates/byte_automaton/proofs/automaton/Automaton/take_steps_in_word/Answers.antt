@@ -8,22 +8,25 @@ use Rattle.byte_automaton.proofs.automaton.Automaton.take_steps_in_word.Goals as
 
 pub take_steps_in_word-requires-clause-held : goal.take_steps_in_word-requires-clause-held
 take_steps_in_word-requires-clause-held c =
+    let sets = c.self.inside.sets.items in
     let nexts = c.self.inside.nexts.items in
     let states = c.self.inside.states.items in
-    let lt : c.args.s < length states = omega (arith, c.requires.exists, ap size c.self.view_is, length-map states (of_state nexts)) in
-    rw c.deref.ensures.value (held_at (length nexts) states c.args.s c.index.result.now c.self.invariant.held lt c.index.ensures)
+    let lt : c.args.s < length states = omega (arith, c.requires.exists, ap size c.self.view_is, length-map states (of_state sets nexts)) in
+    rw (c.deref.ensures.value, c.deref-2.ensures.value) (held_at sets nexts states c.args.s c.index.result.now c.self.invariant.held lt c.index.ensures)
 
 pub take_steps_in_word-requires-clause-below : goal.take_steps_in_word-requires-clause-below
 take_steps_in_word-requires-clause-below c =
+    let sets = c.self.inside.sets.items in
     let nexts = c.self.inside.nexts.items in
     let states = c.self.inside.states.items in
-    let lt : c.args.s < length states = omega (arith, c.requires.exists, ap size c.self.view_is, length-map states (of_state nexts)) in
-    rw c.deref.ensures.value (subst (GoesBelow c.args.s) (state_at nexts states c.args.s c.index.result.now lt c.index.ensures) (c.self.invariant.down c.args.s))
+    let lt : c.args.s < length states = omega (arith, c.requires.exists, ap size c.self.view_is, length-map states (of_state sets nexts)) in
+    rw (c.deref.ensures.value, c.deref-2.ensures.value) (subst (GoesBelow c.args.s) (state_at sets nexts states c.args.s c.index.result.now lt c.index.ensures) (c.self.invariant.down c.args.s))
 
 pub take_steps_in_word-requires-clause-above : goal.take_steps_in_word-requires-clause-above
 take_steps_in_word-requires-clause-above c =
+    let sets = c.self.inside.sets.items in
     let nexts = c.self.inside.nexts.items in
     let states = c.self.inside.states.items in
-    let lt : c.args.s < length states = omega (arith, c.requires.exists, ap size c.self.view_is, length-map states (of_state nexts)) in
-    let is = read_state c.args.self.now nexts states c.self.inside.starts.items c.self.inside.index_count c.args.s c.index.result.now c.self.view_is lt c.index.ensures in
-    rw c.deref.ensures.value (subst (GoesFrom c.args.from.now.low) is c.requires.above)
+    let lt : c.args.s < length states = omega (arith, c.requires.exists, ap size c.self.view_is, length-map states (of_state sets nexts)) in
+    let is = read_state c.args.self.now sets nexts states c.self.inside.starts.items c.self.inside.index_count c.args.s c.index.result.now c.self.view_is lt c.index.ensures in
+    rw (c.deref.ensures.value, c.deref-2.ensures.value) (subst (GoesFrom c.args.from.now.low) is c.requires.above)
