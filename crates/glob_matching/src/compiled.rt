@@ -20,7 +20,8 @@ use visits::Visits;
 enum Form {
     Whole(Automaton),
     Divided(Parts),
-    Filtered(Filtered),
+    /// It is twice as large as the others, and few sets have one.
+    Filtered(Box<Filtered>),
 }
 
 /// An automaton as it is run, in parts that are deterministic where they are not too large: running these takes less time for
@@ -86,7 +87,7 @@ impl Compiled {
         }
         match filter_for(alloc, &automaton)? {
             Some(filter) => Ok(Compiled {
-                form: Form::Filtered(Filtered::of(automaton, filter)),
+                form: Form::Filtered(Box::new(alloc, Filtered::of(automaton, filter))?),
             }),
             None => Compiled::divided(alloc, budget, automaton),
         }
