@@ -15,6 +15,7 @@ ghost use Rattle.glob_text.specs.Means.{GlobValue, tokens_of_glob, glob_means};
 
 use crate::builder::GlobBuilder;
 use crate::matcher::GlobMatcher;
+use glob_matching::DEFAULT_DFA_SIZE_LIMIT;
 use glob_syntax::{Options, Token, copy_of};
 use glob_text::{Error, regex_of_tokens, tokens_of_text};
 use std::alloc::{AllocError, Global};
@@ -151,18 +152,29 @@ impl Glob {
         ensures ok { IfOk result (λ m. m ≡ self.now) }
         ensures err { IfErr result (λ e. e ≡ out_of_memory) }
     {
-        GlobMatcher::new(self.clone()?)
+        self.compile_matcher_with_limit(DEFAULT_DFA_SIZE_LIMIT)
     }
 
-    /// Returns a matcher for an equal glob, whose automaton is simulated. Returns an error if memory runs out.
+    /// Returns a matcher for an equal glob, as [`Glob::compile_matcher`] does, with a deterministic automaton that takes at most
+    /// `dfa_size_limit` bytes. Returns an error if memory runs out.
     ///
-    /// It is for tests, which compare it with the other matcher.
-    #[doc(hidden)]
-    pub fn compile_simulated(&self) -> Result<GlobMatcher, Error>
+    /// The limit is for memory and time, and changes no answer. With a limit of 0 no deterministic automaton is tried, which is the
+    /// least time and memory for a matcher that is asked about few paths; each path then takes as many steps for each of its bytes
+    /// as the automaton is in states, and the calls without a scratch take memory, as they do wherever the deterministic automaton
+    /// was given up. A glob whose literals decide alone has no automaton.
+    ///
+    /// ```rust
+    /// use globset::Glob;
+    ///
+    /// let glob = Glob::new(alloc, "src/**/*.rs")?;
+    /// let matcher = glob.compile_matcher_with_limit(0)?;
+    /// assert!(rt; matcher.is_match("src/a/lib.rs")? && !matcher.is_match("src/a/lib.c")?);
+    /// ```
+    pub fn compile_matcher_with_limit(&self, dfa_size_limit: usize) -> Result<GlobMatcher, Error>
         ensures ok { IfOk result (λ m. m ≡ self.now) }
         ensures err { IfErr result (λ e. e ≡ out_of_memory) }
     {
-        GlobMatcher::simulated(self.clone()?)
+        GlobMatcher::new(self.clone()?, dfa_size_limit)
     }
 }
 
