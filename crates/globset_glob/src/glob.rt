@@ -155,13 +155,14 @@ impl Glob {
         self.compile_matcher_with_limit(DEFAULT_DFA_SIZE_LIMIT)
     }
 
-    /// Returns a matcher for an equal glob, as [`Glob::compile_matcher`] does, with a deterministic automaton that takes at most
-    /// `dfa_size_limit` bytes. Returns an error if memory runs out.
+    /// Returns a matcher for an equal glob, as [`Glob::compile_matcher`] does, with a deterministic automaton of at most
+    /// `dfa_size_limit` bytes, or none. Returns an error if memory runs out.
     ///
-    /// The limit is for memory and time, and changes no answer. With a limit of 0 no deterministic automaton is tried, which is the
-    /// least time and memory for a matcher that is asked about few paths; each path then takes as many steps for each of its bytes
-    /// as the automaton is in states, and the calls without a scratch take memory, as they do wherever the deterministic automaton
-    /// was given up. A glob whose literals decide alone has no automaton.
+    /// The limit is for memory and time, and changes no answer. With 0 no deterministic automaton is tried: the matcher takes the
+    /// least time and memory to make, and then for each byte of a path as many steps as its automaton is in states, and memory for
+    /// each path in the calls without a scratch. The same holds where the deterministic automaton is given up. A glob whose literals
+    /// decide alone has no automaton, whatever the limit is. The limit of [`Glob::compile_matcher`] is
+    /// [`DEFAULT_DFA_SIZE_LIMIT`].
     ///
     /// ```rust
     /// use globset::Glob;
