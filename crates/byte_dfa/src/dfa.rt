@@ -13,6 +13,7 @@ use crate::source::Source;
 use byte_automaton::{Automaton, ByteSet, IndexSet};
 use std::alloc::{AllocError, Global};
 use std::marker::Model;
+use std::mem;
 use visits::Visits;
 
 /// A deterministic automaton: a table that says for each state and byte which state is next.
@@ -119,6 +120,18 @@ impl Dfa {
         ensures { result ≡ self.now.size }
     {
         self.table.len() + self.lists.len()
+    }
+
+    /// Returns how many bytes it takes, with the room that its table and its lists have for more numbers.
+    pub fn bytes(&self) -> usize {
+        let table = self.table.capacity().saturating_mul(mem::size_of::<u32>());
+        let lists = self
+            .lists
+            .capacity()
+            .saturating_mul(mem::size_of::<usize>());
+        mem::size_of::<Dfa>()
+            .saturating_add(table)
+            .saturating_add(lists)
     }
 
     /// Puts the index of each end that a text leads to into a set, beside what it holds.

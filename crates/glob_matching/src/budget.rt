@@ -1,51 +1,76 @@
-//! How many numbers deterministic automata may have.
+//! How much the tables of deterministic automata may take.
 
-use crate::engine::Engine;
+use byte_dfa::Dfa;
 
-/// The most numbers of all parts, with those that are given up.
+/// The most bytes that the tables of deterministic automata take, unless another limit is set: 16 MiB.
+pub const DEFAULT_DFA_SIZE_LIMIT: usize = 1 << 24;
+
+/// The most numbers that are made for tables, with those of tables that are given up, however few bytes may be kept.
 const MOST_NUMBERS: usize = 1 << 22;
+
+/// The bytes that a number of a table takes. One of a list takes more.
+const BYTES_PER_NUMBER: usize = 4;
 
 /// The most parts that are tried. With so many automata that each has few globs, such as one for each extension, few are run for
 /// a path, and simulating those takes less time than making a table for each.
 const MOST_PARTS: usize = 512;
 
-/// What the deterministic parts of all automata of a set may still take together, with those that are given up.
+/// What the deterministic parts of all automata of a set may still take together.
 #[derive(Clone, Copy)]
 pub struct Budget {
-    engine: Engine,
+    simulates_all: bool,
+    /// The bytes that tables may still take.
+    bytes: usize,
+    /// The numbers that may still be made, with those of tables that are given up: making one of these takes as long as making
+    /// one that is kept.
     numbers: usize,
     parts: usize,
 }
 
 impl Budget {
-    /// Returns the budget of a set whose automata this engine runs.
-    pub fn new(engine: Engine) -> Budget {
+    /// Returns the budget of a set whose tables may take so many bytes together. If these are none, all states are simulated, and
+    /// together.
+    pub fn new(dfa_size_limit: usize) -> Budget {
         Budget {
-            engine,
-            numbers: match engine {
-                Engine::Deterministic => MOST_NUMBERS,
-                Engine::Simulated => 0,
-            },
+            simulates_all: dfa_size_limit == 0,
+            bytes: dfa_size_limit,
+            numbers: MOST_NUMBERS.max(dfa_size_limit / BYTES_PER_NUMBER),
             parts: MOST_PARTS,
         }
     }
 
     /// Returns whether all states are to be simulated, and together.
     pub(crate) fn simulates_all(self) -> bool {
-        matches!(self.engine, Engine::Simulated)
+        self.simulates_all
     }
 
-    /// Returns whether a part of so many numbers may be tried.
-    pub(crate) fn allows(self, numbers: usize) -> bool {
-        self.parts > 0 && numbers <= self.numbers
+    /// Returns how many numbers a part may have that has at most so many by itself, or 0 if it may not be tried.
+    pub(crate) fn most_numbers(self, numbers: usize) -> usize {
+        if self.parts == 0 || numbers > self.numbers {
+            return 0;
+        }
+        numbers.min(self.bytes / BYTES_PER_NUMBER)
     }
 
-    /// Returns what is left after a part of so many numbers.
-    pub(crate) fn after(self, numbers: usize) -> Budget {
+    /// Returns whether a table may be kept.
+    pub(crate) fn allows(self, table: &Dfa) -> bool {
+        table.bytes() <= self.bytes
+    }
+
+    /// Returns what is left after a part whose table is kept.
+    pub(crate) fn after(self, table: &Dfa) -> Budget {
         Budget {
-            engine: self.engine,
+            bytes: self.bytes.saturating_sub(table.bytes()),
+            ..self.after_trying(table.size())
+        }
+    }
+
+    /// Returns what is left after a part of so many numbers was given up.
+    pub(crate) fn after_trying(self, numbers: usize) -> Budget {
+        Budget {
             numbers: self.numbers.saturating_sub(numbers),
             parts: self.parts.saturating_sub(1),
+            ..self
         }
     }
 }

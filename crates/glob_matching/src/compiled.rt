@@ -20,7 +20,8 @@ use visits::Visits;
 enum Form {
     Whole(Automaton),
     Divided(Parts),
-    Filtered(Filtered),
+    /// It is twice as large as the others, and few sets have one.
+    Filtered(Box<Filtered>),
 }
 
 /// An automaton as it is run, in parts that are deterministic where they are not too large: running these takes less time for
@@ -64,11 +65,14 @@ impl Compiled {
     ///
     /// A part has the states from one start to another, and begins in as many starts as its limits allow. It has at most 2,048
     /// states. Its table and lists have at most `2^27 / states` numbers, and 96 for each state and 2,048 more; if it has one
-    /// start, 512 for each state and 40,960 in all. To find one of them may take reading each state of the part. At most 2^22
-    /// numbers are made for all parts of a set, with those of parts that are given up because they would have more, and at most
-    /// 512 parts are tried. What cannot be made deterministic within these limits is simulated. An automaton of more than 64
-    /// starts that is not deterministic as a whole is not divided: a filter names the starts that are run. So it takes time and
-    /// memory linear in the states, up to the factors of these limits.
+    /// start, 512 for each state and 40,960 in all. To find one of them may take reading each state of the part. The parts of a
+    /// set take at most the bytes of the budget. At most 2^22 numbers are made for them, or one for each 4 bytes of the budget if
+    /// these are more, with those of parts that are given up because they would have more, and at most 512 parts are tried. What
+    /// cannot be made deterministic within these limits is simulated. An automaton of more than 64 starts that is not
+    /// deterministic as a whole is not divided: a filter names the starts that are run. So it takes time and memory linear in the
+    /// states, up to the factors of these limits.
+    ///
+    /// With a budget of no bytes the automaton is simulated as a whole.
     pub fn new(
         alloc: Global,
         budget: &mut Budget,
@@ -86,7 +90,7 @@ impl Compiled {
         }
         match filter_for(alloc, &automaton)? {
             Some(filter) => Ok(Compiled {
-                form: Form::Filtered(Filtered::of(automaton, filter)),
+                form: Form::Filtered(Box::new(alloc, Filtered::of(automaton, filter))?),
             }),
             None => Compiled::divided(alloc, budget, automaton),
         }
@@ -125,6 +129,14 @@ impl Compiled {
             Form::Whole(automaton) => automaton.state_count(),
             Form::Divided(parts) => parts.state_count(),
             Form::Filtered(filtered) => filtered.state_count(),
+        }
+    }
+
+    /// Returns how many bytes the deterministic parts take. It takes time linear in their number.
+    pub fn table_bytes(&self) -> usize {
+        match &self.form {
+            Form::Divided(parts) => parts.table_bytes(),
+            Form::Whole(_) | Form::Filtered(_) => 0,
         }
     }
 

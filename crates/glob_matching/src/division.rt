@@ -183,8 +183,8 @@ impl Division {
         Ok(None)
     }
 
-    /// Returns a deterministic automaton of the states from `low` on and below `high`, of at most `most` numbers, if there
-    /// is room for so many.
+    /// Returns a deterministic automaton of the states from `low` on and below `high`, of at most `most` numbers, if what may
+    /// still be made deterministic allows it.
     fn table_of(
         &mut self,
         alloc: Global,
@@ -199,19 +199,23 @@ impl Division {
         ensures tables { self.new.tables ≡ self.old.tables }
         ensures automata { self.new.automata ≡ self.old.automata }
     {
-        if low >= high || most == 0 || !self.left.allows(most) {
+        let most = self.left.most_numbers(most);
+        if low >= high || most == 0 {
             return Ok(None);
         }
         let Some(part) = automaton.part(low, high)? else {
             return Ok(None);
         };
-        let table = Dfa::new(alloc, &part, most)?;
-        // A table that was given up took as long to make as one that is kept.
-        self.left = self.left.after(match &table {
-            Some(table) => table.size(),
-            None => most,
-        });
-        Ok(table)
+        match Dfa::new(alloc, &part, most)? {
+            Some(table) if self.left.allows(&table) => {
+                self.left = self.left.after(&table);
+                Ok(Some(table))
+            }
+            _ => {
+                self.left = self.left.after_trying(most);
+                Ok(None)
+            }
+        }
     }
 
     /// Adds the deterministic part from `low` on and below `high`, and before it what lies between `from` and `low`. Returns

@@ -8,11 +8,9 @@
 mod budget;
 mod compiled;
 mod division;
-mod engine;
 mod filtered;
 mod parts;
 mod simulation;
 
-pub use budget::Budget;
+pub use budget::{Budget, DEFAULT_DFA_SIZE_LIMIT};
 pub use compiled::Compiled;
-pub use engine::Engine;

@@ -84,6 +84,15 @@ impl Parts {
         self.state_count
     }
 
+    /// Returns how many bytes the deterministic parts take. It takes time linear in their number.
+    pub fn table_bytes(&self) -> usize {
+        let mut bytes: usize = 0;
+        for table in &self.tables {
+            bytes = bytes.saturating_add(table.bytes());
+        }
+        bytes
+    }
+
     /// Puts the index of each end that a text leads to into a set, beside what it holds.
     ///
     /// It is at most `(text bytes + 1) * states` visits. It makes room in the sets of states for those of the largest part that is

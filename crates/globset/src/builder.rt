@@ -1,13 +1,14 @@
 //! Builders of sets.
 
 use crate::set::GlobSet;
-use globset_glob::{Error, Glob};
+use globset_glob::{DEFAULT_DFA_SIZE_LIMIT, Error, Glob};
 use std::alloc::{AllocError, Global};
 use std::marker::Model;
 
 /// Collects the globs of a set, in the order in which they are added.
 ///
-/// Contracts see the list of the globs.
+/// Contracts see the list of the globs. How much memory the tables of the set may take, which
+/// [`GlobSetBuilder::dfa_size_limit`] sets, changes no answer, and contracts do not see it.
 ///
 /// ```rust
 /// use globset::{Glob, GlobSetBuilder};
@@ -23,6 +24,7 @@ use std::marker::Model;
 #[derive(Debug, Drop)]
 pub struct GlobSetBuilder {
     pats: Vec<Glob>,
+    dfa_size_limit: usize,
 }
 
 impl Model for GlobSetBuilder {
@@ -46,7 +48,37 @@ impl GlobSetBuilder {
     {
         GlobSetBuilder {
             pats: Vec::new(alloc),
+            dfa_size_limit: DEFAULT_DFA_SIZE_LIMIT,
         }
+    }
+
+    /// Sets how many bytes the tables of deterministic automata may take, those of all automata of a set together. The default is
+    /// [`DEFAULT_DFA_SIZE_LIMIT`], 16 MiB.
+    ///
+    /// The limit is for memory and time, and changes no answer. Globs that need an automaton get a deterministic one, together with
+    /// others or alone, as far as the limit allows, and the time that it takes to make one. A run of it reads one entry of its
+    /// table for each byte of a path. The other globs are simulated: each byte of a path then takes as many steps as their automaton
+    /// is in states, and calls without a scratch take two bits of memory for each of its states. If more than 64 globs of an
+    /// automaton are simulated, a filter names the few that a path may match, where their texts allow one.
+    ///
+    /// With 0 there are no tables and no filters: the set takes the least time and memory to make, which is best for few paths. Memory
+    /// beside the tables has no limit: that of keys, states and filters is linear in the texts of the globs.
+    ///
+    /// ```rust
+    /// use globset::{Glob, GlobSetBuilder};
+    ///
+    /// let mut builder = GlobSetBuilder::new(alloc);
+    /// builder.add(Glob::new(alloc, "src/*.rs")?)?.dfa_size_limit(0);
+    /// let simulated = builder.build()?;
+    /// let set = builder.dfa_size_limit(1 << 20).build()?;
+    /// assert!(rt; set.is_match("src/lib.rs")? && simulated.is_match("src/lib.rs")?);
+    /// ```
+    pub fn dfa_size_limit(&mut self, bytes: usize) -> &mut GlobSetBuilder
+        ensures same_reference { result.ghost_name ≡ self.entry.ghost_name }
+        ensures globs { builder_globs result.now ≡ builder_globs self.old }
+    {
+        self.dfa_size_limit = bytes;
+        self
     }
 
     /// Adds a glob after the others, and returns the builder, so that calls can be chained.
@@ -103,11 +135,11 @@ impl GlobSetBuilder {
         ensures ok { IfOk result (λ s. set_globs s ≡ builder_globs self.now) }
         ensures err { IfErr result (λ e. e ≡ out_of_memory) }
     {
-        GlobSet::of_slice(*self.pats.allocator(), &self.pats)
+        GlobSet::of_slice(*self.pats.allocator(), self.dfa_size_limit, &self.pats)
     }
 
     /// Returns the set of the globs that were added, in order, and drops them: afterwards the builder has no globs, and can be
-    /// used again.
+    /// used again. It keeps the limit of [`GlobSetBuilder::dfa_size_limit`].
     ///
     /// It takes time and memory as [`GlobSetBuilder::build`] does, and gives the memory of the globs back.
     ///
@@ -129,19 +161,22 @@ impl GlobSetBuilder {
         ensures err { IfErr result (λ e. e ≡ out_of_memory) }
     {
         let alloc = *self.pats.allocator();
-        let set = GlobSet::of_slice(alloc, &self.pats)?;
+        let set = GlobSet::of_slice(alloc, self.dfa_size_limit, &self.pats)?;
         // The globs stay where they are until nothing can fail any more.
         self.pats = Vec::new(alloc);
         Ok(set)
     }
 
-    /// Returns an equal builder, with memory of its own. Returns an error if memory runs out, and no other.
+    /// Returns a builder of equal globs and the same limit, with memory of its own. Returns an error if memory runs out, and no other.
     pub fn clone(&self) -> Result<GlobSetBuilder, Error>
         ensures ok { IfOk result (λ b. b ≡ self.now) }
         ensures err { IfErr result (λ e. e ≡ out_of_memory) }
     {
         let pats = self.pats.clone()?;
-        Ok(GlobSetBuilder { pats })
+        Ok(GlobSetBuilder {
+            pats,
+            dfa_size_limit: self.dfa_size_limit,
+        })
     }
 }
 

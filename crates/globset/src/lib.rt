@@ -109,7 +109,7 @@ mod set;
 
 pub use builder::GlobSetBuilder;
 pub use globset_glob::{
-    AsPath, Candidate, Error, ErrorKind, Glob, GlobBuilder, GlobMatcher, MatcherScratch,
-    ValueError, ValueErrorKind, Visits, escape,
+    AsPath, Candidate, DEFAULT_DFA_SIZE_LIMIT, Error, ErrorKind, Glob, GlobBuilder, GlobMatcher,
+    MatcherScratch, ValueError, ValueErrorKind, Visits, escape,
 };
 pub use set::{GlobSet, Scratch};

@@ -18,7 +18,6 @@ mod value;
 mod with;
 
 use crate::builder::GlobSetBuilder;
-use glob_matching::Engine;
 use globset_glob::{Error, Glob};
 pub use scratch::Scratch;
 use std::alloc::{AllocError, Global};
@@ -161,26 +160,18 @@ impl GlobSet {
         })
     }
 
-    /// Returns the set of these globs, in order, whose automata are simulated. Returns an error if memory runs out, and no other.
-    ///
-    /// It is for tests, which compare it with the set that [`GlobSet::new`] returns.
-    #[doc(hidden)]
-    pub fn simulated(alloc: Global, globs: &[Glob]) -> Result<GlobSet, Error>
+    /// Returns the set of these globs, in order. The tables of deterministic automata take at most `dfa_size_limit` bytes. Returns an
+    /// error if memory runs out, and no other.
+    pub(crate) fn of_slice(
+        alloc: Global,
+        dfa_size_limit: usize,
+        globs: &[Glob],
+    ) -> Result<GlobSet, Error>
         ensures ok { IfOk result (λ s. set_globs s ≡ globs.now) }
         ensures err { IfErr result (λ e. e ≡ out_of_memory) }
     {
         Ok(GlobSet {
-            stored: Some(Stored::of_slice(alloc, Engine::Simulated, globs)?),
-        })
-    }
-
-    /// Returns the set of these globs, in order. Returns an error if memory runs out, and no other.
-    pub(crate) fn of_slice(alloc: Global, globs: &[Glob]) -> Result<GlobSet, Error>
-        ensures ok { IfOk result (λ s. set_globs s ≡ globs.now) }
-        ensures err { IfErr result (λ e. e ≡ out_of_memory) }
-    {
-        Ok(GlobSet {
-            stored: Some(Stored::of_slice(alloc, Engine::Deterministic, globs)?),
+            stored: Some(Stored::of_slice(alloc, dfa_size_limit, globs)?),
         })
     }
 }
@@ -211,12 +202,13 @@ impl Clone for GlobSet {
     }
 }
 
-/// `GlobSet { len: .., most_states: .. }`: the number of globs, and of the states of the largest automaton.
+/// `GlobSet { len: .., most_states: .., table_bytes: .. }`: the number of globs, that of the states of the largest automaton, and
+/// how many bytes the tables of deterministic automata take.
 impl fmt::Debug for GlobSet {
     fn fmt<W: fmt::Write>(&self, f: &mut fmt::Formatter<W>) -> fmt::Result {
         match &self.stored {
             Some(stored) => stored.fmt(f),
-            None => f.write_str("GlobSet { len: 0, most_states: 0 }"),
+            None => f.write_str("GlobSet { len: 0, most_states: 0, table_bytes: 0 }"),
         }
     }
 }

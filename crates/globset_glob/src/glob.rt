@@ -15,6 +15,7 @@ ghost use Rattle.glob_text.specs.Means.{GlobValue, tokens_of_glob, glob_means};
 
 use crate::builder::GlobBuilder;
 use crate::matcher::GlobMatcher;
+use glob_matching::DEFAULT_DFA_SIZE_LIMIT;
 use glob_syntax::{Options, Token, copy_of};
 use glob_text::{Error, regex_of_tokens, tokens_of_text};
 use std::alloc::{AllocError, Global};
@@ -151,18 +152,30 @@ impl Glob {
         ensures ok { IfOk result (λ m. m ≡ self.now) }
         ensures err { IfErr result (λ e. e ≡ out_of_memory) }
     {
-        GlobMatcher::new(self.clone()?)
+        self.compile_matcher_with_limit(DEFAULT_DFA_SIZE_LIMIT)
     }
 
-    /// Returns a matcher for an equal glob, whose automaton is simulated. Returns an error if memory runs out.
+    /// Returns a matcher for an equal glob, as [`Glob::compile_matcher`] does, with a deterministic automaton of at most
+    /// `dfa_size_limit` bytes, or none. Returns an error if memory runs out.
     ///
-    /// It is for tests, which compare it with the other matcher.
-    #[doc(hidden)]
-    pub fn compile_simulated(&self) -> Result<GlobMatcher, Error>
+    /// The limit is for memory and time, and changes no answer. With 0 no deterministic automaton is tried: the matcher takes the
+    /// least time and memory to make, and then for each byte of a path as many steps as its automaton is in states, and memory for
+    /// each path in the calls without a scratch. The same holds where the deterministic automaton is given up. A glob whose literals
+    /// decide alone has no automaton, whatever the limit is. The limit of [`Glob::compile_matcher`] is
+    /// [`DEFAULT_DFA_SIZE_LIMIT`].
+    ///
+    /// ```rust
+    /// use globset::Glob;
+    ///
+    /// let glob = Glob::new(alloc, "src/**/*.rs")?;
+    /// let matcher = glob.compile_matcher_with_limit(0)?;
+    /// assert!(rt; matcher.is_match("src/a/lib.rs")? && !matcher.is_match("src/a/lib.c")?);
+    /// ```
+    pub fn compile_matcher_with_limit(&self, dfa_size_limit: usize) -> Result<GlobMatcher, Error>
         ensures ok { IfOk result (λ m. m ≡ self.now) }
         ensures err { IfErr result (λ e. e ≡ out_of_memory) }
     {
-        GlobMatcher::simulated(self.clone()?)
+        GlobMatcher::new(self.clone()?, dfa_size_limit)
     }
 }
 

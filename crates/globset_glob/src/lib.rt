@@ -9,6 +9,7 @@ mod matcher;
 
 pub use builder::GlobBuilder;
 pub use glob::Glob;
+pub use glob_matching::DEFAULT_DFA_SIZE_LIMIT;
 pub use glob_path::{AsPath, Candidate};
 pub use glob_syntax::{Class, Options, Token};
 pub use glob_text::{Error, ErrorKind, ValueError, ValueErrorKind, escape};

@@ -9,7 +9,6 @@ mod scratch;
 
 use crate::glob::Glob;
 use form::Form;
-use glob_matching::Engine;
 use glob_path::{AsPath, Candidate};
 use glob_text::Error;
 pub use scratch::MatcherScratch;
@@ -58,21 +57,12 @@ impl Model for GlobMatcher {
 impl GlobMatcher {
     ghost use Rattle.glob_text.specs.Means.{glob_means};
 
-    /// Returns a matcher of a glob, at the cost of [`Glob::compile_matcher`]. Returns an error if memory runs out.
-    pub(crate) fn new(glob: Glob) -> Result<GlobMatcher, Error>
+    /// Returns a matcher of a glob, at the cost of [`Glob::compile_matcher_with_limit`]. Returns an error if memory runs out.
+    pub(crate) fn new(glob: Glob, dfa_size_limit: usize) -> Result<GlobMatcher, Error>
         ensures ok { IfOk result (λ m. m ≡ glob) }
         ensures err { IfErr result (λ e. e ≡ out_of_memory) }
     {
-        let form = Form::of(&glob)?;
-        Ok(GlobMatcher { glob, form })
-    }
-
-    /// Returns a matcher of a glob with an automaton that is simulated. Returns an error if memory runs out.
-    pub(crate) fn simulated(glob: Glob) -> Result<GlobMatcher, Error>
-        ensures ok { IfOk result (λ m. m ≡ glob) }
-        ensures err { IfErr result (λ e. e ≡ out_of_memory) }
-    {
-        let form = Form::automaton(Engine::Simulated, &glob)?;
+        let form = Form::of(&glob, dfa_size_limit)?;
         Ok(GlobMatcher { glob, form })
     }
 
@@ -174,11 +164,13 @@ impl Clone for GlobMatcher {
     }
 }
 
-/// `GlobMatcher { glob: Glob("<text>") }`
+/// `GlobMatcher { glob: Glob("<text>"), table_bytes: .. }`: the glob, and how many bytes the table of its deterministic automaton
+/// takes, or 0 if it has none.
 impl fmt::Debug for GlobMatcher {
     fn fmt<W: fmt::Write>(&self, f: &mut fmt::Formatter<W>) -> fmt::Result {
         f.debug_struct("GlobMatcher")
             .field("glob", &self.glob)
+            .field("table_bytes", &self.form.table_bytes())
             .finish()
     }
 }

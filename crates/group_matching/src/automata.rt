@@ -17,7 +17,7 @@ mod slots;
 use crate::matching_sets::MatchingSets;
 use byte_automaton::{Builder, StateSets};
 use glob_automaton::{add_tokens, new_builder};
-use glob_matching::{Budget, Compiled, Engine};
+use glob_matching::{Budget, Compiled};
 use glob_path::{Candidate, component_extension_of, last_component_of};
 use glob_syntax::{Options, Token};
 use slots::{Slots, SlotsBuilder};
@@ -90,6 +90,14 @@ impl Automata {
         ensures { result ≡ most_states self.now }
     {
         self.most_states
+    }
+
+    /// Returns how many bytes the deterministic parts of automata take. It takes time linear in the number of these parts.
+    pub fn table_bytes(&self) -> usize {
+        self.by_path
+            .table_bytes()
+            .saturating_add(self.by_component.table_bytes())
+            .saturating_add(self.extensions.table_bytes())
     }
 
     /// Marks the indexes of the globs that match the path, and no others. Returns an error if memory runs out.
@@ -392,8 +400,9 @@ impl AutomataBuilder {
             .add_tokens(alloc, key, options, tokens, index)
     }
 
-    /// Returns what was added. Returns an error if memory runs out.
-    pub fn finish(self, alloc: Global, engine: Engine) -> Result<Automata, AllocError>
+    /// Returns what was added. The tables of deterministic automata take at most `dfa_size_limit` bytes. Returns an error if
+    /// memory runs out.
+    pub fn finish(self, alloc: Global, dfa_size_limit: usize) -> Result<Automata, AllocError>
         ensures { IfOk result (λ automata. automata ≡ self) }
     {
         let AutomataBuilder {
@@ -401,7 +410,7 @@ impl AutomataBuilder {
             by_component,
             extensions,
         } = self;
-        let mut budget = Budget::new(engine);
+        let mut budget = Budget::new(dfa_size_limit);
         let by_path = Compiled::new(alloc, &mut budget, by_path.finish())?;
         let by_component = Compiled::new(alloc, &mut budget, by_component.finish())?;
         let extensions = extensions.finish(alloc, &mut budget)?;

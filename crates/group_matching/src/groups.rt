@@ -8,7 +8,6 @@ ghost use Rattle.group_matching.specs.inner.Groups.{AreGroupsOf, group_count};
 
 use crate::automata::{Automata, AutomataBuilder};
 use glob_groups::{Group, group_of, tokens_after_prefix, tokens_before_ending};
-use glob_matching::Engine;
 use glob_syntax::{Options, Token};
 use path_keys::{Keys, KeysBuilder};
 use std::alloc::{AllocError, Global};
@@ -129,14 +128,15 @@ impl GroupsBuilder {
         }
     }
 
-    /// Returns the groups of the globs that were added, with automata that this engine runs. Returns an error if memory runs out.
-    pub fn finish(self, alloc: Global, engine: Engine) -> Result<Groups, AllocError>
+    /// Returns the groups of the globs that were added. The tables of deterministic automata take at most `dfa_size_limit` bytes.
+    /// Returns an error if memory runs out.
+    pub fn finish(self, alloc: Global, dfa_size_limit: usize) -> Result<Groups, AllocError>
         ensures { IfOk result (λ groups. groups ≡ self) }
     {
         let GroupsBuilder { keys, automata } = self;
         Ok(Groups {
             keys: keys.finish(alloc)?,
-            automata: automata.finish(alloc, engine)?,
+            automata: automata.finish(alloc, dfa_size_limit)?,
         })
     }
 }

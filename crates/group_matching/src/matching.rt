@@ -31,6 +31,11 @@ impl Groups {
         self.automata.most_states()
     }
 
+    /// Returns how many bytes the tables of deterministic automata take. It takes time linear in the number of these.
+    pub fn table_bytes(&self) -> usize {
+        self.automata.table_bytes()
+    }
+
     /// Replaces the vector's items by the indexes, ascending, of the globs that are not silent and match the path.
     ///
     /// The sets get room for each index, and for each state of a part that is simulated; the vector grows for the indexes. Returns

@@ -5,20 +5,24 @@ ghost use Rattle.globset.specs.Means.{glob_means};
 
 use crate::shown;
 use anyhow::Result;
-use globset::{Candidate, Error, Glob, GlobBuilder, GlobSet, ValueError, escape};
+use globset::{Candidate, Error, Glob, GlobBuilder, GlobSet, GlobSetBuilder, ValueError, escape};
 use rows::{Case, Columns, RowError, escaped, list, yes_or_no};
 use serde_json::Value;
 use std::alloc::Global;
 use std::hash::{DefaultHasher, Hash, Hasher};
 use std::slice;
 
-/// The globs that rows so far added, and two sets of them: of the second, all automata are simulated.
+/// The limits on the bytes of tables that are not the default. Under both no table is made, and all automata are simulated: under
+/// the first with filters, where they have many globs, and under the second without.
+const LIMITS: [usize; 2] = [1, 0];
+
+/// The globs that rows so far added, and sets of them: one under the default limit, and one under each other limit.
 #[derive(Drop)]
 pub struct Globs {
     alloc: Global,
     globs: Vec<Glob>,
     set: GlobSet,
-    simulated: GlobSet,
+    limited: Vec<GlobSet>,
 }
 
 impl Case for Globs {
@@ -27,7 +31,7 @@ impl Case for Globs {
             alloc,
             globs: Vec::new(alloc),
             set: GlobSet::empty(),
-            simulated: GlobSet::empty(),
+            limited: Vec::new(alloc),
         }
     }
 
@@ -80,17 +84,17 @@ impl Globs {
     fn push(&mut self, glob: Glob) -> Result<(), Error> {
         self.globs.push(glob)?;
         self.set = GlobSet::new(self.alloc, &self.globs)?;
-        self.simulated = GlobSet::simulated(self.alloc, &self.globs)?;
+        self.limited = limited_sets(self.alloc, &self.globs)?;
         Ok(())
     }
 
-    /// Returns whether a glob matches a path, by its matcher and by a set of it alone, each of them also if it is simulated.
+    /// Returns whether a glob matches a path, by its matcher and by a set of it alone, each of them under each limit.
     fn is_match(&self, columns: &mut Columns<'_>) -> Result<String> {
         is_match(self.alloc, &read(self.alloc, columns)??, columns)
     }
 
     /// Returns the indexes that the set returns for a path, whether all globs match it, and the indexes of the globs whose
-    /// own matchers match it. The simulated set and simulated matchers have to return the same.
+    /// own matchers match it. Sets and matchers under the other limits have to return the same.
     fn path(&self, columns: &mut Columns<'_>) -> Result<String> {
         self.answers(&Candidate::from_bytes(&columns.bytes(self.alloc)?))
     }
@@ -103,32 +107,25 @@ impl Globs {
         if self.set.is_match_candidate(path)? == indexes.is_empty() {
             return shown::copied(self.alloc, "is_match and matches differ");
         }
-        if !self.is_simulated_alike(path, indexes)? {
-            return shown::copied(self.alloc, "the set and the simulated set differ");
+        for limited in &self.limited {
+            if !self.is_alike(limited, path, indexes)? {
+                return shown::copied(self.alloc, "the set and a set under another limit differ");
+            }
         }
         self.shown_answers(path, &list(self.alloc, indexes)?)
     }
 
-    /// Returns whether the simulated set returns these indexes, and what else the set returns.
-    fn is_simulated_alike(&self, path: &Candidate<'_>, indexes: &[usize]) -> Result<bool, Error> {
-        Ok(
-            self.simulated_indexes_are(path, indexes)?
-                && self.simulated.is_match_candidate(path)? != indexes.is_empty()
-                && self.simulated.matches_all_candidate(path)?
-                    == self.set.matches_all_candidate(path)?,
-        )
-    }
-
-    fn simulated_indexes_are(
+    /// Returns whether another set returns these indexes, and what else the set returns.
+    fn is_alike(
         &self,
+        other: &GlobSet,
         path: &Candidate<'_>,
         indexes: &[usize],
     ) -> Result<bool, Error> {
         Ok(
-            self.simulated
-                .matches_candidate(self.alloc, path)?
-                .as_slice()
-                == indexes,
+            indexes_are(self.alloc, other, path, indexes)?
+                && other.is_match_candidate(path)? != indexes.is_empty()
+                && other.matches_all_candidate(path)? == self.set.matches_all_candidate(path)?,
         )
     }
 
@@ -139,29 +136,32 @@ impl Globs {
 
     /// Returns the indexes of the globs whose own matchers match a path.
     fn each(&self, path: &Candidate<'_>) -> Result<String> {
-        self.compared_each(path, &self.matching(path, false)?)
+        self.compared_each(path, &self.matching(path, None)?)
     }
 
     fn compared_each(&self, path: &Candidate<'_>, indexes: &[usize]) -> Result<String> {
-        if !self.simulated_matchers_find(path, indexes)? {
-            return shown::copied(self.alloc, "a matcher and a simulated matcher differ");
+        for limit in LIMITS {
+            if !self.matchers_find(path, limit, indexes)? {
+                return shown::copied(self.alloc, "a matcher and one under another limit differ");
+            }
         }
         Ok(list(self.alloc, indexes)?)
     }
 
-    fn simulated_matchers_find(
+    fn matchers_find(
         &self,
         path: &Candidate<'_>,
+        limit: usize,
         indexes: &[usize],
     ) -> Result<bool, Error> {
-        Ok(self.matching(path, true)?.as_slice() == indexes)
+        Ok(self.matching(path, Some(limit))?.as_slice() == indexes)
     }
 
-    /// Returns the indexes of the globs whose own matchers match a path, or whose simulated matchers do.
-    fn matching(&self, path: &Candidate<'_>, simulated: bool) -> Result<Vec<usize>, Error> {
+    /// Returns the indexes of the globs whose own matchers match a path, under the default limit or another.
+    fn matching(&self, path: &Candidate<'_>, limit: Option<usize>) -> Result<Vec<usize>, Error> {
         let mut indexes = Vec::new(self.alloc);
         for (i, glob) in self.globs.iter().enumerate() {
-            if matches_by(glob, path, simulated)? {
+            if matches_by(glob, path, limit)? {
                 indexes.push(i)?;
             }
         }
@@ -210,7 +210,7 @@ impl Globs {
     fn replace(&mut self, set: GlobSet, value: &Value) -> Result<String> {
         self.globs.clear();
         self.set = set;
-        self.simulated = GlobSet::simulated(self.alloc, &elements(self.alloc, value)?)?;
+        self.limited = limited_sets(self.alloc, &elements(self.alloc, value)?)?;
         shown::length(self.alloc, self.set.len())
     }
 }
@@ -226,12 +226,14 @@ fn is_match(alloc: Global, glob: &Glob, columns: &mut Columns<'_>) -> Result<Str
 
 fn compared_matches(alloc: Global, glob: &Glob, path: &Candidate<'_>) -> Result<String> {
     let matcher = matches_by_itself(glob, path)?;
-    let (set, simulated) = matches_in_a_set(alloc, glob, path)?;
-    if matches_by_simulation(glob, path)? != matcher {
-        return shown::copied(alloc, "the matcher and the simulated matcher differ");
-    }
-    if simulated != set {
-        return shown::copied(alloc, "the set and the simulated set differ");
+    let set = matches_of_set(alloc, glob, path)?;
+    for limit in LIMITS {
+        if matches_under(glob, path, limit)? != matcher {
+            return shown::copied(alloc, "the matcher and one under another limit differ");
+        }
+        if matches_of_limited_set(alloc, glob, path, limit)? != set {
+            return shown::copied(alloc, "the set and a set under another limit differ");
+        }
     }
     if matcher != set {
         return shown::copied(alloc, "the matcher and the set differ");
@@ -239,14 +241,13 @@ fn compared_matches(alloc: Global, glob: &Glob, path: &Candidate<'_>) -> Result<
     shown::copied(alloc, yes_or_no(matcher))
 }
 
-/// Returns whether a glob matches a path, by a matcher, or by a simulated one.
-fn matches_by(glob: &Glob, path: &Candidate<'_>, simulated: bool) -> Result<bool, Error>
+/// Returns whether a glob matches a path, by a matcher under the default limit or another.
+fn matches_by(glob: &Glob, path: &Candidate<'_>, limit: Option<usize>) -> Result<bool, Error>
     ensures { IfOk result (λ yes. yes ≡ glob_means glob.now path.now) }
 {
-    if simulated {
-        matches_by_simulation(glob, path)
-    } else {
-        matches_by_itself(glob, path)
+    match limit {
+        Some(limit) => matches_under(glob, path, limit),
+        None => matches_by_itself(glob, path),
     }
 }
 
@@ -257,31 +258,56 @@ fn matches_by_itself(glob: &Glob, path: &Candidate<'_>) -> Result<bool, Error>
     glob.compile_matcher()?.is_match_candidate(path)
 }
 
-/// Returns whether a glob matches a path, by a matcher with an automaton that is simulated.
-fn matches_by_simulation(glob: &Glob, path: &Candidate<'_>) -> Result<bool, Error>
+/// Returns whether a glob matches a path, by a matcher under a limit.
+fn matches_under(glob: &Glob, path: &Candidate<'_>, limit: usize) -> Result<bool, Error>
     ensures { IfOk result (λ yes. yes ≡ glob_means glob.now path.now) }
 {
-    glob.compile_simulated()?.is_match_candidate(path)
+    glob.compile_matcher_with_limit(limit)?
+        .is_match_candidate(path)
 }
 
-/// Returns whether a set of a glob alone matches a path, and whether a simulated one does.
-fn matches_in_a_set(
-    alloc: Global,
-    glob: &Glob,
-    path: &Candidate<'_>,
-) -> Result<(bool, bool), Error> {
-    Ok((
-        matches_of_set(alloc, glob, path)?,
-        matches_of_simulated(alloc, glob, path)?,
-    ))
-}
-
+/// Returns whether a set of a glob alone matches a path.
 fn matches_of_set(alloc: Global, glob: &Glob, path: &Candidate<'_>) -> Result<bool, Error> {
     GlobSet::new(alloc, [glob])?.is_match_candidate(path)
 }
 
-fn matches_of_simulated(alloc: Global, glob: &Glob, path: &Candidate<'_>) -> Result<bool, Error> {
-    GlobSet::simulated(alloc, slice::from_ref(glob))?.is_match_candidate(path)
+/// Returns whether a set of a glob alone matches a path, under a limit.
+fn matches_of_limited_set(
+    alloc: Global,
+    glob: &Glob,
+    path: &Candidate<'_>,
+    limit: usize,
+) -> Result<bool, Error> {
+    limited_set(alloc, slice::from_ref(glob), limit)?.is_match_candidate(path)
+}
+
+/// Returns whether a set returns these indexes for a path.
+fn indexes_are(
+    alloc: Global,
+    set: &GlobSet,
+    path: &Candidate<'_>,
+    indexes: &[usize],
+) -> Result<bool, Error> {
+    Ok(set.matches_candidate(alloc, path)?.as_slice() == indexes)
+}
+
+/// Returns the sets of these globs under each limit that is not the default.
+fn limited_sets(alloc: Global, globs: &[Glob]) -> Result<Vec<GlobSet>, Error> {
+    let mut sets = Vec::new(alloc);
+    for limit in LIMITS {
+        sets.push(limited_set(alloc, globs, limit)?)?;
+    }
+    Ok(sets)
+}
+
+/// Returns the set of these globs under a limit.
+fn limited_set(alloc: Global, globs: &[Glob], limit: usize) -> Result<GlobSet, Error> {
+    let mut builder = GlobSetBuilder::new(alloc);
+    builder.dfa_size_limit(limit);
+    for glob in globs {
+        builder.push(glob.clone()?)?;
+    }
+    builder.take_set()
 }
 
 /// Returns the globs in a JSON array.

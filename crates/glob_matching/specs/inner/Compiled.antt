@@ -7,4 +7,4 @@ use Rattle.glob_matching.specs.declared.compiled.Form.TheVariants.{Whole, Divide
 abbrev pub machine_of : Form → Machine
 machine_of (Whole m) = m
 machine_of (Divided m) = m
-machine_of (Filtered m) = m
+machine_of (Filtered b) = b.value

@@ -8,7 +8,6 @@ ghost use Rattle.group_matching.specs.inner.Groups.{group_count};
 
 use crate::set::given::GivenGlobs;
 use crate::set::stored::Stored;
-use glob_matching::Engine;
 use globset_glob::{Glob, options_of, tokens_of};
 use group_matching::GroupsBuilder;
 use std::alloc::{AllocError, Global};
@@ -72,9 +71,9 @@ impl StoredBuilder {
         Ok(())
     }
 
-    /// Returns what a set of the globs that were added stores, with automata that this engine runs. Returns an error if memory runs
-    /// out.
-    pub fn finish(self, engine: Engine) -> Result<Stored, AllocError>
+    /// Returns what a set of the globs that were added stores. The tables of deterministic automata take at most `dfa_size_limit`
+    /// bytes. Returns an error if memory runs out.
+    pub fn finish(self, dfa_size_limit: usize) -> Result<Stored, AllocError>
         requires added { AreAdded self }
         requires count { group_count self.parts ≡ length self.given }
         ensures { IfOk result (λ s. set_globs s ≡ self.given) }
@@ -84,7 +83,7 @@ impl StoredBuilder {
             globs,
             groups,
         } = self;
-        let groups = groups.finish(alloc, engine)?;
+        let groups = groups.finish(alloc, dfa_size_limit)?;
         Ok(Stored::of_groups(alloc, globs, groups))
     }
 }

@@ -11,8 +11,7 @@ ghost use Rattle.group_matching.specs.inner.Room.{HasRoom, KeepsRoom};
 
 use crate::set::building::StoredBuilder;
 use crate::set::given::GivenGlobs;
-use glob_matching::Engine;
-use globset_glob::{Candidate, Error, Glob, Visits};
+use globset_glob::{Candidate, DEFAULT_DFA_SIZE_LIMIT, Error, Glob, Visits};
 use group_matching::{Groups, MatchingSets};
 use std::alloc::Global;
 use std::fmt;
@@ -65,9 +64,9 @@ impl Stored {
         }
     }
 
-    /// Puts each of these globs into its group, with automata that this engine runs. They are not copied. Returns an error if
-    /// memory runs out, and no other.
-    pub fn of_slice(alloc: Global, engine: Engine, globs: &[Glob]) -> Result<Stored, Error>
+    /// Puts each of these globs into its group. They are not copied. The tables of deterministic automata take at most
+    /// `dfa_size_limit` bytes. Returns an error if memory runs out, and no other.
+    pub fn of_slice(alloc: Global, dfa_size_limit: usize, globs: &[Glob]) -> Result<Stored, Error>
         ensures ok { IfOk result (λ s. set_globs s ≡ globs.now) }
         ensures err { IfErr result (λ e. e ≡ out_of_memory) }
     {
@@ -75,10 +74,10 @@ impl Stored {
         for (index, glob) in globs.iter().enumerate() {
             builder.add(glob, index)?;
         }
-        Ok(builder.finish(engine)?)
+        Ok(builder.finish(dfa_size_limit)?)
     }
 
-    /// Puts each of these globs into its group, as [`Stored::of_slice`] does.
+    /// Puts each of these globs into its group, as [`Stored::of_slice`] does, with the default limit.
     pub fn of_references(alloc: Global, references: &[&Glob]) -> Result<Stored, Error>
         ensures ok { IfOk result (λ s. set_globs s ≡ map (λ g. g.now) references.now) }
         ensures err { IfErr result (λ e. e ≡ out_of_memory) }
@@ -87,7 +86,7 @@ impl Stored {
         for (index, glob) in references.iter().enumerate() {
             builder.add(glob, index)?;
         }
-        Ok(builder.finish(Engine::Deterministic)?)
+        Ok(builder.finish(DEFAULT_DFA_SIZE_LIMIT)?)
     }
 
     /// Returns the number of globs.
@@ -102,6 +101,11 @@ impl Stored {
         ensures { result ≡ set_states self.now }
     {
         self.groups.most_states()
+    }
+
+    /// Returns how many bytes the tables of deterministic automata take. It takes time linear in the number of these.
+    pub fn table_bytes(&self) -> usize {
+        self.groups.table_bytes()
     }
 
     /// Returns sets without room, to match with. It allocates nothing.
@@ -182,12 +186,13 @@ impl Stored {
     }
 }
 
-/// The number of globs, and of the states of the largest automaton.
+/// The number of globs, that of the states of the largest automaton, and how many bytes the tables of deterministic automata take.
 impl fmt::Debug for Stored {
     fn fmt<W: fmt::Write>(&self, f: &mut fmt::Formatter<W>) -> fmt::Result {
         f.debug_struct("GlobSet")
             .field("len", &self.len())
             .field("most_states", &self.most_states())
+            .field("table_bytes", &self.table_bytes())
             .finish()
     }
 }

@@ -9,9 +9,8 @@ ghost use Rattle.globset.specs.SetValue.{set_globs};
 use crate::set::GlobSet;
 use crate::set::building::StoredBuilder;
 use crate::set::stored::Stored;
-use glob_matching::Engine;
 use glob_text::error_of_element;
-use globset_glob::{Glob, ValueError, ValueErrorKind};
+use globset_glob::{DEFAULT_DFA_SIZE_LIMIT, Glob, ValueError, ValueErrorKind};
 use serde_json::Value;
 use std::alloc::Global;
 
@@ -58,5 +57,5 @@ fn read_globs(alloc: Global, values: &[Value]) -> Result<Stored, ValueError>
             Err(error) => return Err(error_of_element(index, error)),
         }
     }
-    Ok(builder.finish(Engine::Deterministic)?)
+    Ok(builder.finish(DEFAULT_DFA_SIZE_LIMIT)?)
 }

@@ -10,7 +10,7 @@ use crate::matcher::scratch::MatcherScratch;
 use byte_automaton::{Automaton, StateSets};
 use glob_automaton::{add_tokens, new_builder};
 use glob_groups::{Group, group_of};
-use glob_matching::{Budget, Compiled, Engine};
+use glob_matching::{Budget, Compiled, DEFAULT_DFA_SIZE_LIMIT};
 use glob_path::Candidate;
 use std::alloc::{AllocError, Global};
 use visits::Visits;
@@ -25,24 +25,26 @@ pub enum Form {
 }
 
 impl Form {
-    /// Returns the key of a glob if it decides alone, and otherwise an automaton. Returns an error if memory runs out.
-    pub fn of(glob: &Glob) -> Result<Form, AllocError>
+    /// Returns the key of a glob if it decides alone, and otherwise an automaton, of which a table takes at most `dfa_size_limit`
+    /// bytes. Returns an error if memory runs out.
+    pub fn of(glob: &Glob, dfa_size_limit: usize) -> Result<Form, AllocError>
         ensures { IfOk result (IsFormOf glob.now) }
     {
         let group = group_of(glob.allocator(), glob.options(), glob.tokens())?;
         if group.is_by_key() {
             return Ok(Form::Key(group));
         }
-        Form::automaton(Engine::Deterministic, glob)
-    }
-
-    /// Returns the automaton of a glob, which this engine runs. Returns an error if memory runs out.
-    pub fn automaton(engine: Engine, glob: &Glob) -> Result<Form, AllocError>
-        ensures { IfOk result (IsFormOf glob.now) }
-    {
-        let mut budget = Budget::new(engine);
+        let mut budget = Budget::new(dfa_size_limit);
         let automaton = Compiled::new(glob.allocator(), &mut budget, automaton_of(glob)?)?;
         Ok(Form::Automaton(automaton))
+    }
+
+    /// Returns how many bytes the table of a deterministic automaton takes, or 0 if there is none.
+    pub fn table_bytes(&self) -> usize {
+        match self {
+            Form::Key(_) => 0,
+            Form::Automaton(automaton) => automaton.table_bytes(),
+        }
     }
 
     /// Returns whether the glob matches a path. Returns an error if memory runs out, and none if a key decides.
@@ -94,7 +96,7 @@ impl Form {
         ensures { IfOk result (IsFormOf glob.now) }
     {
         match self {
-            Form::Key(_) => Form::of(glob),
+            Form::Key(_) => Form::of(glob, DEFAULT_DFA_SIZE_LIMIT),
             Form::Automaton(automaton) => Ok(Form::Automaton(automaton.clone()?)),
         }
     }

@@ -87,6 +87,15 @@ impl Slots {
         most_states(&self.automata)
     }
 
+    /// Returns how many bytes the deterministic parts of automata take. It takes time linear in the number of these parts.
+    pub fn table_bytes(&self) -> usize {
+        let mut bytes: usize = 0;
+        for automaton in &self.automata {
+            bytes = bytes.saturating_add(automaton.table_bytes());
+        }
+        bytes
+    }
+
     /// Returns whether no extension has an automaton.
     pub fn is_empty(&self) -> bool
         ensures { IsTrue result ↔ (self.now.slots ≡ []) }

@@ -23,7 +23,7 @@ returns-in-Divided-clause-found c =
 
 pub returns-in-Filtered-clause-found : goal.returns-in-Filtered-clause-found
 returns-in-Filtered-clause-found c =
-    let same : c.in-Filtered.filtered ≡ c.args.self.now = sym (ap machine_of c.in-Filtered.is) ∙ c.self.view_is in
+    let same : c.deref.result.now ≡ c.args.self.now = c.deref.ensures ∙ sym (ap machine_of c.in-Filtered.is) ∙ c.self.view_is in
     on_ok c.find-in-Filtered.result (λ found xs is k.
     let here = subst (λ (m : Machine). IsTrue (has_index c.find-in-Filtered.new.found k) ↔ (IsReached m c.args.text.now k ⊎ IsTrue (has_index c.args.found.now k))) same (found k) in
     finds_matches c.args.self.now xs c.args.text.now k (λ i. omega (arith, c.type_inv.text i)) here is) c.find-in-Filtered.ensures.found

@@ -22,7 +22,7 @@ returns-in-Divided-clause-some c =
 
 pub returns-in-Filtered-clause-some : goal.returns-in-Filtered-clause-some
 returns-in-Filtered-clause-some c =
-    let same : c.in-Filtered.filtered ≡ c.args.self.now = sym (ap machine_of c.in-Filtered.is) ∙ c.self.view_is in
+    let same : c.deref.result.now ≡ c.args.self.now = c.deref.ensures ∙ sym (ap machine_of c.in-Filtered.is) ∙ c.self.view_is in
     if_ok c.is_match-in-Filtered.result (λ yes some xs is.
     let here = subst (λ (m : Machine). IsTrue yes ↔ ((k : ℕ) × IsReached m c.args.text.now k)) same some in
     has_matches c.args.self.now xs c.args.text.now (λ i. omega (arith, c.type_inv.text i)) here is) c.is_match-in-Filtered.ensures.some
