@@ -1,9 +1,10 @@
 //! The parts of a path.
 
 ghost use Rattle.std.specs.Prelude.{◌≡◌, ◌==◌, ◌<◌, length, IfSome};
-ghost use Rattle.glob_path.specs.PathParts.{last_position, last_component, basename_of, extension_in};
+ghost use Rattle.glob_path.specs.PathParts.{last_position, last_component, basename_of, component_extension, extension_in};
 
 use bstr::ByteSlice;
+use memchr::memrchr2;
 
 /// Returns the position of the last such byte. It reads the bytes from the end to that position.
 #[tactic(auto, using(crate::proofs::lemmas::LastPositions::last_position_found))]
@@ -46,4 +47,17 @@ pub fn extension(name: &[u8]) -> &[u8]
         Some(position) => &name[position..],
         None => &name[..0],
     }
+}
+
+/// Returns the bytes of a path's last component from its last `.` on, or nothing if it has none. It reads the path from its end to
+/// the last `.` or `/`, and no byte before that.
+pub fn component_extension(path: &[u8]) -> &[u8]
+    ensures { result.now ≡ component_extension path.now }
+{
+    if let Some(position) = memrchr2(b'.', b'/', path) {
+        if path[position] == b'.' {
+            return &path[position..];
+        }
+    }
+    &path[path.len()..]
 }

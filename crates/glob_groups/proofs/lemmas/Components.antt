@@ -1,5 +1,5 @@
 -- The last component of a path, and its extension.
-use Rattle.std.proofs.Common.{◌≡◌, ℕ, suc, ◌+◌, ◌<◌, ◌⊎◌, inl, inr, Bool, true, false, true≢false, List, [], ◌∷◌, ◌++◌, length, get_or, drop, Option, Some, None, refl, ap, sym, ◌∙◌, subst, arith}
+use Rattle.std.proofs.Common.{◌≡◌, ℕ, suc, ◌+◌, ◌<◌, ◌⊎◌, inl, inr, Bool, true, false, true≢false, List, [], ◌∷◌, ◌++◌, length, get_or, drop, Some, None, refl, ap, sym, ◌∙◌, subst, arith}
 use Rattle.std.specs.Prelude.{◌==◌, encode_utf8}
 use Rattle.std.specs.List.{list_any}
 use Rattle.std.proofs.Math.Logic.{⊎_elim}
@@ -10,6 +10,7 @@ use Rattle.std.proofs.lemmas.Str.{inside_one}
 use Rattle.glob_automaton.specs.Takes.{slash}
 use Rattle.glob_path.specs.PathParts.{is_separator, is_dot, with_first, last_position, after_position, from_position, last_component, extension_in, component_extension}
 use Rattle.glob_automaton.proofs.lemmas.Booleans.{or_either}
+use Rattle.glob_path.proofs.lemmas.LastPositions.{neither}
 
 -- the path ends with the text
 abbrev pub EndsWith : List ℕ → List ℕ → Type 0
@@ -20,11 +21,6 @@ EndsWith path text = (front : List ℕ) × (path ≡ front ++ text)
 -- no byte of the list passes
 abbrev pub Lacks : (ℕ → Bool) → List ℕ → Type 0
 Lacks test b = last_position test b ≡ None
-
-pub neither : (o : Option ℕ) (b : Bool) → with_first o b ≡ None → (o ≡ None) × (b ≡ false)
-neither (Some k) b h = absurd (cc)
-neither None true h = absurd (cc)
-neither None false h = (refl, refl)
 
 pub lacks_cons : (test : ℕ → Bool) (c : ℕ) (cs : List ℕ) → test c ≡ false → Lacks test cs → Lacks test (c ∷ cs)
 lacks_cons test c cs fails rest = λ i. with_first (rest i) (fails i)

@@ -25,7 +25,8 @@ use Rattle.glob_groups.specs.Silent as silent
 use Rattle.glob_groups.specs.TokenTests.{is_star, is_literal_except, has_tokens, all_pass, first_and_rest, some_all_pass, literal_text, is_extension, ending, is_whole_path, is_star_extension}
 use Rattle.glob_groups.specs.Groups.{matches_no_slash, after_prefix, is_last_component, is_any_extension, is_by_last_component}
 use Rattle.glob_groups.proofs.lemmas.Silent.{dot_is}
-use Rattle.glob_groups.proofs.lemmas.Components.{EndsWith, Lacks, neither, lacks_cons, lacks_append, lacks_front, encode_lacks, EndsComponent, last_component_at, split, IsExtension, extension_ends, extension_parts}
+use Rattle.glob_path.proofs.lemmas.LastPositions.{neither}
+use Rattle.glob_groups.proofs.lemmas.Components.{EndsWith, Lacks, lacks_cons, lacks_append, lacks_front, encode_lacks, EndsComponent, last_component_at, split, IsExtension, extension_ends, extension_parts}
 
 pub iff_trans : {A B C : Type 0} → A ↔ B → B ↔ C → A ↔ C
 iff_trans f g = (λ a. g.0 (f.0 a), λ c. f.1 (g.1 c))

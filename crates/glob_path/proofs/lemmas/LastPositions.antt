@@ -11,6 +11,11 @@ here : (o : Option ℕ) (b : Bool) → None ≡ o → b ≡ true → Some 0 ≡ 
 here o true e y = ap (λ q. with_first q true) e
 here o false e y = absurd (true≢false (sym y))
 
+pub neither : (o : Option ℕ) (b : Bool) → with_first o b ≡ None → (o ≡ None) × (b ≡ false)
+neither (Some k) b h = absurd (cc)
+neither None true h = absurd (cc)
+neither None false h = (refl, refl)
+
 -- a search for the last byte finds that position
 pub last_position_found : (test : ℕ → Bool) (p : List ℕ) (r : Option ℕ) → IsLastByte test p r → r ≡ last_position test p
 last_position_found test [] None h = refl
