@@ -1,6 +1,6 @@
 //! How an automaton is made.
 
-ghost use Rattle.std.specs.Prelude.{◌≡◌, ℕ, ◌<◌, ◌++◌, ◌∷◌, [], List, length, OnOk, OnErr, IfOk};
+ghost use Rattle.std.specs.Prelude.{◌≡◌, ℕ, ◌<◌, ◌++◌, ◌∷◌, [], List, length, OnOk, OnErr, IfOk, IfSome};
 ghost use Rattle.byte_automaton.specs.Steps.{Machine, reads, skips, stays, final};
 ghost use Rattle.byte_automaton.specs.Building.{AreBelow, Pushes};
 ghost use Rattle.byte_automaton.specs.Runs.{size};
@@ -38,9 +38,9 @@ pub struct Builder {
     nexts: Vec<usize>,
     starts: Vec<usize>,
     index_count: usize,
-    /// For each place of a set, the number of the set of this place that was pushed last. Most sets that are pushed are found
-    /// here, and not pushed again.
-    recent: [u32; 256],
+    /// For each place of a set, the number of the set of this place that was pushed last. It is empty as long as there are few
+    /// sets. Most sets that are pushed are found by it, and not pushed again.
+    recent: Vec<u32>,
 }
 
 impl Drop for Builder {
@@ -78,7 +78,7 @@ impl Builder {
             nexts: Vec::new(alloc),
             starts: Vec::new(alloc),
             index_count,
-            recent: [0; 256],
+            recent: Vec::new(alloc),
         }
     }
 
@@ -176,28 +176,49 @@ fn hold_list(held: &mut Vec<usize>, list: &[usize]) -> Result<usize, AllocError>
     Ok(at)
 }
 
-/// Returns the number of a set, which is appended if it is not the last that was appended of those with its place.
+/// With more sets than these, a set is looked for at its place alone.
+const FEW_SETS: usize = 24;
+
+/// Returns the number of a set, which is appended if it is not found.
 ///
-/// Returns an error if memory runs out, or numbers do, which are used up by sets of 128 GiB.
+/// Returns an error if memory runs out, or numbers do, which sets of 128 GiB use up.
 fn hold_set(
     sets: &mut Vec<ByteSet>,
-    recent: &mut [u32; 256],
+    recent: &mut Vec<u32>,
     bytes: ByteSet,
 ) -> Result<u32, AllocError>
     ensures held { IfOk result (λ n. (n < length sets.new.items) × (set_at sets.new.items n ≡ bytes)) }
     ensures more { (more : List ByteSet) × (sets.new.items ≡ sets.old.items ++ more) }
 {
     let place = bytes.place();
-    let number = recent[place];
-    if let Some(set) = sets.get(number as usize) {
-        if set.is(&bytes) {
-            return Ok(number);
-        }
+    if let Some(number) = number_of(sets, recent, place, &bytes) {
+        return Ok(number);
     }
     let Ok(number) = u32::try_from(sets.len()) else {
         return Err(AllocError);
     };
+    if sets.len() == FEW_SETS {
+        recent.resize(256, 0)?;
+    }
     sets.push(bytes)?;
-    recent[place] = number;
+    if let Some(last) = recent.get_mut(place) {
+        *last = number;
+    }
     Ok(number)
+}
+
+/// Returns a number of a set: the number at its place, if it is that of the set. If there are no places, all sets are read.
+fn number_of(sets: &[ByteSet], recent: &[u32], place: usize, bytes: &ByteSet) -> Option<u32>
+    ensures { IfSome result (λ n. (n < length sets.now) × (set_at sets.now n ≡ bytes.now)) }
+{
+    match recent.get(place) {
+        Some(number) => {
+            let set = sets.get(*number as usize)?;
+            if set.is(bytes) { Some(*number) } else { None }
+        }
+        None => {
+            let number = sets.iter().position(|set| set.is(bytes))?;
+            u32::try_from(number).ok()
+        }
+    }
 }
