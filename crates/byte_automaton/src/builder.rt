@@ -153,13 +153,18 @@ impl Builder {
         ensures { result ≡ self }
     {
         let Builder {
-            states,
-            sets,
-            nexts,
-            starts,
+            mut states,
+            mut sets,
+            mut nexts,
+            mut starts,
             index_count: count,
             recent: _,
         } = self;
+        // Nothing is pushed any more. A set of globs can have many small automata.
+        states.shrink_to_fit();
+        sets.shrink_to_fit();
+        nexts.shrink_to_fit();
+        starts.shrink_to_fit();
         Automaton::from_parts(states, sets, nexts, starts, count)
     }
 }
