@@ -116,7 +116,7 @@ impl Filtered {
 }
 
 /// At most one start in so many may have no window, and so be run for each text. More are faster in parts.
-const FEW: usize = 4;
+const FEW: usize = 3;
 
 /// Returns a filter for an automaton, or `None` if too few starts have a window, or if a run from one start comes to states of
 /// another. Returns an error if memory runs out. It takes time and memory linear in the states.
