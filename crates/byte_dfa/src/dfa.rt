@@ -150,6 +150,8 @@ impl Dfa {
         let table = self.table.as_slice();
         let mut state = self.start;
         put_listed(&self.lists, table[state + self.width] as usize, into);
+        // A run may enter a state many times in turn; its list is put once.
+        let mut told = state;
         for byte in text {
             state = next(table, &self.class_of, state, *byte, visits);
             if state >= SPECIAL {
@@ -157,7 +159,10 @@ impl Dfa {
                 if state == DEAD {
                     return;
                 }
-                put_listed(&self.lists, table[state + self.width] as usize, into);
+                if state != told {
+                    told = state;
+                    put_listed(&self.lists, table[state + self.width] as usize, into);
+                }
             }
         }
         visits.tick();

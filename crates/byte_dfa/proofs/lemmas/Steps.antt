@@ -33,6 +33,15 @@ none_first : (p q : Bool) → (p || q) ≡ false → q ≡ false
 none_first true q h = absurd (true≢false h)
 none_first false q h = h
 
+-- what is there already may be put again
+pub put_again : (a b : Bool) → (IsTrue a → IsTrue b) → b ≡ (a || b)
+put_again true b h = h refl
+put_again false b h = refl
+
+-- what was put, and what was there
+pub has_put : (a b c : Bool) → c ≡ (a || b) → IsTrue a → IsTrue c
+has_put a b c is h = is ∙ or_first a b h
+
 module _ (d : Table) (sound : IsTable d) where
   -- from the start
   pub started : (y : List ℕ) (k : ℕ) (found found' : Bool) → found' ≡ (is_listed k (on_entry d d.start) || found) → (later d d.start y k || found') ≡ (finds d y k || found)

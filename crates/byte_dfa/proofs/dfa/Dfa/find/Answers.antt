@@ -1,14 +1,15 @@
-use Rattle.std.proofs.Common.{◌≡◌, ℕ, ◌+◌, ◌<◌, ◌≤◌, ◌∷◌, ◌-◌, ◌||◌, inr, [], drop, length, get_or, slice_index, IsTrue, arith, sym, ap, ◌∙◌}
+use Rattle.std.proofs.Common.{◌≡◌, ℕ, ◌+◌, ◌<◌, ◌≤◌, ◌∷◌, ◌-◌, ◌||◌, inr, [], drop, length, get_or, slice_index, IsTrue, arith, sym, ap, subst, ◌∙◌}
 use Rattle.std.proofs.Math.Logic.{⊎_elim}
 use Rattle.std.proofs.lemmas.List.{drop_more, drop_all}
 use Rattle.byte_automaton.specs.Sets.{has_index, index_room}
 use Rattle.byte_automaton.proofs.lemmas.Deciding.{all_bytes}
+use Rattle.byte_automaton.specs.inner.Pass.{is_listed}
 use Rattle.byte_dfa.specs.DfaValue.{DfaValue}
-use Rattle.byte_dfa.specs.inner.Tables.{table_of, entry, special, finds}
+use Rattle.byte_dfa.specs.inner.Tables.{table_of, entry, special, on_entry, finds}
 use Rattle.byte_dfa.proofs.lemmas.Lists.{list_wider}
-use Rattle.byte_dfa.proofs.lemmas.Steps.{drop_bytes, started, low_row, high_row, low_next, high_next, dead_next, found_is}
+use Rattle.byte_dfa.proofs.lemmas.Steps.{drop_bytes, put_again, has_put, started, low_row, high_row, low_next, high_next, dead_next, found_is}
 use Rattle.byte_dfa.proofs.dfa.Dfa.find.Goals as goal
-use Rattle.byte_dfa.proofs.dfa.Dfa.find.Goals.{then-state-ge-SPECIAL+else-state-eq-DEAD, else-state-ge-SPECIAL}
+use Rattle.byte_dfa.proofs.dfa.Dfa.find.Goals.{then-state-ge-SPECIAL+else-state-eq-DEAD+then-state-told, then-state-ge-SPECIAL+else-state-eq-DEAD+else-state-told, else-state-ge-SPECIAL}
 
 pub loop-byte-init : goal.loop-byte-init
 loop-byte-init c =
@@ -20,6 +21,7 @@ loop-byte-init c =
       room = c.put_listed.ensures.room;
       found = λ k. started d sound c.args.text.now k (has_index c.args.into.now k) (has_index c.put_listed.new.into k)
           (rw (c.deref.ensures.value, c.as_slice-table.ensures.value) at c.put_listed.ensures.has k);
+      told = λ k. has_put _ (has_index c.args.into.now k) _ (rw (c.deref.ensures.value, c.as_slice-table.ensures.value) at c.put_listed.ensures.has k);
       visits = omega arith;
     }
 
@@ -44,8 +46,8 @@ returns-then-state-eq-DEAD-clause-found c = λ k.
     let source = ap (λ (v : DfaValue). v.source) c.self.view_is in
     rw (sym source) (found_is (has_index l.into k) (has_index c.args.into.now k) (finds d text k) _ (c.self.invariant.finds text k bytes) same)
 
-pub bounds-table-state-then-state-ge-SPECIAL : goal.bounds-table-state-then-state-ge-SPECIAL
-bounds-table-state-then-state-ge-SPECIAL c =
+pub bounds-table-state-then-state-told : goal.bounds-table-state-then-state-told
+bounds-table-state-then-state-told c =
     let t = c.self.inside in
     let d = table_of t.class_of t.width t.table.items t.start t.lists.items t.index_count in
     let l = c.loop-byte in
@@ -57,8 +59,8 @@ bounds-table-state-then-state-ge-SPECIAL c =
     let len = ap length c.as_slice-table.ensures.value in
     omega arith
 
-pub put_listed-requires-then-state-ge-SPECIAL : goal.put_listed-requires-then-state-ge-SPECIAL
-put_listed-requires-then-state-ge-SPECIAL c =
+pub put_listed-requires-then-state-told : goal.put_listed-requires-then-state-told
+put_listed-requires-then-state-told c =
     let t = c.self.inside in
     let d = table_of t.class_of t.width t.table.items t.start t.lists.items t.index_count in
     let l = c.loop-byte in
@@ -69,7 +71,7 @@ put_listed-requires-then-state-ge-SPECIAL c =
     let row = high_row d c.self.invariant.sound l.state byte l.invariant.row small e is c.if-state-ge-SPECIAL.true c.next-state.ensures.small in
     let count = ap (λ (v : DfaValue). v.source.index_count) c.self.view_is in
     let wide : t.index_count ≤ index_room l.into = omega (arith, c.requires, l.invariant.room, c.self.invariant.count) in
-    rw (c.deref-then-state-ge-SPECIAL.ensures.value, c.as_slice-table.ensures.value)
+    rw (c.deref-then-state-told.ensures.value, c.as_slice-table.ensures.value)
     (list_wider t.lists.items t.index_count (index_room l.into) (slice_index t.table.items (e - special + t.width)) wide (c.self.invariant.sound.entry_list (e - special) row))
 
 pub loop-byte-preserved : goal.loop-byte-preserved
@@ -89,19 +91,31 @@ loop-byte-preserved c =
     let e : ℕ = c.next-state.result in
     let is : e ≡ entry d l.state byte = c.next-state.ensures.value ∙ ap (λ n. slice_index n (l.state + slice_index t.class_of byte)) c.as_slice-table.ensures.value in
     elim c.if-state-ge-SPECIAL.branch [
-      | then-state-ge-SPECIAL+else-state-eq-DEAD w ↦ rw (w.state-is, w.into-is) record {
+      | then-state-ge-SPECIAL+else-state-eq-DEAD+then-state-told w ↦ rw (w.state-is, w.into-is, w.told-is) record {
         row = high_row d sound l.state byte inv.row small e is w.if-state-ge-SPECIAL.true c.next-state.ensures.small;
-        room = w.put_listed-then-state-ge-SPECIAL.ensures.room ∙ inv.room;
-        found = λ k. high_next d sound l.state byte inv.row small e is rest k (has_index l.into k) (has_index w.put_listed-then-state-ge-SPECIAL.new.into k) (finds d text k || has_index c.args.into.now k)
+        room = w.put_listed-then-state-told.ensures.room ∙ inv.room;
+        found = λ k. high_next d sound l.state byte inv.row small e is rest k (has_index l.into k) (has_index w.put_listed-then-state-told.new.into k) (finds d text k || has_index c.args.into.now k)
             w.if-state-ge-SPECIAL.true c.next-state.ensures.small
-            (rw (w.deref-then-state-ge-SPECIAL.ensures.value, c.as_slice-table.ensures.value) at w.put_listed-then-state-ge-SPECIAL.ensures.has k)
+            (rw (w.deref-then-state-told.ensures.value, c.as_slice-table.ensures.value) at w.put_listed-then-state-told.ensures.has k)
             (rw more at inv.found k);
+        told = λ k. has_put _ (has_index l.into k) _ (rw (w.deref-then-state-told.ensures.value, c.as_slice-table.ensures.value) at w.put_listed-then-state-told.ensures.has k);
         visits = omega (arith, inv.visits, c.next-state.ensures.visits);
       }
-      | else-state-ge-SPECIAL w ↦ rw (w.state-is, w.into-is) record {
+      | then-state-ge-SPECIAL+else-state-eq-DEAD+else-state-told w ↦ rw (w.state-is, w.into-is, w.told-is) record {
+        row = high_row d sound l.state byte inv.row small e is w.if-state-ge-SPECIAL.true c.next-state.ensures.small;
+        room = inv.room;
+        found = λ k. high_next d sound l.state byte inv.row small e is rest k (has_index l.into k) (has_index l.into k) (finds d text k || has_index c.args.into.now k)
+            w.if-state-ge-SPECIAL.true c.next-state.ensures.small
+            (put_again (is_listed k (on_entry d (e - special))) (has_index l.into k) (λ h. inv.told k (subst (λ s. IsTrue (is_listed k (on_entry d s))) w.if-state-told.false h)))
+            (rw more at inv.found k);
+        told = inv.told;
+        visits = omega (arith, inv.visits, c.next-state.ensures.visits);
+      }
+      | else-state-ge-SPECIAL w ↦ rw (w.state-is, w.into-is, w.told-is) record {
         row = low_row d sound l.state byte inv.row small e is w.if-state-ge-SPECIAL.false;
         room = inv.room;
         found = λ k. low_next d sound l.state byte inv.row small e is rest k (has_index l.into k) (finds d text k || has_index c.args.into.now k) w.if-state-ge-SPECIAL.false (rw more at inv.found k);
+        told = inv.told;
         visits = omega (arith, inv.visits, c.next-state.ensures.visits);
       }
     ]

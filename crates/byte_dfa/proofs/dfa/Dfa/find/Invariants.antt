@@ -1,6 +1,7 @@
-use Rattle.std.proofs.Common.{◌≡◌, ℕ, ◌+◌, ◌≤◌, ◌||◌, drop}
+use Rattle.std.proofs.Common.{◌≡◌, ℕ, ◌+◌, ◌≤◌, ◌||◌, drop, IsTrue}
 use Rattle.byte_automaton.specs.Sets.{has_index, index_room}
-use Rattle.byte_dfa.specs.inner.Tables.{table_of, later, finds, IsRow}
+use Rattle.byte_automaton.specs.inner.Pass.{is_listed}
+use Rattle.byte_dfa.specs.inner.Tables.{table_of, later, finds, on_entry, IsRow}
 use Rattle.byte_dfa.proofs.dfa.Dfa.find.Given as goal
 
 abbrev pub invariant-loop-byte : goal.invariant-loop-byte
@@ -11,5 +12,6 @@ invariant-loop-byte l =
       row : IsRow d l.state;
       room : index_room l.into ≡ index_room l.fn.into;
       found : (k : ℕ) → (later d l.state (drop l.byte-index l.text) k || has_index l.into k) ≡ (finds d l.text k || has_index l.fn.into k);
+      told : (k : ℕ) → IsTrue (is_listed k (on_entry d l.told)) → IsTrue (has_index l.into k);
       visits : l.visits ≤ l.fn.visits + l.byte-index;
     }
