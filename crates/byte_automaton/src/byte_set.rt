@@ -120,15 +120,15 @@ impl ByteSet {
         self.words == other.words
     }
 
-    /// Returns a place for the set in a table of 256 places. Sets of one byte have different places.
+    /// Returns a place for the set in a table of 256 places. The sets of one printable ASCII byte, of all bytes and of all bytes
+    /// but `/` have different places.
     pub(crate) fn place(&self) -> usize
         ensures { result < 256 }
     {
         let [a, b, c, d] = self.words;
-        let count = a.count_ones() + b.count_ones() + c.count_ones() + d.count_ones();
-        let lowest = self.first_from(0).unwrap_or(0);
-        // The factor keeps sets of many bytes, which often have the same lowest one, apart from each other.
-        (lowest as usize + 37 * count as usize) % 256
+        let low = a.wrapping_add(d).wrapping_mul(0xCAE7_7516_AE09_E9A3);
+        let high = b.wrapping_add(c).wrapping_mul(0x7321_53A1_D97B_F2B1);
+        (low.wrapping_add(high) >> 56) as usize
     }
 
     /// Returns whether the set has every byte.

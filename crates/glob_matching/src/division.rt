@@ -69,7 +69,8 @@ struct Part {
     count: usize,
 }
 
-/// Returns the parts of an automaton, or `None` if a step leads from one to another. Returns an error if memory runs out.
+/// Returns the parts of an automaton, or `None` if none can be made deterministic, so that a copy of the automaton would be
+/// simulated, or a step leads from one to another. Returns an error if memory runs out.
 ///
 /// A part has the states up to some start, from behind an earlier one. There are as many starts in it as halving leaves:
 /// all that are left, or else half of them, until it can be made deterministic. What cannot is simulated.
@@ -102,10 +103,13 @@ pub fn divided(
             }
         }
     }
+    *budget = division.left;
+    if division.tables.is_empty() {
+        return Ok(None);
+    }
     if !division.simulate(automaton, high, automaton.state_count())? {
         return Ok(None);
     }
-    *budget = division.left;
     Ok(Some(division.finish(automaton)))
 }
 
