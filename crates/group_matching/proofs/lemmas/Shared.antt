@@ -7,10 +7,10 @@ use Rattle.group_matching.specs.contracts.automata.slots.Slots as Slots
 use Rattle.group_matching.specs.contracts.automata.Automata as Automata
 use Rattle.group_matching.specs.contracts.groups.Groups as Groups
 
-compiled-send : IsSend Compiled.the_field.row
+pub compiled-send : IsSend Compiled.the_field.row
 compiled-send = search (sendable, crosses) depth 40 fits 20000
 
-compiled-sync : IsSync Compiled.the_field.row
+pub compiled-sync : IsSync Compiled.the_field.row
 compiled-sync = search (sendable, crosses) depth 40 fits 20000
 
 slots-send : IsSend Slots.the_field.row
