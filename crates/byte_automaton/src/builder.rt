@@ -29,7 +29,8 @@ use std::marker::Model;
 /// let automaton = builder.finish();
 /// ```
 ///
-/// Each call that pushes returns an error if memory runs out, and then changes nothing.
+/// Each call that pushes returns an error if memory runs out, and then changes nothing. Sets of bytes are kept once each, as far
+/// as they are found again, and have numbers below `2^32`: if sets of 128 GiB use these up, that is the same error.
 pub struct Builder {
     states: Vec<State>,
     /// The sets of bytes of the states. A set can stand here more than once.
@@ -148,7 +149,7 @@ impl Builder {
         Ok(())
     }
 
-    /// Returns the automaton.
+    /// Returns the automaton. It may take time linear in the states, to give back memory that they do not need.
     pub fn finish(self) -> Automaton
         ensures { result ≡ self }
     {
