@@ -1,2 +1,1 @@
 pub mod PathParts
-pub mod inner

@@ -27,21 +27,14 @@ use std::marker::Model;
 #[derive(Drop)]
 pub struct Candidate<'a> {
     path: &'a [u8],
-    /// The path's last component, if it was searched for.
-    component: Option<&'a [u8]>,
-    /// The extension of that, if it was searched for.
-    extension: Option<&'a [u8]>,
 }
 
 impl<'a> Model for Candidate<'a> {
     ghost use Rattle.std.specs.Prelude.{ℕ, List};
-    ghost use Rattle.glob_path.specs.inner.FoundParts.{ArePartsOf};
 
     ghost Value = { List ℕ };
 
     ghost view = { λ c. c.path.now };
-
-    ghost invariant = { λ c. ArePartsOf c.path.now c.component c.extension };
 }
 
 impl<'a> Candidate<'a> {
@@ -60,11 +53,7 @@ impl<'a> Candidate<'a> {
     pub fn from_bytes(path: &'a [u8]) -> Candidate<'a>
         ensures { result ≡ path.now }
     {
-        Candidate {
-            path,
-            component: None,
-            extension: None,
-        }
+        Candidate { path }
     }
 
     /// Returns the path's bytes, the ones that the candidate was made from.
@@ -104,11 +93,7 @@ impl<'a> Clone for Candidate<'a> {
     ghost is_infallible = { λ _. ⊤ };
 
     fn clone(&self) -> Result<Candidate<'a>, AllocError> {
-        Ok(Candidate {
-            path: self.path,
-            component: self.component,
-            extension: self.extension,
-        })
+        Ok(Candidate { path: self.path })
     }
 }
 
@@ -123,47 +108,22 @@ impl<'a> fmt::Debug for Candidate<'a> {
     }
 }
 
-/// Returns a candidate for the same path, whose last component and the extension of that are found if they are wanted. So
-/// [`last_component_of`] and [`component_extension_of`] do not search for them again.
-pub fn with_parts<'a>(
-    path: &Candidate<'a>,
-    wants_component: bool,
-    wants_extension: bool,
-) -> Candidate<'a>
-    ensures { result ≡ path.now }
-{
-    let mut found = Candidate::from_bytes(path.path);
-    if wants_component {
-        found.component = Some(last_component_of(path));
-    }
-    if wants_extension {
-        found.extension = Some(component_extension_of(path));
-    }
-    found
-}
-
 /// Returns the bytes after the path's last `/`, or the whole path if it has no `/`. They may be `..`, unlike a basename.
 ///
-/// If they are not found yet, each call searches the path from its end to its last `/`, and reads no byte before that. It is
-/// not a method, since `globset` re-exports `Candidate` with all its methods.
+/// Each call searches the path from its end to its last `/`, and reads no byte before that. It is not a method,
+/// since `globset` re-exports `Candidate` with all its methods.
 pub fn last_component_of<'a>(path: &Candidate<'a>) -> &'a [u8]
     ensures { result.now ≡ last_component path.now }
 {
-    match path.component {
-        Some(component) => component,
-        None => parts::last_component(path.path),
-    }
+    parts::last_component(path.path)
 }
 
 /// Returns the bytes of the path's last component from its last `.` on, or nothing if it has no `.`. If the component is
 /// `..`, they are `.`.
 ///
-/// If they are not found yet, each call searches the path from its end to its last `.` or `/`, and reads no byte before that.
+/// Each call searches the path from its end to its last `.` or `/`, and reads no byte before that.
 pub fn component_extension_of<'a>(path: &Candidate<'a>) -> &'a [u8]
     ensures { result.now ≡ component_extension path.now }
 {
-    match path.extension {
-        Some(extension) => extension,
-        None => parts::component_extension(path.path),
-    }
+    parts::component_extension(path.path)
 }

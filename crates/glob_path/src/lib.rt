@@ -6,4 +6,4 @@ mod candidate;
 mod parts;
 
 pub use as_path::AsPath;
-pub use candidate::{Candidate, component_extension_of, last_component_of, with_parts};
+pub use candidate::{Candidate, component_extension_of, last_component_of};

@@ -1,10 +1,9 @@
 //! Globs that no text decides: automata of their tokens.
 
-ghost use Rattle.std.specs.Prelude.{◌≡◌, ◌≢◌, ◌+◌, ◌*◌, ◌<◌, ◌≤◌, ◌++◌, ◌∷◌, ◌↔◌, ◌⊎◌, [], ℕ, List, length, true, false, IsTrue, IsOk, OnOk, IfOk, cond};
+ghost use Rattle.std.specs.Prelude.{◌≡◌, ◌+◌, ◌*◌, ◌<◌, ◌≤◌, ◌++◌, ◌∷◌, ◌↔◌, ◌⊎◌, [], ℕ, List, length, true, false, IsTrue, IsOk, OnOk, IfOk, cond};
 ghost use Rattle.std.specs.Str.{bytes_eq};
 ghost use Rattle.byte_automaton.specs.Runs.{size, most_reads};
 ghost use Rattle.byte_automaton.specs.Sets.{has_index, index_room, sets_room};
-ghost use Rattle.byte_automaton.specs.Texts.{AllBytes};
 ghost use Rattle.glob_automaton.specs.IndexedTokens.{IndexedTokens, IsFor, SomeMatches, indexed};
 ghost use Rattle.glob_path.specs.PathParts.{component_extension, last_component};
 ghost use Rattle.glob_syntax.specs.FlatTokens.{IsNested};
@@ -101,24 +100,10 @@ impl Automata {
             .saturating_add(self.extensions.table_bytes())
     }
 
-    /// Returns whether an automaton is run on the last component of a path.
-    pub fn has_by_component(&self) -> bool
-        ensures { IsTrue result ↔ (0 < size self.now.by_component) }
-    {
-        self.by_component.state_count() > 0
-    }
-
-    /// Returns whether some extension has an automaton.
-    pub fn has_extensions(&self) -> bool
-        ensures { IsTrue result ↔ (self.now.extensions.slots ≢ []) }
-    {
-        !self.extensions.is_empty()
-    }
-
     /// Marks the indexes of the globs that match the path, and no others. Returns an error if memory runs out.
     pub fn mark(
         &self,
-        path: &Candidate<'_>,
+        path: &[u8],
         sets: &mut MatchingSets,
         visits: &mut Visits,
     ) -> Result<(), AllocError>
@@ -140,7 +125,7 @@ impl Automata {
     /// The sets get room for each index, and for each state of a part that is simulated. Returns an error if memory runs out.
     pub fn find(
         &self,
-        path: &Candidate<'_>,
+        path: &[u8],
         sets: &mut MatchingSets,
         visits: &mut Visits,
     ) -> Result<bool, AllocError>
@@ -151,14 +136,13 @@ impl Automata {
         ensures room { HasRoom sets.old (most_states self.now) self.now.extensions.index_count → IsOk result }
         ensures visits { visits.new ≤ visits.old + (1 + (length path.now + 1) * reads_for self.now path.now) }
     {
-        let text = known_bytes(path.path());
-        let by_extension = self.by_extension(path, visits);
+        let by_extension = self.by_extension(&Candidate::from_bytes(path), visits);
         if self.is_idle(by_extension) {
             return Ok(false);
         }
         sets.clear_marks(self.index_count())?;
         self.by_path
-            .find(text, &mut sets.states, &mut sets.marks, visits)?;
+            .find(path, &mut sets.states, &mut sets.marks, visits)?;
         self.run_by_component(path, sets, visits)?;
         run_by_extension(by_extension, path, sets, visits)?;
         Ok(true)
@@ -179,15 +163,14 @@ impl Automata {
         ensures room { most_states self.now ≤ sets_room sets.old → IsOk result }
         ensures visits { visits.new ≤ visits.old + (1 + (length path.now + 1) * reads_for self.now path.now) }
     {
-        let text = known_bytes(path.path());
-        if self.by_path.is_match(text, sets, visits)? {
+        if self.by_path.is_match(path.path(), sets, visits)? {
             return Ok(true);
         }
-        if self.is_match_by_component(path, sets, visits)? {
+        if self.is_match_by_component(path.path(), sets, visits)? {
             return Ok(true);
         }
         let by_extension = self.by_extension(path, visits);
-        is_match_by_extension(by_extension, path, sets, visits)
+        is_match_by_extension(by_extension, path.path(), sets, visits)
     }
 
     /// Returns the automaton of the extension of the path's last component, or one without states if it has none. The extension
@@ -219,12 +202,11 @@ impl Automata {
     /// searched for if there are states.
     fn run_by_component(
         &self,
-        path: &Candidate<'_>,
+        path: &[u8],
         sets: &mut MatchingSets,
         visits: &mut Visits,
     ) -> Result<(), AllocError>
-        requires bytes { AllBytes path.now }
-        requires room { self.now.extensions.index_count ≤ index_room sets.old.marks }
+        requires { self.now.extensions.index_count ≤ index_room sets.old.marks }
         ensures found { OnOk result ((xs : List IndexedTokens) → IsFor self.now.by_component xs → (k : ℕ) → IsTrue (has_index sets.new.marks k) ↔ (SomeMatches xs (last_component path.now) k ⊎ IsTrue (has_index sets.old.marks k))) }
         ensures kept { KeepsRoom sets.old sets.new }
         ensures memory { size self.now.by_component ≤ sets_room sets.old.states → IsOk result }
@@ -233,7 +215,7 @@ impl Automata {
         if self.by_component.state_count() == 0 {
             return Ok(());
         }
-        let component = last_component_of(path);
+        let component = last_component_of(&Candidate::from_bytes(path));
         self.by_component
             .find(component, &mut sets.states, &mut sets.marks, visits)
     }
@@ -241,11 +223,10 @@ impl Automata {
     /// Returns whether the path's last component matches tokens. It is only searched for if there are states.
     fn is_match_by_component(
         &self,
-        path: &Candidate<'_>,
+        path: &[u8],
         sets: &mut StateSets,
         visits: &mut Visits,
     ) -> Result<bool, AllocError>
-        requires { AllBytes path.now }
         ensures some { IfOk result (λ yes. (xs : List IndexedTokens) → IsFor self.now.by_component xs → IsTrue yes ↔ ((k : ℕ) × SomeMatches xs (last_component path.now) k)) }
         ensures kept { sets_room sets.old ≤ sets_room sets.new }
         ensures memory { size self.now.by_component ≤ sets_room sets.old → IsOk result }
@@ -254,7 +235,7 @@ impl Automata {
         if self.by_component.state_count() == 0 {
             return Ok(false);
         }
-        let component = last_component_of(path);
+        let component = last_component_of(&Candidate::from_bytes(path));
         self.by_component.is_match(component, sets, visits)
     }
 }
@@ -263,12 +244,11 @@ impl Automata {
 /// is only searched for if there are states.
 fn run_by_extension(
     automaton: &Compiled,
-    path: &Candidate<'_>,
+    path: &[u8],
     sets: &mut MatchingSets,
     visits: &mut Visits,
 ) -> Result<(), AllocError>
-    requires bytes { AllBytes path.now }
-    requires room { automaton.now.index_count ≤ index_room sets.old.marks }
+    requires { automaton.now.index_count ≤ index_room sets.old.marks }
     ensures found { OnOk result ((xs : List IndexedTokens) → IsFor automaton.now xs → (k : ℕ) → IsTrue (has_index sets.new.marks k) ↔ (SomeMatches xs (before_extension path.now) k ⊎ IsTrue (has_index sets.old.marks k))) }
     ensures kept { KeepsRoom sets.old sets.new }
     ensures memory { size automaton.now ≤ sets_room sets.old.states → IsOk result }
@@ -284,11 +264,10 @@ fn run_by_extension(
 /// Returns whether the path before its extension matches tokens. The extension is only searched for if there are states.
 fn is_match_by_extension(
     automaton: &Compiled,
-    path: &Candidate<'_>,
+    path: &[u8],
     sets: &mut StateSets,
     visits: &mut Visits,
 ) -> Result<bool, AllocError>
-    requires { AllBytes path.now }
     ensures some { IfOk result (λ yes. (xs : List IndexedTokens) → IsFor automaton.now xs → IsTrue yes ↔ ((k : ℕ) × SomeMatches xs (before_extension path.now) k)) }
     ensures kept { sets_room sets.old ≤ sets_room sets.new }
     ensures memory { size automaton.now ≤ sets_room sets.old → IsOk result }
@@ -301,21 +280,13 @@ fn is_match_by_extension(
     automaton.is_match(text, sets, visits)
 }
 
-/// Returns the text, and tells contracts that its items are bytes.
-fn known_bytes(text: &[u8]) -> &[u8]
-    ensures text { result.now ≡ text.now }
-    ensures bytes { AllBytes text.now }
-{
-    text
-}
-
 /// Returns the bytes of a path before the extension of its last component.
-fn before_extension<'a>(path: &Candidate<'a>) -> &'a [u8]
+fn before_extension(path: &[u8]) -> &[u8]
     ensures { result.now ≡ before_extension path.now }
 {
-    let bytes = path.path();
-    let end = bytes.len() - component_extension_of(path).len();
-    &bytes[..end]
+    let extension = component_extension_of(&Candidate::from_bytes(path));
+    let end = path.len() - extension.len();
+    &path[..end]
 }
 
 /// Makes [`Automata`].

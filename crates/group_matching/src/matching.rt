@@ -12,7 +12,7 @@ use crate::groups::Groups;
 use crate::marks::{are_all_marked, push_marked};
 use crate::matching_sets::MatchingSets;
 use byte_automaton::IndexSet;
-use glob_path::{Candidate, with_parts};
+use glob_path::Candidate;
 use std::alloc::AllocError;
 use visits::Visits;
 
@@ -79,11 +79,10 @@ impl Groups {
         ensures memory { (globs : List TokenGlob) → AreGroupsOf globs self.now → load globs path.now ≡ 0 → IsOk result }
         ensures visits { (globs : List TokenGlob) → AreGroupsOf globs self.now → visits.new ≤ visits.old + most_visits globs path.now }
     {
-        let path = self.with_parts(path);
-        if self.keys.is_match(&path, visits) {
+        if self.keys.is_match(path, visits) {
             return Ok(true);
         }
-        self.automata.is_match(&path, &mut sets.states, visits)
+        self.automata.is_match(path, &mut sets.states, visits)
     }
 
     /// Returns whether every glob matches the path and none is silent.
@@ -102,21 +101,10 @@ impl Groups {
         ensures memory { (globs : List TokenGlob) → AreGroupsOf globs self.now → load globs path.now ≡ 0 → IsOk result }
         ensures visits { (globs : List TokenGlob) → AreGroupsOf globs self.now → visits.new ≤ visits.old + most_visits globs path.now }
     {
-        let path = self.with_parts(path);
-        if self.automata.find(&path, sets, visits)? {
-            return Ok(self.finds_all(&path, &mut sets.marks, visits));
+        if self.automata.find(path.path(), sets, visits)? {
+            return Ok(self.finds_all(path, &mut sets.marks, visits));
         }
-        Ok(self.keys_are_all(&path, visits))
-    }
-
-    /// Returns a candidate for the same path. Those of its parts that keys or automata are for are found, so that each is searched
-    /// for once.
-    fn with_parts<'a>(&self, path: &Candidate<'a>) -> Candidate<'a>
-        ensures { result ≡ path.now }
-    {
-        let component = self.keys.has_components() || self.automata.has_by_component();
-        let extension = self.keys.has_extensions() || self.automata.has_extensions();
-        with_parts(path, component, extension)
+        Ok(self.keys_are_all(path, visits))
     }
 
     /// Returns whether every index is found, if no automaton has to be run.
@@ -152,9 +140,8 @@ impl Groups {
         ensures room { HasRoom sets.old (group_states self.now) (group_count self.now) → IsOk result }
         ensures visits { (globs : List TokenGlob) → AreGroupsOf globs self.now → visits.new ≤ visits.old + most_visits globs path.now }
     {
-        let path = self.with_parts(path);
-        self.automata.mark(&path, sets, visits)?;
-        self.keys.find(&path, &mut sets.marks, visits);
+        self.automata.mark(path.path(), sets, visits)?;
+        self.keys.find(path, &mut sets.marks, visits);
         Ok(())
     }
 }

@@ -76,20 +76,6 @@ impl Clone for Keys {
 }
 
 impl Keys {
-    /// Returns whether a key is for the last component of a path.
-    pub fn has_components(&self) -> bool
-        ensures { IsTrue result ↔ (self.now.components ≢ []) }
-    {
-        !self.components.is_empty()
-    }
-
-    /// Returns whether a key is for the extension of a path's last component.
-    pub fn has_extensions(&self) -> bool
-        ensures { IsTrue result ↔ (self.now.extensions ≢ []) }
-    {
-        !self.extensions.is_empty()
-    }
-
     /// Puts the indexes that the path finds into a set, beside what it holds: those under it, under its last component and under
     /// the extension of that, and those of the texts that it begins or ends with. An index that the set has no room for is left
     /// out. A part of the path is only searched for if there are keys for it. It takes no memory.

@@ -10,10 +10,10 @@ overflow_sub-end c =
     let path = c.args.path.now in
     let all = ap length (extension_cut path) in
     let parts = length-append (before_extension path) (component_extension path) in
-    let same = ap length c.component_extension_of.ensures in
-    let bytes = ap length c.path-bytes.ensures in
-    omega (arith, all, parts, same, bytes)
+    let same = ap length (c.component_extension_of-extension.ensures ∙ ap component_extension c.from_bytes.ensures) in
+    omega (arith, all, parts, same)
 
 pub returns : goal.returns
 returns c =
-    ap (λ e. take (length c.path-bytes.result.now - length e) c.path-bytes.result.now) c.component_extension_of.ensures ∙ ap (λ p. take (length p - length (component_extension c.args.path.now)) p) c.path-bytes.ensures
+    let path = c.args.path.now in
+    ap (λ e. take (length path - length e) path) (c.component_extension_of-extension.ensures ∙ ap component_extension c.from_bytes.ensures)

@@ -2,6 +2,7 @@ use Rattle.std.proofs.Common.{◌≡◌, ℕ, List, IsTrue, subst, arith}
 use Rattle.std.specs.Prelude.{◌↔◌, IfOk}
 use Rattle.byte_automaton.specs.Runs.{size, most_reads}
 use Rattle.glob_automaton.specs.IndexedTokens.{IndexedTokens, SomeMatches, IsFor}
+use Rattle.glob_automaton.proofs.lemmas.IndexedTokens.{all_bytes}
 use Rattle.group_matching.specs.inner.Automata.{before_extension}
 use Rattle.group_matching.proofs.lemmas.Automata.{before_bytes, before_visits, no_matches}
 use Rattle.group_matching.proofs.automata.is_match_by_extension.Goals as goal
@@ -9,7 +10,7 @@ use Rattle.group_matching.proofs.automata.is_match_by_extension.Goals as goal
 pub returns-then-state_count-eq0-clause-some : goal.returns-then-state_count-eq0-clause-some
 returns-then-state_count-eq0-clause-some c = λ xs is.
     let none : size c.args.automaton.now ≡ 0 = omega (arith, c.state_count.ensures, c.if-state_count-eq0.true) in
-    let bytes = before_bytes c.args.path.now c.requires in (
+    let bytes = before_bytes c.args.path.now (all_bytes c.args.path.now (λ i. omega (arith, c.type_inv.path i))) in (
       λ yes. absurd (cc),
       λ some. absurd (no_matches c.args.automaton.now xs (before_extension c.args.path.now) some.0 none is bytes some.1),
     )

@@ -4,6 +4,7 @@ use Rattle.std.proofs.Math.Logic.{⊎_elim}
 use Rattle.byte_automaton.specs.Runs.{size, most_reads}
 use Rattle.byte_automaton.specs.Sets.{has_index}
 use Rattle.glob_automaton.specs.IndexedTokens.{IndexedTokens, SomeMatches, IsFor}
+use Rattle.glob_automaton.proofs.lemmas.IndexedTokens.{all_bytes}
 use Rattle.group_matching.specs.inner.Automata.{before_extension}
 use Rattle.group_matching.proofs.lemmas.Automata.{before_bytes, before_visits, no_matches}
 use Rattle.group_matching.proofs.automata.run_by_extension.Goals as goal
@@ -11,7 +12,7 @@ use Rattle.group_matching.proofs.automata.run_by_extension.Goals as goal
 pub returns-then-state_count-eq0-clause-found : goal.returns-then-state_count-eq0-clause-found
 returns-then-state_count-eq0-clause-found c = λ xs is k.
     let none : size c.args.automaton.now ≡ 0 = omega (arith, c.state_count.ensures, c.if-state_count-eq0.true) in
-    let bytes = before_bytes c.args.path.now c.requires.bytes in (
+    let bytes = before_bytes c.args.path.now (all_bytes c.args.path.now (λ i. omega (arith, c.type_inv.path i))) in (
       λ old. inr old,
       λ h. ⊎_elim {C = IsTrue (has_index c.args.sets.now.marks k)} (λ some. absurd (no_matches c.args.automaton.now xs (before_extension c.args.path.now) k none is bytes some)) (λ old. old) h,
     )

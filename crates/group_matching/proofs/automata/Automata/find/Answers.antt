@@ -1,12 +1,10 @@
-use Rattle.std.proofs.Common.{◌≡◌, ◌+◌, ◌⊎◌, IsTrue, ap, sym, subst, arith, ◌∙◌}
-use Rattle.std.specs.Prelude.{◌↔◌}
-use Rattle.glob_automaton.specs.IndexedTokens.{IsFor, SomeMatches}
+use Rattle.std.proofs.Common.{◌≡◌, ◌+◌, ap, sym, subst, arith}
+use Rattle.glob_automaton.specs.IndexedTokens.{IsFor}
+use Rattle.glob_automaton.proofs.lemmas.IndexedTokens.{all_bytes}
 use Rattle.byte_automaton.specs.Runs.{size}
-use Rattle.byte_automaton.specs.Sets.{has_index}
-use Rattle.byte_automaton.specs.Texts.{AllBytes}
 use Rattle.std.proofs.Math.Logic.{⊎_elim}
 use Rattle.glob_path.specs.PathParts.{last_component, component_extension, last_position, is_separator}
-use Rattle.group_matching.specs.inner.Automata.{AutomataParts, before_extension, tokens_under}
+use Rattle.group_matching.specs.inner.Automata.{AutomataParts, before_extension, machine_under, tokens_under}
 use Rattle.group_matching.proofs.lemmas.Automata.{before_bytes, bytes_after, no_matches, three_runs}
 use Rattle.group_matching.proofs.automata.Automata.find.Goals as goal
 
@@ -14,35 +12,31 @@ pub returns-then-is_idle-clause-idle : goal.returns-then-is_idle-clause-idle
 returns-then-is_idle-clause-idle c = λ off.
     let path = c.args.path.now in
     let nil = c.is_idle.ensures.0 c.if-is_idle.true in
+    let same = ap (λ p. size (machine_under c.args.self.now.extensions (component_extension p))) c.from_bytes.ensures in
     let last = ap size c.by_extension-by_extension.ensures.automaton in
-    let bytes = subst AllBytes c.path.ensures c.known_bytes-text.ensures.bytes in record {
-      size = omega (arith, nil, last);
+    let bytes = all_bytes path (λ i. omega (arith, c.type_inv.path i)) in record {
+      size = omega (arith, nil, last, same);
       none = λ t are k found. ⊎_elim {C = ⊥} (λ by_path. no_matches c.args.self.now.by_path t.by_path path k (omega (arith, nil)) are.path bytes by_path)
           (λ later. ⊎_elim {C = ⊥}
           (λ by_component. no_matches c.args.self.now.by_component t.by_component (last_component path) k (omega (arith, nil)) are.component (bytes_after (last_position is_separator path) path bytes) by_component)
           (λ by_slot. no_matches c.by_extension-by_extension.result.now (tokens_under t.by_slot c.args.self.now.extensions.slots (component_extension path)) (before_extension path) k (omega (arith, nil))
-          (c.by_extension-by_extension.ensures.tokens t.by_slot are.slots)
+          (subst (λ p. IsFor c.by_extension-by_extension.result.now (tokens_under t.by_slot c.args.self.now.extensions.slots (component_extension p))) c.from_bytes.ensures (c.by_extension-by_extension.ensures.tokens t.by_slot are.slots))
           (before_bytes path bytes) by_slot) later) found;
     }
 
 pub returns-clause-found : goal.returns-clause-found
 returns-clause-found c = λ on. record {
   size =
+      let same = ap (λ p. size (machine_under c.args.self.now.extensions (component_extension p))) c.from_bytes.ensures in
       let last = ap size c.by_extension-by_extension.ensures.automaton in
       let some : (size c.args.self.now.by_path + (size c.args.self.now.by_component + size c.by_extension-by_extension.result.now) ≡ 0) → ⊥ = (λ nil. let on = c.is_idle.ensures.1 nil in let off = c.if-is_idle.false in absurd (cc)) in
-      omega (arith, last, some);
+      omega (arith, last, same, some);
   room = omega (arith, c.in_ok-clear_marks.ensures.room, c.index_count.ensures, c.in_ok-find.ensures.room, c.in_ok-run_by_component.ensures.kept.indexes, c.in_ok-run_by_extension.ensures.kept.indexes);
   same = λ t are k.
       let extension_tokens = tokens_under t.by_slot c.args.self.now.extensions.slots (component_extension c.args.path.now) in
-      let one = subst (λ text. IsTrue (has_index c.find.new.found k) ↔ (SomeMatches t.by_path text k ⊎ IsTrue (has_index c.clear_marks.new.self.marks k))) (c.known_bytes-text.ensures.text ∙ c.path.ensures) (c.in_ok-find.ensures.found t.by_path (subst (λ (a : AutomataParts). IsFor a.by_path t.by_path) (sym c.self.view_is) are.path) k) in
+      let one = c.in_ok-find.ensures.found t.by_path (subst (λ (a : AutomataParts). IsFor a.by_path t.by_path) (sym c.self.view_is) are.path) k in
       let two = c.in_ok-run_by_component.ensures.found t.by_component are.component k in
-      let are_for = c.by_extension-by_extension.ensures.tokens t.by_slot are.slots in
+      let are_for = subst (λ p. IsFor c.by_extension-by_extension.result.now (tokens_under t.by_slot c.args.self.now.extensions.slots (component_extension p))) c.from_bytes.ensures (c.by_extension-by_extension.ensures.tokens t.by_slot are.slots) in
       let three = c.in_ok-run_by_extension.ensures.found extension_tokens are_for k in
       let empty = c.in_ok-clear_marks.ensures.none k in three_runs (λ h. absurd (cc)) one two three;
 }
-
-pub run_by_component-requires-clause-bytes : goal.run_by_component-requires-clause-bytes
-run_by_component-requires-clause-bytes c = subst AllBytes c.path.ensures c.known_bytes-text.ensures.bytes
-
-pub run_by_extension-requires-clause-bytes : goal.run_by_extension-requires-clause-bytes
-run_by_extension-requires-clause-bytes c = subst AllBytes c.path.ensures c.known_bytes-text.ensures.bytes

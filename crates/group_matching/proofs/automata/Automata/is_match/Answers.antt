@@ -3,8 +3,7 @@ use Rattle.std.specs.Prelude.{◌↔◌, IsTrue, List}
 use Rattle.std.proofs.lemmas.Result.{IfOk-weaker}
 use Rattle.byte_automaton.specs.Runs.{most_reads}
 use Rattle.glob_automaton.specs.IndexedTokens.{IndexedTokens, SomeMatches, IsFor}
-use Rattle.byte_automaton.specs.Texts.{AllBytes}
-use Rattle.glob_path.specs.PathParts.{component_extension}
+use Rattle.glob_path.specs.PathParts.{last_component, component_extension}
 use Rattle.group_matching.specs.inner.Automata.{AutomataParts, TokenLists, AreForLists, AreFound, before_extension, machine_under, tokens_under}
 use Rattle.group_matching.proofs.lemmas.Automata.{last_run}
 use Rattle.group_matching.proofs.lemmas.Visits.{three_runs, two_runs}
@@ -14,59 +13,53 @@ pub returns-then-branch-clause-some : goal.returns-then-branch-clause-some
 returns-then-branch-clause-some c = λ t are.
     let by_path = subst (λ (a : AutomataParts). IsFor a.by_path t.by_path) (sym c.self.view_is) are.path in
     let some = (c.in_ok-is_match.ensures.some t.by_path by_path).0 c.if-branch.true in
-    (λ yes. (some.0, inl (subst (λ text. SomeMatches t.by_path text some.0) (c.known_bytes-text.ensures.text ∙ c.path.ensures) some.1)), λ found. refl)
+    (λ yes. (some.0, inl (subst (λ text. SomeMatches t.by_path text some.0) c.path.ensures some.1)), λ found. refl)
 
 pub returns-then-branch-2-clause-some : goal.returns-then-branch-2-clause-some
 returns-then-branch-2-clause-some c = λ t are.
     let some = (c.in_ok-is_match_by_component.ensures.some t.by_component are.component).0 c.if-branch-2.true in
-    (λ yes. (some.0, inr (inl some.1)), λ found. refl)
+    (λ yes. (some.0, inr (inl (subst (λ text. SomeMatches t.by_component (last_component text) some.0) c.path-2.ensures some.1))), λ found. refl)
 
 pub returns-clause-some : goal.returns-clause-some
 returns-clause-some c =
     let path = c.args.path.now in
     let automaton = c.by_extension-by_extension.result.now in
-    IfOk-weaker c.is_match_by_extension.result (λ yes. (xs : List IndexedTokens) → IsFor automaton xs → IsTrue yes ↔ ((k : ℕ) × SomeMatches xs (before_extension path) k))
+    IfOk-weaker c.is_match_by_extension.result (λ yes. (xs : List IndexedTokens) → IsFor automaton xs → IsTrue yes ↔ ((k : ℕ) × SomeMatches xs (before_extension c.path-3.result.now) k))
     (λ yes. (t : TokenLists) → AreForLists c.args.self.now t → IsTrue yes ↔ ((k : ℕ) × AreFound c.args.self.now.extensions.slots t path k))
     (λ yes tells t are.
     let by_path = subst (λ (a : AutomataParts). IsFor a.by_path t.by_path) (sym c.self.view_is) are.path in
     let extension_tokens = tokens_under t.by_slot c.args.self.now.extensions.slots (component_extension path) in
     last_run
-    (λ k some. let found = (c.in_ok-is_match.ensures.some t.by_path by_path).1 (k, subst (λ text. SomeMatches t.by_path text k) (sym (c.known_bytes-text.ensures.text ∙ c.path.ensures)) some) in let none = c.if-branch.false in absurd (cc))
+    (λ k some. let found = (c.in_ok-is_match.ensures.some t.by_path by_path).1 (k, subst (λ text. SomeMatches t.by_path text k) (sym c.path.ensures) some) in let none = c.if-branch.false in absurd (cc))
     (λ k some.
-    let found = (c.in_ok-is_match_by_component.ensures.some t.by_component are.component).1 (k, some) in
+    let found = (c.in_ok-is_match_by_component.ensures.some t.by_component are.component).1 (k, subst (λ text. SomeMatches t.by_component (last_component text) k) (sym c.path-2.ensures) some) in
     let none = c.if-branch-2.false in absurd (cc))
-    (tells extension_tokens (c.by_extension-by_extension.ensures.tokens t.by_slot are.slots)))
+    (subst (λ text. IsTrue yes ↔ ((k : ℕ) × SomeMatches extension_tokens (before_extension text) k)) c.path-3.ensures (tells extension_tokens (c.by_extension-by_extension.ensures.tokens t.by_slot are.slots))))
     c.is_match_by_extension.ensures.some
 
 pub returns-in_err-is_match_by_component-clause-visits : goal.returns-in_err-is_match_by_component-clause-visits
 returns-in_err-is_match_by_component-clause-visits c =
     let a = c.args.self.now in
     let path = c.args.path.now in
-    two_runs (length path) (length c.known_bytes-text.result.now) (length path) (most_reads a.by_path) (most_reads c.self.inside.by_path) (most_reads a.by_component)
+    two_runs (length path) (length c.path.result.now) (length c.path-2.result.now) (most_reads a.by_path) (most_reads c.self.inside.by_path) (most_reads a.by_component)
     (most_reads (machine_under a.extensions (component_extension path))) c.args.visits.now c.is_match.new.visits c.is_match_by_component.new.visits
-    (ap length (c.known_bytes-text.ensures.text ∙ c.path.ensures)) refl (ap (λ (p : AutomataParts). most_reads p.by_path) c.self.view_is) c.is_match.ensures.visits c.is_match_by_component.ensures.visits
+    (ap length c.path.ensures) (ap length c.path-2.ensures) (ap (λ (p : AutomataParts). most_reads p.by_path) c.self.view_is) c.is_match.ensures.visits c.is_match_by_component.ensures.visits
 
 pub returns-then-branch-2-clause-visits : goal.returns-then-branch-2-clause-visits
 returns-then-branch-2-clause-visits c =
     let a = c.args.self.now in
     let path = c.args.path.now in
-    two_runs (length path) (length c.known_bytes-text.result.now) (length path) (most_reads a.by_path) (most_reads c.self.inside.by_path) (most_reads a.by_component)
+    two_runs (length path) (length c.path.result.now) (length c.path-2.result.now) (most_reads a.by_path) (most_reads c.self.inside.by_path) (most_reads a.by_component)
     (most_reads (machine_under a.extensions (component_extension path))) c.args.visits.now c.is_match.new.visits c.is_match_by_component.new.visits
-    (ap length (c.known_bytes-text.ensures.text ∙ c.path.ensures)) refl (ap (λ (p : AutomataParts). most_reads p.by_path) c.self.view_is) c.is_match.ensures.visits c.is_match_by_component.ensures.visits
+    (ap length c.path.ensures) (ap length c.path-2.ensures) (ap (λ (p : AutomataParts). most_reads p.by_path) c.self.view_is) c.is_match.ensures.visits c.is_match_by_component.ensures.visits
 
 pub returns-clause-visits : goal.returns-clause-visits
 returns-clause-visits c =
     let a = c.args.self.now in
     let path = c.args.path.now in
-    three_runs (length path) (length c.known_bytes-text.result.now) (length path) (length path) (most_reads a.by_path) (most_reads c.self.inside.by_path) (most_reads a.by_component)
+    three_runs (length path) (length c.path.result.now) (length c.path-2.result.now) (length c.path-3.result.now) (most_reads a.by_path) (most_reads c.self.inside.by_path) (most_reads a.by_component)
     (most_reads (machine_under a.extensions (component_extension path))) (most_reads c.by_extension-by_extension.result.now) c.args.visits.now c.is_match.new.visits c.is_match_by_component.new.visits
     c.by_extension-by_extension.new.visits c.is_match_by_extension.new.visits
-    (ap length (c.known_bytes-text.ensures.text ∙ c.path.ensures)) refl refl (ap (λ (p : AutomataParts). most_reads p.by_path) c.self.view_is)
+    (ap length c.path.ensures) (ap length c.path-2.ensures) (ap length c.path-3.ensures) (ap (λ (p : AutomataParts). most_reads p.by_path) c.self.view_is)
     (ap most_reads c.by_extension-by_extension.ensures.automaton)
     c.is_match.ensures.visits c.is_match_by_component.ensures.visits c.by_extension-by_extension.ensures.visits c.is_match_by_extension.ensures.visits
-
-pub is_match_by_component-requires : goal.is_match_by_component-requires
-is_match_by_component-requires c = subst AllBytes c.path.ensures c.known_bytes-text.ensures.bytes
-
-pub is_match_by_extension-requires : goal.is_match_by_extension-requires
-is_match_by_extension-requires c = subst AllBytes c.path.ensures c.known_bytes-text.ensures.bytes

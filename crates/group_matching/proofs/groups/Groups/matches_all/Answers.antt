@@ -1,4 +1,4 @@
-use Rattle.std.proofs.Common.{length, ap, sym, subst, arith}
+use Rattle.std.proofs.Common.{◌≤◌, length, ap, sym, subst, arith}
 use Rattle.group_matching.specs.inner.Groups.{GroupParts, AreGroupsOf}
 use Rattle.group_matching.specs.Globs.{load}
 use Rattle.group_matching.specs.inner.Automata.{reads_for}
@@ -9,25 +9,19 @@ pub returns-in_err-find-clause-visits : goal.returns-in_err-find-clause-visits
 returns-in_err-find-clause-visits c = λ globs are.
     let path = c.args.path.now in
     let groups = subst (λ (p : GroupParts). AreGroupsOf globs p) (sym c.self.view_is) are in
-    with_keys (length path) (length c.with_parts-path.result) (reads_for c.self.inside.automata c.with_parts-path.result) (load globs path) c.args.visits.now c.find.new.visits
-    (ap length c.with_parts-path.ensures) (let same = ap (reads_for c.self.inside.automata) c.with_parts-path.ensures in let few = groups.reads path in omega (arith, same, few)) (omega (arith, c.find.ensures.visits, ap length c.with_parts-path.ensures))
+    with_keys (length path) (length c.path.result.now) (reads_for c.self.inside.automata c.path.result.now) (load globs path) c.args.visits.now c.find.new.visits
+    (ap length c.path.ensures) (let same = ap (reads_for c.self.inside.automata) c.path.ensures in let few = groups.reads path in omega (arith, same, few)) (omega (arith, c.find.ensures.visits))
 
 pub returns-then-branch-clause-visits : goal.returns-then-branch-clause-visits
 returns-then-branch-clause-visits c = λ globs are.
     let path = c.args.path.now in
     let groups = subst (λ (p : GroupParts). AreGroupsOf globs p) (sym c.self.view_is) are in
-    with_keys (length path) (length c.with_parts-path.result) (reads_for c.self.inside.automata c.with_parts-path.result) (load globs path) c.args.visits.now c.finds_all.new.visits
-    (ap length c.with_parts-path.ensures) (let same = ap (reads_for c.self.inside.automata) c.with_parts-path.ensures in let few = groups.reads path in omega (arith, same, few)) (omega (arith, c.find.ensures.visits, c.finds_all.ensures.visits, ap length c.with_parts-path.ensures))
+    with_keys (length path) (length c.path.result.now) (reads_for c.self.inside.automata c.path.result.now) (load globs path) c.args.visits.now c.finds_all.new.visits
+    (ap length c.path.ensures) (let same = ap (reads_for c.self.inside.automata) c.path.ensures in let few = groups.reads path in omega (arith, same, few)) (omega (arith, c.find.ensures.visits, c.finds_all.ensures.visits))
 
 pub returns-clause-visits : goal.returns-clause-visits
 returns-clause-visits c = λ globs are.
     let path = c.args.path.now in
     let groups = subst (λ (p : GroupParts). AreGroupsOf globs p) (sym c.self.view_is) are in
-    with_keys (length path) (length c.with_parts-path.result) (reads_for c.self.inside.automata c.with_parts-path.result) (load globs path) c.args.visits.now c.keys_are_all.new.visits
-    (ap length c.with_parts-path.ensures) (let same = ap (reads_for c.self.inside.automata) c.with_parts-path.ensures in let few = groups.reads path in omega (arith, same, few)) (omega (arith, c.find.ensures.visits, c.keys_are_all.ensures.visits, ap length c.with_parts-path.ensures))
-
-pub returns-then-branch-clause-all : goal.returns-then-branch-clause-all
-returns-then-branch-clause-all c = rw c.with_parts-path.ensures at c.finds_all.ensures.all
-
-pub returns-clause-all : goal.returns-clause-all
-returns-clause-all c = rw c.with_parts-path.ensures at c.keys_are_all.ensures.all
+    with_keys (length path) (length c.path.result.now) (reads_for c.self.inside.automata c.path.result.now) (load globs path) c.args.visits.now c.keys_are_all.new.visits
+    (ap length c.path.ensures) (let same = ap (reads_for c.self.inside.automata) c.path.ensures in let few = groups.reads path in omega (arith, same, few)) (omega (arith, c.find.ensures.visits, c.keys_are_all.ensures.visits))
