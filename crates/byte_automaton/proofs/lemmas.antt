@@ -15,3 +15,6 @@ pub mod IndexSets
 pub mod Summaries
 pub mod LastBytes
 pub mod Spans
+pub mod Lowered
+pub mod Taking
+pub mod Blocks

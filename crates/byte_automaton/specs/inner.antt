@@ -6,3 +6,4 @@ pub mod Exits
 pub mod Lowering
 pub mod StepRoom
 pub mod Summary
+pub mod Blocks

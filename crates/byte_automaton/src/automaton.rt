@@ -7,14 +7,17 @@ ghost use Rattle.byte_automaton.specs.Alike.{AreAlike};
 ghost use Rattle.byte_automaton.specs.ByteSteps.{leads_to, step_room};
 ghost use Rattle.byte_automaton.specs.Decisions.{Decides, EndsAtDecisions};
 ghost use Rattle.byte_automaton.specs.Runs.{size, AcceptsFrom, AreEnding, HasSome, HasLastBytes};
-ghost use Rattle.byte_automaton.specs.inner.Views.{AreSound, GoesBelow, machine};
+ghost use Rattle.byte_automaton.specs.inner.Blocks.{AreBlocks};
+ghost use Rattle.byte_automaton.specs.inner.Views.{AreSound, GoesBelow, machine, of_states};
 ghost use Rattle.byte_automaton.specs.inner.Pass.{goes_now, goes_next, names, EndsBy};
 
 mod forcing;
 mod parts;
 mod passes;
 mod spans;
+mod word_passes;
 
+use crate::blocks::Blocks;
 use crate::byte_set::ByteSet;
 use crate::byte_steps::ByteSteps;
 use crate::index_set::IndexSet;
@@ -33,6 +36,8 @@ pub struct Automaton {
     nexts: Vec<usize>,
     starts: Vec<usize>,
     index_count: usize,
+    blocks: Blocks,
+    ghost blocks_are: { AreBlocks (of_states nexts.items states.items) blocks.by_word.items blocks.masks.items },
 }
 
 impl Drop for Automaton {
@@ -43,6 +48,7 @@ impl Drop for Automaton {
             nexts: _,
             starts: _,
             index_count: _,
+            blocks: _,
         } = self;
     }
 }
@@ -66,6 +72,7 @@ impl Clone for Automaton {
             nexts: Vec::from_slice(alloc, &self.nexts)?,
             starts: Vec::from_slice(alloc, &self.starts)?,
             index_count: self.index_count,
+            blocks: self.blocks.clone()?,
         })
     }
 }
@@ -81,11 +88,13 @@ impl Automaton {
         requires { AreSound nexts.items states.items starts.items index_count }
         ensures { result ≡ machine nexts.items states.items starts.items index_count }
     {
+        let blocks = Blocks::none(*states.allocator());
         Automaton {
             states,
             nexts,
             starts,
             index_count,
+            blocks,
         }
     }
 
