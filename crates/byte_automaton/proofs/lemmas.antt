@@ -17,3 +17,6 @@ pub mod LastBytes
 pub mod Spans
 pub mod WordSets
 pub mod WordPass
+pub mod Lowered
+pub mod Taking
+pub mod Blocks

@@ -7,3 +7,4 @@ pub mod Lowering
 pub mod StepRoom
 pub mod Summary
 pub mod WordSets
+pub mod Blocks

@@ -7,7 +7,8 @@ ghost use Rattle.byte_automaton.specs.Alike.{AreAlike};
 ghost use Rattle.byte_automaton.specs.ByteSteps.{leads_to, step_room};
 ghost use Rattle.byte_automaton.specs.Decisions.{Decides, EndsAtDecisions};
 ghost use Rattle.byte_automaton.specs.Runs.{size, AcceptsFrom, AreEnding, HasSome, HasLastBytes};
-ghost use Rattle.byte_automaton.specs.inner.Views.{AreSound, GoesBelow, machine};
+ghost use Rattle.byte_automaton.specs.inner.Blocks.{AreBlocks};
+ghost use Rattle.byte_automaton.specs.inner.Views.{AreSound, GoesBelow, machine, of_states};
 ghost use Rattle.byte_automaton.specs.inner.Pass.{goes_now, goes_next, names, EndsBy};
 
 mod forcing;
@@ -15,7 +16,9 @@ mod in_word;
 mod parts;
 mod passes;
 mod spans;
+mod word_passes;
 
+use crate::blocks::Blocks;
 use crate::byte_set::ByteSet;
 use crate::byte_steps::ByteSteps;
 use crate::index_set::IndexSet;
@@ -35,6 +38,8 @@ pub struct Automaton {
     nexts: Vec<usize>,
     starts: Vec<usize>,
     index_count: usize,
+    blocks: Blocks,
+    ghost blocks_are: { AreBlocks (of_states sets.items nexts.items states.items) blocks.by_word.items blocks.masks.items },
 }
 
 impl Drop for Automaton {
@@ -46,6 +51,7 @@ impl Drop for Automaton {
             nexts: _,
             starts: _,
             index_count: _,
+            blocks: _,
         } = self;
     }
 }
@@ -70,6 +76,7 @@ impl Clone for Automaton {
             nexts: Vec::from_slice(alloc, &self.nexts)?,
             starts: Vec::from_slice(alloc, &self.starts)?,
             index_count: self.index_count,
+            blocks: self.blocks.clone()?,
         })
     }
 }
@@ -86,12 +93,14 @@ impl Automaton {
         requires { AreSound sets.items nexts.items states.items starts.items index_count }
         ensures { result ≡ machine sets.items nexts.items states.items starts.items index_count }
     {
+        let blocks = Blocks::none(*states.allocator());
         Automaton {
             states,
             sets,
             nexts,
             starts,
             index_count,
+            blocks,
         }
     }
 

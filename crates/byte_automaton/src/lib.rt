@@ -6,10 +6,12 @@
 #![tactic(auto)]
 
 mod automaton;
+mod blocks;
 mod builder;
 mod byte_set;
 mod byte_steps;
 mod index_set;
+mod lowered;
 mod run;
 mod state;
 mod state_set;

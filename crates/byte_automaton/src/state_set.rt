@@ -2,6 +2,8 @@
 
 ghost use Rattle.byte_automaton.specs.inner.Bounds.{AreBounds};
 
+mod word_steps;
+
 use crate::words::{
     Seen, clear_between, grow, has_bit, hash_between, last_below, set_bit, words_for,
 };

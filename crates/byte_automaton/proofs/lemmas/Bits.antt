@@ -89,7 +89,7 @@ pub bit_in : (words : List ℕ) (k at i : ℕ) → k / 64 ≡ at → k % 64 ≡ 
 unfolding bit_of
 bit_in words k at i word bit = ap (λ x. eqb (bit_at (get_or words x 0) (k % 64)) 1) word ∙ ap (λ x. eqb (bit_at (get_or words at 0) x) 1) bit
 
-either_bit : (s x : ℕ) → s < 2 → x < 2 → eqb (max s x) 1 ≡ (eqb x 1 || eqb s 1)
+pub either_bit : (s x : ℕ) → s < 2 → x < 2 → eqb (max s x) 1 ≡ (eqb x 1 || eqb s 1)
 either_bit zero zero hs hx = refl
 either_bit zero (suc zero) hs hx = refl
 either_bit (suc zero) zero hs hx = refl
@@ -114,7 +114,7 @@ one_bit b e = ap (λ x. eqb x 1) e
 
 -- the mask of the bits up to r
 module _ (word r : ℕ) (low : r < 64) where
-  pub masked : ℕ
+  unfoldable pub masked : ℕ
   masked = bit_and word (18446744073709551615 / 2 ^ (63 - r))
 
   mask_is : 18446744073709551615 / 2 ^ (63 - r) ≡ 2 ^ (r + 1) - 1

@@ -33,7 +33,7 @@ listed_from low t (u ∷ us) h e = ⊎_elim {C = low ≤ t}
     (λ other. listed_from low t us (λ i lt. h (suc i) (omega arith)) other)
     (or_cases (t == u) (is_listed t us) e)
 
-goes_now_to : (low : ℕ) (st : State) → GoesFrom low st → (t : ℕ) → goes_now st t ≡ true → low ≤ t
+pub goes_now_to : (low : ℕ) (st : State) → GoesFrom low st → (t : ℕ) → goes_now st t ≡ true → low ≤ t
 goes_now_to low (reads w u) h t e = absurd (true≢false (sym e))
 goes_now_to low (skips us) h t e = listed_from low t us h e
 goes_now_to low (stays w us) h t e = listed_from low t us h e

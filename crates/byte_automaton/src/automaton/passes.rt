@@ -15,8 +15,38 @@ impl Automaton {
     /// the other set held has no effect.
     ///
     /// It reads the states below `high` alone, from the highest on, and none below `low`. It reads each at most once, and is one
-    /// visit for each. What a state of `from` goes on to without a byte is put into `from`, before the pass comes to it.
+    /// visit for each, or for the states of a block together. What a state of `from` goes on to without a byte is put into `from`,
+    /// before the pass comes to it.
     pub(crate) fn step_in(
+        &self,
+        low: usize,
+        high: usize,
+        from: &mut StateSet,
+        byte: u8,
+        to: &mut StateSet,
+        visits: &mut Visits,
+    ) -> bool
+        requires order { low ≤ high }
+        requires exist { high ≤ size self.now }
+        requires closed { IsClosed self.now low high }
+        requires from { IsFrom low from.old }
+        requires from_room { size self.now ≤ state_room from.old }
+        requires to_room { size self.now ≤ state_room to.old }
+        ensures from_room { state_room from.new ≡ state_room from.old }
+        ensures to_room { state_room to.new ≡ state_room to.old }
+        ensures within { IsWithin low high to.new }
+        ensures steps { (y : List ℕ) (k : ℕ) → AcceptsBelow self.now high from.old (byte ∷ y) k ↔ AcceptsFrom self.now to.new y k }
+        ensures some { IsTrue result ↔ HasSome self.now to.new }
+        ensures visits { visits.new + low ≤ visits.old + high }
+    {
+        if self.has_blocks() {
+            return self.step_by_words(low, high, from, byte, to, visits);
+        }
+        self.step_by_states(low, high, from, byte, to, visits)
+    }
+
+    /// Does what `step_in` does, and takes one state after another.
+    fn step_by_states(
         &self,
         low: usize,
         high: usize,

@@ -4,7 +4,7 @@ use Rattle.byte_automaton.specs.Steps.{state}
 use Rattle.byte_automaton.specs.inner.Pass.{goes_next}
 use Rattle.byte_automaton.proofs.lemmas.Pass.{iff_trans, or_first, or_second, or_none, none_swept, read_passed, read_taken, quiet_step, next_position}
 use Rattle.byte_automaton.proofs.lemmas.Spans.{none_lower, read_from, still_from, still_within}
-use Rattle.byte_automaton.proofs.automaton.Automaton.step_in.Goals as goal
+use Rattle.byte_automaton.proofs.automaton.Automaton.step_by_states.Goals as goal
 
 pub loop-upto-init : goal.loop-upto-init
 loop-upto-init c = record {

@@ -3,7 +3,7 @@ use Rattle.std.specs.Prelude.{◌↔◌}
 use Rattle.byte_automaton.specs.Sets.{has_state, state_room}
 use Rattle.byte_automaton.specs.Spans.{IsWithin}
 use Rattle.byte_automaton.specs.inner.Pass.{Alive, Holds}
-use Rattle.byte_automaton.proofs.automaton.Automaton.step_in.Given as goal
+use Rattle.byte_automaton.proofs.automaton.Automaton.step_by_words.Given as goal
 
 abbrev pub invariant-loop-upto : goal.invariant-loop-upto
 invariant-loop-upto l =
