@@ -15,3 +15,4 @@ pub mod IndexSets
 pub mod Summaries
 pub mod LastBytes
 pub mod Spans
+pub mod Combining

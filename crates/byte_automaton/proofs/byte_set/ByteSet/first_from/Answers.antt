@@ -1,4 +1,4 @@
-use Rattle.std.proofs.Common.{◌/◌, ◌<◌, length, true≢false, sym, ◌∙◌, arith}
+use Rattle.std.proofs.Common.{◌<◌, true≢false, sym, ◌∙◌, arith}
 use Rattle.std.proofs.lemmas.Bool.{cases_lt}
 use Rattle.std.proofs.Math.Logic.{⊎_elim}
 use Rattle.byte_automaton.proofs.lemmas.Bits.{bit_past}
