@@ -24,7 +24,7 @@ const START: usize = 1;
 
 const AFTER_START: usize = 2;
 
-/// How many states may be found whose rows are not written yet, besides five for every four starts.
+/// How many more states than starts may be found whose rows are not written yet, or one for every two starts if that is more.
 const WAITING: usize = 16;
 
 /// A set of states that some text leads to, which is one state of the table.
@@ -447,7 +447,7 @@ impl Construction {
 /// very many more states than they have room for, and are given up sooner.
 fn most_waiting(automaton: &Automaton) -> usize {
     let starts = automaton.starts().len();
-    starts.saturating_add(starts / 4).saturating_add(WAITING)
+    starts.saturating_add(WAITING.max(starts / 2))
 }
 
 /// Returns the number of the state that an entry leads to.
