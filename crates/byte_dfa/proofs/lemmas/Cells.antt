@@ -6,7 +6,7 @@ use Rattle.std.proofs.lemmas.List.{get_or_append_left}
 use Rattle.std.proofs.lemmas.Nat.{mul-le}
 use Rattle.std.proofs.Math.Logic.{⊎_elim}
 use Rattle.std.proofs.Math.Seq.{get_or-append_seam}
-use Rattle.byte_automaton.specs.ByteSteps.{leads_to, AreStepsOf, LeadsAsEvery}
+use Rattle.byte_automaton.specs.ByteSteps.{AreStepsOf, LeadsAsEvery}
 use Rattle.byte_automaton.specs.Runs.{AcceptsFrom}
 use Rattle.byte_automaton.specs.Steps.{Machine}
 use Rattle.byte_automaton.specs.declared.byte_steps.ByteSteps.{ByteSteps}

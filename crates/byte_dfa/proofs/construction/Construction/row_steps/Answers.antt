@@ -1,4 +1,4 @@
-use Rattle.std.proofs.Common.{◌≡◌, ℕ, ◌<◌, Some, inl, inr, not, length, refl, sym, ap, ◌∙◌, subst, arith}
+use Rattle.std.proofs.Common.{◌≡◌, ℕ, ◌<◌, Some, inl, inr, not, length, refl, ap, ◌∙◌, subst, arith}
 use Rattle.std.specs.Prelude.{◌&&◌, slice_get}
 use Rattle.std.proofs.lemmas.Bool.{cases_lt}
 use Rattle.std.proofs.lemmas.Option.{slice_get_read}
@@ -56,7 +56,7 @@ returns-clause-row c =
           let same' : base ≡ g = cc (there, at') in
           let is' : (s : ℕ) → has_state rest s ≡ (not (has_state g.states s) && has_state f.states s) =
           subst (λ (x : Found). (s : ℕ) → has_state rest s ≡ (not (has_state g.states s) && has_state x.states s)) same
-              (subst (λ (x : Found). (s : ℕ) → has_state rest s ≡ (not (has_state x.states s) && has_state this.states s)) same' is) in
+          (subst (λ (x : Found). (s : ℕ) → has_state rest s ≡ (not (has_state x.states s) && has_state this.states s)) same' is) in
           beside_rest m f.states g.states rest c.byte_steps.new.into (parted m f.states g.states rest is' (c.base_of-base.ensures.base f g at at')) c.in_ok-byte_steps.ensures.steps;
       every = c.lead_by_every.ensures;
     }
