@@ -20,3 +20,4 @@ pub mod WordPass
 pub mod Lowered
 pub mod Taking
 pub mod Blocks
+pub mod Combining

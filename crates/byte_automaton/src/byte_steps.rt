@@ -18,7 +18,7 @@ struct Step {
 
 /// The steps by a byte from the states of a set.
 ///
-/// [`Automaton::byte_steps`] makes them in one pass over the states. After that [`ByteSteps::take`] finds what a byte leads
+/// [`Automaton::byte_steps`] makes them in one pass over the states. After that [`ByteSteps::add_to`] finds what a byte leads
 /// to in less time than [`Automaton::step`], which makes a pass for each byte.
 #[derive(Drop)]
 pub struct ByteSteps {
@@ -30,8 +30,8 @@ pub struct ByteSteps {
 }
 
 impl ByteSteps {
-    ghost use Rattle.std.specs.Prelude.{◌≡◌, ℕ, ◌+◌, ◌<◌, ◌≤◌, ◌&&◌, ◌||◌, ◌==◌, ◌↔◌, ◌∷◌, List, false, IfOk, OnOk};
-    ghost use Rattle.byte_automaton.specs.Sets.{has_byte};
+    ghost use Rattle.std.specs.Prelude.{◌≡◌, ℕ, ◌+◌, ◌<◌, ◌≤◌, ◌&&◌, ◌||◌, ◌==◌, ◌↔◌, ◌∷◌, List, false, IsFalse, IfOk, OnOk};
+    ghost use Rattle.byte_automaton.specs.Sets.{has_byte, has_state};
     ghost use Rattle.byte_automaton.specs.Steps.{Machine};
     ghost use Rattle.byte_automaton.specs.Runs.{AcceptsFrom};
     ghost use Rattle.byte_automaton.specs.declared.state_set.StateSet.{StateSet};
@@ -84,13 +84,20 @@ impl ByteSteps {
         bytes
     }
 
-    /// Puts the states that a byte leads to into a set. What the set held has no effect.
-    pub fn take(&self, byte: u8, to: &mut StateSet)
+    /// Returns whether every byte leads to some state.
+    pub fn lead_by_every(&self) -> bool
+        ensures { IsFalse result → (t : ℕ) → has_state self.now.by_every t ≡ false }
+    {
+        !self.by_every.is_empty()
+    }
+
+    /// Puts the states that a byte leads to into a set, beside those that it has.
+    pub fn add_to(&self, byte: u8, to: &mut StateSet)
         requires { state_room to.old ≡ step_room self.now }
         ensures room { state_room to.new ≡ state_room to.old }
-        ensures steps { (m : Machine) (from : StateSet) → AreStepsOf m from self.now → (y : List ℕ) (k : ℕ) → AcceptsFrom m from (byte ∷ y) k ↔ AcceptsFrom m to.new y k }
+        ensures has { (t : ℕ) → has_state to.new t ≡ (leads_to self.now byte t || has_state to.old t) }
     {
-        to.copy_from(&self.by_every);
+        to.add(&self.by_every);
         for step in &self.by_some {
             if step.bytes.has(byte) {
                 to.put(step.to);

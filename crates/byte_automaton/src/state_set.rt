@@ -5,7 +5,8 @@ ghost use Rattle.byte_automaton.specs.inner.Bounds.{AreBounds};
 mod word_steps;
 
 use crate::words::{
-    Seen, clear_between, grow, has_bit, hash_between, last_below, set_bit, words_for,
+    Seen, add_bits, clear_between, grow, has_bit, hash_between, keep_bits, last_below, remove_bits,
+    set_bit, words_for,
 };
 use std::alloc::{AllocError, Global};
 use std::hash::{FoldHasher, Hasher};
@@ -44,7 +45,7 @@ impl Clone for StateSet {
 }
 
 impl StateSet {
-    ghost use Rattle.std.specs.Prelude.{◌≡◌, ℕ, ◌+◌, ◌<◌, ◌≤◌, ◌||◌, ◌==◌, ◌↔◌, false, IsTrue, IfOk, OnOk, IsOk};
+    ghost use Rattle.std.specs.Prelude.{◌≡◌, ℕ, ◌+◌, ◌<◌, ◌≤◌, ◌&&◌, ◌||◌, ◌==◌, ◌↔◌, not, false, IsTrue, IfOk, OnOk, IsOk};
     ghost use Rattle.byte_automaton.specs.Sets.{has_state, state_room};
     ghost use Rattle.byte_automaton.specs.Building.{AreBelow};
     ghost use Rattle.byte_automaton.specs.inner.Seen.{IsLastBelow};
@@ -100,7 +101,7 @@ impl StateSet {
     }
 
     /// Makes a set the same as another, which has as much room.
-    pub(crate) fn copy_from(&mut self, other: &StateSet)
+    pub fn copy_from(&mut self, other: &StateSet)
         requires { state_room other.now ≡ state_room self.old }
         ensures room { state_room self.new ≡ state_room self.old }
         ensures has { (s : ℕ) → has_state self.new s ≡ has_state other.now s }
@@ -108,6 +109,45 @@ impl StateSet {
         self.words.copy_from_slice(&other.words);
         self.first = other.first;
         self.last = other.last;
+    }
+
+    /// Puts the states of another set in, which has as much room.
+    pub fn add(&mut self, other: &StateSet)
+        requires { state_room other.now ≡ state_room self.old }
+        ensures room { state_room self.new ≡ state_room self.old }
+        ensures has { (s : ℕ) → has_state self.new s ≡ (has_state other.now s || has_state self.old s) }
+    {
+        if other.last < other.first {
+            return;
+        }
+        add_bits(&mut self.words, &other.words);
+        self.first = self.first.min(other.first);
+        self.last = self.last.max(other.last);
+    }
+
+    /// Takes each state out that is not in another set, which has as much room.
+    pub fn keep(&mut self, other: &StateSet)
+        requires { state_room other.now ≡ state_room self.old }
+        ensures room { state_room self.new ≡ state_room self.old }
+        ensures has { (s : ℕ) → has_state self.new s ≡ (has_state other.now s && has_state self.old s) }
+    {
+        keep_bits(&mut self.words, &other.words);
+    }
+
+    /// Takes the states of another set out, which has as much room.
+    pub fn remove(&mut self, other: &StateSet)
+        requires { state_room other.now ≡ state_room self.old }
+        ensures room { state_room self.new ≡ state_room self.old }
+        ensures has { (s : ℕ) → has_state self.new s ≡ (not (has_state other.now s) && has_state self.old s) }
+    {
+        remove_bits(&mut self.words, &other.words);
+    }
+
+    /// Returns whether no state is in the set. It takes the same time for each set.
+    pub(crate) fn is_empty(&self) -> bool
+        ensures { IsTrue result → (s : ℕ) → has_state self.now s ≡ false }
+    {
+        self.last < self.first
     }
 
     /// Puts a state in.
@@ -160,6 +200,19 @@ impl StateSet {
         }
         hasher.write_usize(self.first);
         hash_between(&self.words, self.first, self.last, hasher);
+    }
+
+    /// Returns whether each state of the set is in another one, which has as much room.
+    pub fn is_within(&self, other: &StateSet) -> bool
+        requires { state_room other.now ≡ state_room self.now }
+        ensures { IsTrue result → (s : ℕ) → IsTrue (has_state self.now s) → IsTrue (has_state other.now s) }
+    {
+        for i in 0..self.words.len() {
+            if self.words[i] & !other.words[i] != 0 {
+                return false;
+            }
+        }
+        true
     }
 
     /// Returns whether no state is in both of two sets.

@@ -97,6 +97,36 @@ pub fn hash_between(words: &[u64], first: usize, last: usize, hasher: &mut FoldH
     }
 }
 
+/// Sets each bit that is set in other words.
+pub fn add_bits(words: &mut [u64], other: &[u64])
+    requires { length other.now ≡ length words.old }
+    ensures { (k : ℕ) → bit_of words.new k ≡ (bit_of other.now k || bit_of words.old k) }
+{
+    for i in 0..words.len() {
+        words[i] = words[i] | other[i];
+    }
+}
+
+/// Clears each bit that is not set in other words.
+pub fn keep_bits(words: &mut [u64], other: &[u64])
+    requires { length other.now ≡ length words.old }
+    ensures { (k : ℕ) → bit_of words.new k ≡ (bit_of other.now k && bit_of words.old k) }
+{
+    for i in 0..words.len() {
+        words[i] = words[i] & other[i];
+    }
+}
+
+/// Clears each bit that is set in other words.
+pub fn remove_bits(words: &mut [u64], other: &[u64])
+    requires { length other.now ≡ length words.old }
+    ensures { (k : ℕ) → bit_of words.new k ≡ (not (bit_of other.now k) && bit_of words.old k) }
+{
+    for i in 0..words.len() {
+        words[i] = words[i] & !other[i];
+    }
+}
+
 /// Clears all bits.
 pub fn clear_all(words: &mut [u64])
     ensures { (k : ℕ) → bit_of words.new k ≡ false }

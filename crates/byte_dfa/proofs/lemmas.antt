@@ -5,3 +5,4 @@ pub mod Cells
 pub mod Begins
 pub mod Runs
 pub mod Steps
+pub mod Bases

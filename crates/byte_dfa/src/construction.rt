@@ -1,10 +1,10 @@
 //! How the table of a deterministic automaton is made: a row for each set of states that some text leads to.
 
-ghost use Rattle.std.specs.Prelude.{◌≡◌, ℕ, ◌+◌, ◌*◌, ◌<◌, ◌≤◌, ◌↔◌, [], ◌∷◌, List, length, slice_get, Some, IsTrue, OnOk, IfOk, IfSome};
+ghost use Rattle.std.specs.Prelude.{◌≡◌, ℕ, ◌+◌, ◌*◌, ◌<◌, ◌≤◌, ◌↔◌, ◌⊎◌, [], ◌∷◌, List, length, slice_get, slice_index, Some, IsTrue, OnOk, IfOk, IfSome};
 ghost use Rattle.byte_automaton.specs.Runs.{size, AcceptsFrom, AreEnding};
-ghost use Rattle.byte_automaton.specs.ByteSteps.{step_room, AreStepsOf};
+ghost use Rattle.byte_automaton.specs.ByteSteps.{step_room, LeadsAsEvery};
 ghost use Rattle.byte_automaton.specs.Sets.{has_index, state_room};
-ghost use Rattle.byte_dfa.specs.inner.Building.{AreFoundSets, IsEntryTo, IsSound, IsNumbered, KeepsFound, Grows, IsComplete, total};
+ghost use Rattle.byte_dfa.specs.inner.Building.{AreFoundSets, AreAllEnding, IsEntryTo, IsBase, IsCellOf, IsRowOf, IsSound, IsNumbered, KeepsFound, Grows, HasRoomFor, IsComplete, total};
 ghost use Rattle.byte_dfa.specs.inner.Tables.{special};
 
 use crate::classes::ByteClasses;
@@ -18,6 +18,15 @@ use visits::Visits;
 /// An entry from here on leads to a state that is dead, or where indexes are found on entry.
 pub const SPECIAL: usize = 1 << 31;
 
+/// The state that a run begins in, unless it leads to no end, and the one that it leads to by the first byte if that is another:
+/// the states of one of them are in most sets.
+const START: usize = 1;
+
+const AFTER_START: usize = 2;
+
+/// How many more states than starts may be found whose rows are not written yet, or one for every two starts if that is more.
+const WAITING: usize = 16;
+
 /// A set of states that some text leads to, which is one state of the table.
 #[derive(Drop)]
 struct Found {
@@ -26,6 +35,18 @@ struct Found {
     on_entry: usize,
     /// The list of the indexes that are found where the text ends.
     at_end: usize,
+    /// The number of a state that may have some of these states. It is 0 if none is known.
+    below: usize,
+}
+
+/// A row that is written with the help of another.
+#[derive(Clone, Copy)]
+struct Row {
+    number: usize,
+    /// The row of a set that has none but states of this row's set. It is written already, or it is that of the dead state.
+    base: usize,
+    /// Whether every byte leads to some state from those that this row's set has beside.
+    every: bool,
 }
 
 /// The states of the table that were found so far, and the rows that are written.
@@ -44,7 +65,7 @@ pub struct Construction {
 
 impl Construction {
     /// Returns a construction with all rows written, and the number of the state that a run begins in. `None` if there is no
-    /// room for so many numbers.
+    /// room for so many numbers, or if too many states are found whose rows are not written yet.
     pub fn complete(
         alloc: Global,
         automaton: &Automaton,
@@ -57,19 +78,24 @@ impl Construction {
     {
         let mut built = Construction::new(alloc, automaton, room)?;
         let mut states = StateSet::new(alloc, automaton.state_count())?;
-        let dead = built.number_of(alloc, automaton, classes, &states)?;
+        let dead = built.number_of(alloc, automaton, classes, &states, 0)?;
         let Some(_) = dead else {
             return Ok(None);
         };
         automaton.start(&mut states);
-        let start = built.number_of(alloc, automaton, classes, &states)?;
+        let start = built.number_of(alloc, automaton, classes, &states, 0)?;
         let Some(start) = start else {
             return Ok(None);
         };
         let mut steps = ByteSteps::new(alloc, automaton.state_count())?;
+        let most = most_waiting(automaton);
         let mut row = 0;
         while row < built.found.len() {
-            let fits = built.write_row(alloc, automaton, classes, row, &mut steps, &mut states)?;
+            if built.found.len() - row > most {
+                return Ok(None);
+            }
+            let written = built.row_steps(automaton, row, &mut steps)?;
+            let fits = built.write_row(alloc, automaton, classes, written, &steps, &mut states)?;
             if !fits {
                 return Ok(None);
             }
@@ -83,7 +109,7 @@ impl Construction {
         ensures found { IfOk result (λ c. c.found.items ≡ []) }
         ensures lists { IfOk result (λ c. c.lists.items ≡ 0 ∷ []) }
         ensures rows { IfOk result (λ c. c.rows.items ≡ []) }
-        ensures ending { IfOk result (λ c. AreEnding automaton.now c.ending) }
+        ensures ending { IfOk result (λ c. AreAllEnding automaton.now c.ending) }
         ensures room { IfOk result (λ c. c.room ≡ room) }
     {
         let mut lists = Vec::new(alloc);
@@ -107,8 +133,9 @@ impl Construction {
         automaton: &Automaton,
         classes: &ByteClasses,
         states: &StateSet,
+        below: usize,
     ) -> Result<Option<usize>, AllocError>
-        requires room { size automaton.now ≤ state_room states.now }
+        requires room { HasRoomFor automaton.now states.now }
         requires classes { classes.now.count ≤ 256 }
         requires sound { IsSound automaton.now classes.now self.old }
         requires dead { length self.old.found.items ≡ 0 → (y : List ℕ) (k : ℕ) → AcceptsFrom automaton.now states.now y k → ⊥ }
@@ -120,7 +147,7 @@ impl Construction {
             return Ok(Some(number));
         }
         let number = self.found.len();
-        let fits = self.add(alloc, automaton, classes, states)?;
+        let fits = self.add(alloc, automaton, classes, states, below)?;
         if !fits {
             return Ok(None);
         }
@@ -147,15 +174,18 @@ impl Construction {
         automaton: &Automaton,
         states: &StateSet,
     ) -> Result<IndexSet, AllocError>
-        requires room { size automaton.now ≤ state_room states.now }
-        requires ending { AreEnding automaton.now self.now.ending }
+        requires room { HasRoomFor automaton.now states.now }
+        requires ending { AreAllEnding automaton.now self.now.ending }
         ensures { IfOk result (λ set. (k : ℕ) → IsTrue (has_index set k) ↔ AcceptsFrom automaton.now states.now [] k) }
     {
         let mut set = IndexSet::new(alloc, automaton.index_count())?;
         if states.is_disjoint(&self.ending) {
             return Ok(set);
         }
-        automaton.ends(&mut states.clone()?, &mut set, &mut Visits::new());
+        // The others lead to no end without a byte.
+        let mut from = states.clone()?;
+        from.keep(&self.ending);
+        automaton.ends(&mut from, &mut set, &mut Visits::new());
         Ok(set)
     }
 
@@ -166,8 +196,9 @@ impl Construction {
         automaton: &Automaton,
         classes: &ByteClasses,
         states: &StateSet,
+        below: usize,
     ) -> Result<bool, AllocError>
-        requires room { size automaton.now ≤ state_room states.now }
+        requires room { HasRoomFor automaton.now states.now }
         requires classes { classes.now.count ≤ 256 }
         requires sound { IsSound automaton.now classes.now self.old }
         requires dead { length self.old.found.items ≡ 0 → (y : List ℕ) (k : ℕ) → AcceptsFrom automaton.now states.now y k → ⊥ }
@@ -193,54 +224,49 @@ impl Construction {
             states,
             on_entry,
             at_end,
+            below,
         })?;
         Ok(true)
     }
 
-    /// Writes the row of a state. Returns whether there is room for the states that it leads to.
+    /// Writes a row, from the steps from the states that its set has beside those of its base. Returns whether there is room for
+    /// the states that it leads to.
     fn write_row(
         &mut self,
         alloc: Global,
         automaton: &Automaton,
         classes: &ByteClasses,
-        row: usize,
-        steps: &mut ByteSteps,
+        row: Row,
+        steps: &ByteSteps,
         to: &mut StateSet,
     ) -> Result<bool, AllocError>
-        requires room { size automaton.now ≤ state_room to.old }
-        requires step_room { step_room steps.old ≡ state_room to.old }
+        requires room { HasRoomFor automaton.now to.old }
+        requires step_room { step_room steps.now ≡ state_room to.old }
         requires sound { IsSound automaton.now classes.now self.old }
         requires few { total classes.now self.old ≤ special }
         requires classes { classes.now.count ≤ 256 }
-        requires row { row < length self.old.found.items }
-        requires place { length self.old.rows.items ≡ row * (classes.now.count + 2) }
+        requires row { IsRowOf automaton.now self.old.found.items row steps.now }
+        requires place { length self.old.rows.items ≡ row.number * (classes.now.count + 2) }
         ensures room { state_room to.new ≡ state_room to.old }
-        ensures step_room { step_room steps.new ≡ step_room steps.old }
         ensures sound { IfOk result (λ fits. IsTrue fits → IsSound automaton.now classes.now self.new) }
         ensures few { IfOk result (λ fits. IsTrue fits → total classes.now self.new ≤ total classes.now self.old) }
         ensures keeps { IfOk result (λ fits. IsTrue fits → KeepsFound self.old.found.items self.new.found.items) }
-        ensures place { IfOk result (λ fits. IsTrue fits → length self.new.rows.items ≡ (row + 1) * (classes.now.count + 2)) }
+        ensures place { IfOk result (λ fits. IsTrue fits → length self.new.rows.items ≡ (row.number + 1) * (classes.now.count + 2)) }
     {
-        self.row_steps(automaton, row, steps)?;
         let some = steps.some_bytes();
-        let start = self.rows.len();
         // A class that leads only where every byte does, once its entry is written: most classes of a row lead there.
         let mut common = None;
         for class in 0..classes.count {
-            let first = classes.firsts[class];
-            let is_common = !some.has(first);
-            match common {
-                Some(written) if is_common => {
-                    let entry = self.rows[start + written];
+            let is_common = !some.has(classes.firsts[class]);
+            match self.shared_entry(automaton, classes, row, steps, is_common, common, class) {
+                Some(entry) => {
                     self.rows.push(entry)?;
                 }
-                _ => {
-                    steps.take(first, to);
-                    let made = self.number_of(alloc, automaton, classes, to)?;
-                    let Some(number) = made else {
+                None => {
+                    let made = self.new_entry(alloc, automaton, classes, row, steps, to, class)?;
+                    let Some(entry) = made else {
                         return Ok(false);
                     };
-                    let entry = self.entry(number, classes.count + 2);
                     self.rows.push(entry)?;
                 }
             }
@@ -248,27 +274,157 @@ impl Construction {
                 common = Some(class);
             }
         }
-        self.rows.push(self.found[row].on_entry as u32)?;
-        self.rows.push(self.found[row].at_end as u32)?;
+        self.rows.push(self.found[row.number].on_entry as u32)?;
+        self.rows.push(self.found[row.number].at_end as u32)?;
         Ok(true)
     }
 
-    /// Puts the steps by a byte from the set of a row into `into`.
+    /// Returns the entry of a class that leads only where every byte does, if an entry that is written leads there: that of the
+    /// base, or that of a class before.
+    fn shared_entry(
+        &self,
+        automaton: &Automaton,
+        classes: &ByteClasses,
+        row: Row,
+        steps: &ByteSteps,
+        is_common: bool,
+        common: Option<usize>,
+        class: usize,
+    ) -> Option<u32>
+        requires sound { IsSound automaton.now classes.now self.now }
+        requires few { total classes.now self.now ≤ special }
+        requires classes { classes.now.count ≤ 256 }
+        requires row { IsRowOf automaton.now self.now.found.items row steps.now }
+        requires place { length self.now.rows.items ≡ row.number * (classes.now.count + 2) + class }
+        requires class { class < classes.now.count }
+        requires byte { slice_index classes.now.firsts class < 256 }
+        requires this { IsTrue is_common → LeadsAsEvery steps.now (slice_index classes.now.firsts class) }
+        requires common { (written : ℕ) → common ≡ Some written → (written < class) × (slice_index classes.now.firsts written < 256) × LeadsAsEvery steps.now (slice_index classes.now.firsts written) }
+        ensures { IfSome result (λ entry. IsCellOf automaton.now classes.now self.now row.number class entry) }
+    {
+        if !is_common {
+            return None;
+        }
+        let stride = classes.count + 2;
+        let under = self.entry_under(row, stride, class);
+        if !row.every {
+            return Some(under);
+        }
+        let Some(written) = common else {
+            return None;
+        };
+        if self.entry_under(row, stride, written) != under {
+            return None;
+        }
+        Some(self.rows[row.number * stride + written])
+    }
+
+    /// Returns the entry of a class, and adds the state that it leads to if that is a new one. `None` if there is no room for it.
+    fn new_entry(
+        &mut self,
+        alloc: Global,
+        automaton: &Automaton,
+        classes: &ByteClasses,
+        row: Row,
+        steps: &ByteSteps,
+        to: &mut StateSet,
+        class: usize,
+    ) -> Result<Option<u32>, AllocError>
+        requires room { HasRoomFor automaton.now to.old }
+        requires step_room { step_room steps.now ≡ state_room to.old }
+        requires sound { IsSound automaton.now classes.now self.old }
+        requires few { total classes.now self.old ≤ special }
+        requires classes { classes.now.count ≤ 256 }
+        requires row { IsRowOf automaton.now self.old.found.items row steps.now }
+        requires place { length self.old.rows.items ≡ row.number * (classes.now.count + 2) + class }
+        requires class { class < classes.now.count }
+        ensures room { state_room to.new ≡ state_room to.old }
+        ensures grows { IfOk result (λ made. IfSome made (λ entry. Grows automaton.now classes.now self.old self.new)) }
+        ensures cell { IfOk result (λ made. IfSome made (λ entry. IsCellOf automaton.now classes.now self.new row.number class entry)) }
+    {
+        let stride = classes.count + 2;
+        let below = target(self.entry_under(row, stride, class), stride);
+        to.copy_from(&self.found[below].states);
+        steps.add_to(classes.firsts[class], to);
+        let made = self.number_of(alloc, automaton, classes, to, below)?;
+        let Some(number) = made else {
+            return Ok(None);
+        };
+        Ok(Some(self.entry(number, stride)))
+    }
+
+    /// Returns the entry of a class in the row of a row's base.
+    fn entry_under(&self, row: Row, stride: usize, class: usize) -> u32
+        requires { 0 < row.base → row.base * stride + class < length self.now.rows.items }
+        ensures dead { row.base ≡ 0 → result ≡ special }
+        ensures written { 0 < row.base → result ≡ slice_index self.now.rows.items (row.base * stride + class) }
+    {
+        if row.base == 0 {
+            // The row of the dead state may not be written yet.
+            SPECIAL as u32
+        } else {
+            self.rows[row.base * stride + class]
+        }
+    }
+
+    /// Puts the steps by a byte from the states that the set of a row has beside those of its base into `into`. Returns the row.
     fn row_steps(
         &self,
         automaton: &Automaton,
-        row: usize,
+        number: usize,
         into: &mut ByteSteps,
-    ) -> Result<(), AllocError>
+    ) -> Result<Row, AllocError>
         requires room { size automaton.now ≤ step_room into.old }
         requires sound { AreFoundSets automaton.now self.now.found.items self.now.lists.items }
-        requires row { row < length self.now.found.items }
-        ensures room { step_room into.new ≡ step_room into.old }
-        ensures steps { OnOk result ((f : Found) → slice_get self.now.found.items row ≡ Some f → AreStepsOf automaton.now f.states into.new) }
+        requires row { number < length self.now.found.items }
+        ensures step_room { step_room into.new ≡ step_room into.old }
+        ensures number { IfOk result (λ row. row.number ≡ number) }
+        ensures row { IfOk result (λ row. IsRowOf automaton.now self.now.found.items row into.new) }
     {
-        let mut from = self.found[row].states.clone()?;
-        automaton.byte_steps(&mut from, into, &mut Visits::new())?;
-        Ok(())
+        let base = self.base_of(automaton, number);
+        let mut rest = self.found[number].states.clone()?;
+        rest.remove(&self.found[base].states);
+        automaton.byte_steps(&mut rest, into, &mut Visits::new())?;
+        Ok(Row {
+            number,
+            base,
+            every: into.lead_by_every(),
+        })
+    }
+
+    /// Returns the base of a row.
+    fn base_of(&self, automaton: &Automaton, number: usize) -> usize
+        requires sound { AreFoundSets automaton.now self.now.found.items self.now.lists.items }
+        requires row { number < length self.now.found.items }
+        ensures written { 0 < result → result < number }
+        ensures base { IsBase automaton.now self.now.found.items number result }
+    {
+        let below = self.found[number].below;
+        if self.is_base(automaton, number, below) {
+            return below;
+        }
+        if self.is_base(automaton, number, AFTER_START) {
+            return AFTER_START;
+        }
+        if self.is_base(automaton, number, START) {
+            return START;
+        }
+        0
+    }
+
+    /// Returns whether a row can be the base of another: it is written before it, and its set has none but states of the other set.
+    fn is_base(&self, automaton: &Automaton, number: usize, base: usize) -> bool
+        requires sound { AreFoundSets automaton.now self.now.found.items self.now.lists.items }
+        requires row { number < length self.now.found.items }
+        ensures written { IsTrue result → base < number }
+        ensures base { IsTrue result → IsBase automaton.now self.now.found.items number base }
+    {
+        if base == 0 || base >= number {
+            return false;
+        }
+        self.found[base]
+            .states
+            .is_within(&self.found[number].states)
     }
 
     /// Returns the entry that leads to a state.
@@ -285,6 +441,21 @@ impl Construction {
             place as u32
         }
     }
+}
+
+/// Returns how many states may be found whose rows are not written yet. Most automata of which there are more at some time have
+/// very many more states than they have room for, and are given up sooner.
+fn most_waiting(automaton: &Automaton) -> usize {
+    let starts = automaton.starts().len();
+    starts.saturating_add(WAITING.max(starts / 2))
+}
+
+/// Returns the number of the state that an entry leads to.
+fn target(entry: u32, stride: usize) -> usize
+    requires { 0 < stride }
+    ensures { (j : ℕ) → j * stride < special → ((entry ≡ j * stride) ⊎ (entry ≡ special + j * stride)) → result ≡ j }
+{
+    (entry as usize % SPECIAL) / stride
 }
 
 /// Returns the hash of a set of states.

@@ -68,7 +68,7 @@ impl Compiled {
     /// start, 512 for each state and 40,960 in all. To find one of them may take reading each state of the part. The parts of a
     /// set take at most the bytes of the budget. At most 2^22 numbers are made for them, or one for each 4 bytes of the budget if
     /// these are more, with those of parts that are given up because they would have more, and at most 512 parts are tried. What
-    /// cannot be made deterministic within these limits is simulated. An automaton of more than 64 starts that is not
+    /// cannot be made deterministic within these limits is simulated. An automaton of more than 32 starts that is not
     /// deterministic as a whole is not divided: a filter names the starts that are run. So it takes time and memory linear in the
     /// states, up to the factors of these limits.
     ///
@@ -191,7 +191,7 @@ impl Compiled {
 }
 
 /// An automaton with more starts than these is not divided, if a filter can name those that are run.
-const MANY_STARTS: usize = 64;
+const MANY_STARTS: usize = 32;
 
 /// Returns whether an automaton has many starts, of which a filter may name a few.
 fn is_large(budget: Budget, automaton: &Automaton) -> bool {

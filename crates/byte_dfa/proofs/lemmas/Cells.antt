@@ -19,7 +19,7 @@ use Rattle.byte_dfa.proofs.lemmas.Found.{iff_trans, iff_sym}
 pub before_row : (i row w : ℕ) → i < row → i * (w + 2) + w + 2 ≤ row * (w + 2)
 before_row i row w lt = let h = mul-le (i + 1) (w + 2) row (w + 2) (omega arith) (omega arith) in omega (arith, h)
 
-same_place : (i c row col w : ℕ) → c ≤ w + 1 → col ≤ w + 1 → i * (w + 2) + c ≡ row * (w + 2) + col → (i ≡ row) × (c ≡ col)
+pub same_place : (i c row col w : ℕ) → c ≤ w + 1 → col ≤ w + 1 → i * (w + 2) + c ≡ row * (w + 2) + col → (i ≡ row) × (c ≡ col)
 same_place i c row col w hc hcol e = ⊎_elim {C = (i ≡ row) × (c ≡ col)}
     (λ lt. let h = before_row i row w lt in absurd (omega arith))
     (λ ge. ⊎_elim {C = (i ≡ row) × (c ≡ col)}

@@ -1,12 +1,15 @@
 -- What is known of a table while it is made.
-use Rattle.std.specs.Prelude.{◌≡◌, ℕ, ◌+◌, ◌*◌, ◌/◌, ◌<◌, ◌≤◌, ◌↔◌, ◌⊎◌, List, [], ◌∷◌, length, slice_index, slice_get, Some}
+use Rattle.std.specs.Prelude.{◌≡◌, ℕ, false, IsTrue, ◌+◌, ◌*◌, ◌/◌, ◌<◌, ◌≤◌, ◌↔◌, ◌⊎◌, List, [], ◌∷◌, length, slice_index, slice_get, Some}
 use Rattle.byte_automaton.specs.Runs.{size, AcceptsFrom, AreEnding}
+use Rattle.byte_automaton.specs.ByteSteps.{leads_to}
 use Rattle.byte_automaton.specs.Sets.{has_state, state_room}
-use Rattle.byte_automaton.specs.Steps.{Machine, IsReached}
+use Rattle.byte_automaton.specs.Steps.{Accepts, Machine, IsReached}
+use Rattle.byte_automaton.specs.declared.byte_steps.ByteSteps.{ByteSteps}
 use Rattle.byte_automaton.specs.declared.state_set.StateSet.{StateSet}
 use Rattle.byte_dfa.specs.declared.classes.ByteClasses.{ByteClasses}
 use Rattle.byte_dfa.specs.declared.construction.Construction.{Construction}
 use Rattle.byte_dfa.specs.declared.construction.Found.{Found}
+use Rattle.byte_dfa.specs.declared.construction.Row.{Row}
 use Rattle.byte_dfa.specs.inner.Lists.{IsListOf, HasNoneFirst}
 use Rattle.byte_dfa.specs.inner.Tables.{special}
 
@@ -21,9 +24,19 @@ AreSame a b = (s : ℕ) → has_state a s ≡ has_state b s
 abbrev pub GoesTo : Machine → StateSet → ℕ → StateSet → Type 0
 GoesTo m from b to = (y : List ℕ) (k : ℕ) → AcceptsFrom m from (b ∷ y) k ↔ AcceptsFrom m to y k
 
+-- a set has room for the states, and for fewer than 64 more
+pub record HasRoomFor (m : Machine) (set : StateSet) : Type 0 where
+  pub room : size m ≤ state_room set
+  pub least : state_room set < size m + 64
+
+-- the set has exactly the states that lead to some end without a byte
+pub record AreAllEnding (m : Machine) (ending : StateSet) : Type 0 where
+  pub ends : AreEnding m ending
+  pub room : HasRoomFor m ending
+
 -- a set with its lists
 pub record IsFound (m : Machine) (lists : List ℕ) (f : Found) : Type 0 where
-  pub room : size m ≤ state_room f.states
+  pub room : HasRoomFor m f.states
   pub on_entry : IsListOf lists (half m) f.on_entry (λ k. AcceptsFrom m f.states [] (half m + k))
   pub at_end : IsListOf lists (half m) f.at_end (AcceptsFrom m f.states [])
 
@@ -58,7 +71,7 @@ KeepsFound old new = (length old ≤ length new) × ((i : ℕ) (f : Found) → s
 pub record IsBuilt (m : Machine) (classes : ByteClasses) (found : List Found) (lists rows : List ℕ) (ending : StateSet) : Type 0 where
   pub sets : AreFoundSets m found lists
   pub cells : AreCells m classes.firsts classes.count found lists rows
-  pub ends : AreEnding m ending
+  pub ends : AreAllEnding m ending
 
 abbrev pub IsSound : Machine → ByteClasses → Construction → Type 0
 IsSound m classes c = IsBuilt m classes c.found.items c.lists.items c.rows.items c.ending
@@ -90,3 +103,26 @@ pub record IsComplete (m : Machine) (classes : ByteClasses) (room : ℕ) (c : Co
   pub rows : length c.rows.items ≡ length c.found.items * (classes.count + 2)
   pub few : length c.rows.items + length c.lists.items ≤ room + 1
   pub begins : BeginsAt m c.found.items number
+
+-- what leads to an end from the set of number j leads there from that of number i
+abbrev pub IsBase : Machine → List Found → ℕ → ℕ → Type 0
+IsBase m found i j = (f g : Found) → slice_get found i ≡ Some f → slice_get found j ≡ Some g → (y : List ℕ) (k : ℕ) → AcceptsFrom m g.states y k → AcceptsFrom m f.states y k
+
+-- by the byte, the steps lead to a state from which the text leads to an end
+abbrev pub LeadsBy : Machine → ByteSteps → ℕ → List ℕ → ℕ → Type 0
+LeadsBy m steps b y k = (t : ℕ) × (t < size m) × IsTrue (leads_to steps b t) × Accepts m.states k t y
+
+-- a byte leads from one set where it leads from the other, and where the steps lead, and nowhere else
+abbrev pub AreStepsBeside : Machine → StateSet → StateSet → ByteSteps → Type 0
+AreStepsBeside m from base steps = (b : ℕ) → b < 256 → (y : List ℕ) (k : ℕ) → AcceptsFrom m from (b ∷ y) k ↔ (AcceptsFrom m base (b ∷ y) k ⊎ LeadsBy m steps b y k)
+
+-- the steps are those from the states that the row's set has beside those of its base
+pub record IsRowOf (m : Machine) (found : List Found) (row : Row) (steps : ByteSteps) : Type 0 where
+  pub this : row.number < length found
+  pub written : 0 < row.base → row.base < row.number
+  pub beside : (f g : Found) → slice_get found row.number ≡ Some f → slice_get found row.base ≡ Some g → AreStepsBeside m f.states g.states steps
+  pub every : row.every ≡ false → (t : ℕ) → has_state steps.by_every t ≡ false
+
+-- the number is right in a column of a row
+abbrev pub IsCellOf : Machine → ByteClasses → Construction → ℕ → ℕ → ℕ → Type 0
+IsCellOf m classes c row col e = IsCell m classes.firsts classes.count c.found.items c.lists.items row col e

@@ -1,9 +1,9 @@
-use Rattle.std.proofs.Common.{◌≡◌, ℕ, ◌+◌, ◌*◌, ◌/◌, ◌≤◌, ◌∷◌, [], ◌++◌, IsTrue, length, refl, sym, ap, subst, ◌∙◌, arith, length-append}
+use Rattle.std.proofs.Common.{◌≡◌, ℕ, ◌+◌, ◌*◌, ◌/◌, ◌∷◌, [], ◌++◌, IsTrue, length, refl, sym, ap, subst, ◌∙◌, arith, length-append}
 use Rattle.std.specs.Prelude.{◌↔◌}
-use Rattle.byte_automaton.specs.Runs.{size, AcceptsFrom}
-use Rattle.byte_automaton.specs.Sets.{has_index, state_room}
+use Rattle.byte_automaton.specs.Runs.{AcceptsFrom}
+use Rattle.byte_automaton.specs.Sets.{has_index}
 use Rattle.byte_dfa.specs.declared.construction.Found.{Found}
-use Rattle.byte_dfa.specs.inner.Building.{half, IsFound}
+use Rattle.byte_dfa.specs.inner.Building.{half, HasRoomFor, IsFound}
 use Rattle.byte_dfa.specs.inner.Lists.{IsListOf}
 use Rattle.byte_dfa.proofs.lemmas.Lists.{list_kept, keeps_then}
 use Rattle.byte_dfa.proofs.lemmas.Found.{iff_trans, accepts_same, list_of_iff, found_kept, found_more, keeps_more, get_new}
@@ -26,7 +26,7 @@ returns-clause-grows c = λ _.
     let lists2 = c.push_list-2.new.numbers.items in
     let first = c.in_ok-on_entry.ensures in
     let second = c.in_ok-at_end.ensures in
-    let f : Found = record { states = c.in_ok-states.states; on_entry = c.in_ok-on_entry.on_entry; at_end = c.in_ok-at_end.at_end } in
+    let f : Found = record { states = c.in_ok-states.states; on_entry = c.in_ok-on_entry.on_entry; at_end = c.in_ok-at_end.at_end; below = c.args.below } in
     let copy = c.in_ok-states.ensures.cases in
     let set = c.in_ok-set.set in
     let found_by : (k : ℕ) → IsTrue (has_index set k) ↔ AcceptsFrom m f.states [] k = λ k.
@@ -36,7 +36,8 @@ returns-clause-grows c = λ _.
     subst (λ h. IsListOf lists1 h f.on_entry (λ k. IsTrue (has_index set (h + k)))) half_is first.list in
     let list2 : IsListOf lists2 (half m) f.at_end (λ k. IsTrue (has_index set (0 + k))) =
     subst (λ h. IsListOf lists2 h f.at_end (λ k. IsTrue (has_index set (0 + k)))) half_is second.list in
-    let room : size m ≤ state_room f.states = omega (arith, c.requires.room, copy.0) in
+    let enough = c.requires.room in
+    let room : HasRoomFor m f.states = record { room = omega (arith, enough.room, copy.0); least = omega (arith, enough.least, copy.0) } in
     let is : IsFound m lists2 f = record {
       room = room;
       on_entry = list_of_iff lists2 (half m) f.on_entry (λ k. IsTrue (has_index set (half m + k))) (λ k. AcceptsFrom m f.states [] (half m + k)) (λ k. found_by (half m + k))
@@ -62,5 +63,5 @@ returns-clause-grows c = λ _.
 
 pub returns-clause-number : goal.returns-clause-number
 returns-clause-number c = λ _.
-    let f : Found = record { states = c.in_ok-states.states; on_entry = c.in_ok-on_entry.on_entry; at_end = c.in_ok-at_end.at_end } in
+    let f : Found = record { states = c.in_ok-states.states; on_entry = c.in_ok-on_entry.on_entry; at_end = c.in_ok-at_end.at_end; below = c.args.below } in
     (f, rw c.in_ok-push.ensures.items (get_new c.args.self.now.found.items f), c.in_ok-states.ensures.cases.1)

@@ -16,7 +16,10 @@ loop-row-init c =
     let few = first.few in
     let few2 = second.few in
     record {
-      room = omega (arith, c.start.ensures.room, c.in_ok-states.ensures.room, c.state_count.ensures);
+      room = record {
+        room = omega (arith, c.start.ensures.room, c.in_ok-states.ensures.room, c.state_count.ensures);
+        least = omega (arith, c.start.ensures.room, c.in_ok-states.ensures.least, c.state_count.ensures);
+      };
       step_room = omega (
         arith,
         c.start.ensures.room,
@@ -44,12 +47,15 @@ loop-row-preserved c =
     let longer = keeps.0 in
     let few = made.few going in
     record {
-      room = omega (arith, inv.room, c.write_row.ensures.room);
-      step_room = c.write_row.ensures.step_room ∙ inv.step_room ∙ sym c.write_row.ensures.room;
+      room = record {
+        room = omega (arith, inv.room.room, c.write_row.ensures.room);
+        least = omega (arith, inv.room.least, c.write_row.ensures.room);
+      };
+      step_room = c.row_steps.ensures.step_room ∙ inv.step_room ∙ sym c.write_row.ensures.room;
       sound = made.sound going;
       few = omega (arith, inv.few);
       high = omega arith;
-      place = made.place going;
+      place = made.place going ∙ ap (λ r. (r + 1) * (c.args.classes.now.count + 2)) c.in_ok-written.ensures.number;
       begins = begins_kept m c.loop-row.built.found.items c.write_row.new.self.found.items c.in-Some-start.start keeps inv.begins;
     }
 

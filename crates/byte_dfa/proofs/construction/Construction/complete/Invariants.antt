@@ -1,13 +1,12 @@
 use Rattle.std.proofs.Common.{◌≡◌, ◌+◌, ◌-◌, ◌*◌, ◌≤◌, length}
-use Rattle.byte_automaton.specs.Runs.{size}
 use Rattle.byte_automaton.specs.ByteSteps.{step_room}
 use Rattle.byte_automaton.specs.Sets.{state_room}
-use Rattle.byte_dfa.specs.inner.Building.{IsSound, BeginsAt, total}
+use Rattle.byte_dfa.specs.inner.Building.{HasRoomFor, IsSound, BeginsAt, total}
 use Rattle.byte_dfa.proofs.construction.Construction.complete.Given as goal
 
 abbrev pub invariant-loop-row : goal.invariant-loop-row
 invariant-loop-row l = record {
-  room : size l.automaton ≤ state_room l.states;
+  room : HasRoomFor l.automaton l.states;
   step_room : step_room l.steps ≡ state_room l.states;
   sound : IsSound l.automaton l.classes l.built;
   few : total l.classes l.built ≤ l.room + 1;

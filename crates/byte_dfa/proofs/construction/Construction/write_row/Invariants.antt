@@ -10,6 +10,6 @@ invariant-loop-class l = record {
   sound : IsSound l.automaton l.classes l.self;
   few : total l.classes l.self ≤ total l.classes l.fn.self;
   keeps : KeepsFound l.fn.self.found.items l.self.found.items;
-  place : length l.self.rows.items ≡ l.row * (l.classes.count + 2) + l.class;
+  place : length l.self.rows.items ≡ l.row.number * (l.classes.count + 2) + l.class;
   common : (written : ℕ) → l.common ≡ Some written → (written < l.class) × (slice_index l.classes.firsts written < 256) × LeadsAsEvery l.steps (slice_index l.classes.firsts written);
 }
