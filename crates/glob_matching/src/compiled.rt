@@ -86,7 +86,7 @@ impl Compiled {
         }
         match filter_for(alloc, &automaton)? {
             Some(filter) => Ok(Compiled {
-                form: Form::Filtered(Filtered::of(automaton, filter)),
+                form: Form::Filtered(Filtered::of(automaton.with_blocks()?, filter)),
             }),
             None => Compiled::divided(alloc, budget, automaton),
         }
@@ -104,7 +104,7 @@ impl Compiled {
             Some(parts) => Ok(Compiled {
                 form: Form::Divided(parts),
             }),
-            None => Ok(Compiled::simulated(automaton)),
+            None => Ok(Compiled::simulated(automaton.with_blocks()?)),
         }
     }
 
