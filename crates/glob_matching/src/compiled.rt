@@ -90,7 +90,10 @@ impl Compiled {
         }
         match filter_for(alloc, &automaton)? {
             Some(filter) => Ok(Compiled {
-                form: Form::Filtered(Box::new(alloc, Filtered::of(automaton, filter))?),
+                form: Form::Filtered(Box::new(
+                    alloc,
+                    Filtered::of(automaton.with_blocks()?, filter),
+                )?),
             }),
             None => Compiled::divided(alloc, budget, automaton),
         }
@@ -108,7 +111,7 @@ impl Compiled {
             Some(parts) => Ok(Compiled {
                 form: Form::Divided(parts),
             }),
-            None => Ok(Compiled::simulated(automaton)),
+            None => Ok(Compiled::simulated(automaton.with_blocks()?)),
         }
     }
 

@@ -262,7 +262,8 @@ impl Division {
         let Some(part) = automaton.part(low, high)? else {
             return Ok(false);
         };
-        self.automata.push(part)?;
+        let part_with_blocks = part.with_blocks()?;
+        self.automata.push(part_with_blocks)?;
         Ok(true)
     }
 

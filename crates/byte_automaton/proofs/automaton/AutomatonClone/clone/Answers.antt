@@ -4,7 +4,8 @@ use Rattle.byte_automaton.proofs.automaton.AutomatonClone.clone.Goals as goal
 pub invariant_of-result : goal.invariant_of-result
 invariant_of-result c =
     let states : c.in_ok-from_slice.field-0.items ≡ c.self.inside.states.items = search rules in
-    let nexts : c.in_ok-from_slice-2.field-0.items ≡ c.self.inside.nexts.items = search rules in
+    let sets : c.in_ok-from_slice-2.field-0.items ≡ c.self.inside.sets.items = search rules in
+    let nexts : c.in_ok-from_slice-3.field-0.items ≡ c.self.inside.nexts.items = search rules in
     let blocks : c.in_ok-clone.field-0.by_word.items ≡ c.self.inside.blocks.by_word.items = search rules in
     let masks : c.in_ok-clone.field-0.masks.items ≡ c.self.inside.blocks.masks.items = search rules in
-    rw (states, nexts, blocks, masks) (c.self.inside.blocks_are, tt)
+    rw (states, sets, nexts, blocks, masks) (c.self.inside.blocks_are, tt)
