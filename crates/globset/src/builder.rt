@@ -58,7 +58,7 @@ impl GlobSetBuilder {
     /// The limit is for memory and time, and changes no answer. Globs that need an automaton get a deterministic one, together with
     /// others or alone, as far as the limit allows, and the time that it takes to make one. A run of it reads one entry of its
     /// table for each byte of a path. The other globs are simulated: each byte of a path then takes as many steps as their automaton
-    /// is in states, and calls without a scratch take two bits of memory for each of its states. If more than 64 globs of an
+    /// is in states, and calls without a scratch take two bits of memory for each of its states. If more than 32 globs of an
     /// automaton are simulated, a filter names the few that a path may match, where their texts allow one.
     ///
     /// With 0 there are no tables and no filters: the set takes the least time and memory to make, which is best for few paths. Memory
