@@ -4,3 +4,5 @@ pub mod Windows
 pub mod Starts
 pub mod Hashes
 pub mod Signatures
+pub mod Lists
+pub mod Others

@@ -1,6 +1,7 @@
 //! How rare windows are among those of all starts.
 
 ghost use Rattle.std.specs.Prelude.{◌<◌, ◌≤◌, length};
+ghost use Rattle.byte_filter.specs.inner.Others.{AreOfSome};
 
 use crate::filter::Signs;
 use crate::hashing::{MOST_PLACES, place};
@@ -81,6 +82,17 @@ impl Counts {
         let count = self.counts[place(key, self.counts.len())] as u64;
         count << 8 | commonness(key) as u64
     }
+}
+
+/// Returns eight of some bytes, of the rarest in texts. If there are fewer, the others are the sign that each text has.
+pub fn rarest_bytes(bytes: &[u8]) -> Signs
+    ensures { AreOfSome bytes.now result }
+{
+    let mut rarest = RarestSigns::new();
+    for i in 0..bytes.len() {
+        rarest.offer(bytes[i], byte_commonness(bytes[i]) as u64);
+    }
+    rarest.signs
 }
 
 /// The signs of the lowest frequencies of those that were offered.

@@ -71,7 +71,7 @@ fn words_of(text: &[u8]) -> [u64; 4]
 }
 
 /// Returns whether the bit of each of some signs is set.
-fn has_signs(words: &[u64; 4], signs: &[u8]) -> bool
+pub fn has_signs(words: &[u64; 4], signs: &[u8]) -> bool
     ensures { IsTrue result ↔ ((i : ℕ) → i < length signs.now → IsTrue (bit_of words.now (slice_index signs.now i))) }
 {
     for sign in signs {

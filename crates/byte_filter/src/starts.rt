@@ -4,22 +4,26 @@ ghost use Rattle.std.specs.Prelude.{◌≡◌, ℕ, ◌+◌, ◌*◌, ◌<◌, �
 ghost use Rattle.byte_automaton.specs.Sets.{has_index, index_room};
 ghost use Rattle.byte_automaton.specs.Steps.{Accepts, IsReached, Machine};
 ghost use Rattle.byte_filter.specs.Entries.{ArePartsBelow};
+ghost use Rattle.byte_filter.specs.Others.{AreOthersBelow};
 ghost use Rattle.byte_filter.specs.Starts.{IsGuarded, IsFilterOf, IsReachedMarked};
 ghost use Rattle.byte_filter.specs.inner.Cuts.{AreForced, AreRequired};
+ghost use Rattle.byte_filter.specs.inner.Others.{AreRequiredBytes};
 
-use crate::counts::Counts;
+use crate::counts::{Counts, rarest_bytes};
 use crate::filter::Filter;
+use crate::others::{OtherStart, mark_others};
 use crate::window::{StartWindows, find_required, forced_bytes};
 use byte_automaton::{Automaton, IndexSet};
 use std::alloc::{AllocError, Global};
 use std::marker::Model;
 use visits::Visits;
 
-/// Which starts of an automaton a text may lead from to an end: those with a window of the text, and those without a window.
+/// Which starts of an automaton a text may lead from to an end: those with a window of the text, and those without a window
+/// whose bytes the text has.
 pub struct StartFilter {
     filter: Filter,
     /// The starts without a window.
-    always: Vec<usize>,
+    others: Vec<OtherStart>,
     count: usize,
 }
 
@@ -28,7 +32,7 @@ impl Drop for StartFilter {
     fn drop(self) {
         let StartFilter {
             filter: _,
-            always: _,
+            others: _,
             count: _,
         } = self;
     }
@@ -41,9 +45,9 @@ impl Model for StartFilter {
 
     ghost use Rattle.byte_filter.specs.inner.Starts.{AreSound};
 
-    ghost view = { λ f. record { entries = f.filter; always = f.always.items; count = f.count } };
+    ghost view = { λ f. record { entries = f.filter; others = f.others.items; count = f.count } };
 
-    ghost invariant = { λ f. AreSound f.filter f.count };
+    ghost invariant = { λ f. AreSound f.filter f.others.items f.count };
 }
 
 impl Clone for StartFilter {
@@ -51,10 +55,10 @@ impl Clone for StartFilter {
 
     /// Returns a copy. Returns an error if memory runs out.
     fn clone(&self) -> Result<StartFilter, AllocError> {
-        let alloc = *self.always.allocator();
+        let alloc = *self.others.allocator();
         Ok(StartFilter {
             filter: self.filter.clone()?,
-            always: Vec::from_slice(alloc, &self.always)?,
+            others: Vec::from_slice(alloc, &self.others)?,
             count: self.count,
         })
     }
@@ -73,20 +77,20 @@ impl StartFilter {
     {
         let count = automaton.starts().len();
         let mut filter = Filter::new(alloc, count)?;
-        let mut always = Vec::new(alloc);
+        let mut others = Vec::new(alloc);
         let bytes = forced_bytes(alloc, automaton)?;
         let mut windows = StartWindows::new(alloc);
         let counts = counted(alloc, automaton, &bytes, &mut windows)?;
         for i in 0..count {
             find_required(automaton, &bytes, automaton.starts()[i], &mut windows)?;
-            guard(&windows, &counts, i, &mut filter, &mut always)?;
+            guard(&windows, &counts, i, &mut filter, &mut others)?;
         }
         if filter.len() < FEWEST_ENTRIES {
             return Ok(None);
         }
         Ok(Some(StartFilter {
             filter,
-            always,
+            others,
             count,
         }))
     }
@@ -98,11 +102,11 @@ impl StartFilter {
         self.count
     }
 
-    /// Returns the number of starts that are marked for each text, since they have no window.
-    pub fn always_count(&self) -> usize
-        ensures { result ≡ length self.now.always }
+    /// Returns the number of starts that have no window.
+    pub fn other_count(&self) -> usize
+        ensures { result ≡ length self.now.others }
     {
-        self.always.len()
+        self.others.len()
     }
 
     /// Puts the number of each start that a text may lead from to an end into a set, beside what it holds. It takes no memory.
@@ -117,7 +121,7 @@ impl StartFilter {
         ensures exact { (m : Machine) → IsFilterOf m self.now → (k : ℕ) → IsReached m text.now k ↔ IsReachedMarked m marks.new text.now k }
         ensures visits { visits.new ≤ visits.old + length text.now * (3 * self.now.count) }
     {
-        marks.put_all(&self.always);
+        mark_others(&self.others, text, marks);
         self.filter.mark(text, marks, visits);
     }
 }
@@ -140,17 +144,18 @@ fn counted(
     Ok(counts)
 }
 
-/// Makes the filter have the start of the number `i`: gives it an entry under one of its windows, or lists it if it has none.
+/// Makes the filter have the start of the number `i`: gives it an entry under one of its windows, or lists it with its bytes if it has none.
 fn guard(
     windows: &StartWindows,
     counts: &Counts,
     i: usize,
     filter: &mut Filter,
-    always: &mut Vec<usize>,
+    others: &mut Vec<OtherStart>,
 ) -> Result<(), AllocError>
-    ensures guarded { OnOk result ((m : Machine) → AreRequired m (slice_index m.starts i) windows.now.short.items windows.now.long.items → IsGuarded m filter.new always.new.items i) }
-    ensures kept { OnOk result ((m : Machine) (j : ℕ) → IsGuarded m filter.old always.old.items j → IsGuarded m filter.new always.new.items j) }
+    ensures guarded { OnOk result ((m : Machine) → AreRequired m (slice_index m.starts i) windows.now.short.items windows.now.long.items → AreRequiredBytes m (slice_index m.starts i) windows.now.bytes.items → IsGuarded m filter.new others.new.items i) }
+    ensures kept { OnOk result ((m : Machine) (j : ℕ) → IsGuarded m filter.old others.old.items j → IsGuarded m filter.new others.new.items j) }
     ensures below { OnOk result ((n : ℕ) → i < n → ArePartsBelow n filter.old → ArePartsBelow n filter.new) }
+    ensures others_below { OnOk result ((n : ℕ) → i < n → AreOthersBelow n others.old.items → AreOthersBelow n others.new.items) }
     ensures len { OnOk result (length filter.new ≤ length filter.old + 1) }
 {
     if let Ok(part) = u32::try_from(i) {
@@ -159,7 +164,8 @@ fn guard(
             return Ok(());
         }
     }
-    always.push(i)?;
+    let bytes = rarest_bytes(&windows.bytes);
+    others.push(OtherStart { start: i, bytes })?;
     Ok(())
 }
 

@@ -5,6 +5,7 @@ ghost use Rattle.byte_automaton.specs.Forcing.{Forces};
 ghost use Rattle.byte_automaton.specs.Runs.{size};
 ghost use Rattle.byte_automaton.specs.Steps.{Machine, state};
 ghost use Rattle.byte_filter.specs.inner.Cuts.{AreForced, AreRequired, ReadsThree, Stands};
+ghost use Rattle.byte_filter.specs.inner.Others.{AreRequiredBytes};
 
 use byte_automaton::Automaton;
 use std::alloc::{AllocError, Global};
@@ -12,13 +13,15 @@ use std::alloc::{AllocError, Global};
 /// The keys of windows of four bytes are not below this, and those of three bytes are. A folded byte is not 0.
 pub const LONG: u32 = 16_777_216;
 
-/// The keys of the windows that every text has which leads from a start to an end.
+/// The keys of the windows that every text has which leads from a start to an end, and such bytes.
 #[derive(Drop)]
 pub struct StartWindows {
     /// Those of three bytes, in the order in which they are in a text.
     pub short: Vec<u32>,
     /// Those of four bytes.
     pub long: Vec<u32>,
+    /// The bytes, folded.
+    pub bytes: Vec<u8>,
 }
 
 impl StartWindows {
@@ -27,6 +30,7 @@ impl StartWindows {
         StartWindows {
             short: Vec::new(alloc),
             long: Vec::new(alloc),
+            bytes: Vec::new(alloc),
         }
     }
 }
@@ -53,8 +57,8 @@ fn forced_byte(automaton: &Automaton, s: usize) -> u8
     }
 }
 
-/// Makes the windows those that each text has which leads from a state to an end: all that the states below it force. `bytes` has
-/// the byte that each state forces. Returns an error if memory runs out.
+/// Makes the windows and their bytes those that each text has which leads from a state to an end: all that the states below it
+/// force. `bytes` has the byte that each state forces. Returns an error if memory runs out.
 ///
 /// It reads the states from `start` down to an end.
 pub fn find_required(
@@ -64,10 +68,12 @@ pub fn find_required(
     windows: &mut StartWindows,
 ) -> Result<(), AllocError>
     requires { AreForced automaton.now bytes.now }
-    ensures { OnOk result (AreRequired automaton.now start windows.new.short.items windows.new.long.items) }
+    ensures windows { OnOk result (AreRequired automaton.now start windows.new.short.items windows.new.long.items) }
+    ensures bytes { OnOk result (AreRequiredBytes automaton.now start windows.new.bytes.items) }
 {
     windows.short.clear();
     windows.long.clear();
+    windows.bytes.clear();
     if start >= automaton.state_count() {
         return Ok(());
     }
@@ -75,7 +81,7 @@ pub fn find_required(
     let mut above = start + 1;
     while above > 0 {
         let s = above - 1;
-        push_windows(automaton, bytes, start, least, s, windows)?;
+        push_required(automaton, bytes, start, least, s, windows)?;
         let Some(next) = automaton.least_next(s) else {
             return Ok(());
         };
@@ -87,9 +93,9 @@ pub fn find_required(
     Ok(())
 }
 
-/// Pushes the keys of the windows that the state `s` forces, if every text comes to `s`: if no state above it goes on to one
-/// below `least`, and `s` is not above that.
-fn push_windows(
+/// Pushes what the state `s` forces, if every text comes to `s`: if no state above it goes on to one below `least`, and `s` is not
+/// above that.
+fn push_required(
     automaton: &Automaton,
     bytes: &[u8],
     start: usize,
@@ -101,11 +107,55 @@ fn push_windows(
     requires within { s < size automaton.now }
     requires order { s ≤ start }
     requires stands { (t : ℕ) → s < t → t ≤ start → Stands automaton.now.states least t }
-    ensures { OnOk result (AreRequired automaton.now start windows.old.short.items windows.old.long.items → AreRequired automaton.now start windows.new.short.items windows.new.long.items) }
+    ensures bytes { OnOk result (AreRequiredBytes automaton.now start windows.old.bytes.items → AreRequiredBytes automaton.now start windows.new.bytes.items) }
+    ensures windows { OnOk result (AreRequired automaton.now start windows.old.short.items windows.old.long.items → AreRequired automaton.now start windows.new.short.items windows.new.long.items) }
 {
     if s > least {
         return Ok(());
     }
+    push_byte(automaton, bytes[s], start, least, s, &mut windows.bytes)?;
+    push_windows(automaton, bytes, start, least, s, windows)
+}
+
+/// Pushes the byte that the state `s` forces, if it is not 0. Every text comes to `s`: no state above it goes on to one below
+/// `least`, and `s` is not above that.
+fn push_byte(
+    automaton: &Automaton,
+    byte: u8,
+    start: usize,
+    least: usize,
+    s: usize,
+    bytes: &mut Vec<u8>,
+) -> Result<(), AllocError>
+    requires forced { 0 < byte → Forces (state automaton.now.states s) s byte }
+    requires upto { s ≤ least }
+    requires order { s ≤ start }
+    requires stands { (t : ℕ) → s < t → t ≤ start → Stands automaton.now.states least t }
+    ensures { OnOk result (AreRequiredBytes automaton.now start bytes.old.items → AreRequiredBytes automaton.now start bytes.new.items) }
+{
+    if byte > 0 {
+        bytes.push(byte)?;
+    }
+    Ok(())
+}
+
+/// Pushes the keys of the windows that the state `s` forces. Every text comes to `s`, as for `push_byte`.
+fn push_windows(
+    automaton: &Automaton,
+    bytes: &[u8],
+    start: usize,
+    least: usize,
+    s: usize,
+    windows: &mut StartWindows,
+) -> Result<(), AllocError>
+    requires bytes { AreForced automaton.now bytes.now }
+    requires within { s < size automaton.now }
+    requires upto { s ≤ least }
+    requires order { s ≤ start }
+    requires stands { (t : ℕ) → s < t → t ≤ start → Stands automaton.now.states least t }
+    ensures bytes { windows.new.bytes ≡ windows.old.bytes }
+    ensures windows { OnOk result (AreRequired automaton.now start windows.old.short.items windows.old.long.items → AreRequired automaton.now start windows.new.short.items windows.new.long.items) }
+{
     let Some(three) = forced_three(bytes, s) else {
         return Ok(());
     };

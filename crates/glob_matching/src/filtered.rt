@@ -127,7 +127,7 @@ pub fn filter_for(alloc: Global, automaton: &Automaton) -> Result<Option<StartFi
         return Ok(None);
     }
     match StartFilter::new(alloc, automaton)? {
-        Some(filter) if filter.always_count() <= filter.count() / FEW => Ok(Some(filter)),
+        Some(filter) if filter.other_count() <= filter.count() / FEW => Ok(Some(filter)),
         _ => Ok(None),
     }
 }

@@ -11,7 +11,8 @@ loop-above-preserved-then-next-least c =
       least = omega (arith, inv.least, c.if-next-least.true);
       stands = stands_more c.args.automaton.now.states c.args.start s c.loop-above.above c.loop-above.least c.in-Some.next c.in-Some.next (omega arith) inv.stands
           c.least_next.ensures.below c.in-Some.ensures.least.0 c.in-Some.ensures.least.1 (omega (arith, c.if-next-least.true)) (omega arith);
-      keys = c.in_ok-push_windows.ensures inv.keys;
+      keys = c.in_ok-push_required.ensures.windows inv.keys;
+      bytes = c.in_ok-push_required.ensures.bytes inv.bytes;
     }
 
 pub loop-above-preserved : goal.loop-above-preserved
@@ -23,5 +24,9 @@ loop-above-preserved c =
       least = inv.least;
       stands = stands_more c.args.automaton.now.states c.args.start s c.loop-above.above c.loop-above.least c.in-Some.next c.loop-above.least (omega arith) inv.stands
           c.least_next.ensures.below c.in-Some.ensures.least.0 c.in-Some.ensures.least.1 (omega arith) (omega (arith, c.if-next-least.false));
-      keys = c.in_ok-push_windows.ensures inv.keys;
+      keys = c.in_ok-push_required.ensures.windows inv.keys;
+      bytes = c.in_ok-push_required.ensures.bytes inv.bytes;
     }
+
+pub returns-in_default-clause-bytes : goal.returns-in_default-clause-bytes
+returns-in_default-clause-bytes c = c.in_ok-push_required.ensures.bytes c.loop-above.invariant.bytes

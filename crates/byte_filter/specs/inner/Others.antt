@@ -1,0 +1,17 @@
+-- Bytes of texts, as bits.
+use Rattle.std.specs.Prelude.{◌≡◌, ℕ, ◌<◌, ◌⊎◌, List, length, slice_index, Contains, IsTrue}
+use Rattle.byte_automaton.specs.Bits.{bit_of}
+use Rattle.byte_automaton.specs.Steps.{Machine}
+use Rattle.byte_filter.specs.Others.{HasByteBefore, IsRequiredByte}
+
+-- the words have the bit of 255, and that of each of the first n bytes of the text, folded
+abbrev pub HasBytes : List ℕ → ℕ → List ℕ → Type 0
+HasBytes y n words = (c : ℕ) → (c ≡ 255) ⊎ HasByteBefore y n c → IsTrue (bit_of words c)
+
+-- each of eight numbers is 255, or one of the bytes
+abbrev pub AreOfSome : List ℕ → List ℕ → Type 0
+AreOfSome bytes signs = (i : ℕ) → i < 8 → (slice_index signs i ≡ 255) ⊎ Contains bytes (slice_index signs i)
+
+-- each text that leads from the state s to some end has each of the bytes
+abbrev pub AreRequiredBytes : Machine → ℕ → List ℕ → Type 0
+AreRequiredBytes m s bytes = (i : ℕ) → i < length bytes → IsRequiredByte m s (slice_index bytes i)
