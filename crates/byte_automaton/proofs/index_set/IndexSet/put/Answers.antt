@@ -1,5 +1,5 @@
 -- An index is put in: the words and their summary.
-use Rattle.std.proofs.Common.{◌≡◌, ◌++◌, length, drop, take, ap, ◌∙◌, rules}
+use Rattle.std.proofs.Common.{◌≡◌, ◌++◌, length, drop, take, ap, ◌∙◌, arith, rules}
 use Rattle.std.proofs.lemmas.List.{places}
 use Rattle.byte_automaton.proofs.lemmas.Summaries.{summary_put}
 use Rattle.byte_automaton.proofs.index_set.IndexSet.put.Goals as goal
@@ -19,3 +19,6 @@ invariant_of-self c =
           (λ k. rw c.deref_mut.ensures.value at c.set_bit.ensures k)
           (λ i. rw c.deref_mut-2.ensures.value at c.set_bit-2.ensures i);
     }
+
+pub set_bit-requires-2 : goal.set_bit-requires-2
+set_bit-requires-2 c = omega (arith, c.args.self.now.summed.room, ap length c.deref_mut-2.ensures.value)
