@@ -12,6 +12,14 @@ visits_within old now new i n size lt before step =
     let most : i * size ≤ n * size = mul-le-mul_right size (omega arith) in
     omega (arith, most)
 
+-- those of a run over all bytes, `mid` after these, and of a pass over the states from low to start
+pub visits_and_pass : (old mid new len width low start : ℕ) → start < low + width → mid ≤ old + len * width → new + low ≤ mid + (start + 1) → new ≤ old + (len + 1) * width
+visits_and_pass old mid new len width low start wide run pass = omega arith
+
+-- those of a run over all bytes alone
+pub visits_of_run : (old new len width : ℕ) → new ≤ old + len * width → new ≤ old + (len + 1) * width
+visits_of_run old new len width run = omega arith
+
 -- one number more is lowered
 pub lowered_next : (low i : ℕ) (xs : List ℕ) → i < length xs → all_lowered low (take i xs) ++ (get_or xs i 0 - low) ∷ [] ≡ all_lowered low (take (i + 1) xs)
 lowered_next low i xs lt = sym (map-append (λ x. x - low) (take i xs) (get_or xs i 0 ∷ [])) ∙ ap (all_lowered low) (sym (take_more xs i 0 lt))
