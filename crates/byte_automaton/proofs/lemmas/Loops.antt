@@ -6,10 +6,10 @@ use Rattle.std.proofs.Math.Nat.{mul-le-mul_right}
 use Rattle.byte_automaton.specs.Building.{AreBelow}
 use Rattle.byte_automaton.specs.inner.Lowering.{all_lowered}
 
--- the visits of a run that ends at the byte i of n
-pub visits_within : (old now new i n size : ℕ) → i < n → now ≤ old + i * size → new ≤ now + size → new ≤ old + (n + 1) * size
-visits_within old now new i n size lt before step =
-    let most : i * size ≤ n * size = mul-le-mul_right size (omega arith) in
+-- the visits of a run that has read i bytes of n, and of one more pass
+pub visits_within : (old now new i n size : ℕ) → i ≤ n → now ≤ old + i * size → new ≤ now + size → new ≤ old + (n + 1) * size
+visits_within old now new i n size le before step =
+    let most : i * size ≤ n * size = mul-le-mul_right size le in
     omega (arith, most)
 
 -- those of a run over all bytes, `mid` after these, and of a pass over the states from low to start

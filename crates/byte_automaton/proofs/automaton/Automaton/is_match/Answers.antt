@@ -56,4 +56,9 @@ returns-clause-some c =
 pub returns-then-not-some-clause-visits : goal.returns-then-not-some-clause-visits
 returns-then-not-some-clause-visits c =
     visits_within c.args.visits.now c.loop-byte.visits c.step-some.new.visits c.loop-byte.byte-index (length c.args.text.now) (size c.args.self.now)
-    c.loop-byte-test.true c.loop-byte.invariant.visits c.step-some.ensures.visits
+    (omega arith) c.loop-byte.invariant.visits c.step-some.ensures.visits
+
+pub returns-clause-visits : goal.returns-clause-visits
+returns-clause-visits c =
+    visits_within c.args.visits.now c.loop-byte.visits c.has_end.new.visits c.loop-byte.byte-index (length c.args.text.now) (size c.args.self.now)
+    c.loop-byte.auto.byte-index-end c.loop-byte.invariant.visits c.has_end.ensures.visits
