@@ -21,3 +21,4 @@ pub mod Lowered
 pub mod Taking
 pub mod Blocks
 pub mod Combining
+pub mod Loops

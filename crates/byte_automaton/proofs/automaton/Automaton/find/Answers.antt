@@ -3,6 +3,8 @@ use Rattle.std.proofs.lemmas.List.{drop_more, drop_all}
 use Rattle.std.proofs.Math.Logic.{⊎_elim}
 use Rattle.byte_automaton.specs.Sets.{index_room, state_room, has_index}
 use Rattle.byte_automaton.specs.Steps.{IsReached}
+use Rattle.byte_automaton.specs.Runs.{size}
+use Rattle.byte_automaton.proofs.lemmas.Loops.{visits_within}
 use Rattle.byte_automaton.proofs.lemmas.Pass.{iff_trans, or_left}
 use Rattle.byte_automaton.proofs.automaton.Automaton.find.Goals as goal
 
@@ -47,3 +49,13 @@ returns-then-not-some-clause-found c = λ k.
     let accepts = rw more at c.loop-byte.invariant.accepts k in
     let gone = λ (r : IsReached c.args.self.now text k). let (t, within, at, h) = (took.steps rest k).0 (accepts.0 r) in true≢false (sym (took.some.1 (t, within, at)) ∙ c.if-not-some.true) in
     (λ at. inr at, λ h. ⊎_elim {C = IsTrue (has_index c.args.into.now k)} (λ r. absurd (gone r)) (λ at. at) h)
+
+pub returns-then-not-some-clause-visits : goal.returns-then-not-some-clause-visits
+returns-then-not-some-clause-visits c =
+    visits_within c.args.visits.now c.loop-byte.visits c.step-some.new.visits c.loop-byte.byte-index (length c.args.text.now) (size c.args.self.now)
+    (omega arith) c.loop-byte.invariant.visits c.step-some.ensures.visits
+
+pub returns-clause-visits : goal.returns-clause-visits
+returns-clause-visits c =
+    visits_within c.args.visits.now c.loop-byte.visits c.ends.new.visits c.loop-byte.byte-index (length c.args.text.now) (size c.args.self.now)
+    c.loop-byte.auto.byte-index-end c.loop-byte.invariant.visits c.ends.ensures.visits

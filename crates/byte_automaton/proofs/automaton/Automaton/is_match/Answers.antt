@@ -1,6 +1,8 @@
 use Rattle.std.proofs.Common.{◌≡◌, min, true≢false, sym, ℕ, ◌+◌, ◌<◌, ◌∷◌, [], length, get_or, drop, arith, ap, ◌∙◌}
 use Rattle.std.proofs.lemmas.List.{drop_more, drop_all}
 use Rattle.byte_automaton.specs.Sets.{index_room, state_room}
+use Rattle.byte_automaton.specs.Runs.{size}
+use Rattle.byte_automaton.proofs.lemmas.Loops.{visits_within}
 use Rattle.byte_automaton.proofs.lemmas.Pass.{iff_trans}
 use Rattle.byte_automaton.proofs.automaton.Automaton.is_match.Goals as goal
 
@@ -50,3 +52,13 @@ returns-clause-some c =
       λ h. let (k, found) = c.has_end.ensures.some.0 h in (k, (rw past at c.loop-byte.invariant.accepts k).1 found),
       λ (k, r). c.has_end.ensures.some.1 (k, (rw past at c.loop-byte.invariant.accepts k).0 r),
     )
+
+pub returns-then-not-some-clause-visits : goal.returns-then-not-some-clause-visits
+returns-then-not-some-clause-visits c =
+    visits_within c.args.visits.now c.loop-byte.visits c.step-some.new.visits c.loop-byte.byte-index (length c.args.text.now) (size c.args.self.now)
+    (omega arith) c.loop-byte.invariant.visits c.step-some.ensures.visits
+
+pub returns-clause-visits : goal.returns-clause-visits
+returns-clause-visits c =
+    visits_within c.args.visits.now c.loop-byte.visits c.has_end.new.visits c.loop-byte.byte-index (length c.args.text.now) (size c.args.self.now)
+    c.loop-byte.auto.byte-index-end c.loop-byte.invariant.visits c.has_end.ensures.visits

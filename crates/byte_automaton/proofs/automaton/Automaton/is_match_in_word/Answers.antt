@@ -76,3 +76,9 @@ loop-s-preserved c =
         λ width less. let before = visits width less in omega (arith, before),
       );
     }
+
+pub returns-clause-visits : goal.returns-clause-visits
+returns-clause-visits c = λ width wide.
+    let (n, below, least, most, visits) = c.loop-s.invariant.bound in
+    let before = visits width wide in
+    omega (arith, before)

@@ -68,3 +68,6 @@ returns c =
     all_decisions m c.from_parts.result inside.sets.items inside.nexts.items c.loop-s.states.items inside.starts.items value
     (ap (λ (o : Machine). o.starts) c.self.view_is) len (λ s lt. inv.states s (omega (arith, inv.len)))
     (subst (λ (o : Machine). (s : ℕ) → NamesBelow o.index_count (state o.states s)) c.self.view_is c.self.invariant.named)
+
+pub overflow_add-state : goal.overflow_add-state
+overflow_add-state c = omega (arith, c.in-Some.ensures.0, c.in-Some-decided.ensures.1, ap (λ (m : Machine). m.index_count) c.self.view_is)
