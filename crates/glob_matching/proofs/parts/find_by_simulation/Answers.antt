@@ -1,4 +1,5 @@
 use Rattle.std.proofs.Common.{◌+◌, length, take, sym, arith, true≢false, ◌∙◌}
+use Rattle.std.proofs.lemmas.List.{take_all}
 use Rattle.byte_automaton.specs.Runs.{size}
 use Rattle.glob_matching.specs.inner.Parts.{total}
 use Rattle.glob_matching.proofs.lemmas.Parts.{found_more, visits_more, visits_upto, total_more, total_upto}
@@ -33,3 +34,13 @@ pub returns-in_err-find-clause-memory : goal.returns-in_err-find-clause-memory
 returns-in_err-find-clause-memory c = λ enough.
     let upto = total_upto c.args.automata.now c.loop-automaton.automaton-index c.automaton-item.result c.loop-automaton-test.true c.automaton-item.is in
     absurd (true≢false (sym (c.in_err-find.ensures.memory (omega (arith, upto, enough, c.loop-automaton.invariant.kept)))))
+
+pub returns-clause-found : goal.returns-clause-found
+returns-clause-found c = λ k.
+    let all = take_all c.loop-automaton.automaton-index c.args.automata.now c.loop-automaton-test.false in
+    rw all at c.loop-automaton.invariant.found k
+
+pub returns-clause-visits : goal.returns-clause-visits
+returns-clause-visits c =
+    let all = take_all c.loop-automaton.automaton-index c.args.automata.now c.loop-automaton-test.false in
+    rw all at c.loop-automaton.invariant.visits

@@ -1,4 +1,5 @@
 use Rattle.std.proofs.Common.{◌+◌, ◌<◌, length, ap, arith, ◌∙◌}
+use Rattle.std.proofs.lemmas.List.{take_all}
 use Rattle.byte_automaton.specs.Steps.{Machine}
 use Rattle.glob_matching.specs.inner.Parts.{sources}
 use Rattle.glob_matching.proofs.lemmas.Parts.{source_at, sources_length, found_more, visits_more}
@@ -24,3 +25,9 @@ loop-table-preserved c =
       found = λ k. found_more (sources tables) i c.table-item.result.source lt is c.args.text.now k (inv.found k) (c.find.ensures.found k);
       visits = visits_more (length c.args.text.now + 1) i 1 c.loop-table.visits c.find.new.visits c.args.visits.now (omega arith) inv.visits;
     }
+
+pub returns-clause-found : goal.returns-clause-found
+returns-clause-found c = λ k.
+    let tables = c.args.tables.now in
+    let all = take_all c.loop-table.table-index (sources tables) (omega (arith, sources_length tables)) in
+    rw all at c.loop-table.invariant.found k

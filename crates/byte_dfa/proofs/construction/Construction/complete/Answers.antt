@@ -1,6 +1,13 @@
 use Rattle.std.proofs.Common.{◌≡◌, ◌+◌, ◌*◌, length, true, ap, sym, ◌∙◌, arith}
+use Rattle.std.proofs.lemmas.Option.{slice_get_within}
 use Rattle.byte_dfa.proofs.lemmas.Begins.{begins_kept, begins_first}
 use Rattle.byte_dfa.proofs.construction.Construction.complete.Goals as goal
+
+pub number_of-requires-2-clause-dead : goal.number_of-requires-2-clause-dead
+number_of-requires-2-clause-dead c = λ none.
+    let (g, at, same) = rw c.in-Some.is at c.in_ok-dead.ensures.number in
+    let lt = slice_get_within c.number_of.new.self.found.items _ g at in
+    absurd (omega arith)
 
 pub loop-row-init : goal.loop-row-init
 loop-row-init c =

@@ -1,6 +1,8 @@
 use Rattle.std.proofs.Common.{◌≡◌, ℕ, ◌+◌, ◌*◌, ◌<◌, ◌∷◌, [], ◌++◌, Some, length, slice_index, refl, ap, sym, ◌∙◌, subst, arith, length-append}
 use Rattle.std.specs.Prelude.{slice_get}
+use Rattle.std.proofs.lemmas.Bool.{not-true}
 use Rattle.std.proofs.lemmas.Option.{slice_get_read}
+use Rattle.std.proofs.lemmas.Result.{IfOk-from_err}
 use Rattle.byte_automaton.specs.ByteSteps.{LeadsAsEvery}
 use Rattle.byte_dfa.proofs.lemmas.Bases.{row_kept}
 use Rattle.byte_dfa.proofs.lemmas.Found.{keeps_trans}
@@ -11,6 +13,46 @@ use Rattle.byte_dfa.proofs.construction.Construction.write_row.Goals.{in-Some+in
 pub shared_entry-requires-clause-row : goal.shared_entry-requires-clause-row
 shared_entry-requires-clause-row c =
     row_kept c.args.automaton.now c.args.self.now.found.items c.loop-class.self.found.items c.args.row c.args.steps.now c.loop-class.invariant.keeps c.requires.row
+
+pub shared_entry-requires-clause-this : goal.shared_entry-requires-clause-this
+shared_entry-requires-clause-this c = λ yes.
+    c.some_bytes-some.ensures.others (slice_index c.args.classes.now.firsts c.loop-class.class) (sym c.has-is_common.ensures ∙ not-true c.has-is_common.result yes)
+
+pub returns-in_err-push-in-Some-clause-sound : goal.returns-in_err-push-in-Some-clause-sound
+returns-in_err-push-in-Some-clause-sound c = IfOk-from_err _ _ c.from_residual.ensures.0
+
+pub returns-in_err-push-in-Some-clause-few : goal.returns-in_err-push-in-Some-clause-few
+returns-in_err-push-in-Some-clause-few c = IfOk-from_err _ _ c.from_residual.ensures.0
+
+pub returns-in_err-push-in-Some-clause-keeps : goal.returns-in_err-push-in-Some-clause-keeps
+returns-in_err-push-in-Some-clause-keeps c = IfOk-from_err _ _ c.from_residual.ensures.0
+
+pub returns-in_err-push-in-Some-clause-place : goal.returns-in_err-push-in-Some-clause-place
+returns-in_err-push-in-Some-clause-place c = IfOk-from_err _ _ c.from_residual.ensures.0
+
+pub returns-in_err-made-in-None-clause-sound : goal.returns-in_err-made-in-None-clause-sound
+returns-in_err-made-in-None-clause-sound c = IfOk-from_err _ _ c.from_residual-in_err-made-in-None.ensures.0
+
+pub returns-in_err-made-in-None-clause-few : goal.returns-in_err-made-in-None-clause-few
+returns-in_err-made-in-None-clause-few c = IfOk-from_err _ _ c.from_residual-in_err-made-in-None.ensures.0
+
+pub returns-in_err-made-in-None-clause-keeps : goal.returns-in_err-made-in-None-clause-keeps
+returns-in_err-made-in-None-clause-keeps c = IfOk-from_err _ _ c.from_residual-in_err-made-in-None.ensures.0
+
+pub returns-in_err-made-in-None-clause-place : goal.returns-in_err-made-in-None-clause-place
+returns-in_err-made-in-None-clause-place c = IfOk-from_err _ _ c.from_residual-in_err-made-in-None.ensures.0
+
+pub returns-in_err-push-2-clause-sound : goal.returns-in_err-push-2-clause-sound
+returns-in_err-push-2-clause-sound c = IfOk-from_err _ _ c.from_residual-in_err-push-2.ensures.0
+
+pub returns-in_err-push-2-clause-few : goal.returns-in_err-push-2-clause-few
+returns-in_err-push-2-clause-few c = IfOk-from_err _ _ c.from_residual-in_err-push-2.ensures.0
+
+pub returns-in_err-push-2-clause-keeps : goal.returns-in_err-push-2-clause-keeps
+returns-in_err-push-2-clause-keeps c = IfOk-from_err _ _ c.from_residual-in_err-push-2.ensures.0
+
+pub returns-in_err-push-2-clause-place : goal.returns-in_err-push-2-clause-place
+returns-in_err-push-2-clause-place c = IfOk-from_err _ _ c.from_residual-in_err-push-2.ensures.0
 
 pub new_entry-requires-clause-row : goal.new_entry-requires-clause-row
 new_entry-requires-clause-row c =

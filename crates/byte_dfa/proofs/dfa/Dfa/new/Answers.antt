@@ -1,7 +1,17 @@
 use Rattle.std.proofs.Common.{◌+◌, ◌*◌, ◌≤◌, length, refl, arith}
 use Rattle.byte_dfa.specs.inner.Tables.{special}
+use Rattle.std.proofs.lemmas.Option.{slice_get_within}
+use Rattle.byte_dfa.proofs.lemmas.Cells.{before_row}
 use Rattle.byte_dfa.proofs.lemmas.Runs.{table_is}
 use Rattle.byte_dfa.proofs.dfa.Dfa.new.Goals as goal
+
+pub overflow_mul-result : goal.overflow_mul-result
+overflow_mul-result c =
+    let found = c.in-Some-complete.built.found.items in
+    let whole = rw c.in-Some-complete.is at c.in_ok-complete.ensures in
+    let lt = slice_get_within found c.in-Some-complete.start whole.begins.set whole.begins.at in
+    let below = before_row c.in-Some-complete.start (length found) c.new-classes.result.count lt in
+    omega (arith, below, whole.rows, whole.few)
 
 pub invariant_of-result : goal.invariant_of-result
 invariant_of-result c =
