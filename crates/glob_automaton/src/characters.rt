@@ -73,8 +73,7 @@ fn add_first_two(
     ensures builds { IfOk result (λ s. BuildsRow (is_between (first, first) ∷ is_between second ∷ []) builder.old.states builder.new.states s next) }
 {
     let then = builder.push_read(bytes_between(second.0, second.1), next)?;
-    let start = builder.push_read(bytes_between(first, first), then)?;
-    Ok(start)
+    builder.push_read(bytes_between(first, first), then)
 }
 
 /// Adds the states of the first bytes of characters of three bytes. `one` and `two` are the states of the last byte and of the

@@ -80,8 +80,7 @@ fn add_to_slash(builder: &mut Builder, exit: usize) -> Result<usize, AllocError>
 {
     let slash = builder.push_read(ByteSet::only(b'/'), exit)?;
     let stay = builder.push_stay(ByteSet::everything(), slash)?;
-    let start = builder.push_skip(&[exit, stay])?;
-    Ok(start)
+    builder.push_skip(&[exit, stay])
 }
 
 /// Adds the states of a `?`.
@@ -93,11 +92,9 @@ fn add_any(builder: &mut Builder, options: Options, exit: usize) -> Result<usize
     ensures builds { IfOk result (λ s. BuildsToken options Any builder.old.states builder.new.states s exit) }
 {
     if options.whole_character {
-        let start = add_character(builder, options, exit)?;
-        Ok(start)
+        add_character(builder, options, exit)
     } else {
-        let start = builder.push_read(wild_bytes(options), exit)?;
-        Ok(start)
+        builder.push_read(wild_bytes(options), exit)
     }
 }
 

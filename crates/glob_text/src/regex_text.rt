@@ -32,11 +32,11 @@ pub fn regex_of_tokens(
 fn push_flags(text: &mut String, options: Options) -> Result<(), AllocError>
     ensures { OnOk result (string_bytes text.new ≡ string_bytes text.old ++ flags_text options) }
 {
-    text.push_str("(?-u)")?;
-    if options.case_insensitive {
-        text.push_str("(?i)")?;
-    }
-    Ok(())
+    text.push_str(if options.case_insensitive {
+        "(?-u)(?i)"
+    } else {
+        "(?-u)"
+    })
 }
 
 /// Pushes what stands between the `^` and the `$`.
@@ -50,11 +50,10 @@ fn push_body(
     ensures { OnOk result (string_bytes text.new ≡ string_bytes text.old ++ body_text options (tokens_of tokens.now)) }
 {
     if is_prefix_alone(tokens) {
-        text.push_str(".*")?;
+        text.push_str(".*")
     } else {
-        push_tokens(alloc, text, options, tokens)?;
+        push_tokens(alloc, text, options, tokens)
     }
-    Ok(())
 }
 
 /// A group whose text is being written.
@@ -157,17 +156,16 @@ fn push_simple(text: &mut String, options: Options, token: &Token) -> Result<(),
     ensures { OnOk result (string_bytes text.new ≡ string_bytes text.old ++ simple_text options (flat_of token.now)) }
 {
     match token {
-        Token::Literal(c) => push_char(text, *c)?,
-        Token::Any => push_any(text, options)?,
-        Token::ZeroOrMore if options.literal_separator => text.push_str("[^/]*")?,
-        Token::ZeroOrMore => text.push_str(".*")?,
-        Token::RecursivePrefix => text.push_str("(?:/?|.*/)")?,
-        Token::RecursiveSuffix => text.push_str("/.*")?,
-        Token::RecursiveZeroOrMore => text.push_str("(?:/|/.*/)")?,
-        Token::Class(class) => push_class(text, class)?,
+        Token::Literal(c) => push_char(text, *c),
+        Token::Any => push_any(text, options),
+        Token::ZeroOrMore if options.literal_separator => text.push_str("[^/]*"),
+        Token::ZeroOrMore => text.push_str(".*"),
+        Token::RecursivePrefix => text.push_str("(?:/?|.*/)"),
+        Token::RecursiveSuffix => text.push_str("/.*"),
+        Token::RecursiveZeroOrMore => text.push_str("(?:/|/.*/)"),
+        Token::Class(class) => push_class(text, class),
         Token::Open | Token::Comma | Token::Close => unreachable!(),
     }
-    Ok(())
 }
 
 /// The characters of two bytes or more, after those of one byte.
@@ -185,13 +183,12 @@ fn push_any(text: &mut String, options: Options) -> Result<(), AllocError>
     ensures { OnOk result (string_bytes text.new ≡ string_bytes text.old ++ any_text options) }
 {
     if options.whole_character {
-        push_character(text, options)?;
+        push_character(text, options)
     } else if options.literal_separator {
-        text.push_str("[^/]")?;
+        text.push_str("[^/]")
     } else {
-        text.push_str(".")?;
+        text.push_str(".")
     }
-    Ok(())
 }
 
 /// Pushes the text of a `?` that matches a whole character.
@@ -222,8 +219,7 @@ fn push_class(text: &mut String, class: &Class) -> Result<(), AllocError>
     for range in class.ranges() {
         push_range(text, *range)?;
     }
-    text.push_str("]")?;
-    Ok(())
+    text.push_str("]")
 }
 
 /// Pushes the text of a range of a class.
@@ -232,11 +228,11 @@ fn push_range(text: &mut String, range: (char, char)) -> Result<(), AllocError>
 {
     let (first, last) = range;
     push_char(text, first)?;
-    if first != last {
-        text.push_str("-")?;
-        push_char(text, last)?;
+    if first == last {
+        return Ok(());
     }
-    Ok(())
+    text.push_str("-")?;
+    push_char(text, last)
 }
 
 /// Pushes the text of a character.
@@ -270,8 +266,7 @@ fn push_ascii(text: &mut String, byte: u8) -> Result<(), AllocError>
     requires { byte < 128 }
     ensures { OnOk result (string_bytes text.new ≡ string_bytes text.old ++ byte ∷ []) }
 {
-    text.push(byte as char)?;
-    Ok(())
+    text.push(byte as char)
 }
 
 /// The ASCII characters that have a backslash before them.

@@ -1,10 +1,10 @@
 //! The tokens of a piece.
 
-ghost use Rattle.std.specs.Prelude.{◌≡◌, ◌≤◌, ◌<◌, ◌+◌, ◌∷◌, length, map, replicate, ◌++◌, IfOk, OnOk};
+ghost use Rattle.std.specs.Prelude.{◌≡◌, ◌≤◌, ◌<◌, ◌+◌, ◌∷◌, [], length, map, replicate, ◌++◌, IfOk, OnOk};
 ghost use Rattle.glob_syntax.specs.Token.{ZeroOrMore};
 ghost use Rattle.glob_syntax.specs.Stars.{run_piece, slash_piece, piece};
 ghost use Rattle.glob_syntax.specs.FlatTokens.{simple};
-ghost use Rattle.glob_syntax.specs.Views.{flats};
+ghost use Rattle.glob_syntax.specs.Views.{flat_of, flats};
 ghost use Rattle.glob_syntax.specs.inner.MarkViews.{mark_of, marks_of, Adds};
 
 use crate::class::{Class, ranges};
@@ -27,16 +27,24 @@ fn push_run(
 {
     let count = pairs(rest);
     if start && count > 0 {
-        out.push(Token::RecursivePrefix)?;
-        if last_run(rest.split_at(count).1) {
-            Ok(count)
+        let more = if last_run(rest.split_at(count).1) {
+            count
         } else {
-            Ok(count - 1)
-        }
+            count - 1
+        };
+        push_token(out, Token::RecursivePrefix, more)
     } else {
         push_stars(out, n)?;
         Ok(0)
     }
+}
+
+/// Pushes the only token of a piece. Returns `more`, how many marks belong to the piece after its first one.
+fn push_token(out: &mut Vec<Token>, token: Token, more: usize) -> Result<usize, AllocError>
+    ensures { IfOk result (λ n. (flats out.new.items ≡ flats out.old.items ++ flat_of token ∷ []) × (n ≡ more)) }
+{
+    out.push(token)?;
+    Ok(more)
 }
 
 /// Pushes `n` tokens `*`.
@@ -57,14 +65,11 @@ fn push_slash(out: &mut Vec<Token>, after: &[Mark<'_>]) -> Result<usize, AllocEr
 {
     let count = pairs(after);
     if last_run(after.split_at(count).1) {
-        out.push(Token::RecursiveSuffix)?;
-        Ok(count + 1)
+        push_token(out, Token::RecursiveSuffix, count + 1)
     } else if count > 0 {
-        out.push(Token::RecursiveZeroOrMore)?;
-        Ok(count)
+        push_token(out, Token::RecursiveZeroOrMore, count)
     } else {
-        out.push(Token::Literal('/'))?;
-        Ok(0)
+        push_token(out, Token::Literal('/'), 0)
     }
 }
 
@@ -89,19 +94,14 @@ pub fn push_piece(
             if c == '/' {
                 push_slash(out, after)
             } else {
-                out.push(Token::Literal(c))?;
-                Ok(0)
+                push_token(out, Token::Literal(c), 0)
             }
         }
-        Mark::One => {
-            out.push(Token::Any)?;
-            Ok(0)
-        }
+        Mark::One => push_token(out, Token::Any, 0),
         Mark::Class { negated, body } => {
             let ranges = ranges(alloc, body)?;
             let class = Class::new(alloc, negated, ranges)?;
-            out.push(Token::Class(class))?;
-            Ok(0)
+            push_token(out, Token::Class(class), 0)
         }
         Mark::Open => Ok(0),
         Mark::Comma => Ok(0),

@@ -64,6 +64,24 @@ impl ErrorKind {
         }
     }
 
+    /// Returns whether the kinds are the same variant, and its characters or its text are equal.
+    fn is_same(&self, other: &ErrorKind) -> bool
+        ensures { result ≡ same_kind self.now other.now }
+    {
+        match (self, other) {
+            (ErrorKind::UnclosedClass, ErrorKind::UnclosedClass) => true,
+            (ErrorKind::InvalidRange(s, e), ErrorKind::InvalidRange(t, f)) => s == t && e == f,
+            (ErrorKind::UnopenedAlternates, ErrorKind::UnopenedAlternates) => true,
+            (ErrorKind::UnclosedAlternates, ErrorKind::UnclosedAlternates) => true,
+            (ErrorKind::DanglingEscape, ErrorKind::DanglingEscape) => true,
+            (ErrorKind::OutOfMemory, ErrorKind::OutOfMemory) => true,
+            (ErrorKind::InvalidRecursive, ErrorKind::InvalidRecursive) => true,
+            (ErrorKind::NestedAlternates, ErrorKind::NestedAlternates) => true,
+            (ErrorKind::Regex(text), ErrorKind::Regex(other)) => text == other,
+            _ => false,
+        }
+    }
+
     /// Returns an equal kind, or an error if memory runs out. Only the text of [`ErrorKind::Regex`] needs memory.
     pub fn clone(&self) -> Result<ErrorKind, Error>
         ensures ok { IfOk result (λ k. SameKind k self.now) }
@@ -104,18 +122,7 @@ impl PartialEq for ErrorKind {
         ensures result { result ≡ same_kind self.now other.now }
         ensures same { IsTrue result ↔ SameKind self.now other.now }
     {
-        match (self, other) {
-            (ErrorKind::UnclosedClass, ErrorKind::UnclosedClass) => true,
-            (ErrorKind::InvalidRange(s, e), ErrorKind::InvalidRange(t, f)) => s == t && e == f,
-            (ErrorKind::UnopenedAlternates, ErrorKind::UnopenedAlternates) => true,
-            (ErrorKind::UnclosedAlternates, ErrorKind::UnclosedAlternates) => true,
-            (ErrorKind::DanglingEscape, ErrorKind::DanglingEscape) => true,
-            (ErrorKind::OutOfMemory, ErrorKind::OutOfMemory) => true,
-            (ErrorKind::InvalidRecursive, ErrorKind::InvalidRecursive) => true,
-            (ErrorKind::NestedAlternates, ErrorKind::NestedAlternates) => true,
-            (ErrorKind::Regex(text), ErrorKind::Regex(other)) => text == other,
-            _ => false,
-        }
+        self.is_same(other)
     }
 }
 

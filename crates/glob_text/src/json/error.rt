@@ -36,6 +36,22 @@ pub enum ValueErrorKind {
     Glob(Error),
 }
 
+impl ValueErrorKind {
+    /// Returns whether the kinds are the same variant, and its errors are equal.
+    fn is_same(&self, other: &ValueErrorKind) -> bool
+        ensures { result ≡ same_value_kind self.now other.now }
+    {
+        match (self, other) {
+            (ValueErrorKind::NotText, ValueErrorKind::NotText) => true,
+            (ValueErrorKind::UnknownKey, ValueErrorKind::UnknownKey) => true,
+            (ValueErrorKind::NotBool, ValueErrorKind::NotBool) => true,
+            (ValueErrorKind::NotArray, ValueErrorKind::NotArray) => true,
+            (ValueErrorKind::Glob(error), ValueErrorKind::Glob(other)) => error == other,
+            _ => false,
+        }
+    }
+}
+
 /// An equal kind. The error says that memory ran out.
 impl Clone for ValueErrorKind {
     ghost is_clone = { λ k l. SameValueKind l k };
@@ -62,14 +78,7 @@ impl PartialEq for ValueErrorKind {
         ensures result { result ≡ same_value_kind self.now other.now }
         ensures same { IsTrue result ↔ SameValueKind self.now other.now }
     {
-        match (self, other) {
-            (ValueErrorKind::NotText, ValueErrorKind::NotText) => true,
-            (ValueErrorKind::UnknownKey, ValueErrorKind::UnknownKey) => true,
-            (ValueErrorKind::NotBool, ValueErrorKind::NotBool) => true,
-            (ValueErrorKind::NotArray, ValueErrorKind::NotArray) => true,
-            (ValueErrorKind::Glob(error), ValueErrorKind::Glob(other)) => error == other,
-            _ => false,
-        }
+        self.is_same(other)
     }
 }
 
