@@ -9,6 +9,7 @@ pub mod Parts
 pub mod StepLists
 pub mod Changes
 pub mod Ending
+pub mod Live
 pub mod Disjoint
 pub mod Clearing
 pub mod IndexSets

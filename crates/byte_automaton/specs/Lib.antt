@@ -4,6 +4,7 @@ pub mod Sets
 pub mod Steps
 pub mod Building
 pub mod Runs
+pub mod Live
 pub mod Alike
 pub mod Decisions
 pub mod Parts

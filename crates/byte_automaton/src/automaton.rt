@@ -13,6 +13,7 @@ ghost use Rattle.byte_automaton.specs.inner.Pass.{goes_now, goes_next, names, En
 
 mod forcing;
 mod in_word;
+mod live;
 mod parts;
 mod passes;
 mod spans;

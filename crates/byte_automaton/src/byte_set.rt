@@ -131,6 +131,13 @@ impl ByteSet {
         (low.wrapping_add(high) >> 56) as usize
     }
 
+    /// Returns whether the set has some byte.
+    pub(crate) fn has_some(&self) -> bool
+        ensures { IsTrue result ↔ ((c : ℕ) × (c < 256) × IsTrue (has_byte self.now c)) }
+    {
+        self.first_from(0).is_some()
+    }
+
     /// Returns whether the set has every byte.
     pub(crate) fn is_everything(&self) -> bool
         ensures { IsTrue result ↔ HasEvery self.now }
@@ -160,7 +167,7 @@ impl ByteSet {
 
     /// Returns the lowest byte of the set that is not below a number.
     fn first_from(&self, from: usize) -> Option<u8>
-        ensures { MatchOption result ((c : ℕ) → from ≤ c → has_byte self.now c ≡ false) (λ byte. (from ≤ byte) × ((c : ℕ) → from ≤ c → c < byte → has_byte self.now c ≡ false)) }
+        ensures { MatchOption result ((c : ℕ) → from ≤ c → has_byte self.now c ≡ false) (λ byte. (from ≤ byte) × IsTrue (has_byte self.now byte) × ((c : ℕ) → from ≤ c → c < byte → has_byte self.now c ≡ false)) }
     {
         match first_from(&self.words, from) {
             Some(at) => Some(at as u8),

@@ -6,6 +6,7 @@ ghost use Rattle.byte_automaton.specs.Steps.{Accepts, IsReached};
 ghost use Rattle.byte_automaton.specs.Runs.{size, AcceptsFrom};
 ghost use Rattle.byte_automaton.specs.Spans.{IsSpan, IsWithin};
 
+mod after;
 mod in_word;
 
 use crate::automaton::Automaton;

@@ -10,7 +10,7 @@ ghost use Rattle.byte_automaton.specs.Parts.{AreFrom, GoesFrom};
 ghost use Rattle.byte_automaton.specs.ByteSteps.{leads_to, step_room};
 ghost use Rattle.byte_automaton.specs.inner.Exits.{StaysBefore};
 ghost use Rattle.byte_automaton.specs.inner.Views.{set_at, exits_at, of_state, IsHeld, GoesBelow};
-ghost use Rattle.byte_automaton.specs.inner.Pass.{goes_now, goes_next, names, EndsBy};
+ghost use Rattle.byte_automaton.specs.inner.Pass.{goes_now, goes_next, names, EndsBy, LeadsBy};
 
 mod in_word;
 
@@ -149,6 +149,22 @@ impl State {
             State::Reads(_, _) => false,
             State::Skips(at) => ending.has_any(exits_of(nexts, *at)),
             State::Stays(_, exit) => ending.has(*exit),
+            State::End(_) => true,
+        }
+    }
+
+    /// Returns whether a state is an end, or goes on to a state of a set without a byte, or by a byte to a lower state of the
+    /// set.
+    pub fn is_leading(&self, s: usize, sets: &[ByteSet], nexts: &[usize], live: &StateSet) -> bool
+        requires held { IsHeld sets.now nexts.now self.now }
+        requires below { GoesBelow s (of_state sets.now nexts.now self.now) }
+        requires room { s < state_room live.now }
+        ensures { IsTrue result ↔ LeadsBy (of_state sets.now nexts.now self.now) s (has_state live.now) }
+    {
+        match self {
+            State::Reads(set, next) => live.has(*next) && set_of(sets, *set).has_some(),
+            State::Skips(at) => live.has_any(exits_of(nexts, *at)),
+            State::Stays(_, exit) => live.has(*exit),
             State::End(_) => true,
         }
     }

@@ -6,3 +6,4 @@ pub mod Begins
 pub mod Runs
 pub mod Steps
 pub mod Bases
+pub mod After

@@ -4,7 +4,7 @@ ghost use Rattle.std.specs.Prelude.{◌≡◌, ℕ, ◌+◌, ◌*◌, ◌<◌, �
 ghost use Rattle.byte_automaton.specs.Runs.{size, AcceptsFrom, AreEnding};
 ghost use Rattle.byte_automaton.specs.ByteSteps.{step_room, LeadsAsEvery};
 ghost use Rattle.byte_automaton.specs.Sets.{has_index, state_room};
-ghost use Rattle.byte_dfa.specs.inner.Building.{AreFoundSets, AreAllEnding, IsEntryTo, IsBase, IsCellOf, IsRowOf, IsSound, IsNumbered, KeepsFound, Grows, HasRoomFor, IsComplete, total};
+ghost use Rattle.byte_dfa.specs.inner.Building.{AreFoundSets, AreAllEnding, IsEntryTo, IsBase, IsCellOf, IsRowOf, IsSound, IsNumbered, KeepsFound, Grows, HasRoomFor, IsComplete, AreLiveSets, total};
 ghost use Rattle.byte_dfa.specs.inner.Tables.{special};
 
 use crate::classes::ByteClasses;
@@ -102,6 +102,21 @@ impl Construction {
             row += 1;
         }
         Ok(Some((built, start)))
+    }
+
+    /// Returns for each set that was found whether some bytes lead from it to an end. Returns an error if memory runs out.
+    pub fn live_rows(&self, alloc: Global, automaton: &Automaton) -> Result<Vec<bool>, AllocError>
+        requires { AreFoundSets automaton.now self.now.found.items self.now.lists.items }
+        ensures { IfOk result (λ live. AreLiveSets automaton.now self.now.found.items live.items) }
+    {
+        let mut live = StateSet::new(alloc, automaton.state_count())?;
+        automaton.live(&mut live);
+        let mut rows = Vec::new(alloc);
+        for row in 0..self.found.len() {
+            let is_live = automaton.has_live(&self.found[row].states, &live, &mut Visits::new());
+            rows.push(is_live)?;
+        }
+        Ok(rows)
     }
 
     /// Returns a construction of no states, with room for so many numbers.

@@ -1,7 +1,8 @@
 //! A deterministic automaton.
 
-ghost use Rattle.std.specs.Prelude.{◌≡◌, ℕ, ◌+◌, ◌≤◌, ◌⊎◌, ◌↔◌, ◌<◌, ◌^◌, length, slice_index, IsTrue, IfOk, IfSome};
+ghost use Rattle.std.specs.Prelude.{◌≡◌, ℕ, ◌+◌, ◌≤◌, ◌⊎◌, ◌↔◌, ◌<◌, ◌^◌, ◌++◌, ◌∷◌, [], length, slice_index, IsTrue, IfOk, IfSome};
 ghost use Rattle.byte_automaton.specs.Sets.{has_index, index_room};
+ghost use Rattle.byte_automaton.specs.Live.{MatchesAfter};
 ghost use Rattle.byte_automaton.specs.Steps.{IsReached};
 ghost use Rattle.byte_dfa.specs.DfaValue.{DfaValue};
 ghost use Rattle.byte_dfa.specs.inner.Tables.{table_of, IsTableOf};
@@ -30,6 +31,8 @@ pub struct Dfa {
     index_count: usize,
     /// A text that ends with another byte leads to no end.
     last_bytes: ByteSet,
+    /// For each row, whether some bytes lead from it to an end.
+    live: Vec<bool>,
     source: Source,
 }
 
@@ -44,6 +47,7 @@ impl Drop for Dfa {
             lists: _,
             index_count: _,
             last_bytes: _,
+            live: _,
             source: _,
         } = self;
     }
@@ -56,7 +60,7 @@ impl Model for Dfa {
 
     ghost view = { λ d. record { source = d.source; size = length d.table.items + length d.lists.items } };
 
-    ghost invariant = { λ d. IsTableOf d.source (table_of d.class_of d.width d.table.items d.start d.lists.items d.index_count) d.last_bytes };
+    ghost invariant = { λ d. IsTableOf d.source (table_of d.class_of d.width d.table.items d.start d.lists.items d.index_count) d.last_bytes d.live.items };
 }
 
 impl Clone for Dfa {
@@ -73,6 +77,7 @@ impl Clone for Dfa {
             lists: Vec::from_slice(alloc, &self.lists)?,
             index_count: self.index_count,
             last_bytes: self.last_bytes,
+            live: Vec::from_slice(alloc, &self.live)?,
             source: self.source.copy(),
         })
     }
@@ -103,6 +108,7 @@ impl Dfa {
         let Some((built, start)) = complete else {
             return Ok(None);
         };
+        let live = built.live_rows(alloc, &decided)?;
         Ok(Some(Dfa {
             class_of: classes.class_of,
             width: classes.count,
@@ -111,6 +117,7 @@ impl Dfa {
             lists: built.lists,
             index_count: automaton.index_count(),
             last_bytes,
+            live,
             source: Source::of(automaton),
         }))
     }
@@ -199,6 +206,34 @@ impl Dfa {
         }
         visits.tick();
         has_some(&self.lists, table[state + self.width + 1] as usize)
+    }
+
+    /// Returns whether some text that begins with `text` and then `byte` leads to some end.
+    ///
+    /// It reads at most one entry for each byte. It is at most one visit for each byte, and takes no memory.
+    pub fn can_match_after(&self, text: &[u8], byte: u8, visits: &mut Visits) -> bool
+        ensures some { IsTrue result ↔ MatchesAfter self.now.source (text.now ++ byte ∷ []) }
+        ensures visits { visits.new ≤ visits.old + (length text.now + 1) }
+    {
+        let table = self.table.as_slice();
+        let mut state = self.start;
+        if has_some(&self.lists, table[state + self.width] as usize) {
+            return true;
+        }
+        for read in text {
+            state = next(table, &self.class_of, state, *read, visits);
+            if state >= SPECIAL {
+                state -= SPECIAL;
+                if state == DEAD {
+                    return false;
+                }
+                if has_some(&self.lists, table[state + self.width] as usize) {
+                    return true;
+                }
+            }
+        }
+        let last = next(table, &self.class_of, state, byte, visits) % SPECIAL;
+        self.live[last / (self.width + 2)]
     }
 
     /// Returns whether the last byte of a text shows that it leads to no end.

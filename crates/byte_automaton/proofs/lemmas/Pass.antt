@@ -273,6 +273,11 @@ pub no_end : (P : Type 0) (Q : ℕ → Type 0) (o : Option ℕ) → MatchOption 
 no_end P Q None h e = h
 no_end P Q (Some k) h e = absurd (true≢false e)
 
+-- a number that is found is found
+pub some_there : (P : Type 0) (Q : ℕ → Type 0) (o : Option ℕ) → MatchOption o P Q → (P → ⊥) → is_some o ≡ true
+some_there P Q None h never = absurd (never h)
+some_there P Q (Some k) h never = refl
+
 -- a fact beside the others
 pub or_left : {P Q R S : Type 0} → P ↔ Q → R ↔ (Q ⊎ S) → R ↔ (P ⊎ S)
 or_left {P = P} {Q = Q} {R = R} {S = S} f g = (λ r. ⊎_elim {C = P ⊎ S} (λ q. inl (f.1 q)) (λ s. inr s) (g.0 r), λ h. ⊎_elim {C = R} (λ p. g.1 (inl (f.0 p))) (λ s. g.1 (inr s)) h)

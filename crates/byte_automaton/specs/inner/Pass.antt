@@ -40,6 +40,10 @@ names (stays w us) o k = false
 abbrev pub EndsBy : State → (ℕ → Bool) → Type 0
 EndsBy st ending = ((k : ℕ) × IsTrue (names st None k)) ⊎ ((t : ℕ) × IsTrue (goes_now st t) × IsTrue (ending t))
 
+-- the state is an end, or goes on to a state of the set without a byte, or by a byte to a lower state of the set
+abbrev pub LeadsBy : State → ℕ → (ℕ → Bool) → Type 0
+LeadsBy st s live = EndsBy st live ⊎ ((c t : ℕ) × (c < 256) × (t < s) × IsTrue (goes_next st s (Some c) t) × IsTrue (live t))
+
 -- a state of the set below the bound accepts y
 abbrev pub Alive : List State → (ℕ → Bool) → ℕ → List ℕ → ℕ → Type 0
 Alive a now upto y k = (t : ℕ) × (t < upto) × IsTrue (now t) × Accepts a k t y

@@ -1,12 +1,13 @@
 -- Sets of states that were found, one after another.
-use Rattle.std.proofs.Common.{◌≡◌, ℕ, zero, suc, ◌+◌, ◌<◌, ◌⊎◌, inl, inr, List, [], ◌∷◌, ◌++◌, Some, length, refl, ap, sym, ◌∙◌, subst, arith, length-append}
+use Rattle.std.proofs.Common.{◌≡◌, ℕ, zero, suc, ◌+◌, ◌<◌, ◌⊎◌, inl, inr, Bool, false, IsTrue, slice_index_or, List, [], ◌∷◌, ◌++◌, Some, length, refl, ap, sym, ◌∙◌, subst, arith, length-append}
 use Rattle.std.specs.Prelude.{◌↔◌, slice_get}
 use Rattle.std.proofs.Math.Logic.{⊎_elim}
+use Rattle.std.proofs.lemmas.Bool.{cases_lt}
 use Rattle.byte_automaton.specs.Runs.{AcceptsFrom}
 use Rattle.byte_automaton.specs.Steps.{Machine}
 use Rattle.byte_automaton.specs.declared.state_set.StateSet.{StateSet}
 use Rattle.byte_dfa.specs.declared.construction.Found.{Found}
-use Rattle.byte_dfa.specs.inner.Building.{half, AreSame, IsFound, AreFoundSets, KeepsFound}
+use Rattle.byte_dfa.specs.inner.Building.{half, IsLiveSet, AreSame, IsFound, AreFoundSets, KeepsFound}
 use Rattle.byte_dfa.specs.inner.Lists.{IsListOf, KeepsLists, HasNoneFirst}
 use Rattle.byte_dfa.proofs.lemmas.Lists.{list_kept}
 
@@ -87,3 +88,29 @@ module _ (m : Machine) where
         (λ (e, same) at. dead (sym e) y k (subst (λ (x : Found). AcceptsFrom m x.states y k) same at)) (get_cases found f 0 g h);
     none = are.none;
   }
+
+-- truth values that were appended to
+
+old_truth : (xs : List Bool) (b : Bool) (i : ℕ) → i < length xs → slice_index_or (xs ++ b ∷ []) i false ≡ slice_index_or xs i false
+old_truth [] b i lt = absurd (omega arith)
+old_truth (x ∷ xs) b zero lt = refl
+old_truth (x ∷ xs) b (suc i) lt = old_truth xs b i (omega (arith, lt))
+
+new_truth : (xs : List Bool) (b : Bool) → slice_index_or (xs ++ b ∷ []) (length xs) false ≡ b
+new_truth [] b = refl
+new_truth (x ∷ xs) b = new_truth xs b
+
+-- one set more is marked
+pub marked_more : (m : Machine) (found : List Found) (live : List Bool) (b : Bool) (n : ℕ) (f : Found) → length live ≡ n
+    → ((i : ℕ) (g : Found) → i < n → slice_get found i ≡ Some g → IsTrue (slice_index_or live i false) ↔ IsLiveSet m g.states)
+    → slice_get found n ≡ Some f → IsTrue b ↔ IsLiveSet m f.states
+    → (i : ℕ) (g : Found) → i < n + 1 → slice_get found i ≡ Some g → IsTrue (slice_index_or (live ++ b ∷ []) i false) ↔ IsLiveSet m g.states
+marked_more m found live b n f len old at is i g lt here = ⊎_elim {C = IsTrue (slice_index_or (live ++ b ∷ []) i false) ↔ IsLiveSet m g.states}
+    (λ before. subst (λ x. IsTrue x ↔ IsLiveSet m g.states) (sym (old_truth live b i (omega arith))) (old i g before here))
+    (λ past. let same : i ≡ length live = omega arith in
+    let there : slice_get found i ≡ Some f = subst (λ j. slice_get found j ≡ Some f) (sym (same ∙ len)) at in
+    let both : Some f ≡ Some g = sym there ∙ here in
+    let one : f ≡ g = cc in
+    subst (λ j. IsTrue (slice_index_or (live ++ b ∷ []) j false) ↔ IsLiveSet m g.states) (sym same)
+    (subst (λ x. IsTrue x ↔ IsLiveSet m g.states) (sym (new_truth live b)) (subst (λ (h : Found). IsTrue b ↔ IsLiveSet m h.states) one is)))
+    (cases_lt i n)

@@ -1,14 +1,14 @@
 -- What a table that was made finds.
-use Rattle.std.proofs.Common.{◌≡◌, ℕ, ◌+◌, ◌*◌, ◌%◌, ◌<◌, ◌≤◌, ◌⊎◌, inl, inr, Bool, true, false, ◌||◌, List, [], ◌∷◌, ◌++◌, Some, length, slice_index, take, drop, IsTrue, refl, ap, sym, ◌∙◌, subst, arith}
+use Rattle.std.proofs.Common.{◌≡◌, ℕ, ◌+◌, ◌*◌, ◌/◌, ◌%◌, ◌<◌, ◌≤◌, ◌⊎◌, inl, inr, Bool, true, false, ◌||◌, List, [], ◌∷◌, ◌++◌, Some, length, slice_index, slice_index_or, take, drop, IsTrue, refl, ap, sym, ◌∙◌, subst, arith}
 use Rattle.std.specs.Prelude.{◌↔◌, slice_get}
 use Rattle.std.proofs.lemmas.Bool.{cases_lt, or_cases}
 use Rattle.std.proofs.lemmas.Nat.{mul-le}
 use Rattle.std.proofs.lemmas.Option.{slice_get_within}
 use Rattle.std.proofs.Math.Logic.{⊎_elim}
-use Rattle.std.proofs.Math.Nat.{add-mod_left}
-use Rattle.byte_automaton.specs.Decisions.{EndsAtDecisions}
+use Rattle.std.proofs.Math.Nat.{add-mod_left, mul-div_cancel}
+use Rattle.byte_automaton.specs.Decisions.{IsAtDecision, EndsAtDecisions}
 use Rattle.byte_automaton.specs.Runs.{AcceptsFrom, HasLastBytes}
-use Rattle.byte_automaton.specs.Steps.{Machine, IsReached}
+use Rattle.byte_automaton.specs.Steps.{state, final, Machine, IsReached, Accepts, ends, by_byte, by_skip, by_out, by_stay}
 use Rattle.byte_automaton.specs.declared.byte_set.ByteSet.{ByteSet}
 use Rattle.byte_automaton.specs.declared.state_set.StateSet.{StateSet}
 use Rattle.byte_automaton.specs.inner.Pass.{is_listed}
@@ -18,10 +18,10 @@ use Rattle.byte_automaton.proofs.lemmas.Deciding.{reached_by}
 use Rattle.byte_automaton.proofs.lemmas.Pass.{or_first, or_second}
 use Rattle.byte_dfa.specs.declared.classes.ByteClasses.{ByteClasses}
 use Rattle.byte_dfa.specs.declared.construction.Found.{Found}
-use Rattle.byte_dfa.specs.inner.Building.{half, GoesTo, IsEntryTo, IsCell, IsBuilt}
+use Rattle.byte_dfa.specs.inner.Building.{half, IsLiveSet, AreLiveSets, GoesTo, IsEntryTo, IsCell, IsBuilt}
 use Rattle.byte_dfa.specs.inner.Classes.{IsDivision}
 use Rattle.byte_dfa.specs.inner.Lists.{list_at, IsList}
-use Rattle.byte_dfa.specs.inner.Tables.{Table, table_of, special, entry, after, on_entry, at_end, finds_from, IsRow, IsTable, IsTableOf}
+use Rattle.byte_dfa.specs.inner.Tables.{Table, table_of, special, entry, after, on_entry, at_end, finds_from, IsRow, IsTable, IsTableOf, MatchesAfterFrom, AreLiveRows}
 use Rattle.byte_dfa.proofs.lemmas.Cells.{before_row}
 use Rattle.byte_dfa.proofs.lemmas.Found.{iff_trans, iff_sym}
 
@@ -44,6 +44,34 @@ place_low e lt = omega arith
 place_high : (e : ℕ) → e < special → (special + e) % special ≡ e
 place_high e lt = add-mod_left special e ∙ place_low e lt
 
+front_bytes : (p q : List ℕ) → AllBytes (p ++ q) → AllBytes p
+front_bytes [] q h = tt
+front_bytes (c ∷ p) q h = (h.0, front_bytes p q h.1)
+
+nothing_after : (y : List ℕ) → y ≡ y ++ []
+nothing_after [] = refl
+nothing_after (c ∷ y) = ap (λ z. c ∷ z) (nothing_after y)
+
+-- an end names an index, or one of those above them that say that it is decided
+abbrev Named : ℕ → ℕ → Type 0
+Named n k = (k < n) ⊎ ((j : ℕ) × (j < n) × (k ≡ n + j))
+
+end_named : (old m : Machine) (made : EndsAtDecisions old m) (s k : ℕ) → state m.states s ≡ final k → Named old.index_count k
+end_named old m made s k e = by_case (made.states s)
+  where
+    by_case : IsAtDecision old.states old.index_count s (state m.states s) → Named old.index_count k
+    by_case (inl (j, (w, t, at, every, is), decided)) =
+        let both : final k ≡ final (old.index_count + j) = sym e ∙ decided in
+        inr (j, made.below t j is, cc)
+    by_case (inr (none, same)) = inl (made.below s k (sym same ∙ e))
+
+all_named : (old m : Machine) (made : EndsAtDecisions old m) (k s : ℕ) (y : List ℕ) → Accepts m.states k s y → Named old.index_count k
+all_named old m made k s y (ends s' e) = end_named old m made s k e
+all_named old m made k s y (by_byte s' t c z w e has rest) = all_named old m made k t z rest
+all_named old m made k s y (by_skip s' t z ts e in' rest) = all_named old m made k t y rest
+all_named old m made k s y (by_out s' t z w ts e in' rest) = all_named old m made k t y rest
+all_named old m made k s y (by_stay s' c z w ts e has rest) = all_named old m made k s z rest
+
 module _ (m : Machine) (n : ℕ) where
   -- what is found from a set of states: at the end of the text, or after the beginning of it
   abbrev pub FromHere : StateSet → List ℕ → ℕ → Type 0
@@ -62,9 +90,9 @@ module _ (m : Machine) (n : ℕ) where
       back (lt, inr ([], q, e, a)) = inl (lt, a)
       back (lt, inr (x ∷ p, q, e, a)) = absurd cc
 
-  by_byte : (set set' : StateSet) (b : ℕ) (y : List ℕ) (k : ℕ) (told rest : Bool) → IsTrue told ↔ ((k < n) × AcceptsFrom m set [] (n + k)) → IsTrue rest ↔ FromHere set' y k
+  at_byte : (set set' : StateSet) (b : ℕ) (y : List ℕ) (k : ℕ) (told rest : Bool) → IsTrue told ↔ ((k < n) × AcceptsFrom m set [] (n + k)) → IsTrue rest ↔ FromHere set' y k
       → GoesTo m set b set' → IsTrue (told || rest) ↔ FromHere set (b ∷ y) k
-  by_byte set set' b y k told rest f g goes = iff_trans (or_either told rest _ _ f g) (there, back)
+  at_byte set set' b y k told rest f g goes = iff_trans (or_either told rest _ _ f g) (there, back)
     where
       there : ((k < n) × AcceptsFrom m set [] (n + k)) ⊎ ((k < n) × (AcceptsFrom m set' y k ⊎ ((p : List ℕ) × (q : List ℕ) × (y ≡ p ++ q) × AcceptsFrom m set' p (n + k))))
           → (k < n) × (AcceptsFrom m set (b ∷ y) k ⊎ ((p : List ℕ) × (q : List ℕ) × (b ∷ y ≡ p ++ q) × AcceptsFrom m set p (n + k)))
@@ -167,7 +195,7 @@ module _ (old m : Machine) (made : EndsAtDecisions old m) (classes : ByteClasses
       let leads = leads_to i f b at bytes.0 in
       let rest : IsTrue (finds_from d (after d (i * (w + 2)) b) y k) ↔ FromHere m n leads.next.states y k =
       subst (λ s. IsTrue (finds_from d s y k) ↔ FromHere m n leads.next.states y k) (sym leads.place) (found_from leads.number leads.next y k leads.at bytes.1) in
-      by_byte m n f.states leads.next.states b y k (is_listed k (on_entry d (i * (w + 2)))) (finds_from d (after d (i * (w + 2)) b) y k) (told_is i f k at) rest leads.goes
+      at_byte m n f.states leads.next.states b y k (is_listed k (on_entry d (i * (w + 2)))) (finds_from d (after d (i * (w + 2)) b) y k) (told_is i f k at) rest leads.goes
 
   -- a row is that of a set
   record IsRowOf (s : ℕ) : Type 0 where
@@ -187,6 +215,27 @@ module _ (old m : Machine) (made : EndsAtDecisions old m) (classes : ByteClasses
 
   row_room : (j : ℕ) (g : Found) → slice_get found j ≡ Some g → IsRow d (j * (w + 2))
   row_room j g at = (j, refl, let h = before_row j (length found) w (slice_get_within found j g at) in omega (arith, whole))
+
+  live_set : (i : ℕ) (f : Found) → slice_get found i ≡ Some f → IsLiveSet m f.states ↔ MatchesAfterFrom d (i * (w + 2))
+  live_set i f at = (λ (y, k, bytes, (t, lt, in', h)). there y k bytes (t, lt, in', h) (all_named old m made k t y h), λ (k, y, bytes, h). back k y bytes ((found_from i f y k at bytes).0 h))
+    where
+      there : (y : List ℕ) (k : ℕ) → AllBytes y → AcceptsFrom m f.states y k → Named n k → MatchesAfterFrom d (i * (w + 2))
+      there y k bytes a (inl lt) = (k, y, bytes, (found_from i f y k at bytes).1 (lt, inl a))
+      there y k bytes a (inr (j, lt, is)) = (j, y, bytes, (found_from i f y j at bytes).1 (lt, inr (y, [], nothing_after y, subst (AcceptsFrom m f.states y) is a)))
+
+      back : (k : ℕ) (y : List ℕ) → AllBytes y → FromHere m n f.states y k → IsLiveSet m f.states
+      back k y bytes (lt, inl a) = (y, k, bytes, a)
+      back k y bytes (lt, inr (p, q, e, a)) = (p, n + k, front_bytes p q (subst AllBytes e bytes), a)
+
+  live_rows : (live : List Bool) → AreLiveSets m found live → AreLiveRows d live
+  live_rows live sets s row =
+      let r = row_of s row in
+      let place : s / (w + 2) ≡ r.number = ap (λ x. x / (w + 2)) r.is ∙ mul-div_cancel r.number (omega arith) in
+      let (lt, is) = sets r.number r.set r.at in (
+        subst (λ x. x < length live) (sym place) lt,
+        subst (λ x. IsTrue (slice_index_or live x false) ↔ MatchesAfterFrom d s) (sym place)
+            (subst (λ x. IsTrue (slice_index_or live r.number false) ↔ MatchesAfterFrom d x) (sym r.is) (iff_trans is (live_set r.number r.set r.at))),
+      )
 
   pub table_sound : (number : ℕ) (f : Found) → slice_get found number ≡ Some f → start ≡ number * (w + 2) → IsTable d
   table_sound number f begins is = record {
@@ -220,14 +269,15 @@ module _ (old m : Machine) (made : EndsAtDecisions old m) (classes : ByteClasses
       nothing f0 at y k (lt, inl a) = built.sets.dead f0 at y k a
       nothing f0 at y k (lt, inr (p, q, e, a)) = built.sets.dead f0 at p (old.index_count + k) a
 
-  pub table_is : (number : ℕ) (f : Found) (last_bytes : ByteSet) → slice_get found number ≡ Some f → start ≡ number * (w + 2) → ((y : List ℕ) (k : ℕ) → AcceptsFrom m f.states y k ↔ IsReached m y k)
-      → HasLastBytes old last_bytes → IsTableOf old d last_bytes
-  table_is number f last_bytes at is begins last = record {
+  pub table_is : (number : ℕ) (f : Found) (last_bytes : ByteSet) (live : List Bool) → slice_get found number ≡ Some f → start ≡ number * (w + 2) → ((y : List ℕ) (k : ℕ) → AcceptsFrom m f.states y k ↔ IsReached m y k)
+      → HasLastBytes old last_bytes → AreLiveSets m found live → IsTableOf old d last_bytes live
+  table_is number f last_bytes live at is begins last sets = record {
     sound = table_sound number f at is;
     finds = λ y k bytes. subst (λ s. IsTrue (finds_from d s y k) ↔ IsReached old y k) (sym is)
         (iff_trans (found_from number f y k at bytes) (iff_trans (reaches y k) (iff_sym (reached_by old m made k y bytes))));
     count = refl;
     last = last;
+    live_rows = live_rows live sets;
   }
     where
       reaches : (y : List ℕ) (k : ℕ) → FromHere m n f.states y k ↔ ((k < old.index_count) × (IsReached m y k ⊎ ((p : List ℕ) × (q : List ℕ) × (y ≡ p ++ q) × IsReached m p (old.index_count + k))))

@@ -1,9 +1,10 @@
 -- What is known of a table while it is made.
-use Rattle.std.specs.Prelude.{◌≡◌, ℕ, false, IsTrue, ◌+◌, ◌*◌, ◌/◌, ◌<◌, ◌≤◌, ◌↔◌, ◌⊎◌, List, [], ◌∷◌, length, slice_index, slice_get, Some}
+use Rattle.std.specs.Prelude.{◌≡◌, ℕ, Bool, false, IsTrue, ◌+◌, ◌*◌, ◌/◌, ◌<◌, ◌≤◌, ◌↔◌, ◌⊎◌, List, [], ◌∷◌, length, slice_index, slice_index_or, slice_get, Some}
 use Rattle.byte_automaton.specs.Runs.{size, AcceptsFrom, AreEnding}
 use Rattle.byte_automaton.specs.ByteSteps.{leads_to}
 use Rattle.byte_automaton.specs.Sets.{has_state, state_room}
 use Rattle.byte_automaton.specs.Steps.{Accepts, Machine, IsReached}
+use Rattle.byte_automaton.specs.Texts.{AllBytes}
 use Rattle.byte_automaton.specs.declared.byte_steps.ByteSteps.{ByteSteps}
 use Rattle.byte_automaton.specs.declared.state_set.StateSet.{StateSet}
 use Rattle.byte_dfa.specs.declared.classes.ByteClasses.{ByteClasses}
@@ -90,6 +91,14 @@ pub record Grows (m : Machine) (classes : ByteClasses) (old new : Construction) 
   pub keeps : KeepsFound old.found.items new.found.items
   pub rows : new.rows.items ≡ old.rows.items
   pub few : total classes new ≤ total classes old
+
+-- some bytes lead from a state of the set to an end
+abbrev pub IsLiveSet : Machine → StateSet → Type 0
+IsLiveSet m set = (y : List ℕ) × (k : ℕ) × AllBytes y × AcceptsFrom m set y k
+
+-- for each set by its number, whether some bytes lead from it to an end
+abbrev pub AreLiveSets : Machine → List Found → List Bool → Type 0
+AreLiveSets m found live = (i : ℕ) (f : Found) → slice_get found i ≡ Some f → (i < length live) × (IsTrue (slice_index_or live i false) ↔ IsLiveSet m f.states)
 
 -- the set of the number leads where the automaton does
 pub record BeginsAt (m : Machine) (found : List Found) (number : ℕ) : Type 0 where

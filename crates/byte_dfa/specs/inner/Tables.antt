@@ -1,5 +1,5 @@
 -- Reading the table of a deterministic automaton.
-use Rattle.std.specs.Prelude.{◌≡◌, ℕ, ◌+◌, ◌*◌, ◌%◌, ◌<◌, ◌↔◌, Bool, false, ◌||◌, IsTrue, List, [], ◌∷◌, length, slice_index}
+use Rattle.std.specs.Prelude.{◌≡◌, ℕ, ◌+◌, ◌*◌, ◌/◌, ◌%◌, ◌<◌, ◌↔◌, Bool, false, ◌||◌, IsTrue, List, [], ◌∷◌, length, slice_index, slice_index_or}
 use Rattle.byte_automaton.specs.Runs.{HasLastBytes}
 use Rattle.byte_automaton.specs.Steps.{Machine, IsReached}
 use Rattle.byte_automaton.specs.declared.byte_set.ByteSet.{ByteSet}
@@ -73,9 +73,19 @@ pub record IsTable (d : Table) : Type 0 where
   pub quiet : (s b : ℕ) → IsRow d s → b < 256 → entry d s b < special → on_entry d (after d s b) ≡ []
   pub dead : (y : List ℕ) (k : ℕ) → AllBytes y → finds_from d 0 y k ≡ false
 
--- the table finds what the automaton does, and the set has the last byte of each text that leads to an end
-pub record IsTableOf (m : Machine) (d : Table) (last_bytes : ByteSet) : Type 0 where
+-- some bytes lead from the row to where something is found, its entry included
+abbrev pub MatchesAfterFrom : Table → ℕ → Type 0
+MatchesAfterFrom d s = (k : ℕ) × (y : List ℕ) × AllBytes y × IsTrue (finds_from d s y k)
+
+-- for each row by its number, whether some bytes lead from it to where something is found
+abbrev pub AreLiveRows : Table → List Bool → Type 0
+AreLiveRows d live = (s : ℕ) → IsRow d s → (s / (d.width + 2) < length live) × (IsTrue (slice_index_or live (s / (d.width + 2)) false) ↔ MatchesAfterFrom d s)
+
+-- the table finds what the automaton does, the set has the last byte of each text that leads to an end, and live rows
+-- are marked
+pub record IsTableOf (m : Machine) (d : Table) (last_bytes : ByteSet) (live : List Bool) : Type 0 where
   pub sound : IsTable d
   pub finds : (y : List ℕ) (k : ℕ) → AllBytes y → IsTrue (finds d y k) ↔ IsReached m y k
   pub count : d.count ≡ m.index_count
   pub last : HasLastBytes m last_bytes
+  pub live_rows : AreLiveRows d live

@@ -1,0 +1,13 @@
+use Rattle.std.proofs.Common.{◌≡◌, ℕ, ◌+◌, ◌*◌, ◌≤◌, ◌++◌, ◌∷◌, List, drop}
+use Rattle.std.specs.Prelude.{◌↔◌}
+use Rattle.byte_automaton.specs.Sets.{sets_room}
+use Rattle.byte_automaton.specs.Steps.{IsReached}
+use Rattle.byte_automaton.specs.Runs.{AcceptsFrom, size}
+use Rattle.byte_automaton.proofs.automaton.Automaton.can_match_after.Given as goal
+
+abbrev pub invariant-loop-read : goal.invariant-loop-read
+invariant-loop-read l = record {
+  room : sets_room l.sets ≡ sets_room l.fn.sets;
+  accepts : (z : List ℕ) (k : ℕ) → IsReached l.self (l.text ++ l.byte ∷ z) k ↔ AcceptsFrom l.self l.sets.current (drop l.read-index l.text ++ l.byte ∷ z) k;
+  visits : l.visits ≤ l.fn.visits + l.read-index * size l.self;
+}

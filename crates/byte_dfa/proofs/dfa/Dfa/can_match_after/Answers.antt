@@ -1,0 +1,166 @@
+use Rattle.std.proofs.Common.{◌≡◌, ℕ, ◌+◌, ◌/◌, ◌%◌, ◌<◌, ◌++◌, ◌∷◌, ◌-◌, [], drop, length, get_or, slice_index, false, IsTrue, arith, sym, ap, subst, ◌∙◌}
+use Rattle.std.proofs.lemmas.List.{drop_more, drop_all}
+use Rattle.std.specs.Prelude.{◌↔◌, slice_index_or}
+use Rattle.byte_automaton.specs.Live.{MatchesAfter}
+use Rattle.byte_automaton.specs.inner.Pass.{is_listed}
+use Rattle.byte_automaton.proofs.lemmas.Deciding.{all_bytes}
+use Rattle.byte_automaton.proofs.lemmas.Pass.{or_first}
+use Rattle.byte_dfa.specs.DfaValue.{DfaValue}
+use Rattle.byte_dfa.specs.inner.Tables.{table_of, entry, after, special, on_entry, later}
+use Rattle.byte_dfa.proofs.lemmas.Steps.{started_quiet, low_row, high_row, low_later, quiet_later, dead_later, told_later}
+use Rattle.byte_dfa.proofs.lemmas.After.{match_after_found, none_match_after, match_after_live, item_read}
+use Rattle.byte_dfa.proofs.dfa.Dfa.can_match_after.Goals as goal
+use Rattle.byte_dfa.proofs.dfa.Dfa.can_match_after.Goals.{then-state-ge-SPECIAL+else-state-eq-DEAD+else-has_some-2, else-state-ge-SPECIAL}
+
+pub returns-then-has_some-clause-some : goal.returns-then-has_some-clause-some
+returns-then-has_some-clause-some c =
+    let t = c.self.inside in
+    let d = table_of t.class_of t.width t.table.items t.start t.lists.items t.index_count in
+    let text = c.args.text.now in
+    let bytes = all_bytes text (λ j. omega (arith, c.type_inv.text j)) in
+    let some = rw (c.deref.ensures.value, c.as_slice-table.ensures.value) at c.has_some.ensures.some in
+    let (k, listed) = some c.if-has_some.true in
+    let source = ap (λ (v : DfaValue). v.source) c.self.view_is in
+    rw (sym source) (match_after_found t.source d c.self.invariant.finds text c.args.byte k bytes (omega arith)
+    (or_first (is_listed k (on_entry d d.start)) (later d d.start (text ++ c.args.byte ∷ []) k) listed))
+
+pub loop-read-init : goal.loop-read-init
+loop-read-init c =
+    let t = c.self.inside in
+    let d = table_of t.class_of t.width t.table.items t.start t.lists.items t.index_count in
+    let sound = c.self.invariant.sound in
+    let none = rw (c.deref.ensures.value, c.as_slice-table.ensures.value) at c.has_some.ensures.none in
+    record {
+      row = sound.begins;
+      same = λ z k. started_quiet d sound (c.args.text.now ++ z) k (none c.if-has_some.false);
+      visits = omega arith;
+    }
+
+pub returns-then-state-eq-DEAD-clause-some : goal.returns-then-state-eq-DEAD-clause-some
+returns-then-state-eq-DEAD-clause-some c =
+    let t = c.self.inside in
+    let d = table_of t.class_of t.width t.table.items t.start t.lists.items t.index_count in
+    let sound = c.self.invariant.sound in
+    let text = c.args.text.now in
+    let l = c.loop-read in
+    let i = l.read-index in
+    let lt : i < length text = omega arith in
+    let byte : ℕ = get_or text i 0 in
+    let rest = drop (i + 1) text in
+    let more : drop i text ≡ byte ∷ rest = drop_more text i 0 lt in
+    let small : byte < 256 = omega (arith, c.type_inv.text i) in
+    let bytes = all_bytes text (λ j. omega (arith, c.type_inv.text j)) in
+    let e : ℕ = c.next-state.result in
+    let is : e ≡ entry d l.state byte = c.next-state.ensures.value ∙ ap (λ n. slice_index n (l.state + slice_index t.class_of byte)) c.as_slice-table.ensures.value in
+    let source = ap (λ (v : DfaValue). v.source) c.self.view_is in
+    rw (sym source) (none_match_after t.source d c.self.invariant.finds text c.args.byte (i + 1) bytes (omega arith)
+    (λ z k all. sym (rw more at l.invariant.same z k) ∙ dead_later d sound l.state byte l.invariant.row small e is (rest ++ z) k c.if-state-ge-SPECIAL.true c.next-state.ensures.small c.if-state-eq-DEAD.true all))
+
+pub bounds-table-state-then-state-ge-SPECIAL : goal.bounds-table-state-then-state-ge-SPECIAL
+bounds-table-state-then-state-ge-SPECIAL c =
+    let t = c.self.inside in
+    let d = table_of t.class_of t.width t.table.items t.start t.lists.items t.index_count in
+    let l = c.loop-read in
+    let byte : ℕ = get_or c.args.text.now l.read-index 0 in
+    let small : byte < 256 = omega (arith, c.type_inv.text l.read-index) in
+    let e : ℕ = c.next-state.result in
+    let is : e ≡ entry d l.state byte = c.next-state.ensures.value ∙ ap (λ n. slice_index n (l.state + slice_index t.class_of byte)) c.as_slice-table.ensures.value in
+    let (j, at, room) = high_row d c.self.invariant.sound l.state byte l.invariant.row small e is c.if-state-ge-SPECIAL.true c.next-state.ensures.small in
+    let len = ap length c.as_slice-table.ensures.value in
+    omega arith
+
+pub has_some-requires-then-state-ge-SPECIAL : goal.has_some-requires-then-state-ge-SPECIAL
+has_some-requires-then-state-ge-SPECIAL c =
+    let t = c.self.inside in
+    let d = table_of t.class_of t.width t.table.items t.start t.lists.items t.index_count in
+    let l = c.loop-read in
+    let byte : ℕ = get_or c.args.text.now l.read-index 0 in
+    let small : byte < 256 = omega (arith, c.type_inv.text l.read-index) in
+    let e : ℕ = c.next-state.result in
+    let is : e ≡ entry d l.state byte = c.next-state.ensures.value ∙ ap (λ n. slice_index n (l.state + slice_index t.class_of byte)) c.as_slice-table.ensures.value in
+    let row = high_row d c.self.invariant.sound l.state byte l.invariant.row small e is c.if-state-ge-SPECIAL.true c.next-state.ensures.small in
+    rw (c.deref-then-state-ge-SPECIAL.ensures.value, c.as_slice-table.ensures.value) ((c.self.invariant.sound.entry_list (e - special) row).room)
+
+pub returns-then-has_some-2-clause-some : goal.returns-then-has_some-2-clause-some
+returns-then-has_some-2-clause-some c =
+    let t = c.self.inside in
+    let d = table_of t.class_of t.width t.table.items t.start t.lists.items t.index_count in
+    let sound = c.self.invariant.sound in
+    let text = c.args.text.now in
+    let l = c.loop-read in
+    let i = l.read-index in
+    let lt : i < length text = omega arith in
+    let byte : ℕ = get_or text i 0 in
+    let rest = drop (i + 1) text in
+    let more : drop i text ≡ byte ∷ rest = drop_more text i 0 lt in
+    let small : byte < 256 = omega (arith, c.type_inv.text i) in
+    let bytes = all_bytes text (λ j. omega (arith, c.type_inv.text j)) in
+    let e : ℕ = c.next-state.result in
+    let is : e ≡ entry d l.state byte = c.next-state.ensures.value ∙ ap (λ n. slice_index n (l.state + slice_index t.class_of byte)) c.as_slice-table.ensures.value in
+    let some = rw (c.deref-then-state-ge-SPECIAL.ensures.value, c.as_slice-table.ensures.value) at c.has_some-then-state-ge-SPECIAL.ensures.some in
+    let (k, listed) = some c.if-has_some-2.true in
+    let source = ap (λ (v : DfaValue). v.source) c.self.view_is in
+    rw (sym source) (match_after_found t.source d c.self.invariant.finds text c.args.byte k bytes (omega arith)
+    (sym (rw more at l.invariant.same (c.args.byte ∷ []) k) ∙ told_later d sound l.state byte l.invariant.row small e is (rest ++ c.args.byte ∷ []) k c.if-state-ge-SPECIAL.true c.next-state.ensures.small listed))
+
+pub loop-read-preserved : goal.loop-read-preserved
+loop-read-preserved c =
+    let t = c.self.inside in
+    let d = table_of t.class_of t.width t.table.items t.start t.lists.items t.index_count in
+    let sound = c.self.invariant.sound in
+    let text = c.args.text.now in
+    let l = c.loop-read in
+    let inv = l.invariant in
+    let i = l.read-index in
+    let lt : i < length text = omega arith in
+    let byte : ℕ = get_or text i 0 in
+    let rest = drop (i + 1) text in
+    let more : drop i text ≡ byte ∷ rest = drop_more text i 0 lt in
+    let small : byte < 256 = omega (arith, c.type_inv.text i) in
+    let e : ℕ = c.next-state.result in
+    let is : e ≡ entry d l.state byte = c.next-state.ensures.value ∙ ap (λ n. slice_index n (l.state + slice_index t.class_of byte)) c.as_slice-table.ensures.value in
+    elim c.if-state-ge-SPECIAL.branch [
+      | then-state-ge-SPECIAL+else-state-eq-DEAD+else-has_some-2 w ↦ rw w.state-is record {
+        row = high_row d sound l.state byte inv.row small e is w.if-state-ge-SPECIAL.true c.next-state.ensures.small;
+        same = λ z k.
+            let none = rw (w.deref-then-state-ge-SPECIAL.ensures.value, c.as_slice-table.ensures.value) at w.has_some-then-state-ge-SPECIAL.ensures.none in
+            sym (quiet_later d sound l.state byte inv.row small e is (rest ++ z) k w.if-state-ge-SPECIAL.true c.next-state.ensures.small (none w.if-has_some-2.false)) ∙ (rw more at inv.same z k);
+        visits = omega (arith, inv.visits, c.next-state.ensures.visits);
+      }
+      | else-state-ge-SPECIAL w ↦ rw w.state-is record {
+        row = low_row d sound l.state byte inv.row small e is w.if-state-ge-SPECIAL.false;
+        same = λ z k. sym (low_later d sound l.state byte inv.row small e is (rest ++ z) k w.if-state-ge-SPECIAL.false) ∙ (rw more at inv.same z k);
+        visits = omega (arith, inv.visits, c.next-state.ensures.visits);
+      }
+    ]
+
+pub index-requires : goal.index-requires
+index-requires c =
+    let t = c.self.inside in
+    let d = table_of t.class_of t.width t.table.items t.start t.lists.items t.index_count in
+    let l = c.loop-read in
+    let small : c.args.byte < 256 = omega arith in
+    let is : c.next-last.result ≡ entry d l.state c.args.byte = c.next-last.ensures.value ∙ ap (λ n. slice_index n (l.state + slice_index t.class_of c.args.byte)) c.as_slice-table.ensures.value in
+    let lt = (c.self.invariant.live_rows (after d l.state c.args.byte) (c.self.invariant.sound.goes l.state c.args.byte l.invariant.row small)).0 in
+    let there : c.next-last.result % special / (t.width + 2) < length t.live.items = subst (λ x. x % special / (t.width + 2) < length t.live.items) (sym is) lt in
+    omega (arith, there)
+
+pub returns-clause-some : goal.returns-clause-some
+returns-clause-some c =
+    let t = c.self.inside in
+    let d = table_of t.class_of t.width t.table.items t.start t.lists.items t.index_count in
+    let l = c.loop-read in
+    let text = c.args.text.now in
+    let small : c.args.byte < 256 = omega arith in
+    let past : drop l.read-index text ≡ [] = drop_all l.read-index text (omega arith) in
+    let bytes = all_bytes text (λ j. omega (arith, c.type_inv.text j)) in
+    let is : c.next-last.result ≡ entry d l.state c.args.byte = c.next-last.ensures.value ∙ ap (λ n. slice_index n (l.state + slice_index t.class_of c.args.byte)) c.as_slice-table.ensures.value in
+    let lt = (c.self.invariant.live_rows (after d l.state c.args.byte) (c.self.invariant.sound.goes l.state c.args.byte l.invariant.row small)).0 in
+    let place : ℕ = c.next-last.result % special / (t.width + 2) in
+    let there : place < length t.live.items = subst (λ x. x % special / (t.width + 2) < length t.live.items) (sym is) lt in
+    let read = item_read t.live.items place c.index.result.now there c.index.ensures in
+    let source = ap (λ (v : DfaValue). v.source) c.self.view_is in
+    rw (sym source) (subst (λ b. IsTrue b ↔ MatchesAfter t.source (text ++ c.args.byte ∷ [])) read
+    (subst (λ x. IsTrue (slice_index_or t.live.items (x % special / (t.width + 2)) false) ↔ MatchesAfter t.source (text ++ c.args.byte ∷ [])) (sym is)
+    (match_after_live t.source d c.self.invariant.finds text c.args.byte t.live.items l.state c.self.invariant.sound c.self.invariant.live_rows l.invariant.row bytes small
+    (λ z k. rw past at l.invariant.same z k))))
