@@ -4,3 +4,4 @@ pub mod Takes
 pub mod TokenMeans
 pub mod IndexedTokens
 pub mod inner
+pub mod After

@@ -1,8 +1,9 @@
 //! Automata as they are run over paths.
 
-ghost use Rattle.std.specs.Prelude.{◌≡◌, ◌+◌, ◌*◌, ◌≤◌, ◌↔◌, ◌⊎◌, ℕ, List, length, IsTrue, IsOk, OnOk, IfOk};
+ghost use Rattle.std.specs.Prelude.{◌≡◌, ◌+◌, ◌*◌, ◌≤◌, ◌↔◌, ◌⊎◌, ◌++◌, ◌∷◌, [], ℕ, List, length, IsTrue, IsOk, OnOk, IfOk};
 ghost use Rattle.byte_automaton.specs.Runs.{size, most_reads};
 ghost use Rattle.byte_automaton.specs.Sets.{has_index, index_room, sets_room};
+ghost use Rattle.glob_automaton.specs.After.{SomeMeanAfter};
 ghost use Rattle.glob_automaton.specs.IndexedTokens.{IndexedTokens, IsFor, SomeMatches};
 
 use crate::budget::Budget;
@@ -189,6 +190,34 @@ impl Compiled {
             Form::Whole(automaton) => simulation::is_match(automaton, text, sets, visits),
             Form::Divided(parts) => parts.is_match(text, sets, visits),
             Form::Filtered(filtered) => filtered.is_match(text, sets, visits),
+        }
+    }
+}
+
+impl Compiled {
+    /// Returns whether some tokens match a text that begins with `text` and then `byte`.
+    ///
+    /// It is at most `(text bytes + 2) * states` visits. What the sets of states held has no effect; their room grows to the states
+    /// of the largest part that is simulated, and stays as it is if there is no such part. Returns an error if memory runs out, and
+    /// so none if they have room for all states.
+    pub fn can_match_after(
+        &self,
+        text: &[u8],
+        byte: u8,
+        sets: &mut StateSets,
+        visits: &mut Visits,
+    ) -> Result<bool, AllocError>
+        ensures some { IfOk result (λ yes. (xs : List IndexedTokens) → IsFor self.now xs → IsTrue yes ↔ SomeMeanAfter xs (text.now ++ byte ∷ [])) }
+        ensures kept { sets_room sets.old ≤ sets_room sets.new }
+        ensures memory { size self.now ≤ sets_room sets.old → IsOk result }
+        ensures visits { visits.new ≤ visits.old + (length text.now + 2) * size self.now }
+    {
+        match &self.form {
+            Form::Whole(automaton) => {
+                simulation::can_match_after(automaton, text, byte, sets, visits)
+            }
+            Form::Divided(parts) => parts.can_match_after(text, byte, sets, visits),
+            Form::Filtered(filtered) => filtered.can_match_after(text, byte, sets, visits),
         }
     }
 }

@@ -1,12 +1,14 @@
 //! Automata with many starts, of which those alone are run that a filter names.
 
-ghost use Rattle.std.specs.Prelude.{◌≡◌, ◌+◌, ◌*◌, ◌<◌, ◌≤◌, ◌↔◌, ◌⊎◌, ℕ, length, IsTrue, IsOk, IfOk, IfSome, MatchOption, OnOk, true, false};
+ghost use Rattle.std.specs.Prelude.{◌≡◌, ◌+◌, ◌*◌, ◌<◌, ◌≤◌, ◌↔◌, ◌⊎◌, ◌++◌, ◌∷◌, [], ℕ, length, IsTrue, IsOk, IfOk, IfSome, MatchOption, OnOk, true, false};
+ghost use Rattle.byte_automaton.specs.Live.{MatchesAfter};
 ghost use Rattle.byte_automaton.specs.Runs.{size, most_reads};
 ghost use Rattle.byte_automaton.specs.Sets.{has_index, index_room, sets_room};
 ghost use Rattle.byte_automaton.specs.Steps.{IsReached};
 ghost use Rattle.byte_filter.specs.Starts.{IsFilterOf, IsReachedMarked};
 ghost use Rattle.glob_matching.specs.inner.Filtered.{AreApart, span_at};
 
+use crate::simulation;
 use byte_automaton::{Automaton, IndexSet, Span, StateSets};
 use byte_filter::StartFilter;
 use std::alloc::{AllocError, Global};
@@ -112,6 +114,28 @@ impl Filtered {
     {
         mark(&self.automaton, &self.filter, text, sets, visits)?;
         Ok(is_match_from_marked(&self.automaton, text, sets, visits))
+    }
+}
+
+impl Filtered {
+    /// Returns whether some text that begins with `text` and then `byte` leads to some end. All starts are run, since what follows
+    /// may have any window.
+    ///
+    /// It is at most `(text bytes + 2) * states` visits. It makes room in the sets of states for those of the automaton. Returns an
+    /// error if memory runs out.
+    pub fn can_match_after(
+        &self,
+        text: &[u8],
+        byte: u8,
+        sets: &mut StateSets,
+        visits: &mut Visits,
+    ) -> Result<bool, AllocError>
+        ensures some { IfOk result (λ yes. IsTrue yes ↔ MatchesAfter self.now (text.now ++ byte ∷ [])) }
+        ensures kept { sets_room sets.old ≤ sets_room sets.new }
+        ensures memory { size self.now ≤ sets_room sets.old → IsOk result }
+        ensures visits { visits.new ≤ visits.old + (length text.now + 2) * size self.now }
+    {
+        simulation::can_match_after(&self.automaton, text, byte, sets, visits)
     }
 }
 

@@ -6,6 +6,8 @@ ghost use Rattle.byte_automaton.specs.Sets.{has_index, index_room, sets_room};
 ghost use Rattle.byte_automaton.specs.Steps.{IsReached};
 ghost use Rattle.glob_matching.specs.inner.Parts.{sources, total, ArePartsOf, AreCounted, SomeReached};
 
+mod after;
+
 use crate::simulation;
 use byte_automaton::{Automaton, IndexSet, StateSets};
 use byte_dfa::{Dfa, Source};

@@ -1,6 +1,7 @@
 //! Automata that are simulated.
 
-ghost use Rattle.std.specs.Prelude.{◌≡◌, ◌+◌, ◌*◌, ◌≤◌, ◌↔◌, ◌⊎◌, ℕ, length, IsTrue, IsOk, OnOk, IfOk};
+ghost use Rattle.std.specs.Prelude.{◌≡◌, ◌+◌, ◌*◌, ◌≤◌, ◌↔◌, ◌⊎◌, ◌++◌, ◌∷◌, [], ℕ, length, IsTrue, IsOk, OnOk, IfOk};
+ghost use Rattle.byte_automaton.specs.Live.{MatchesAfter};
 ghost use Rattle.byte_automaton.specs.Runs.{size};
 ghost use Rattle.byte_automaton.specs.Sets.{has_index, index_room, sets_room};
 ghost use Rattle.byte_automaton.specs.Steps.{IsReached};
@@ -45,4 +46,22 @@ pub fn is_match(
 {
     sets.reserve(automaton.state_count())?;
     Ok(automaton.is_match(text, sets, visits))
+}
+
+/// Returns whether some text that begins with `text` and then `byte` leads to some end. It makes room in the sets of states for
+/// those of the automaton. Returns an error if memory runs out.
+pub fn can_match_after(
+    automaton: &Automaton,
+    text: &[u8],
+    byte: u8,
+    sets: &mut StateSets,
+    visits: &mut Visits,
+) -> Result<bool, AllocError>
+    ensures some { IfOk result (λ yes. IsTrue yes ↔ MatchesAfter automaton.now (text.now ++ byte ∷ [])) }
+    ensures kept { sets_room sets.old ≤ sets_room sets.new }
+    ensures memory { size automaton.now ≤ sets_room sets.old → IsOk result }
+    ensures visits { visits.new ≤ visits.old + (length text.now + 2) * size automaton.now }
+{
+    sets.reserve(automaton.state_count())?;
+    Ok(automaton.can_match_after(text, byte, sets, visits))
 }

@@ -1,8 +1,11 @@
 -- What runs find, by the tokens that an automaton is for.
-use Rattle.std.proofs.Common.{ℕ, ◌<◌, ◌⊎◌, inl, inr, List, slice_index}
+use Rattle.std.proofs.Common.{ℕ, ◌<◌, ◌⊎◌, inl, inr, List, [], ◌∷◌, ◌++◌, refl, slice_index}
 use Rattle.std.specs.Prelude.{◌↔◌}
 use Rattle.std.proofs.Math.Logic.{⊎_elim}
+use Rattle.byte_automaton.specs.Live.{MatchesAfter}
 use Rattle.byte_automaton.specs.Steps.{Machine, IsReached}
+use Rattle.byte_automaton.specs.Texts.{AllBytes}
+use Rattle.glob_automaton.specs.After.{SomeMeanAfter}
 use Rattle.glob_automaton.specs.IndexedTokens.{IndexedTokens, SomeMatches, IsFor}
 use Rattle.glob_automaton.proofs.lemmas.IndexedTokens.{all_bytes, reached_matches}
 
@@ -22,4 +25,32 @@ has_matches m xs path bytes some is =
     let same : (k : ℕ) → IsReached m path k ↔ SomeMatches xs path k = λ k. reached_matches m xs path k is (all_bytes path bytes) in (
       λ h. let (k, reached) = some.0 h in (k, (same k).0 reached),
       λ (k, matched). some.1 (k, (same k).1 matched),
+    )
+
+-- ---- texts with a beginning
+
+bytes_then : (y z : List ℕ) → AllBytes y → AllBytes z → AllBytes (y ++ z)
+bytes_then [] z h g = g
+bytes_then (c ∷ y) z h g = (h.0, bytes_then y z h.1 g)
+
+some_after : (xs : List IndexedTokens) (y rest : List ℕ) (k : ℕ) → AllBytes rest → SomeMatches xs (y ++ rest) k → SomeMeanAfter xs y
+some_after [] y rest k bytes h = absurd h
+some_after (x ∷ xs) y rest k bytes (inl (is, h)) = inl (rest, bytes, h)
+some_after (x ∷ xs) y rest k bytes (inr h) = inr (some_after xs y rest k bytes h)
+
+after_some : (xs : List IndexedTokens) (y : List ℕ) → SomeMeanAfter xs y → (k : ℕ) × (rest : List ℕ) × AllBytes rest × SomeMatches xs (y ++ rest) k
+after_some [] y h = absurd h
+after_some (x ∷ xs) y (inl (rest, bytes, h)) = (x.index, rest, bytes, inl (refl, h))
+after_some (x ∷ xs) y (inr h) = let (k, rest, bytes, g) = after_some xs y h in (k, rest, bytes, inr g)
+
+-- whether some tokens match a text that begins so
+pub after_matches : {Some : Type 0} (m : Machine) (xs : List IndexedTokens) (text : List ℕ) (byte : ℕ) → ((i : ℕ) → slice_index text i < 256) → byte < 256
+    → Some ↔ MatchesAfter m (text ++ byte ∷ []) → IsFor m xs → Some ↔ SomeMeanAfter xs (text ++ byte ∷ [])
+after_matches m xs text byte bytes small some is =
+    let y = text ++ byte ∷ [] in
+    let begun : AllBytes y = bytes_then text (byte ∷ []) (all_bytes text bytes) (small, tt) in
+    let same : (rest : List ℕ) (k : ℕ) → AllBytes rest → IsReached m (y ++ rest) k ↔ SomeMatches xs (y ++ rest) k =
+    λ rest k all. reached_matches m xs (y ++ rest) k is (bytes_then y rest begun all) in (
+      λ h. let (k, rest, all, reached) = some.0 h in some_after xs y rest k all ((same rest k all).0 reached),
+      λ h. let (k, rest, all, matched) = after_some xs y h in some.1 (k, rest, all, (same rest k all).1 matched),
     )

@@ -7,11 +7,12 @@ use Rattle.std.proofs.lemmas.Nat.{mul-le}
 use Rattle.std.proofs.Math.ListN.{get_or-map}
 use Rattle.std.proofs.Math.Logic.{⊎_elim}
 use Rattle.byte_automaton.specs.Building.{AreBelow}
+use Rattle.byte_automaton.specs.Live.{MatchesAfter}
 use Rattle.byte_automaton.specs.Parts.{IsReachedBetween, IsPart}
 use Rattle.byte_automaton.specs.Runs.{size}
 use Rattle.byte_automaton.specs.Steps.{Machine, IsIn, IsReached}
 use Rattle.byte_dfa.specs.DfaValue.{DfaValue}
-use Rattle.glob_matching.specs.inner.Parts.{sources, SomeReached, total, AreCounted, ArePartsBelow}
+use Rattle.glob_matching.specs.inner.Parts.{sources, SomeReached, SomeMatchesAfter, total, AreCounted, ArePartsBelow}
 
 -- ---- lists of automata
 
@@ -193,6 +194,20 @@ pub some_all : {Yes : Type 0} {R S T : ℕ → Type 0} → ((k : ℕ) → T k �
 some_all {S = S} both none some = (
   λ yes. let (k, s) = some.0 yes in (k, (both k).1 (inr s)),
   λ (k, t). some.1 (k, ⊎_elim {C = S k} (λ r. absurd (none k r)) (λ s. s) ((both k).0 t)),
+)
+
+-- what texts with a beginning lead to, if those that lead there by the first list are none
+pub after_all : {Yes : Type 0} (m : Machine) (tables : List DfaValue) (automata : List Machine) → AreBelow (size m) m.starts → ArePartsBelow m (size m) tables automata
+    → (y : List ℕ) → (SomeMatchesAfter (sources tables) y → ⊥) → Yes ↔ SomeMatchesAfter automata y → Yes ↔ MatchesAfter m y
+after_all m tables automata begun parts y none some = (
+  λ yes. let (k, rest, bytes, found) = some.0 yes in (k, rest, bytes, (whole_reached m tables automata begun parts (y ++ rest) k).1 (inr found)),
+  λ (k, rest, bytes, reached). some.1 (
+    k,
+    rest,
+    bytes,
+    ⊎_elim {C = SomeReached automata (y ++ rest) k}
+        (λ found. absurd (none (k, rest, bytes, found))) (λ found. found) ((whole_reached m tables automata begun parts (y ++ rest) k).0 reached),
+  ),
 )
 
 -- results

@@ -1,10 +1,11 @@
 -- Automata that together lead where one leads.
-use Rattle.std.specs.Prelude.{◌≡◌, ℕ, ◌+◌, ◌≤◌, ◌⊎◌, ◌↔◌, List, [], ◌∷◌, length, map}
+use Rattle.std.specs.Prelude.{◌≡◌, ℕ, ◌+◌, ◌≤◌, ◌⊎◌, ◌↔◌, List, [], ◌∷◌, ◌++◌, length, map}
 use Rattle.std.specs.List.{All}
 use Rattle.byte_automaton.specs.Building.{AreBelow}
 use Rattle.byte_automaton.specs.Parts.{IsReachedBetween}
 use Rattle.byte_automaton.specs.Runs.{size}
 use Rattle.byte_automaton.specs.Steps.{Machine, IsReached}
+use Rattle.byte_automaton.specs.Texts.{AllBytes}
 use Rattle.byte_dfa.specs.DfaValue.{DfaValue}
 
 -- the automata that deterministic ones were made from
@@ -15,6 +16,10 @@ sources tables = map (λ d. d.source) tables
 abbrev pub SomeReached : List Machine → List ℕ → ℕ → Type 0
 SomeReached [] y k = ⊥
 SomeReached (m ∷ ms) y k = IsReached m y k ⊎ SomeReached ms y k
+
+-- some text that begins with y, and has bytes alone after it, leads some of the automata to an end
+abbrev pub SomeMatchesAfter : List Machine → List ℕ → Type 0
+SomeMatchesAfter ms y = (k : ℕ) × (rest : List ℕ) × AllBytes rest × SomeReached ms (y ++ rest) k
 
 -- how many states there are in all of the automata
 abbrev pub total : List Machine → ℕ

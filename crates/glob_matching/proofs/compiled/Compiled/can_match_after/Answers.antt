@@ -1,0 +1,29 @@
+use Rattle.std.proofs.Common.{◌≡◌, ◌∙◌, ◌++◌, ◌∷◌, [], IsTrue, ap, sym, subst, arith}
+use Rattle.std.specs.Prelude.{◌↔◌}
+use Rattle.byte_automaton.specs.Live.{MatchesAfter}
+use Rattle.byte_automaton.specs.Steps.{Machine}
+use Rattle.glob_matching.specs.inner.Compiled.{machine_of}
+use Rattle.glob_matching.proofs.lemmas.Compiled.{after_matches}
+use Rattle.glob_matching.proofs.lemmas.Parts.{if_ok}
+use Rattle.glob_matching.proofs.compiled.Compiled.can_match_after.Goals as goal
+
+pub returns-in-Whole-clause-some : goal.returns-in-Whole-clause-some
+returns-in-Whole-clause-some c =
+    let same : c.in-Whole.automaton ≡ c.args.self.now = sym (ap machine_of c.in-Whole.is) ∙ c.self.view_is in
+    if_ok c.can_match_after.result (λ yes some xs is.
+    let here = subst (λ (m : Machine). IsTrue yes ↔ MatchesAfter m (c.args.text.now ++ c.args.byte ∷ [])) same some in
+    after_matches c.args.self.now xs c.args.text.now c.args.byte (λ i. omega (arith, c.type_inv.text i)) (omega arith) here is) c.can_match_after.ensures.some
+
+pub returns-in-Divided-clause-some : goal.returns-in-Divided-clause-some
+returns-in-Divided-clause-some c =
+    let same : c.in-Divided.parts ≡ c.args.self.now = sym (ap machine_of c.in-Divided.is) ∙ c.self.view_is in
+    if_ok c.can_match_after-in-Divided.result (λ yes some xs is.
+    let here = subst (λ (m : Machine). IsTrue yes ↔ MatchesAfter m (c.args.text.now ++ c.args.byte ∷ [])) same some in
+    after_matches c.args.self.now xs c.args.text.now c.args.byte (λ i. omega (arith, c.type_inv.text i)) (omega arith) here is) c.can_match_after-in-Divided.ensures.some
+
+pub returns-in-Filtered-clause-some : goal.returns-in-Filtered-clause-some
+returns-in-Filtered-clause-some c =
+    let same : c.deref.result.now ≡ c.args.self.now = c.deref.ensures ∙ sym (ap machine_of c.in-Filtered.is) ∙ c.self.view_is in
+    if_ok c.can_match_after-in-Filtered.result (λ yes some xs is.
+    let here = subst (λ (m : Machine). IsTrue yes ↔ MatchesAfter m (c.args.text.now ++ c.args.byte ∷ [])) same some in
+    after_matches c.args.self.now xs c.args.text.now c.args.byte (λ i. omega (arith, c.type_inv.text i)) (omega arith) here is) c.can_match_after-in-Filtered.ensures.some

@@ -1,0 +1,54 @@
+use Rattle.std.proofs.Common.{◌++◌, ◌∷◌, [], ◌+◌, length, take, arith, refl, sym, ◌∙◌, true≢false}
+use Rattle.byte_automaton.specs.Runs.{size}
+use Rattle.glob_matching.specs.inner.Parts.{total}
+use Rattle.glob_matching.proofs.lemmas.Parts.{some_at, none_more, visits_more, visits_upto, total_more, total_upto}
+use Rattle.glob_matching.proofs.parts.after.can_match_by_simulation.Goals as goal
+
+pub returns-in_err-can_match_after-clause-visits : goal.returns-in_err-can_match_after-clause-visits
+returns-in_err-can_match_after-clause-visits c =
+    let automata = c.args.automata.now in
+    let i = c.loop-automaton.automaton-index in
+    let m = c.automaton-item.result in
+    let n = length c.args.text.now + 2 in
+    let upto = total_upto automata i m c.loop-automaton-test.true c.automaton-item.is in
+    visits_upto n (total (take i automata) + size m) (total automata) c.can_match_after.new.visits c.args.visits.now upto
+    (visits_more n (total (take i automata)) (size m) c.loop-automaton.visits c.can_match_after.new.visits c.args.visits.now c.can_match_after.ensures.visits c.loop-automaton.invariant.visits)
+
+pub returns-then-branch-clause-visits : goal.returns-then-branch-clause-visits
+returns-then-branch-clause-visits c =
+    let automata = c.args.automata.now in
+    let i = c.loop-automaton.automaton-index in
+    let m = c.automaton-item.result in
+    let n = length c.args.text.now + 2 in
+    let upto = total_upto automata i m c.loop-automaton-test.true c.automaton-item.is in
+    visits_upto n (total (take i automata) + size m) (total automata) c.can_match_after.new.visits c.args.visits.now upto
+    (visits_more n (total (take i automata)) (size m) c.loop-automaton.visits c.can_match_after.new.visits c.args.visits.now c.can_match_after.ensures.visits c.loop-automaton.invariant.visits)
+
+pub returns-then-branch-clause-some : goal.returns-then-branch-clause-some
+returns-then-branch-clause-some c =
+    let automata = c.args.automata.now in
+    let i = c.loop-automaton.automaton-index in
+    let (k, rest, bytes, reached) = c.in_ok-can_match_after.ensures.some.0 c.if-branch.true in
+    let begun = c.args.text.now ++ c.args.byte ∷ [] in
+    (λ yes. (k, rest, bytes, some_at automata i c.automaton-item.result c.loop-automaton-test.true c.automaton-item.is (begun ++ rest) k reached), λ some. refl)
+
+pub loop-automaton-preserved : goal.loop-automaton-preserved
+loop-automaton-preserved c =
+    let inv = c.loop-automaton.invariant in
+    let automata = c.args.automata.now in
+    let i = c.loop-automaton.automaton-index in
+    let m = c.automaton-item.result in
+    let n = length c.args.text.now + 2 in
+    record {
+      none = λ (k, rest, bytes, some). none_more automata i m c.loop-automaton-test.true c.automaton-item.is ((c.args.text.now ++ c.args.byte ∷ []) ++ rest)
+          (λ j before. inv.none (j, rest, bytes, before))
+          (λ j reached. true≢false (sym (c.in_ok-can_match_after.ensures.some.1 (j, rest, bytes, reached)) ∙ c.if-branch.false)) k some;
+      kept = omega (arith, c.can_match_after.ensures.kept, inv.kept);
+      visits = rw (total_more automata i m c.loop-automaton-test.true c.automaton-item.is)
+          (visits_more n (total (take i automata)) (size m) c.loop-automaton.visits c.can_match_after.new.visits c.args.visits.now c.can_match_after.ensures.visits inv.visits);
+    }
+
+pub returns-in_err-can_match_after-clause-memory : goal.returns-in_err-can_match_after-clause-memory
+returns-in_err-can_match_after-clause-memory c = λ enough.
+    let upto = total_upto c.args.automata.now c.loop-automaton.automaton-index c.automaton-item.result c.loop-automaton-test.true c.automaton-item.is in
+    absurd (true≢false (sym (c.in_err-can_match_after.ensures.memory (omega (arith, upto, enough, c.loop-automaton.invariant.kept)))))
