@@ -8,3 +8,4 @@ pub mod Groups
 pub mod Keys
 pub mod Silent
 pub mod TokenMeaning
+pub mod Below

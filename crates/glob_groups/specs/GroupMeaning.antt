@@ -1,6 +1,7 @@
 -- What the group of a glob says about a path.
 use Rattle.std.specs.Prelude.{◌≡◌, ◌↔◌, ◌⊎◌, ℕ, Bool, true, false, List, ◌∷◌, ◌++◌, IsTrue}
 use Rattle.std.specs.Str.{bytes_eq}
+use Rattle.byte_automaton.specs.Texts.{AllBytes}
 use Rattle.glob_automaton.specs.Takes.{slash}
 use Rattle.glob_automaton.specs.TokenMeans.{means}
 use Rattle.glob_syntax.specs.declared.options.Options.{Options}
@@ -9,6 +10,7 @@ use Rattle.glob_path.specs.PathParts.{last_component, component_extension}
 use Rattle.glob_groups.specs.declared.group.Group.{Group}
 use Rattle.glob_groups.specs.declared.group.Group.TheVariants as held
 use Rattle.glob_groups.specs.Silent.{are_listed}
+use Rattle.glob_groups.specs.Below.{TellsBelow, HasBytes}
 use Rattle.glob_groups.specs.Direct.{needs_automaton}
 use Rattle.glob_groups.specs.Groups.{GroupValue, Silent, WholePath, LastComponent, Extension, LastComponents, End, Beginning, RequiredExtension, ByLastComponent, ByPath, after_prefix, before_ending, group_of_tokens}
 
@@ -57,9 +59,10 @@ runs_automaton ByLastComponent path = true
 runs_automaton ByPath path = true
 runs_automaton group path = false
 
--- The group is that of the table, what it says of a glob with these tokens is so for every path, and it has an automaton run
--- only where the glob needs one.
+-- The group is that of the table, what it says of a glob with these tokens is so for every path and, if its key is bytes, for
+-- every folder, and it has an automaton run only where the glob needs one.
 pub record IsGroupOf (o : Options) (ts : Tokens) (group : Group) : Type 0 where
   pub in_table : group_seen group ≡ group_of_tokens o ts
   pub tells : (path : List ℕ) → Tells (group_seen group) o ts path
   pub automaton : (path : List ℕ) → runs_automaton (group_seen group) path ≡ true → needs_automaton o ts path ≡ true
+  pub below : (folder : List ℕ) → AllBytes folder → HasBytes (group_seen group) → TellsBelow (group_seen group) o ts folder

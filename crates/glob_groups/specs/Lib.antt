@@ -3,4 +3,5 @@ pub mod TokenTests
 pub mod Groups
 pub mod Direct
 pub mod GroupMeaning
+pub mod Below
 pub mod inner

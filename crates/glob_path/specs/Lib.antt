@@ -1,1 +1,2 @@
 pub mod PathParts
+pub mod Below

@@ -13,9 +13,10 @@ use Rattle.glob_groups.specs.GroupMeaning.{group_seen, Tells, runs_automaton, Is
 use Rattle.glob_groups.specs.Direct.{is_direct, has_ending, needs_automaton}
 use Rattle.glob_groups.specs.declared.group.Group.{Group}
 use Rattle.glob_groups.proofs.lemmas.BeforeEnding.{before_ending_means}
+use Rattle.glob_groups.proofs.lemmas.Below.{IsShaped, tells_below}
 use Rattle.glob_groups.proofs.lemmas.Direct.{other_not_direct, ending_needs, insensitive_needs}
 use Rattle.glob_groups.proofs.lemmas.EndMeaning.{last_components_means, end_means, beginning_means, below_folder_means}
-use Rattle.glob_groups.proofs.lemmas.TokenMeaning.{whole_path_means, last_component_means, any_extension_means, ending_required, by_last_component_means}
+use Rattle.glob_groups.proofs.lemmas.TokenMeaning.{whole_path_means, last_component_means, any_extension_means, ending_required, by_last_component_means, last_component_lacks, by_last_component_lacks, any_extension_is}
 
 -- ---- choices by a test
 
@@ -126,9 +127,37 @@ runs_of o ts path =
     of_choice (RunsNeeded o ts path) (are_silent o ts) _ _ (λ h. never_runs o ts path) (λ h.
     of_choice (RunsNeeded o ts path) o.case_insensitive _ _ (λ on runs. insensitive_needs o ts path on) (λ off. sensitive_runs o ts path))
 
+-- ---- the shape of its tokens
+
+automaton_shaped : (o : Options) (ts : Tokens) → IsShaped o ts (automaton_group o ts)
+automaton_shaped o ts = of_choice (IsShaped o ts) (is_by_last_component o ts) _ _ (λ h b. by_last_component_lacks o b ts h) (λ h. tt)
+
+ending_shaped : (o : Options) (ts : Tokens) (last : Option (List ℕ)) → IsShaped o ts (ending_group o ts last)
+ending_shaped o ts (Some key) = tt
+ending_shaped o ts None = automaton_shaped o ts
+
+sensitive_shaped : (o : Options) (ts : Tokens) → IsShaped o ts (sensitive_group o ts)
+sensitive_shaped o ts =
+    of_choice C (is_whole_path ts) _ _ (λ h. tt) (λ a.
+    of_choice C (is_last_component ts) _ _ (λ h. last_component_lacks ts h) (λ b.
+    of_choice C (is_last_components ts) _ _ (λ h. tt) (λ c.
+    of_choice C (is_any_extension o ts) _ _ (λ h. any_extension_is o ts h) (λ d.
+    of_choice C (is_end o ts) _ _ (λ h. tt) (λ e.
+    of_choice C (is_beginning o ts) _ _ (λ h. tt) (λ f.
+    of_choice C (is_below_folder ts) _ _ (λ h. tt) (λ g.
+    ending_shaped o ts (ending ts))))))))
+  where
+    C : GroupValue → Type 0
+    C = IsShaped o ts
+
+shaped : (o : Options) (ts : Tokens) → IsShaped o ts (group_of_tokens o ts)
+unfolding group_of_tokens
+shaped o ts = of_choice (IsShaped o ts) (are_silent o ts) _ _ (λ h. tt) (λ h. of_choice (IsShaped o ts) o.case_insensitive _ _ (λ on. automaton_shaped o ts) (λ off. sensitive_shaped o ts))
+
 pub is_group : (o : Options) (ts : Tokens) (group : Group) → group_seen group ≡ group_of_tokens o ts → IsGroupOf o ts group
 is_group o ts group e = record {
   in_table = e;
   tells = λ path. subst (λ s. Tells s o ts path) (sym e) (tells_of o ts path);
   automaton = λ path. subst (RunsNeeded o ts path) (sym e) (runs_of o ts path);
+  below = λ folder bytes has. tells_below o ts folder bytes (group_seen group) has (subst (IsShaped o ts) (sym e) (shaped o ts)) (λ path. subst (λ s. Tells s o ts path) (sym e) (tells_of o ts path));
 }

@@ -201,6 +201,18 @@ by_last_component_means o b = by_first (λ ts. means o ts b ≡ means o (after_p
     let same = means_taken o us (last_component b) (no_slash_not_alone o us all) in
     same_truth (means o (and_then RecursivePrefix us) b) (means o us (last_component b)) (λ p. same.1 (component.0 p), λ p. component.1 (same.0 p)))
 
+-- what the key of a last component, and the tokens of a last component, lack
+
+pub last_component_lacks : (ts : Tokens) → is_last_component ts ≡ true → Lacks is_separator (literal_text ts)
+last_component_lacks = by_first (λ ts. Lacks is_separator (literal_text ts)) is_prefix RecursivePrefix (some_all_pass (is_literal_except (slash ∷ []))) prefix_is
+    (λ us h. text_lacks slash (slash ∷ []) us (omega arith) refl (and_second (has_tokens us) (all_pass (is_literal_except (slash ∷ [])) us) h))
+
+pub by_last_component_lacks : (o : Options) (b : List ℕ) (ts : Tokens) → is_by_last_component o ts ≡ true → IsTrue (means o (after_prefix ts) b) → Lacks is_separator b
+by_last_component_lacks o b = by_first (λ ts. IsTrue (means o (after_prefix ts) b) → Lacks is_separator b) is_prefix RecursivePrefix (some_all_pass (matches_no_slash o)) prefix_is
+    (λ us h matched.
+    let all : all_pass (matches_no_slash o) us ≡ true = and_second (has_tokens us) (all_pass (matches_no_slash o) us) h in
+    no_slash_all o us all b ((means_taken o us b (no_slash_not_alone o us all)).0 matched))
+
 -- ---- extensions
 
 dot_bytes : encode_utf8 46 ≡ 46 ∷ []
@@ -307,6 +319,16 @@ any_extension_means o b off ts h = ⊎_elim {C = HasThisExtension o b ts}
     (by_first (λ us. HasThisExtension o b (and_then RecursivePrefix us)) is_star ZeroOrMore is_extension star_is (prefix_star_means o b off)) ts)
     (λ both. star_extension_means o b off (not-true o.literal_separator (and_first (not o.literal_separator) (is_star_extension ts) both)) ts (and_second (not o.literal_separator) (is_star_extension ts) both))
     (or_either (first_and_rest is_prefix is_star_extension ts) (not o.literal_separator && is_star_extension ts) h)
+
+-- the key of an extension is one
+pub any_extension_is : (o : Options) (ts : Tokens) → is_any_extension o ts ≡ true → IsExtension (literal_text ts)
+any_extension_is o ts h = ⊎_elim {C = IsExtension (literal_text ts)}
+    (by_first (λ us. IsExtension (literal_text us)) is_prefix RecursivePrefix is_star_extension prefix_is (λ us. star_is_extension us) ts)
+    (λ both. star_is_extension ts (and_second (not o.literal_separator) (is_star_extension ts) both))
+    (or_either (first_and_rest is_prefix is_star_extension ts) (not o.literal_separator && is_star_extension ts) h)
+  where
+    star_is_extension : (us : Tokens) → is_star_extension us ≡ true → IsExtension (literal_text us)
+    star_is_extension = by_first (λ us. IsExtension (literal_text us)) is_star ZeroOrMore is_extension star_is (λ us found. (extension_literals us found).0)
 
 -- ---- required extensions
 

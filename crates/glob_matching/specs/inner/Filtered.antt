@@ -1,5 +1,5 @@
 -- Automata with many starts, of which those alone are run that a filter names.
-use Rattle.std.specs.Prelude.{◌≡◌, ℕ, zero, suc, ◌+◌, ◌<◌, List, length, slice_index, IsTrue}
+use Rattle.std.specs.Prelude.{ℕ, zero, suc, ◌+◌, ◌<◌, List, length, slice_index, IsTrue}
 use Rattle.byte_automaton.specs.Sets.{has_index}
 use Rattle.byte_automaton.specs.Spans.{IsSpan}
 use Rattle.byte_automaton.specs.Steps.{Accepts, Machine}

@@ -1,10 +1,6 @@
-use Rattle.std.proofs.Common.{◌≡◌, ℕ, ◌+◌, ◌*◌, ◌<◌, ◌≤◌, ◌⊎◌, length, IsTrue, true, false, true≢false, ap, arith, sym, ◌∙◌}
-use Rattle.std.proofs.Math.Logic.{⊎_elim}
-use Rattle.std.specs.Prelude.{◌↔◌}
+use Rattle.std.proofs.Common.{◌≡◌, ℕ, ◌+◌, ◌<◌, ◌≤◌, length, true, false, ap, arith, ◌∙◌}
 use Rattle.byte_automaton.specs.Sets.{has_index}
-use Rattle.byte_automaton.specs.Steps.{Accepts}
-use Rattle.glob_matching.specs.inner.Filtered.{IsReachedBefore}
-use Rattle.glob_matching.proofs.lemmas.Filtered.{before_all, before_more, found_all, found_more, visits_all, visits_more}
+use Rattle.glob_matching.proofs.lemmas.Filtered.{found_all, found_more, visits_all, visits_more}
 use Rattle.glob_matching.proofs.filtered.find_from_marked.Goals as goal
 
 pub loop-i-preserved : goal.loop-i-preserved

@@ -1,10 +1,9 @@
-use Rattle.std.proofs.Common.{◌≡◌, ℕ, ◌+◌, ◌*◌, ◌<◌, ◌≤◌, ◌⊎◌, length, slice_index, IsTrue, true, false, true≢false, refl, ap, arith, sym, ◌∙◌}
+use Rattle.std.proofs.Common.{◌≡◌, ℕ, ◌+◌, ◌<◌, ◌≤◌, length, slice_index, IsTrue, true, false, true≢false, refl, ap, arith, sym, ◌∙◌}
 use Rattle.std.proofs.Math.Logic.{⊎_elim}
 use Rattle.std.specs.Prelude.{◌↔◌}
 use Rattle.byte_automaton.specs.Sets.{has_index}
 use Rattle.byte_automaton.specs.Steps.{Accepts}
-use Rattle.glob_matching.specs.inner.Filtered.{IsReachedBefore}
-use Rattle.glob_matching.proofs.lemmas.Filtered.{before_all, before_more, found_all, found_more, visits_all, visits_more}
+use Rattle.glob_matching.proofs.lemmas.Filtered.{before_all, before_more, visits_all, visits_more}
 use Rattle.glob_matching.proofs.filtered.is_match_from_marked.Goals as goal
 
 pub loop-i-preserved : goal.loop-i-preserved

@@ -1,4 +1,4 @@
-use Rattle.std.proofs.Common.{ℕ, ◌+◌, ◌≤◌, ◌++◌, ◌∷◌, [], inl, refl, true, IsTrue, length, arith, ap, sym, subst, ◌∙◌, true≢false}
+use Rattle.std.proofs.Common.{◌+◌, ◌≤◌, ◌++◌, ◌∷◌, [], inl, refl, true, IsTrue, length, arith, ap, sym, subst, ◌∙◌, true≢false}
 use Rattle.std.specs.Prelude.{◌↔◌}
 use Rattle.byte_automaton.specs.Runs.{size}
 use Rattle.byte_automaton.specs.Live.{MatchesAfter}

@@ -1,0 +1,128 @@
+-- Paths below a folder, by groups.
+use Rattle.std.proofs.Common.{◌≡◌, ℕ, ◌<◌, arith, ◌⊎◌, inl, inr, true, true≢false, List, [], ◌∷◌, ◌++◌, IsTrue, refl, ap, sym, ◌∙◌, subst}
+use Rattle.std.proofs.Math.Logic.{⊎_elim}
+use Rattle.std.proofs.lemmas.List.{append-nil, append_assoc}
+use Rattle.byte_automaton.specs.Texts.{AllBytes}
+use Rattle.byte_automaton.proofs.lemmas.Deciding.{rest_bytes}
+use Rattle.glob_automaton.specs.Takes.{slash}
+use Rattle.glob_automaton.specs.TokenMeans.{means}
+use Rattle.glob_path.specs.PathParts.{is_separator, last_component, component_extension}
+use Rattle.glob_syntax.specs.declared.options.Options.{Options}
+use Rattle.glob_syntax.specs.Token.{Tokens}
+use Rattle.glob_path.specs.Below.{path_below, folder_start, BeginsWith}
+use Rattle.glob_groups.specs.Below.{AreListedBelow, TellsBelow, HasBytes}
+use Rattle.glob_groups.specs.GroupMeaning.{Tells}
+use Rattle.glob_groups.specs.Groups.{GroupValue, Silent, WholePath, LastComponent, Extension, LastComponents, End, Beginning, RequiredExtension, ByLastComponent, ByPath, after_prefix, before_ending}
+use Rattle.glob_groups.proofs.lemmas.Components.{Lacks, lacks_back, last_component_at, split, IsExtension, extension_ends, extension_parts}
+use Rattle.glob_groups.proofs.lemmas.TokenMeaning.{extension_end}
+use Rattle.glob_path.proofs.lemmas.LastPositions.{neither}
+
+append_bytes : (y z : List ℕ) → AllBytes y → AllBytes z → AllBytes (y ++ z)
+append_bytes [] z h g = g
+append_bytes (c ∷ y) z h g = (h.0, append_bytes y z h.1 g)
+
+-- the folder with its `/`, and the rest
+with_slash : (folder rest : List ℕ) → (folder ++ slash ∷ []) ++ rest ≡ path_below folder rest
+with_slash folder rest = append_assoc folder (slash ∷ []) rest
+
+name_below : (folder name : List ℕ) → Lacks is_separator name → last_component (path_below folder name) ≡ name
+name_below folder name none = ap last_component (sym (with_slash folder name)) ∙ last_component_at (folder ++ slash ∷ []) name (inr (folder, refl)) none
+
+no_slash_first : (rest : List ℕ) → Lacks is_separator (slash ∷ rest) → ⊥
+no_slash_first rest h = true≢false (neither _ true h).1
+
+-- an end without a `/` lies behind the `/` of the folder
+record IsBehind (folder front key rest : List ℕ) : Type 0 where
+  more : List ℕ
+  rest_is : rest ≡ more ++ key
+  front_is : front ≡ folder ++ slash ∷ more
+
+behind : (folder front key rest : List ℕ) → folder ++ slash ∷ rest ≡ front ++ key → Lacks is_separator key → IsBehind folder front key rest
+behind [] [] key rest cut none = absurd (no_slash_first rest (subst (Lacks is_separator) (sym cut) none))
+behind [] (c ∷ front) key rest cut none =
+    let first : slash ≡ c = cc in
+    let others : rest ≡ front ++ key = cc in
+    record { more = front; rest_is = others; front_is = ap (λ d. d ∷ front) (sym first) }
+behind (c ∷ folder) [] key rest cut none = absurd (no_slash_first rest (lacks_back is_separator (c ∷ folder) (slash ∷ rest) (subst (Lacks is_separator) (sym cut) none)))
+behind (c ∷ folder) (d ∷ front) key rest cut none =
+    let first : c ≡ d = cc in
+    let others : folder ++ slash ∷ rest ≡ front ++ key = cc in
+    let b = behind folder front key rest others none in
+    record { more = b.more; rest_is = b.rest_is; front_is = ap (λ l. d ∷ l) b.front_is ∙ ap (λ x. x ∷ folder ++ slash ∷ b.more) (sym first) }
+
+extension_lacks : (b : List ℕ) → Lacks is_separator (component_extension b)
+extension_lacks b = ⊎_elim {C = Lacks is_separator (component_extension b)}
+    (λ none. subst (Lacks is_separator) (sym none) refl)
+    (λ has. lacks_back is_separator has.before (component_extension b) (subst (Lacks is_separator) has.cut (split b).lacks))
+    (extension_parts b)
+
+-- of two lists that begin one list, one begins with the other
+overlap : (x y u v : List ℕ) → x ++ u ≡ y ++ v → BeginsWith x y ⊎ BeginsWith y x
+overlap x [] u v cut = inl (x, refl)
+overlap [] (d ∷ y) u v cut = inr (d ∷ y, refl)
+overlap (c ∷ x) (d ∷ y) u v cut =
+    let first : c ≡ d = cc in
+    let others : x ++ u ≡ y ++ v = cc in
+    ⊎_elim {C = BeginsWith (c ∷ x) (d ∷ y) ⊎ BeginsWith (d ∷ y) (c ∷ x)}
+    (λ (z, is). inl (z, (λ i. sym first i ∷ is i)))
+    (λ (z, is). inr (z, (λ i. first i ∷ is i)))
+    (overlap x y u v others)
+
+front_bytes : (p q : List ℕ) → AllBytes (p ++ q) → AllBytes p
+front_bytes [] q h = tt
+front_bytes (c ∷ p) q h = (h.0, front_bytes p q h.1)
+
+-- what is known of the tokens of a group, beside what it says of paths
+abbrev pub IsShaped : Options → Tokens → GroupValue → Type 0
+IsShaped o ts (LastComponent key) = Lacks is_separator key
+IsShaped o ts (Extension key) = IsExtension key
+IsShaped o ts ByLastComponent = (b : List ℕ) → IsTrue (means o (after_prefix ts) b) → Lacks is_separator b
+IsShaped o ts group = Unit {0}
+
+module _ (o : Options) (ts : Tokens) (folder : List ℕ) (bytes : AllBytes folder) where
+  pub tells_below : (group : GroupValue) → HasBytes group → IsShaped o ts group → ((path : List ℕ) → Tells group o ts path) → TellsBelow group o ts folder
+  tells_below Silent has shape tells = λ (rest, all, h). true≢false (sym h ∙ tells (path_below folder rest))
+  tells_below (WholePath key) has shape tells = (
+    λ (rest, all, h). (rest, with_slash folder rest ∙ (tells (path_below folder rest)).0 h),
+    λ (rest, is). let cut = sym (with_slash folder rest) ∙ is in
+        (rest, (rest_bytes folder (slash ∷ rest) (subst AllBytes (sym cut) has)).1, (tells (path_below folder rest)).1 cut),
+  )
+  tells_below (LastComponent key) has shape tells = (key, has, (tells (path_below folder key)).1 (name_below folder key shape))
+  tells_below (Extension key) has shape tells =
+      (key, has, (tells (path_below folder key)).1 (extension_ends (path_below folder key) key shape (folder ++ slash ∷ [], sym (with_slash folder key))))
+  tells_below (LastComponents key) has shape tells = (key, has, (tells (path_below folder key)).1 (inr (folder, refl)))
+  tells_below (End key) has shape tells = (key, has, (tells (path_below folder key)).1 (folder ++ slash ∷ [], with_slash folder key))
+  tells_below (Beginning key) has shape tells = (
+    λ (rest, all, h). let (z, is) = (tells (path_below folder rest)).0 h in overlap key (folder_start folder) z rest (is ∙ sym (with_slash folder rest)),
+    λ either. ⊎_elim {C = AreListedBelow o ts folder}
+        (λ (z, is). (z, rest_bytes (folder_start folder) z (subst AllBytes (sym is) has), (tells (path_below folder z)).1 ([], append-nil key ∙ sym is ∙ with_slash folder z)))
+        (λ (z, is). ([], tt, (tells (path_below folder [])).1 (z, is)))
+        either,
+  )
+  tells_below (RequiredExtension key) has shape tells = (
+    λ (rest, all, h).
+        let path = path_below folder rest in
+        let ext = (tells path).0 h in
+        let (front, is) = extension_end path in
+        let cut : path ≡ front ++ key = is ∙ ap (λ k. front ++ k) ext in
+        let b = behind folder front key rest cut (subst (Lacks is_separator) ext (extension_lacks path)) in
+        let front_all : AllBytes b.more = front_bytes b.more key (subst AllBytes b.rest_is all) in
+        (b.more, front_all, subst (λ f. IsTrue (means o (before_ending ts) f)) (b.front_is ∙ sym (with_slash folder b.more)) (sym ((tells path).1 front (sym cut)) ∙ h)),
+    λ (rest, all, h).
+        let path = path_below folder (rest ++ key) in (
+          rest ++ key,
+          append_bytes rest key all has,
+          (tells path).1 (path_below folder rest) (append_assoc folder (slash ∷ rest) key) ∙ subst (λ f. IsTrue (means o (before_ending ts) f)) (with_slash folder rest) h,
+        ),
+  )
+  tells_below ByLastComponent has shape tells = (
+    λ (rest, all, h).
+        let path = path_below folder rest in
+        let s = split path in
+        (last_component path, rest_bytes s.front (last_component path) (subst AllBytes s.cut (append_bytes folder (slash ∷ rest) bytes (let small : slash < 256 = omega arith in small, all))), sym (tells path) ∙ h),
+    λ (name, all, h). (name, all, tells (path_below folder name) ∙ ap (means o (after_prefix ts)) (name_below folder name (shape name h)) ∙ h),
+  )
+  tells_below ByPath has shape tells = (
+    λ (rest, all, h). (rest, all, subst (λ f. IsTrue (means o ts f)) (sym (with_slash folder rest)) (sym (tells (path_below folder rest)) ∙ h)),
+    λ (rest, all, h). (rest, all, tells (path_below folder rest) ∙ subst (λ f. IsTrue (means o ts f)) (with_slash folder rest) h),
+  )
