@@ -1,2 +1,4 @@
 pub mod Keys
+pub mod Folders
+pub mod Below
 pub mod Shared

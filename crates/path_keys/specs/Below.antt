@@ -1,0 +1,27 @@
+-- Which keys a path below a folder may find.
+use Rattle.std.specs.Prelude.{◌≡◌, ◌≢◌, ℕ, List, [], ◌∷◌, ◌++◌, Contains}
+use Rattle.byte_table.specs.Entries.{Entry, entry}
+use Rattle.path_keys.specs.Keys.{KeyParts}
+
+-- the first text begins with the second
+abbrev pub BeginsWith : List ℕ → List ℕ → Type 0
+BeginsWith x y = (rest : List ℕ) × (y ++ rest ≡ x)
+
+-- some entry of the list has a key that P holds of
+abbrev pub HasKey : (List ℕ → Type 0) → List Entry → Type 0
+HasKey P entries = (key : List ℕ) × (i : ℕ) × Contains entries (entry key i) × P key
+
+-- a folder and a `/`, which each path below the folder begins with
+abbrev pub folder_start : List ℕ → List ℕ
+folder_start folder = folder ++ 47 ∷ []
+
+-- Some path below the folder may find a key, which is so in each of these cases: if there is a key for last components, for
+-- extensions or for ends of paths, whatever the folder is; if a whole path or a beginning is below the folder; or if each path
+-- below the folder begins with a beginning.
+pub data MatchesBelow (k : KeyParts) (folder : List ℕ) : Type 0 where
+  by_component : k.components ≢ [] → MatchesBelow k folder
+  by_extension : k.extensions ≢ [] → MatchesBelow k folder
+  by_end : k.ends ≢ [] → MatchesBelow k folder
+  by_path : HasKey (λ key. BeginsWith key (folder_start folder)) k.paths → MatchesBelow k folder
+  by_beginning : HasKey (λ key. BeginsWith key (folder_start folder)) k.beginnings → MatchesBelow k folder
+  by_shorter_beginning : HasKey (λ key. BeginsWith (folder_start folder) key) k.beginnings → MatchesBelow k folder
