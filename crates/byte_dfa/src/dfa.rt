@@ -129,7 +129,7 @@ impl Dfa {
         self.table.len() + self.lists.len()
     }
 
-    /// Returns how many bytes it takes, with the room that its table and its lists have for more numbers.
+    /// Returns how many bytes it takes, with the room that its table and its lists have for more.
     pub fn bytes(&self) -> usize {
         let table = self.table.capacity().saturating_mul(mem::size_of::<u32>());
         let lists = self
@@ -139,6 +139,7 @@ impl Dfa {
         mem::size_of::<Dfa>()
             .saturating_add(table)
             .saturating_add(lists)
+            .saturating_add(self.live.capacity())
     }
 
     /// Puts the index of each end that a text leads to into a set, beside what it holds.

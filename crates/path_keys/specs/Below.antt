@@ -1,19 +1,12 @@
 -- Which keys a path below a folder may find.
-use Rattle.std.specs.Prelude.{◌≡◌, ◌≢◌, ℕ, List, [], ◌∷◌, ◌++◌, Contains}
+use Rattle.std.specs.Prelude.{◌≢◌, ℕ, List, [], Contains}
 use Rattle.byte_table.specs.Entries.{Entry, entry}
+use Rattle.glob_path.specs.Below.{BeginsWith, folder_start}
 use Rattle.path_keys.specs.Keys.{KeyParts}
-
--- the first text begins with the second
-abbrev pub BeginsWith : List ℕ → List ℕ → Type 0
-BeginsWith x y = (rest : List ℕ) × (y ++ rest ≡ x)
 
 -- some entry of the list has a key that P holds of
 abbrev pub HasKey : (List ℕ → Type 0) → List Entry → Type 0
 HasKey P entries = (key : List ℕ) × (i : ℕ) × Contains entries (entry key i) × P key
-
--- a folder and a `/`, which each path below the folder begins with
-abbrev pub folder_start : List ℕ → List ℕ
-folder_start folder = folder ++ 47 ∷ []
 
 -- Some path below the folder may find a key, which is so in each of these cases: if there is a key for last components, for
 -- extensions or for ends of paths, whatever the folder is; if a whole path or a beginning is below the folder; or if each path

@@ -9,7 +9,8 @@ use Rattle.byte_trie.specs.declared.side.Side.TheVariants.{Beginning}
 use Rattle.byte_trie.specs.declared.text.Text.{Text}
 use Rattle.byte_trie.specs.Texts.{Texts, entry_of, found}
 use Rattle.byte_trie.proofs.lemmas.Laws.{finds_exactly}
-use Rattle.path_keys.specs.Below.{BeginsWith, HasKey, MatchesBelow, folder_start, by_component, by_extension, by_end, by_path, by_beginning, by_shorter_beginning}
+use Rattle.glob_path.specs.Below.{BeginsWith, folder_start}
+use Rattle.path_keys.specs.Below.{HasKey, MatchesBelow, by_component, by_extension, by_end, by_path, by_beginning, by_shorter_beginning}
 use Rattle.path_keys.specs.Keys.{KeyParts, texts_at}
 use Rattle.path_keys.specs.inner.Folders.{AreFolders, HasText}
 

@@ -1,7 +1,8 @@
 -- The folders of keys: the text before each `/` of a key.
 use Rattle.std.specs.Prelude.{◌≢◌, ℕ, ◌↔◌, ◌⊎◌, List, []}
 use Rattle.byte_table.specs.Entries.{Entry, indexes_under}
-use Rattle.path_keys.specs.Below.{BeginsWith, HasKey, folder_start}
+use Rattle.glob_path.specs.Below.{BeginsWith, folder_start}
+use Rattle.path_keys.specs.Below.{HasKey}
 
 -- the table has the text
 abbrev pub HasText : List Entry → List ℕ → Type 0
