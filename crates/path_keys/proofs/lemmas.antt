@@ -1,4 +1,2 @@
 pub mod Keys
-pub mod Folders
-pub mod Below
 pub mod Shared

@@ -4,7 +4,6 @@
 //! and walks through tries along it. Nothing here knows globs.
 #![tactic(auto)]
 
-mod folders;
 mod keys;
 
 pub use keys::{Keys, KeysBuilder};
