@@ -23,7 +23,7 @@ TellsBelow (LastComponent key) o ts folder = AreListedBelow o ts folder
 TellsBelow (Extension key) o ts folder = AreListedBelow o ts folder
 TellsBelow (LastComponents key) o ts folder = AreListedBelow o ts folder
 TellsBelow (End key) o ts folder = AreListedBelow o ts folder
--- for the folders that the key is below, and those that it leads to or into
+-- for the folders that the key is below, and those of which every path below begins with the key
 TellsBelow (Beginning key) o ts folder = AreListedBelow o ts folder ↔ (BeginsWith key (folder_start folder) ⊎ BeginsWith (folder_start folder) key)
 -- for the folders below which the tokens before the ending match something
 TellsBelow (RequiredExtension key) o ts folder = AreListedBelow o ts folder ↔ MeanAfter o (before_ending ts) (folder_start folder)
