@@ -12,7 +12,7 @@ ghost use Rattle.path_keys.specs.Below.{BelowMore, MatchesBelow};
 ghost use Rattle.path_keys.specs.Keys.{FindsMore, after_separator, keys_found, no_keys, with_beginning, with_component, with_components, with_end, with_extension, with_path};
 ghost use Rattle.path_keys.specs.inner.Parts.{tables_count};
 
-use crate::folders::{add_folders, has_folder};
+use crate::folders::Folders;
 use byte_automaton::IndexSet;
 use byte_table::Table;
 use byte_trie::{Side, Text, Trie};
@@ -31,8 +31,8 @@ pub struct Keys {
     ends: Trie,
     // Whether there are ends, which a trie does not tell.
     has_ends: bool,
-    // The text before each `/` of each of the paths and beginnings. The indexes do not matter.
-    folders: Table,
+    // The folders of the paths and of the beginnings.
+    folders: Folders,
 }
 
 impl Drop for Keys {
@@ -142,7 +142,7 @@ impl Keys {
         if !self.extensions.is_empty() {
             return true;
         }
-        if has_folder(&self.folders, folder, visits) {
+        if self.folders.has_below(folder, visits) {
             return true;
         }
         self.beginnings.is_match(folder, visits)
@@ -206,13 +206,11 @@ impl Keys {
 
 /// Makes [`Keys`].
 pub struct KeysBuilder {
-    paths: Table,
+    paths: Vec<Text>,
     components: Table,
     extensions: Table,
     beginnings: Vec<Text>,
     ends: Vec<Text>,
-    // The text before each `/` of each of the paths and beginnings. It is `None` if memory ran out as one of these was added.
-    folders: Option<Table>,
 }
 
 impl Drop for KeysBuilder {
@@ -224,28 +222,24 @@ impl Drop for KeysBuilder {
             extensions: _,
             beginnings: _,
             ends: _,
-            folders: _,
         } = self;
     }
 }
 
 impl Model for KeysBuilder {
-    ghost use Rattle.std.specs.Prelude.{IfSome, map};
+    ghost use Rattle.std.specs.Prelude.{map};
     ghost use Rattle.byte_trie.specs.Texts.{entry_of};
     ghost use Rattle.path_keys.specs.Keys.{KeyParts};
-    ghost use Rattle.path_keys.specs.inner.Folders.{AreFolders};
 
     ghost Value = { KeyParts };
 
     ghost view = { λ k. record {
-      paths = k.paths;
+      paths = map entry_of k.paths.items;
       components = k.components;
       extensions = k.extensions;
       beginnings = map entry_of k.beginnings.items;
       ends = map entry_of k.ends.items;
     } };
-
-    ghost invariant = { λ k. IfSome k.folders (λ folders. AreFolders folders k.paths (map entry_of k.beginnings.items)) };
 }
 
 impl KeysBuilder {
@@ -256,12 +250,11 @@ impl KeysBuilder {
         ensures below { (folder : List ℕ) → MatchesBelow result folder → ⊥ }
     {
         KeysBuilder {
-            paths: Table::new(alloc),
+            paths: Vec::new(alloc),
             components: Table::new(alloc),
             extensions: Table::new(alloc),
             beginnings: Vec::new(alloc),
             ends: Vec::new(alloc),
-            folders: Some(Table::new(alloc)),
         }
     }
 
@@ -271,12 +264,7 @@ impl KeysBuilder {
         ensures found { OnOk result (FindsMore self.old self.new index (λ path. path ≡ key.items)) }
         ensures below { OnOk result (BelowMore self.old self.new (λ folder. BeginsWith key.items (folder_start folder))) }
     {
-        let Some(mut folders) = self.folders.take() else {
-            return Err(AllocError);
-        };
-        add_folders(*key.allocator(), &mut folders, &key)?;
-        self.paths.insert(key, index)?;
-        self.folders = Some(folders);
+        self.paths.push(Text { bytes: key, index })?;
         Ok(())
     }
 
@@ -304,13 +292,7 @@ impl KeysBuilder {
         ensures found { OnOk result (FindsMore self.old self.new index (λ path. IsAt Beginning path key.items)) }
         ensures below { OnOk result (BelowMore self.old self.new (λ folder. BeginsWith key.items (folder_start folder) ⊎ BeginsWith (folder_start folder) key.items)) }
     {
-        let Some(mut folders) = self.folders.take() else {
-            return Err(AllocError);
-        };
-        let text = Text { bytes: key, index };
-        add_folders(*text.bytes.allocator(), &mut folders, &text.bytes)?;
-        self.beginnings.push(text)?;
-        self.folders = Some(folders);
+        self.beginnings.push(Text { bytes: key, index })?;
         Ok(())
     }
 
@@ -338,7 +320,9 @@ impl KeysBuilder {
         self.add_end(end, index)
     }
 
-    /// Returns what was added. Returns an error if memory runs out, or ran out as a path or a beginning was added.
+    /// Returns what was added. Returns an error if memory runs out.
+    ///
+    /// The time is linear in the bytes of all keys, except that the beginnings, the ends and the folders of keys are sorted.
     pub fn finish(self, alloc: Global) -> Result<Keys, AllocError>
         ensures { IfOk result (λ keys. keys ≡ self) }
     {
@@ -348,17 +332,29 @@ impl KeysBuilder {
             extensions,
             beginnings,
             ends,
-            folders,
         } = self;
+        let folders = Folders::new(alloc, &paths, &beginnings)?;
         let has_ends = !ends.is_empty();
         Ok(Keys {
-            paths,
+            paths: table_of(alloc, paths)?,
             components,
             extensions,
             beginnings: Trie::new(alloc, Side::Beginning, beginnings)?,
             ends: Trie::new(alloc, Side::End, ends)?,
             has_ends,
-            folders: folders.ok_or(AllocError)?,
+            folders,
         })
     }
+}
+
+/// Returns a table of texts. Returns an error if memory runs out.
+fn table_of(alloc: Global, texts: Vec<Text>) -> Result<Table, AllocError>
+    ensures { IfOk result (λ table. table ≡ map entry_of texts.items) }
+{
+    let mut table = Table::new(alloc);
+    for text in texts {
+        let Text { bytes, index } = text;
+        table.insert(bytes, index)?;
+    }
+    Ok(table)
 }

@@ -12,7 +12,7 @@ use Rattle.byte_trie.proofs.lemmas.Laws.{finds_exactly}
 use Rattle.glob_path.specs.Below.{BeginsWith, folder_start}
 use Rattle.path_keys.specs.Below.{HasKey, MatchesBelow, by_component, by_extension, by_end, by_path, by_beginning, by_shorter_beginning}
 use Rattle.path_keys.specs.Keys.{KeyParts, texts_at}
-use Rattle.path_keys.specs.inner.Folders.{AreFolders, HasText}
+use Rattle.path_keys.specs.inner.Folders.{AreFolders, SomeBelow}
 
 some_index : (xs : List ℕ) → xs ≢ [] → (i : ℕ) × Contains xs i
 some_index [] some = absurd (some refl)
@@ -45,12 +45,12 @@ nothing_after [] = refl
 nothing_after (x ∷ xs) = ap (λ y. x ∷ y) (nothing_after xs)
 
 -- a folder that is known
-pub by_folder : (k : KeyParts) (folders : List Entry) (folder : List ℕ) → AreFolders folders k.paths k.beginnings → HasText folders folder → MatchesBelow k folder
+pub by_folder : (k : KeyParts) (folders : List (List ℕ)) (folder : List ℕ) → AreFolders folders k.paths k.beginnings → SomeBelow folders folder → MatchesBelow k folder
 by_folder k folders folder h has = ⊎_elim {C = MatchesBelow k folder} (λ p. by_path p) (λ b. by_beginning b) ((h.tells folder).0 has)
 
 -- a folder that is not known, where there are keys of no other kinds
-pub by_walk : (k : KeyParts) (folders : List Entry) (t : Texts) (folder : List ℕ) (b : Bool) → AreFolders folders k.paths k.beginnings → t ≡ texts_at Beginning k.beginnings
-    → (k.components ≢ [] → ⊥) → (k.extensions ≢ [] → ⊥) → (k.ends ≢ [] → ⊥) → (HasText folders folder → ⊥)
+pub by_walk : (k : KeyParts) (folders : List (List ℕ)) (t : Texts) (folder : List ℕ) (b : Bool) → AreFolders folders k.paths k.beginnings → t ≡ texts_at Beginning k.beginnings
+    → (k.components ≢ [] → ⊥) → (k.extensions ≢ [] → ⊥) → (k.ends ≢ [] → ⊥) → (SomeBelow folders folder → ⊥)
     → (IsTrue b ↔ (found t folder ≢ [])) → IsTrue b ↔ MatchesBelow k folder
 by_walk k folders t folder b h at no_components no_extensions no_ends none tells = (
   λ yes. by_shorter_beginning (found_shorter k.beginnings folder (subst (λ t. found t folder ≢ []) at (tells.0 yes))),

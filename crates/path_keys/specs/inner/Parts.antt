@@ -11,9 +11,9 @@ use Rattle.path_keys.specs.inner.Folders.{AreFolders}
 abbrev pub tables_count : KeyParts → List ℕ → ℕ
 tables_count t path = length (indexes_under t.paths path) + length (indexes_under t.components (last_component path)) + length (indexes_under t.extensions (component_extension path))
 
--- The tries look at the sides that they are for. It is known whether there are ends, and which folders some path or some beginning
--- is below.
-pub record AreParts (paths folders : List Entry) (beginnings ends : Texts) (has_ends : Bool) : Type 0 where
+-- The tries look at the sides that they are for. It is known whether there are ends, and below which folders some path or some
+-- beginning is.
+pub record AreParts (paths : List Entry) (folders : List (List ℕ)) (beginnings ends : Texts) (has_ends : Bool) : Type 0 where
   pub at_beginning : beginnings.side ≡ Beginning
   pub at_end : ends.side ≡ End
   pub some_ends : IsTrue has_ends ↔ (ends.entries ≢ [])
