@@ -1,6 +1,6 @@
 //! The folders of keys: below which folders some of many keys are.
 
-ghost use Rattle.std.specs.Prelude.{◌≡◌, ◌+◌, ◌++◌, ◌↔◌, map, IsTrue, IfOk, OnOk};
+ghost use Rattle.std.specs.Prelude.{◌≡◌, ◌+◌, ◌++◌, ◌↔◌, [], map, IsTrue, IfOk, OnOk};
 ghost use Rattle.byte_trie.specs.Texts.{entry_of};
 ghost use Rattle.glob_path.specs.Below.{folder_start};
 ghost use Rattle.path_keys.specs.inner.Folders.{AreFolders, AreRising, SomeBelow, bytes_of, place_of, shown_of, start_of};
@@ -50,10 +50,19 @@ impl Clone for Folders {
 }
 
 impl Folders {
+    /// Returns no folders. It allocates nothing.
+    pub fn none(alloc: Global) -> Folders
+        ensures { result ≡ [] }
+    {
+        Folders {
+            texts: Vec::new(alloc),
+        }
+    }
+
     /// Returns the folders of paths and of beginnings.
     ///
-    /// Returns an error if memory runs out. The time is linear in the bytes of all keys, except that their folders are sorted. The
-    /// folders take as many bytes as those that differ have, and while they are sorted two words for each key and a buffer.
+    /// Returns an error if memory runs out. The time is linear in the bytes of all keys, except that their folders are sorted. A copy
+    /// is kept of each folder that differs from the others; until then, a few words are taken for each key.
     pub fn new(alloc: Global, paths: &[Text], beginnings: &[Text]) -> Result<Folders, AllocError>
         ensures { IfOk result (λ folders. AreFolders folders (map entry_of paths.now) (map entry_of beginnings.now)) }
     {
@@ -69,8 +78,8 @@ impl Folders {
 
     /// Returns whether some key begins with the folder and a `/`.
     ///
-    /// It is one visit. It compares the folder with as many texts as a binary search reads, which are at most one more than the
-    /// logarithm to base 2 of their number, and takes no memory.
+    /// It is one visit, and takes no memory. It is a binary search: among at most `2^n` folders of keys it makes at most `n + 1`
+    /// comparisons, each of which reads at most one byte more than the folder has.
     pub fn has_below(&self, folder: &[u8], visits: &mut Visits) -> bool
         ensures some { IsTrue result ↔ SomeBelow self.now folder.now }
         ensures visits { visits.new ≡ visits.old + 1 }

@@ -1,6 +1,6 @@
 //! Indexes under keys, and the indexes that a path finds.
 
-ghost use Rattle.std.specs.Prelude.{◌≡◌, ◌≢◌, ◌+◌, ◌*◌, ◌≤◌, ◌++◌, ◌∷◌, ◌↔◌, ◌⊎◌, ◌<◌, ◌^◌, [], ℕ, List, length, map, IsTrue, MatchOption, OnOk, IfOk, ⊤};
+ghost use Rattle.std.specs.Prelude.{◌≡◌, ◌≢◌, ◌+◌, ◌*◌, ◌≤◌, ◌++◌, ◌∷◌, ◌↔◌, ◌⊎◌, ◌<◌, ◌^◌, [], ℕ, List, length, map, IsTrue, IsFalse, MatchOption, OnOk, IfOk, ⊤};
 ghost use Rattle.byte_automaton.specs.Sets.{index_room, HasAlso};
 ghost use Rattle.byte_table.specs.Entries.{indexes_under};
 ghost use Rattle.byte_trie.specs.Laws.{IsAt};
@@ -10,7 +10,8 @@ ghost use Rattle.glob_path.specs.Below.{BeginsWith, folder_start};
 ghost use Rattle.glob_path.specs.PathParts.{component_extension, last_component};
 ghost use Rattle.path_keys.specs.Below.{BelowMore, MatchesBelow};
 ghost use Rattle.path_keys.specs.Keys.{FindsMore, after_separator, keys_found, no_keys, with_beginning, with_component, with_components, with_end, with_extension, with_path};
-ghost use Rattle.path_keys.specs.inner.Parts.{tables_count};
+ghost use Rattle.path_keys.specs.inner.Folders.{AreFolders};
+ghost use Rattle.path_keys.specs.inner.Parts.{HasOthers, tables_count};
 
 use crate::folders::Folders;
 use byte_automaton::IndexSet;
@@ -29,9 +30,9 @@ pub struct Keys {
     extensions: Table,
     beginnings: Trie,
     ends: Trie,
-    // Whether there are ends, which a trie does not tell.
-    has_ends: bool,
-    // The folders of the paths and of the beginnings.
+    // Whether there are keys for last components, extensions or ends of paths: then some path below each folder may find one.
+    has_others: bool,
+    // The folders of the paths and of the beginnings. They are only needed, and only kept, if there are no other keys.
     folders: Folders,
 }
 
@@ -44,7 +45,7 @@ impl Drop for Keys {
             extensions: _,
             beginnings: _,
             ends: _,
-            has_ends: _,
+            has_others: _,
             folders: _,
         } = self;
     }
@@ -64,7 +65,7 @@ impl Model for Keys {
       ends = k.ends.entries;
     } };
 
-    ghost invariant = { λ k. AreParts k.paths k.folders k.beginnings k.ends k.has_ends };
+    ghost invariant = { λ k. AreParts k.paths k.components k.extensions k.beginnings k.ends k.has_others k.folders };
 }
 
 impl Clone for Keys {
@@ -80,7 +81,7 @@ impl Clone for Keys {
             extensions: self.extensions.clone()?,
             beginnings: self.beginnings.clone()?,
             ends: self.ends.clone()?,
-            has_ends: self.has_ends,
+            has_others: self.has_others,
             folders: self.folders.clone()?,
         })
     }
@@ -128,18 +129,13 @@ impl Keys {
     /// It may be true and still no path below the folder find a key, since it takes each path to have any last component, any
     /// extension and any end. So it is true for all folders if there is a key for one of these.
     ///
-    /// It is one lookup and one walk at most, and takes no memory.
+    /// It is at most one lookup, which is a binary search among the folders of the paths and beginnings, and one walk. It takes no
+    /// memory.
     pub fn can_match_below(&self, folder: &[u8], visits: &mut Visits) -> bool
         ensures some { IsTrue result ↔ MatchesBelow self.now folder.now }
         ensures visits { visits.new ≤ visits.old + (length folder.now + 2) }
     {
-        if self.has_ends {
-            return true;
-        }
-        if !self.components.is_empty() {
-            return true;
-        }
-        if !self.extensions.is_empty() {
+        if self.has_others {
             return true;
         }
         if self.folders.has_below(folder, visits) {
@@ -326,6 +322,7 @@ impl KeysBuilder {
     pub fn finish(self, alloc: Global) -> Result<Keys, AllocError>
         ensures { IfOk result (λ keys. keys ≡ self) }
     {
+        let has_others = self.has_others();
         let KeysBuilder {
             paths,
             components,
@@ -333,18 +330,45 @@ impl KeysBuilder {
             beginnings,
             ends,
         } = self;
-        let folders = Folders::new(alloc, &paths, &beginnings)?;
-        let has_ends = !ends.is_empty();
+        let folders = folders_of(alloc, has_others, &paths, &beginnings)?;
         Ok(Keys {
             paths: table_of(alloc, paths)?,
             components,
             extensions,
             beginnings: Trie::new(alloc, Side::Beginning, beginnings)?,
             ends: Trie::new(alloc, Side::End, ends)?,
-            has_ends,
+            has_others,
             folders,
         })
     }
+
+    /// Returns whether there are keys for last components, extensions or ends of paths.
+    fn has_others(&self) -> bool
+        ensures { IsTrue result ↔ HasOthers self.now.components self.now.extensions self.now.ends }
+    {
+        if !self.components.is_empty() {
+            return true;
+        }
+        if !self.extensions.is_empty() {
+            return true;
+        }
+        !self.ends.is_empty()
+    }
+}
+
+/// Returns the folders of paths and beginnings, or none if there are other keys. Returns an error if memory runs out.
+fn folders_of(
+    alloc: Global,
+    has_others: bool,
+    paths: &[Text],
+    beginnings: &[Text],
+) -> Result<Folders, AllocError>
+    ensures { IfOk result (λ folders. IsFalse has_others → AreFolders folders (map entry_of paths.now) (map entry_of beginnings.now)) }
+{
+    if has_others {
+        return Ok(Folders::none(alloc));
+    }
+    Folders::new(alloc, paths, beginnings)
 }
 
 /// Returns a table of texts. Returns an error if memory runs out.
