@@ -1,15 +1,19 @@
 //! Indexes under keys, and the indexes that a path finds.
 
-ghost use Rattle.std.specs.Prelude.{◌≡◌, ◌≢◌, ◌+◌, ◌*◌, ◌≤◌, ◌++◌, ◌∷◌, ◌↔◌, ◌⊎◌, ◌<◌, ◌^◌, [], ℕ, List, length, map, IsTrue, MatchOption, OnOk, IfOk};
+ghost use Rattle.std.specs.Prelude.{◌≡◌, ◌≢◌, ◌+◌, ◌*◌, ◌≤◌, ◌++◌, ◌∷◌, ◌↔◌, ◌⊎◌, ◌<◌, ◌^◌, [], ℕ, List, length, map, IsTrue, IsFalse, MatchOption, OnOk, IfOk, ⊤};
 ghost use Rattle.byte_automaton.specs.Sets.{index_room, HasAlso};
 ghost use Rattle.byte_table.specs.Entries.{indexes_under};
 ghost use Rattle.byte_trie.specs.Laws.{IsAt};
 ghost use Rattle.byte_trie.specs.Texts.{entry_of};
 ghost use Rattle.byte_trie.specs.declared.side.Side.TheVariants.{Beginning, End};
+ghost use Rattle.glob_path.specs.Below.{BeginsWith, folder_start};
 ghost use Rattle.glob_path.specs.PathParts.{component_extension, last_component};
+ghost use Rattle.path_keys.specs.Below.{BelowMore, MatchesBelow};
 ghost use Rattle.path_keys.specs.Keys.{FindsMore, after_separator, keys_found, no_keys, with_beginning, with_component, with_components, with_end, with_extension, with_path};
-ghost use Rattle.path_keys.specs.inner.Parts.{tables_count};
+ghost use Rattle.path_keys.specs.inner.Folders.{AreFolders};
+ghost use Rattle.path_keys.specs.inner.Parts.{HasOthers, tables_count};
 
+use crate::folders::Folders;
 use byte_automaton::IndexSet;
 use byte_table::Table;
 use byte_trie::{Side, Text, Trie};
@@ -26,6 +30,10 @@ pub struct Keys {
     extensions: Table,
     beginnings: Trie,
     ends: Trie,
+    // Whether there are keys for last components, extensions or ends of paths: then some path below each folder may find one.
+    has_others: bool,
+    // The folders of the paths and of the beginnings. They are only needed, and only kept, if there are no other keys.
+    folders: Folders,
 }
 
 impl Drop for Keys {
@@ -37,13 +45,15 @@ impl Drop for Keys {
             extensions: _,
             beginnings: _,
             ends: _,
+            has_others: _,
+            folders: _,
         } = self;
     }
 }
 
 impl Model for Keys {
     ghost use Rattle.path_keys.specs.Keys.{KeyParts};
-    ghost use Rattle.path_keys.specs.inner.Parts.{HaveSides};
+    ghost use Rattle.path_keys.specs.inner.Parts.{AreParts};
 
     ghost Value = { KeyParts };
 
@@ -55,7 +65,7 @@ impl Model for Keys {
       ends = k.ends.entries;
     } };
 
-    ghost invariant = { λ k. HaveSides k.beginnings k.ends };
+    ghost invariant = { λ k. AreParts k.paths k.components k.extensions k.beginnings k.ends k.has_others k.folders };
 }
 
 impl Clone for Keys {
@@ -71,6 +81,8 @@ impl Clone for Keys {
             extensions: self.extensions.clone()?,
             beginnings: self.beginnings.clone()?,
             ends: self.ends.clone()?,
+            has_others: self.has_others,
+            folders: self.folders.clone()?,
         })
     }
 }
@@ -109,6 +121,27 @@ impl Keys {
             return true;
         }
         self.ends.is_match(path.path(), visits)
+    }
+
+    /// Returns whether some key may be found for a path below a folder, which is a path without a `/` at its end. A walk over a tree
+    /// of folders need not enter one for which this is false: no path in it finds a key.
+    ///
+    /// It may be true and still no path below the folder find a key, since it takes each path to have any last component, any
+    /// extension and any end. So it is true for all folders if there is a key for one of these.
+    ///
+    /// It is at most one lookup, which is a binary search among the folders of the paths and beginnings, and one walk. It takes no
+    /// memory.
+    pub fn can_match_below(&self, folder: &[u8], visits: &mut Visits) -> bool
+        ensures some { IsTrue result ↔ MatchesBelow self.now folder.now }
+        ensures visits { visits.new ≤ visits.old + (length folder.now + 2) }
+    {
+        if self.has_others {
+            return true;
+        }
+        if self.folders.has_below(folder, visits) {
+            return true;
+        }
+        self.beginnings.is_match(folder, visits)
     }
 
     /// Returns how many indexes the path finds, or `None` if these are more than a `usize` can count. It takes no memory.
@@ -169,7 +202,7 @@ impl Keys {
 
 /// Makes [`Keys`].
 pub struct KeysBuilder {
-    paths: Table,
+    paths: Vec<Text>,
     components: Table,
     extensions: Table,
     beginnings: Vec<Text>,
@@ -197,7 +230,7 @@ impl Model for KeysBuilder {
     ghost Value = { KeyParts };
 
     ghost view = { λ k. record {
-      paths = k.paths;
+      paths = map entry_of k.paths.items;
       components = k.components;
       extensions = k.extensions;
       beginnings = map entry_of k.beginnings.items;
@@ -210,9 +243,10 @@ impl KeysBuilder {
     pub fn new(alloc: Global) -> KeysBuilder
         ensures keys { result ≡ no_keys }
         ensures found { (path : List ℕ) → keys_found result path ≡ [] }
+        ensures below { (folder : List ℕ) → MatchesBelow result folder → ⊥ }
     {
         KeysBuilder {
-            paths: Table::new(alloc),
+            paths: Vec::new(alloc),
             components: Table::new(alloc),
             extensions: Table::new(alloc),
             beginnings: Vec::new(alloc),
@@ -224,14 +258,17 @@ impl KeysBuilder {
     pub fn add_path(&mut self, key: Vec<u8>, index: usize) -> Result<(), AllocError>
         ensures keys { OnOk result (self.new ≡ with_path self.old key.items index) }
         ensures found { OnOk result (FindsMore self.old self.new index (λ path. path ≡ key.items)) }
+        ensures below { OnOk result (BelowMore self.old self.new (λ folder. BeginsWith key.items (folder_start folder))) }
     {
-        self.paths.insert(key, index)
+        self.paths.push(Text { bytes: key, index })?;
+        Ok(())
     }
 
     /// Adds an index for the paths whose last component is the key. Returns an error if memory runs out.
     pub fn add_component(&mut self, key: Vec<u8>, index: usize) -> Result<(), AllocError>
         ensures keys { OnOk result (self.new ≡ with_component self.old key.items index) }
         ensures found { OnOk result (FindsMore self.old self.new index (λ path. last_component path ≡ key.items)) }
+        ensures below { OnOk result (BelowMore self.old self.new (λ folder. ⊤)) }
     {
         self.components.insert(key, index)
     }
@@ -240,6 +277,7 @@ impl KeysBuilder {
     pub fn add_extension(&mut self, key: Vec<u8>, index: usize) -> Result<(), AllocError>
         ensures keys { OnOk result (self.new ≡ with_extension self.old key.items index) }
         ensures found { OnOk result (FindsMore self.old self.new index (λ path. component_extension path ≡ key.items)) }
+        ensures below { OnOk result (BelowMore self.old self.new (λ folder. ⊤)) }
     {
         self.extensions.insert(key, index)
     }
@@ -248,6 +286,7 @@ impl KeysBuilder {
     pub fn add_beginning(&mut self, key: Vec<u8>, index: usize) -> Result<(), AllocError>
         ensures keys { OnOk result (self.new ≡ with_beginning self.old key.items index) }
         ensures found { OnOk result (FindsMore self.old self.new index (λ path. IsAt Beginning path key.items)) }
+        ensures below { OnOk result (BelowMore self.old self.new (λ folder. BeginsWith key.items (folder_start folder) ⊎ BeginsWith (folder_start folder) key.items)) }
     {
         self.beginnings.push(Text { bytes: key, index })?;
         Ok(())
@@ -257,6 +296,7 @@ impl KeysBuilder {
     pub fn add_end(&mut self, key: Vec<u8>, index: usize) -> Result<(), AllocError>
         ensures keys { OnOk result (self.new ≡ with_end self.old key.items index) }
         ensures found { OnOk result (FindsMore self.old self.new index (λ path. IsAt End path key.items)) }
+        ensures below { OnOk result (BelowMore self.old self.new (λ folder. ⊤)) }
     {
         self.ends.push(Text { bytes: key, index })?;
         Ok(())
@@ -267,6 +307,7 @@ impl KeysBuilder {
     pub fn add_components(&mut self, key: Vec<u8>, index: usize) -> Result<(), AllocError>
         ensures keys { OnOk result (self.new ≡ with_components self.old key.items index) }
         ensures found { OnOk result (FindsMore self.old self.new index (λ path. (path ≡ key.items) ⊎ IsAt End path (after_separator key.items))) }
+        ensures below { OnOk result (BelowMore self.old self.new (λ folder. ⊤)) }
     {
         let mut end = Vec::new(*key.allocator());
         end.push(b'/')?;
@@ -276,9 +317,12 @@ impl KeysBuilder {
     }
 
     /// Returns what was added. Returns an error if memory runs out.
+    ///
+    /// The time is linear in the bytes of all keys, except that the beginnings, the ends and the folders of keys are sorted.
     pub fn finish(self, alloc: Global) -> Result<Keys, AllocError>
         ensures { IfOk result (λ keys. keys ≡ self) }
     {
+        let has_others = self.has_others();
         let KeysBuilder {
             paths,
             components,
@@ -286,12 +330,55 @@ impl KeysBuilder {
             beginnings,
             ends,
         } = self;
+        let folders = folders_of(alloc, has_others, &paths, &beginnings)?;
         Ok(Keys {
-            paths,
+            paths: table_of(alloc, paths)?,
             components,
             extensions,
             beginnings: Trie::new(alloc, Side::Beginning, beginnings)?,
             ends: Trie::new(alloc, Side::End, ends)?,
+            has_others,
+            folders,
         })
     }
+
+    /// Returns whether there are keys for last components, extensions or ends of paths.
+    fn has_others(&self) -> bool
+        ensures { IsTrue result ↔ HasOthers self.now.components self.now.extensions self.now.ends }
+    {
+        if !self.components.is_empty() {
+            return true;
+        }
+        if !self.extensions.is_empty() {
+            return true;
+        }
+        !self.ends.is_empty()
+    }
+}
+
+/// Returns the folders of paths and beginnings, or none if there are other keys. Returns an error if memory runs out.
+fn folders_of(
+    alloc: Global,
+    has_others: bool,
+    paths: &[Text],
+    beginnings: &[Text],
+) -> Result<Folders, AllocError>
+    ensures { IfOk result (λ folders. IsFalse has_others → AreFolders folders (map entry_of paths.now) (map entry_of beginnings.now)) }
+{
+    if has_others {
+        return Ok(Folders::none(alloc));
+    }
+    Folders::new(alloc, paths, beginnings)
+}
+
+/// Returns a table of texts. Returns an error if memory runs out.
+fn table_of(alloc: Global, texts: Vec<Text>) -> Result<Table, AllocError>
+    ensures { IfOk result (λ table. table ≡ map entry_of texts.items) }
+{
+    let mut table = Table::new(alloc);
+    for text in texts {
+        let Text { bytes, index } = text;
+        table.insert(bytes, index)?;
+    }
+    Ok(table)
 }
