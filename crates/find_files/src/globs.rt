@@ -1,0 +1,117 @@
+//! The globs of a search: which paths match, and below which folders one can.
+
+ghost use Rattle.globset.specs.SetValue.{Fits};
+
+use crate::arguments::{Arguments, Flags};
+use crate::fault::Fault;
+use example_io::TextFile;
+use globset::{Candidate, Error, Glob, GlobBuilder, GlobSet, GlobSetBuilder, Scratch, Visits};
+use std::alloc::Global;
+use std::rt::Files;
+
+/// What a walk does with a path.
+#[derive(Clone, Copy)]
+pub struct Wanted {
+    /// Prints it, if it is a file.
+    pub is_file: bool,
+    /// Opens it, if it is a folder.
+    pub is_folder: bool,
+}
+
+/// A set of globs, and all the memory that it is matched with.
+pub struct Globs {
+    set: GlobSet,
+    scratch: Scratch,
+    ghost fits: { Fits scratch set },
+}
+
+impl Drop for Globs {
+    // One call wherever a value is dropped, which keeps proofs short.
+    fn drop(self) {
+        let Globs { set: _, scratch: _ } = self;
+    }
+}
+
+impl Globs {
+    /// Reads the globs of the command line, and those of its files. Returns the error of the first one that is no glob, an error if
+    /// a file cannot be read, or an error if memory runs out.
+    pub fn read<R: Files + AllocGlobal>(rt: &R, arguments: &Arguments) -> Result<Globs, Fault> {
+        let mut globs = GlobSetBuilder::new(rt.alloc());
+        push_all(rt.alloc(), &mut globs, arguments)?;
+        for file in &arguments.files {
+            push_file(rt, &mut globs, file.clone()?, arguments.flags)?;
+        }
+        Ok(Globs::new(rt.alloc(), globs)?)
+    }
+
+    fn new(alloc: Global, mut globs: GlobSetBuilder) -> Result<Globs, Error> {
+        let set = globs.take_set()?;
+        let scratch = Scratch::new(alloc, &set)?;
+        Ok(Globs { set, scratch })
+    }
+
+    /// Returns what a walk does with a path. It takes no memory.
+    pub fn wanted(&mut self, path: &str) -> Wanted {
+        let (path, visits) = (Candidate::new(path), &mut Visits::new());
+        let is_file = self.set.is_match_with(&path, &mut self.scratch, visits);
+        let is_folder = self
+            .set
+            .can_match_below_with(&path, &mut self.scratch, visits);
+        Wanted { is_file, is_folder }
+    }
+}
+
+/// Adds the globs of the command line.
+fn push_all(alloc: Global, globs: &mut GlobSetBuilder, arguments: &Arguments) -> Result<(), Error> {
+    for text in arguments.globs() {
+        globs.push(glob(alloc, text.as_str(), arguments.flags)?)?;
+    }
+    Ok(())
+}
+
+/// Adds the globs of a file. Returns an error with its line if one is no glob.
+fn push_file<R: Files + AllocGlobal>(
+    rt: &R,
+    globs: &mut GlobSetBuilder,
+    name: String,
+    flags: Flags,
+) -> Result<(), example_io::Fault> {
+    let file = TextFile::read(rt, name)?;
+    push_lines(rt.alloc(), globs, &file, flags)
+}
+
+/// Adds the globs of the lines of a file.
+fn push_lines(
+    alloc: Global,
+    globs: &mut GlobSetBuilder,
+    file: &TextFile,
+    flags: Flags,
+) -> Result<(), example_io::Fault> {
+    for (i, line) in file.lines(alloc)?.iter().enumerate() {
+        if let Err(error) = push_line(alloc, globs, line, flags) {
+            return Err(file.fault(alloc, i + 1, line.as_bytes(), error.kind()));
+        }
+    }
+    Ok(())
+}
+
+/// Adds the glob of a line, if it has one.
+fn push_line(
+    alloc: Global,
+    globs: &mut GlobSetBuilder,
+    line: &str,
+    flags: Flags,
+) -> Result<(), Error> {
+    if line.trim().is_empty() || line.starts_with('#') {
+        return Ok(());
+    }
+    globs.push(glob(alloc, line, flags)?)
+}
+
+/// Returns the glob of a text.
+fn glob(alloc: Global, text: &str, flags: Flags) -> Result<Glob, Error> {
+    GlobBuilder::new(text)
+        .case_insensitive(flags.case_insensitive)
+        .literal_separator(flags.literal_separator)
+        .build(alloc)
+}

@@ -1,0 +1,73 @@
+//! `find_files` prints the paths of the files below a folder that some glob matches.
+//!
+//! A path is from the folder on, without the folder and its `/`. The paths come in the order of their bytes. A folder is opened only
+//! if a path below it can match.
+#![tactic(auto)]
+
+mod arguments;
+mod fault;
+mod globs;
+mod walk;
+
+use arguments::Arguments;
+use example_io::Output;
+use fault::Fault;
+use globs::Globs;
+use std::process::ExitCode;
+use std::rt::Runtime;
+use walk::Walk;
+
+const USAGE: &str = "usage: find_files [OPTION..] FOLDER GLOB..";
+
+const HELP: &str = "usage: find_files [OPTION..] FOLDER GLOB..
+
+Prints the paths of the files below FOLDER that some GLOB matches, in the order of their bytes. A path begins after FOLDER and its
+slash. Only folders below which a path can match are opened. Symbolic links are not followed, but for FOLDER itself, and not
+printed, nor is anything else that is neither a file nor a folder.
+
+  -i       letters match in both cases
+  -s       * and ? do not match /
+  -f FILE  globs from FILE as well, one a line; a line that is blank or begins with # has none
+  -0       a path ends in NUL in place of LF
+  --count  how many folders were opened and how many were left closed, on standard error
+  --       what follows is FOLDER or a GLOB
+  --help, --version
+
+A folder that cannot be read, and a name that is not UTF-8, are left out, with an error on standard error.
+The exit status is 0 if a path was printed, 1 if none was, and 2 after an error.";
+
+const VERSION: &str = "find_files 0.4.21";
+
+fn main(rt: HostRuntime) -> ExitCode {
+    match run(&rt) {
+        Ok(status) => ExitCode::from(status),
+        Err(fault) => {
+            let _ = match fault {
+                Fault::Usage => eprintln!(rt; "{USAGE}"),
+                fault => eprintln!(rt; "find_files: {fault}"),
+            };
+            ExitCode::from(2)
+        }
+    }
+}
+
+/// Does what the command line asks for, and returns the exit status.
+fn run(rt: &(impl Runtime + AllocGlobal)) -> Result<u8, Fault> {
+    let arguments = Arguments::read(rt)?;
+    if arguments.flags.help {
+        return print_text(rt, HELP);
+    }
+    if arguments.flags.version {
+        return print_text(rt, VERSION);
+    }
+    let globs = Globs::read(rt, &arguments)?;
+    Walk::new(rt.alloc(), globs, &arguments)?.run(rt)
+}
+
+/// Prints a text and LF, and returns the exit status.
+fn print_text(rt: &(impl Print + AllocGlobal), text: &str) -> Result<u8, Fault> {
+    let mut output = Output::new(rt.alloc());
+    output.push_line(&[text.as_bytes()])?;
+    output.write(rt)?;
+    Ok(0)
+}

@@ -1,0 +1,246 @@
+//! The walk: which folders are opened, and in which order paths are printed.
+//!
+//! There is no recursion: what is still to be done is kept in a vector. For each folder above the place of the walk it has the
+//! paths in it that come later, and nothing of what was printed.
+//!
+//! The order of whole paths is that in which each folder has its entries sorted, where the name of a folder ends in `/`: so
+//! `a.c` comes before what is in `a`, since `.` is less than `/`.
+
+use crate::arguments::Arguments;
+use crate::fault::Fault;
+use crate::globs::{Globs, Wanted};
+use std::alloc::{AllocError, Global};
+use std::fs::{self, DirEntry, FileType, ReadDir};
+use std::io::{self, BufWriter, ErrorKind, Write};
+use std::rt::{Files, Runtime};
+
+/// A walk through the folders below one.
+pub struct Walk {
+    globs: Globs,
+    /// The paths of files that are still to be printed and of folders that are still to be opened, the next one last. Those of
+    /// folders end in `/`. Each begins with that of the first folder.
+    pending: Vec<String>,
+    /// How many bytes of a path are not printed: the first folder, and `/`.
+    skipped: usize,
+    /// What a path ends in where it is printed.
+    end: u8,
+    /// Whether folders are counted.
+    counts: bool,
+    opened: u64,
+    left_closed: u64,
+    /// Whether a path was printed.
+    has_printed: bool,
+    /// Whether something could not be read.
+    has_failed: bool,
+}
+
+impl Drop for Walk {
+    // One call wherever a value is dropped, which keeps proofs short.
+    fn drop(self) {
+        let Walk {
+            globs: _,
+            pending: _,
+            skipped: _,
+            end: _,
+            counts: _,
+            opened: _,
+            left_closed: _,
+            has_printed: _,
+            has_failed: _,
+        } = self;
+    }
+}
+
+impl Walk {
+    /// Returns a walk that has still to open the first folder. Returns an error if memory runs out.
+    pub fn new(alloc: Global, globs: Globs, arguments: &Arguments) -> Result<Walk, AllocError> {
+        let mut folder = String::from_str(alloc, arguments.folder())?;
+        if !folder.as_str().ends_with('/') {
+            folder.push('/')?;
+        }
+        let skipped = folder.len();
+        let mut pending = Vec::new(alloc);
+        pending.push(folder)?;
+        Ok(Walk {
+            globs,
+            pending,
+            skipped,
+            end: if arguments.flags.ends_in_nul {
+                0
+            } else {
+                b'\n'
+            },
+            counts: arguments.flags.count,
+            opened: 0,
+            left_closed: 0,
+            has_printed: false,
+            has_failed: false,
+        })
+    }
+
+    /// Walks, and prints the paths that match. Returns the exit status.
+    ///
+    /// What cannot be read is left out, with an error on standard error. Returns an error if standard output cannot be written, or
+    /// memory runs out.
+    pub fn run<R: Runtime + AllocGlobal>(mut self, rt: &R) -> Result<u8, Fault> {
+        let mut output = match BufWriter::new(rt.alloc(), io::writer(rt)) {
+            Ok(output) => output,
+            Err(error) => return Err(Fault::output(error)),
+        };
+        self.walk(rt, &mut output)?;
+        output.flush().map_err(Fault::output)?;
+        Ok(self.finish(rt))
+    }
+
+    /// Prints the numbers of folders, if they were asked for, and returns the exit status.
+    fn finish(&self, rt: &impl Eprint) -> u8 {
+        if self.counts {
+            let (opened, closed) = (self.opened, self.left_closed);
+            let _ = eprintln!(rt; "find_files: folders opened: {opened}, left closed: {closed}");
+        }
+        if self.has_failed {
+            2
+        } else if self.has_printed {
+            0
+        } else {
+            1
+        }
+    }
+
+    /// Does what is pending, until nothing is.
+    fn walk<R: Runtime + AllocGlobal, W: Write>(
+        &mut self,
+        rt: &R,
+        output: &mut W,
+    ) -> Result<(), Fault> {
+        for _ in 0..u64::MAX {
+            let Some(path) = self.pending.pop() else {
+                break;
+            };
+            self.visit(rt, path.as_str(), output)?;
+        }
+        Ok(())
+    }
+
+    /// Opens a folder, or prints the path of a file.
+    fn visit<R: Runtime + AllocGlobal, W: Write>(
+        &mut self,
+        rt: &R,
+        path: &str,
+        output: &mut W,
+    ) -> Result<(), Fault> {
+        if path.ends_with('/') {
+            self.open(rt, path)
+        } else {
+            self.print(path, output)
+        }
+    }
+
+    /// Prints the path of a file.
+    fn print<W: Write>(&mut self, path: &str, output: &mut W) -> Result<(), Fault> {
+        self.has_printed = true;
+        let end = [self.end];
+        output
+            .write_all(self.shown(path).as_bytes())
+            .map_err(Fault::output)?;
+        output.write_all(&end).map_err(Fault::output)
+    }
+
+    /// Returns the part of a path that globs are matched against and that is printed.
+    fn shown<'p>(&self, path: &'p str) -> &'p str {
+        path.get(self.skipped..).unwrap_or(path)
+    }
+
+    /// Opens a folder. What is to be done with its entries is then pending, in the order of their bytes.
+    fn open<R: Runtime + AllocGlobal>(&mut self, rt: &R, folder: &str) -> Result<(), Fault> {
+        self.opened = self.opened.saturating_add(1);
+        let first = self.pending.len();
+        match fs::read_dir(rt, folder) {
+            Ok(entries) => self.take_all(rt, folder, entries)?,
+            Err(error) => self.report(rt, folder, error),
+        }
+        if let Some(added) = self.pending.as_mut_slice().get_mut(first..) {
+            added.sort_unstable_by(|one, other| other.as_str().cmp(one.as_str()));
+        }
+        Ok(())
+    }
+
+    /// Takes the entries of a folder.
+    fn take_all<R: Runtime + AllocGlobal>(
+        &mut self,
+        rt: &R,
+        folder: &str,
+        entries: ReadDir<R>,
+    ) -> Result<(), Fault> {
+        for entry in entries {
+            match entry {
+                Ok(entry) => self.take(rt, &entry)?,
+                Err(error) => self.report(rt, folder, error),
+            }
+        }
+        Ok(())
+    }
+
+    /// Takes an entry of a folder. Its type is asked for only where it matters.
+    fn take<R: Runtime + AllocGlobal>(&mut self, rt: &R, entry: &DirEntry<R>) -> Result<(), Fault> {
+        let path = entry.path().as_str();
+        let shown = self.shown(path);
+        let wanted = self.globs.wanted(shown);
+        if !wanted.is_file && !wanted.is_folder && !self.counts {
+            return Ok(());
+        }
+        match entry.file_type() {
+            Ok(kind) => Ok(self.push(rt.alloc(), path, kind, wanted)?),
+            Err(error) => {
+                self.report(rt, path, error);
+                Ok(())
+            }
+        }
+    }
+
+    /// Adds a path to those that are pending, if it is wanted. Links, and what else is neither a file nor a folder, are not.
+    fn push(
+        &mut self,
+        alloc: Global,
+        path: &str,
+        kind: FileType,
+        wanted: Wanted,
+    ) -> Result<(), AllocError> {
+        if kind.is_dir() && !wanted.is_folder {
+            self.left_closed = self.left_closed.saturating_add(1);
+        } else if kind.is_dir() {
+            let mut folder = String::from_str(alloc, path)?;
+            folder.push('/')?;
+            self.pending.push(folder)?;
+        } else if kind.is_file() && wanted.is_file {
+            self.pending.push(String::from_str(alloc, path)?)?;
+        }
+        Ok(())
+    }
+
+    /// Prints that something cannot be read.
+    fn report(&mut self, rt: &(impl Eprint + AllocGlobal), path: &str, error: io::Error) {
+        self.has_failed = true;
+        let fault = match fault_of(rt.alloc(), path, error) {
+            Ok(fault) => fault,
+            Err(_) => example_io::Fault::OutOfMemory,
+        };
+        let _ = eprintln!(rt; "find_files: {fault}");
+    }
+}
+
+/// Returns the error of a path that cannot be read, or of a folder with a name that is not UTF-8.
+fn fault_of(alloc: Global, path: &str, error: io::Error) -> Result<example_io::Fault, AllocError> {
+    let name = String::from_str(alloc, path.strip_suffix('/').unwrap_or(path))?;
+    // A path that is too long for the system has the same kind, and a number.
+    let error = match (error.kind(), error.raw_os_error()) {
+        (ErrorKind::InvalidFilename, None) => {
+            io::Error::new(
+                ErrorKind::InvalidFilename,
+                "it has a name that is not UTF-8",
+            )
+        }
+        _ => error,
+    };
+    Ok(example_io::Fault::File { name, error })
+}
