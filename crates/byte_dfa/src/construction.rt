@@ -1,10 +1,10 @@
 //! How the table of a deterministic automaton is made: a row for each set of states that some text leads to.
 
-ghost use Rattle.std.specs.Prelude.{◌≡◌, ℕ, ◌+◌, ◌*◌, ◌<◌, ◌≤◌, ◌↔◌, ◌⊎◌, [], ◌∷◌, List, length, slice_get, slice_index, Some, IsTrue, OnOk, IfOk, IfSome};
+ghost use Rattle.std.specs.Prelude.{◌≡◌, ℕ, ◌+◌, ◌*◌, ◌<◌, ◌≤◌, ◌↔◌, ◌⊎◌, [], ◌∷◌, List, length, slice_get, slice_index, Some, false, IsTrue, OnOk, IfOk, IfSome};
 ghost use Rattle.byte_automaton.specs.Runs.{size, AcceptsFrom, AreEnding};
 ghost use Rattle.byte_automaton.specs.ByteSteps.{step_room, LeadsAsEvery};
-ghost use Rattle.byte_automaton.specs.Sets.{has_index, state_room};
-ghost use Rattle.byte_dfa.specs.inner.Building.{AreFoundSets, AreAllEnding, IsEntryTo, IsBase, IsCellOf, IsRowOf, IsSound, IsNumbered, KeepsFound, Grows, HasRoomFor, IsComplete, AreLiveSets, total};
+ghost use Rattle.byte_automaton.specs.Sets.{has_index, has_state, state_room};
+ghost use Rattle.byte_dfa.specs.inner.Building.{AreFoundSets, AreAllEnding, IsEntryTo, IsBase, IsCellOf, IsRowOf, IsSound, IsNumbered, KeepsFound, Grows, HasRoomFor, BeginsAt, IsComplete, AreLiveSets, total};
 ghost use Rattle.byte_dfa.specs.inner.Tables.{special};
 
 use crate::classes::ByteClasses;
@@ -50,7 +50,6 @@ struct Row {
 }
 
 /// The states of the table that were found so far, and the rows that are written.
-#[derive(Drop)]
 pub struct Construction {
     found: Vec<Found>,
     /// The number of a state by the hash of its set.
@@ -59,8 +58,22 @@ pub struct Construction {
     ending: StateSet,
     /// How many numbers may be added.
     room: usize,
-    pub lists: Vec<usize>,
-    pub rows: Vec<u32>,
+    lists: Vec<usize>,
+    rows: Vec<u32>,
+}
+
+impl Drop for Construction {
+    // One call wherever a value is dropped, which keeps proofs short.
+    fn drop(self) {
+        let Construction {
+            found: _,
+            numbers: _,
+            ending: _,
+            room: _,
+            lists: _,
+            rows: _,
+        } = self;
+    }
 }
 
 impl Construction {
@@ -78,30 +91,93 @@ impl Construction {
     {
         let mut built = Construction::new(alloc, automaton, room)?;
         let mut states = StateSet::new(alloc, automaton.state_count())?;
-        let dead = built.number_of(alloc, automaton, classes, &states, 0)?;
-        let Some(_) = dead else {
-            return Ok(None);
-        };
-        automaton.start(&mut states);
-        let start = built.number_of(alloc, automaton, classes, &states, 0)?;
+        let start = built.begin(alloc, automaton, classes, &mut states)?;
         let Some(start) = start else {
             return Ok(None);
         };
+        let fits = built.write_rows(alloc, automaton, classes, &mut states)?;
+        if !fits {
+            return Ok(None);
+        }
+        Ok(Some((built, start)))
+    }
+
+    /// Returns the table and the lists.
+    pub fn into_parts(self) -> (Vec<u32>, Vec<usize>)
+        ensures rows { result.0 ≡ self.rows }
+        ensures lists { result.1 ≡ self.lists }
+    {
+        let Construction {
+            found: _,
+            numbers: _,
+            ending: _,
+            room: _,
+            lists,
+            rows,
+        } = self;
+        (rows, lists)
+    }
+
+    /// Adds the dead state and the state that a run begins in. Returns the number of the latter, and `None` if there is no room
+    /// for them. `states` has no state before.
+    fn begin(
+        &mut self,
+        alloc: Global,
+        automaton: &Automaton,
+        classes: &ByteClasses,
+        states: &mut StateSet,
+    ) -> Result<Option<usize>, AllocError>
+        requires room { HasRoomFor automaton.now states.old }
+        requires classes { classes.now.count ≤ 256 }
+        requires sound { IsSound automaton.now classes.now self.old }
+        requires none { self.old.found.items ≡ [] }
+        requires dead { (s : ℕ) → has_state states.old s ≡ false }
+        ensures room { state_room states.new ≡ state_room states.old }
+        ensures grows { IfOk result (λ made. IfSome made (λ start. Grows automaton.now classes.now self.old self.new)) }
+        ensures begins { IfOk result (λ made. IfSome made (λ start. BeginsAt automaton.now self.new.found.items start)) }
+    {
+        let dead = self.number_of(alloc, automaton, classes, states, 0)?;
+        let Some(_) = dead else {
+            return Ok(None);
+        };
+        automaton.start(states);
+        self.number_of(alloc, automaton, classes, states, 0)
+    }
+
+    /// Writes all rows. Returns whether there is room for them, and not too many states were found whose rows were not written
+    /// yet.
+    fn write_rows(
+        &mut self,
+        alloc: Global,
+        automaton: &Automaton,
+        classes: &ByteClasses,
+        states: &mut StateSet,
+    ) -> Result<bool, AllocError>
+        requires room { HasRoomFor automaton.now states.old }
+        requires classes { classes.now.count ≤ 256 }
+        requires sound { IsSound automaton.now classes.now self.old }
+        requires few { total classes.now self.old ≤ special }
+        requires none { self.old.rows.items ≡ [] }
+        ensures sound { IfOk result (λ fits. IsTrue fits → IsSound automaton.now classes.now self.new) }
+        ensures few { IfOk result (λ fits. IsTrue fits → total classes.now self.new ≤ total classes.now self.old) }
+        ensures keeps { IfOk result (λ fits. IsTrue fits → KeepsFound self.old.found.items self.new.found.items) }
+        ensures rows { IfOk result (λ fits. IsTrue fits → length self.new.rows.items ≡ length self.new.found.items * (classes.now.count + 2)) }
+    {
         let mut steps = ByteSteps::new(alloc, automaton.state_count())?;
         let most = most_waiting(automaton);
         let mut row = 0;
-        while row < built.found.len() {
-            if built.found.len() - row > most {
-                return Ok(None);
+        while row < self.found.len() {
+            if self.found.len() - row > most {
+                return Ok(false);
             }
-            let written = built.row_steps(automaton, row, &mut steps)?;
-            let fits = built.write_row(alloc, automaton, classes, written, &steps, &mut states)?;
+            let written = self.row_steps(automaton, row, &mut steps)?;
+            let fits = self.write_row(alloc, automaton, classes, written, &steps, states)?;
             if !fits {
-                return Ok(None);
+                return Ok(false);
             }
             row += 1;
         }
-        Ok(Some((built, start)))
+        Ok(true)
     }
 
     /// Returns for each set that was found whether some bytes lead from it to an end. Returns an error if memory runs out.

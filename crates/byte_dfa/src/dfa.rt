@@ -109,12 +109,13 @@ impl Dfa {
             return Ok(None);
         };
         let live = built.live_rows(alloc, &decided)?;
+        let (table, lists) = built.into_parts();
         Ok(Some(Dfa {
             class_of: classes.class_of,
             width: classes.count,
-            table: built.rows,
+            table,
             start: start * (classes.count + 2),
-            lists: built.lists,
+            lists,
             index_count: automaton.index_count(),
             last_bytes,
             live,

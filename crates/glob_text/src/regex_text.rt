@@ -68,8 +68,6 @@ struct OpenGroup {
 }
 
 /// Pushes the texts of the tokens, one after another.
-///
-/// Only its tokens tell whether a branch is kept, so its text is written, and removed if it is not.
 fn push_tokens(
     alloc: Global,
     text: &mut String,
@@ -79,12 +77,27 @@ fn push_tokens(
     requires { IsNested (flats tokens.now) }
     ensures { OnOk result (string_bytes text.new ≡ string_bytes text.old ++ tokens_text options (tokens_of tokens.now)) }
 {
+    push_each(text, options, tokens, &mut Vec::new(alloc))
+}
+
+/// Pushes the texts of the tokens. `groups` has the open groups, and none before.
+///
+/// Only its tokens tell whether a branch is kept, so its text is written, and removed if it is not.
+fn push_each(
+    text: &mut String,
+    options: Options,
+    tokens: &[Token],
+    groups: &mut Vec<OpenGroup>,
+) -> Result<(), AllocError>
+    requires nested { IsNested (flats tokens.now) }
+    requires none { groups.old.items ≡ [] }
+    ensures { OnOk result (string_bytes text.new ≡ string_bytes text.old ++ tokens_text options (tokens_of tokens.now)) }
+{
     let mut kept = false;
-    let mut groups = Vec::new(alloc);
     for token in tokens {
         match token {
             Token::Open => {
-                groups.push(start_branch(text, true, kept)?)?;
+                start_branch(text, groups, true, kept)?;
                 kept = false;
             }
             Token::Comma => {
@@ -92,7 +105,7 @@ fn push_tokens(
                     unreachable!()
                 };
                 let first = end_branch(text, options, group, kept);
-                groups.push(start_branch(text, first, group.outer_kept)?)?;
+                start_branch(text, groups, first, group.outer_kept)?;
                 kept = false;
             }
             Token::Close => {
@@ -111,18 +124,24 @@ fn push_tokens(
     Ok(())
 }
 
-/// Pushes the text before a branch of a group: the first that is written, or another. Returns the group.
-fn start_branch(text: &mut String, first: bool, outer_kept: bool) -> Result<OpenGroup, AllocError>
+/// Pushes the text before a branch of a group, the first that is written or another, and adds the group to the open ones.
+fn start_branch(
+    text: &mut String,
+    groups: &mut Vec<OpenGroup>,
+    first: bool,
+    outer_kept: bool,
+) -> Result<(), AllocError>
     ensures text { OnOk result (string_bytes text.new ≡ string_bytes text.old ++ opener first) }
-    ensures group { IfOk result (λ g. g ≡ record { len = string_len text.old; first = first; outer_kept = outer_kept }) }
+    ensures group { OnOk result (groups.new.items ≡ groups.old.items ++ record { len = string_len text.old; first = first; outer_kept = outer_kept } ∷ []) }
 {
     let len = text.len();
     text.push_str(if first { "(?:" } else { "|" })?;
-    Ok(OpenGroup {
+    groups.push(OpenGroup {
         len,
         first,
         outer_kept,
-    })
+    })?;
+    Ok(())
 }
 
 /// Ends a branch: it is kept under `empty_alternates` and where `kept` says so, and otherwise removed. Returns whether no

@@ -140,11 +140,18 @@ fn end_of_run(texts: &[Text], span: Span, depth: usize, next: Option<u8>) -> usi
     ensures stop { result < span.to → HoldsAt (λ t. next_of depth t ≢ next) texts.now result }
 {
     for at in span.from..span.to {
-        if texts[at].bytes.get(depth).copied() != next {
+        if next_byte(&texts[at], depth) != next {
             return at;
         }
     }
     span.to
+}
+
+/// Returns the byte that a text goes on with, or `None` if it ends.
+fn next_byte(text: &Text, depth: usize) -> Option<u8>
+    ensures { result ≡ next_of depth text.now }
+{
+    text.bytes.get(depth).copied()
 }
 
 /// Returns the length of the longest text.

@@ -11,10 +11,3 @@ returns-clause-text c =
       | else-first w ↦ ap (λ s. s.now) w.push_str-is ∙ ap opener (sym w.if-first.false)
     ] in
     c.in_ok-push_str.ensures.bytes ∙ ap (λ l. string_bytes c.args.text.now ++ l) begun
-
-pub returns-clause-group : goal.returns-clause-group
-returns-clause-group c = λ i. record {
-  len = c.len-len.ensures i;
-  first = c.args.first;
-  outer_kept = c.args.outer_kept;
-}

@@ -4,6 +4,18 @@ use Rattle.std.proofs.lemmas.Option.{slice_get_read, slice_get_within}
 use Rattle.byte_dfa.proofs.lemmas.Found.{marked_more}
 use Rattle.byte_dfa.proofs.construction.Construction.live_rows.Goals as goal
 
+pub has_live-is_live-requires : goal.has_live-is_live-requires
+has_live-is_live-requires c =
+    let found = c.args.self.now.found.items in
+    let row = c.loop-row.row in
+    let this = c.index.result.now in
+    let here : slice_get found row ≡ Some this = slice_get_read found (length found) row this refl (omega arith) c.index.ensures in
+    record {
+      from_room = (c.requires.each row this here).room.room;
+      live_room = omega (arith, c.live.ensures.room, c.in_ok-live.ensures.room, c.state_count.ensures);
+      live = c.live.ensures.live;
+    }
+
 pub loop-row-preserved : goal.loop-row-preserved
 loop-row-preserved c =
     let inv = c.loop-row.invariant in

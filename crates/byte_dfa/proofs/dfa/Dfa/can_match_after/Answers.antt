@@ -143,7 +143,7 @@ index-requires c =
     let is : c.next-last.result ≡ entry d l.state c.args.byte = c.next-last.ensures.value ∙ ap (λ n. slice_index n (l.state + slice_index t.class_of c.args.byte)) c.as_slice-table.ensures.value in
     let lt = (c.self.invariant.live_rows (after d l.state c.args.byte) (c.self.invariant.sound.goes l.state c.args.byte l.invariant.row small)).0 in
     let there : c.next-last.result % special / (t.width + 2) < length t.live.items = subst (λ x. x % special / (t.width + 2) < length t.live.items) (sym is) lt in
-    omega (arith, there)
+    subst (λ n. c.next-last.result % special / (t.width + 2) < n) (sym t.live.ok.0) there
 
 pub returns-clause-some : goal.returns-clause-some
 returns-clause-some c =

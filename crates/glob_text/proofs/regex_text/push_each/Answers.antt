@@ -1,5 +1,5 @@
-use Rattle.std.proofs.Common.{rules, ◌≡◌, ◌+◌, ◌<◌, ◌∷◌, [], ◌++◌, length, drop, reverse, arith, sym, ap, ◌∙◌, refl}
-use Rattle.std.specs.Prelude.{string_bytes}
+use Rattle.std.proofs.Common.{rules, ◌≡◌, ◌+◌, ◌<◌, ◌∷◌, [], ◌++◌, length, true, drop, reverse, arith, sym, ap, ◌∙◌, refl}
+use Rattle.std.specs.Prelude.{string_bytes, string_len}
 use Rattle.std.proofs.lemmas.List.{drop_more, reverse-append}
 use Rattle.glob_syntax.specs.FlatTokens.{opening, comma, closing, IsSimple}
 use Rattle.glob_syntax.specs.Views.{flat_of, flats, tokens_of}
@@ -7,8 +7,11 @@ use Rattle.glob_text.specs.RegexText.{tokens_text}
 use Rattle.glob_text.specs.inner.RegexWriting.{Writes}
 use Rattle.glob_text.specs.declared.regex_text.OpenGroup.{OpenGroup}
 use Rattle.glob_text.proofs.lemmas.RegexWriting.{not_blank, writes_simple, writes_open, writes_comma, writes_close}
-use Rattle.glob_text.proofs.regex_text.push_tokens.Goals as goal
-use Rattle.glob_text.proofs.regex_text.push_tokens.Goals.{in-Open+in_ok-start_branch-in-Open+in_ok-push-in-Open, in-Comma+in-Some+in_ok-start_branch-in-Comma+in_ok-push-in-Comma, in-Close+in-Some-pop+in_ok-kept-in-Close, in_default+in_ok-push_simple-in_default}
+use Rattle.glob_text.proofs.regex_text.push_each.Goals as goal
+use Rattle.glob_text.proofs.regex_text.push_each.Goals.{in-Open+in_ok-start_branch-in-Open, in-Comma+in-Some+in_ok-start_branch-in-Comma, in-Close+in-Some-pop+in_ok-kept-in-Close, in_default+in_ok-push_simple-in_default}
+
+pub loop-token-init : goal.loop-token-init
+loop-token-init c = rw c.requires.none record { same = refl; cuts = tt; nested = c.requires.nested }
 
 pub loop-token-preserved : goal.loop-token-preserved
 loop-token-preserved c =
@@ -26,14 +29,13 @@ loop-token-preserved c =
     let ts = flats (drop (i + 1) tokens) in
     let was : Writes o whole text kept gs (flat_of token ∷ ts) = rw more at inv in
     elim c.match-token.branch [
-      | in-Open+in_ok-start_branch-in-Open+in_ok-push-in-Open w ↦
+      | in-Open+in_ok-start_branch-in-Open w ↦
           let is : flat_of token ≡ opening = ap flat_of w.in-Open.is in
-          let g = w.in_ok-start_branch-in-Open.field-0 in
-          let made = w.in_ok-start_branch-in-Open.ensures.group in
-          let at : g.len ≡ length text = ap (λ (x : OpenGroup). x.len) made ∙ search rules in
-          rw (w.text-is, w.kept-is, w.groups-is, w.in_ok-start_branch-in-Open.ensures.text, w.in_ok-push-in-Open.ensures.items, reverse-append)
-          (writes_open o whole text kept gs ts g (rw is at was) at (ap (λ (x : OpenGroup). x.first) made) (ap (λ (x : OpenGroup). x.outer_kept) made))
-      | in-Comma+in-Some+in_ok-start_branch-in-Comma+in_ok-push-in-Comma w ↦
+          let g : OpenGroup = record { len = string_len c.loop-token.text; first = true; outer_kept = kept } in
+          let at : g.len ≡ length text = search rules in
+          rw (w.text-is, w.kept-is, w.groups-is, w.in_ok-start_branch-in-Open.ensures.text, w.in_ok-start_branch-in-Open.ensures.group, reverse-append)
+          (writes_open o whole text kept gs ts g (rw is at was) at refl refl)
+      | in-Comma+in-Some+in_ok-start_branch-in-Comma w ↦
           let is : flat_of token ≡ comma = ap flat_of w.in-Comma.is in
           let group = w.in-Some.group in
           let rest = w.pop.new.self.items in
@@ -41,12 +43,11 @@ loop-token-preserved c =
           let inside : gs ≡ group ∷ reverse rest = ap reverse around ∙ reverse-append rest (group ∷ []) in
           let begun = string_bytes w.end_branch-first.new.text in
           let none = w.end_branch-first.result in
-          let next = w.in_ok-start_branch-in-Comma.field-0 in
-          let made = w.in_ok-start_branch-in-Comma.ensures.group in
-          let at : next.len ≡ length begun = ap (λ (x : OpenGroup). x.len) made ∙ search rules in
-          rw (w.text-is, w.kept-is, w.groups-is, w.in_ok-start_branch-in-Comma.ensures.text, w.in_ok-push-in-Comma.ensures.items, reverse-append)
+          let next : OpenGroup = record { len = string_len w.end_branch-first.new.text; first = none; outer_kept = group.outer_kept } in
+          let at : next.len ≡ length begun = search rules in
+          rw (w.text-is, w.kept-is, w.groups-is, w.in_ok-start_branch-in-Comma.ensures.text, w.in_ok-start_branch-in-Comma.ensures.group, reverse-append)
           (writes_comma o whole text kept group next (reverse rest) ts _ begun none (rw (is, inside) at was)
-          refl w.end_branch-first.ensures.text w.end_branch-first.ensures.none at (ap (λ (x : OpenGroup). x.first) made) (ap (λ (x : OpenGroup). x.outer_kept) made))
+          refl w.end_branch-first.ensures.text w.end_branch-first.ensures.none at refl refl)
       | in-Close+in-Some-pop+in_ok-kept-in-Close w ↦
           let is : flat_of token ≡ closing = ap flat_of w.in-Close.is in
           let group = w.in-Some-pop.group in

@@ -3,7 +3,7 @@ use Rattle.std.specs.Prelude.{string_bytes}
 use Rattle.glob_syntax.specs.Views.{flats, tokens_of}
 use Rattle.glob_text.specs.RegexText.{tokens_text}
 use Rattle.glob_text.specs.inner.RegexWriting.{Writes}
-use Rattle.glob_text.proofs.regex_text.push_tokens.Given as goal
+use Rattle.glob_text.proofs.regex_text.push_each.Given as goal
 
 -- the text so far, and that of the tokens that are left
 abbrev pub invariant-loop-token : goal.invariant-loop-token
