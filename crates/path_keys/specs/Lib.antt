@@ -1,2 +1,3 @@
 pub mod Keys
+pub mod Below
 pub mod inner

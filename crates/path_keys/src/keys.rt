@@ -1,15 +1,18 @@
 //! Indexes under keys, and the indexes that a path finds.
 
-ghost use Rattle.std.specs.Prelude.{◌≡◌, ◌≢◌, ◌+◌, ◌*◌, ◌≤◌, ◌++◌, ◌∷◌, ◌↔◌, ◌⊎◌, ◌<◌, ◌^◌, [], ℕ, List, length, map, IsTrue, MatchOption, OnOk, IfOk};
+ghost use Rattle.std.specs.Prelude.{◌≡◌, ◌≢◌, ◌+◌, ◌*◌, ◌≤◌, ◌++◌, ◌∷◌, ◌↔◌, ◌⊎◌, ◌<◌, ◌^◌, [], ℕ, List, length, map, IsTrue, MatchOption, OnOk, IfOk, ⊤};
 ghost use Rattle.byte_automaton.specs.Sets.{index_room, HasAlso};
 ghost use Rattle.byte_table.specs.Entries.{indexes_under};
 ghost use Rattle.byte_trie.specs.Laws.{IsAt};
 ghost use Rattle.byte_trie.specs.Texts.{entry_of};
 ghost use Rattle.byte_trie.specs.declared.side.Side.TheVariants.{Beginning, End};
+ghost use Rattle.glob_path.specs.Below.{BeginsWith, folder_start};
 ghost use Rattle.glob_path.specs.PathParts.{component_extension, last_component};
+ghost use Rattle.path_keys.specs.Below.{BelowMore, MatchesBelow};
 ghost use Rattle.path_keys.specs.Keys.{FindsMore, after_separator, keys_found, no_keys, with_beginning, with_component, with_components, with_end, with_extension, with_path};
 ghost use Rattle.path_keys.specs.inner.Parts.{tables_count};
 
+use crate::folders::{add_folders, has_folder};
 use byte_automaton::IndexSet;
 use byte_table::Table;
 use byte_trie::{Side, Text, Trie};
@@ -26,6 +29,10 @@ pub struct Keys {
     extensions: Table,
     beginnings: Trie,
     ends: Trie,
+    // Whether there are ends, which a trie does not tell.
+    has_ends: bool,
+    // The text before each `/` of each of the paths and beginnings. The indexes do not matter.
+    folders: Table,
 }
 
 impl Drop for Keys {
@@ -37,13 +44,15 @@ impl Drop for Keys {
             extensions: _,
             beginnings: _,
             ends: _,
+            has_ends: _,
+            folders: _,
         } = self;
     }
 }
 
 impl Model for Keys {
     ghost use Rattle.path_keys.specs.Keys.{KeyParts};
-    ghost use Rattle.path_keys.specs.inner.Parts.{HaveSides};
+    ghost use Rattle.path_keys.specs.inner.Parts.{AreParts};
 
     ghost Value = { KeyParts };
 
@@ -55,7 +64,7 @@ impl Model for Keys {
       ends = k.ends.entries;
     } };
 
-    ghost invariant = { λ k. HaveSides k.beginnings k.ends };
+    ghost invariant = { λ k. AreParts k.paths k.folders k.beginnings k.ends k.has_ends };
 }
 
 impl Clone for Keys {
@@ -71,6 +80,8 @@ impl Clone for Keys {
             extensions: self.extensions.clone()?,
             beginnings: self.beginnings.clone()?,
             ends: self.ends.clone()?,
+            has_ends: self.has_ends,
+            folders: self.folders.clone()?,
         })
     }
 }
@@ -109,6 +120,32 @@ impl Keys {
             return true;
         }
         self.ends.is_match(path.path(), visits)
+    }
+
+    /// Returns whether some key may be found for a path below a folder, which is a path without a `/` at its end. A walk over a tree
+    /// of folders need not enter one for which this is false: no path in it finds a key.
+    ///
+    /// It may be true and still no path below the folder find a key, since it takes each path to have any last component, any
+    /// extension and any end. So it is true for all folders if there is a key for one of these.
+    ///
+    /// It is one lookup and one walk at most, and takes no memory.
+    pub fn can_match_below(&self, folder: &[u8], visits: &mut Visits) -> bool
+        ensures some { IsTrue result ↔ MatchesBelow self.now folder.now }
+        ensures visits { visits.new ≤ visits.old + (length folder.now + 2) }
+    {
+        if self.has_ends {
+            return true;
+        }
+        if !self.components.is_empty() {
+            return true;
+        }
+        if !self.extensions.is_empty() {
+            return true;
+        }
+        if has_folder(&self.folders, folder, visits) {
+            return true;
+        }
+        self.beginnings.is_match(folder, visits)
     }
 
     /// Returns how many indexes the path finds, or `None` if these are more than a `usize` can count. It takes no memory.
@@ -174,6 +211,8 @@ pub struct KeysBuilder {
     extensions: Table,
     beginnings: Vec<Text>,
     ends: Vec<Text>,
+    // The text before each `/` of each of the paths and beginnings. It is `None` if memory ran out as one of these was added.
+    folders: Option<Table>,
 }
 
 impl Drop for KeysBuilder {
@@ -185,14 +224,16 @@ impl Drop for KeysBuilder {
             extensions: _,
             beginnings: _,
             ends: _,
+            folders: _,
         } = self;
     }
 }
 
 impl Model for KeysBuilder {
-    ghost use Rattle.std.specs.Prelude.{map};
+    ghost use Rattle.std.specs.Prelude.{IfSome, map};
     ghost use Rattle.byte_trie.specs.Texts.{entry_of};
     ghost use Rattle.path_keys.specs.Keys.{KeyParts};
+    ghost use Rattle.path_keys.specs.inner.Folders.{AreFolders};
 
     ghost Value = { KeyParts };
 
@@ -203,6 +244,8 @@ impl Model for KeysBuilder {
       beginnings = map entry_of k.beginnings.items;
       ends = map entry_of k.ends.items;
     } };
+
+    ghost invariant = { λ k. IfSome k.folders (λ folders. AreFolders folders k.paths (map entry_of k.beginnings.items)) };
 }
 
 impl KeysBuilder {
@@ -210,6 +253,7 @@ impl KeysBuilder {
     pub fn new(alloc: Global) -> KeysBuilder
         ensures keys { result ≡ no_keys }
         ensures found { (path : List ℕ) → keys_found result path ≡ [] }
+        ensures below { (folder : List ℕ) → MatchesBelow result folder → ⊥ }
     {
         KeysBuilder {
             paths: Table::new(alloc),
@@ -217,6 +261,7 @@ impl KeysBuilder {
             extensions: Table::new(alloc),
             beginnings: Vec::new(alloc),
             ends: Vec::new(alloc),
+            folders: Some(Table::new(alloc)),
         }
     }
 
@@ -224,14 +269,22 @@ impl KeysBuilder {
     pub fn add_path(&mut self, key: Vec<u8>, index: usize) -> Result<(), AllocError>
         ensures keys { OnOk result (self.new ≡ with_path self.old key.items index) }
         ensures found { OnOk result (FindsMore self.old self.new index (λ path. path ≡ key.items)) }
+        ensures below { OnOk result (BelowMore self.old self.new (λ folder. BeginsWith key.items (folder_start folder))) }
     {
-        self.paths.insert(key, index)
+        let Some(mut folders) = self.folders.take() else {
+            return Err(AllocError);
+        };
+        add_folders(*key.allocator(), &mut folders, &key)?;
+        self.paths.insert(key, index)?;
+        self.folders = Some(folders);
+        Ok(())
     }
 
     /// Adds an index for the paths whose last component is the key. Returns an error if memory runs out.
     pub fn add_component(&mut self, key: Vec<u8>, index: usize) -> Result<(), AllocError>
         ensures keys { OnOk result (self.new ≡ with_component self.old key.items index) }
         ensures found { OnOk result (FindsMore self.old self.new index (λ path. last_component path ≡ key.items)) }
+        ensures below { OnOk result (BelowMore self.old self.new (λ folder. ⊤)) }
     {
         self.components.insert(key, index)
     }
@@ -240,6 +293,7 @@ impl KeysBuilder {
     pub fn add_extension(&mut self, key: Vec<u8>, index: usize) -> Result<(), AllocError>
         ensures keys { OnOk result (self.new ≡ with_extension self.old key.items index) }
         ensures found { OnOk result (FindsMore self.old self.new index (λ path. component_extension path ≡ key.items)) }
+        ensures below { OnOk result (BelowMore self.old self.new (λ folder. ⊤)) }
     {
         self.extensions.insert(key, index)
     }
@@ -248,8 +302,15 @@ impl KeysBuilder {
     pub fn add_beginning(&mut self, key: Vec<u8>, index: usize) -> Result<(), AllocError>
         ensures keys { OnOk result (self.new ≡ with_beginning self.old key.items index) }
         ensures found { OnOk result (FindsMore self.old self.new index (λ path. IsAt Beginning path key.items)) }
+        ensures below { OnOk result (BelowMore self.old self.new (λ folder. BeginsWith key.items (folder_start folder) ⊎ BeginsWith (folder_start folder) key.items)) }
     {
-        self.beginnings.push(Text { bytes: key, index })?;
+        let Some(mut folders) = self.folders.take() else {
+            return Err(AllocError);
+        };
+        let text = Text { bytes: key, index };
+        add_folders(*text.bytes.allocator(), &mut folders, &text.bytes)?;
+        self.beginnings.push(text)?;
+        self.folders = Some(folders);
         Ok(())
     }
 
@@ -257,6 +318,7 @@ impl KeysBuilder {
     pub fn add_end(&mut self, key: Vec<u8>, index: usize) -> Result<(), AllocError>
         ensures keys { OnOk result (self.new ≡ with_end self.old key.items index) }
         ensures found { OnOk result (FindsMore self.old self.new index (λ path. IsAt End path key.items)) }
+        ensures below { OnOk result (BelowMore self.old self.new (λ folder. ⊤)) }
     {
         self.ends.push(Text { bytes: key, index })?;
         Ok(())
@@ -267,6 +329,7 @@ impl KeysBuilder {
     pub fn add_components(&mut self, key: Vec<u8>, index: usize) -> Result<(), AllocError>
         ensures keys { OnOk result (self.new ≡ with_components self.old key.items index) }
         ensures found { OnOk result (FindsMore self.old self.new index (λ path. (path ≡ key.items) ⊎ IsAt End path (after_separator key.items))) }
+        ensures below { OnOk result (BelowMore self.old self.new (λ folder. ⊤)) }
     {
         let mut end = Vec::new(*key.allocator());
         end.push(b'/')?;
@@ -275,7 +338,7 @@ impl KeysBuilder {
         self.add_end(end, index)
     }
 
-    /// Returns what was added. Returns an error if memory runs out.
+    /// Returns what was added. Returns an error if memory runs out, or ran out as a path or a beginning was added.
     pub fn finish(self, alloc: Global) -> Result<Keys, AllocError>
         ensures { IfOk result (λ keys. keys ≡ self) }
     {
@@ -285,13 +348,17 @@ impl KeysBuilder {
             extensions,
             beginnings,
             ends,
+            folders,
         } = self;
+        let has_ends = !ends.is_empty();
         Ok(Keys {
             paths,
             components,
             extensions,
             beginnings: Trie::new(alloc, Side::Beginning, beginnings)?,
             ends: Trie::new(alloc, Side::End, ends)?,
+            has_ends,
+            folders: folders.ok_or(AllocError)?,
         })
     }
 }

@@ -4,6 +4,7 @@
 //! and walks through tries along it. Nothing here knows globs.
 #![tactic(auto)]
 
+mod folders;
 mod keys;
 
 pub use keys::{Keys, KeysBuilder};

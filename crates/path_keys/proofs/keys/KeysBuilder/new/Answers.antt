@@ -1,6 +1,7 @@
 use Rattle.std.proofs.Common.{map}
 use Rattle.byte_trie.specs.Texts.{entry_of}
 use Rattle.path_keys.proofs.lemmas.Keys.{nothing_if}
+use Rattle.path_keys.proofs.lemmas.More.{nothing_below_if}
 use Rattle.path_keys.proofs.keys.KeysBuilder.new.Goals as goal
 
 pub returns-clause-found : goal.returns-clause-found
@@ -12,3 +13,13 @@ returns-clause-found c = λ path.
       beginnings = map entry_of (c.new-4.ensures.items i);
       ends = map entry_of (c.new-5.ensures.items i);
     }) path
+
+pub returns-clause-below : goal.returns-clause-below
+returns-clause-below c = λ folder.
+    nothing_below_if _ (λ i. record {
+      paths = c.new.ensures i;
+      components = c.new-2.ensures i;
+      extensions = c.new-3.ensures i;
+      beginnings = map entry_of (c.new-4.ensures.items i);
+      ends = map entry_of (c.new-5.ensures.items i);
+    }) folder
