@@ -66,11 +66,12 @@ has_automaton ByLastComponent = true
 has_automaton ByPath = true
 has_automaton group = false
 
--- The group is that of the table, what it says of a glob with these tokens is so for every path and, if its key is bytes, for
--- every folder. It has an automaton only if the glob is not direct, and has it run only where the glob needs one.
+-- The group is that of the table, and what it says of a glob with these tokens is so for every path and every folder. It has an
+-- automaton only if the glob is not direct, and has it run only where the glob needs one. Its key is bytes.
 pub record IsGroupOf (o : Options) (ts : Tokens) (group : Group) : Type 0 where
   pub in_table : group_seen group ≡ group_of_tokens o ts
   pub tells : (path : List ℕ) → Tells (group_seen group) o ts path
   pub automaton : (path : List ℕ) → runs_automaton (group_seen group) path ≡ true → needs_automaton o ts path ≡ true
   pub indirect : has_automaton (group_seen group) ≡ true → is_direct o ts ≡ false
-  pub below : (folder : List ℕ) → AllBytes folder → HasBytes (group_seen group) → TellsBelow (group_seen group) o ts folder
+  pub bytes : HasBytes (group_seen group)
+  pub below : (folder : List ℕ) → AllBytes folder → TellsBelow (group_seen group) o ts folder

@@ -2,7 +2,6 @@
 
 ghost use Rattle.std.specs.Prelude.{◌≡◌, ◌≢◌, ◌+◌, ◌*◌, ◌≤◌, ◌↔◌, [], List, ℕ, IfOk, IsOk, OnOk, OnErr, IsTrue, length, vec_capacity};
 ghost use Rattle.byte_automaton.specs.Sets.{has_index, index_room};
-ghost use Rattle.group_matching.specs.Below.{SomeListedBelow, load_below, most_visits_below};
 ghost use Rattle.group_matching.specs.Globs.{TokenGlob, is_listed_at, listed, load, most_visits};
 ghost use Rattle.group_matching.specs.Indexes.{ContainsAllBelow};
 ghost use Rattle.group_matching.specs.inner.Room.{HasRoom, KeepsRoom};
@@ -84,29 +83,6 @@ impl Groups {
             return Ok(true);
         }
         self.automata.is_match(path, &mut sets.states, visits)
-    }
-
-    /// Returns whether some glob that is not silent matches some path below a folder: the folder, a `/`, and any bytes, perhaps none.
-    ///
-    /// The sets get room for each state of a part that is simulated. Returns an error if memory runs out, and so none if they
-    /// have that room, or if each glob is direct.
-    pub fn can_match_below(
-        &self,
-        folder: &Candidate<'_>,
-        sets: &mut MatchingSets,
-        visits: &mut Visits,
-    ) -> Result<bool, AllocError>
-        ensures some { IfOk result (λ yes. (globs : List TokenGlob) → AreGroupsOf globs self.now → IsTrue yes ↔ SomeListedBelow globs folder.now) }
-        ensures kept { KeepsRoom sets.old sets.new }
-        ensures room { HasRoom sets.old (group_states self.now) (group_count self.now) → IsOk result }
-        ensures memory { (globs : List TokenGlob) → AreGroupsOf globs self.now → load_below globs ≡ 0 → IsOk result }
-        ensures visits { (globs : List TokenGlob) → AreGroupsOf globs self.now → visits.new ≤ visits.old + most_visits_below globs folder.now }
-    {
-        if self.keys.can_match_below(folder.path(), visits) {
-            return Ok(true);
-        }
-        self.automata
-            .can_match_below(folder.path(), &mut sets.states, visits)
     }
 
     /// Returns whether every glob matches the path and none is silent.

@@ -9,6 +9,7 @@ use Rattle.glob_path.specs.PathParts.{last_component, component_extension}
 use Rattle.glob_groups.specs.Silent.{are_silent, are_listed}
 use Rattle.glob_groups.specs.TokenTests.{literal_text, ending, is_whole_path, is_last_components, is_end, is_beginning, is_below_folder}
 use Rattle.glob_groups.specs.Groups.{GroupValue, Silent, ByLastComponent, ByPath, is_last_component, is_any_extension, is_by_last_component, automaton_group, ending_group, sensitive_group, group_of_tokens}
+use Rattle.glob_groups.specs.Below.{HasBytes}
 use Rattle.glob_groups.specs.GroupMeaning.{group_seen, Tells, runs_automaton, has_automaton, IsGroupOf}
 use Rattle.glob_groups.specs.Direct.{is_direct, has_ending, needs_automaton}
 use Rattle.glob_groups.specs.declared.group.Group.{Group}
@@ -183,11 +184,15 @@ shaped : (o : Options) (ts : Tokens) → IsShaped o ts (group_of_tokens o ts)
 unfolding group_of_tokens
 shaped o ts = of_choice (IsShaped o ts) (are_silent o ts) _ _ (λ h. tt) (λ h. of_choice (IsShaped o ts) o.case_insensitive _ _ (λ on. automaton_shaped o ts) (λ off. sensitive_shaped o ts))
 
-pub is_group : (o : Options) (ts : Tokens) (group : Group) → group_seen group ≡ group_of_tokens o ts → IsGroupOf o ts group
-is_group o ts group e = record {
+pub automaton_bytes : (o : Options) (ts : Tokens) (group : GroupValue) → group ≡ automaton_group o ts → HasBytes group
+automaton_bytes o ts group e = subst HasBytes (sym e) (of_choice HasBytes (is_by_last_component o ts) _ _ (λ h. tt) (λ h. tt))
+
+pub is_group : (o : Options) (ts : Tokens) (group : Group) → HasBytes (group_seen group) → group_seen group ≡ group_of_tokens o ts → IsGroupOf o ts group
+is_group o ts group has e = record {
   in_table = e;
   tells = λ path. subst (λ s. Tells s o ts path) (sym e) (tells_of o ts path);
   automaton = λ path. subst (RunsNeeded o ts path) (sym e) (runs_of o ts path);
   indirect = subst (IsIndirect o ts) (sym e) (indirect_of o ts);
-  below = λ folder bytes has. tells_below o ts folder bytes (group_seen group) has (subst (IsShaped o ts) (sym e) (shaped o ts)) (λ path. subst (λ s. Tells s o ts path) (sym e) (tells_of o ts path));
+  bytes = has;
+  below = λ folder bytes. tells_below o ts folder bytes (group_seen group) has (subst (IsShaped o ts) (sym e) (shaped o ts)) (λ path. subst (λ s. Tells s o ts path) (sym e) (tells_of o ts path));
 }

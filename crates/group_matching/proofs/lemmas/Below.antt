@@ -61,6 +61,5 @@ below_by_automata globs g folder r are bytes off same = (
 )
 
 -- their visits
-pub below_visits : (n m reads load now v w : ℕ) → m ≡ n → reads ≤ load → v ≤ now + (m + 2) → w ≤ v + (m + 2) * reads → w ≤ now + visits_below_for n load
-below_visits n m reads load now v w len le keys run =
-    let more = mul-le (m + 2) reads (n + 2) load (omega (arith, len)) le in omega (arith, len, keys, run, more)
+pub below_visits : (n reads load now v w : ℕ) → reads ≤ load → v ≤ now + (n + 2) → w ≤ v + (n + 2) * reads → w ≤ now + visits_below_for n load
+below_visits n reads load now v w le keys run = let more = mul-le (n + 2) reads (n + 2) load (omega arith) le in omega (arith, keys, run, more)

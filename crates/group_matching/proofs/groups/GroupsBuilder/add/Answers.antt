@@ -1,8 +1,7 @@
-use Rattle.std.proofs.Common.{◌≡◌, ℕ, true, false, List, refl, sym, subst, arith}
+use Rattle.std.proofs.Common.{◌≡◌, ℕ, true, false, List, refl, sym, subst}
 use Rattle.byte_automaton.specs.Texts.{AllBytes}
 use Rattle.glob_syntax.specs.Views.{tokens_of}
-use Rattle.glob_automaton.proofs.lemmas.IndexedTokens.{all_bytes}
-use Rattle.glob_groups.specs.Below.{TellsBelow, HasBytes}
+use Rattle.glob_groups.specs.Below.{TellsBelow}
 use Rattle.glob_groups.specs.declared.group.Group.{Group}
 use Rattle.glob_groups.specs.Direct.{is_direct, needs_automaton}
 use Rattle.glob_groups.specs.GroupMeaning.{Tells, group_seen, has_automaton, runs_automaton}
@@ -14,14 +13,13 @@ use Rattle.group_matching.proofs.groups.GroupsBuilder.add.Goals as goal
 pub returns-in-Silent-clause-groups : goal.returns-in-Silent-clause-groups
 returns-in-Silent-clause-groups c = λ globs at before.
     let tells = subst (λ (group : Group). (path : List ℕ) → Tells (group_seen group) c.args.options (tokens_of c.args.tokens.now) path) c.in-Silent.is c.in_ok-group_of.ensures.tells in
-    let tells_below = λ (folder : List ℕ) (bytes : AllBytes folder). subst (λ (group : Group). HasBytes (group_seen group) → TellsBelow (group_seen group) c.args.options (tokens_of c.args.tokens.now) folder) c.in-Silent.is (c.in_ok-group_of.ensures.below folder bytes) tt in
+    let tells_below = λ (folder : List ℕ) (bytes : AllBytes folder). subst (λ (group : Group). TellsBelow (group_seen group) c.args.options (tokens_of c.args.tokens.now) folder) c.in-Silent.is (c.in_ok-group_of.ensures.below folder bytes) in
     silent_added globs (token_glob c.args.options (tokens_of c.args.tokens.now)) c.args.index c.args.self.now at tells tells_below before
 
 pub returns-in-WholePath-clause-groups : goal.returns-in-WholePath-clause-groups
 returns-in-WholePath-clause-groups c =
     let tells = subst (λ (group : Group). (path : List ℕ) → Tells (group_seen group) c.args.options (tokens_of c.args.tokens.now) path) c.in-WholePath.is c.in_ok-group_of.ensures.tells in
-    let has = all_bytes c.in-WholePath.key.items (λ i. omega (arith, c.in-WholePath.type_inv.key i)) in
-    let tells_below = λ (folder : List ℕ) (bytes : AllBytes folder). subst (λ (group : Group). HasBytes (group_seen group) → TellsBelow (group_seen group) c.args.options (tokens_of c.args.tokens.now) folder) c.in-WholePath.is (c.in_ok-group_of.ensures.below folder bytes) has in
+    let tells_below = λ (folder : List ℕ) (bytes : AllBytes folder). subst (λ (group : Group). TellsBelow (group_seen group) c.args.options (tokens_of c.args.tokens.now) folder) c.in-WholePath.is (c.in_ok-group_of.ensures.below folder bytes) in
     let g = token_glob c.args.options (tokens_of c.args.tokens.now) in
     both_on_ok c.add_path.result
     (λ more below globs at before. key_added globs g c.args.index c.self.inside.keys c.add_path.new.self c.self.inside.automata at
@@ -31,8 +29,7 @@ returns-in-WholePath-clause-groups c =
 pub returns-in-LastComponent-clause-groups : goal.returns-in-LastComponent-clause-groups
 returns-in-LastComponent-clause-groups c =
     let tells = subst (λ (group : Group). (path : List ℕ) → Tells (group_seen group) c.args.options (tokens_of c.args.tokens.now) path) c.in-LastComponent.is c.in_ok-group_of.ensures.tells in
-    let has = all_bytes c.in-LastComponent.key.items (λ i. omega (arith, c.in-LastComponent.type_inv.key i)) in
-    let tells_below = λ (folder : List ℕ) (bytes : AllBytes folder). subst (λ (group : Group). HasBytes (group_seen group) → TellsBelow (group_seen group) c.args.options (tokens_of c.args.tokens.now) folder) c.in-LastComponent.is (c.in_ok-group_of.ensures.below folder bytes) has in
+    let tells_below = λ (folder : List ℕ) (bytes : AllBytes folder). subst (λ (group : Group). TellsBelow (group_seen group) c.args.options (tokens_of c.args.tokens.now) folder) c.in-LastComponent.is (c.in_ok-group_of.ensures.below folder bytes) in
     let g = token_glob c.args.options (tokens_of c.args.tokens.now) in
     both_on_ok c.add_component.result
     (λ more below globs at before. key_added globs g c.args.index c.self.inside.keys c.add_component.new.self c.self.inside.automata at
@@ -42,8 +39,7 @@ returns-in-LastComponent-clause-groups c =
 pub returns-in-Extension-clause-groups : goal.returns-in-Extension-clause-groups
 returns-in-Extension-clause-groups c =
     let tells = subst (λ (group : Group). (path : List ℕ) → Tells (group_seen group) c.args.options (tokens_of c.args.tokens.now) path) c.in-Extension.is c.in_ok-group_of.ensures.tells in
-    let has = all_bytes c.in-Extension.key.items (λ i. omega (arith, c.in-Extension.type_inv.key i)) in
-    let tells_below = λ (folder : List ℕ) (bytes : AllBytes folder). subst (λ (group : Group). HasBytes (group_seen group) → TellsBelow (group_seen group) c.args.options (tokens_of c.args.tokens.now) folder) c.in-Extension.is (c.in_ok-group_of.ensures.below folder bytes) has in
+    let tells_below = λ (folder : List ℕ) (bytes : AllBytes folder). subst (λ (group : Group). TellsBelow (group_seen group) c.args.options (tokens_of c.args.tokens.now) folder) c.in-Extension.is (c.in_ok-group_of.ensures.below folder bytes) in
     let g = token_glob c.args.options (tokens_of c.args.tokens.now) in
     both_on_ok c.add_extension.result
     (λ more below globs at before. key_added globs g c.args.index c.self.inside.keys c.add_extension.new.self c.self.inside.automata at
@@ -53,8 +49,7 @@ returns-in-Extension-clause-groups c =
 pub returns-in-LastComponents-clause-groups : goal.returns-in-LastComponents-clause-groups
 returns-in-LastComponents-clause-groups c =
     let tells = subst (λ (group : Group). (path : List ℕ) → Tells (group_seen group) c.args.options (tokens_of c.args.tokens.now) path) c.in-LastComponents.is c.in_ok-group_of.ensures.tells in
-    let has = all_bytes c.in-LastComponents.key.items (λ i. omega (arith, c.in-LastComponents.type_inv.key i)) in
-    let tells_below = λ (folder : List ℕ) (bytes : AllBytes folder). subst (λ (group : Group). HasBytes (group_seen group) → TellsBelow (group_seen group) c.args.options (tokens_of c.args.tokens.now) folder) c.in-LastComponents.is (c.in_ok-group_of.ensures.below folder bytes) has in
+    let tells_below = λ (folder : List ℕ) (bytes : AllBytes folder). subst (λ (group : Group). TellsBelow (group_seen group) c.args.options (tokens_of c.args.tokens.now) folder) c.in-LastComponents.is (c.in_ok-group_of.ensures.below folder bytes) in
     let g = token_glob c.args.options (tokens_of c.args.tokens.now) in
     both_on_ok c.add_components.result
     (λ more below globs at before. key_added globs g c.args.index c.self.inside.keys c.add_components.new.self c.self.inside.automata at
@@ -64,8 +59,7 @@ returns-in-LastComponents-clause-groups c =
 pub returns-in-End-clause-groups : goal.returns-in-End-clause-groups
 returns-in-End-clause-groups c =
     let tells = subst (λ (group : Group). (path : List ℕ) → Tells (group_seen group) c.args.options (tokens_of c.args.tokens.now) path) c.in-End.is c.in_ok-group_of.ensures.tells in
-    let has = all_bytes c.in-End.key.items (λ i. omega (arith, c.in-End.type_inv.key i)) in
-    let tells_below = λ (folder : List ℕ) (bytes : AllBytes folder). subst (λ (group : Group). HasBytes (group_seen group) → TellsBelow (group_seen group) c.args.options (tokens_of c.args.tokens.now) folder) c.in-End.is (c.in_ok-group_of.ensures.below folder bytes) has in
+    let tells_below = λ (folder : List ℕ) (bytes : AllBytes folder). subst (λ (group : Group). TellsBelow (group_seen group) c.args.options (tokens_of c.args.tokens.now) folder) c.in-End.is (c.in_ok-group_of.ensures.below folder bytes) in
     let g = token_glob c.args.options (tokens_of c.args.tokens.now) in
     both_on_ok c.add_end.result
     (λ more below globs at before. key_added globs g c.args.index c.self.inside.keys c.add_end.new.self c.self.inside.automata at
@@ -75,8 +69,7 @@ returns-in-End-clause-groups c =
 pub returns-in-Beginning-clause-groups : goal.returns-in-Beginning-clause-groups
 returns-in-Beginning-clause-groups c =
     let tells = subst (λ (group : Group). (path : List ℕ) → Tells (group_seen group) c.args.options (tokens_of c.args.tokens.now) path) c.in-Beginning.is c.in_ok-group_of.ensures.tells in
-    let has = all_bytes c.in-Beginning.key.items (λ i. omega (arith, c.in-Beginning.type_inv.key i)) in
-    let tells_below = λ (folder : List ℕ) (bytes : AllBytes folder). subst (λ (group : Group). HasBytes (group_seen group) → TellsBelow (group_seen group) c.args.options (tokens_of c.args.tokens.now) folder) c.in-Beginning.is (c.in_ok-group_of.ensures.below folder bytes) has in
+    let tells_below = λ (folder : List ℕ) (bytes : AllBytes folder). subst (λ (group : Group). TellsBelow (group_seen group) c.args.options (tokens_of c.args.tokens.now) folder) c.in-Beginning.is (c.in_ok-group_of.ensures.below folder bytes) in
     let g = token_glob c.args.options (tokens_of c.args.tokens.now) in
     both_on_ok c.add_beginning.result
     (λ more below globs at before. key_added globs g c.args.index c.self.inside.keys c.add_beginning.new.self c.self.inside.automata at
@@ -86,7 +79,7 @@ returns-in-Beginning-clause-groups c =
 pub returns-in-RequiredExtension-clause-groups : goal.returns-in-RequiredExtension-clause-groups
 returns-in-RequiredExtension-clause-groups c =
     let tells = subst (λ (group : Group). (path : List ℕ) → Tells (group_seen group) c.args.options (tokens_of c.args.tokens.now) path) c.in-RequiredExtension.is c.in_ok-group_of.ensures.tells in
-    let tells_below = λ (folder : List ℕ) (bytes : AllBytes folder). subst (λ (group : Group). HasBytes (group_seen group) → TellsBelow (group_seen group) c.args.options (tokens_of c.args.tokens.now) folder) c.in-RequiredExtension.is (c.in_ok-group_of.ensures.below folder bytes) (all_bytes c.in-RequiredExtension.key.items (λ i. omega (arith, c.in-RequiredExtension.type_inv.key i))) in
+    let tells_below = λ (folder : List ℕ) (bytes : AllBytes folder). subst (λ (group : Group). TellsBelow (group_seen group) c.args.options (tokens_of c.args.tokens.now) folder) c.in-RequiredExtension.is (c.in_ok-group_of.ensures.below folder bytes) in
     let indirect = subst (λ (group : Group). has_automaton (group_seen group) ≡ true → is_direct c.args.options (tokens_of c.args.tokens.now) ≡ false) c.in-RequiredExtension.is c.in_ok-group_of.ensures.indirect refl in
     let needs = subst (λ (group : Group). (path : List ℕ) → runs_automaton (group_seen group) path ≡ true → needs_automaton c.args.options (tokens_of c.args.tokens.now) path ≡ true) c.in-RequiredExtension.is c.in_ok-group_of.ensures.automaton in
     let g = token_glob c.args.options (tokens_of c.args.tokens.now) in
@@ -99,7 +92,7 @@ returns-in-RequiredExtension-clause-groups c =
 pub returns-in-ByLastComponent-clause-groups : goal.returns-in-ByLastComponent-clause-groups
 returns-in-ByLastComponent-clause-groups c =
     let tells = subst (λ (group : Group). (path : List ℕ) → Tells (group_seen group) c.args.options (tokens_of c.args.tokens.now) path) c.in-ByLastComponent.is c.in_ok-group_of.ensures.tells in
-    let tells_below = λ (folder : List ℕ) (bytes : AllBytes folder). subst (λ (group : Group). HasBytes (group_seen group) → TellsBelow (group_seen group) c.args.options (tokens_of c.args.tokens.now) folder) c.in-ByLastComponent.is (c.in_ok-group_of.ensures.below folder bytes) tt in
+    let tells_below = λ (folder : List ℕ) (bytes : AllBytes folder). subst (λ (group : Group). TellsBelow (group_seen group) c.args.options (tokens_of c.args.tokens.now) folder) c.in-ByLastComponent.is (c.in_ok-group_of.ensures.below folder bytes) in
     let needs = subst (λ (group : Group). (path : List ℕ) → runs_automaton (group_seen group) path ≡ true → needs_automaton c.args.options (tokens_of c.args.tokens.now) path ≡ true) c.in-ByLastComponent.is c.in_ok-group_of.ensures.automaton in
     let g = token_glob c.args.options (tokens_of c.args.tokens.now) in
     let old = group_parts c.self.inside.keys c.self.inside.automata in
@@ -111,7 +104,7 @@ returns-in-ByLastComponent-clause-groups c =
 pub returns-in-ByPath-clause-groups : goal.returns-in-ByPath-clause-groups
 returns-in-ByPath-clause-groups c =
     let tells = subst (λ (group : Group). (path : List ℕ) → Tells (group_seen group) c.args.options (tokens_of c.args.tokens.now) path) c.in-ByPath.is c.in_ok-group_of.ensures.tells in
-    let tells_below = λ (folder : List ℕ) (bytes : AllBytes folder). subst (λ (group : Group). HasBytes (group_seen group) → TellsBelow (group_seen group) c.args.options (tokens_of c.args.tokens.now) folder) c.in-ByPath.is (c.in_ok-group_of.ensures.below folder bytes) tt in
+    let tells_below = λ (folder : List ℕ) (bytes : AllBytes folder). subst (λ (group : Group). TellsBelow (group_seen group) c.args.options (tokens_of c.args.tokens.now) folder) c.in-ByPath.is (c.in_ok-group_of.ensures.below folder bytes) in
     let indirect = subst (λ (group : Group). has_automaton (group_seen group) ≡ true → is_direct c.args.options (tokens_of c.args.tokens.now) ≡ false) c.in-ByPath.is c.in_ok-group_of.ensures.indirect refl in
     let needs = subst (λ (group : Group). (path : List ℕ) → runs_automaton (group_seen group) path ≡ true → needs_automaton c.args.options (tokens_of c.args.tokens.now) path ≡ true) c.in-ByPath.is c.in_ok-group_of.ensures.automaton in
     let g = token_glob c.args.options (tokens_of c.args.tokens.now) in
