@@ -1,6 +1,6 @@
 //! Indexes under keys, and the indexes that a path finds.
 
-ghost use Rattle.std.specs.Prelude.{◌≡◌, ◌≢◌, ◌+◌, ◌*◌, ◌≤◌, ◌++◌, ◌∷◌, ◌↔◌, ◌⊎◌, ◌<◌, ◌^◌, [], ℕ, List, length, map, IsTrue, MatchOption, OnOk, IfOk, ⊤};
+ghost use Rattle.std.specs.Prelude.{◌≡◌, ◌≢◌, ◌+◌, ◌*◌, ◌≤◌, ◌++◌, ◌∷◌, ◌↔◌, ◌⊎◌, ◌<◌, ◌^◌, [], ℕ, List, length, map, IsTrue, IsFalse, MatchOption, OnOk, IfOk, ⊤};
 ghost use Rattle.byte_automaton.specs.Sets.{index_room, HasAlso};
 ghost use Rattle.byte_table.specs.Entries.{indexes_under};
 ghost use Rattle.byte_trie.specs.Laws.{IsAt};
@@ -10,9 +10,10 @@ ghost use Rattle.glob_path.specs.Below.{BeginsWith, folder_start};
 ghost use Rattle.glob_path.specs.PathParts.{component_extension, last_component};
 ghost use Rattle.path_keys.specs.Below.{BelowMore, MatchesBelow};
 ghost use Rattle.path_keys.specs.Keys.{FindsMore, after_separator, keys_found, no_keys, with_beginning, with_component, with_components, with_end, with_extension, with_path};
-ghost use Rattle.path_keys.specs.inner.Parts.{tables_count};
+ghost use Rattle.path_keys.specs.inner.Folders.{AreFolders};
+ghost use Rattle.path_keys.specs.inner.Parts.{HasOthers, tables_count};
 
-use crate::folders::{add_folders, has_folder};
+use crate::folders::Folders;
 use byte_automaton::IndexSet;
 use byte_table::Table;
 use byte_trie::{Side, Text, Trie};
@@ -29,10 +30,10 @@ pub struct Keys {
     extensions: Table,
     beginnings: Trie,
     ends: Trie,
-    // Whether there are ends, which a trie does not tell.
-    has_ends: bool,
-    // The text before each `/` of each of the paths and beginnings. The indexes do not matter.
-    folders: Table,
+    // Whether there are keys for last components, extensions or ends of paths: then some path below each folder may find one.
+    has_others: bool,
+    // The folders of the paths and of the beginnings. They are only needed, and only kept, if there are no other keys.
+    folders: Folders,
 }
 
 impl Drop for Keys {
@@ -44,7 +45,7 @@ impl Drop for Keys {
             extensions: _,
             beginnings: _,
             ends: _,
-            has_ends: _,
+            has_others: _,
             folders: _,
         } = self;
     }
@@ -64,7 +65,7 @@ impl Model for Keys {
       ends = k.ends.entries;
     } };
 
-    ghost invariant = { λ k. AreParts k.paths k.folders k.beginnings k.ends k.has_ends };
+    ghost invariant = { λ k. AreParts k.paths k.components k.extensions k.beginnings k.ends k.has_others k.folders };
 }
 
 impl Clone for Keys {
@@ -80,7 +81,7 @@ impl Clone for Keys {
             extensions: self.extensions.clone()?,
             beginnings: self.beginnings.clone()?,
             ends: self.ends.clone()?,
-            has_ends: self.has_ends,
+            has_others: self.has_others,
             folders: self.folders.clone()?,
         })
     }
@@ -128,21 +129,16 @@ impl Keys {
     /// It may be true and still no path below the folder find a key, since it takes each path to have any last component, any
     /// extension and any end. So it is true for all folders if there is a key for one of these.
     ///
-    /// It is one lookup and one walk at most, and takes no memory.
+    /// It is at most one lookup, which is a binary search among the folders of the paths and beginnings, and one walk. It takes no
+    /// memory.
     pub fn can_match_below(&self, folder: &[u8], visits: &mut Visits) -> bool
         ensures some { IsTrue result ↔ MatchesBelow self.now folder.now }
         ensures visits { visits.new ≤ visits.old + (length folder.now + 2) }
     {
-        if self.has_ends {
+        if self.has_others {
             return true;
         }
-        if !self.components.is_empty() {
-            return true;
-        }
-        if !self.extensions.is_empty() {
-            return true;
-        }
-        if has_folder(&self.folders, folder, visits) {
+        if self.folders.has_below(folder, visits) {
             return true;
         }
         self.beginnings.is_match(folder, visits)
@@ -206,13 +202,11 @@ impl Keys {
 
 /// Makes [`Keys`].
 pub struct KeysBuilder {
-    paths: Table,
+    paths: Vec<Text>,
     components: Table,
     extensions: Table,
     beginnings: Vec<Text>,
     ends: Vec<Text>,
-    // The text before each `/` of each of the paths and beginnings. It is `None` if memory ran out as one of these was added.
-    folders: Option<Table>,
 }
 
 impl Drop for KeysBuilder {
@@ -224,28 +218,24 @@ impl Drop for KeysBuilder {
             extensions: _,
             beginnings: _,
             ends: _,
-            folders: _,
         } = self;
     }
 }
 
 impl Model for KeysBuilder {
-    ghost use Rattle.std.specs.Prelude.{IfSome, map};
+    ghost use Rattle.std.specs.Prelude.{map};
     ghost use Rattle.byte_trie.specs.Texts.{entry_of};
     ghost use Rattle.path_keys.specs.Keys.{KeyParts};
-    ghost use Rattle.path_keys.specs.inner.Folders.{AreFolders};
 
     ghost Value = { KeyParts };
 
     ghost view = { λ k. record {
-      paths = k.paths;
+      paths = map entry_of k.paths.items;
       components = k.components;
       extensions = k.extensions;
       beginnings = map entry_of k.beginnings.items;
       ends = map entry_of k.ends.items;
     } };
-
-    ghost invariant = { λ k. IfSome k.folders (λ folders. AreFolders folders k.paths (map entry_of k.beginnings.items)) };
 }
 
 impl KeysBuilder {
@@ -256,12 +246,11 @@ impl KeysBuilder {
         ensures below { (folder : List ℕ) → MatchesBelow result folder → ⊥ }
     {
         KeysBuilder {
-            paths: Table::new(alloc),
+            paths: Vec::new(alloc),
             components: Table::new(alloc),
             extensions: Table::new(alloc),
             beginnings: Vec::new(alloc),
             ends: Vec::new(alloc),
-            folders: Some(Table::new(alloc)),
         }
     }
 
@@ -271,12 +260,7 @@ impl KeysBuilder {
         ensures found { OnOk result (FindsMore self.old self.new index (λ path. path ≡ key.items)) }
         ensures below { OnOk result (BelowMore self.old self.new (λ folder. BeginsWith key.items (folder_start folder))) }
     {
-        let Some(mut folders) = self.folders.take() else {
-            return Err(AllocError);
-        };
-        add_folders(*key.allocator(), &mut folders, &key)?;
-        self.paths.insert(key, index)?;
-        self.folders = Some(folders);
+        self.paths.push(Text { bytes: key, index })?;
         Ok(())
     }
 
@@ -304,13 +288,7 @@ impl KeysBuilder {
         ensures found { OnOk result (FindsMore self.old self.new index (λ path. IsAt Beginning path key.items)) }
         ensures below { OnOk result (BelowMore self.old self.new (λ folder. BeginsWith key.items (folder_start folder) ⊎ BeginsWith (folder_start folder) key.items)) }
     {
-        let Some(mut folders) = self.folders.take() else {
-            return Err(AllocError);
-        };
-        let text = Text { bytes: key, index };
-        add_folders(*text.bytes.allocator(), &mut folders, &text.bytes)?;
-        self.beginnings.push(text)?;
-        self.folders = Some(folders);
+        self.beginnings.push(Text { bytes: key, index })?;
         Ok(())
     }
 
@@ -338,27 +316,69 @@ impl KeysBuilder {
         self.add_end(end, index)
     }
 
-    /// Returns what was added. Returns an error if memory runs out, or ran out as a path or a beginning was added.
+    /// Returns what was added. Returns an error if memory runs out.
+    ///
+    /// The time is linear in the bytes of all keys, except that the beginnings, the ends and the folders of keys are sorted.
     pub fn finish(self, alloc: Global) -> Result<Keys, AllocError>
         ensures { IfOk result (λ keys. keys ≡ self) }
     {
+        let has_others = self.has_others();
         let KeysBuilder {
             paths,
             components,
             extensions,
             beginnings,
             ends,
-            folders,
         } = self;
-        let has_ends = !ends.is_empty();
+        let folders = folders_of(alloc, has_others, &paths, &beginnings)?;
         Ok(Keys {
-            paths,
+            paths: table_of(alloc, paths)?,
             components,
             extensions,
             beginnings: Trie::new(alloc, Side::Beginning, beginnings)?,
             ends: Trie::new(alloc, Side::End, ends)?,
-            has_ends,
-            folders: folders.ok_or(AllocError)?,
+            has_others,
+            folders,
         })
     }
+
+    /// Returns whether there are keys for last components, extensions or ends of paths.
+    fn has_others(&self) -> bool
+        ensures { IsTrue result ↔ HasOthers self.now.components self.now.extensions self.now.ends }
+    {
+        if !self.components.is_empty() {
+            return true;
+        }
+        if !self.extensions.is_empty() {
+            return true;
+        }
+        !self.ends.is_empty()
+    }
+}
+
+/// Returns the folders of paths and beginnings, or none if there are other keys. Returns an error if memory runs out.
+fn folders_of(
+    alloc: Global,
+    has_others: bool,
+    paths: &[Text],
+    beginnings: &[Text],
+) -> Result<Folders, AllocError>
+    ensures { IfOk result (λ folders. IsFalse has_others → AreFolders folders (map entry_of paths.now) (map entry_of beginnings.now)) }
+{
+    if has_others {
+        return Ok(Folders::none(alloc));
+    }
+    Folders::new(alloc, paths, beginnings)
+}
+
+/// Returns a table of texts. Returns an error if memory runs out.
+fn table_of(alloc: Global, texts: Vec<Text>) -> Result<Table, AllocError>
+    ensures { IfOk result (λ table. table ≡ map entry_of texts.items) }
+{
+    let mut table = Table::new(alloc);
+    for text in texts {
+        let Text { bytes, index } = text;
+        table.insert(bytes, index)?;
+    }
+    Ok(table)
 }

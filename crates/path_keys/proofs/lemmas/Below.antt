@@ -1,18 +1,17 @@
 -- Which keys a path below a folder may find, by the folders and the beginnings.
-use Rattle.std.proofs.Common.{◌≡◌, ℕ, ◌⊎◌, inl, inr, Bool, true, false, not, ◌==◌, map, List, [], ◌∷◌, ◌++◌, length, IsTrue, refl, ap, sym, subst, ◌∙◌, append_assoc, arith}
+use Rattle.std.proofs.Common.{◌≡◌, ℕ, ◌⊎◌, inl, inr, Bool, List, [], ◌∷◌, ◌++◌, length, IsTrue, refl, ap, sym, subst, ◌∙◌, append_assoc, arith}
 use Rattle.std.specs.Prelude.{◌≢◌, ◌↔◌, Contains}
 use Rattle.std.proofs.Math.Logic.{⊎_elim}
-use Rattle.std.proofs.lemmas.Bool.{eqb-true}
 use Rattle.byte_table.specs.Entries.{Entry, entry}
 use Rattle.byte_trie.specs.declared.side.Side.{Side}
 use Rattle.byte_trie.specs.declared.side.Side.TheVariants.{Beginning}
-use Rattle.byte_trie.specs.declared.text.Text.{Text}
-use Rattle.byte_trie.specs.Texts.{Texts, entry_of, found}
+use Rattle.byte_trie.specs.Texts.{Texts, found}
 use Rattle.byte_trie.proofs.lemmas.Laws.{finds_exactly}
 use Rattle.glob_path.specs.Below.{BeginsWith, folder_start}
 use Rattle.path_keys.specs.Below.{HasKey, MatchesBelow, by_component, by_extension, by_end, by_path, by_beginning, by_shorter_beginning}
 use Rattle.path_keys.specs.Keys.{KeyParts, texts_at}
-use Rattle.path_keys.specs.inner.Folders.{AreFolders, HasText}
+use Rattle.path_keys.specs.inner.Folders.{AreFolders, SomeBelow}
+use Rattle.path_keys.specs.inner.Parts.{HasOthers}
 
 some_index : (xs : List ℕ) → xs ≢ [] → (i : ℕ) × Contains xs i
 some_index [] some = absurd (some refl)
@@ -44,15 +43,21 @@ nothing_after : (xs : List ℕ) → xs ++ [] ≡ xs
 nothing_after [] = refl
 nothing_after (x ∷ xs) = ap (λ y. x ∷ y) (nothing_after xs)
 
+-- where there are keys of other kinds
+pub by_others : (k : KeyParts) (folder : List ℕ) → HasOthers k.components k.extensions k.ends → MatchesBelow k folder
+by_others k folder (inl some) = by_component some
+by_others k folder (inr (inl some)) = by_extension some
+by_others k folder (inr (inr some)) = by_end some
+
 -- a folder that is known
-pub by_folder : (k : KeyParts) (folders : List Entry) (folder : List ℕ) → AreFolders folders k.paths k.beginnings → HasText folders folder → MatchesBelow k folder
+pub by_folder : (k : KeyParts) (folders : List (List ℕ)) (folder : List ℕ) → AreFolders folders k.paths k.beginnings → SomeBelow folders folder → MatchesBelow k folder
 by_folder k folders folder h has = ⊎_elim {C = MatchesBelow k folder} (λ p. by_path p) (λ b. by_beginning b) ((h.tells folder).0 has)
 
 -- a folder that is not known, where there are keys of no other kinds
-pub by_walk : (k : KeyParts) (folders : List Entry) (t : Texts) (folder : List ℕ) (b : Bool) → AreFolders folders k.paths k.beginnings → t ≡ texts_at Beginning k.beginnings
-    → (k.components ≢ [] → ⊥) → (k.extensions ≢ [] → ⊥) → (k.ends ≢ [] → ⊥) → (HasText folders folder → ⊥)
+pub by_walk : (k : KeyParts) (folders : List (List ℕ)) (t : Texts) (folder : List ℕ) (b : Bool) → AreFolders folders k.paths k.beginnings → t ≡ texts_at Beginning k.beginnings
+    → (HasOthers k.components k.extensions k.ends → ⊥) → (SomeBelow folders folder → ⊥)
     → (IsTrue b ↔ (found t folder ≢ [])) → IsTrue b ↔ MatchesBelow k folder
-by_walk k folders t folder b h at no_components no_extensions no_ends none tells = (
+by_walk k folders t folder b h at no_others none tells = (
   λ yes. by_shorter_beginning (found_shorter k.beginnings folder (subst (λ t. found t folder ≢ []) at (tells.0 yes))),
   λ m. tells.1 (subst (λ t. found t folder ≢ []) (sym at) (found_one m)),
 )
@@ -62,19 +67,12 @@ by_walk k folders t folder b h at no_components no_extensions no_ends none tells
     is_found key rest i at (inr part) = shorter_found k.beginnings folder (key, i, at, part)
 
     found_one : MatchesBelow k folder → found (texts_at Beginning k.beginnings) folder ≢ []
-    found_one (by_component some) = absurd (no_components some)
-    found_one (by_extension some) = absurd (no_extensions some)
-    found_one (by_end some) = absurd (no_ends some)
+    found_one (by_component some) = absurd (no_others (inl some))
+    found_one (by_extension some) = absurd (no_others (inr (inl some)))
+    found_one (by_end some) = absurd (no_others (inr (inr some)))
     found_one (by_path p) = absurd (none ((h.tells folder).1 (inl p)))
     found_one (by_beginning p) = absurd (none ((h.tells folder).1 (inr p)))
     found_one (by_shorter_beginning p) = is_found p.0 p.3.0 p.1 p.2 (all_or_front p.0 p.3.0 folder p.3.1)
 
 pub at_side : (t : Texts) (side : Side) → t.side ≡ side → t ≡ texts_at side t.entries
 at_side t side e = λ i. record { side = e i; entries = t.entries }
-
--- whether there are texts
-pub some_texts : (ts : List Text) (n : ℕ) (b : Bool) → n ≡ length ts → b ≡ (n == 0) → IsTrue (not b) ↔ (map entry_of ts ≢ [])
-some_texts [] n true len is = (λ h. absurd (cc), λ h. absurd (h refl))
-some_texts [] n false len is = let zero : (n == 0) ≡ true = ap (λ n. n == 0) len in absurd (cc)
-some_texts (t ∷ ts) n true len is = let zero : n ≡ 0 = eqb-true n 0 (sym is) in absurd (omega (arith, zero, len))
-some_texts (t ∷ ts) n false len is = (λ h. λ none. absurd (omega (arith, ap length none)), λ h. refl)

@@ -4,6 +4,7 @@ use Rattle.std.proofs.Crossing.{crosses}
 use Rattle.std.proofs.MapsCrossing.{HashMap-send, HashMap-sync}
 use Rattle.byte_table.specs.contracts.table.Table as Table
 use Rattle.byte_trie.specs.contracts.trie.Trie as Trie
+use Rattle.path_keys.specs.contracts.folders.Folders as Folders
 use Rattle.path_keys.specs.contracts.keys.Keys as Keys
 
 pub table-send : IsSend Table.the_field.row
@@ -18,8 +19,14 @@ trie-send = search (sendable, crosses) depth 40 fits 20000
 trie-sync : IsSync Trie.the_field.row
 trie-sync = search (sendable, crosses) depth 40 fits 20000
 
+folders-send : IsSend Folders.the_field.row
+folders-send = search (sendable, crosses) depth 40 fits 20000
+
+folders-sync : IsSync Folders.the_field.row
+folders-sync = search (sendable, crosses) depth 40 fits 20000
+
 pub keys-send : IsSend Keys.the_field.row
-keys-send = search (sendable, table-send, trie-send) depth 20
+keys-send = search (sendable, table-send, trie-send, folders-send) depth 20
 
 pub keys-sync : IsSync Keys.the_field.row
-keys-sync = search (sendable, table-sync, trie-sync) depth 20
+keys-sync = search (sendable, table-sync, trie-sync, folders-sync) depth 20

@@ -1,5 +1,5 @@
 -- Keys in parts: how many indexes the tables have for a path, and what is true of all keys.
-use Rattle.std.specs.Prelude.{◌≡◌, ◌≢◌, ℕ, ◌+◌, ◌↔◌, Bool, IsTrue, List, [], length}
+use Rattle.std.specs.Prelude.{◌≡◌, ◌≢◌, ℕ, ◌+◌, ◌↔◌, ◌⊎◌, Bool, IsTrue, IsFalse, List, [], length}
 use Rattle.byte_table.specs.Entries.{Entry, indexes_under}
 use Rattle.byte_trie.specs.declared.side.Side.TheVariants.{Beginning, End}
 use Rattle.byte_trie.specs.Texts.{Texts}
@@ -11,10 +11,14 @@ use Rattle.path_keys.specs.inner.Folders.{AreFolders}
 abbrev pub tables_count : KeyParts → List ℕ → ℕ
 tables_count t path = length (indexes_under t.paths path) + length (indexes_under t.components (last_component path)) + length (indexes_under t.extensions (component_extension path))
 
--- The tries look at the sides that they are for. It is known whether there are ends, and which folders some path or some beginning
--- is below.
-pub record AreParts (paths folders : List Entry) (beginnings ends : Texts) (has_ends : Bool) : Type 0 where
+-- there are keys for last components, for extensions or for ends of paths
+abbrev pub HasOthers : List Entry → List Entry → List Entry → Type 0
+HasOthers components extensions ends = (components ≢ []) ⊎ ((extensions ≢ []) ⊎ (ends ≢ []))
+
+-- The tries look at the sides that they are for. It is known whether there are keys of other kinds than paths and beginnings, and if
+-- not, below which folders some path or some beginning is.
+pub record AreParts (paths components extensions : List Entry) (beginnings ends : Texts) (has_others : Bool) (folders : List (List ℕ)) : Type 0 where
   pub at_beginning : beginnings.side ≡ Beginning
   pub at_end : ends.side ≡ End
-  pub some_ends : IsTrue has_ends ↔ (ends.entries ≢ [])
-  pub all_folders : AreFolders folders paths beginnings.entries
+  pub some_others : IsTrue has_others ↔ HasOthers components extensions ends.entries
+  pub all_folders : IsFalse has_others → AreFolders folders paths beginnings.entries

@@ -9,9 +9,9 @@ use Rattle.path_keys.proofs.keys.KeysBuilder.add_end.Goals as goal
 pub returns-clause-found : goal.returns-clause-found
 returns-clause-found c =
     let is = ap (map entry_of) c.in_ok-push.ensures.items ∙ map-append entry_of c.self.inside.ends.items _ in
-    finds_end c.args.self.now _ c.args.key.items c.args.index ((λ i. record { paths = c.self.inside.paths; components = c.self.inside.components; extensions = c.self.inside.extensions; beginnings = map entry_of c.self.inside.beginnings.items; ends = is i }) ∙ ap (λ (t : KeyParts). with_end t c.args.key.items c.args.index) c.self.view_is)
+    finds_end c.args.self.now _ c.args.key.items c.args.index ((λ i. record { paths = map entry_of c.self.inside.paths.items; components = c.self.inside.components; extensions = c.self.inside.extensions; beginnings = map entry_of c.self.inside.beginnings.items; ends = is i }) ∙ ap (λ (t : KeyParts). with_end t c.args.key.items c.args.index) c.self.view_is)
 
 pub returns-clause-below : goal.returns-clause-below
 returns-clause-below c =
     let is = ap (map entry_of) c.in_ok-push.ensures.items ∙ map-append entry_of c.self.inside.ends.items _ in
-    below_end c.args.self.now _ c.args.key.items c.args.index ((λ i. record { paths = c.self.inside.paths; components = c.self.inside.components; extensions = c.self.inside.extensions; beginnings = map entry_of c.self.inside.beginnings.items; ends = is i }) ∙ ap (λ (t : KeyParts). with_end t c.args.key.items c.args.index) c.self.view_is)
+    below_end c.args.self.now _ c.args.key.items c.args.index ((λ i. record { paths = map entry_of c.self.inside.paths.items; components = c.self.inside.components; extensions = c.self.inside.extensions; beginnings = map entry_of c.self.inside.beginnings.items; ends = is i }) ∙ ap (λ (t : KeyParts). with_end t c.args.key.items c.args.index) c.self.view_is)

@@ -9,11 +9,11 @@ use Rattle.path_keys.proofs.keys.KeysBuilder.add_extension.Goals as goal
 pub returns-clause-found : goal.returns-clause-found
 returns-clause-found c =
     on_ok_weaker c.insert.result
-    (λ is. finds_extension c.args.self.now _ c.args.key.items c.args.index ((λ i. record { paths = c.self.inside.paths; components = c.self.inside.components; extensions = is i; beginnings = map entry_of c.self.inside.beginnings.items; ends = map entry_of c.self.inside.ends.items }) ∙ ap (λ (t : KeyParts). with_extension t c.args.key.items c.args.index) c.self.view_is))
+    (λ is. finds_extension c.args.self.now _ c.args.key.items c.args.index ((λ i. record { paths = map entry_of c.self.inside.paths.items; components = c.self.inside.components; extensions = is i; beginnings = map entry_of c.self.inside.beginnings.items; ends = map entry_of c.self.inside.ends.items }) ∙ ap (λ (t : KeyParts). with_extension t c.args.key.items c.args.index) c.self.view_is))
     c.insert.ensures.ok
 
 pub returns-clause-below : goal.returns-clause-below
 returns-clause-below c =
     on_ok_weaker c.insert.result
-    (λ is. below_extension c.args.self.now _ c.args.key.items c.args.index ((λ i. record { paths = c.self.inside.paths; components = c.self.inside.components; extensions = is i; beginnings = map entry_of c.self.inside.beginnings.items; ends = map entry_of c.self.inside.ends.items }) ∙ ap (λ (t : KeyParts). with_extension t c.args.key.items c.args.index) c.self.view_is))
+    (λ is. below_extension c.args.self.now _ c.args.key.items c.args.index ((λ i. record { paths = map entry_of c.self.inside.paths.items; components = c.self.inside.components; extensions = is i; beginnings = map entry_of c.self.inside.beginnings.items; ends = map entry_of c.self.inside.ends.items }) ∙ ap (λ (t : KeyParts). with_extension t c.args.key.items c.args.index) c.self.view_is))
     c.insert.ensures.ok
