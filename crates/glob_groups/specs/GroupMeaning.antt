@@ -11,7 +11,7 @@ use Rattle.glob_groups.specs.declared.group.Group.{Group}
 use Rattle.glob_groups.specs.declared.group.Group.TheVariants as held
 use Rattle.glob_groups.specs.Silent.{are_listed}
 use Rattle.glob_groups.specs.Below.{TellsBelow, HasBytes}
-use Rattle.glob_groups.specs.Direct.{needs_automaton}
+use Rattle.glob_groups.specs.Direct.{is_direct, needs_automaton}
 use Rattle.glob_groups.specs.Groups.{GroupValue, Silent, WholePath, LastComponent, Extension, LastComponents, End, Beginning, RequiredExtension, ByLastComponent, ByPath, after_prefix, before_ending, group_of_tokens}
 
 -- a group of the program
@@ -59,10 +59,19 @@ runs_automaton ByLastComponent path = true
 runs_automaton ByPath path = true
 runs_automaton group path = false
 
--- The group is that of the table, what it says of a glob with these tokens is so for every path and, if its key is bytes, for
--- every folder, and it has an automaton run only where the glob needs one.
+-- the group has an automaton, which is run for some path
+abbrev pub has_automaton : GroupValue → Bool
+has_automaton (RequiredExtension key) = true
+has_automaton ByLastComponent = true
+has_automaton ByPath = true
+has_automaton group = false
+
+-- The group is that of the table, and what it says of a glob with these tokens is so for every path and every folder. It has an
+-- automaton only if the glob is not direct, and has it run only where the glob needs one. Its key is bytes.
 pub record IsGroupOf (o : Options) (ts : Tokens) (group : Group) : Type 0 where
   pub in_table : group_seen group ≡ group_of_tokens o ts
   pub tells : (path : List ℕ) → Tells (group_seen group) o ts path
   pub automaton : (path : List ℕ) → runs_automaton (group_seen group) path ≡ true → needs_automaton o ts path ≡ true
-  pub below : (folder : List ℕ) → AllBytes folder → HasBytes (group_seen group) → TellsBelow (group_seen group) o ts folder
+  pub indirect : has_automaton (group_seen group) ≡ true → is_direct o ts ≡ false
+  pub bytes : HasBytes (group_seen group)
+  pub below : (folder : List ℕ) → AllBytes folder → TellsBelow (group_seen group) o ts folder

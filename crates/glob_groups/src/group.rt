@@ -6,11 +6,13 @@ ghost use Rattle.glob_syntax.specs.Views.{flats, tokens_of};
 ghost use Rattle.glob_groups.specs.Groups.{after_prefix, automaton_group, before_ending, sensitive_group};
 ghost use Rattle.glob_groups.specs.GroupMeaning.{IsGroupOf, group_seen};
 
+mod bytes;
 mod conditions;
 mod direct;
 mod key;
 
 use crate::silence::{is_recursive_prefix, is_silent};
+use bytes::key_is_bytes;
 use conditions::{
     is_any_extension, is_beginning, is_below_folder, is_by_last_component, is_end,
     is_last_component, is_last_components, is_whole_path,
@@ -60,7 +62,9 @@ pub fn group_of(alloc: Global, options: Options, tokens: &[Token]) -> Result<Gro
     if options.case_insensitive {
         return Ok(automaton_group(options, tokens));
     }
-    sensitive_group(alloc, options, tokens)
+    let group = sensitive_group(alloc, options, tokens)?;
+    key_is_bytes(&group);
+    Ok(group)
 }
 
 /// Returns the tokens that the last component of a path has to match for a glob of the group [`Group::ByLastComponent`]: all

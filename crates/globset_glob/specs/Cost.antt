@@ -10,3 +10,7 @@ cost g = states_per_byte g.options * length g.text + 4
 -- The most visits for a path. It has one position more than it has bytes.
 abbrev pub most_visits : GlobValue → List ℕ → ℕ
 most_visits g path = (length path + 1) * cost g
+
+-- The most visits for a folder. Two positions more than it has bytes are read: its `/`, and what may follow.
+abbrev pub most_visits_below : GlobValue → List ℕ → ℕ
+most_visits_below g folder = (length folder + 2) * cost g

@@ -1,4 +1,5 @@
 pub mod Cost
+pub mod GlobBelow
 pub mod inner
 pub use Rattle.glob_text.specs.Means
 pub use Rattle.glob_text.specs.SmallRegex
@@ -19,6 +20,7 @@ pub use Rattle.glob_syntax.specs.ClassBytes
 pub use Rattle.glob_syntax.specs.StatesPerByte
 pub use Rattle.glob_syntax.specs.Views
 pub use Rattle.glob_path.specs.PathParts
+pub use Rattle.byte_automaton.specs.Texts
 pub use Rattle.glob_automaton.specs.Blank
 pub use Rattle.glob_automaton.specs.Characters
 pub use Rattle.glob_automaton.specs.Takes

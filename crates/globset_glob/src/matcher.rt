@@ -1,8 +1,9 @@
 //! Matchers of one glob.
 
-ghost use Rattle.std.specs.Prelude.{◌≡◌, ◌+◌, ◌≤◌, IfOk, IfErr};
+ghost use Rattle.std.specs.Prelude.{◌≡◌, ◌+◌, ◌≤◌, ◌↔◌, IfOk, IfErr, IsTrue};
 ghost use Rattle.glob_text.specs.Errors.{out_of_memory};
-ghost use Rattle.globset_glob.specs.Cost.{cost, most_visits};
+ghost use Rattle.globset_glob.specs.Cost.{cost, most_visits, most_visits_below};
+ghost use Rattle.globset_glob.specs.GlobBelow.{GlobMeansBelow};
 
 mod form;
 mod scratch;
@@ -139,6 +140,58 @@ impl GlobMatcher {
         ensures visits { visits.new ≤ visits.old + most_visits self.now path.now }
     {
         self.form.is_match_with(path, scratch, visits)
+    }
+
+    /// Returns whether the glob matches some path below a folder, or an error if memory runs out.
+    ///
+    /// A path below a folder is the folder, a `/`, and any bytes, perhaps none. So a program that walks over a tree of folders need
+    /// not open one for which this returns false. The folder is taken as it is: below `a/` are the paths that begin with `a//`, and
+    /// below the empty folder those that begin with `/`.
+    ///
+    /// For a folder that is not UTF-8, or that several matchers are asked about, make a [`Candidate`].
+    ///
+    /// ```rust
+    /// use globset::Glob;
+    ///
+    /// let matcher = Glob::new(alloc, "docs/*.md")?.compile_matcher()?;
+    /// assert!(rt; matcher.can_match_below("docs")?);
+    /// assert!(rt; matcher.can_match_below("docs/a")?);
+    /// assert!(rt; !matcher.can_match_below("src")?);
+    /// ```
+    pub fn can_match_below<P: AsPath>(&self, folder: P) -> Result<bool, Error>
+        ensures ok { IfOk result (λ yes. IsTrue yes ↔ GlobMeansBelow self.now (P.text folder)) }
+        ensures err { IfErr result (λ e. e ≡ out_of_memory) }
+    {
+        self.can_match_below_candidate(&Candidate::new(folder.path_text()))
+    }
+
+    /// Returns whether the glob matches some path below a candidate's path, as [`can_match_below`](GlobMatcher::can_match_below)
+    /// does, or an error if memory runs out.
+    pub fn can_match_below_candidate(&self, folder: &Candidate<'_>) -> Result<bool, Error>
+        ensures ok { IfOk result (λ yes. IsTrue yes ↔ GlobMeansBelow self.now folder.now) }
+        ensures err { IfErr result (λ e. e ≡ out_of_memory) }
+    {
+        let mut visits = Visits::new();
+        self.can_match_below_visits(folder, &mut visits)
+    }
+
+    /// Does what [`can_match_below_candidate`](GlobMatcher::can_match_below_candidate) does, and adds its visits to `visits`.
+    ///
+    /// These are at most `(folder bytes + 2) * (4 * glob bytes + 4)` visits, with `16 * glob bytes + 4` in place of the second
+    /// factor under `whole_character`, also if memory runs out. The call allocates nothing if the matcher compares literals or has
+    /// a deterministic automaton, and otherwise two sets of states, of one bit for each state of the automaton.
+    pub fn can_match_below_visits(
+        &self,
+        folder: &Candidate<'_>,
+        visits: &mut Visits,
+    ) -> Result<bool, Error>
+        ensures ok { IfOk result (λ yes. IsTrue yes ↔ GlobMeansBelow self.now folder.now) }
+        ensures err { IfErr result (λ e. e ≡ out_of_memory) }
+        ensures visits { visits.new ≤ visits.old + most_visits_below self.now folder.now }
+    {
+        Ok(self
+            .form
+            .can_match_below(self.glob.allocator(), folder, visits)?)
     }
 
     /// Returns a matcher for an equal glob, or an error if memory runs out. It copies the automaton.

@@ -1,4 +1,5 @@
 pub mod Automata
+pub mod Below
 pub mod Groups
 pub mod Indexes
 pub mod Matching

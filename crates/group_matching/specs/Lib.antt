@@ -1,4 +1,5 @@
 pub mod Indexes
 pub mod Visits
 pub mod Globs
+pub mod Below
 pub mod inner

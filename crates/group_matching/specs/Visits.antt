@@ -7,3 +7,8 @@ use Rattle.std.specs.Prelude.{ℕ, ◌+◌, ◌*◌}
 -- globs make no more visits, however many they are.
 abbrev pub visits_for : ℕ → ℕ → ℕ
 visits_for n load = 4 + 2 * (n + 1) + (n + 1) * load
+
+-- The most visits for a folder of n bytes: a lookup in a list of keys, n + 1 nodes of a trie, and at each of n + 2 positions,
+-- those of the folder and its `/`, the states of the globs that are not direct.
+abbrev pub visits_below_for : ℕ → ℕ → ℕ
+visits_below_for n load = 4 + 2 * (n + 2) + (n + 2) * load

@@ -10,11 +10,13 @@ ghost use Rattle.glob_syntax.specs.FlatTokens.{IsNested};
 ghost use Rattle.glob_syntax.specs.Views.{flats, tokens_of};
 ghost use Rattle.glob_syntax.specs.inner.Weight.{weight};
 ghost use Rattle.group_matching.specs.inner.Room.{HasRoom, KeepsRoom};
-ghost use Rattle.group_matching.specs.inner.Automata.{AddsTokens, AreFor, AreForLists, AreFound, AreIdle, IsFoundSet, TokenLists, before_extension, machine_under, most_size, most_states, reads_for, states_for, tokens_under};
+ghost use Rattle.group_matching.specs.inner.Automata.{AddsTokens, AreFor, AreForLists, AreFound, AreIdle, IsFoundSet, TokenLists, before_extension, machine_under, most_size, most_states, reads_for, states_for, tokens_under, total_reads};
 
+mod below;
 mod slots;
 
 use crate::matching_sets::MatchingSets;
+use below::has_text;
 use byte_automaton::{Builder, StateSets};
 use glob_automaton::{add_tokens, new_builder};
 use glob_matching::{Budget, Compiled};
@@ -33,6 +35,8 @@ pub struct Automata {
     extensions: Slots,
     /// The number of states of the largest of them.
     most_states: usize,
+    /// Whether some text matches tokens of `by_component`.
+    has_component: bool,
 }
 
 impl Drop for Automata {
@@ -43,6 +47,7 @@ impl Drop for Automata {
             by_component: _,
             extensions: _,
             most_states: _,
+            has_component: _,
         } = self;
     }
 }
@@ -58,7 +63,7 @@ impl Model for Automata {
       extensions = a.extensions;
     } };
 
-    ghost invariant = { λ a. AreMeasured a.by_path a.by_component a.extensions a.most_states };
+    ghost invariant = { λ a. AreMeasured a.by_path a.by_component a.extensions a.most_states a.has_component };
 }
 
 impl Clone for Automata {
@@ -73,6 +78,7 @@ impl Clone for Automata {
             by_component: self.by_component.clone()?,
             extensions: self.extensions.clone()?,
             most_states: self.most_states,
+            has_component: self.has_component,
         })
     }
 }
@@ -390,8 +396,9 @@ impl AutomataBuilder {
     ) -> Result<(), AllocError>
         requires nested { IsNested (flats tokens.now) }
         requires index { index < self.old.extensions.index_count }
-        ensures tokens { OnOk result ((before : ℕ → List IndexedTokens) → AreFor self.old.extensions.machines before → AddsTokens self.old.extensions.slots before self.new.extensions key.items (indexed options (tokens_of tokens.now) index)) }
+        ensures tokens { OnOk result ((before : ℕ → List IndexedTokens) → AreFor self.old.extensions.machines before → AddsTokens self.old.extensions before self.new.extensions key.items (indexed options (tokens_of tokens.now) index)) }
         ensures reads { OnOk result ((extension : List ℕ) → most_reads (machine_under self.new.extensions extension) ≤ most_reads (machine_under self.old.extensions extension) + cond (bytes_eq key.items extension) (weight options (tokens_of tokens.now) + 4) 0) }
+        ensures total { OnOk result (total_reads self.new.extensions.machines ≤ total_reads self.old.extensions.machines + (weight options (tokens_of tokens.now) + 4)) }
         ensures count { self.new.extensions.index_count ≡ self.old.extensions.index_count }
         ensures path { self.new.by_path ≡ self.old.by_path }
         ensures component { self.new.by_component ≡ self.old.by_component }
@@ -412,7 +419,9 @@ impl AutomataBuilder {
         } = self;
         let mut budget = Budget::new(dfa_size_limit);
         let by_path = Compiled::new(alloc, &mut budget, by_path.finish())?;
-        let by_component = Compiled::new(alloc, &mut budget, by_component.finish())?;
+        let by_component = by_component.finish();
+        let has_component = has_text(alloc, &by_component)?;
+        let by_component = Compiled::new(alloc, &mut budget, by_component)?;
         let extensions = extensions.finish(alloc, &mut budget)?;
         let most_states = by_path
             .state_count()
@@ -423,6 +432,7 @@ impl AutomataBuilder {
             by_component,
             extensions,
             most_states,
+            has_component,
         })
     }
 }

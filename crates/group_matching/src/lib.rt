@@ -6,6 +6,7 @@
 #![tactic(auto)]
 
 mod automata;
+mod below;
 mod groups;
 mod marks;
 mod matching;

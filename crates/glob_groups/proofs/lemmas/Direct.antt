@@ -10,7 +10,7 @@ use Rattle.glob_groups.specs.Groups.{is_any_extension}
 use Rattle.glob_groups.specs.Direct.{is_direct, has_ending, needs_automaton}
 
 -- a case-insensitive glob is not direct
-insensitive_not_direct : (o : Options) (ts : Tokens) → o.case_insensitive ≡ true → is_direct o ts ≡ false
+pub insensitive_not_direct : (o : Options) (ts : Tokens) → o.case_insensitive ≡ true → is_direct o ts ≡ false
 unfolding is_direct
 insensitive_not_direct o ts on = rw on refl
 

@@ -9,12 +9,13 @@ use Rattle.glob_path.specs.PathParts.{last_component, component_extension}
 use Rattle.glob_groups.specs.Silent.{are_silent, are_listed}
 use Rattle.glob_groups.specs.TokenTests.{literal_text, ending, is_whole_path, is_last_components, is_end, is_beginning, is_below_folder}
 use Rattle.glob_groups.specs.Groups.{GroupValue, Silent, ByLastComponent, ByPath, is_last_component, is_any_extension, is_by_last_component, automaton_group, ending_group, sensitive_group, group_of_tokens}
-use Rattle.glob_groups.specs.GroupMeaning.{group_seen, Tells, runs_automaton, IsGroupOf}
+use Rattle.glob_groups.specs.Below.{HasBytes}
+use Rattle.glob_groups.specs.GroupMeaning.{group_seen, Tells, runs_automaton, has_automaton, IsGroupOf}
 use Rattle.glob_groups.specs.Direct.{is_direct, has_ending, needs_automaton}
 use Rattle.glob_groups.specs.declared.group.Group.{Group}
 use Rattle.glob_groups.proofs.lemmas.BeforeEnding.{before_ending_means}
 use Rattle.glob_groups.proofs.lemmas.Below.{IsShaped, tells_below}
-use Rattle.glob_groups.proofs.lemmas.Direct.{other_not_direct, ending_needs, insensitive_needs}
+use Rattle.glob_groups.proofs.lemmas.Direct.{insensitive_not_direct, other_not_direct, ending_needs, insensitive_needs}
 use Rattle.glob_groups.proofs.lemmas.EndMeaning.{last_components_means, end_means, beginning_means, below_folder_means}
 use Rattle.glob_groups.proofs.lemmas.TokenMeaning.{whole_path_means, last_component_means, any_extension_means, ending_required, by_last_component_means, last_component_lacks, by_last_component_lacks, any_extension_is}
 
@@ -127,6 +128,35 @@ runs_of o ts path =
     of_choice (RunsNeeded o ts path) (are_silent o ts) _ _ (λ h. never_runs o ts path) (λ h.
     of_choice (RunsNeeded o ts path) o.case_insensitive _ _ (λ on runs. insensitive_needs o ts path on) (λ off. sensitive_runs o ts path))
 
+-- ---- whether it has one
+
+-- where this group has one, the glob is not direct
+abbrev IsIndirect : Options → Tokens → GroupValue → Type 0
+IsIndirect o ts group = has_automaton group ≡ true → is_direct o ts ≡ false
+
+sensitive_indirect : (o : Options) (ts : Tokens) → IsIndirect o ts (sensitive_group o ts)
+sensitive_indirect o ts =
+    of_choice C (is_whole_path ts) _ _ (λ h. never) (λ a.
+    of_choice C (is_last_component ts) _ _ (λ h. never) (λ b.
+    of_choice C (is_last_components ts) _ _ (λ h. never) (λ c.
+    of_choice C (is_any_extension o ts) _ _ (λ h. never) (λ d.
+    of_choice C (is_end o ts) _ _ (λ h. never) (λ e.
+    of_choice C (is_beginning o ts) _ _ (λ h. never) (λ f.
+    of_choice C (is_below_folder ts) _ _ (λ h. never) (λ g has.
+    other_not_direct o ts a c d e f g)))))))
+  where
+    C : GroupValue → Type 0
+    C = IsIndirect o ts
+
+    never : false ≡ true → is_direct o ts ≡ false
+    never h = absurd (true≢false (sym h))
+
+indirect_of : (o : Options) (ts : Tokens) → IsIndirect o ts (group_of_tokens o ts)
+unfolding group_of_tokens
+indirect_of o ts =
+    of_choice (IsIndirect o ts) (are_silent o ts) _ _ (λ h has. absurd (true≢false (sym has))) (λ h.
+    of_choice (IsIndirect o ts) o.case_insensitive _ _ (λ on has. insensitive_not_direct o ts on) (λ off. sensitive_indirect o ts))
+
 -- ---- the shape of its tokens
 
 automaton_shaped : (o : Options) (ts : Tokens) → IsShaped o ts (automaton_group o ts)
@@ -154,10 +184,15 @@ shaped : (o : Options) (ts : Tokens) → IsShaped o ts (group_of_tokens o ts)
 unfolding group_of_tokens
 shaped o ts = of_choice (IsShaped o ts) (are_silent o ts) _ _ (λ h. tt) (λ h. of_choice (IsShaped o ts) o.case_insensitive _ _ (λ on. automaton_shaped o ts) (λ off. sensitive_shaped o ts))
 
-pub is_group : (o : Options) (ts : Tokens) (group : Group) → group_seen group ≡ group_of_tokens o ts → IsGroupOf o ts group
-is_group o ts group e = record {
+pub automaton_bytes : (o : Options) (ts : Tokens) (group : GroupValue) → group ≡ automaton_group o ts → HasBytes group
+automaton_bytes o ts group e = subst HasBytes (sym e) (of_choice HasBytes (is_by_last_component o ts) _ _ (λ h. tt) (λ h. tt))
+
+pub is_group : (o : Options) (ts : Tokens) (group : Group) → HasBytes (group_seen group) → group_seen group ≡ group_of_tokens o ts → IsGroupOf o ts group
+is_group o ts group has e = record {
   in_table = e;
   tells = λ path. subst (λ s. Tells s o ts path) (sym e) (tells_of o ts path);
   automaton = λ path. subst (RunsNeeded o ts path) (sym e) (runs_of o ts path);
-  below = λ folder bytes has. tells_below o ts folder bytes (group_seen group) has (subst (IsShaped o ts) (sym e) (shaped o ts)) (λ path. subst (λ s. Tells s o ts path) (sym e) (tells_of o ts path));
+  indirect = subst (IsIndirect o ts) (sym e) (indirect_of o ts);
+  bytes = has;
+  below = λ folder bytes. tells_below o ts folder bytes (group_seen group) has (subst (IsShaped o ts) (sym e) (shaped o ts)) (λ path. subst (λ s. Tells s o ts path) (sym e) (tells_of o ts path));
 }

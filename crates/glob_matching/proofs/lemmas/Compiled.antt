@@ -33,12 +33,12 @@ bytes_then : (y z : List ℕ) → AllBytes y → AllBytes z → AllBytes (y ++ z
 bytes_then [] z h g = g
 bytes_then (c ∷ y) z h g = (h.0, bytes_then y z h.1 g)
 
-some_after : (xs : List IndexedTokens) (y rest : List ℕ) (k : ℕ) → AllBytes rest → SomeMatches xs (y ++ rest) k → SomeMeanAfter xs y
+pub some_after : (xs : List IndexedTokens) (y rest : List ℕ) (k : ℕ) → AllBytes rest → SomeMatches xs (y ++ rest) k → SomeMeanAfter xs y
 some_after [] y rest k bytes h = absurd h
 some_after (x ∷ xs) y rest k bytes (inl (is, h)) = inl (rest, bytes, h)
 some_after (x ∷ xs) y rest k bytes (inr h) = inr (some_after xs y rest k bytes h)
 
-after_some : (xs : List IndexedTokens) (y : List ℕ) → SomeMeanAfter xs y → (k : ℕ) × (rest : List ℕ) × AllBytes rest × SomeMatches xs (y ++ rest) k
+pub after_some : (xs : List IndexedTokens) (y : List ℕ) → SomeMeanAfter xs y → (k : ℕ) × (rest : List ℕ) × AllBytes rest × SomeMatches xs (y ++ rest) k
 after_some [] y h = absurd h
 after_some (x ∷ xs) y (inl (rest, bytes, h)) = (x.index, rest, bytes, inl (refl, h))
 after_some (x ∷ xs) y (inr h) = let (k, rest, bytes, g) = after_some xs y h in (k, rest, bytes, inr g)

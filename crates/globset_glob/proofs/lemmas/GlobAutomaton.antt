@@ -4,6 +4,7 @@ use Rattle.std.specs.Prelude.{◌↔◌}
 use Rattle.std.specs.Str.{chars}
 use Rattle.std.proofs.Math.Logic.{⊎_elim}
 use Rattle.std.proofs.Math.Nat.{mul-le-mul_left}
+use Rattle.std.proofs.lemmas.List.{append_assoc}
 use Rattle.glob_syntax.specs.declared.options.Options.{Options}
 use Rattle.glob_syntax.specs.Token.{Tokens}
 use Rattle.glob_syntax.specs.Reading.{reading}
@@ -11,11 +12,14 @@ use Rattle.glob_syntax.specs.StatesPerByte.{states_per_byte}
 use Rattle.glob_syntax.specs.inner.Weight.{weight}
 use Rattle.byte_automaton.specs.Steps.{Machine}
 use Rattle.byte_automaton.specs.Runs.{most_reads}
+use Rattle.glob_automaton.specs.After.{MeanAfter, SomeMeanAfter}
 use Rattle.glob_automaton.specs.TokenMeans.{means}
 use Rattle.glob_automaton.specs.IndexedTokens.{IndexedTokens, indexed, SomeMatches, IsFor}
 use Rattle.glob_automaton.proofs.lemmas.Booleans.{same_truth}
+use Rattle.glob_path.specs.Below.{folder_start}
 use Rattle.glob_text.specs.Means.{GlobValue, tokens_of_glob, glob_means}
-use Rattle.globset_glob.specs.Cost.{cost, most_visits}
+use Rattle.globset_glob.specs.Cost.{cost, most_visits, most_visits_below}
+use Rattle.globset_glob.specs.GlobBelow.{GlobMeansBelow}
 use Rattle.globset_glob.specs.inner.GlobAutomaton.{IsAutomatonOf}
 use Rattle.glob_text.proofs.lemmas.Globs.{tokens_are}
 
@@ -46,6 +50,34 @@ key_matches_glob g path found e = e
 pub one_visit : (g : GlobValue) (path : List ℕ) → 1 ≤ most_visits g path
 one_visit g path =
     let positions = length path + 1 in
+    let some : 1 ≤ cost g = omega arith in
+    let all : positions * 1 ≤ positions * cost g = mul-le-mul_left positions some in
+    omega (arith, all)
+
+-- ---- below a folder
+
+-- whether the glob's tokens match some path that begins with the folder and a `/` is whether the glob matches some path below it
+means_below : (g : GlobValue) (folder : List ℕ) → MeanAfter g.options (tokens_of_glob g) (folder_start folder) ↔ GlobMeansBelow g folder
+unfolding glob_means
+means_below g folder =
+    let matches = λ (path : List ℕ). IsTrue (means g.options (tokens_of_glob g) path) in (
+      λ (rest, bytes, h). (rest, bytes, subst matches (append_assoc folder (47 ∷ []) rest) h),
+      λ (rest, bytes, h). (rest, bytes, subst matches (sym (append_assoc folder (47 ∷ []) rest)) h),
+    )
+
+pub key_matches_below : (g : GlobValue) (folder : List ℕ) (found : Bool) → IsTrue found ↔ MeanAfter g.options (tokens_of_glob g) (folder_start folder) → IsTrue found ↔ GlobMeansBelow g folder
+key_matches_below g folder found h = (λ y. (means_below g folder).0 (h.0 y), λ some. h.1 ((means_below g folder).1 some))
+
+pub one_matches_below : (g : GlobValue) (folder : List ℕ) (found : Bool) → IsTrue found ↔ SomeMeanAfter (indexed g.options (tokens_of_glob g) 0 ∷ []) (folder_start folder)
+    → IsTrue found ↔ GlobMeansBelow g folder
+one_matches_below g folder found h =
+    let this = MeanAfter g.options (tokens_of_glob g) (folder_start folder) in
+    key_matches_below g folder found (λ y. ⊎_elim {C = this} (λ some. some) (λ no. absurd no) (h.0 y), λ some. h.1 (inl some))
+
+-- a glob may have a visit for each folder
+pub one_visit_below : (g : GlobValue) (folder : List ℕ) → 1 ≤ most_visits_below g folder
+one_visit_below g folder =
+    let positions = length folder + 2 in
     let some : 1 ≤ cost g = omega arith in
     let all : positions * 1 ≤ positions * cost g = mul-le-mul_left positions some in
     omega (arith, all)

@@ -1,7 +1,8 @@
 //! By what a matcher decides.
 
-ghost use Rattle.std.specs.Prelude.{◌≡◌, ◌+◌, ◌≤◌, IfOk};
-ghost use Rattle.globset_glob.specs.Cost.{most_visits};
+ghost use Rattle.std.specs.Prelude.{◌≡◌, ◌+◌, ◌≤◌, ◌↔◌, IfOk, IsTrue};
+ghost use Rattle.globset_glob.specs.Cost.{most_visits, most_visits_below};
+ghost use Rattle.globset_glob.specs.GlobBelow.{GlobMeansBelow};
 ghost use Rattle.glob_text.specs.Means.{GlobValue, glob_means};
 ghost use Rattle.globset_glob.specs.inner.GlobAutomaton.{IsAutomatonOf, IsFormOf, form_states};
 
@@ -87,6 +88,27 @@ impl Form {
                 group.key_matches(path)
             }
             Form::Automaton(automaton) => scratch.run(automaton, path.path(), visits),
+        }
+    }
+
+    /// Returns whether the glob matches some path below a folder. Returns an error if memory runs out, and none if a key decides.
+    pub fn can_match_below(
+        &self,
+        alloc: Global,
+        folder: &Candidate<'_>,
+        visits: &mut Visits,
+    ) -> Result<bool, AllocError>
+        ensures some { IfOk result (λ yes. (g : GlobValue) → IsFormOf g self.now → IsTrue yes ↔ GlobMeansBelow g folder.now) }
+        ensures visits { (g : GlobValue) → IsFormOf g self.now → visits.new ≤ visits.old + most_visits_below g folder.now }
+    {
+        match self {
+            Form::Key(group) => {
+                visits.tick();
+                Ok(group.key_can_match_below(folder.path()))
+            }
+            Form::Automaton(automaton) => {
+                automaton.can_match_after(folder.path(), b'/', &mut StateSets::new(alloc), visits)
+            }
         }
     }
 

@@ -11,19 +11,27 @@ use Rattle.glob_syntax.specs.declared.options.Options.{Options}
 use Rattle.glob_syntax.specs.Token.{Tokens, end, and_then}
 use Rattle.glob_syntax.specs.inner.Weight.{weight}
 use Rattle.byte_automaton.specs.Runs.{most_reads}
+use Rattle.byte_automaton.specs.Texts.{AllBytes}
+use Rattle.glob_automaton.specs.After.{MeanAfter}
 use Rattle.glob_automaton.specs.TokenMeans.{means, is_prefix}
 use Rattle.glob_automaton.specs.IndexedTokens.{IndexedTokens, SomeMatches, IsFor, indexed}
 use Rattle.glob_automaton.proofs.lemmas.IndexedTokens.{some_push}
+use Rattle.glob_path.specs.Below.{folder_start, path_below}
 use Rattle.glob_path.specs.PathParts.{last_component, component_extension}
-use Rattle.glob_groups.specs.Direct.{needs_automaton}
+use Rattle.glob_groups.specs.Below.{AreListedBelow}
+use Rattle.glob_groups.specs.Direct.{is_direct, needs_automaton}
 use Rattle.glob_groups.specs.Groups.{after_prefix, before_ending}
 use Rattle.glob_groups.proofs.lemmas.BeforeEnding.{weight_before}
+use Rattle.group_matching.specs.Below.{SomeListedBelow, load_below, reads_below}
 use Rattle.group_matching.specs.Globs.{TokenGlob, is_listed, is_listed_at, reads, load}
 use Rattle.byte_table.specs.Entries.{indexes_under}
+use Rattle.path_keys.specs.Below.{MatchesBelow}
 use Rattle.path_keys.specs.Keys.{KeyParts, MoreIn, keys_found}
-use Rattle.group_matching.specs.inner.Automata.{AutomataParts, SlotParts, TokenLists, AreForLists, AreFor, AreFound, AddsTokens, before_extension, first, machine_under, reads_for, tokens_under}
+use Rattle.group_matching.specs.inner.Automata.{AutomataParts, SlotParts, TokenLists, AreForLists, AreFor, AreFound, AreFoundBelow, AddsTokens, before_extension, first, folder_reads, machine_under, reads_for, tokens_under, total_reads}
 use Rattle.group_matching.specs.inner.Groups.{GroupParts, AreGroupsOf, listed_count}
 use Rattle.group_matching.proofs.lemmas.Automata.{extension_cut}
+use Rattle.group_matching.proofs.lemmas.Matching.{some_listed}
+use Rattle.group_matching.proofs.lemmas.Slots.{after_push}
 
 -- ---- one glob more
 
@@ -58,10 +66,55 @@ count_push globs g path = sum_by-append (λ x. cond (is_listed x path) 1 0) glob
 load_push : (globs : List TokenGlob) (g : TokenGlob) (path : List ℕ) → load (globs ++ g ∷ []) path ≡ load globs path + reads g path
 load_push globs g path = sum_by-append (λ x. reads x path) globs (g ∷ []) ∙ omega arith
 
+-- ---- one glob more, below a folder
+
+pub listed_below_push : (globs : List TokenGlob) (g : TokenGlob) (folder : List ℕ)
+    → SomeListedBelow (globs ++ g ∷ []) folder ↔ (SomeListedBelow globs folder ⊎ AreListedBelow g.options g.tokens folder)
+listed_below_push globs g folder = (
+  λ (rest, bytes, some).
+      let path = path_below folder rest in
+      let (k, at) = (some_listed (globs ++ g ∷ []) path).0 some in
+      ⊎_elim {C = SomeListedBelow globs folder ⊎ AreListedBelow g.options g.tokens folder}
+      (λ old. inl (rest, bytes, (some_listed globs path).1 (k, old))) (λ new. inr (rest, bytes, new.1)) ((listed_push globs g path k).0 at),
+  λ h. ⊎_elim {C = SomeListedBelow (globs ++ g ∷ []) folder}
+      (λ (rest, bytes, some).
+      let path = path_below folder rest in
+      let (k, at) = (some_listed globs path).0 some in (rest, bytes, (some_listed (globs ++ g ∷ []) path).1 (k, (listed_push globs g path k).1 (inl at))))
+      (λ (rest, bytes, this).
+      let path = path_below folder rest in
+      let k : ℕ = length globs in (rest, bytes, (some_listed (globs ++ g ∷ []) path).1 (k, (listed_push globs g path k).1 (inr (refl, this))))) h,
+)
+
+new_below : {F G : Type 0} (globs : List TokenGlob) (g : TokenGlob) (folder : List ℕ) → F ↔ (G ⊎ AreListedBelow g.options g.tokens folder) → G ↔ SomeListedBelow globs folder
+    → F ↔ SomeListedBelow (globs ++ g ∷ []) folder
+new_below {F} {G} globs g folder more before =
+    let push = listed_below_push globs g folder in (
+      λ f. push.1 (⊎_elim {C = SomeListedBelow globs folder ⊎ AreListedBelow g.options g.tokens folder} (λ old. inl (before.0 old)) (λ new. inr new) (more.0 f)),
+      λ h. more.1 (⊎_elim {C = G ⊎ AreListedBelow g.options g.tokens folder} (λ old. inl (before.1 old)) (λ new. inr new) (push.0 h)),
+    )
+
+load_below_push : (globs : List TokenGlob) (g : TokenGlob) → load_below (globs ++ g ∷ []) ≡ load_below globs + reads_below g
+load_below_push globs g = sum_by-append (λ x. reads_below x) globs (g ∷ []) ∙ omega arith
+
+-- what the group says of a folder, for what is found there beside what was
+pub as_listed : {A B X L : Type 0} → A ↔ (B ⊎ X) → L ↔ X → A ↔ (B ⊎ L)
+as_listed {A} {B} {X} {L} more tells = (
+  λ a. ⊎_elim {C = B ⊎ L} (λ b. inl b) (λ x. inr (tells.1 x)) (more.0 a),
+  λ h. more.1 (⊎_elim {C = B ⊎ X} (λ b. inl b) (λ l. inr (tells.0 l)) h),
+)
+
+-- the same for a group whose globs are listed below every folder
+pub as_always : {A B L : Type 0} → A ↔ (B ⊎ Unit {0}) → L → A ↔ (B ⊎ L)
+as_always more always = as_listed more (λ l. tt, λ t. always)
+
 -- what follows from both, if a call succeeds
 pub both_on_ok : {T E P Q R : Type 0} (r : Result T E) → (P → Q → R) → OnOk r P → OnOk r Q → OnOk r R
 both_on_ok (Ok x) both p q = both p q
 both_on_ok (Err e) both p q = p
+
+pub three_on_ok : {T E P Q S R : Type 0} (r : Result T E) → (P → Q → S → R) → OnOk r P → OnOk r Q → OnOk r S → OnOk r R
+three_on_ok (Ok x) all p q s = all p q s
+three_on_ok (Err e) all p q s = p
 
 -- ---- one alternative more
 
@@ -80,8 +133,9 @@ right_more {A} {B} {D} {X} more = (
 -- ---- a key more
 
 pub keys_added : (globs : List TokenGlob) (g : TokenGlob) (n : ℕ) (old new : GroupParts) → n ≡ length globs → new.automata ≡ old.automata
-    → ((path : List ℕ) → MoreIn (keys_found old.keys path) (keys_found new.keys path) n (is_listed g path)) → AreGroupsOf globs old → AreGroupsOf (globs ++ g ∷ []) new
-keys_added globs g n old new at automata more before = record {
+    → ((path : List ℕ) → MoreIn (keys_found old.keys path) (keys_found new.keys path) n (is_listed g path))
+    → ((folder : List ℕ) → AllBytes folder → MatchesBelow new.keys folder ↔ (MatchesBelow old.keys folder ⊎ AreListedBelow g.options g.tokens folder)) → AreGroupsOf globs old → AreGroupsOf (globs ++ g ∷ []) new
+keys_added globs g n old new at automata more below before = record {
   tokens = before.tokens;
   are_for = subst (λ a. AreForLists a before.tokens) (sym automata) before.are_for;
   same = λ path k. new_listed globs g n path k at
@@ -90,14 +144,20 @@ keys_added globs g n old new at automata more before = record {
       (before.same path k);
   once = λ path. omega (arith, (more path).count, before.once path, count_push globs g path);
   reads = λ path. let same = ap (λ a. reads_for a path) automata in omega (arith, same, before.reads path, load_push globs g path);
+  below = λ folder bytes. new_below globs g folder
+      (subst (λ (a : AutomataParts). (MatchesBelow new.keys folder ⊎ AreFoundBelow a.extensions before.tokens folder)
+      ↔ ((MatchesBelow old.keys folder ⊎ AreFoundBelow old.automata.extensions before.tokens folder) ⊎ AreListedBelow g.options g.tokens folder)) (sym automata) (left_more (below folder bytes)))
+      (before.below folder bytes);
+  few_below = let same = ap (λ a. folder_reads a) automata in omega (arith, same, before.few_below, load_below_push globs g);
 }
 
 abbrev pub group_parts : KeyParts → AutomataParts → GroupParts
 group_parts keys automata = record { keys = keys; automata = automata }
 
 pub key_added : (globs : List TokenGlob) (g : TokenGlob) (n : ℕ) (old new : KeyParts) (a : AutomataParts) → n ≡ length globs
-    → ((path : List ℕ) → MoreIn (keys_found old path) (keys_found new path) n (is_listed g path)) → AreGroupsOf globs (group_parts old a) → AreGroupsOf (globs ++ g ∷ []) (group_parts new a)
-key_added globs g n old new a at more before = keys_added globs g n (group_parts old a) (group_parts new a) at refl more before
+    → ((path : List ℕ) → MoreIn (keys_found old path) (keys_found new path) n (is_listed g path))
+    → ((folder : List ℕ) → AllBytes folder → MatchesBelow new folder ↔ (MatchesBelow old folder ⊎ AreListedBelow g.options g.tokens folder)) → AreGroupsOf globs (group_parts old a) → AreGroupsOf (globs ++ g ∷ []) (group_parts new a)
+key_added globs g n old new a at more below before = keys_added globs g n (group_parts old a) (group_parts new a) at refl more below before
 
 none_more : (xs : List ℕ) (n : ℕ) (m : Bool) → m ≡ false → MoreIn xs xs n m
 none_more xs n m off = record {
@@ -106,15 +166,19 @@ none_more xs n m off = record {
 }
 
 pub silent_added : (globs : List TokenGlob) (g : TokenGlob) (n : ℕ) (old : GroupParts) → n ≡ length globs → ((path : List ℕ) → is_listed g path ≡ false)
-    → AreGroupsOf globs old → AreGroupsOf (globs ++ g ∷ []) old
-silent_added globs g n old at tells before = keys_added globs g n old old at refl (λ path. none_more (keys_found old.keys path) n (is_listed g path) (tells path)) before
+    → ((folder : List ℕ) → AllBytes folder → AreListedBelow g.options g.tokens folder → ⊥) → AreGroupsOf globs old → AreGroupsOf (globs ++ g ∷ []) old
+silent_added globs g n old at tells none before =
+    keys_added globs g n old old at refl (λ path. none_more (keys_found old.keys path) n (is_listed g path) (tells path))
+    (λ folder bytes. (λ h. inl h, λ h. ⊎_elim {C = MatchesBelow old.keys folder} (λ was. was) (λ new. absurd (none folder bytes new)) h)) before
 
 -- ---- tokens more
 
 pub tokens_added : (globs : List TokenGlob) (g : TokenGlob) (n : ℕ) (old new : GroupParts) (before : AreGroupsOf globs old) (tokens : TokenLists) → n ≡ length globs → new.keys ≡ old.keys → AreForLists new.automata tokens
     → ((path : List ℕ) (k : ℕ) → AreFound new.automata.extensions.slots tokens path k ↔ (AreFound old.automata.extensions.slots before.tokens path k ⊎ IsNew n g path k))
-    → ((path : List ℕ) → reads_for new.automata path ≤ reads_for old.automata path + reads g path) → AreGroupsOf (globs ++ g ∷ []) new
-tokens_added globs g n old new before tokens at keys are more size = record {
+    → ((path : List ℕ) → reads_for new.automata path ≤ reads_for old.automata path + reads g path)
+    → ((folder : List ℕ) → AllBytes folder → AreFoundBelow new.automata.extensions tokens folder ↔ (AreFoundBelow old.automata.extensions before.tokens folder ⊎ AreListedBelow g.options g.tokens folder))
+    → folder_reads new.automata ≤ folder_reads old.automata + reads_below g → AreGroupsOf (globs ++ g ∷ []) new
+tokens_added globs g n old new before tokens at keys are more size below few = record {
   tokens = tokens;
   are_for = are;
   same = λ path k. new_listed globs g n path k at
@@ -123,6 +187,11 @@ tokens_added globs g n old new before tokens at keys are more size = record {
       (before.same path k);
   once = λ path. let same = ap (λ t. length (keys_found t path)) keys in omega (arith, same, before.once path, count_push globs g path);
   reads = λ path. omega (arith, size path, before.reads path, load_push globs g path);
+  below = λ folder bytes. new_below globs g folder
+      (subst (λ (t : KeyParts). (MatchesBelow t folder ⊎ AreFoundBelow new.automata.extensions tokens folder)
+      ↔ ((MatchesBelow old.keys folder ⊎ AreFoundBelow old.automata.extensions before.tokens folder) ⊎ AreListedBelow g.options g.tokens folder)) (sym keys) (right_more (below folder bytes)))
+      (before.below folder bytes);
+  few_below = omega (arith, few, before.few_below, load_below_push globs g);
 }
 
 true_as : (a b : Bool) → a ≡ b → IsTrue b ↔ IsTrue a
@@ -140,6 +209,9 @@ some_added x xs g n text path k at tells =
 needed : (g : TokenGlob) (path : List ℕ) → needs_automaton g.options g.tokens path ≡ true → reads g path ≡ weight g.options g.tokens + 4
 needed g path on = ap (λ b. cond b (weight g.options g.tokens + 4) 0) on
 
+needed_below : (g : TokenGlob) → is_direct g.options g.tokens ≡ false → reads_below g ≡ weight g.options g.tokens + 4
+needed_below g off = ap (λ b. cond b 0 (weight g.options g.tokens + 4)) off
+
 pub weight_after : (o : Options) (ts : Tokens) → weight o (after_prefix ts) ≤ weight o ts
 weight_after o end = omega arith
 weight_after o (and_then t ts) = choice (is_prefix t)
@@ -151,8 +223,9 @@ weight_after o (and_then t ts) = choice (is_prefix t)
 pub by_path_added : (globs : List TokenGlob) (g : TokenGlob) (n : ℕ) (old new : GroupParts) → n ≡ length globs → new.keys ≡ old.keys
     → ((path : List ℕ) → is_listed g path ≡ means g.options g.tokens path) → ((path : List ℕ) → needs_automaton g.options g.tokens path ≡ true)
     → ((xs : List IndexedTokens) → IsFor old.automata.by_path xs → IsFor new.automata.by_path (xs ++ indexed g.options g.tokens n ∷ [])) → most_reads new.automata.by_path ≤ most_reads old.automata.by_path + (weight g.options g.tokens + 4)
-    → new.automata.by_component ≡ old.automata.by_component → new.automata.extensions ≡ old.automata.extensions → AreGroupsOf globs old → AreGroupsOf (globs ++ g ∷ []) new
-by_path_added globs g n old new at keys tells needs adds few component extensions before =
+    → new.automata.by_component ≡ old.automata.by_component → new.automata.extensions ≡ old.automata.extensions → is_direct g.options g.tokens ≡ false
+    → ((folder : List ℕ) → AllBytes folder → AreListedBelow g.options g.tokens folder ↔ MeanAfter g.options g.tokens (folder_start folder)) → AreGroupsOf globs old → AreGroupsOf (globs ++ g ∷ []) new
+by_path_added globs g n old new at keys tells needs adds few component extensions indirect tells_below before =
     tokens_added globs g n old new before tokens at keys
     (record {
       path = adds before.tokens.by_path before.are_for.path;
@@ -162,6 +235,9 @@ by_path_added globs g n old new at keys tells needs adds few component extension
     (λ path k. subst (λ (e : SlotParts). AreFound e.slots tokens path k ↔ (AreFound old.automata.extensions.slots before.tokens path k ⊎ IsNew n g path k)) (sym extensions)
     (left_more (some_added (indexed g.options g.tokens n) before.tokens.by_path g n path path k refl (tells path))))
     (λ path. let one = ap most_reads component in let two = ap (λ (e : SlotParts). most_reads (machine_under e (component_extension path))) extensions in let most = needed g path (needs path) in omega (arith, few, one, two, most))
+    (λ folder bytes. subst (λ (e : SlotParts). AreFoundBelow e tokens folder ↔ (AreFoundBelow old.automata.extensions before.tokens folder ⊎ AreListedBelow g.options g.tokens folder)) (sym extensions)
+    (right_more (left_more (as_listed (after_push before.tokens.by_path (indexed g.options g.tokens n) (folder_start folder)) (tells_below folder bytes)))))
+    (let all = ap (λ (e : SlotParts). total_reads e.machines) extensions in let most = needed_below g indirect in omega (arith, few, all, most))
   where
     tokens : TokenLists
     tokens = record {
@@ -173,8 +249,9 @@ by_path_added globs g n old new at keys tells needs adds few component extension
 pub by_component_added : (globs : List TokenGlob) (g : TokenGlob) (n : ℕ) (ts : Tokens) (old new : GroupParts) → n ≡ length globs → new.keys ≡ old.keys → ts ≡ after_prefix g.tokens
     → ((path : List ℕ) → is_listed g path ≡ means g.options (after_prefix g.tokens) (last_component path)) → ((path : List ℕ) → needs_automaton g.options g.tokens path ≡ true)
     → ((xs : List IndexedTokens) → IsFor old.automata.by_component xs → IsFor new.automata.by_component (xs ++ indexed g.options ts n ∷ [])) → most_reads new.automata.by_component ≤ most_reads old.automata.by_component + (weight g.options ts + 4)
-    → new.automata.by_path ≡ old.automata.by_path → new.automata.extensions ≡ old.automata.extensions → AreGroupsOf globs old → AreGroupsOf (globs ++ g ∷ []) new
-by_component_added globs g n ts old new at keys rest tells needs adds few by_path extensions before =
+    → new.automata.by_path ≡ old.automata.by_path → new.automata.extensions ≡ old.automata.extensions
+    → ((folder : List ℕ) → AllBytes folder → AreListedBelow g.options g.tokens folder ↔ MeanAfter g.options (after_prefix g.tokens) []) → AreGroupsOf globs old → AreGroupsOf (globs ++ g ∷ []) new
+by_component_added globs g n ts old new at keys rest tells needs adds few by_path extensions tells_below before =
     tokens_added globs g n old new before tokens at keys
     (record {
       path = subst (λ m. IsFor m before.tokens.by_path) (sym by_path) before.are_for.path;
@@ -185,6 +262,10 @@ by_component_added globs g n ts old new at keys rest tells needs adds few by_pat
     (right_more (left_more (some_added (indexed g.options ts n) before.tokens.by_component g n (last_component path) path k refl (tells path ∙ ap (λ us. means g.options us (last_component path)) (sym rest))))))
     (λ path. let one = ap most_reads by_path in let two = ap (λ (e : SlotParts). most_reads (machine_under e (component_extension path))) extensions in let most = needed g path (needs path) in
     let fewer = weight_after g.options g.tokens in let same = ap (weight g.options) rest in omega (arith, few, one, two, most, fewer, same))
+    (λ folder bytes. subst (λ (e : SlotParts). AreFoundBelow e tokens folder ↔ (AreFoundBelow old.automata.extensions before.tokens folder ⊎ AreListedBelow g.options g.tokens folder)) (sym extensions)
+    (left_more (as_listed (after_push before.tokens.by_component (indexed g.options ts n) [])
+    (subst (λ us. AreListedBelow g.options g.tokens folder ↔ MeanAfter g.options us []) (sym rest) (tells_below folder bytes)))))
+    (let one = ap most_reads by_path in let all = ap (λ (e : SlotParts). total_reads e.machines) extensions in omega (arith, one, all))
   where
     tokens : TokenLists
     tokens = record {
@@ -196,10 +277,12 @@ by_component_added globs g n ts old new at keys rest tells needs adds few by_pat
 pub by_extension_added : (globs : List TokenGlob) (g : TokenGlob) (n : ℕ) (key : List ℕ) (ts : Tokens) (old new : GroupParts) → n ≡ length globs → new.keys ≡ old.keys → ts ≡ before_ending g.tokens
     → ((path : List ℕ) → (IsTrue (is_listed g path) → component_extension path ≡ key) × ((front : List ℕ) → front ++ key ≡ path → is_listed g path ≡ means g.options (before_ending g.tokens) front))
     → ((path : List ℕ) → bytes_eq key (component_extension path) ≡ true → needs_automaton g.options g.tokens path ≡ true)
-    → ((before : ℕ → List IndexedTokens) → AreFor old.automata.extensions.machines before → AddsTokens old.automata.extensions.slots before new.automata.extensions key (indexed g.options ts n))
+    → ((before : ℕ → List IndexedTokens) → AreFor old.automata.extensions.machines before → AddsTokens old.automata.extensions before new.automata.extensions key (indexed g.options ts n))
     → ((extension : List ℕ) → most_reads (machine_under new.automata.extensions extension) ≤ most_reads (machine_under old.automata.extensions extension) + cond (bytes_eq key extension) (weight g.options ts + 4) 0)
-    → new.automata.by_path ≡ old.automata.by_path → new.automata.by_component ≡ old.automata.by_component → AreGroupsOf globs old → AreGroupsOf (globs ++ g ∷ []) new
-by_extension_added globs g n key ts old new at keys rest tells needs adds few by_path component before =
+    → total_reads new.automata.extensions.machines ≤ total_reads old.automata.extensions.machines + (weight g.options ts + 4)
+    → new.automata.by_path ≡ old.automata.by_path → new.automata.by_component ≡ old.automata.by_component → is_direct g.options g.tokens ≡ false
+    → ((folder : List ℕ) → AllBytes folder → AreListedBelow g.options g.tokens folder ↔ MeanAfter g.options (before_ending g.tokens) (folder_start folder)) → AreGroupsOf globs old → AreGroupsOf (globs ++ g ∷ []) new
+by_extension_added globs g n key ts old new at keys rest tells needs adds few many by_path component indirect tells_below before =
     tokens_added globs g n old new before tokens at keys
     (record {
       path = subst (λ m. IsFor m before.tokens.by_path) (sym by_path) before.are_for.path;
@@ -208,8 +291,12 @@ by_extension_added globs g n key ts old new at keys rest tells needs adds few by
     })
     (λ path k. right_more (right_more (by_key path k (cases_Bool (bytes_eq key (component_extension path))))))
     (λ path. by_size path (cases_Bool (bytes_eq key (component_extension path))))
+    (λ folder bytes. right_more (right_more (as_listed (now.after (folder_start folder))
+    (subst (λ us. AreListedBelow g.options g.tokens folder ↔ MeanAfter g.options us (folder_start folder)) (sym rest) (tells_below folder bytes)))))
+    (let one = ap most_reads by_path in let most = needed_below g indirect in
+    let fewer = weight_before g.options g.tokens in let same = ap (weight g.options) rest in omega (arith, many, one, most, fewer, same))
   where
-    now : AddsTokens old.automata.extensions.slots before.tokens.by_slot new.automata.extensions key (indexed g.options ts n)
+    now : AddsTokens old.automata.extensions before.tokens.by_slot new.automata.extensions key (indexed g.options ts n)
     now = adds before.tokens.by_slot before.are_for.slots
 
     tokens : TokenLists
@@ -255,9 +342,12 @@ none_listed : (path : List ℕ) (k : ℕ) → IsTrue (is_listed_at [] path k) �
 none_listed path zero h = absurd (cc)
 none_listed path (suc k) h = absurd (cc)
 
-pub no_globs : (keys : KeyParts) (a : AutomataParts) → ((path : List ℕ) → keys_found keys path ≡ []) → IsFor a.by_path [] → IsFor a.by_component [] → a.extensions.slots ≡ [] → a.extensions.machines ≡ []
+none_below : (folder : List ℕ) → SomeListedBelow [] folder → ⊥
+none_below folder (rest, bytes, some) = let (k, at) = (some_listed [] (path_below folder rest)).0 some in none_listed (path_below folder rest) k at
+
+pub no_globs : (keys : KeyParts) (a : AutomataParts) → ((path : List ℕ) → keys_found keys path ≡ []) → ((folder : List ℕ) → MatchesBelow keys folder → ⊥) → IsFor a.by_path [] → IsFor a.by_component [] → a.extensions.slots ≡ [] → a.extensions.machines ≡ []
     → most_reads a.by_path ≡ 0 → most_reads a.by_component ≡ 0 → most_reads a.extensions.none ≡ 0 → AreGroupsOf [] (group_parts keys a)
-no_globs keys a nil path component slots machines path_reads component_reads none_reads = record {
+no_globs keys a nil no_folder path component slots machines path_reads component_reads none_reads = record {
   tokens = record { by_path = []; by_component = []; by_slot = λ s. [] };
   are_for = record {
     path = path;
@@ -273,4 +363,10 @@ no_globs keys a nil path component slots machines path_reads component_reads non
   once = λ path. let none = ap length (nil path) in omega (arith, none);
   reads = λ path. let e = ap (λ es. option_map_or (λ s. get_or a.extensions.machines s a.extensions.none) (first (indexes_under es (component_extension path))) a.extensions.none) slots in
       let last = ap most_reads e in omega (arith, path_reads, component_reads, none_reads, last);
+  below = λ folder bytes. (
+    λ h. absurd (⊎_elim {C = ⊥} (λ key. no_folder folder key)
+        (λ some. ⊎_elim {C = ⊥} (λ none. none) (λ later. ⊎_elim {C = ⊥} (λ none. none) (λ slot. slot.2) later) some) h),
+    λ h. absurd (none_below folder h),
+  );
+  few_below = let all = ap total_reads machines in omega (arith, path_reads, all);
 }

@@ -75,6 +75,13 @@ pub none_from : (xs : List ℕ) → (xs ≢ [] → ⊥) → xs ≡ []
 none_from [] h = refl
 none_from (x ∷ xs) h = absurd (h (λ e. let n = ap length e in omega (arith, n)))
 
+-- some glob is listed
+pub some_listed : (globs : List TokenGlob) (path : List ℕ) → (listed globs path ≢ []) ↔ ((k : ℕ) × IsTrue (is_listed_at globs path k))
+some_listed globs path = (
+  λ h. let (k, in_all) = some_of (listed globs path) h in (k, listed_in globs path k in_all),
+  λ (k, at). not_none (listed globs path) k (in_listed globs path k at),
+)
+
 pub some_key : (globs : List TokenGlob) (g : GroupParts) (path : List ℕ) → AreGroupsOf globs g → keys_found g.keys path ≢ [] → IsTrue true ↔ (listed globs path ≢ [])
 some_key globs g path are some =
     let (k, key) = some_of (keys_found g.keys path) some in

@@ -1,19 +1,23 @@
 -- The slots of extensions, and the tokens in them.
-use Rattle.std.proofs.Common.{◌≡◌, ◌≢◌, ℕ, zero, suc, ◌+◌, ◌<◌, ◌≤◌, max, ◌⊎◌, inl, inr, Bool, true, false, cond, ◌==◌, List, [], ◌∷◌, ◌++◌, Option, Some, None, length, get_or, set, refl, ap, sym, subst, ◌∙◌, arith}
+use Rattle.std.proofs.Common.{◌≡◌, ◌≢◌, ℕ, zero, suc, ◌+◌, ◌*◌, ◌<◌, ◌≤◌, max, ◌⊎◌, inl, inr, Bool, true, false, cond, ◌==◌, List, [], ◌∷◌, ◌++◌, Option, Some, None, length, get_or, set, take, refl, ap, sym, subst, ◌∙◌, arith}
+use Rattle.std.specs.Prelude.{◌↔◌}
 use Rattle.std.specs.Option.{option_map_or}
 use Rattle.std.specs.Str.{bytes_eq}
 use Rattle.std.specs.Cmp.Lexicographic.{bytes_decides}
 use Rattle.std.proofs.Math.Logic.{⊎_elim}
 use Rattle.std.proofs.lemmas.Bool.{eq-eqb}
 use Rattle.std.proofs.lemmas.Bool.Decides.{eqb_tells}
-use Rattle.std.proofs.lemmas.List.{get_or_push, get_or_append_left, get_or-set_same, get_or-set_other, length-append, length-set}
+use Rattle.std.proofs.lemmas.List.Sums.{sum_by-append}
+use Rattle.std.proofs.lemmas.Nat.{mul-le}
+use Rattle.std.proofs.lemmas.List.{take_more, get_or_push, get_or_append_left, get_or-set_same, get_or-set_other, length-append, length-set}
 use Rattle.byte_automaton.specs.Steps.{IsIn, Machine}
 use Rattle.byte_automaton.specs.Runs.{size, most_reads}
 use Rattle.byte_table.specs.Entries.{Entry, entry, indexes_under}
 use Rattle.byte_table.specs.inner.Lists.{with_index}
 use Rattle.byte_table.proofs.lemmas.Entries.{indexes_added}
+use Rattle.glob_automaton.specs.After.{MeanAfter, SomeMeanAfter}
 use Rattle.glob_automaton.specs.IndexedTokens.{IndexedTokens, IsFor}
-use Rattle.group_matching.specs.inner.Automata.{SlotParts, AreSlots, AreFor, KeepsTokens, AddsTokens, first, most_size, slot_of, tokens_under, machine_under}
+use Rattle.group_matching.specs.inner.Automata.{SlotParts, AreSlots, AreFor, KeepsTokens, AddsTokens, SomeSlotAfter, first, most_size, slot_of, tokens_under, total_reads, machine_under}
 use Rattle.group_matching.proofs.lemmas.Tables.{first_in, under_push, first_push}
 
 abbrev pub slot_parts : List Entry → List Machine → Machine → ℕ → SlotParts
@@ -97,7 +101,7 @@ first_new false n (x ∷ xs) now before none new same = same x (inl refl)
 
 -- no tokens are in it
 pub slot_keeps : (old new : SlotParts) (key : List ℕ) (n : ℕ) (m : Machine) → n ≡ length old.machines → AreSlots old.slots old.machines old.none old.index_count → IsFor m []
-    → new.slots ≡ old.slots ++ entry key n ∷ [] → new.machines ≡ old.machines ++ m ∷ [] → (before : ℕ → List IndexedTokens) → AreFor old.machines before → KeepsTokens old.slots before new
+    → new.slots ≡ old.slots ++ entry key n ∷ [] → new.machines ≡ old.machines ++ m ∷ [] → (before : ℕ → List IndexedTokens) → AreFor old.machines before → KeepsTokens old before new
 slot_keeps old new key n m at is_old empty slots machines before are = record {
   tokens = replaced n [] before;
   are_for = subst (λ ms. AreFor ms (replaced n [] before)) (sym machines)
@@ -111,6 +115,17 @@ slot_keeps old new key n m at is_old empty slots machines before are = record {
       ∙ ap (λ xs. option_map_or (replaced n [] before) (first xs) []) (indexes_added old.slots key n extension)
       ∙ first_new (bytes_eq key extension) n (indexes_under old.slots extension) (replaced n [] before) before [] (replaced_at n [] before n refl)
       (λ t there. let within = is_old.held extension t there in replaced_other n [] before t (λ e. absurd (omega (arith, e, at, within))));
+  after = λ y. let long = ap length machines in let len = length-append old.machines (m ∷ []) in (
+      λ (s, lt, some). ⊎_elim {C = SomeSlotAfter (length old.machines) before y}
+          (λ is. absurd (subst (λ xs. SomeMeanAfter xs y) (replaced_at n [] before s is) some))
+          (λ other. (s, omega (arith, lt, long, len, at, other), subst (λ xs. SomeMeanAfter xs y) (replaced_other n [] before s other) some))
+          (equal_or_not s n),
+      λ (s, lt, some). (
+        s,
+        omega (arith, lt, long, len),
+        subst (λ xs. SomeMeanAfter xs y) (sym (replaced_other n [] before s (λ e. absurd (omega (arith, e, at, lt))))) some,
+      ),
+    );
 }
 
 -- ---- the reads of the automaton of an extension
@@ -136,7 +151,39 @@ slot_reads old new key n m at is_old no_states slots machines none extension =
     (λ t there. ap most_reads (get_or_append_left old.machines (m ∷ []) old.none t (is_old.held extension t there)))
     ∙ sym (reads_of old.machines old.none (slot_of old.slots extension))
 
+-- ---- the reads of all automata
+
+-- a new one without states has none
+pub total_push : (machines : List Machine) (m : Machine) → most_reads m ≡ 0 → total_reads (machines ++ m ∷ []) ≡ total_reads machines
+total_push machines m none = let sum = sum_by-append most_reads machines (m ∷ []) in omega (arith, sum, none)
+
+total_cons : (m : Machine) (ms : List Machine) → total_reads (m ∷ ms) ≡ most_reads m + total_reads ms
+total_cons m ms = let sum = sum_by-append most_reads (m ∷ []) ms in omega (arith, sum)
+
+-- one automaton has at most so many more
+pub total_set : (machines : List Machine) (i more : ℕ) (d now : Machine) → i < length machines → most_reads now ≤ most_reads (get_or machines i d) + more → total_reads (set machines i now) ≤ total_reads machines + more
+total_set [] i more d now lt few = absurd (omega (arith, lt))
+total_set (m ∷ ms) zero more d now lt few = let old = total_cons m ms in let new = total_cons now ms in omega (arith, few, old, new)
+total_set (m ∷ ms) (suc i) more d now lt few =
+    let rest = total_set ms i more d now (omega (arith, lt)) few in let old = total_cons m ms in let new = total_cons m (set ms i now) in omega (arith, rest, old, new)
+
 -- ---- tokens for a slot
+
+-- some tokens more
+pub after_push : (xs : List IndexedTokens) (x : IndexedTokens) (y : List ℕ) → SomeMeanAfter (xs ++ x ∷ []) y ↔ (SomeMeanAfter xs y ⊎ MeanAfter x.options x.tokens y)
+after_push [] x y = (
+  λ h. ⊎_elim {C = ⊥ ⊎ MeanAfter x.options x.tokens y} (λ this. inr this) (λ no. absurd no) h,
+  λ h. ⊎_elim {C = MeanAfter x.options x.tokens y ⊎ ⊥} (λ no. absurd no) (λ this. inl this) h,
+)
+after_push (z ∷ zs) x y =
+    let rest = after_push zs x y in
+    let here = MeanAfter z.options z.tokens y in (
+      λ h. ⊎_elim {C = (here ⊎ SomeMeanAfter zs y) ⊎ MeanAfter x.options x.tokens y} (λ first. inl (inl first))
+          (λ later. ⊎_elim {C = (here ⊎ SomeMeanAfter zs y) ⊎ MeanAfter x.options x.tokens y} (λ old. inl (inr old)) (λ this. inr this) (rest.0 later)) h,
+      λ h. ⊎_elim {C = here ⊎ SomeMeanAfter (zs ++ x ∷ []) y}
+          (λ old. ⊎_elim {C = here ⊎ SomeMeanAfter (zs ++ x ∷ []) y} (λ first. inl first) (λ later. inr (rest.1 (inl later))) old)
+          (λ this. inr (rest.1 (inr this))) h,
+    )
 
 set_at_slot : (machines : List Machine) (i : ℕ) (m : Machine) (s : ℕ) (d : Machine) → i < length machines
     → ((s ≡ i) × (get_or (set machines i m) s d ≡ m)) ⊎ ((s ≢ i) × (get_or (set machines i m) s d ≡ get_or machines s d))
@@ -169,11 +216,11 @@ kept_at (Some t) s xs before other = replaced_other s xs before t (λ e. other (
 pub slot_adds : (old mid new : SlotParts) (key : List ℕ) (s : ℕ) (x : IndexedTokens) (d now : Machine)
     → AreSlots mid.slots mid.machines mid.none mid.index_count → slot_of mid.slots key ≡ Some s → s < length mid.machines → new.slots ≡ mid.slots → new.machines ≡ set mid.machines s now
     → ((xs : List IndexedTokens) → IsFor (get_or mid.machines s d) xs → IsFor now (xs ++ x ∷ []))
-    → (before : ℕ → List IndexedTokens) → KeepsTokens old.slots before mid → AddsTokens old.slots before new key x
+    → (before : ℕ → List IndexedTokens) → KeepsTokens old before mid → AddsTokens old before new key x
 slot_adds old mid new key s x d now is_mid at lt slots machines adds before kept = record {
-  tokens = after;
-  are_for = subst (λ ms. AreFor ms after) (sym machines)
-      (λ t e within. ⊎_elim {C = IsFor (get_or (set mid.machines s now) t e) (after t)}
+  tokens = tokens;
+  are_for = subst (λ ms. AreFor ms tokens) (sym machines)
+      (λ t e within. ⊎_elim {C = IsFor (get_or (set mid.machines s now) t e) (tokens t)}
       (λ this. subst (IsFor (get_or (set mid.machines s now) t e)) (sym (replaced_at s (kept.tokens s ++ x ∷ []) kept.tokens t this.0))
       (subst (λ m. IsFor m (kept.tokens s ++ x ∷ [])) (sym this.1) (adds (kept.tokens s) (kept.are_for s d lt))))
       (λ other. subst (IsFor (get_or (set mid.machines s now) t e)) (sym (replaced_other s (kept.tokens s ++ x ∷ []) kept.tokens t other.0))
@@ -181,19 +228,53 @@ slot_adds old mid new key s x d now is_mid at lt slots machines adds before kept
       (set_at_slot mid.machines s now t e lt));
   added = λ extension is.
       let here : slot_of mid.slots extension ≡ Some s = ap (λ q. slot_of mid.slots q) is ∙ at in
-      ap (λ es. tokens_under after es extension) slots
-      ∙ ap (λ o. option_map_or after o []) here
+      ap (λ es. tokens_under tokens es extension) slots
+      ∙ ap (λ o. option_map_or tokens o []) here
       ∙ replaced_at s (kept.tokens s ++ x ∷ []) kept.tokens s refl
       ∙ ap (λ o. option_map_or kept.tokens o [] ++ x ∷ []) (sym here)
       ∙ ap (λ ts. ts ++ x ∷ []) (kept.same extension);
   others = λ extension other.
-      ap (λ es. tokens_under after es extension) slots
+      ap (λ es. tokens_under tokens es extension) slots
       ∙ kept_at (slot_of mid.slots extension) s (kept.tokens s ++ x ∷ []) kept.tokens (λ e. absurd (other (is_mid.apart extension key s e at)))
       ∙ kept.same extension;
+  after = λ y. (
+      λ h. ⊎_elim {C = SomeSlotAfter (length old.machines) before y ⊎ MeanAfter x.options x.tokens y} (λ was. inl ((kept.after y).0 was)) (λ this. inr this) ((slot_pushed y).0 h),
+      λ h. (slot_pushed y).1 (⊎_elim {C = SomeSlotAfter (length mid.machines) kept.tokens y ⊎ MeanAfter x.options x.tokens y} (λ was. inl ((kept.after y).1 was)) (λ this. inr this) h),
+    );
 }
   where
-    after : ℕ → List IndexedTokens
-    after = replaced s (kept.tokens s ++ x ∷ []) kept.tokens
+    tokens : ℕ → List IndexedTokens
+    tokens = replaced s (kept.tokens s ++ x ∷ []) kept.tokens
+
+    slot_pushed : (y : List ℕ) → SomeSlotAfter (length new.machines) tokens y ↔ (SomeSlotAfter (length mid.machines) kept.tokens y ⊎ MeanAfter x.options x.tokens y)
+    slot_pushed y =
+        let long = ap length machines in let len : length (set mid.machines s now) ≡ length mid.machines = length-set mid.machines s now in
+        let both = SomeSlotAfter (length mid.machines) kept.tokens y ⊎ MeanAfter x.options x.tokens y in
+        let push = after_push (kept.tokens s) x y in (
+          λ (t, within, some). ⊎_elim {C = both}
+              (λ is. ⊎_elim {C = both} (λ was. inl (s, lt, was)) (λ this. inr this)
+              (push.0 (subst (λ xs. SomeMeanAfter xs y) (replaced_at s (kept.tokens s ++ x ∷ []) kept.tokens t is) some)))
+              (λ other. inl (t, omega (arith, within, long, len), subst (λ xs. SomeMeanAfter xs y) (replaced_other s (kept.tokens s ++ x ∷ []) kept.tokens t other) some))
+              (equal_or_not t s),
+          λ h. ⊎_elim {C = SomeSlotAfter (length new.machines) tokens y}
+              (λ (t, within, some). ⊎_elim {C = SomeSlotAfter (length new.machines) tokens y}
+              (λ is. (
+                s,
+                omega (arith, lt, long, len),
+                subst (λ xs. SomeMeanAfter xs y) (sym (replaced_at s (kept.tokens s ++ x ∷ []) kept.tokens s refl)) (push.1 (inl (subst (λ u. SomeMeanAfter (kept.tokens u) y) is some))),
+              ))
+              (λ other. (
+                t,
+                omega (arith, within, long, len),
+                subst (λ xs. SomeMeanAfter xs y) (sym (replaced_other s (kept.tokens s ++ x ∷ []) kept.tokens t other)) some,
+              ))
+              (equal_or_not t s))
+              (λ this. (
+                s,
+                omega (arith, lt, long, len),
+                subst (λ xs. SomeMeanAfter xs y) (sym (replaced_at s (kept.tokens s ++ x ∷ []) kept.tokens s refl)) (push.1 (inr this)),
+              )) h,
+        )
 
 pub any_default : (machines : List Machine) (s : ℕ) (d e : Machine) → s < length machines → get_or machines s d ≡ get_or machines s e
 any_default [] s d e lt = absurd (omega (arith, lt))
@@ -244,3 +325,42 @@ pub most_bounds : (machines : List Machine) (s : ℕ) (d : Machine) → s < leng
 most_bounds [] s d lt = absurd (omega (arith, lt))
 most_bounds (m ∷ ms) zero d lt = omega arith
 most_bounds (m ∷ ms) (suc s) d lt = let rest = most_bounds ms s d (omega (arith, lt)) in omega (arith, rest)
+
+-- ---- runs over one automaton after another
+
+total_take : (ms : List Machine) (i : ℕ) → total_reads (take i ms) ≤ total_reads ms
+total_take [] zero = omega arith
+total_take [] (suc i) = omega arith
+total_take (m ∷ ms) zero = let all = total_cons m ms in omega (arith, all)
+total_take (m ∷ ms) (suc i) = let rest = total_take ms i in let all = total_cons m ms in let some = total_cons m (take i ms) in omega (arith, rest, all, some)
+
+module _ (machines : List Machine) (i : ℕ) (m : Machine) (lt : i < length machines) (is : m ≡ get_or machines i m) where
+  total_more : total_reads (take (i + 1) machines) ≡ total_reads (take i machines) + most_reads m
+  total_more =
+      let taken : take (i + 1) machines ≡ take i machines ++ m ∷ [] = take_more machines i m lt ∙ ap (λ x. take i machines ++ x ∷ []) (sym is) in
+      let sum = sum_by-append most_reads (take i machines) (m ∷ []) in omega (arith, ap total_reads taken, sum)
+
+  -- the visits of the runs so far
+  pub visits_more : (n u w v : ℕ) → v ≤ w + n * size m → w ≤ u + n * total_reads (take i machines) → v ≤ u + n * total_reads (take (i + 1) machines)
+  visits_more n u w v this before =
+      let more = mul-le n (size m) n (most_reads m) (omega arith) (omega arith) in
+      let sum : n * (total_reads (take i machines) + most_reads m) ≡ n * total_reads (take i machines) + n * most_reads m = omega arith in
+      let all = ap (λ (k : ℕ). n * k) total_more in omega (arith, this, before, more, sum, all)
+
+  -- they are within those of all runs
+  pub visits_upto : (n u w v : ℕ) → v ≤ w + n * size m → w ≤ u + n * total_reads (take i machines) → v ≤ u + n * total_reads machines
+  visits_upto n u w v this before =
+      let some = visits_more n u w v this before in
+      let most = mul-le n (total_reads (take (i + 1) machines)) n (total_reads machines) (omega arith) (total_take machines (i + 1)) in omega (arith, some, most)
+
+  -- it is not larger than the largest
+  pub size_within : size m ≤ most_size machines
+  size_within = let bound = most_bounds machines i m lt in omega (arith, bound, ap size is)
+
+  pub is_for : (tokens : ℕ → List IndexedTokens) → AreFor machines tokens → IsFor m (tokens i)
+  is_for tokens are = subst (λ x. IsFor x (tokens i)) (sym is) (are i m lt)
+
+-- no slot before the next one, and not this one
+pub none_upto : (tokens : ℕ → List IndexedTokens) (i : ℕ) (y : List ℕ) → (SomeSlotAfter i tokens y → ⊥) → (SomeMeanAfter (tokens i) y → ⊥) → SomeSlotAfter (i + 1) tokens y → ⊥
+none_upto tokens i y before this (s, lt, some) =
+    ⊎_elim {C = ⊥} (λ is. this (subst (λ t. SomeMeanAfter (tokens t) y) is some)) (λ other. before (s, omega (arith, lt, other), some)) (equal_or_not s i)

@@ -1,12 +1,15 @@
 -- Automata of tokens, for the globs that no key decides.
-use Rattle.std.specs.Prelude.{◌≡◌, ◌≢◌, ◌⊎◌, ◌↔◌, ℕ, ◌+◌, ◌-◌, ◌<◌, ◌≤◌, max, IsTrue, List, [], ◌∷◌, ◌++◌, Option, Some, length, get_or, slice_get, take}
+use Rattle.std.specs.Prelude.{◌≡◌, ◌≢◌, ◌⊎◌, ◌↔◌, ℕ, ◌+◌, ◌-◌, ◌<◌, ◌≤◌, max, Bool, IsTrue, List, [], ◌∷◌, ◌++◌, Option, Some, length, get_or, slice_get, sum_by, take}
 use Rattle.std.specs.Option.{option_map_or}
+use Rattle.byte_automaton.specs.Live.{MatchesAfter}
 use Rattle.byte_automaton.specs.Steps.{IsIn, Machine}
 use Rattle.byte_automaton.specs.Runs.{size, most_reads}
 use Rattle.byte_automaton.specs.Sets.{has_index, index_room}
 use Rattle.byte_automaton.specs.declared.index_set.IndexSet.{IndexSet}
 use Rattle.byte_table.specs.Entries.{Entry, indexes_under}
+use Rattle.glob_automaton.specs.After.{MeanAfter, SomeMeanAfter}
 use Rattle.glob_automaton.specs.IndexedTokens.{IndexedTokens, SomeMatches, IsFor}
+use Rattle.glob_path.specs.Below.{folder_start}
 use Rattle.glob_path.specs.PathParts.{last_component, component_extension}
 
 -- ---- automata for globs that match only paths with one extension
@@ -51,18 +54,28 @@ tokens_under tokens slots extension = option_map_or tokens (slot_of slots extens
 abbrev pub machine_under : SlotParts → List ℕ → Machine
 machine_under e extension = option_map_or (λ s. get_or e.machines s e.none) (slot_of e.slots extension) e.none
 
--- each extension has the tokens that it had
-pub record KeepsTokens (slots : List Entry) (before : ℕ → List IndexedTokens) (new : SlotParts) : Type 0 where
-  pub tokens : ℕ → List IndexedTokens
-  pub are_for : AreFor new.machines tokens
-  pub same : (extension : List ℕ) → tokens_under tokens new.slots extension ≡ tokens_under before slots extension
+-- the tokens of one of the first n slots match some text that begins with y
+abbrev pub SomeSlotAfter : ℕ → (ℕ → List IndexedTokens) → List ℕ → Type 0
+SomeSlotAfter n tokens y = (s : ℕ) × (s < n) × SomeMeanAfter (tokens s) y
 
--- one extension has these tokens in addition, and the others have those that they had
-pub record AddsTokens (slots : List Entry) (before : ℕ → List IndexedTokens) (new : SlotParts) (key : List ℕ) (x : IndexedTokens) : Type 0 where
+-- the most reads of all automata at a position of a text
+abbrev pub total_reads : List Machine → ℕ
+total_reads machines = sum_by most_reads machines
+
+-- each extension has the tokens that it had, and no slot has others
+pub record KeepsTokens (old : SlotParts) (before : ℕ → List IndexedTokens) (new : SlotParts) : Type 0 where
   pub tokens : ℕ → List IndexedTokens
   pub are_for : AreFor new.machines tokens
-  pub added : (extension : List ℕ) → (extension ≡ key) → tokens_under tokens new.slots extension ≡ tokens_under before slots extension ++ x ∷ []
-  pub others : (extension : List ℕ) → (extension ≢ key) → tokens_under tokens new.slots extension ≡ tokens_under before slots extension
+  pub same : (extension : List ℕ) → tokens_under tokens new.slots extension ≡ tokens_under before old.slots extension
+  pub after : (y : List ℕ) → SomeSlotAfter (length new.machines) tokens y ↔ SomeSlotAfter (length old.machines) before y
+
+-- one extension has these tokens in addition, and the others have those that they had; so it is with all slots together
+pub record AddsTokens (old : SlotParts) (before : ℕ → List IndexedTokens) (new : SlotParts) (key : List ℕ) (x : IndexedTokens) : Type 0 where
+  pub tokens : ℕ → List IndexedTokens
+  pub are_for : AreFor new.machines tokens
+  pub added : (extension : List ℕ) → (extension ≡ key) → tokens_under tokens new.slots extension ≡ tokens_under before old.slots extension ++ x ∷ []
+  pub others : (extension : List ℕ) → (extension ≢ key) → tokens_under tokens new.slots extension ≡ tokens_under before old.slots extension
+  pub after : (y : List ℕ) → SomeSlotAfter (length new.machines) tokens y ↔ (SomeSlotAfter (length old.machines) before y ⊎ MeanAfter x.options x.tokens y)
 
 -- ---- all of them
 
@@ -86,10 +99,11 @@ pub record HaveOneCount (by_path by_component : Machine) (extensions : SlotParts
   pub of_path : by_path.index_count ≡ extensions.index_count
   pub of_component : by_component.index_count ≡ extensions.index_count
 
--- and the largest of them has so many states
-pub record AreMeasured (by_path by_component : Machine) (extensions : SlotParts) (most : ℕ) : Type 0 where
+-- and the largest of them has so many states, and whether some text leads to an end of the one for last components
+pub record AreMeasured (by_path by_component : Machine) (extensions : SlotParts) (most : ℕ) (has_component : Bool) : Type 0 where
   pub counts : HaveOneCount by_path by_component extensions
   pub largest : most ≡ most_states (record { by_path = by_path; by_component = by_component; extensions = extensions })
+  pub component : IsTrue has_component ↔ MatchesAfter by_component []
 
 -- the tokens that automata are for
 pub record TokenLists : Type 0 where
@@ -111,6 +125,11 @@ abbrev pub AreFound : List Entry → TokenLists → List ℕ → ℕ → Type 0
 AreFound slots t path k =
     SomeMatches t.by_path path k ⊎ (SomeMatches t.by_component (last_component path) k ⊎ SomeMatches (tokens_under t.by_slot slots (component_extension path)) (before_extension path) k)
 
+-- Tokens match the part that they are run on of some path below the folder: the last component may be any text, whatever the
+-- folder is, and so may the extension, before which the path still has the folder and its `/`.
+abbrev pub AreFoundBelow : SlotParts → TokenLists → List ℕ → Type 0
+AreFoundBelow e t folder = SomeMeanAfter t.by_component [] ⊎ (SomeMeanAfter t.by_path (folder_start folder) ⊎ SomeSlotAfter (length e.machines) t.by_slot (folder_start folder))
+
 -- the states that are run for a path
 abbrev pub states_for : AutomataParts → List ℕ → ℕ
 states_for a path = size a.by_path + (size a.by_component + size (machine_under a.extensions (component_extension path)))
@@ -118,6 +137,10 @@ states_for a path = size a.by_path + (size a.by_component + size (machine_under 
 -- the most reads at a position of a path
 abbrev pub reads_for : AutomataParts → List ℕ → ℕ
 reads_for a path = most_reads a.by_path + (most_reads a.by_component + most_reads (machine_under a.extensions (component_extension path)))
+
+-- the most reads at a position of a folder
+abbrev pub folder_reads : AutomataParts → ℕ
+folder_reads a = most_reads a.by_path + total_reads a.extensions.machines
 
 -- No state is run for a path, and nothing is found.
 pub record AreIdle (a : AutomataParts) (path : List ℕ) : Type 0 where

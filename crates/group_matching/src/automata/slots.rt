@@ -1,15 +1,16 @@
 //! Automata for globs that match only paths whose last component has one extension.
 
-ghost use Rattle.std.specs.Prelude.{◌≡◌, ◌+◌, ◌<◌, ◌≤◌, ◌↔◌, [], ℕ, List, length, IsTrue, OnOk, IfOk, None, Some, cond};
+ghost use Rattle.std.specs.Prelude.{◌≡◌, ◌+◌, ◌*◌, ◌<◌, ◌≤◌, ◌↔◌, ◌++◌, ◌∷◌, [], ℕ, List, length, IsTrue, IsOk, OnOk, IfOk, None, Some, cond};
 ghost use Rattle.byte_automaton.specs.Runs.{size, most_reads};
+ghost use Rattle.byte_automaton.specs.Sets.{sets_room};
 ghost use Rattle.std.specs.Str.{bytes_eq};
 ghost use Rattle.glob_automaton.specs.IndexedTokens.{IndexedTokens, IsFor, indexed};
 ghost use Rattle.glob_syntax.specs.FlatTokens.{IsNested};
 ghost use Rattle.glob_syntax.specs.Views.{flats, tokens_of};
 ghost use Rattle.glob_syntax.specs.inner.Weight.{weight};
-ghost use Rattle.group_matching.specs.inner.Automata.{AddsTokens, AreFor, KeepsTokens, machine_under, most_size, slot_of, tokens_under};
+ghost use Rattle.group_matching.specs.inner.Automata.{AddsTokens, AreFor, KeepsTokens, SomeSlotAfter, machine_under, most_size, slot_of, tokens_under, total_reads};
 
-use byte_automaton::Builder;
+use byte_automaton::{Builder, StateSets};
 use byte_table::Table;
 use glob_automaton::{add_tokens, new_builder};
 use glob_matching::{Budget, Compiled};
@@ -128,6 +129,27 @@ impl Slots {
     }
 }
 
+impl Slots {
+    /// Returns whether tokens of some extension match a text that begins with `text` and then `byte`.
+    ///
+    /// It is at most `text bytes + 2` times the states of all automata in visits. The sets get room for each state of a part that is
+    /// simulated. Returns an error if memory runs out.
+    pub fn can_match_after(
+        &self,
+        text: &[u8],
+        byte: u8,
+        sets: &mut StateSets,
+        visits: &mut Visits,
+    ) -> Result<bool, AllocError>
+        ensures some { IfOk result (λ yes. (by_slot : ℕ → List IndexedTokens) → AreFor self.now.machines by_slot → IsTrue yes ↔ SomeSlotAfter (length self.now.machines) by_slot (text.now ++ byte ∷ [])) }
+        ensures kept { sets_room sets.old ≤ sets_room sets.new }
+        ensures room { most_size self.now.machines ≤ sets_room sets.old → IsOk result }
+        ensures visits { visits.new ≤ visits.old + (length text.now + 2) * total_reads self.now.machines }
+    {
+        can_match_after(&self.automata, text, byte, sets, visits)
+    }
+}
+
 /// Makes [`Slots`].
 pub struct SlotsBuilder {
     slots: Table,
@@ -191,8 +213,9 @@ impl SlotsBuilder {
     ) -> Result<(), AllocError>
         requires nested { IsNested (flats tokens.now) }
         requires index { index < self.old.index_count }
-        ensures tokens { OnOk result ((before : ℕ → List IndexedTokens) → AreFor self.old.machines before → AddsTokens self.old.slots before self.new key.items (indexed options (tokens_of tokens.now) index)) }
+        ensures tokens { OnOk result ((before : ℕ → List IndexedTokens) → AreFor self.old.machines before → AddsTokens self.old before self.new key.items (indexed options (tokens_of tokens.now) index)) }
         ensures reads { OnOk result ((extension : List ℕ) → most_reads (machine_under self.new extension) ≤ most_reads (machine_under self.old extension) + cond (bytes_eq key.items extension) (weight options (tokens_of tokens.now) + 4) 0) }
+        ensures total { OnOk result (total_reads self.new.machines ≤ total_reads self.old.machines + (weight options (tokens_of tokens.now) + 4)) }
         ensures count { self.new.index_count ≡ self.old.index_count }
     {
         let slot = self.slot_of(alloc, key)?;
@@ -202,8 +225,9 @@ impl SlotsBuilder {
     /// Returns the slot of an extension, which is a new one if it has none.
     fn slot_of(&mut self, alloc: Global, key: Vec<u8>) -> Result<usize, AllocError>
         ensures slot { IfOk result (λ slot. slot_of self.new.slots key.items ≡ Some slot) }
-        ensures tokens { OnOk result ((before : ℕ → List IndexedTokens) → AreFor self.old.machines before → KeepsTokens self.old.slots before self.new) }
+        ensures tokens { OnOk result ((before : ℕ → List IndexedTokens) → AreFor self.old.machines before → KeepsTokens self.old before self.new) }
         ensures reads { OnOk result ((extension : List ℕ) → most_reads (machine_under self.new extension) ≡ most_reads (machine_under self.old extension)) }
+        ensures total { OnOk result (total_reads self.new.machines ≡ total_reads self.old.machines) }
         ensures count { self.new.index_count ≡ self.old.index_count }
     {
         // These lookups are no part of matching a path, so nobody counts them.
@@ -217,8 +241,9 @@ impl SlotsBuilder {
     fn add_slot(&mut self, alloc: Global, key: Vec<u8>) -> Result<usize, AllocError>
         requires { slot_of self.old.slots key.items ≡ None }
         ensures slot { IfOk result (λ slot. slot_of self.new.slots key.items ≡ Some slot) }
-        ensures tokens { OnOk result ((before : ℕ → List IndexedTokens) → AreFor self.old.machines before → KeepsTokens self.old.slots before self.new) }
+        ensures tokens { OnOk result ((before : ℕ → List IndexedTokens) → AreFor self.old.machines before → KeepsTokens self.old before self.new) }
         ensures reads { OnOk result ((extension : List ℕ) → most_reads (machine_under self.new extension) ≡ most_reads (machine_under self.old extension)) }
+        ensures total { OnOk result (total_reads self.new.machines ≡ total_reads self.old.machines) }
         ensures count { self.new.index_count ≡ self.old.index_count }
     {
         let slot = self.builders.len();
@@ -255,6 +280,28 @@ fn most_states(automata: &[Compiled]) -> usize
         most = automaton.state_count().max(most);
     }
     most
+}
+
+/// Returns whether tokens of some automaton match a text that begins with `text` and then `byte`. The runs use the same sets of
+/// states, one after another. Returns an error if memory runs out.
+fn can_match_after(
+    automata: &[Compiled],
+    text: &[u8],
+    byte: u8,
+    sets: &mut StateSets,
+    visits: &mut Visits,
+) -> Result<bool, AllocError>
+    ensures some { IfOk result (λ yes. (by_slot : ℕ → List IndexedTokens) → AreFor automata.now by_slot → IsTrue yes ↔ SomeSlotAfter (length automata.now) by_slot (text.now ++ byte ∷ [])) }
+    ensures kept { sets_room sets.old ≤ sets_room sets.new }
+    ensures room { most_size automata.now ≤ sets_room sets.old → IsOk result }
+    ensures visits { visits.new ≤ visits.old + (length text.now + 2) * total_reads automata.now }
+{
+    for automaton in automata {
+        if automaton.can_match_after(text, byte, sets, visits)? {
+            return Ok(true);
+        }
+    }
+    Ok(false)
 }
 
 /// Returns the automata of builders. Returns an error if memory runs out.

@@ -1,18 +1,18 @@
 use Rattle.std.proofs.Common.{sym, ◌∙◌}
-use Rattle.std.proofs.lemmas.Result.{IfOk-weaker}
 use Rattle.glob_syntax.specs.Views.{tokens_of}
-use Rattle.glob_groups.proofs.lemmas.Groups.{is_group, silent_found, insensitive_found, sensitive_found}
+use Rattle.glob_groups.specs.GroupMeaning.{group_seen}
+use Rattle.glob_groups.proofs.lemmas.Groups.{automaton_bytes, is_group, silent_found, insensitive_found, sensitive_found}
 use Rattle.glob_groups.proofs.group.group_of.Goals as goal
 
 pub returns-then-is_silent : goal.returns-then-is_silent
-returns-then-is_silent c = is_group c.args.options (tokens_of c.args.tokens.now) _ (silent_found c.args.options (tokens_of c.args.tokens.now) (sym c.is_silent.ensures ∙ c.if-is_silent.true))
+returns-then-is_silent c = is_group c.args.options (tokens_of c.args.tokens.now) _ tt (silent_found c.args.options (tokens_of c.args.tokens.now) (sym c.is_silent.ensures ∙ c.if-is_silent.true))
 
 pub returns-then-options : goal.returns-then-options
 returns-then-options c =
-    is_group c.args.options (tokens_of c.args.tokens.now) _
+    is_group c.args.options (tokens_of c.args.tokens.now) _ (automaton_bytes c.args.options (tokens_of c.args.tokens.now) (group_seen c.automaton_group.result) c.automaton_group.ensures)
     (insensitive_found c.args.options (tokens_of c.args.tokens.now) _ (sym c.is_silent.ensures ∙ c.if-is_silent.false) c.if-options.true c.automaton_group.ensures)
 
 pub returns : goal.returns
 returns c =
-    IfOk-weaker c.sensitive_group.result _ _ (λ group found. is_group c.args.options (tokens_of c.args.tokens.now) group
-    (sensitive_found c.args.options (tokens_of c.args.tokens.now) _ (sym c.is_silent.ensures ∙ c.if-is_silent.false) c.if-options.false found)) c.sensitive_group.ensures
+    is_group c.args.options (tokens_of c.args.tokens.now) c.in_ok-group.group c.key_is_bytes.ensures
+    (sensitive_found c.args.options (tokens_of c.args.tokens.now) _ (sym c.is_silent.ensures ∙ c.if-is_silent.false) c.if-options.false c.in_ok-group.ensures)

@@ -7,5 +7,5 @@ use Rattle.group_matching.proofs.automata.AutomataBuilder.add_by_extension.Goals
 
 pub returns-clause-tokens : goal.returns-clause-tokens
 returns-clause-tokens c =
-    subst (λ (a : AutomataParts). OnOk c.add_tokens.result ((before : ℕ → List IndexedTokens) → AreFor a.extensions.machines before → AddsTokens a.extensions.slots before c.add_tokens.new.self c.args.key.items (indexed c.args.options (tokens_of c.args.tokens.now) c.args.index)))
+    subst (λ (a : AutomataParts). OnOk c.add_tokens.result ((before : ℕ → List IndexedTokens) → AreFor a.extensions.machines before → AddsTokens a.extensions before c.add_tokens.new.self c.args.key.items (indexed c.args.options (tokens_of c.args.tokens.now) c.args.index)))
     c.self.view_is c.add_tokens.ensures.tokens

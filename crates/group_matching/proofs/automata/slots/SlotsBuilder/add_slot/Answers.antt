@@ -3,9 +3,9 @@ use Rattle.glob_automaton.specs.IndexedTokens.{IndexedTokens}
 use Rattle.byte_automaton.specs.Runs.{most_reads}
 use Rattle.byte_automaton.specs.Steps.{Machine}
 use Rattle.byte_table.specs.Entries.{Entry, entry}
-use Rattle.group_matching.specs.inner.Automata.{SlotParts, AreFor, AreSlots, KeepsTokens, machine_under, slot_of}
+use Rattle.group_matching.specs.inner.Automata.{SlotParts, AreFor, AreSlots, KeepsTokens, machine_under, slot_of, total_reads}
 use Rattle.group_matching.proofs.lemmas.Tables.{first_of_key}
-use Rattle.group_matching.proofs.lemmas.Slots.{slot_parts, slots_push, slots_insert, slot_keeps, slot_reads}
+use Rattle.group_matching.proofs.lemmas.Slots.{slot_parts, slots_push, slots_insert, slot_keeps, slot_reads, total_push}
 use Rattle.group_matching.proofs.automata.slots.SlotsBuilder.add_slot.Goals as goal
 
 pub invariant_of-self-in_err-insert : goal.invariant_of-self-in_err-insert
@@ -33,7 +33,7 @@ returns-clause-tokens c =
     let old = slot_parts c.self.inside.slots c.self.inside.builders.items c.self.inside.none c.self.inside.index_count in
     let new = slot_parts c.insert.new.self c.push.new.self.items c.self.inside.none c.self.inside.index_count in
     let at : c.len-slot.result ≡ length c.self.inside.builders.items = omega (arith, c.len-slot.ensures, c.self.inside.builders.ok.0) in
-    subst (λ (e : SlotParts). (before : ℕ → List IndexedTokens) → AreFor e.machines before → KeepsTokens e.slots before new) c.self.view_is
+    subst (λ (e : SlotParts). (before : ℕ → List IndexedTokens) → AreFor e.machines before → KeepsTokens e before new) c.self.view_is
     (slot_keeps old new c.args.key.items c.len-slot.result c.new_builder.result at c.self.invariant c.new_builder.ensures.tokens c.in_ok-insert.ensures.ok c.in_ok-push.ensures.items)
 
 pub returns-clause-reads : goal.returns-clause-reads
@@ -43,3 +43,7 @@ returns-clause-reads c =
     let at : c.len-slot.result ≡ length c.self.inside.builders.items = omega (arith, c.len-slot.ensures, c.self.inside.builders.ok.0) in
     subst (λ (e : SlotParts). (extension : List ℕ) → most_reads (machine_under new extension) ≡ most_reads (machine_under e extension)) c.self.view_is
     (slot_reads old new c.args.key.items c.len-slot.result c.new_builder.result at c.self.invariant c.new_builder.ensures.reads c.in_ok-insert.ensures.ok c.in_ok-push.ensures.items refl)
+
+pub returns-clause-total : goal.returns-clause-total
+returns-clause-total c =
+    ap total_reads c.in_ok-push.ensures.items ∙ total_push c.self.inside.builders.items c.new_builder.result c.new_builder.ensures.reads ∙ ap (λ (e : SlotParts). total_reads e.machines) c.self.view_is

@@ -6,9 +6,9 @@ use Rattle.byte_automaton.specs.Runs.{most_reads}
 use Rattle.byte_automaton.specs.Steps.{Machine}
 use Rattle.byte_table.specs.Entries.{indexes_under}
 use Rattle.glob_automaton.specs.IndexedTokens.{IsFor, indexed}
-use Rattle.group_matching.specs.inner.Automata.{SlotParts, KeepsTokens, machine_under, slot_of}
+use Rattle.group_matching.specs.inner.Automata.{SlotParts, KeepsTokens, machine_under, slot_of, total_reads}
 use Rattle.group_matching.proofs.lemmas.Tables.{first_in}
-use Rattle.group_matching.proofs.lemmas.Slots.{slot_parts, slots_set, slot_adds, slot_reads_added}
+use Rattle.group_matching.proofs.lemmas.Slots.{slot_parts, slots_set, slot_adds, slot_reads_added, total_set}
 use Rattle.group_matching.proofs.automata.slots.SlotsBuilder.add_tokens.Goals as goal
 
 pub index_mut-requires : goal.index_mut-requires
@@ -48,7 +48,7 @@ returns-clause-tokens c =
     (λ adds before are.
     slot_adds c.args.self.now mid new c.args.key.items slot (indexed c.args.options (tokens_of c.args.tokens.now) c.args.index) c.index_mut.result.now c.add_tokens.new.builder c.self.invariant at lt refl refl
     (λ xs is. adds xs (subst (λ (m : Machine). IsFor m xs) (sym c.index_mut.ensures.value) is)) before
-    (subst (λ (e : SlotParts). KeepsTokens c.args.self.now.slots before e) (sym c.self.view_is) (c.in_ok-slot.ensures.tokens before are)))
+    (subst (λ (e : SlotParts). KeepsTokens c.args.self.now before e) (sym c.self.view_is) (c.in_ok-slot.ensures.tokens before are)))
     c.add_tokens.ensures.tokens
 
 pub returns-clause-reads : goal.returns-clause-reads
@@ -67,4 +67,19 @@ returns-clause-reads c =
     let value = ap most_reads c.index_mut.ensures.value in
     let within : most_reads c.add_tokens.new.builder ≤ most_reads (get_or machines slot c.index_mut.result.now) + more = omega (arith, few, value) in
     let added = slot_reads_added mid new c.args.key.items slot more c.index_mut.result.now c.add_tokens.new.builder c.self.invariant at lt refl refl refl within extension in omega (arith, kept, added))
+    c.add_tokens.ensures.reads
+
+pub returns-clause-total : goal.returns-clause-total
+returns-clause-total c =
+    let slot = c.in_ok-slot.slot in
+    let machines = c.self.inside.builders.items in
+    let more = weight c.args.options (tokens_of c.args.tokens.now) + 4 in
+    let at : slot_of c.self.inside.slots c.args.key.items ≡ Some slot = ap (λ (e : SlotParts). slot_of e.slots c.args.key.items) c.self.view_is ∙ c.in_ok-slot.ensures.slot in
+    let lt = c.self.invariant.held c.args.key.items slot (first_in (indexes_under c.self.inside.slots c.args.key.items) slot at) in
+    let kept = ap (λ (e : SlotParts). total_reads e.machines) c.self.view_is in
+    let value = ap most_reads c.index_mut.ensures.value in
+    on_ok_weaker c.add_tokens.result
+    (λ few.
+    let within : most_reads c.add_tokens.new.builder ≤ most_reads (get_or machines slot c.index_mut.result.now) + more = omega (arith, few, value) in
+    let added = total_set machines slot more c.index_mut.result.now c.add_tokens.new.builder lt within in omega (arith, kept, c.in_ok-slot.ensures.total, added))
     c.add_tokens.ensures.reads

@@ -1,0 +1,36 @@
+use Rattle.std.proofs.Common.{[], ◌∷◌, ◌≤◌, ◌+◌, ◌*◌, length, ap, subst, arith, IsTrue}
+use Rattle.std.specs.Prelude.{◌↔◌}
+use Rattle.std.proofs.Math.Nat.{mul-le-mul_left}
+use Rattle.std.proofs.lemmas.Result.{IfOk-weaker}
+use Rattle.byte_automaton.specs.Runs.{size}
+use Rattle.glob_automaton.specs.IndexedTokens.{indexed}
+use Rattle.glob_text.specs.Means.{tokens_of_glob}
+use Rattle.globset_glob.specs.Cost.{cost}
+use Rattle.globset_glob.specs.GlobBelow.{GlobMeansBelow}
+use Rattle.globset_glob.specs.declared.matcher.form.Form.{Form}
+use Rattle.globset_glob.specs.inner.GlobAutomaton.{IsFormOf}
+use Rattle.globset_glob.proofs.lemmas.GlobAutomaton.{key_matches_below, one_matches_below, one_visit_below}
+use Rattle.globset_glob.proofs.matcher.form.Form.can_match_below.Goals as goal
+
+pub returns-in-Key-clause-some : goal.returns-in-Key-clause-some
+returns-in-Key-clause-some c = λ g is.
+    let form = subst (λ (f : Form). IsFormOf g f) c.in-Key.is is in
+    subst (λ p. IsTrue c.key_can_match_below.result ↔ GlobMeansBelow g p) c.path.ensures
+    (key_matches_below g c.path.result.now c.key_can_match_below.result (c.key_can_match_below.ensures g.options (tokens_of_glob g) form.0 form.1))
+
+pub returns-in-Key-clause-visits : goal.returns-in-Key-clause-visits
+returns-in-Key-clause-visits c = λ g is. omega (arith, c.tick.ensures, one_visit_below g c.args.folder.now)
+
+pub returns-in-Automaton-clause-some : goal.returns-in-Automaton-clause-some
+returns-in-Automaton-clause-some c =
+    IfOk-weaker c.can_match_after.result _ _ (λ yes some g is.
+    let form = subst (λ (f : Form). IsFormOf g f) c.in-Automaton.is is in
+    subst (λ p. IsTrue yes ↔ GlobMeansBelow g p) c.path-in-Automaton.ensures (one_matches_below g c.path-in-Automaton.result.now yes (some (indexed g.options (tokens_of_glob g) 0 ∷ []) form.tokens))) c.can_match_after.ensures.some
+
+pub returns-in-Automaton-clause-visits : goal.returns-in-Automaton-clause-visits
+returns-in-Automaton-clause-visits c = λ g is.
+    let form = subst (λ (f : Form). IsFormOf g f) c.in-Automaton.is is in
+    let positions = length c.path-in-Automaton.result.now + 2 in
+    let few : size c.in-Automaton.automaton ≤ cost g = omega (arith, form.reads) in
+    let all : positions * size c.in-Automaton.automaton ≤ positions * cost g = mul-le-mul_left positions few in
+    omega (arith, c.can_match_after.ensures.visits, all, ap (λ p. (length p + 2) * cost g) c.path-in-Automaton.ensures)
