@@ -483,6 +483,54 @@ def matches_all(globs, path):
     return len(answer(globs, path)) == len(globs)
 
 
+# ---- Paths below a folder: the folder, a `/`, and any bytes, perhaps none
+
+
+def some_word(tokens, options):
+    """Returns bytes that these tokens match. There always are some: no class is empty."""
+    found = b""
+    for token in tokens:
+        if token.kind == "literal":
+            found += token.value.encode()
+        elif token.kind == "?":
+            found += b"a"
+        elif token.kind == "class":
+            found += bytes([min(class_bytes(token, options.case_insensitive))])
+        elif token.kind == "group":
+            found += some_word(next(iter(kept_branches(token, options)), ()), options)
+        elif token.kind in ("suffix", "middle"):
+            found += b"/"
+    return found
+
+
+def rest_after(tokens, options, path, starts):
+    """Returns a rest: bytes so that the tokens match what there is of the path and the rest together from one of these positions
+    on. Returns None if there is no rest. The path ends in `/`.
+
+    A token other than a group that matches bytes beyond the path's last `/` also matches those up to it. So there is a rest
+    exactly if some of the first tokens, or of those of a branch of the next one, match up to the end of the path.
+    """
+    for at, token in enumerate(tokens):
+        if len(path) in starts:
+            return some_word(tokens[at:], options)
+        for branch in kept_branches(token, options) if token.kind == "group" else []:
+            rest = rest_after(branch, options, path, starts)
+            if rest is not None:
+                return rest + some_word(tokens[at + 1 :], options)
+        starts = sequence_ends([token], options, path, starts)
+    return b"" if len(path) in starts else None
+
+
+def rest_below(glob, folder):
+    """Returns bytes so that the glob matches the path of the folder, a `/` and these bytes, or None if there are none."""
+    return rest_after(reading(glob), glob.options, folder + b"/", {0})
+
+
+def matches_below(globs, folder):
+    """Returns whether a set of these globs returns some index for some path below the folder."""
+    return any(rest_below(glob, folder) is not None for glob in globs if not is_silent(glob))
+
+
 # ---- Command-line arguments
 
 FLAGS = {

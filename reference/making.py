@@ -190,6 +190,29 @@ def path_of_glob(source, glob):
     return wanted_path(source, glob, lambda path: glob_means(glob, path))
 
 
+# ---- Folders
+
+
+def folder_for(source, glob):
+    """Returns a folder for a glob: what is before a `/` of a path that it matches, or that path, with some small changes or none."""
+    path = word(source, reading(glob), glob.options)
+    ends = [at for at, byte in enumerate(path) if byte == ord("/")] + [len(path)]
+    folder = path[: source.pick(ends)] if source.chance(0.9) else source.pick(FRAGMENTS)
+    while source.chance(0.4):
+        folder = changed(source, folder)
+    return folder[:80]
+
+
+def wanted_folder(source, globs, test, tries=8):
+    """Returns a folder for one of these globs that passes or fails a test, as chance decides, or the last that was tried."""
+    want = source.chance(0.4)
+    for _ in range(tries):
+        folder = folder_for(source, source.pick(globs))
+        if test(folder) == want:
+            break
+    return folder
+
+
 # ---- Counts
 
 
@@ -252,3 +275,14 @@ def count_path(counts, path):
         path.decode()
     except UnicodeDecodeError:
         counts["path that is not UTF-8"] += 1
+
+
+def count_folder(counts, folder):
+    counts["folders"] += 1
+    counts["folder that is empty"] += folder == b""
+    counts["folder that ends in /"] += folder.endswith(b"/")
+    counts["folder whose last component is .."] += folder.split(b"/")[-1] == b".."
+    try:
+        folder.decode()
+    except UnicodeDecodeError:
+        counts["folder that is not UTF-8"] += 1

@@ -9,7 +9,9 @@ import re
 import globs as definitions
 from globs import Glob, Options, Rejected, ValueRejected
 
-QUESTION = {"read": 3, "glob": 3, "add": 3, "match": 4, "path": 2, "equal": 5, "parts": 2, "escape": 2, "value": 2, "array": 2}
+QUESTION = {
+    "read": 3, "glob": 3, "add": 3, "match": 4, "path": 2, "below": 2, "equal": 5, "parts": 2, "escape": 2, "value": 2, "array": 2,
+}
 
 LETTERS = {
     "i": "case_insensitive",
@@ -109,6 +111,11 @@ class Case:
         each = [index for index, glob in enumerate(self.alone) if definitions.glob_means(glob, path)]
         return [listed(indexes), yes_or_no(definitions.matches_all(self.globs, path)), listed(each)]
 
+    def below(self, folder):
+        folder = unescaped(folder)
+        each = [index for index, glob in enumerate(self.alone) if definitions.rest_below(glob, folder) is not None]
+        return [yes_or_no(definitions.matches_below(self.globs, folder)), listed(each)]
+
     def equal(self, options, text, other_options, other_text):
         globs = [glob_of(options, text), glob_of(other_options, other_text)]
         errors = []
@@ -144,6 +151,12 @@ class Case:
         return ["reads", str(len(self.globs))]
 
 
+def expanded(row):
+    """Returns a row with the copies in it that each `«COUNT TEXT»` stands for, if it begins with the column `repeat`."""
+    short = row.removeprefix("repeat\t")
+    return row if short == row else re.sub("«([0-9]+) ([^»]*)»", lambda found: int(found[1]) * found[2], short)
+
+
 def questions(lines):
     """Yields the rows of a file: the number of the line, the case, the columns of the question, and those of its answer."""
     case = Case()
@@ -151,6 +164,6 @@ def questions(lines):
         if not line:
             case = Case()
         elif not line.startswith("#"):
-            columns = line.split("\t")
+            columns = expanded(line).split("\t")
             count = QUESTION[columns[0]]
             yield number, case, columns[:count], columns[count:]

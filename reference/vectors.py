@@ -33,6 +33,15 @@ ALONE = """\
 #   match  OPTIONS  GLOB  PATH   ANSWER        whether the glob matches the path, by a matcher and by a set of it alone
 #
 """
+FOLDERS = """\
+# An empty line ends a case: its globs, and folders that a set of them is asked about.
+#
+#   add    OPTIONS  GLOB  LENGTH     adds a glob to the set, which then has LENGTH globs
+#   array  JSON  reads  LENGTH       `GlobSet::from_value` reads a set of as many globs; EACH is then `-`
+#   below  FOLDER  ANSWER  EACH      ANSWER: whether the set matches some path below the folder: the folder, a `/`, and any
+#                                    bytes, perhaps none; EACH: the indexes of the globs whose own matchers match such a path
+#
+"""
 ARRAYS = """\
 #   array  JSON  reads  LENGTH        `GlobSet::from_value` reads a set of as many globs; rows after this one ask it
 #   path   PATH  INDEXES  ALL  -      INDEXES: what `matches` of the set returns, separated by commas, or `-` for none;
@@ -76,6 +85,8 @@ class File:
         if question[0] == "path":
             counts["path answers: " + ("none" if answer[0] == "-" else "some")] += 1
             counts["path answers: all globs match"] += answer[1] == "yes"
+        if question[0] == "below":
+            counts["below answers: " + answer[0]] += 1
         return answer
 
     def ask_glob(self, kind, glob):
@@ -85,6 +96,10 @@ class File:
     def ask_path(self, path):
         making.count_path(self.counts, path)
         self.ask("path", escaped(path))
+
+    def ask_folder(self, folder):
+        making.count_folder(self.counts, folder)
+        self.ask("below", escaped(folder))
 
     def ask_match(self, glob, path):
         making.count_path(self.counts, path)
@@ -299,6 +314,87 @@ def ask_large(file, source, globs, kind, paths, make=large.path_for):
             file.ask_path(path)
 
 
+# ---- many_folders.txt
+
+# For each group of globs forms of globs and their options. In a form `#` stands for a number, and `D` for one of a few folders.
+PLAIN, SEPARATOR = [DEFAULTS], [DEFAULTS._replace(literal_separator=True)]
+CASE, EMPTY = [DEFAULTS._replace(case_insensitive=True)], [DEFAULTS._replace(empty_alternates=True)]
+GROUPS = {
+    "WholePath": [(["src/D/f#.rs", "D/n#/", "/D/n#", "n#", "D/n#//D"], PLAIN + SEPARATOR)],
+    "LastComponent": [(["**/n#"], PLAIN + SEPARATOR)],
+    "LastComponents": [(["**/D/n#", "**/n#/"], PLAIN + SEPARATOR)],
+    "Extension": [(["*.e#"], PLAIN), (["**/*.e#"], PLAIN + SEPARATOR)],
+    "End": [(["*_n#", "*/D/n#", "**/*n#/"], PLAIN)],
+    "Beginning": [(["D/n#*", "n#*", "/D/n#*"], PLAIN), (["D/**", "src/D/n#/**", "/n#/**"], PLAIN + SEPARATOR)],
+    "RequiredExtension": [(["D/*.e#", "*n#/?.rs", "[dn]#/**/*.rs", "D/n#/**/x*.e#"], PLAIN + SEPARATOR), (["*.e#", "D*.e#"], SEPARATOR)],
+    "ByLastComponent": [(["**/n#?[ab]*", "**/[ab]n#*"], SEPARATOR)],
+    "ByPath": [
+        (["D/?/[a-c]", "{D,b#,{{c,}}d}/x*", "D/**/n#?", "*/[!n]#/?", "?#{/**,}", "{n#/,}D/{**/b,c}"], PLAIN + SEPARATOR + CASE + EMPTY),
+        (["D/n#", "n#/*", "src/D/f#*.rs", "D/**"], CASE),
+        (["D/n#*", "?#/*/n#", "*/D/n#", "D*/n#"], SEPARATOR),
+    ],
+    "Silent": [(["**/..", "**/**/..", "**/\\.."], PLAIN + SEPARATOR)],
+}
+# The groups of which each glob matches some path below every folder.
+GROUPS_OF_ALL_FOLDERS = ["LastComponent", "LastComponents", "Extension", "End", "ByLastComponent"]
+SELECTIVE_GROUPS = [group for group in GROUPS if group not in GROUPS_OF_ALL_FOLDERS]
+
+
+def many_folders(counts, source):
+    file = File(counts, "# Folders, and whether sets of globs match some path below them.\n#\n" + FOLDERS + OPTIONS)
+    for group in GROUPS:
+        for size in [1, 1, 2, 3] if group in GROUPS_OF_ALL_FOLDERS else [1, 1, 1, 1, 2, 2, 3, 4, 6]:
+            ask_folders_of_set(file, source, globs_of_groups(source, [group], size), f"of the group {group}", 7)
+    for groups, what in [(SELECTIVE_GROUPS, "of groups that match below some folders"), (list(GROUPS), "of all groups")]:
+        for size in [1, 1, 2, 2, 2, 3, 3, 4, 5, 7, 9, 12]:
+            ask_folders_of_set(file, source, globs_of_groups(source, groups, size), what, 10)
+    for size in [64, 65, 100, 300]:
+        for groups in [["WholePath"], ["Beginning"], ["RequiredExtension"], ["ByPath"], SELECTIVE_GROUPS]:
+            globs = [glob for glob in globs_of_groups(source, groups, 2 * size) if is_selective(glob)][:size]
+            ask_folders_of_set(file, source, globs, "of many globs that match below some folders", 8, as_array=True)
+    for make in (making.hard_glob, realistic_glob):
+        for _ in range(250):
+            globs = [glob for glob in (make(source) for _ in range(source.pick([1, 2, 3, 5]))) if is_read(glob)]
+            if source.chance(0.8):
+                globs = list(filter(is_selective, globs))
+            ask_folders_of_set(file, source, globs, "of hard and of realistic globs", 4)
+    return file
+
+
+def globs_of_groups(source, groups, size):
+    """Returns globs of these groups. Some have other options, and may be in another group."""
+    globs = []
+    for _ in range(size):
+        forms, options = source.pick(GROUPS[source.pick(groups)])
+        text = source.pick(forms).replace("D", source.pick(["d0", "d1", "a"])).replace("#", str(source.below(3 * size)))
+        globs.append(Glob(text, source.options() if source.chance(0.15) else source.pick(options)))
+    return globs
+
+
+def is_selective(glob):
+    """Returns whether a set of the glob matches no path below a folder that has nothing to do with it."""
+    return not definitions.matches_below([glob], b"none/such")
+
+
+def ask_folders_of_set(file, source, globs, kind, folders, as_array=False):
+    """Adds a case: the set of these globs, of a kind, and folders made from them."""
+    if not globs:
+        return
+    if as_array:
+        ask_json_set(file, globs, kind)
+    else:
+        file.end_case()
+        file.counts[f"sets {kind}"] += 1
+        for glob in globs:
+            file.ask_glob("add", glob)
+    asked = set()
+    for _ in range(folders):
+        folder = making.wanted_folder(source, globs, lambda folder: definitions.matches_below(globs, folder))
+        if folder not in asked:
+            asked.add(folder)
+            file.ask_folder(folder)
+
+
 # ---- texts.txt
 
 
@@ -437,6 +533,7 @@ FILES = {
     "crates/replay/data/texts.txt": texts,
     "reference/commands.txt": commands,
     "crates/replay/data/large_sets.txt": large_sets,
+    "crates/replay/data/many_folders.txt": many_folders,
 }
 
 
