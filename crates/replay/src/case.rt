@@ -10,19 +10,38 @@ use rows::{Case, Columns, RowError, escaped, list, yes_or_no};
 use serde_json::Value;
 use std::alloc::Global;
 use std::hash::{DefaultHasher, Hash, Hasher};
-use std::slice;
 
 /// The limits on the bytes of tables that are not the default. Under both no table is made, and all automata are simulated: under
 /// the first with filters, where they have many globs, and under the second without.
 const LIMITS: [usize; 2] = [1, 0];
 
 /// The globs that rows so far added, and sets of them: one under the default limit, and one under each other limit.
-#[derive(Drop)]
 pub struct Globs {
     alloc: Global,
     globs: Vec<Glob>,
     set: GlobSet,
     limited: Vec<GlobSet>,
+}
+
+impl Drop for Globs {
+    // One call wherever a value is dropped, which keeps proofs short.
+    fn drop(self) {
+        let Globs {
+            alloc: _,
+            globs: _,
+            set: _,
+            limited: _,
+        } = self;
+    }
+}
+
+/// What a matcher is asked about a path.
+#[derive(Clone, Copy)]
+enum Asked {
+    /// Whether it matches the path.
+    Path,
+    /// Whether it matches some path below the path, which is a folder.
+    Below,
 }
 
 impl Case for Globs {
@@ -42,6 +61,7 @@ impl Case for Globs {
             "add" => self.add(columns),
             "match" => self.is_match(columns),
             "path" => self.path(columns),
+            "below" => self.below(columns),
             "equal" => self.equal(columns),
             "parts" => self.parts(columns),
             "escape" => self.escape(columns),
@@ -90,7 +110,9 @@ impl Globs {
 
     /// Returns whether a glob matches a path, by its matcher and by a set of it alone, each of them under each limit.
     fn is_match(&self, columns: &mut Columns<'_>) -> Result<String> {
-        is_match(self.alloc, &read(self.alloc, columns)??, columns)
+        let mut alone = Globs::new(self.alloc);
+        alone.push(read(self.alloc, columns)??)?;
+        shown::copied(self.alloc, answer_of_one(&alone.path(columns)?))
     }
 
     /// Returns the indexes that the set returns for a path, whether all globs match it, and the indexes of the globs whose
@@ -100,68 +122,64 @@ impl Globs {
     }
 
     fn answers(&self, path: &Candidate<'_>) -> Result<String> {
-        self.compared_answers(path, &self.set.matches_candidate(self.alloc, path)?)
-    }
-
-    fn compared_answers(&self, path: &Candidate<'_>, indexes: &[usize]) -> Result<String> {
-        if self.set.is_match_candidate(path)? == indexes.is_empty() {
-            return shown::copied(self.alloc, "is_match and matches differ");
-        }
+        let answer = answer(self.alloc, &self.set, path)?;
         for limited in &self.limited {
-            if !self.is_alike(limited, path, indexes)? {
+            if !is_answer(self.alloc, limited, path, &answer)? {
                 return shown::copied(self.alloc, "the set and a set under another limit differ");
             }
         }
-        self.shown_answers(path, &list(self.alloc, indexes)?)
+        shown::pair(self.alloc, &answer, &self.each(path, Asked::Path)?)
     }
 
-    /// Returns whether another set returns these indexes, and what else the set returns.
-    fn is_alike(
-        &self,
-        other: &GlobSet,
-        path: &Candidate<'_>,
-        indexes: &[usize],
-    ) -> Result<bool, Error> {
-        Ok(
-            indexes_are(self.alloc, other, path, indexes)?
-                && other.is_match_candidate(path)? != indexes.is_empty()
-                && other.matches_all_candidate(path)? == self.set.matches_all_candidate(path)?,
+    /// Returns whether the set matches some path below a folder, and the indexes of the globs whose own matchers match such a
+    /// path. Sets and matchers under the other limits have to return the same.
+    fn below(&self, columns: &mut Columns<'_>) -> Result<String> {
+        self.answers_below(&Candidate::from_bytes(&columns.bytes(self.alloc)?))
+    }
+
+    fn answers_below(&self, folder: &Candidate<'_>) -> Result<String> {
+        let yes = self.set.can_match_below_candidate(folder)?;
+        for limited in &self.limited {
+            if limited.can_match_below_candidate(folder)? != yes {
+                return shown::copied(self.alloc, "the set and a set under another limit differ");
+            }
+        }
+        shown::pair(
+            self.alloc,
+            yes_or_no(yes),
+            &self.each(folder, Asked::Below)?,
         )
     }
 
-    fn shown_answers(&self, path: &Candidate<'_>, indexes: &str) -> Result<String> {
-        let all = yes_or_no(self.set.matches_all_candidate(path)?);
-        shown::columns(self.alloc, indexes, all, &self.each(path)?)
+    /// Returns the indexes of the globs whose own matchers match a path, or some path below it.
+    fn each(&self, path: &Candidate<'_>, asked: Asked) -> Result<String> {
+        self.compared_each(path, asked, &self.matching(path, asked, None)?)
     }
 
-    /// Returns the indexes of the globs whose own matchers match a path.
-    fn each(&self, path: &Candidate<'_>) -> Result<String> {
-        self.compared_each(path, &self.matching(path, None)?)
-    }
-
-    fn compared_each(&self, path: &Candidate<'_>, indexes: &[usize]) -> Result<String> {
+    fn compared_each(
+        &self,
+        path: &Candidate<'_>,
+        asked: Asked,
+        indexes: &[usize],
+    ) -> Result<String> {
         for limit in LIMITS {
-            if !self.matchers_find(path, limit, indexes)? {
+            if self.matching(path, asked, Some(limit))?.as_slice() != indexes {
                 return shown::copied(self.alloc, "a matcher and one under another limit differ");
             }
         }
         Ok(list(self.alloc, indexes)?)
     }
 
-    fn matchers_find(
+    /// The same under the default limit or another.
+    fn matching(
         &self,
         path: &Candidate<'_>,
-        limit: usize,
-        indexes: &[usize],
-    ) -> Result<bool, Error> {
-        Ok(self.matching(path, Some(limit))?.as_slice() == indexes)
-    }
-
-    /// Returns the indexes of the globs whose own matchers match a path, under the default limit or another.
-    fn matching(&self, path: &Candidate<'_>, limit: Option<usize>) -> Result<Vec<usize>, Error> {
+        asked: Asked,
+        limit: Option<usize>,
+    ) -> Result<Vec<usize>, Error> {
         let mut indexes = Vec::new(self.alloc);
         for (i, glob) in self.globs.iter().enumerate() {
-            if matches_by(glob, path, limit)? {
+            if matches_by(glob, path, asked, limit)? {
                 indexes.push(i)?;
             }
         }
@@ -219,35 +237,46 @@ fn shown_copy(alloc: Global, glob: &Glob) -> Result<String> {
     shown::glob(alloc, &glob.clone()?)
 }
 
-/// Returns whether a glob matches the path of the next column.
-fn is_match(alloc: Global, glob: &Glob, columns: &mut Columns<'_>) -> Result<String> {
-    compared_matches(alloc, glob, &Candidate::from_bytes(&columns.bytes(alloc)?))
+/// Returns `yes` or `no` in place of the columns that a set of one glob answers, or these columns where its matcher differs.
+fn answer_of_one(columns: &str) -> &str {
+    match columns {
+        "0\tyes\t0" => "yes",
+        "-\tno\t-" => "no",
+        _ => columns,
+    }
 }
 
-fn compared_matches(alloc: Global, glob: &Glob, path: &Candidate<'_>) -> Result<String> {
-    let matcher = matches_by_itself(glob, path)?;
-    let set = matches_of_set(alloc, glob, path)?;
-    for limit in LIMITS {
-        if matches_under(glob, path, limit)? != matcher {
-            return shown::copied(alloc, "the matcher and one under another limit differ");
-        }
-        if matches_of_limited_set(alloc, glob, path, limit)? != set {
-            return shown::copied(alloc, "the set and a set under another limit differ");
-        }
-    }
-    if matcher != set {
-        return shown::copied(alloc, "the matcher and the set differ");
-    }
-    shown::copied(alloc, yes_or_no(matcher))
+/// Returns the indexes that a set returns for a path, and whether all globs match it.
+fn answer(alloc: Global, set: &GlobSet, path: &Candidate<'_>) -> Result<String> {
+    let some = set.is_match_candidate(path)?;
+    let all = set.matches_all_candidate(path)?;
+    shown_answer(alloc, some, all, &set.matches_candidate(alloc, path)?)
 }
 
-/// Returns whether a glob matches a path, by a matcher under the default limit or another.
-fn matches_by(glob: &Glob, path: &Candidate<'_>, limit: Option<usize>) -> Result<bool, Error>
-    ensures { IfOk result (λ yes. yes ≡ glob_means glob.now path.now) }
-{
-    match limit {
-        Some(limit) => matches_under(glob, path, limit),
-        None => matches_by_itself(glob, path),
+fn shown_answer(alloc: Global, some: bool, all: bool, indexes: &[usize]) -> Result<String> {
+    if some == indexes.is_empty() {
+        return shown::copied(alloc, "is_match and matches differ");
+    }
+    shown::pair(alloc, &list(alloc, indexes)?, yes_or_no(all))
+}
+
+/// Returns whether a set returns this answer for a path.
+fn is_answer(alloc: Global, set: &GlobSet, path: &Candidate<'_>, columns: &str) -> Result<bool> {
+    Ok(answer(alloc, set, path)?.as_str() == columns)
+}
+
+/// Returns whether a glob matches a path, or some path below it, by a matcher under the default limit or another.
+fn matches_by(
+    glob: &Glob,
+    path: &Candidate<'_>,
+    asked: Asked,
+    limit: Option<usize>,
+) -> Result<bool, Error> {
+    match (asked, limit) {
+        (Asked::Path, None) => matches_by_itself(glob, path),
+        (Asked::Path, Some(limit)) => matches_under(glob, path, limit),
+        (Asked::Below, None) => matches_below(glob, path),
+        (Asked::Below, Some(limit)) => matches_below_under(glob, path, limit),
     }
 }
 
@@ -266,29 +295,15 @@ fn matches_under(glob: &Glob, path: &Candidate<'_>, limit: usize) -> Result<bool
         .is_match_candidate(path)
 }
 
-/// Returns whether a set of a glob alone matches a path.
-fn matches_of_set(alloc: Global, glob: &Glob, path: &Candidate<'_>) -> Result<bool, Error> {
-    GlobSet::new(alloc, [glob])?.is_match_candidate(path)
+/// Returns whether a glob matches some path below a folder, by a matcher.
+fn matches_below(glob: &Glob, folder: &Candidate<'_>) -> Result<bool, Error> {
+    glob.compile_matcher()?.can_match_below_candidate(folder)
 }
 
-/// Returns whether a set of a glob alone matches a path, under a limit.
-fn matches_of_limited_set(
-    alloc: Global,
-    glob: &Glob,
-    path: &Candidate<'_>,
-    limit: usize,
-) -> Result<bool, Error> {
-    limited_set(alloc, slice::from_ref(glob), limit)?.is_match_candidate(path)
-}
-
-/// Returns whether a set returns these indexes for a path.
-fn indexes_are(
-    alloc: Global,
-    set: &GlobSet,
-    path: &Candidate<'_>,
-    indexes: &[usize],
-) -> Result<bool, Error> {
-    Ok(set.matches_candidate(alloc, path)?.as_slice() == indexes)
+/// Returns whether a glob matches some path below a folder, by a matcher under a limit.
+fn matches_below_under(glob: &Glob, folder: &Candidate<'_>, limit: usize) -> Result<bool, Error> {
+    glob.compile_matcher_with_limit(limit)?
+        .can_match_below_candidate(folder)
 }
 
 /// Returns the sets of these globs under each limit that is not the default.
