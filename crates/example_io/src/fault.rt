@@ -5,7 +5,6 @@ use std::alloc::{AllocError, AllocFailed};
 use std::{fmt, io};
 
 /// Why a program ends early. It is printed without the program's name.
-#[derive(Debug, Drop)]
 pub enum Fault {
     /// There is not exactly one argument.
     Usage,
@@ -31,31 +30,62 @@ pub enum Fault {
     OutOfMemory,
 }
 
+impl Drop for Fault {
+    // One call wherever a value is dropped, which keeps proofs short.
+    fn drop(self) {
+        match self {
+            Fault::Usage | Fault::OutOfMemory => {}
+            Fault::Arguments(_) | Fault::Input(_) | Fault::Output(_) => {}
+            Fault::File { name: _, error: _ } => {}
+            Fault::Line {
+                file: _,
+                number: _,
+                text: _,
+                reason: _,
+            } => {}
+        }
+    }
+}
+
 impl fmt::Display for Fault {
     fn fmt<W: fmt::Write>(&self, f: &mut fmt::Formatter<W>) -> fmt::Result {
         match self {
             Fault::Usage => f.write_str("one argument is needed"),
-            Fault::Arguments(error) => write!(f, "arguments: {error}"),
-            Fault::File { name, error } => write!(f, "{}: {error}", Shown(name.as_bytes())),
+            Fault::Arguments(error) => write_error(f, "arguments", error),
+            Fault::File { name, error } => write_error(f, name.as_str(), error),
             Fault::Line {
                 file,
                 number,
                 text,
                 reason,
-            } => {
-                let file = Shown(file.as_bytes());
-                let text = Shown(text.as_slice());
-                let reason = Shown(reason.as_bytes());
-                write!(f, "{file}: line {number}: {text}: {reason}")
-            }
-            Fault::Input(error) => write!(f, "standard input: {error}"),
-            Fault::Output(error) => write!(f, "standard output: {error}"),
+            } => write_line_error(f, file.as_str(), *number, text.as_slice(), reason.as_str()),
+            Fault::Input(error) => write_error(f, "standard input", error),
+            Fault::Output(error) => write_error(f, "standard output", error),
             Fault::OutOfMemory => f.write_str("out of memory"),
         }
     }
 }
 
-impl std::error::Error for Fault {}
+/// Writes what cannot be read or written, and why.
+fn write_error<W: fmt::Write>(
+    f: &mut fmt::Formatter<W>,
+    name: &str,
+    error: &io::Error,
+) -> fmt::Result {
+    write!(f, "{}: {error}", Shown(name.as_bytes()))
+}
+
+/// Writes the place of a line, the text of it that is wrong, and what is wrong with it.
+fn write_line_error<W: fmt::Write>(
+    f: &mut fmt::Formatter<W>,
+    file: &str,
+    number: usize,
+    text: &[u8],
+    reason: &str,
+) -> fmt::Result {
+    write!(f, "{}: line {number}: ", Shown(file.as_bytes()))?;
+    write!(f, "{}: {}", Shown(text), Shown(reason.as_bytes()))
+}
 
 impl From<AllocError> for Fault {
     fn from(_error: AllocError) -> Fault {

@@ -6,6 +6,7 @@
 #![tactic(auto)]
 
 mod fault;
+mod lines;
 mod output;
 mod paths;
 mod program;

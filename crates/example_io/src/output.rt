@@ -5,9 +5,15 @@ use std::alloc::{AllocError, Global};
 use std::io::{self, Write};
 
 /// Lines that are written to standard output at once, so that an error before leaves nothing written.
-#[derive(Drop)]
 pub struct Output {
     bytes: Vec<u8>,
+}
+
+impl Drop for Output {
+    // One call wherever a value is dropped, which keeps proofs short.
+    fn drop(self) {
+        let Output { bytes: _ } = self;
+    }
 }
 
 impl Output {
@@ -23,14 +29,20 @@ impl Output {
         for part in parts {
             self.bytes.extend_from_slice(part)?;
         }
-        self.bytes.push(b'\n')?;
-        Ok(())
+        self.bytes.extend_from_slice(b"\n")
     }
 
     /// Writes the lines to standard output. After an error a beginning of them was written.
     pub fn write(&self, rt: &impl Print) -> Result<(), Fault> {
-        let mut stdout = io::writer(rt);
-        stdout.write_all(&self.bytes).map_err(Fault::Output)?;
-        stdout.flush().map_err(Fault::Output)
+        match write_to_stdout(rt, &self.bytes) {
+            Ok(()) => Ok(()),
+            Err(error) => Err(Fault::Output(error)),
+        }
     }
+}
+
+fn write_to_stdout(rt: &impl Print, bytes: &[u8]) -> io::Result<()> {
+    let mut stdout = io::writer(rt);
+    stdout.write_all(bytes)?;
+    stdout.flush()
 }

@@ -1,16 +1,19 @@
 //! The paths of standard input.
 
-ghost use Rattle.std.specs.Prelude.{length};
-ghost use Rattle.std.specs.Iterator.{at_most};
-
 use crate::fault::Fault;
-use memchr::memchr;
+use crate::lines::Lines;
 use std::io::Read;
 
 /// The bytes of standard input, each line of which is a path.
-#[derive(Drop)]
 pub struct Paths {
     bytes: Vec<u8>,
+}
+
+impl Drop for Paths {
+    // One call wherever a value is dropped, which keeps proofs short.
+    fn drop(self) {
+        let Paths { bytes: _ } = self;
+    }
 }
 
 impl Paths {
@@ -24,31 +27,7 @@ impl Paths {
     }
 
     /// Returns the lines without LF. A rest after the last LF is a line too, unless it is empty.
-    pub fn iter(&self) -> PathIter<'_> {
-        PathIter {
-            rest: self.bytes.as_slice(),
-        }
-    }
-}
-
-/// An iterator over the paths of [`Paths`].
-#[derive(Drop)]
-pub struct PathIter<'a> {
-    rest: &'a [u8],
-}
-
-impl<'a> Iterator for PathIter<'a> {
-    type Item = &'a [u8];
-
-    ghost remaining = { λ it. at_most (length it.rest.now) };
-
-    fn next(&mut self) -> Option<&'a [u8]> {
-        let rest = self.rest;
-        if rest.is_empty() {
-            return None;
-        }
-        let end = memchr(b'\n', rest).unwrap_or(rest.len());
-        self.rest = rest.get(end + 1..).unwrap_or(&[]);
-        Some(&rest[..end])
+    pub fn iter(&self) -> Lines<'_> {
+        Lines::new(self.bytes.as_slice())
     }
 }

@@ -1,7 +1,6 @@
 //! How a program is called, and how it ends.
 
 use crate::fault::Fault;
-use crate::output::Output;
 use crate::text_file::TextFile;
 use std::env;
 use std::process::ExitCode;
@@ -24,17 +23,19 @@ impl Program {
         &self,
         rt: &R,
     ) -> Result<Option<TextFile>, Fault> {
-        let mut arguments = env::args(rt).map_err(Fault::Arguments)?.skip(1);
-        let (Some(argument), None) = (arguments.next(), arguments.next()) else {
-            return Err(Fault::Usage);
-        };
-        if argument.as_str() != "-h" && argument.as_str() != "--help" {
-            return Ok(Some(TextFile::read(rt, argument)?));
+        let argument = read_argument(rt)?;
+        if matches!(argument.as_str(), "-h" | "--help") {
+            return self.print_help(rt);
         }
-        let mut output = Output::new(rt.alloc());
-        output.push_line(&[self.help.as_bytes()])?;
-        output.write(rt)?;
-        Ok(None)
+        open_file(rt, argument)
+    }
+
+    /// Prints the help, and returns no file.
+    fn print_help(&self, rt: &impl Print) -> Result<Option<TextFile>, Fault> {
+        match rt.println(self.help) {
+            Ok(()) => Ok(None),
+            Err(error) => Err(Fault::Output(error)),
+        }
     }
 
     /// Returns the exit status. Writes the text of an error to standard error before.
@@ -42,10 +43,32 @@ impl Program {
         let Err(fault) = ended else {
             return ExitCode::SUCCESS;
         };
+        self.print_fault(rt, &fault);
+        ExitCode::from(2)
+    }
+
+    /// Writes the text of an error to standard error, if that can be written.
+    fn print_fault(&self, rt: &impl Eprint, fault: &Fault) {
         let _ = match fault {
-            Fault::Usage => eprintln!(rt; "{}", self.help.lines().next().unwrap_or("")),
+            Fault::Usage => rt.eprintln(self.help.lines().next().unwrap_or("")),
             fault => eprintln!(rt; "{}: {fault}", self.name),
         };
-        ExitCode::from(2)
+    }
+}
+
+/// Returns the argument. Returns an error if there is not exactly one, or arguments cannot be read.
+fn read_argument<R: Env + AllocGlobal>(rt: &R) -> Result<String, Fault> {
+    match env::args(rt) {
+        Ok(mut arguments) if arguments.len() == 2 => arguments.nth(1).ok_or(Fault::Usage),
+        Ok(_) => Err(Fault::Usage),
+        Err(error) => Err(Fault::Arguments(error)),
+    }
+}
+
+/// Returns the file of this name.
+fn open_file<R: Files + AllocGlobal>(rt: &R, name: String) -> Result<Option<TextFile>, Fault> {
+    match TextFile::read(rt, name) {
+        Ok(file) => Ok(Some(file)),
+        Err(fault) => Err(fault),
     }
 }

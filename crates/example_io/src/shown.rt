@@ -1,18 +1,16 @@
 //! Bytes as they are printed in an error.
 
-use std::fmt;
+use std::fmt::{self, Display};
 
 /// Bytes that are printed as text. Control characters, and bytes that are not UTF-8, are printed escaped, as `\n` and `\xff`.
 #[derive(Clone, Copy)]
 pub struct Shown<'a>(pub &'a [u8]);
 
-impl fmt::Display for Shown<'_> {
+impl Display for Shown<'_> {
     fn fmt<W: fmt::Write>(&self, f: &mut fmt::Formatter<W>) -> fmt::Result {
         for chunk in self.0.utf8_chunks() {
             write_text(f, chunk.valid())?;
-            for byte in chunk.invalid() {
-                write!(f, "{}", byte.escape_ascii())?;
-            }
+            chunk.invalid().escape_ascii().fmt(f)?;
         }
         Ok(())
     }
@@ -22,7 +20,7 @@ impl fmt::Display for Shown<'_> {
 fn write_text<W: fmt::Write>(f: &mut fmt::Formatter<W>, text: &str) -> fmt::Result {
     for character in text.chars() {
         if character.is_control() {
-            write!(f, "{}", character.escape_default())?;
+            character.escape_default().fmt(f)?;
         } else {
             f.write_char(character)?;
         }

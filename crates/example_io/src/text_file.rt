@@ -1,6 +1,7 @@
 //! A file whose lines a program reads.
 
 use crate::fault::Fault;
+use crate::lines::Lines;
 use std::alloc::{AllocError, Global};
 use std::fmt::Display;
 use std::rt::Files;
@@ -10,10 +11,16 @@ use std::{fs, str};
 const BYTE_ORDER_MARK: &[u8] = b"\xef\xbb\xbf";
 
 /// A file, and its name.
-#[derive(Drop)]
 pub struct TextFile {
     name: String,
     bytes: Vec<u8>,
+}
+
+impl Drop for TextFile {
+    // One call wherever a value is dropped, which keeps proofs short.
+    fn drop(self) {
+        let TextFile { name: _, bytes: _ } = self;
+    }
 }
 
 impl TextFile {
@@ -25,17 +32,17 @@ impl TextFile {
         }
     }
 
-    /// Returns the lines without LF or CRLF, and without a byte order mark at the start of the file. Returns the error of the
-    /// first line that is not UTF-8, or an error if memory runs out.
+    /// Returns the lines without LF or CRLF, and without a byte order mark at the start of the file. A rest after the last LF is
+    /// a line too, unless it is empty. Returns the error of the first line that is not UTF-8, or an error if memory runs out.
     pub fn lines(&self, alloc: Global) -> Result<Vec<&str>, Fault> {
         let bytes = self.bytes.as_slice();
         let text = bytes.strip_prefix(BYTE_ORDER_MARK).unwrap_or(bytes);
         let mut lines = Vec::new(alloc);
-        for (i, line) in text.split(|byte| *byte == b'\n').enumerate() {
-            match str::from_utf8(line) {
-                Ok(line) => lines.push(line.strip_suffix('\r').unwrap_or(line))?,
-                Err(_) => return Err(self.fault(alloc, i + 1, line, "not UTF-8")),
-            }
+        for line in Lines::new(text) {
+            let Some(text) = text_of(line) else {
+                return Err(self.fault(alloc, lines.len() + 1, line, "not UTF-8"));
+            };
+            lines.push(text)?;
         }
         Ok(lines)
     }
@@ -49,9 +56,11 @@ impl TextFile {
         text: &[u8],
         reason: impl Display + Drop,
     ) -> Fault {
-        match self.line_fault(alloc, number, text, reason) {
-            Ok(fault) => fault,
-            Err(error) => Fault::from(error),
+        match reason.to_string(alloc) {
+            Ok(reason) => self
+                .line_fault(alloc, number, text, reason)
+                .unwrap_or(Fault::OutOfMemory),
+            Err(_) => Fault::OutOfMemory,
         }
     }
 
@@ -60,13 +69,21 @@ impl TextFile {
         alloc: Global,
         number: usize,
         text: &[u8],
-        reason: impl Display + Drop,
+        reason: String,
     ) -> Result<Fault, AllocError> {
         Ok(Fault::Line {
             file: self.name.clone()?,
             number,
             text: text.to_vec(alloc)?,
-            reason: format!(in alloc; "{reason}")?,
+            reason,
         })
+    }
+}
+
+/// Returns the text of a line without CR at its end, or `None` if it is not UTF-8.
+fn text_of(line: &[u8]) -> Option<&str> {
+    match str::from_utf8(line) {
+        Ok(text) => Some(text.strip_suffix('\r').unwrap_or(text)),
+        Err(_) => None,
     }
 }

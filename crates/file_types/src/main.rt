@@ -6,8 +6,8 @@
 
 mod table;
 
-use example_io::{Fault, Output, Paths, Program};
-use itertools::Itertools;
+use example_io::{Fault, Output, Paths, Program, TextFile};
+use std::alloc::{AllocError, Global};
 use std::process::ExitCode;
 use std::rt::Runtime;
 use table::Table;
@@ -25,21 +25,33 @@ fn main(rt: HostRuntime) -> ExitCode {
     PROGRAM.exit(&rt, run(&rt))
 }
 
-/// Prints each path with its types.
+/// Prints each path with its types, unless the argument asks for help.
 fn run(rt: &(impl Runtime + AllocGlobal)) -> Result<(), Fault> {
-    let Some(file) = PROGRAM.open(rt)? else {
-        return Ok(());
-    };
-    let mut table = Table::read(rt.alloc(), &file)?;
+    match PROGRAM.open(rt)? {
+        Some(file) => print_types(rt, &file),
+        None => Ok(()),
+    }
+}
+
+/// Prints each path with its types, by the table of the file.
+fn print_types(rt: &(impl Input + Print + AllocGlobal), file: &TextFile) -> Result<(), Fault> {
+    let mut table = Table::read(rt.alloc(), file)?;
     let paths = Paths::read(rt)?;
     let mut output = Output::new(rt.alloc());
-    for path in paths.iter() {
-        let types = table.types(rt.alloc(), path)?;
-        let names = match types.as_slice() {
-            [] => String::from_str(rt.alloc(), "-")?,
-            names => names.iter().join(rt.alloc(), ",")?,
-        };
-        output.push_line(&[path, b"\t", names.as_bytes()])?;
-    }
+    push_types(rt.alloc(), &mut table, &paths, &mut output)?;
     output.write(rt)
+}
+
+/// Adds a line for each path: the path, a tab and its types. Returns an error if memory runs out.
+fn push_types(
+    alloc: Global,
+    table: &mut Table<'_>,
+    paths: &Paths,
+    output: &mut Output,
+) -> Result<(), AllocError> {
+    for path in paths.iter() {
+        let types = table.types(alloc, path)?;
+        output.push_line(&[path, b"\t", types.as_bytes()])?;
+    }
+    Ok(())
 }

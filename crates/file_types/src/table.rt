@@ -9,9 +9,9 @@ ghost use Rattle.globset.specs.SetValue.{Fits};
 use example_io::{Fault, TextFile};
 use globset::{Candidate, Error, Glob, GlobSet, GlobSetBuilder, Scratch, Visits};
 use std::alloc::{AllocError, Global};
+use std::mem;
 
 /// A table of types, and all the memory that its globs are matched with.
-#[derive(Drop)]
 pub struct Table<'t> {
     set: GlobSet,
     /// For each glob of the set, the name of its type.
@@ -21,96 +21,151 @@ pub struct Table<'t> {
     ghost fits: { Fits scratch set },
 }
 
+impl Drop for Table<'_> {
+    // One call wherever a value is dropped, which keeps proofs short.
+    fn drop(self) {
+        let Table {
+            set: _,
+            names: _,
+            scratch: _,
+            matching: _,
+        } = self;
+    }
+}
+
 impl<'t> Table<'t> {
     /// Reads a table. Returns an error with its line if a line has no colon, a type has a line already or a glob cannot be
     /// read, or an error if memory runs out.
     pub fn read(alloc: Global, file: &'t TextFile) -> Result<Table<'t>, Fault> {
-        let mut globs = GlobSetBuilder::new(alloc);
-        let mut names = Vec::new(alloc);
-        for (i, line) in file.lines(alloc)?.iter().enumerate() {
-            push_line(alloc, &mut globs, &mut names, file, i + 1, line)?;
+        let mut types = Types::new(alloc);
+        types.push_lines(alloc, file)?;
+        match Table::take(alloc, &mut types) {
+            Ok(table) => Ok(table),
+            // A set has no other error than that memory ran out.
+            Err(_) => Err(Fault::OutOfMemory),
         }
-        Ok(Table::new(alloc, globs, names).map_err(out_of_memory)?)
     }
 
-    fn new(
-        alloc: Global,
-        mut globs: GlobSetBuilder,
-        names: Vec<&'t str>,
-    ) -> Result<Table<'t>, Error> {
-        let set = globs.take_set()?;
+    /// Takes the types that were read.
+    fn take(alloc: Global, types: &mut Types<'t>) -> Result<Table<'t>, Error> {
+        let set = types.globs.take_set()?;
         let scratch = Scratch::new(alloc, &set)?;
         let matching = Vec::with_capacity(alloc, set.len())?;
         Ok(Table {
             set,
-            names,
+            names: mem::replace(&mut types.names, Vec::new(alloc)),
             scratch,
             matching,
         })
     }
 
-    /// Returns the types of a path, in the order of the table, each once.
-    pub fn types(&mut self, alloc: Global, path: &[u8]) -> Result<Vec<&'t str>, AllocError> {
-        let component = path.rsplit(|byte| *byte == b'/').next().unwrap_or(path);
-        self.set
-            .matches_into_with(
-                &Candidate::from_bytes(component),
-                &mut self.scratch,
-                &mut self.matching,
-                &mut Visits::new(),
-            )
-            .map_err(out_of_memory)?;
-        let mut types = Vec::new(alloc);
-        for index in &self.matching {
-            if let Some(name) = self.names.get(*index) {
-                types.push(*name)?;
+    /// Returns the types of a path, in the order of the table, each once and separated by `,`, or `-` if it has none.
+    pub fn types(&mut self, alloc: Global, path: &[u8]) -> Result<String, AllocError> {
+        let component = Candidate::from_bytes(last_component(path));
+        let visits = &mut Visits::new();
+        match self
+            .set
+            .matches_into_with(&component, &mut self.scratch, &mut self.matching, visits)
+        {
+            Ok(()) => joined(alloc, &self.names, &self.matching),
+            // A set has no other error than that memory ran out.
+            Err(_) => Err(AllocError),
+        }
+    }
+}
+
+/// Returns the bytes after the last `/` of a path, or the whole path if it has none.
+fn last_component(path: &[u8]) -> &[u8] {
+    path.rsplit(|byte| *byte == b'/').next().unwrap_or(path)
+}
+
+/// Returns the names at these indexes, each once and separated by `,`, or `-` if there are none. Equal names have indexes one
+/// after another.
+fn joined(alloc: Global, names: &[&str], indexes: &[usize]) -> Result<String, AllocError> {
+    let mut found = Vec::new(alloc);
+    for index in indexes {
+        if let Some(name) = names.get(*index) {
+            found.push(*name)?;
+        }
+    }
+    found.dedup();
+    if found.is_empty() {
+        return String::from_str(alloc, "-");
+    }
+    found.join(alloc, ",")
+}
+
+/// The globs of a table as it is read, and for each of them the name of its type.
+struct Types<'t> {
+    globs: GlobSetBuilder,
+    names: Vec<&'t str>,
+}
+
+impl Drop for Types<'_> {
+    // One call wherever a value is dropped, which keeps proofs short.
+    fn drop(self) {
+        let Types { globs: _, names: _ } = self;
+    }
+}
+
+impl<'t> Types<'t> {
+    fn new(alloc: Global) -> Types<'t> {
+        Types {
+            globs: GlobSetBuilder::new(alloc),
+            names: Vec::new(alloc),
+        }
+    }
+
+    /// Adds the globs of each line of the file, as [`Table::read`] says.
+    fn push_lines(&mut self, alloc: Global, file: &'t TextFile) -> Result<(), Fault> {
+        for (i, line) in file.lines(alloc)?.iter().enumerate() {
+            self.push_line(alloc, file, i + 1, line)?;
+        }
+        Ok(())
+    }
+
+    /// Adds the globs of a line of the file, and for each of them the name of its type. Returns an error with the line's number.
+    fn push_line(
+        &mut self,
+        alloc: Global,
+        file: &TextFile,
+        number: usize,
+        line: &'t str,
+    ) -> Result<(), Fault> {
+        if line.is_empty() || line.starts_with('#') {
+            return Ok(());
+        }
+        let Some((name, list)) = line.split_once(':') else {
+            return Err(file.fault(alloc, number, line.as_bytes(), "this line has no colon"));
+        };
+        if self.names.contains(&name) {
+            let reason = "this type has a line already";
+            return Err(file.fault(alloc, number, name.as_bytes(), reason));
+        }
+        self.push_globs(alloc, file, number, name, list)
+    }
+
+    /// Adds the globs of a type's list. Returns an error with the line's number.
+    fn push_globs(
+        &mut self,
+        alloc: Global,
+        file: &TextFile,
+        number: usize,
+        name: &'t str,
+        list: &str,
+    ) -> Result<(), Fault> {
+        for glob in list.split(", ") {
+            let glob = glob.trim();
+            if let Err(error) = self.push_glob(alloc, glob) {
+                return Err(file.fault(alloc, number, glob.as_bytes(), error.kind()));
             }
+            self.names.push(name)?;
         }
-        types.dedup();
-        Ok(types)
+        Ok(())
     }
-}
 
-/// Adds the globs of a line of the file, and for each of them the name of its type. Returns an error with the line's number.
-fn push_line<'t>(
-    alloc: Global,
-    globs: &mut GlobSetBuilder,
-    names: &mut Vec<&'t str>,
-    file: &TextFile,
-    number: usize,
-    line: &'t str,
-) -> Result<(), Fault> {
-    if line.is_empty() || line.starts_with('#') {
-        return Ok(());
+    /// Adds a glob. Returns an error if it cannot be read, or memory runs out.
+    fn push_glob(&mut self, alloc: Global, glob: &str) -> Result<(), Error> {
+        self.globs.push(Glob::new(alloc, glob)?)
     }
-    let Some((name, list)) = line.split_once(':') else {
-        return Err(file.fault(alloc, number, line.as_bytes(), "this line has no colon"));
-    };
-    if names.contains(&name) {
-        return Err(file.fault(
-            alloc,
-            number,
-            name.as_bytes(),
-            "this type has a line already",
-        ));
-    }
-    for glob in list.split(", ") {
-        let glob = glob.trim();
-        if let Err(error) = push_glob(alloc, globs, glob) {
-            return Err(file.fault(alloc, number, glob.as_bytes(), error.kind()));
-        }
-        names.push(name)?;
-    }
-    Ok(())
-}
-
-/// Adds a glob. Returns an error if it cannot be read, or memory runs out.
-fn push_glob(alloc: Global, globs: &mut GlobSetBuilder, glob: &str) -> Result<(), Error> {
-    globs.add(Glob::new(alloc, glob)?)?;
-    Ok(())
-}
-
-/// Returns the error that memory ran out: a set has no other one.
-fn out_of_memory(_error: Error) -> AllocError {
-    AllocError
 }

@@ -1,0 +1,35 @@
+//! The lines of bytes.
+
+ghost use Rattle.std.specs.Prelude.{length};
+ghost use Rattle.std.specs.Iterator.{at_most};
+
+use memchr::memchr;
+
+/// An iterator over lines without LF. A rest after the last LF is a line too, unless it is empty.
+#[derive(Drop)]
+pub struct Lines<'a> {
+    rest: &'a [u8],
+}
+
+impl<'a> Lines<'a> {
+    /// Returns the lines of these bytes.
+    pub fn new(bytes: &'a [u8]) -> Lines<'a> {
+        Lines { rest: bytes }
+    }
+}
+
+impl<'a> Iterator for Lines<'a> {
+    type Item = &'a [u8];
+
+    ghost remaining = { λ it. at_most (length it.rest.now) };
+
+    fn next(&mut self) -> Option<&'a [u8]> {
+        let rest = self.rest;
+        if rest.is_empty() {
+            return None;
+        }
+        let end = memchr(b'\n', rest).unwrap_or(rest.len());
+        self.rest = rest.get(end + 1..).unwrap_or(&[]);
+        Some(&rest[..end])
+    }
+}
