@@ -66,7 +66,7 @@ impl Folders {
     pub fn new(alloc: Global, paths: &[Text], beginnings: &[Text]) -> Result<Folders, AllocError>
         ensures { IfOk result (λ folders. AreFolders folders (map entry_of paths.now) (map entry_of beginnings.now)) }
     {
-        let mut starts = Vec::new(alloc);
+        let mut starts = Vec::with_capacity(alloc, paths.len())?;
         push_starts(&mut starts, paths)?;
         push_starts(&mut starts, beginnings)?;
         starts.sort()?;

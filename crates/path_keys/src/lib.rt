@@ -1,7 +1,7 @@
 //! Keys and paths: which indexes a path finds, by texts that are compared with it or with a part of it.
 //!
 //! [`KeysBuilder`] takes keys with their indexes, each for one part of a path. [`Keys`] looks up a path and its parts in tables,
-//! and walks through tries along it. Nothing here knows globs.
+//! and walks through tries along it. It also tells whether a path below a folder may find a key. Nothing here knows globs.
 #![tactic(auto)]
 
 mod folders;

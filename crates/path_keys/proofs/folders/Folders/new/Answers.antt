@@ -14,5 +14,5 @@ pub returns : goal.returns
 returns c =
     let starts = map (λ (t : Text). start_of t.bytes.items) in
     folders_tell c.args.paths.now c.args.beginnings.now c.push_starts-2.new.starts.items c.sort.new.self.items c.dedup.new.self.items _
-    (c.in_ok-push_starts-2.ensures ∙ ap (λ xs. xs ++ starts c.args.beginnings.now) (c.in_ok-push_starts.ensures ∙ ap (λ xs. shown_of xs ++ starts c.args.paths.now) c.new-starts.ensures.items))
+    (c.in_ok-push_starts-2.ensures ∙ ap (λ xs. xs ++ starts c.args.beginnings.now) (c.in_ok-push_starts.ensures ∙ ap (λ xs. shown_of xs ++ starts c.args.paths.now) c.in_ok-starts.ensures.items))
     c.in_ok-sort.ensures.permutation (dedup_is same_shown c.sort.new.self.items c.dedup.new.self.items c.dedup.ensures.filtered) (c.in_ok-copies.ensures ∙ ap shown_of c.deref.ensures.value)
