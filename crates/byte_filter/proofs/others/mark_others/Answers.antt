@@ -1,12 +1,20 @@
-use Rattle.std.proofs.Common.{◌≡◌, ℕ, ◌+◌, ◌⊎◌, slice_index, take, add-one, arith, IsTrue, true≢false, eq-eqb, sym, subst, ◌∙◌}
+use Rattle.std.proofs.Common.{◌≡◌, ℕ, ◌+◌, ◌⊎◌, slice_index, take, add-one, arith, IsTrue, true≢false, eq-eqb, refl, sym, subst, ◌∙◌}
 use Rattle.std.specs.Prelude.{◌==◌}
 use Rattle.std.proofs.Math.Logic.{⊎_elim}
+use Rattle.std.proofs.lemmas.List.{take_all}
 use Rattle.byte_automaton.proofs.lemmas.Pass.{or_first, or_second}
 use Rattle.byte_automaton.specs.Sets.{has_index, index_room}
 use Rattle.byte_filter.specs.Others.{HasEach, IsOther}
 use Rattle.byte_filter.proofs.lemmas.Others.{other_at, below_at, other_more}
 use Rattle.byte_filter.proofs.others.mark_others.Goals.{then-has_signs, else-has_signs}
 use Rattle.byte_filter.proofs.others.mark_others.Goals as goal
+
+pub loop-i-init : goal.loop-i-init
+loop-i-init c = record {
+  room = refl;
+  kept = λ k h. h;
+  marks = λ k h. absurd h;
+}
 
 pub put-requires : goal.put-requires
 put-requires c = let below = below_at (index_room c.args.marks.now) c.args.others.now c.loop-i.i c.requires c.loop-i-test.true in omega (arith, below, c.loop-i.invariant.room)
@@ -37,3 +45,13 @@ loop-i-preserved c =
         marks = λ k h. ⊎_elim {C = IsTrue (has_index c.loop-i.marks k)} (λ here. absurd (true≢false (sym (asked here.1) ∙ w.if-has_signs.false))) (inv.marks k) (more k h);
       })
     ]
+
+pub returns : goal.returns
+returns c =
+    let inv = c.loop-i.invariant in
+    let whole = take_all c.loop-i.i c.args.others.now (omega (arith, c.loop-i-test.false)) in
+    record {
+      room = inv.room;
+      kept = inv.kept;
+      marks = λ k h. inv.marks k (subst (λ os. IsOther os c.args.text.now k) (sym whole) h);
+    }
