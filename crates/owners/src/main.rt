@@ -6,8 +6,9 @@
 
 mod rules;
 
-use example_io::{Fault, Output, Paths, Program};
+use example_io::{Fault, Output, Paths, Program, TextFile};
 use rules::Rules;
+use std::alloc::AllocError;
 use std::process::ExitCode;
 use std::rt::Runtime;
 
@@ -25,17 +26,32 @@ fn main(rt: HostRuntime) -> ExitCode {
     PROGRAM.exit(&rt, run(&rt))
 }
 
-/// Prints each path with its owners.
+/// Prints each path with its owners, unless the argument asks for help.
 fn run(rt: &(impl Runtime + AllocGlobal)) -> Result<(), Fault> {
-    let Some(file) = PROGRAM.open(rt)? else {
-        return Ok(());
-    };
-    let mut rules = Rules::read(rt.alloc(), &file)?;
+    match PROGRAM.open(rt)? {
+        Some(file) => print_owners(rt, &file),
+        None => Ok(()),
+    }
+}
+
+/// Prints each path with its owners, by the rules of the file.
+fn print_owners(rt: &(impl Input + Print + AllocGlobal), file: &TextFile) -> Result<(), Fault> {
+    let mut rules = Rules::read(rt.alloc(), file)?;
     let paths = Paths::read(rt)?;
     let mut output = Output::new(rt.alloc());
+    push_owners(&mut rules, &paths, &mut output)?;
+    output.write(rt)
+}
+
+/// Adds a line for each path: the path, a tab and its owners. Returns an error if memory runs out.
+fn push_owners(
+    rules: &mut Rules<'_>,
+    paths: &Paths,
+    output: &mut Output,
+) -> Result<(), AllocError> {
     for path in paths.iter() {
         let owners = rules.owners(path)?.unwrap_or("-");
         output.push_line(&[path, b"\t", owners.as_bytes()])?;
     }
-    output.write(rt)
+    Ok(())
 }

@@ -17,9 +17,9 @@ ghost use Rattle.globset.specs.SetValue.{Fits};
 use example_io::{Fault, TextFile};
 use globset::{Candidate, Error, GlobBuilder, GlobSet, GlobSetBuilder, Scratch, Visits};
 use std::alloc::{AllocError, Global};
+use std::mem;
 
 /// The rules of an owners file, and all the memory that they are matched with.
-#[derive(Drop)]
 pub struct Rules<'t> {
     set: GlobSet,
     /// For each glob of the set, the owners of its rule.
@@ -29,31 +29,38 @@ pub struct Rules<'t> {
     ghost fits: { Fits scratch set },
 }
 
+impl Drop for Rules<'_> {
+    // One call wherever a value is dropped, which keeps proofs short.
+    fn drop(self) {
+        let Rules {
+            set: _,
+            owners: _,
+            scratch: _,
+            matching: _,
+        } = self;
+    }
+}
+
 impl<'t> Rules<'t> {
     /// Reads an owners file. Returns an error with its line if a pattern cannot be read, or an error if memory runs out.
     pub fn read(alloc: Global, file: &'t TextFile) -> Result<Rules<'t>, Fault> {
-        let mut globs = GlobSetBuilder::new(alloc);
-        let mut owners = Vec::new(alloc);
-        for (i, line) in file.lines(alloc)?.iter().enumerate() {
-            let (pattern, names) = rule_of(line);
-            if let Err(error) = push_rule(alloc, &mut globs, &mut owners, pattern, names) {
-                return Err(file.fault(alloc, i + 1, pattern.as_bytes(), error.kind()));
-            }
+        let mut patterns = Patterns::new(alloc);
+        patterns.push_lines(alloc, file)?;
+        match Rules::take(alloc, &mut patterns) {
+            Ok(rules) => Ok(rules),
+            // A set has no other error than that memory ran out.
+            Err(_) => Err(Fault::OutOfMemory),
         }
-        Ok(Rules::new(alloc, globs, owners).map_err(out_of_memory)?)
     }
 
-    fn new(
-        alloc: Global,
-        mut globs: GlobSetBuilder,
-        owners: Vec<&'t str>,
-    ) -> Result<Rules<'t>, Error> {
-        let set = globs.take_set()?;
+    /// Takes the patterns that were read.
+    fn take(alloc: Global, patterns: &mut Patterns<'t>) -> Result<Rules<'t>, Error> {
+        let set = patterns.globs.take_set()?;
         let scratch = Scratch::new(alloc, &set)?;
         let matching = Vec::with_capacity(alloc, set.len())?;
         Ok(Rules {
             set,
-            owners,
+            owners: mem::replace(&mut patterns.owners, Vec::new(alloc)),
             scratch,
             matching,
         })
@@ -61,19 +68,85 @@ impl<'t> Rules<'t> {
 
     /// Returns the owners of the last rule that matches a path, or `None` if none does, or that rule has no owners.
     pub fn owners(&mut self, path: &[u8]) -> Result<Option<&'t str>, AllocError> {
-        self.set
-            .matches_into_with(
-                &Candidate::from_bytes(path),
-                &mut self.scratch,
-                &mut self.matching,
-                &mut Visits::new(),
-            )
-            .map_err(out_of_memory)?;
-        let owners = match self.matching.last() {
-            Some(last) => self.owners.get(*last).copied(),
-            None => None,
-        };
-        Ok(owners.filter(|owners| !owners.is_empty()))
+        let path = Candidate::from_bytes(path);
+        let visits = &mut Visits::new();
+        match self
+            .set
+            .matches_into_with(&path, &mut self.scratch, &mut self.matching, visits)
+        {
+            Ok(()) => Ok(self.last_owners()),
+            // A set has no other error than that memory ran out.
+            Err(_) => Err(AllocError),
+        }
+    }
+
+    /// Returns the owners of the last rule that matches, or `None` if there is none, or it has no owners.
+    fn last_owners(&self) -> Option<&'t str> {
+        let owners = *self.owners.get(*self.matching.last()?)?;
+        if owners.is_empty() {
+            None
+        } else {
+            Some(owners)
+        }
+    }
+}
+
+/// The globs of an owners file as it is read, and for each of them the owners of its rule.
+struct Patterns<'t> {
+    globs: GlobSetBuilder,
+    owners: Vec<&'t str>,
+}
+
+impl Drop for Patterns<'_> {
+    // One call wherever a value is dropped, which keeps proofs short.
+    fn drop(self) {
+        let Patterns {
+            globs: _,
+            owners: _,
+        } = self;
+    }
+}
+
+impl<'t> Patterns<'t> {
+    fn new(alloc: Global) -> Patterns<'t> {
+        Patterns {
+            globs: GlobSetBuilder::new(alloc),
+            owners: Vec::new(alloc),
+        }
+    }
+
+    /// Adds the globs of each line of the file, as [`Rules::read`] says.
+    fn push_lines(&mut self, alloc: Global, file: &'t TextFile) -> Result<(), Fault> {
+        for (i, line) in file.lines(alloc)?.iter().enumerate() {
+            let (pattern, owners) = rule_of(line);
+            if let Err(error) = self.push_rule(alloc, pattern, owners) {
+                return Err(file.fault(alloc, i + 1, pattern.as_bytes(), error.kind()));
+            }
+        }
+        Ok(())
+    }
+
+    /// Adds the globs of a rule, if it has a pattern, and for each of them the owners.
+    fn push_rule(&mut self, alloc: Global, pattern: &str, owners: &'t str) -> Result<(), Error> {
+        let path = pattern.strip_suffix('/').unwrap_or(pattern);
+        if path.is_empty() {
+            return Ok(());
+        }
+        let depth = if path.contains('/') { "" } else { "**/" };
+        let path = path.strip_prefix('/').unwrap_or(path);
+        for end in ends_of(pattern) {
+            let glob = format!(in alloc; "{depth}{path}{end}")?;
+            self.push_glob(alloc, glob.as_str(), owners)?;
+        }
+        Ok(())
+    }
+
+    /// Adds a glob and its owners. Returns an error if the glob cannot be read, or memory runs out.
+    fn push_glob(&mut self, alloc: Global, glob: &str, owners: &'t str) -> Result<(), Error> {
+        let glob = GlobBuilder::new(glob).literal_separator(true).build(alloc)?;
+        self.globs.push(glob)?;
+        self.owners.push(owners)?;
+        Ok(())
     }
 }
 
@@ -85,32 +158,6 @@ fn rule_of(line: &str) -> (&str, &str) {
     (pattern, owners.trim())
 }
 
-/// Adds the globs of a rule, if it has a pattern, and for each of them the owners.
-fn push_rule<'t>(
-    alloc: Global,
-    globs: &mut GlobSetBuilder,
-    owners: &mut Vec<&'t str>,
-    pattern: &str,
-    names: &'t str,
-) -> Result<(), Error> {
-    let path = pattern.strip_suffix('/').unwrap_or(pattern);
-    if path.is_empty() {
-        return Ok(());
-    }
-    let depth = if path.contains('/') { "" } else { "**/" };
-    let path = path.strip_prefix('/').unwrap_or(path);
-    for end in ends_of(pattern) {
-        let glob = format!(in alloc; "{depth}{path}{end}")?;
-        globs.add(
-            GlobBuilder::new(glob.as_str())
-                .literal_separator(true)
-                .build(alloc)?,
-        )?;
-        owners.push(names)?;
-    }
-    Ok(())
-}
-
 /// Returns what follows the path of a pattern in its globs.
 fn ends_of(pattern: &str) -> &'static [&'static str] {
     if pattern.ends_with("/*") {
@@ -120,9 +167,4 @@ fn ends_of(pattern: &str) -> &'static [&'static str] {
     } else {
         &["", "/**"]
     }
-}
-
-/// Returns the error that memory ran out: a set has no other one.
-fn out_of_memory(_error: Error) -> AllocError {
-    AllocError
 }
