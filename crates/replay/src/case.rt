@@ -5,7 +5,9 @@ ghost use Rattle.globset.specs.Means.{glob_means};
 
 use crate::shown;
 use anyhow::Result;
-use globset::{Candidate, Error, Glob, GlobBuilder, GlobSet, GlobSetBuilder, ValueError, escape};
+use globset::{
+    Candidate, Error, Glob, GlobBuilder, GlobMatcher, GlobSet, GlobSetBuilder, ValueError, escape,
+};
 use rows::{Case, Columns, RowError, escaped, list, yes_or_no};
 use serde_json::Value;
 use std::alloc::Global;
@@ -13,18 +15,47 @@ use std::hash::{DefaultHasher, Hash, Hasher};
 
 /// The limits on the bytes of tables that are not the default. Under both no table is made, and all automata are simulated: under
 /// the first with filters, where they have many globs, and under the second without.
-const LIMITS: [usize; 2] = [1, 0];
+const FILTERED: usize = 1;
+
+const SIMULATED: usize = 0;
+
+/// Sets of the same globs under the limits that are not the default.
+struct Limited {
+    filtered: GlobSet,
+    simulated: GlobSet,
+}
+
+impl Drop for Limited {
+    // One call wherever a value is dropped, which keeps proofs short.
+    fn drop(self) {
+        let Limited {
+            filtered: _,
+            simulated: _,
+        } = self;
+    }
+}
+
+impl Limited {
+    fn of(alloc: Global, globs: &[Glob]) -> Result<Limited, Error> {
+        let filtered = limited_set(alloc, globs, FILTERED)?;
+        let simulated = limited_set(alloc, globs, SIMULATED)?;
+        Ok(Limited {
+            filtered,
+            simulated,
+        })
+    }
+}
 
 /// The globs that rows so far added, and sets of them: one under the default limit, and one under each other limit.
 pub struct Globs {
     alloc: Global,
     globs: Vec<Glob>,
     set: GlobSet,
-    limited: Vec<GlobSet>,
+    limited: Limited,
 }
 
 impl Drop for Globs {
-    // One call wherever a value is dropped, which keeps proofs short.
+    // As for `Limited`.
     fn drop(self) {
         let Globs {
             alloc: _,
@@ -35,7 +66,7 @@ impl Drop for Globs {
     }
 }
 
-/// What a matcher is asked about a path.
+/// What a set or a matcher is asked about a path.
 #[derive(Clone, Copy)]
 enum Asked {
     /// Whether it matches the path.
@@ -50,7 +81,10 @@ impl Case for Globs {
             alloc,
             globs: Vec::new(alloc),
             set: GlobSet::empty(),
-            limited: Vec::new(alloc),
+            limited: Limited {
+                filtered: GlobSet::empty(),
+                simulated: GlobSet::empty(),
+            },
         }
     }
 
@@ -60,8 +94,8 @@ impl Case for Globs {
             "glob" => self.glob(columns),
             "add" => self.add(columns),
             "match" => self.is_match(columns),
-            "path" => self.path(columns),
-            "below" => self.below(columns),
+            "path" => self.path(columns, Asked::Path),
+            "below" => self.path(columns, Asked::Below),
             "equal" => self.equal(columns),
             "parts" => self.parts(columns),
             "escape" => self.escape(columns),
@@ -104,82 +138,108 @@ impl Globs {
     fn push(&mut self, glob: Glob) -> Result<(), Error> {
         self.globs.push(glob)?;
         self.set = GlobSet::new(self.alloc, &self.globs)?;
-        self.limited = limited_sets(self.alloc, &self.globs)?;
+        self.limited = Limited::of(self.alloc, &self.globs)?;
         Ok(())
     }
 
     /// Returns whether a glob matches a path, by its matcher and by a set of it alone, each of them under each limit.
     fn is_match(&self, columns: &mut Columns<'_>) -> Result<String> {
-        let mut alone = Globs::new(self.alloc);
-        alone.push(read(self.alloc, columns)??)?;
-        shown::copied(self.alloc, answer_of_one(&alone.path(columns)?))
-    }
-
-    /// Returns the indexes that the set returns for a path, whether all globs match it, and the indexes of the globs whose
-    /// own matchers match it. Sets and matchers under the other limits have to return the same.
-    fn path(&self, columns: &mut Columns<'_>) -> Result<String> {
-        self.answers(&Candidate::from_bytes(&columns.bytes(self.alloc)?))
-    }
-
-    fn answers(&self, path: &Candidate<'_>) -> Result<String> {
-        let answer = answer(self.alloc, &self.set, path)?;
-        for limited in &self.limited {
-            if !is_answer(self.alloc, limited, path, &answer)? {
-                return shown::copied(self.alloc, "the set and a set under another limit differ");
-            }
-        }
-        shown::pair(self.alloc, &answer, &self.each(path, Asked::Path)?)
-    }
-
-    /// Returns whether the set matches some path below a folder, and the indexes of the globs whose own matchers match such a
-    /// path. Sets and matchers under the other limits have to return the same.
-    fn below(&self, columns: &mut Columns<'_>) -> Result<String> {
-        self.answers_below(&Candidate::from_bytes(&columns.bytes(self.alloc)?))
-    }
-
-    fn answers_below(&self, folder: &Candidate<'_>) -> Result<String> {
-        let yes = self.set.can_match_below_candidate(folder)?;
-        for limited in &self.limited {
-            if limited.can_match_below_candidate(folder)? != yes {
-                return shown::copied(self.alloc, "the set and a set under another limit differ");
-            }
-        }
-        shown::pair(
+        let alone = Globs::of_one(self.alloc, read(self.alloc, columns)??)?;
+        shown::copied(
             self.alloc,
-            yes_or_no(yes),
-            &self.each(folder, Asked::Below)?,
+            answer_of_one(&alone.path(columns, Asked::Path)?),
         )
     }
 
-    /// Returns the indexes of the globs whose own matchers match a path, or some path below it.
-    fn each(&self, path: &Candidate<'_>, asked: Asked) -> Result<String> {
-        self.compared_each(path, asked, &self.matching(path, asked, None)?)
+    fn of_one(alloc: Global, glob: Glob) -> Result<Globs, Error> {
+        let mut globs = Globs::new(alloc);
+        globs.push(glob)?;
+        Ok(globs)
     }
 
-    fn compared_each(
+    /// Returns what the set answers about a path, and the indexes of the globs whose own matchers say yes. Sets and matchers under
+    /// the other limits have to return the same.
+    ///
+    /// About a path a set answers which indexes it returns, and whether all globs match; about a folder, whether it matches some
+    /// path below it.
+    fn path(&self, columns: &mut Columns<'_>, asked: Asked) -> Result<String> {
+        self.answers(&Candidate::from_bytes(&columns.bytes(self.alloc)?), asked)
+    }
+
+    fn answers(&self, path: &Candidate<'_>, asked: Asked) -> Result<String> {
+        self.compared(path, asked, &self.answer(&self.set, None, path, asked)?)
+    }
+
+    fn compared(&self, path: &Candidate<'_>, asked: Asked, answer: &str) -> Result<String> {
+        let limited = &self.limited;
+        let filtered = self.is_answer(&limited.filtered, FILTERED, path, asked, answer)?;
+        let simulated = self.is_answer(&limited.simulated, SIMULATED, path, asked, answer)?;
+        shown::copied(
+            self.alloc,
+            if filtered && simulated {
+                answer
+            } else {
+                "the answers under another limit differ"
+            },
+        )
+    }
+
+    fn is_answer(
         &self,
+        set: &GlobSet,
+        limit: usize,
         path: &Candidate<'_>,
         asked: Asked,
-        indexes: &[usize],
-    ) -> Result<String> {
-        for limit in LIMITS {
-            if self.matching(path, asked, Some(limit))?.as_slice() != indexes {
-                return shown::copied(self.alloc, "a matcher and one under another limit differ");
-            }
-        }
-        Ok(list(self.alloc, indexes)?)
+        answer: &str,
+    ) -> Result<bool> {
+        Ok(self.answer(set, Some(limit), path, asked)?.as_str() == answer)
     }
 
-    /// The same under the default limit or another.
+    /// Returns what a set and matchers under a limit answer.
+    fn answer(
+        &self,
+        set: &GlobSet,
+        limit: Option<usize>,
+        path: &Candidate<'_>,
+        asked: Asked,
+    ) -> Result<String> {
+        self.with_each(
+            limit,
+            path,
+            asked,
+            &answer_of_set(self.alloc, set, path, asked)?,
+        )
+    }
+
+    fn with_each(
+        &self,
+        limit: Option<usize>,
+        path: &Candidate<'_>,
+        asked: Asked,
+        answer: &str,
+    ) -> Result<String> {
+        shown::pair(self.alloc, answer, &self.each(limit, path, asked)?)
+    }
+
+    fn each(
+        &self,
+        limit: Option<usize>,
+        path: &Candidate<'_>,
+        asked: Asked,
+    ) -> Result<String, Error> {
+        Ok(list(self.alloc, &self.matching(limit, path, asked)?)?)
+    }
+
+    /// Returns the indexes of the globs whose own matchers say yes.
     fn matching(
         &self,
+        limit: Option<usize>,
         path: &Candidate<'_>,
         asked: Asked,
-        limit: Option<usize>,
     ) -> Result<Vec<usize>, Error> {
         let mut indexes = Vec::new(self.alloc);
         for (i, glob) in self.globs.iter().enumerate() {
-            if matches_by(glob, path, asked, limit)? {
+            if ask_under(limit, glob, path, asked)? {
                 indexes.push(i)?;
             }
         }
@@ -228,7 +288,7 @@ impl Globs {
     fn replace(&mut self, set: GlobSet, value: &Value) -> Result<String> {
         self.globs.clear();
         self.set = set;
-        self.limited = limited_sets(self.alloc, &elements(self.alloc, value)?)?;
+        self.limited = Limited::of(self.alloc, &elements(self.alloc, value)?)?;
         shown::length(self.alloc, self.set.len())
     }
 }
@@ -246,8 +306,21 @@ fn answer_of_one(columns: &str) -> &str {
     }
 }
 
+/// Returns what a set answers about a path.
+fn answer_of_set(
+    alloc: Global,
+    set: &GlobSet,
+    path: &Candidate<'_>,
+    asked: Asked,
+) -> Result<String> {
+    match asked {
+        Asked::Path => indexes_and_all(alloc, set, path),
+        Asked::Below => shown::copied(alloc, yes_or_no(set.can_match_below_candidate(path)?)),
+    }
+}
+
 /// Returns the indexes that a set returns for a path, and whether all globs match it.
-fn answer(alloc: Global, set: &GlobSet, path: &Candidate<'_>) -> Result<String> {
+fn indexes_and_all(alloc: Global, set: &GlobSet, path: &Candidate<'_>) -> Result<String> {
     let some = set.is_match_candidate(path)?;
     let all = set.matches_all_candidate(path)?;
     shown_answer(alloc, some, all, &set.matches_candidate(alloc, path)?)
@@ -260,59 +333,28 @@ fn shown_answer(alloc: Global, some: bool, all: bool, indexes: &[usize]) -> Resu
     shown::pair(alloc, &list(alloc, indexes)?, yes_or_no(all))
 }
 
-/// Returns whether a set returns this answer for a path.
-fn is_answer(alloc: Global, set: &GlobSet, path: &Candidate<'_>, columns: &str) -> Result<bool> {
-    Ok(answer(alloc, set, path)?.as_str() == columns)
-}
-
-/// Returns whether a glob matches a path, or some path below it, by a matcher under the default limit or another.
-fn matches_by(
+/// Returns what a matcher of a glob under the default limit or another says about a path.
+fn ask_under(
+    limit: Option<usize>,
     glob: &Glob,
     path: &Candidate<'_>,
     asked: Asked,
-    limit: Option<usize>,
-) -> Result<bool, Error> {
-    match (asked, limit) {
-        (Asked::Path, None) => matches_by_itself(glob, path),
-        (Asked::Path, Some(limit)) => matches_under(glob, path, limit),
-        (Asked::Below, None) => matches_below(glob, path),
-        (Asked::Below, Some(limit)) => matches_below_under(glob, path, limit),
+) -> Result<bool, Error>
+    ensures path { asked ≡ Asked.Path → IfOk result (λ yes. yes ≡ glob_means glob.now path.now) }
+{
+    match limit {
+        Some(limit) => ask(&glob.compile_matcher_with_limit(limit)?, path, asked),
+        None => ask(&glob.compile_matcher()?, path, asked),
     }
 }
 
-/// Returns whether a glob matches a path, by a matcher.
-fn matches_by_itself(glob: &Glob, path: &Candidate<'_>) -> Result<bool, Error>
-    ensures { IfOk result (λ yes. yes ≡ glob_means glob.now path.now) }
+fn ask(matcher: &GlobMatcher, path: &Candidate<'_>, asked: Asked) -> Result<bool, Error>
+    ensures path { asked ≡ Asked.Path → IfOk result (λ yes. yes ≡ glob_means matcher.now path.now) }
 {
-    glob.compile_matcher()?.is_match_candidate(path)
-}
-
-/// Returns whether a glob matches a path, by a matcher under a limit.
-fn matches_under(glob: &Glob, path: &Candidate<'_>, limit: usize) -> Result<bool, Error>
-    ensures { IfOk result (λ yes. yes ≡ glob_means glob.now path.now) }
-{
-    glob.compile_matcher_with_limit(limit)?
-        .is_match_candidate(path)
-}
-
-/// Returns whether a glob matches some path below a folder, by a matcher.
-fn matches_below(glob: &Glob, folder: &Candidate<'_>) -> Result<bool, Error> {
-    glob.compile_matcher()?.can_match_below_candidate(folder)
-}
-
-/// Returns whether a glob matches some path below a folder, by a matcher under a limit.
-fn matches_below_under(glob: &Glob, folder: &Candidate<'_>, limit: usize) -> Result<bool, Error> {
-    glob.compile_matcher_with_limit(limit)?
-        .can_match_below_candidate(folder)
-}
-
-/// Returns the sets of these globs under each limit that is not the default.
-fn limited_sets(alloc: Global, globs: &[Glob]) -> Result<Vec<GlobSet>, Error> {
-    let mut sets = Vec::new(alloc);
-    for limit in LIMITS {
-        sets.push(limited_set(alloc, globs, limit)?)?;
+    match asked {
+        Asked::Path => matcher.is_match_candidate(path),
+        Asked::Below => matcher.can_match_below_candidate(path),
     }
-    Ok(sets)
 }
 
 /// Returns the set of these globs under a limit.
@@ -409,7 +451,15 @@ fn read(alloc: Global, columns: &mut Columns<'_>) -> Result<Result<Glob, Error>,
 }
 
 fn are_options(options: &str) -> bool {
-    options == "-" || (!options.is_empty() && options.chars().all(|c| "iseubw".contains(c)))
+    if options == "-" {
+        return true;
+    }
+    for c in options.chars() {
+        if !"iseubw".contains(c) {
+            return false;
+        }
+    }
+    !options.is_empty()
 }
 
 fn read_with(alloc: Global, options: &str, text: &str) -> Result<Glob, Error> {

@@ -12,12 +12,7 @@ pub fn glob(alloc: Global, glob: &Glob) -> Result<String> {
 
 /// Returns `fails`, the kind and the text.
 pub fn error(alloc: Global, error: &Error) -> Result<String> {
-    columns(
-        alloc,
-        "fails",
-        &kind(alloc, error)?,
-        &escaped_text(alloc, error)?,
-    )
+    fails(alloc, &kind(alloc, error)?, error)
 }
 
 fn kind(alloc: Global, error: &Error) -> Result<String, AllocError> {
@@ -27,21 +22,19 @@ fn kind(alloc: Global, error: &Error) -> Result<String, AllocError> {
 
 /// Returns `fails`, the index or `-`, and the text.
 pub fn value_error(alloc: Global, error: &ValueError) -> Result<String> {
+    fails(alloc, &index(alloc, error)?, error)
+}
+
+fn index(alloc: Global, error: &ValueError) -> Result<String> {
     match error.index() {
-        Some(index) => {
-            columns(
-                alloc,
-                "fails",
-                &number(alloc, index)?,
-                &escaped_text(alloc, error)?,
-            )
-        }
-        None => columns(alloc, "fails", "-", &escaped_text(alloc, error)?),
+        Some(index) => number(alloc, index),
+        None => copied(alloc, "-"),
     }
 }
 
-fn escaped_text<E: std::error::Error>(alloc: Global, error: &E) -> Result<String, AllocError> {
-    escaped(alloc, error.to_string(alloc)?.as_bytes())
+fn fails<E: std::error::Error>(alloc: Global, what: &str, error: &E) -> Result<String> {
+    let text = error.to_string(alloc)?;
+    columns(alloc, "fails", what, &escaped(alloc, text.as_bytes())?)
 }
 
 /// Returns `reads`, and the length of a set.
