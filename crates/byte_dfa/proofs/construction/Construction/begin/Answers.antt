@@ -1,4 +1,4 @@
-use Rattle.std.proofs.Common.{ℕ, length, ap, arith, Option}
+use Rattle.std.proofs.Common.{ℕ, arith, Option}
 use Rattle.std.specs.Prelude.{IfSome}
 use Rattle.std.proofs.lemmas.Option.{slice_get_within, IfSome_then}
 use Rattle.std.proofs.lemmas.Result.{IfOk-weaker}

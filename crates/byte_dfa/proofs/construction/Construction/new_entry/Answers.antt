@@ -47,10 +47,26 @@ copy_from-requires c =
     let b = c.requires.room in
     omega (arith, a.room, a.least, b.room, b.least)
 
-pub entry-requires-clause-number : goal.entry-requires-clause-number
-entry-requires-clause-number c =
+pub number_of-requires : goal.number_of-requires
+number_of-requires c = record {
+  room = record {
+    room = omega (arith, c.add_to.ensures.room, c.copy_from.ensures.room, c.requires.room.room);
+    least = omega (arith, c.add_to.ensures.room, c.copy_from.ensures.room, c.requires.room.least);
+  };
+  classes = c.requires.classes;
+  sound = c.requires.sound;
+  dead = λ none. absurd (omega (arith, none, c.requires.row.this));
+}
+
+pub entry-requires : goal.entry-requires
+entry-requires c =
     let (g, there, same) = rw c.in-Some.is at c.in_ok-made.ensures.number in
-    slice_get_within c.number_of.new.self.found.items c.in-Some.number g there
+    let grows = rw c.in-Some.is at c.in_ok-made.ensures.grows in
+    record {
+      number = slice_get_within c.number_of.new.self.found.items c.in-Some.number g there;
+      few = omega (arith, grows.few, c.requires.few);
+      list = λ f at. let room = (grows.sound.sets.each c.in-Some.number f at).on_entry.list.room in omega (arith, room);
+    }
 
 pub returns-clause-cell : goal.returns-clause-cell
 returns-clause-cell c =

@@ -10,13 +10,30 @@ use Rattle.byte_dfa.proofs.lemmas.Cells.{cell_entry, cell_end, cells_push}
 use Rattle.byte_dfa.proofs.construction.Construction.write_row.Goals as goal
 use Rattle.byte_dfa.proofs.construction.Construction.write_row.Goals.{in-Some+in_ok-push-in-Some, in-None+in_ok-made-in-None+in-Some-made+in_ok-push-in-None, then-is_common, else-is_common}
 
-pub shared_entry-requires-clause-row : goal.shared_entry-requires-clause-row
-shared_entry-requires-clause-row c =
-    row_kept c.args.automaton.now c.args.self.now.found.items c.loop-class.self.found.items c.args.row c.args.steps.now c.loop-class.invariant.keeps c.requires.row
+pub loop-class-init : goal.loop-class-init
+loop-class-init c = record {
+  room = refl;
+  sound = c.requires.sound;
+  few = omega arith;
+  keeps = (omega arith, λ i f at. at);
+  place = omega (arith, c.requires.place);
+  common = λ written is. cc;
+}
 
-pub shared_entry-requires-clause-this : goal.shared_entry-requires-clause-this
-shared_entry-requires-clause-this c = λ yes.
-    c.some_bytes-some.ensures.others (slice_index c.args.classes.now.firsts c.loop-class.class) (sym c.has-is_common.ensures ∙ not-true c.has-is_common.result yes)
+pub shared_entry-requires : goal.shared_entry-requires
+shared_entry-requires c =
+    let inv = c.loop-class.invariant in
+    record {
+      sound = inv.sound;
+      few = omega (arith, inv.few, c.requires.few);
+      classes = c.requires.classes;
+      row = row_kept c.args.automaton.now c.args.self.now.found.items c.loop-class.self.found.items c.args.row c.args.steps.now inv.keeps c.requires.row;
+      place = inv.place;
+      class = omega arith;
+      byte = omega arith;
+      this = λ yes. c.some_bytes-some.ensures.others (slice_index c.args.classes.now.firsts c.loop-class.class) (sym c.has-is_common.ensures ∙ not-true c.has-is_common.result yes);
+      common = inv.common;
+    }
 
 pub returns-in_err-push-in-Some-clause-sound : goal.returns-in_err-push-in-Some-clause-sound
 returns-in_err-push-in-Some-clause-sound c = IfOk-from_err _ _ c.from_residual.ensures.0
@@ -54,9 +71,19 @@ returns-in_err-push-2-clause-keeps c = IfOk-from_err _ _ c.from_residual-in_err-
 pub returns-in_err-push-2-clause-place : goal.returns-in_err-push-2-clause-place
 returns-in_err-push-2-clause-place c = IfOk-from_err _ _ c.from_residual-in_err-push-2.ensures.0
 
-pub new_entry-requires-clause-row : goal.new_entry-requires-clause-row
-new_entry-requires-clause-row c =
-    row_kept c.args.automaton.now c.args.self.now.found.items c.loop-class.self.found.items c.args.row c.args.steps.now c.loop-class.invariant.keeps c.requires.row
+pub new_entry-requires : goal.new_entry-requires
+new_entry-requires c =
+    let inv = c.loop-class.invariant in
+    record {
+      room = record { room = omega (arith, inv.room, c.requires.room.room); least = omega (arith, inv.room, c.requires.room.least) };
+      step_room = c.requires.step_room ∙ sym inv.room;
+      sound = inv.sound;
+      few = omega (arith, inv.few, c.requires.few);
+      classes = c.requires.classes;
+      row = row_kept c.args.automaton.now c.args.self.now.found.items c.loop-class.self.found.items c.args.row c.args.steps.now inv.keeps c.requires.row;
+      place = inv.place;
+      class = omega arith;
+    }
 
 pub loop-class-preserved : goal.loop-class-preserved
 loop-class-preserved c =
