@@ -39,36 +39,62 @@ pub fn is_any_folders(part: &str) -> bool {
 /// A `/` in a class is no cut, and one after `\` is. Braces are plain characters in a pattern, so they stand in classes in a
 /// glob. Before `/` any folders may be none; before `\/` and at the end they are at least one component.
 pub fn cut(alloc: Global, pattern: &str) -> Result<Vec<String>, AllocError> {
-    let mut parts = Vec::new(alloc);
-    let mut part = String::new(alloc);
+    let mut parts = Parts {
+        before: Vec::new(alloc),
+        last: String::new(alloc),
+    };
     let mut place = Place::Outside;
     for character in pattern.chars() {
-        match (place, character) {
-            (Place::Outside, '/') => parts.push(mem::replace(&mut part, String::new(alloc)))?,
-            (Place::Escaped, '/') => {
-                part.pop();
-                push_nonempty(
-                    alloc,
-                    &mut parts,
-                    mem::replace(&mut part, String::new(alloc)),
-                )?;
-            }
-            (Place::Outside, '{') => part.push_str("[{]")?,
-            (Place::Outside, '}') => part.push_str("[}]")?,
-            _ => part.push(character)?,
-        }
+        parts.push(alloc, place, character)?;
         place = place.after(character);
     }
-    push_nonempty(alloc, &mut parts, part)?;
-    Ok(parts)
+    parts.end_nonempty(alloc)?;
+    Ok(mem::replace(&mut parts.before, Vec::new(alloc)))
 }
 
-/// Adds a part, and the glob of a component if the part alone could match none.
-fn push_nonempty(alloc: Global, parts: &mut Vec<String>, part: String) -> Result<(), AllocError> {
-    let may_be_none = is_any_folders(part.as_str());
-    parts.push(part)?;
-    if may_be_none {
-        parts.push(String::from_str(alloc, "*")?)?;
+/// The parts of a beginning of a pattern.
+struct Parts {
+    before: Vec<String>,
+    /// The last part, which may go on.
+    last: String,
+}
+
+impl Drop for Parts {
+    // One call wherever a value is dropped, which keeps proofs short.
+    fn drop(self) {
+        let Parts { before: _, last: _ } = self;
     }
-    Ok(())
+}
+
+impl Parts {
+    /// Adds the next character of the pattern, which stands at this place.
+    fn push(&mut self, alloc: Global, place: Place, character: char) -> Result<(), AllocError> {
+        match (place, character) {
+            (Place::Outside, '/') => self.end(alloc),
+            (Place::Escaped, '/') => {
+                self.last.pop();
+                self.end_nonempty(alloc)
+            }
+            (Place::Outside, '{') => self.last.push_str("[{]"),
+            (Place::Outside, '}') => self.last.push_str("[}]"),
+            _ => self.last.push(character),
+        }
+    }
+
+    /// Ends the last part, and begins an empty one.
+    fn end(&mut self, alloc: Global) -> Result<(), AllocError> {
+        let part = mem::replace(&mut self.last, String::new(alloc));
+        self.before.push(part)?;
+        Ok(())
+    }
+
+    /// Ends the last part, and adds the glob of a component if the part alone could match none.
+    fn end_nonempty(&mut self, alloc: Global) -> Result<(), AllocError> {
+        let may_be_none = is_any_folders(self.last.as_str());
+        self.end(alloc)?;
+        if may_be_none {
+            self.before.push(String::from_str(alloc, "*")?)?;
+        }
+        Ok(())
+    }
 }

@@ -8,8 +8,9 @@ mod cuts;
 mod patterns;
 mod rules;
 
-use example_io::{Fault, Output, Paths, Program};
+use example_io::{Fault, Output, Paths, Program, TextFile};
 use rules::Rules;
+use std::alloc::AllocError;
 use std::process::ExitCode;
 use std::rt::Runtime;
 
@@ -26,18 +27,29 @@ fn main(rt: HostRuntime) -> ExitCode {
     PROGRAM.exit(&rt, run(&rt))
 }
 
-/// Prints the paths that are not ignored.
+/// Prints the paths that are not ignored, unless the argument asks for help.
 fn run(rt: &(impl Runtime + AllocGlobal)) -> Result<(), Fault> {
-    let Some(file) = PROGRAM.open(rt)? else {
-        return Ok(());
-    };
-    let mut rules = Rules::read(rt.alloc(), &file)?;
+    match PROGRAM.open(rt)? {
+        Some(file) => print_paths(rt, &file),
+        None => Ok(()),
+    }
+}
+
+/// Prints the paths that are not ignored, by the rules of the file.
+fn print_paths(rt: &(impl Input + Print + AllocGlobal), file: &TextFile) -> Result<(), Fault> {
+    let mut rules = Rules::read(rt.alloc(), file)?;
     let paths = Paths::read(rt)?;
     let mut output = Output::new(rt.alloc());
+    push_paths(&mut rules, &paths, &mut output)?;
+    output.write(rt)
+}
+
+/// Adds a line for each path that is not ignored. Returns an error if memory runs out.
+fn push_paths(rules: &mut Rules, paths: &Paths, output: &mut Output) -> Result<(), AllocError> {
     for path in paths.iter() {
         if !rules.ignore(path)? {
             output.push_line(&[path])?;
         }
     }
-    output.write(rt)
+    Ok(())
 }

@@ -23,10 +23,16 @@ pub struct Part {
 }
 
 /// The parts of patterns, one pattern after another, and the globs of the parts.
-#[derive(Drop)]
 pub struct Patterns {
     pub globs: GlobSetBuilder,
     pub parts: Vec<Part>,
+}
+
+impl Drop for Patterns {
+    // One call wherever a value is dropped, which keeps proofs short.
+    fn drop(self) {
+        let Patterns { globs: _, parts: _ } = self;
+    }
 }
 
 impl Patterns {
@@ -62,17 +68,24 @@ impl Patterns {
                 after_any_folders = true;
                 continue;
             }
-            self.globs.add(Glob::new(alloc, glob.as_str())?)?;
-            self.parts.push(Part {
+            let part = Part {
                 is_first: self.parts.len() == first,
                 after_any_folders,
                 verdict: None,
-            })?;
+            };
+            self.push_part(alloc, glob.as_str(), part)?;
             after_any_folders = false;
         }
         if let Some(last) = self.parts.last_mut() {
             last.verdict = Some(verdict);
         }
+        Ok(())
+    }
+
+    /// Adds a part and its glob. Returns an error if the glob cannot be read, or memory runs out.
+    fn push_part(&mut self, alloc: Global, glob: &str, part: Part) -> Result<(), Error> {
+        self.globs.push(Glob::new(alloc, glob)?)?;
+        self.parts.push(part)?;
         Ok(())
     }
 }

@@ -11,16 +11,13 @@ mod writing;
 
 use fault::SiftFault;
 use globset::GlobSet;
-use output::{Output, scratch_for};
+use output::Output;
 use std::alloc::{AllocError, Global};
 use std::io::{Read, Write};
 use writing::write_pending;
 
 /// How many bytes are read at once.
 const CHUNK: usize = 65536;
-
-/// The first capacity of the pending output: as much as is collected, and a line more.
-const ROOM: usize = 73728;
 
 /// Returns a vector of `count` zero bytes, to read into.
 fn zeros(alloc: Global, count: usize) -> Result<Vec<u8>, AllocError>
@@ -65,13 +62,8 @@ pub fn sift<R: Read, W: Write>(
         (W.contents writer.old) (W.contents writer.new)) }
 {
     let mut chunk = zeros(alloc, CHUNK)?;
+    let mut output = Output::new(alloc, set)?;
     let mut rest = Vec::new(alloc);
-    let mut output = Output {
-        pending: Vec::with_capacity(alloc, ROOM)?,
-        scratch: scratch_for(alloc, set)?,
-        indexes: Vec::with_capacity(alloc, set.len())?,
-        any_written: false,
-    };
     for _ in 0..u64::MAX {
         write_pending(&mut output.pending, writer)?;
         let n = match reader.read(chunk.as_mut_slice()) {

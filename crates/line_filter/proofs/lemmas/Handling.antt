@@ -136,10 +136,12 @@ Handles-drained globs numbered bytes rest w w1 w2 h1 h2 o o1 m p e =
     subst (λ (l : List ℕ). Appends w w2 (sifted globs numbered l)) (sym last) (Appends-drained w w1 w2 h1 h2 (sifted globs numbered m.whole) (m.out, m.written, m.output) p e)
 
 -- nothing is read and nothing is pending
-pub Handles-begin : (globs : List GlobValue) (numbered : Bool) (rest h : List ℕ) (w : Option (List ℕ)) → rest ≡ [] → h ≡ [] → Handles globs numbered [] rest w w [] h false false
-Handles-begin globs numbered rest h w e f =
-    subst (λ (l : List ℕ). Handles globs numbered [] l w w [] h false false) (sym e)
-    (subst (λ (l : List ℕ). Handles globs numbered [] [] w w [] l false false) (sym f) (Handles-start globs numbered [] w [] false refl))
+pub Handles-begin : (globs : List GlobValue) (numbered : Bool) (rest h : List ℕ) (w : Option (List ℕ)) (o : Bool) → rest ≡ [] → h ≡ [] → o ≡ false →
+    Handles globs numbered [] rest w w [] h false o
+Handles-begin globs numbered rest h w o e f p =
+    subst (λ (b : Bool). Handles globs numbered [] rest w w [] h false b) (sym p)
+    (subst (λ (l : List ℕ). Handles globs numbered [] l w w [] h false false) (sym e)
+    (subst (λ (l : List ℕ). Handles globs numbered [] [] w w [] l false false) (sym f) (Handles-start globs numbered [] w [] false refl)))
 
 -- the rest by an equal list
 pub Handles-rest_is : (globs : List GlobValue) (numbered : Bool) (bytes rest rest' : List ℕ) (w w1 : Option (List ℕ)) (h h1 : List ℕ) (o o1 : Bool) → rest' ≡ rest →

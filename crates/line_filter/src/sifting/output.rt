@@ -21,8 +21,10 @@ use std::io::Write;
 /// the plain output for what is read at once is mostly one write.
 const FULL: usize = 69632;
 
+/// The first capacity of the pending output: as much as is collected, and a line more.
+const ROOM: usize = 73728;
+
 /// The output that is still to be written, and whether there was any. The vectors keep their capacity from line to line.
-#[derive(Drop)]
 pub struct Output {
     /// Output that was not written yet.
     pub pending: Vec<u8>,
@@ -34,7 +36,33 @@ pub struct Output {
     pub any_written: bool,
 }
 
+impl Drop for Output {
+    // One call wherever a value is dropped, which keeps proofs short.
+    fn drop(self) {
+        let Output {
+            pending: _,
+            scratch: _,
+            indexes: _,
+            any_written: _,
+        } = self;
+    }
+}
+
 impl Output {
+    /// Returns an output with nothing pending, for this set.
+    pub fn new(alloc: Global, set: &GlobSet) -> Result<Output, AllocError>
+        ensures empty { IfOk result (λ output. output.pending.items ≡ []) }
+        ensures unwritten { IfOk result (λ output. output.any_written ≡ false) }
+        ensures fits { IfOk result (λ output. Fits output.scratch set.now) }
+    {
+        Ok(Output {
+            pending: Vec::with_capacity(alloc, ROOM)?,
+            scratch: scratch_for(alloc, set)?,
+            indexes: Vec::with_capacity(alloc, set.len())?,
+            any_written: false,
+        })
+    }
+
     /// Appends the index column of a line that is matched, and returns whether the line is.
     fn push_index_column(
         &mut self,
@@ -268,7 +296,7 @@ fn find(
 }
 
 /// Returns a scratch that fits the set. Returns an error if memory runs out.
-pub fn scratch_for(alloc: Global, set: &GlobSet) -> Result<Scratch, AllocError>
+fn scratch_for(alloc: Global, set: &GlobSet) -> Result<Scratch, AllocError>
     ensures { IfOk result (λ scratch. Fits scratch set.now) }
 {
     match Scratch::new(alloc, set) {

@@ -13,18 +13,19 @@ returns-in_err-chunk g c =
     let p = err_from_is_err_and c.from_residual.result c.from_residual.ensures.1 in
     rw p.1 (Stops-start (set_globs c.args.set.now) c.args.numbered (g.R.Read.remaining c.args.reader.now) (g.W.Write.contents c.args.writer.now) p.0 p.2)
 
-pub returns-in_err-with_capacity : goal.returns-in_err-with_capacity
-returns-in_err-with_capacity g c =
-    let p = err_from_is_err_and c.from_residual-in_err-with_capacity.result c.from_residual-in_err-with_capacity.ensures.1 in
-    rw p.1 (Stops-start (set_globs c.args.set.now) c.args.numbered (g.R.Read.remaining c.args.reader.now) (g.W.Write.contents c.args.writer.now) p.0 p.2)
-
-pub returns-in_err-with_capacity-2 : goal.returns-in_err-with_capacity-2
-returns-in_err-with_capacity-2 g c =
-    let p = err_from_is_err_and c.from_residual-in_err-with_capacity-2.result c.from_residual-in_err-with_capacity-2.ensures.1 in
+pub returns-in_err-output : goal.returns-in_err-output
+returns-in_err-output g c =
+    let p = err_from_is_err_and c.from_residual-in_err-output.result c.from_residual-in_err-output.ensures.1 in
     rw p.1 (Stops-start (set_globs c.args.set.now) c.args.numbered (g.R.Read.remaining c.args.reader.now) (g.W.Write.contents c.args.writer.now) p.0 p.2)
 
 pub loop-init : goal.loop-init
-loop-init g c = ([], Consumes-nil _, Handles-begin _ _ _ _ _ c.new-rest.ensures.items c.in_ok-with_capacity.ensures.items, omega (arith, c.in_ok-chunk.ensures), c.in_ok-scratch_for.ensures)
+loop-init g c = (
+  [],
+  Consumes-nil _,
+  Handles-begin _ _ _ _ _ _ c.new-rest.ensures.items c.in_ok-output.ensures.empty c.in_ok-output.ensures.unwritten,
+  omega (arith, c.in_ok-chunk.ensures),
+  c.in_ok-output.ensures.fits,
+)
 
 pub returns-in-Err : goal.returns-in-Err
 returns-in-Err g c =
