@@ -1,8 +1,11 @@
 -- Laws of the indexes that sets return.
-use Rattle.std.specs.Prelude.{◌≡◌, ℕ, ◌<◌, ◌↔◌, false, if◌then◌else◌, List, [], ◌∷◌, ◌++◌, length, Contains, slice_get}
+use Rattle.std.specs.Prelude.{◌≡◌, ◌≢◌, ℕ, ◌<◌, ◌↔◌, false, if◌then◌else◌, List, [], ◌∷◌, ◌++◌, length, Contains, slice_get}
 use Rattle.globset_glob.specs.Means.{GlobValue, glob_means}
+use Rattle.globset_glob.specs.Texts.{AllBytes}
+use Rattle.glob_path.specs.Below.{path_below}
 use Rattle.globset.specs.Silent.{silent, is_listed}
 use Rattle.globset.specs.Answer.{answer}
+use Rattle.globset.specs.Below.{MatchesBelow}
 
 -- One more glob after the others: if it is listed, its index is added at the end, and otherwise nothing changes.
 abbrev pub AddKeeps : Type 0
@@ -28,3 +31,11 @@ OrderRenames = (first second : List GlobValue) (to : ℕ → ℕ) (path : List �
 -- A set of one glob that is not silent: the indexes are [0] on the paths that the glob matches, and none on all others.
 abbrev pub OneGlobSet : Type 0
 OneGlobSet = (g : GlobValue) (path : List ℕ) → silent g ≡ false → answer (g ∷ []) path ≡ (if glob_means g path then 0 ∷ [] else [])
+
+-- If a set matches a path below a folder, it matches below the folder.
+abbrev pub BelowHasPaths : Type 0
+BelowHasPaths = (globs : List GlobValue) (folder rest : List ℕ) → AllBytes rest → answer globs (path_below folder rest) ≢ [] → MatchesBelow globs folder
+
+-- If a set matches nothing below a folder, it matches nothing below each folder below that.
+abbrev pub BelowEnds : Type 0
+BelowEnds = (globs : List GlobValue) (folder rest : List ℕ) → AllBytes rest → (MatchesBelow globs folder → ⊥) → MatchesBelow globs (path_below folder rest) → ⊥

@@ -1,5 +1,6 @@
 pub mod Silent
 pub mod Answer
+pub mod Below
 pub mod Work
 pub mod SetValue
 pub mod SetFromValue
@@ -25,6 +26,8 @@ pub use Rattle.globset_glob.specs.SmallRegex
 pub use Rattle.globset_glob.specs.RegexText
 pub use Rattle.globset_glob.specs.RegexDenotes
 pub use Rattle.globset_glob.specs.Cost
+pub use Rattle.globset_glob.specs.GlobBelow
+pub use Rattle.globset_glob.specs.Texts
 pub use Rattle.glob_path.specs.PathParts
 pub use Rattle.globset_glob.specs.Errors
 pub use Rattle.globset_glob.specs.Equality

@@ -2,7 +2,7 @@
 
 ghost use Rattle.std.specs.Prelude.{◌≡◌, ◌∷◌, ◌++◌, [], IfOk, IfErr, OnOk, OnErr, if◌then◌else◌};
 ghost use Rattle.globset_glob.specs.Errors.{out_of_memory};
-ghost use Rattle.globset.specs.Laws.{AddKeeps, OneGlobSet, OrderRenames};
+ghost use Rattle.globset.specs.Laws.{AddKeeps, BelowEnds, BelowHasPaths, OneGlobSet, OrderRenames};
 ghost use Rattle.globset.specs.SetValue.{builder_globs};
 
 use crate::builder::GlobSetBuilder;
@@ -25,6 +25,17 @@ pub fn order_renames()
 /// `[0]` on these paths, and none on all others.
 pub fn one_glob_set()
     ensures { OneGlobSet }
+{}
+
+/// If a set matches some path below a folder, [`GlobSet::can_match_below`] returns true for the folder: a walk that leaves folders
+/// closed for which it returns false misses no path.
+pub fn below_has_paths()
+    ensures { BelowHasPaths }
+{}
+
+/// If [`GlobSet::can_match_below`] returns false for a folder, it does so for each folder below that.
+pub fn below_ends()
+    ensures { BelowEnds }
 {}
 
 /// After [`GlobSetBuilder::add`] returned an error, the builder has the globs that it had before the call.

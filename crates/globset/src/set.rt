@@ -9,6 +9,7 @@ ghost use Rattle.globset.specs.SetValue.{set_globs, set_states, builder_globs};
 
 mod all;
 mod any;
+mod below;
 mod building;
 mod given;
 mod matches;

@@ -7,15 +7,18 @@ use Rattle.std.proofs.lemmas.List.Sums.{sum_by-append}
 use Rattle.std.proofs.Math.Nat.{mul-le-mul_left}
 use Rattle.glob_syntax.specs.StatesPerByte.{states_per_byte}
 use Rattle.glob_syntax.specs.inner.Weight.{weight}
-use Rattle.glob_groups.specs.Direct.{needs_automaton}
+use Rattle.glob_groups.specs.Direct.{is_direct, needs_automaton}
+use Rattle.glob_path.specs.Below.{path_below}
 use Rattle.globset_glob.specs.Means.{GlobValue, tokens_of_glob, glob_means}
 use Rattle.globset_glob.specs.Cost.{cost}
 use Rattle.group_matching.specs.Globs.{TokenGlob, reads, listed, most_visits}
+use Rattle.group_matching.specs.Below as below
 use Rattle.group_matching.specs.Globs as tokens
 use Rattle.group_matching.specs.Indexes.{passes_at}
 use Rattle.globset.specs.Silent.{silent, is_listed}
 use Rattle.globset.specs.Answer.{answer}
-use Rattle.globset.specs.Work.{load, most_set_visits}
+use Rattle.globset.specs.Below.{MatchesBelow}
+use Rattle.globset.specs.Work.{load, load_below, most_set_visits, most_set_visits_below}
 use Rattle.group_matching.specs.declared.matching_sets.MatchingSets.{MatchingSets}
 use Rattle.group_matching.specs.inner.Groups.{AreGroupsOf, GroupParts, group_count, group_states}
 use Rattle.group_matching.specs.inner.Room.{HasRoom}
@@ -71,17 +74,51 @@ size_push globs g path few before =
     let more = of_states (needs_automaton g.options (tokens_of_glob g) path) (weight g.options (tokens_of_glob g) + 4) (cost g) (omega (arith, few)) in
     omega (arith, one, two, more, before)
 
+of_direct : (b : Bool) (n m : ℕ) → n ≤ m → cond b 0 n ≤ cond b 0 m
+of_direct true n m le = omega arith
+of_direct false n m le = le
+
+size_below_push : (globs : List GlobValue) (g : GlobValue) → weight g.options (tokens_of_glob g) ≤ states_per_byte g.options * length g.text → below.load_below (map by_tokens globs) ≤ load_below globs
+    → below.load_below (map by_tokens (globs ++ g ∷ [])) ≤ load_below (globs ++ g ∷ [])
+size_below_push globs g few before =
+    let one = sum_by-append (λ x. cond (is_direct x.options (tokens_of_glob x)) 0 (cost x)) globs (g ∷ []) in
+    let two = ap below.load_below (map_push globs g) ∙ sum_by-append (λ x. below.reads_below x) (map by_tokens globs) (by_tokens g ∷ []) in
+    let more = of_direct (is_direct g.options (tokens_of_glob g)) (weight g.options (tokens_of_glob g) + 4) (cost g) (omega (arith, few)) in
+    omega (arith, one, two, more, before)
+
 -- the groups of the globs, and one glob more
 pub added_push : (before after : AddedParts) (g : GlobValue) → AreAdded before → after.given ≡ before.given ++ g ∷ [] → AreGroupsOf (map by_tokens before.given ++ by_tokens g ∷ []) after.parts
     → weight g.options (tokens_of_glob g) ≤ states_per_byte g.options * length g.text → AreAdded after
 added_push before after g are is groups few = record {
   groups = rw is (rw (map_push before.given g) groups);
   size = λ path. rw is (size_push before.given g path few (are.size path));
+  size_below = rw is (size_below_push before.given g few are.size_below);
 }
 
 -- the visits of groups, within those of the set
 pub visits_within : (globs : List GlobValue) (path : List ℕ) → tokens.load (map by_tokens globs) path ≤ load globs path → most_visits (map by_tokens globs) path ≤ most_set_visits globs path
 visits_within globs path size = let most = mul-le-mul_left (length path + 1) size in omega (arith, most)
+
+-- ---- below a folder
+
+pub below_answer : (globs : List GlobValue) (folder : List ℕ) (found : Bool) → IsTrue found ↔ below.SomeListedBelow (map by_tokens globs) folder → IsTrue found ↔ MatchesBelow globs folder
+below_answer globs folder found h = (
+  λ yes. let (rest, bytes, some) = h.0 yes in (rest, bytes, λ none. some (listed_answer globs (path_below folder rest) ∙ none)),
+  λ (rest, bytes, some). h.1 (rest, bytes, λ none. some (sym (listed_answer globs (path_below folder rest)) ∙ none)),
+)
+
+pub none_below : (globs : List GlobValue) (folder : List ℕ) → globs ≡ [] → IsTrue false ↔ MatchesBelow globs folder
+none_below globs folder e = (λ y. absurd (cc), λ (rest, bytes, some). absurd (some (sym (answer_of_none globs (path_below folder rest) e))))
+
+-- the visits of groups, within those of the set
+pub visits_stored_below : (globs : List GlobValue) (g : GroupParts) (set : SetValue) (folder : List ℕ) (old new : ℕ) → AreStored globs g → globs ≡ set_globs set
+    → new ≤ old + below.most_visits_below (map by_tokens globs) folder → new ≤ old + most_set_visits_below (set_globs set) folder
+visits_stored_below globs g set folder old new are is few =
+    let most = mul-le-mul_left (length folder + 2) are.size_below in let same = ap (λ (gs : List GlobValue). most_set_visits_below gs folder) is in omega (arith, most, few, same)
+
+-- each glob is direct
+pub no_load_below : (globs : List GlobValue) (g : GroupParts) (set : SetValue) → AreStored globs g → globs ≡ set_globs set → load_below (set_globs set) ≡ 0 → below.load_below (map by_tokens globs) ≡ 0
+no_load_below globs g set are is none = let same = ap (λ (gs : List GlobValue). load_below gs) is in omega (arith, are.size_below, same, none)
 
 -- ---- what is stored
 

@@ -1,13 +1,17 @@
 -- Laws of the indexes that sets return.
 use Rattle.std.proofs.Common.{◌≡◌, ℕ, zero, suc, ◌+◌, ◌<◌, List, [], ◌∷◌, ◌++◌, length, Bool, true, false, cond, Option, Some, refl, ap, sym, ◌∙◌, arith, length-append}
-use Rattle.std.specs.Prelude.{Contains, filter, slice_get}
+use Rattle.std.specs.Prelude.{◌≢◌, Contains, filter, slice_get}
 use Rattle.std.specs.List.{range_with_len}
+use Rattle.std.proofs.lemmas.List.{append_assoc}
 use Rattle.std.specs.Option.{option_map_or}
 use Rattle.globset_glob.specs.Means.{GlobValue}
+use Rattle.globset_glob.specs.Texts.{AllBytes}
+use Rattle.glob_path.specs.Below.{path_below}
 use Rattle.globset.specs.Silent.{is_listed}
 use Rattle.globset.specs.Answer.{answer}
+use Rattle.globset.specs.Below.{MatchesBelow}
 use Rattle.group_matching.specs.Indexes.{passes_at}
-use Rattle.globset.specs.Laws.{AddKeeps, OrderRenames, OneGlobSet}
+use Rattle.globset.specs.Laws.{AddKeeps, OrderRenames, OneGlobSet, BelowHasPaths, BelowEnds}
 use Rattle.group_matching.proofs.lemmas.Indexes.{filter_more, passing_is_contained, contained_passes, passes_within}
 
 -- the list has a glob at this index, and it is listed
@@ -79,3 +83,17 @@ order_only_renames first second to path reordered j = (
 pub one_glob_is_listed : OneGlobSet
 unfolding answer
 one_glob_is_listed g path h = rw h refl
+
+-- ---- below a folder
+
+pub below_has_paths : BelowHasPaths
+below_has_paths globs folder rest bytes some = (rest, bytes, some)
+
+bytes_joined : (xs ys : List ℕ) → AllBytes xs → AllBytes ys → AllBytes (xs ++ ys)
+bytes_joined [] ys h g = g
+bytes_joined (x ∷ xs) ys h g = (h.0, bytes_joined xs ys h.1 g)
+
+pub below_ends : BelowEnds
+below_ends globs folder rest bytes none (more, bytes_of_more, some) =
+    let small : 47 < 256 = omega arith in
+    none (rest ++ 47 ∷ more, bytes_joined rest (47 ∷ more) bytes (small, bytes_of_more), λ nil. some (ap (answer globs) (append_assoc folder (47 ∷ rest) (47 ∷ more)) ∙ nil))

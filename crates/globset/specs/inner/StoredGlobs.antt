@@ -1,10 +1,11 @@
 -- The value of a set, by what the set stores. No contract cites this.
 use Rattle.std.specs.Prelude.{◌≡◌, ◌≤◌, ℕ, List, [], Option, None, Some, length, map}
 use Rattle.globset_glob.specs.Means.{GlobValue, tokens_of_glob}
+use Rattle.group_matching.specs.Below as below
 use Rattle.group_matching.specs.Globs as tokens
 use Rattle.group_matching.specs.Globs.{TokenGlob, token_glob}
 use Rattle.globset.specs.SetValue.{SetValue}
-use Rattle.globset.specs.Work.{load}
+use Rattle.globset.specs.Work.{load, load_below}
 use Rattle.group_matching.specs.inner.Groups.{GroupParts, AreGroupsOf, group_count}
 
 abbrev pub set_value : List GlobValue → ℕ → SetValue
@@ -24,6 +25,7 @@ pub record AreStored (globs : List GlobValue) (g : GroupParts) : Type 0 where
   pub groups : AreGroupsOf (map by_tokens globs) g
   pub count : group_count g ≡ length globs
   pub size : (path : List ℕ) → tokens.load (map by_tokens globs) path ≤ load globs path
+  pub size_below : below.load_below (map by_tokens globs) ≤ load_below globs
 
 -- what a set is made of: the globs that were added so far, and their groups
 pub record AddedParts : Type 0 where
@@ -34,3 +36,4 @@ pub record AddedParts : Type 0 where
 pub record AreAdded (a : AddedParts) : Type 0 where
   pub groups : AreGroupsOf (map by_tokens a.given) a.parts
   pub size : (path : List ℕ) → tokens.load (map by_tokens a.given) path ≤ load a.given path
+  pub size_below : below.load_below (map by_tokens a.given) ≤ load_below a.given

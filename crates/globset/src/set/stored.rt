@@ -4,7 +4,8 @@ ghost use Rattle.std.specs.Prelude.{◌≡◌, ◌≢◌, ◌↔◌, [], ℕ, �
 ghost use Rattle.globset_glob.specs.Errors.{out_of_memory};
 ghost use Rattle.globset.specs.Answer.{answer};
 ghost use Rattle.globset.specs.SetValue.{set_globs, set_states};
-ghost use Rattle.globset.specs.Work.{load, most_set_visits};
+ghost use Rattle.globset.specs.Below.{MatchesBelow};
+ghost use Rattle.globset.specs.Work.{load, load_below, most_set_visits, most_set_visits_below};
 ghost use Rattle.globset.specs.inner.StoredGlobs.{AreStored};
 ghost use Rattle.group_matching.specs.Indexes.{ContainsAllBelow};
 ghost use Rattle.group_matching.specs.inner.Room.{HasRoom, KeepsRoom};
@@ -151,6 +152,25 @@ impl Stored {
         ensures visits { visits.new ≤ visits.old + most_set_visits (set_globs self.now) path.now }
     {
         Ok(self.groups.is_match(path, sets, visits)?)
+    }
+
+    /// Returns whether some glob that is not silent matches some path below a folder.
+    ///
+    /// Returns an error if memory runs out, and no other.
+    pub fn can_match_below(
+        &self,
+        folder: &Candidate<'_>,
+        sets: &mut MatchingSets,
+        visits: &mut Visits,
+    ) -> Result<bool, Error>
+        ensures ok { IfOk result (λ yes. IsTrue yes ↔ MatchesBelow (set_globs self.now) folder.now) }
+        ensures err { IfErr result (λ e. e ≡ out_of_memory) }
+        ensures kept { KeepsRoom sets.old sets.new }
+        ensures room { HasRoom sets.old (set_states self.now) (length (set_globs self.now)) → IsOk result }
+        ensures memory { load_below (set_globs self.now) ≡ 0 → IsOk result }
+        ensures visits { visits.new ≤ visits.old + most_set_visits_below (set_globs self.now) folder.now }
+    {
+        Ok(self.groups.can_match_below(folder.path(), sets, visits)?)
     }
 
     /// Returns whether every glob matches the path and none is silent.

@@ -1,0 +1,15 @@
+use Rattle.std.proofs.Common.{◌≡◌, IfOk, IsTrue, ap, sym, subst, ◌∙◌}
+use Rattle.std.specs.Prelude.{◌↔◌}
+use Rattle.globset.specs.Below.{MatchesBelow}
+use Rattle.globset.specs.SetValue.{SetValue, set_globs}
+use Rattle.globset.specs.inner.StoredGlobs.{stored_set}
+use Rattle.globset.proofs.lemmas.Answer.{none_below}
+use Rattle.globset.proofs.set.GlobSet.can_match_below_visits.Goals as goal
+
+pub returns-then-is_empty-clause-ok : goal.returns-then-is_empty-clause-ok
+returns-then-is_empty-clause-ok c = none_below (set_globs c.args.self.now) c.args.folder.now (c.is_empty.ensures.0 c.if-is_empty.true)
+
+pub returns-clause-ok : goal.returns-clause-ok
+returns-clause-ok c =
+    let same : c.in-Some.stored ≡ c.args.self.now = sym (ap stored_set c.in-Some.is) ∙ c.self.view_is in
+    subst (λ (s : SetValue). IfOk c.can_match_below.result (λ yes. IsTrue yes ↔ MatchesBelow (set_globs s) c.args.folder.now)) same c.can_match_below.ensures.ok

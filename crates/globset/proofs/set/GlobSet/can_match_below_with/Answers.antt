@@ -1,0 +1,28 @@
+use Rattle.std.proofs.Common.{◌≡◌, IfOk, IsTrue, ap, sym, subst, ◌∙◌}
+use Rattle.std.specs.Prelude.{◌↔◌}
+use Rattle.globset.specs.Below.{MatchesBelow}
+use Rattle.globset.specs.SetValue.{SetValue, set_globs}
+use Rattle.globset.specs.inner.StoredGlobs.{stored_set}
+use Rattle.globset.proofs.lemmas.Answer.{none_below}
+use Rattle.globset.proofs.lemmas.Scratches.{has_room, keeps_room}
+use Rattle.globset.proofs.set.GlobSet.can_match_below_with.Goals as goal
+
+pub returns-then-is_empty-clause-some : goal.returns-then-is_empty-clause-some
+returns-then-is_empty-clause-some c = none_below (set_globs c.args.self.now) c.args.folder.now (c.is_empty.ensures.0 c.if-is_empty.true)
+
+pub returns-in_default-clause-some : goal.returns-in_default-clause-some
+returns-in_default-clause-some c = none_below (set_globs c.args.self.now) c.args.folder.now (ap set_globs (sym c.self.view_is ∙ ap stored_set c.in_default.is))
+
+pub unwrap-requires : goal.unwrap-requires
+unwrap-requires c =
+    let same : c.in-Some.stored ≡ c.args.self.now = sym (ap stored_set c.in-Some.is) ∙ c.self.view_is in
+    c.can_match_below.ensures.room (has_room c.scratch.inside.sets c.scratch.inside.states c.scratch.inside.indexes c.args.scratch.now c.args.self.now c.in-Some.stored c.scratch.invariant c.scratch.view_is same c.requires)
+
+pub invariant_of-scratch : goal.invariant_of-scratch
+invariant_of-scratch c = keeps_room c.scratch.inside.sets c.can_match_below.new.sets c.scratch.inside.states c.scratch.inside.indexes c.can_match_below.ensures.kept c.scratch.invariant
+
+pub returns-clause-some : goal.returns-clause-some
+returns-clause-some c =
+    let same : c.in-Some.stored ≡ c.args.self.now = sym (ap stored_set c.in-Some.is) ∙ c.self.view_is in
+    subst (λ (s : SetValue). IsTrue c.unwrap.result ↔ MatchesBelow (set_globs s) c.args.folder.now) same
+    (subst (λ r. IfOk r (λ yes. IsTrue yes ↔ MatchesBelow (set_globs c.in-Some.stored) c.args.folder.now)) c.unwrap.ensures c.can_match_below.ensures.ok)

@@ -1,0 +1,122 @@
+//! Whether some glob of a set matches some path below a folder.
+
+ghost use Rattle.std.specs.Prelude.{◌≡◌, ◌+◌, ◌≤◌, ◌↔◌, [], IfOk, IfErr, IsOk, IsTrue};
+ghost use Rattle.globset_glob.specs.Errors.{out_of_memory};
+ghost use Rattle.globset.specs.Below.{MatchesBelow};
+ghost use Rattle.globset.specs.SetValue.{Fits, set_globs};
+ghost use Rattle.globset.specs.Work.{load_below, most_set_visits_below};
+
+use crate::set::{GlobSet, Scratch};
+use globset_glob::{AsPath, Candidate, Error, Visits};
+
+impl GlobSet {
+    /// Returns whether some glob that is not silent matches some path below a folder. A program that walks over a tree of folders
+    /// need not open a folder for which this returns false, nor one below it.
+    ///
+    /// A path below a folder is the folder, a `/`, and any bytes, perhaps none. So `a/**` and `a/` match a path below `a`, and `a`
+    /// does not. The folder is taken as it is: below `a/` are the paths that begin with `a//`. Below the empty folder are the paths
+    /// that begin with `/`, so a walk over relative paths opens the folder that it begins in without asking.
+    ///
+    /// To ask several sets, or about bytes that are not UTF-8, create a [`Candidate`] and call
+    /// [`GlobSet::can_match_below_candidate`]. A walk makes a [`Scratch`] once and calls [`GlobSet::can_match_below_with`].
+    ///
+    /// Returns an error if memory runs out, and no other. It needs no memory if each glob is direct.
+    ///
+    /// ```rust
+    /// use globset::{Glob, GlobSet};
+    ///
+    /// let set = GlobSet::new(alloc, [&Glob::new(alloc, "src/*.rs")?, &Glob::new(alloc, "docs/a.md")?])?;
+    /// assert!(rt; set.can_match_below("docs")?);
+    /// assert!(rt; set.can_match_below("src/a")?);
+    /// assert!(rt; !set.can_match_below("target")?);
+    /// ```
+    pub fn can_match_below<P: AsPath>(&self, folder: P) -> Result<bool, Error>
+        ensures ok { IfOk result (λ yes. IsTrue yes ↔ MatchesBelow (set_globs self.now) (P.text folder)) }
+        ensures err { IfErr result (λ e. e ≡ out_of_memory) }
+        ensures empty { set_globs self.now ≡ [] → IsOk result }
+        ensures memory { load_below (set_globs self.now) ≡ 0 → IsOk result }
+    {
+        self.can_match_below_candidate(&Candidate::new(folder.path_text()))
+    }
+
+    /// Returns whether some glob that is not silent matches some path below the candidate's path, as
+    /// [`GlobSet::can_match_below`] does.
+    ///
+    /// Returns an error if memory runs out, and no other. It needs no memory if each glob is direct.
+    pub fn can_match_below_candidate(&self, folder: &Candidate<'_>) -> Result<bool, Error>
+        ensures ok { IfOk result (λ yes. IsTrue yes ↔ MatchesBelow (set_globs self.now) folder.now) }
+        ensures err { IfErr result (λ e. e ≡ out_of_memory) }
+        ensures empty { set_globs self.now ≡ [] → IsOk result }
+        ensures memory { load_below (set_globs self.now) ≡ 0 → IsOk result }
+    {
+        let mut visits = Visits::new();
+        self.can_match_below_visits(folder, &mut visits)
+    }
+
+    /// The same as [`GlobSet::can_match_below_candidate`], which calls it, with a count of the visits.
+    ///
+    /// It adds at most `4 + 2 * (folder bytes + 2)`, and `folder bytes + 2` times `4 * glob bytes + 4` for each glob that is not
+    /// direct (`16 * glob bytes + 4` under `whole_character`), also if memory runs out; and none if the set has no globs. The
+    /// automata of all extensions may be run, each once. Their parts that are simulated take two bits of memory for each state.
+    ///
+    /// Returns an error if memory runs out, and no other. It needs no memory if each glob is direct.
+    pub fn can_match_below_visits(
+        &self,
+        folder: &Candidate<'_>,
+        visits: &mut Visits,
+    ) -> Result<bool, Error>
+        ensures ok { IfOk result (λ yes. IsTrue yes ↔ MatchesBelow (set_globs self.now) folder.now) }
+        ensures err { IfErr result (λ e. e ≡ out_of_memory) }
+        ensures empty { set_globs self.now ≡ [] → IsOk result }
+        ensures memory { load_below (set_globs self.now) ≡ 0 → IsOk result }
+        ensures visits { visits.new ≤ visits.old + most_set_visits_below (set_globs self.now) folder.now }
+        ensures none { set_globs self.now ≡ [] → visits.new ≡ visits.old }
+    {
+        if self.is_empty() {
+            return Ok(false);
+        }
+        let Some(stored) = &self.stored else {
+            return Ok(false);
+        };
+        stored.can_match_below(folder, &mut stored.new_sets(), visits)
+    }
+
+    /// The same as [`GlobSet::can_match_below_visits`], with a scratch: it takes no memory, and cannot fail.
+    ///
+    /// The scratch has to fit the set. It then fits each set that it fitted before. The call adds no more visits than
+    /// [`GlobSet::can_match_below_visits`] may.
+    ///
+    /// ```rust
+    /// use globset::{Candidate, Glob, GlobSet, Scratch, Visits};
+    ///
+    /// let set = GlobSet::new(alloc, [&Glob::new(alloc, "src/**")?])?;
+    /// let mut scratch = Scratch::new(alloc, &set)?;
+    /// let mut visits = Visits::new();
+    ///
+    /// // A walk has come to the folder `target`. It opens it only if some path below it can match.
+    /// let folder = Candidate::new("target");
+    /// assert!(rt; !set.can_match_below_with(&folder, &mut scratch, &mut visits));
+    /// ```
+    pub fn can_match_below_with(
+        &self,
+        folder: &Candidate<'_>,
+        scratch: &mut Scratch,
+        visits: &mut Visits,
+    ) -> bool
+        requires { Fits scratch.old self.now }
+        ensures some { IsTrue result ↔ MatchesBelow (set_globs self.now) folder.now }
+        ensures kept { scratch.new ≡ scratch.old }
+        ensures visits { visits.new ≤ visits.old + most_set_visits_below (set_globs self.now) folder.now }
+        ensures none { set_globs self.now ≡ [] → visits.new ≡ visits.old }
+    {
+        if self.is_empty() {
+            return false;
+        }
+        let Some(stored) = &self.stored else {
+            return false;
+        };
+        stored
+            .can_match_below(folder, &mut scratch.sets, visits)
+            .unwrap()
+    }
+}
