@@ -31,10 +31,11 @@ impl Tree {
         ensures leads { IfOk result (λ t. (w : List ℕ) → under t 0 w ≡ indexes_under (map entry_of texts.now) w) }
     {
         let longest = longest(texts);
+        let indexes = indexes_of(alloc, texts)?;
         let mut tree = Tree {
             nodes: Vec::new(alloc),
             bytes: Vec::new(alloc),
-            indexes: indexes_of(alloc, texts)?,
+            indexes,
         };
         let mut level = Vec::new(alloc);
         level.push(Span {

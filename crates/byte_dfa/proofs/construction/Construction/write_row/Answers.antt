@@ -185,3 +185,21 @@ returns-clause-sound c = λ _.
     let second = cells_push m classes.firsts w found lists (rows ++ this.on_entry ∷ []) row (w + 1) this'.at_end first place' (omega arith)
     (cell_end m classes.firsts w found lists row this'.at_end this' here' refl) in
     record { sets = inv.sound.sets; cells = rw (c.in_ok-push-2.ensures.items, c.in_ok-push.ensures.items) second; ends = inv.sound.ends }
+
+pub returns-clause-room : goal.returns-clause-room
+returns-clause-room c = c.loop-class.invariant.room
+
+pub returns-clause-few : goal.returns-clause-few
+returns-clause-few c = λ _. c.loop-class.invariant.few
+
+pub returns-clause-keeps : goal.returns-clause-keeps
+returns-clause-keeps c = λ _. c.loop-class.invariant.keeps
+
+pub returns-clause-place : goal.returns-clause-place
+returns-clause-place c = λ _.
+    let rows = c.loop-class.self.rows.items in
+    let a = c.index.result.now.on_entry in
+    let b = c.index-2.result.now.at_end in
+    let first = ap length c.in_ok-push.ensures.items in
+    let second = ap length c.in_ok-push-2.ensures.items in
+    omega (arith, c.loop-class.invariant.place, first, second, length-append rows (a ∷ []), length-append c.push-2.new.self.items (b ∷ []))

@@ -1,4 +1,5 @@
 use Rattle.std.proofs.Common.{◌≡◌, ◌+◌, ◌*◌, length, true, ap, sym, ◌∙◌, arith, le_trans}
+use Rattle.std.proofs.lemmas.Nat.{mul-le}
 use Rattle.byte_dfa.proofs.construction.Construction.write_rows.Goals as goal
 
 pub loop-row-init : goal.loop-row-init
@@ -40,3 +41,32 @@ returns-clause-rows c = λ _.
     let inv = c.loop-row.invariant in
     let row : c.loop-row.row ≡ length c.loop-row.self.found.items = omega arith in
     inv.place ∙ ap (λ r. r * (c.args.classes.now.count + 2)) row
+
+pub row_steps-requires : goal.row_steps-requires
+row_steps-requires c =
+    let inv = c.loop-row.invariant in
+    record {
+      room = omega (arith, inv.step_room, inv.room.room);
+      sound = inv.sound.sets;
+      row = omega arith;
+    }
+
+pub write_row-requires : goal.write_row-requires
+write_row-requires c =
+    let inv = c.loop-row.invariant in
+    record {
+      room = inv.room;
+      step_room = c.row_steps.ensures.step_room ∙ inv.step_room;
+      sound = inv.sound;
+      few = omega (arith, inv.few, c.requires.few);
+      classes = c.requires.classes;
+      row = c.in_ok-written.ensures.row;
+      place = inv.place ∙ ap (λ r. r * (c.args.classes.now.count + 2)) (sym c.in_ok-written.ensures.number);
+    }
+
+pub loop-row-smaller : goal.loop-row-smaller
+loop-row-smaller c =
+    let n = length c.loop-row.self.found.items in
+    let w = c.args.classes.now.count in
+    let le = mul-le n 1 n (w + 2) (omega arith) (omega arith) in
+    omega (arith, le, c.loop-row.invariant.few)
