@@ -1,5 +1,5 @@
 -- Globs of a list that are listed for some path below a folder.
-use Rattle.std.specs.Prelude.{◌≢◌, ℕ, ◌+◌, ◌*◌, List, [], cond, length, sum_by}
+use Rattle.std.specs.Prelude.{◌≢◌, ℕ, ◌+◌, List, [], cond, length, sum_by}
 use Rattle.byte_automaton.specs.Texts.{AllBytes}
 use Rattle.glob_groups.specs.Direct.{is_direct}
 use Rattle.glob_path.specs.Below.{path_below}

@@ -1,11 +1,11 @@
 -- What is found for a folder, by keys and by automata.
-use Rattle.std.proofs.Common.{◌≡◌, ℕ, ◌+◌, ◌*◌, ◌≤◌, ◌⊎◌, inl, inr, Bool, true, false, List, [], ◌∷◌, length, IsTrue, refl, sym, subst, ◌∙◌, true≢false, arith}
+use Rattle.std.proofs.Common.{◌≡◌, ℕ, ◌+◌, ◌*◌, ◌≤◌, ◌⊎◌, inl, inr, Bool, true, List, [], ◌∷◌, IsTrue, refl, arith}
 use Rattle.std.specs.Prelude.{◌↔◌}
 use Rattle.std.proofs.Math.Logic.{⊎_elim}
 use Rattle.std.proofs.lemmas.List.Sums.{sum_by-append}
 use Rattle.std.proofs.lemmas.Nat.{mul-le}
 use Rattle.byte_automaton.specs.Live.{MatchesAfter}
-use Rattle.byte_automaton.specs.Runs.{size, most_reads}
+use Rattle.byte_automaton.specs.Runs.{most_reads}
 use Rattle.byte_automaton.specs.Steps.{Machine}
 use Rattle.byte_automaton.specs.Texts.{AllBytes}
 use Rattle.glob_automaton.specs.After.{SomeMeanAfter}

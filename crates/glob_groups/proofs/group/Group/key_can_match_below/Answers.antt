@@ -1,6 +1,5 @@
-use Rattle.std.proofs.Common.{List, subst, arith}
+use Rattle.std.proofs.Common.{subst, arith}
 use Rattle.glob_automaton.proofs.lemmas.IndexedTokens.{all_bytes}
-use Rattle.glob_path.specs.Below.{BeginsWith, folder_start}
 use Rattle.glob_groups.specs.declared.group.Group.{Group}
 use Rattle.glob_groups.specs.Below.{TellsBelow}
 use Rattle.glob_groups.specs.GroupMeaning.{group_seen}

@@ -1,11 +1,10 @@
-use Rattle.std.proofs.Common.{◌≡◌, ℕ, ◌+◌, ◌*◌, ◌≤◌, ◌∷◌, ◌++◌, [], inl, inr, List, IsTrue, length, refl, ap, sym, subst, ◌∙◌, true≢false, arith}
-use Rattle.std.specs.Prelude.{◌↔◌, IfOk}
+use Rattle.std.proofs.Common.{ℕ, inl, inr, List, IsTrue, length, refl, ap, sym, subst, ◌∙◌, true≢false, arith}
+use Rattle.std.specs.Prelude.{◌↔◌}
 use Rattle.std.proofs.lemmas.Result.{IfOk-weaker}
-use Rattle.byte_automaton.specs.Runs.{size, most_reads}
 use Rattle.glob_automaton.specs.IndexedTokens.{IndexedTokens}
 use Rattle.glob_path.specs.Below.{folder_start}
 use Rattle.group_matching.specs.inner.Automata.{AutomataParts, AreFor, AreForLists, AreFoundBelow, SomeSlotAfter, TokenLists, total_reads}
-use Rattle.group_matching.proofs.lemmas.Below.{both_runs, first_run, last_of_three, most_within, some_text}
+use Rattle.group_matching.proofs.lemmas.Below.{last_of_three, most_within, some_text}
 use Rattle.group_matching.proofs.automata.Automata.can_match_below.Goals as goal
 
 pub returns-then-self-clause-some : goal.returns-then-self-clause-some

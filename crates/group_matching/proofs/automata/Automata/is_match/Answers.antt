@@ -1,4 +1,4 @@
-use Rattle.std.proofs.Common.{inl, inr, ℕ, length, refl, ap, sym, subst, ◌∙◌}
+use Rattle.std.proofs.Common.{inl, inr, ℕ, length, refl, ap, sym, subst}
 use Rattle.std.specs.Prelude.{◌↔◌, IsTrue, List}
 use Rattle.std.proofs.lemmas.Result.{IfOk-weaker}
 use Rattle.byte_automaton.specs.Runs.{most_reads}

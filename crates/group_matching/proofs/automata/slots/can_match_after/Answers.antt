@@ -1,4 +1,4 @@
-use Rattle.std.proofs.Common.{◌++◌, ◌∷◌, [], ◌+◌, ◌<◌, length, refl, arith, sym, ◌∙◌, true≢false}
+use Rattle.std.proofs.Common.{◌++◌, ◌∷◌, [], ◌+◌, length, refl, arith, sym, ◌∙◌, true≢false}
 use Rattle.group_matching.proofs.lemmas.Slots.{is_for, none_upto, size_within, visits_more, visits_upto}
 use Rattle.group_matching.proofs.automata.slots.can_match_after.Goals as goal
 

@@ -1,4 +1,4 @@
-use Rattle.std.proofs.Common.{◌≤◌, length, ap, sym, subst, arith}
+use Rattle.std.proofs.Common.{length, ap, sym, subst, arith}
 use Rattle.group_matching.specs.inner.Groups.{GroupParts, AreGroupsOf}
 use Rattle.group_matching.specs.Globs.{load}
 use Rattle.group_matching.specs.inner.Automata.{reads_for}

@@ -1,4 +1,4 @@
-use Rattle.std.proofs.Common.{◌≡◌, None, ap, sym, ◌∙◌}
+use Rattle.std.proofs.Common.{ap, sym, ◌∙◌}
 use Rattle.byte_table.specs.Entries.{indexes_under}
 use Rattle.group_matching.specs.inner.Automata.{SlotParts, first, slot_of}
 use Rattle.group_matching.proofs.lemmas.Tables.{first_none}
