@@ -116,16 +116,16 @@ slot_keeps old new key n m at is_old empty slots machines before are = record {
       ∙ first_new (bytes_eq key extension) n (indexes_under old.slots extension) (replaced n [] before) before [] (replaced_at n [] before n refl)
       (λ t there. let within = is_old.held extension t there in replaced_other n [] before t (λ e. absurd (omega (arith, e, at, within))));
   after = λ y. let long = ap length machines in let len = length-append old.machines (m ∷ []) in (
-      λ (s, lt, some). ⊎_elim {C = SomeSlotAfter (length old.machines) before y}
-          (λ is. absurd (subst (λ xs. SomeMeanAfter xs y) (replaced_at n [] before s is) some))
-          (λ other. (s, omega (arith, lt, long, len, at, other), subst (λ xs. SomeMeanAfter xs y) (replaced_other n [] before s other) some))
-          (equal_or_not s n),
-      λ (s, lt, some). (
-        s,
-        omega (arith, lt, long, len),
-        subst (λ xs. SomeMeanAfter xs y) (sym (replaced_other n [] before s (λ e. absurd (omega (arith, e, at, lt))))) some,
-      ),
-    );
+    λ (s, lt, some). ⊎_elim {C = SomeSlotAfter (length old.machines) before y}
+        (λ is. absurd (subst (λ xs. SomeMeanAfter xs y) (replaced_at n [] before s is) some))
+        (λ other. (s, omega (arith, lt, long, len, at, other), subst (λ xs. SomeMeanAfter xs y) (replaced_other n [] before s other) some))
+        (equal_or_not s n),
+    λ (s, lt, some). (
+      s,
+      omega (arith, lt, long, len),
+      subst (λ xs. SomeMeanAfter xs y) (sym (replaced_other n [] before s (λ e. absurd (omega (arith, e, at, lt))))) some,
+    ),
+  );
 }
 
 -- ---- the reads of the automaton of an extension
@@ -238,9 +238,9 @@ slot_adds old mid new key s x d now is_mid at lt slots machines adds before kept
       ∙ kept_at (slot_of mid.slots extension) s (kept.tokens s ++ x ∷ []) kept.tokens (λ e. absurd (other (is_mid.apart extension key s e at)))
       ∙ kept.same extension;
   after = λ y. (
-      λ h. ⊎_elim {C = SomeSlotAfter (length old.machines) before y ⊎ MeanAfter x.options x.tokens y} (λ was. inl ((kept.after y).0 was)) (λ this. inr this) ((slot_pushed y).0 h),
-      λ h. (slot_pushed y).1 (⊎_elim {C = SomeSlotAfter (length mid.machines) kept.tokens y ⊎ MeanAfter x.options x.tokens y} (λ was. inl ((kept.after y).1 was)) (λ this. inr this) h),
-    );
+    λ h. ⊎_elim {C = SomeSlotAfter (length old.machines) before y ⊎ MeanAfter x.options x.tokens y} (λ was. inl ((kept.after y).0 was)) (λ this. inr this) ((slot_pushed y).0 h),
+    λ h. (slot_pushed y).1 (⊎_elim {C = SomeSlotAfter (length mid.machines) kept.tokens y ⊎ MeanAfter x.options x.tokens y} (λ was. inl ((kept.after y).1 was)) (λ this. inr this) h),
+  );
 }
   where
     tokens : ℕ → List IndexedTokens
