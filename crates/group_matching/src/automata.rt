@@ -149,7 +149,7 @@ impl Automata {
         sets.clear_marks(self.index_count())?;
         self.by_path
             .find(path, &mut sets.states, &mut sets.marks, visits)?;
-        self.run_by_component(path, sets, visits)?;
+        run_by_component(&self.by_component, path, sets, visits)?;
         run_by_extension(by_extension, path, sets, visits)?;
         Ok(true)
     }
@@ -172,7 +172,7 @@ impl Automata {
         if self.by_path.is_match(path.path(), sets, visits)? {
             return Ok(true);
         }
-        if self.is_match_by_component(path.path(), sets, visits)? {
+        if is_match_by_component(&self.by_component, path.path(), sets, visits)? {
             return Ok(true);
         }
         let by_extension = self.by_extension(path, visits);
@@ -203,47 +203,46 @@ impl Automata {
             && self.by_component.state_count() == 0
             && by_extension.state_count() == 0
     }
+}
 
-    /// Marks the indexes of the globs that the path's last component matches, beside those that are marked. The component is only
-    /// searched for if there are states.
-    fn run_by_component(
-        &self,
-        path: &[u8],
-        sets: &mut MatchingSets,
-        visits: &mut Visits,
-    ) -> Result<(), AllocError>
-        requires { self.now.extensions.index_count ≤ index_room sets.old.marks }
-        ensures found { OnOk result ((xs : List IndexedTokens) → IsFor self.now.by_component xs → (k : ℕ) → IsTrue (has_index sets.new.marks k) ↔ (SomeMatches xs (last_component path.now) k ⊎ IsTrue (has_index sets.old.marks k))) }
-        ensures kept { KeepsRoom sets.old sets.new }
-        ensures memory { size self.now.by_component ≤ sets_room sets.old.states → IsOk result }
-        ensures visits { visits.new ≤ visits.old + (length path.now + 1) * most_reads self.now.by_component }
-    {
-        if self.by_component.state_count() == 0 {
-            return Ok(());
-        }
-        let component = last_component_of(&Candidate::from_bytes(path));
-        self.by_component
-            .find(component, &mut sets.states, &mut sets.marks, visits)
+/// Marks the indexes of the globs that the path's last component matches, beside those that are marked. The component is only
+/// searched for if there are states.
+fn run_by_component(
+    automaton: &Compiled,
+    path: &[u8],
+    sets: &mut MatchingSets,
+    visits: &mut Visits,
+) -> Result<(), AllocError>
+    requires { automaton.now.index_count ≤ index_room sets.old.marks }
+    ensures found { OnOk result ((xs : List IndexedTokens) → IsFor automaton.now xs → (k : ℕ) → IsTrue (has_index sets.new.marks k) ↔ (SomeMatches xs (last_component path.now) k ⊎ IsTrue (has_index sets.old.marks k))) }
+    ensures kept { KeepsRoom sets.old sets.new }
+    ensures memory { size automaton.now ≤ sets_room sets.old.states → IsOk result }
+    ensures visits { visits.new ≤ visits.old + (length path.now + 1) * most_reads automaton.now }
+{
+    if automaton.state_count() == 0 {
+        return Ok(());
     }
+    let component = last_component_of(&Candidate::from_bytes(path));
+    automaton.find(component, &mut sets.states, &mut sets.marks, visits)
+}
 
-    /// Returns whether the path's last component matches tokens. It is only searched for if there are states.
-    fn is_match_by_component(
-        &self,
-        path: &[u8],
-        sets: &mut StateSets,
-        visits: &mut Visits,
-    ) -> Result<bool, AllocError>
-        ensures some { IfOk result (λ yes. (xs : List IndexedTokens) → IsFor self.now.by_component xs → IsTrue yes ↔ ((k : ℕ) × SomeMatches xs (last_component path.now) k)) }
-        ensures kept { sets_room sets.old ≤ sets_room sets.new }
-        ensures memory { size self.now.by_component ≤ sets_room sets.old → IsOk result }
-        ensures visits { visits.new ≤ visits.old + (length path.now + 1) * most_reads self.now.by_component }
-    {
-        if self.by_component.state_count() == 0 {
-            return Ok(false);
-        }
-        let component = last_component_of(&Candidate::from_bytes(path));
-        self.by_component.is_match(component, sets, visits)
+/// Returns whether the path's last component matches tokens. It is only searched for if there are states.
+fn is_match_by_component(
+    automaton: &Compiled,
+    path: &[u8],
+    sets: &mut StateSets,
+    visits: &mut Visits,
+) -> Result<bool, AllocError>
+    ensures some { IfOk result (λ yes. (xs : List IndexedTokens) → IsFor automaton.now xs → IsTrue yes ↔ ((k : ℕ) × SomeMatches xs (last_component path.now) k)) }
+    ensures kept { sets_room sets.old ≤ sets_room sets.new }
+    ensures memory { size automaton.now ≤ sets_room sets.old → IsOk result }
+    ensures visits { visits.new ≤ visits.old + (length path.now + 1) * most_reads automaton.now }
+{
+    if automaton.state_count() == 0 {
+        return Ok(false);
     }
+    let component = last_component_of(&Candidate::from_bytes(path));
+    automaton.is_match(component, sets, visits)
 }
 
 /// Marks the indexes of the globs whose tokens match the path before its extension, beside those that are marked. The extension

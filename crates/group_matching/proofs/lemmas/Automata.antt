@@ -28,22 +28,21 @@ pub component_bytes : (path : List ℕ) → AllBytes path → AllBytes (last_com
 component_bytes path h = bytes_after (last_position is_separator path) path h
 
 -- a bound on visits for a text, within that for a longer one
-shorter_visits : (a b n m old new : ℕ) → a ≤ b → n ≡ m → new ≤ old + (a + 1) * n → new ≤ old + (b + 1) * m
-shorter_visits a b n m old new le same few =
+shorter_visits : (a b n old new : ℕ) → a ≤ b → new ≤ old + (a + 1) * n → new ≤ old + (b + 1) * n
+shorter_visits a b n old new le few =
     let fewer : a + 1 ≤ b + 1 = omega (arith, le) in
-    let most = mul-le-mul_right n fewer in
-    let all = ap (λ (k : ℕ). (b + 1) * k) same in omega (arith, few, most, all)
+    let most = mul-le-mul_right n fewer in omega (arith, few, most)
 
 component_length : (o : Option ℕ) (path : List ℕ) → length (after_position path o) ≤ length path
 component_length None path = omega arith
 component_length (Some k) path = let rest = length-drop (k + 1) path in omega (arith, rest)
 
 -- the visits of a run over it, within those of a run over the path
-pub component_visits : (path text : List ℕ) (n m old new : ℕ) → text ≡ last_component path → n ≡ m → new ≤ old + (length text + 1) * n → new ≤ old + (length path + 1) * m
-component_visits path text n m old new is same few =
+pub component_visits : (path text : List ℕ) (n old new : ℕ) → text ≡ last_component path → new ≤ old + (length text + 1) * n → new ≤ old + (length path + 1) * n
+component_visits path text n old new is few =
     let shorter = component_length (last_position is_separator path) path in
     let long = ap length is in
-    shorter_visits (length text) (length path) n m old new (omega (arith, shorter, long)) same few
+    shorter_visits (length text) (length path) n old new (omega (arith, shorter, long)) few
 
 -- ---- a path before its extension
 
@@ -68,7 +67,7 @@ before_visits path text n old new is few =
     let long = ap length (extension_cut path) in
     let parts = length-append (before_extension path) (component_extension path) in
     let same = ap length is in
-    shorter_visits (length text) (length path) n n old new (omega (arith, long, parts, same)) refl few
+    shorter_visits (length text) (length path) n old new (omega (arith, long, parts, same)) few
 
 -- ---- an automaton without states
 

@@ -25,6 +25,12 @@ three_runs n m k l a a' b d d' now v w x y first second third is last one two lo
     let sum : (n + 1) * (a + (b + d)) ≡ (n + 1) * a + ((n + 1) * b + (n + 1) * d) = omega arith in
     omega (arith, run, next, lookup, end, sum)
 
+-- a lookup before three runs over one text, of which the last may be missing
+pub looked_runs : (n a b d now t v w x : ℕ) → t ≤ now + 1 → v ≤ t + (n + 1) * a → w ≤ v + (n + 1) * b → x ≤ w + (n + 1) * d → x ≤ now + (1 + (n + 1) * (a + (b + d)))
+looked_runs n a b d now t v w x lookup one two three =
+    let sum : (n + 1) * (a + (b + d)) ≡ (n + 1) * a + ((n + 1) * b + (n + 1) * d) = omega arith in
+    omega (arith, lookup, one, two, three, sum)
+
 -- automata, and keys before or after them
 pub with_keys : (n m reads load now v : ℕ) → m ≡ n → reads ≤ load → v ≤ now + (3 + 2 * (n + 1)) + (1 + (m + 1) * reads) → v ≤ now + visits_for n load
 with_keys n m reads load now v len le run = let more = mul-le (m + 1) reads (n + 1) load (omega (arith, len)) le in omega (arith, run, more)

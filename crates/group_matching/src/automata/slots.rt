@@ -314,7 +314,20 @@ fn finished(
 {
     let mut automata = Vec::with_capacity(alloc, builders.len())?;
     for builder in builders {
-        automata.push(Compiled::new(alloc, budget, builder.finish())?)?;
+        push_finished(alloc, budget, builder, &mut automata)?;
     }
     Ok(automata)
+}
+
+/// Pushes the automaton of a builder. Returns an error if memory runs out.
+fn push_finished(
+    alloc: Global,
+    budget: &mut Budget,
+    builder: Builder,
+    automata: &mut Vec<Compiled>,
+) -> Result<(), AllocError>
+    ensures { OnOk result (automata.new.items ≡ automata.old.items ++ builder ∷ []) }
+{
+    automata.push(Compiled::new(alloc, budget, builder.finish())?)?;
+    Ok(())
 }

@@ -1,4 +1,4 @@
-use Rattle.std.proofs.Common.{◌≡◌, ℕ, List, IsTrue, subst, arith}
+use Rattle.std.proofs.Common.{◌≡◌, ℕ, List, IsTrue, subst, arith, true≢false, sym}
 use Rattle.std.specs.Prelude.{◌↔◌, IfOk}
 use Rattle.byte_automaton.specs.Runs.{size, most_reads}
 use Rattle.glob_automaton.specs.IndexedTokens.{IndexedTokens, SomeMatches, IsFor}
@@ -11,7 +11,7 @@ pub returns-then-state_count-eq0-clause-some : goal.returns-then-state_count-eq0
 returns-then-state_count-eq0-clause-some c = λ xs is.
     let none : size c.args.automaton.now ≡ 0 = omega (arith, c.state_count.ensures, c.if-state_count-eq0.true) in
     let bytes = before_bytes c.args.path.now (all_bytes c.args.path.now (λ i. omega (arith, c.type_inv.path i))) in (
-      λ yes. absurd (cc),
+      λ yes. absurd (true≢false (sym yes)),
       λ some. absurd (no_matches c.args.automaton.now xs (before_extension c.args.path.now) some.0 none is bytes some.1),
     )
 

@@ -1,4 +1,4 @@
-use Rattle.std.proofs.Common.{inl, inr, ℕ, length, refl, ap, sym, subst}
+use Rattle.std.proofs.Common.{inl, inr, ℕ, ◌+◌, ◌*◌, ◌≤◌, length, refl, ap, sym, subst, ◌∙◌, true≢false}
 use Rattle.std.specs.Prelude.{◌↔◌, IsTrue, List}
 use Rattle.std.proofs.lemmas.Result.{IfOk-weaker}
 use Rattle.byte_automaton.specs.Runs.{most_reads}
@@ -17,7 +17,8 @@ returns-then-branch-clause-some c = λ t are.
 
 pub returns-then-branch-2-clause-some : goal.returns-then-branch-2-clause-some
 returns-then-branch-2-clause-some c = λ t are.
-    let some = (c.in_ok-is_match_by_component.ensures.some t.by_component are.component).0 c.if-branch-2.true in
+    let by_component = subst (λ (a : AutomataParts). IsFor a.by_component t.by_component) (sym c.self.view_is) are.component in
+    let some = (c.in_ok-is_match_by_component.ensures.some t.by_component by_component).0 c.if-branch-2.true in
     (λ yes. (some.0, inr (inl (subst (λ text. SomeMatches t.by_component (last_component text) some.0) c.path-2.ensures some.1))), λ found. refl)
 
 pub returns-clause-some : goal.returns-clause-some
@@ -28,12 +29,13 @@ returns-clause-some c =
     (λ yes. (t : TokenLists) → AreForLists c.args.self.now t → IsTrue yes ↔ ((k : ℕ) × AreFound c.args.self.now.extensions.slots t path k))
     (λ yes tells t are.
     let by_path = subst (λ (a : AutomataParts). IsFor a.by_path t.by_path) (sym c.self.view_is) are.path in
+    let by_component = subst (λ (a : AutomataParts). IsFor a.by_component t.by_component) (sym c.self.view_is) are.component in
     let extension_tokens = tokens_under t.by_slot c.args.self.now.extensions.slots (component_extension path) in
     last_run
-    (λ k some. let found = (c.in_ok-is_match.ensures.some t.by_path by_path).1 (k, subst (λ text. SomeMatches t.by_path text k) (sym c.path.ensures) some) in let none = c.if-branch.false in absurd (cc))
+    (λ k some. let found = (c.in_ok-is_match.ensures.some t.by_path by_path).1 (k, subst (λ text. SomeMatches t.by_path text k) (sym c.path.ensures) some) in true≢false (sym found ∙ c.if-branch.false))
     (λ k some.
-    let found = (c.in_ok-is_match_by_component.ensures.some t.by_component are.component).1 (k, subst (λ text. SomeMatches t.by_component (last_component text) k) (sym c.path-2.ensures) some) in
-    let none = c.if-branch-2.false in absurd (cc))
+    let found = (c.in_ok-is_match_by_component.ensures.some t.by_component by_component).1 (k, subst (λ text. SomeMatches t.by_component (last_component text) k) (sym c.path-2.ensures) some) in
+    true≢false (sym found ∙ c.if-branch-2.false))
     (subst (λ text. IsTrue yes ↔ ((k : ℕ) × SomeMatches extension_tokens (before_extension text) k)) c.path-3.ensures (tells extension_tokens (c.by_extension-by_extension.ensures.tokens t.by_slot are.slots))))
     c.is_match_by_extension.ensures.some
 
@@ -43,7 +45,7 @@ returns-in_err-is_match_by_component-clause-visits c =
     let path = c.args.path.now in
     two_runs (length path) (length c.path.result.now) (length c.path-2.result.now) (most_reads a.by_path) (most_reads c.self.inside.by_path) (most_reads a.by_component)
     (most_reads (machine_under a.extensions (component_extension path))) c.args.visits.now c.is_match.new.visits c.is_match_by_component.new.visits
-    (ap length c.path.ensures) (ap length c.path-2.ensures) (ap (λ (p : AutomataParts). most_reads p.by_path) c.self.view_is) c.is_match.ensures.visits c.is_match_by_component.ensures.visits
+    (ap length c.path.ensures) (ap length c.path-2.ensures) (ap (λ (p : AutomataParts). most_reads p.by_path) c.self.view_is) c.is_match.ensures.visits (subst (λ (p : AutomataParts). c.is_match_by_component.new.visits ≤ c.is_match.new.visits + (length c.path-2.result.now + 1) * most_reads p.by_component) c.self.view_is c.is_match_by_component.ensures.visits)
 
 pub returns-then-branch-2-clause-visits : goal.returns-then-branch-2-clause-visits
 returns-then-branch-2-clause-visits c =
@@ -51,7 +53,7 @@ returns-then-branch-2-clause-visits c =
     let path = c.args.path.now in
     two_runs (length path) (length c.path.result.now) (length c.path-2.result.now) (most_reads a.by_path) (most_reads c.self.inside.by_path) (most_reads a.by_component)
     (most_reads (machine_under a.extensions (component_extension path))) c.args.visits.now c.is_match.new.visits c.is_match_by_component.new.visits
-    (ap length c.path.ensures) (ap length c.path-2.ensures) (ap (λ (p : AutomataParts). most_reads p.by_path) c.self.view_is) c.is_match.ensures.visits c.is_match_by_component.ensures.visits
+    (ap length c.path.ensures) (ap length c.path-2.ensures) (ap (λ (p : AutomataParts). most_reads p.by_path) c.self.view_is) c.is_match.ensures.visits (subst (λ (p : AutomataParts). c.is_match_by_component.new.visits ≤ c.is_match.new.visits + (length c.path-2.result.now + 1) * most_reads p.by_component) c.self.view_is c.is_match_by_component.ensures.visits)
 
 pub returns-clause-visits : goal.returns-clause-visits
 returns-clause-visits c =
@@ -62,4 +64,4 @@ returns-clause-visits c =
     c.by_extension-by_extension.new.visits c.is_match_by_extension.new.visits
     (ap length c.path.ensures) (ap length c.path-2.ensures) (ap length c.path-3.ensures) (ap (λ (p : AutomataParts). most_reads p.by_path) c.self.view_is)
     (ap most_reads c.by_extension-by_extension.ensures.automaton)
-    c.is_match.ensures.visits c.is_match_by_component.ensures.visits c.by_extension-by_extension.ensures.visits c.is_match_by_extension.ensures.visits
+    c.is_match.ensures.visits (subst (λ (p : AutomataParts). c.is_match_by_component.new.visits ≤ c.is_match.new.visits + (length c.path-2.result.now + 1) * most_reads p.by_component) c.self.view_is c.is_match_by_component.ensures.visits) c.by_extension-by_extension.ensures.visits c.is_match_by_extension.ensures.visits

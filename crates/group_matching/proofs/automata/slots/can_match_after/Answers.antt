@@ -42,6 +42,6 @@ returns-in_err-can_match_after-clause-room c = λ enough.
 
 pub returns-clause-some : goal.returns-clause-some
 returns-clause-some c = λ by_slot are. (
-  λ yes. absurd (cc),
+  λ yes. absurd (true≢false (sym yes)),
   λ (s, lt, some). absurd (c.loop-automaton.invariant.none by_slot are (s, omega (arith, lt, c.loop-automaton-test.false), some)),
 )

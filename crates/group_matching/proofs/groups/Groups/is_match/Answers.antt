@@ -1,4 +1,8 @@
+<<<<<<< HEAD
 use Rattle.std.proofs.Common.{length, refl, sym, subst, arith}
+=======
+use Rattle.std.proofs.Common.{◌≤◌, length, refl, sym, subst, arith, true≢false, ◌∙◌}
+>>>>>>> 339b9999a8a116124a64bb7f27cb1c9969fe8859
 use Rattle.std.specs.Prelude.{◌≢◌, []}
 use Rattle.std.proofs.lemmas.Result.{IfOk-weaker}
 use Rattle.path_keys.specs.Keys.{keys_found}
@@ -16,7 +20,7 @@ returns-then-is_match-clause-some c = λ globs are.
 
 pub returns-clause-some : goal.returns-clause-some
 returns-clause-some c =
-    let off : (keys_found c.self.inside.keys c.args.path.now ≢ []) → ⊥ = (λ some. let on = c.is_match.ensures.some.1 some in let none = c.if-is_match.false in absurd (cc)) in
+    let off : (keys_found c.self.inside.keys c.args.path.now ≢ []) → ⊥ = (λ some. true≢false (sym (c.is_match.ensures.some.1 some) ∙ c.if-is_match.false)) in
     IfOk-weaker c.is_match-2.result _ _ (λ found same globs are.
     let groups = subst (λ (p : GroupParts). AreGroupsOf globs p) (sym c.self.view_is) are in
     some_found globs (group_parts c.self.inside.keys c.self.inside.automata) c.args.path.now found groups off (same groups.tokens groups.are_for)) c.is_match-2.ensures.some
