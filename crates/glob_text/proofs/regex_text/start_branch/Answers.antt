@@ -1,6 +1,5 @@
 use Rattle.std.proofs.Common.{◌≡◌, ◌++◌, string_bytes, ap, sym, ◌∙◌}
 use Rattle.glob_text.specs.inner.RegexWriting.{opener}
-use Rattle.glob_text.specs.declared.regex_text.OpenGroup.{OpenGroup}
 use Rattle.glob_text.proofs.regex_text.start_branch.Goals as goal
 use Rattle.glob_text.proofs.regex_text.start_branch.Goals.{then-first, else-first}
 

@@ -98,7 +98,7 @@ loop-byte-preserved c =
             w.if-state-ge-SPECIAL.true c.next-state.ensures.small
             (rw (w.deref-then-state-told.ensures.value, c.as_slice-table.ensures.value) at w.put_listed-then-state-told.ensures.has k)
             (rw more at inv.found k);
-        told = λ k. has_put _ (has_index l.into k) _ (rw (w.deref-then-state-told.ensures.value, c.as_slice-table.ensures.value) at w.put_listed-then-state-told.ensures.has k);
+        told = λ k. has_put (is_listed k (on_entry d (e - special))) (has_index l.into k) (has_index w.put_listed-then-state-told.new.into k) (rw (w.deref-then-state-told.ensures.value, c.as_slice-table.ensures.value) at w.put_listed-then-state-told.ensures.has k);
         visits = omega (arith, inv.visits, c.next-state.ensures.visits);
       }
       | then-state-ge-SPECIAL+else-state-eq-DEAD+else-state-told w ↦ rw (w.state-is, w.into-is, w.told-is) record {
