@@ -189,9 +189,10 @@ impl GlobMatcher {
         ensures err { IfErr result (λ e. e ≡ out_of_memory) }
         ensures visits { visits.new ≤ visits.old + most_visits_below self.now folder.now }
     {
-        Ok(self
-            .form
-            .can_match_below(self.glob.allocator(), folder, visits)?)
+        Ok(
+            self.form
+                .can_match_below(self.glob.allocator(), folder, visits)?,
+        )
     }
 
     /// Returns a matcher for an equal glob, or an error if memory runs out. It copies the automaton.
