@@ -8,7 +8,7 @@ ghost use Rattle.globset_glob.specs.inner.GlobAutomaton.{IsAutomatonOf, IsFormOf
 
 use crate::glob::Glob;
 use crate::matcher::scratch::MatcherScratch;
-use byte_automaton::{Automaton, StateSets};
+use byte_automaton::StateSets;
 use glob_automaton::{add_tokens, new_builder};
 use glob_groups::{Group, group_of};
 use glob_matching::{Budget, Compiled, DEFAULT_DFA_SIZE_LIMIT};
@@ -35,9 +35,9 @@ impl Form {
         if group.is_by_key() {
             return Ok(Form::Key(group));
         }
-        let mut budget = Budget::new(dfa_size_limit);
-        let automaton = Compiled::new(glob.allocator(), &mut budget, automaton_of(glob)?)?;
-        Ok(Form::Automaton(automaton))
+        // The group is dropped here, once, and not wherever the rest returns.
+        drop(group);
+        Ok(Form::Automaton(automaton_of(glob, dfa_size_limit)?))
     }
 
     /// Returns how many bytes the table of a deterministic automaton takes, or 0 if there is none.
@@ -65,7 +65,8 @@ impl Form {
                 Ok(group.key_matches(path))
             }
             Form::Automaton(automaton) => {
-                automaton.is_match(path.path(), &mut StateSets::new(alloc), visits)
+                let mut sets = StateSets::new(alloc);
+                automaton.is_match(path.path(), &mut sets, visits)
             }
         }
     }
@@ -107,7 +108,8 @@ impl Form {
                 Ok(group.key_can_match_below(folder.path()))
             }
             Form::Automaton(automaton) => {
-                automaton.can_match_after(folder.path(), b'/', &mut StateSets::new(alloc), visits)
+                let mut sets = StateSets::new(alloc);
+                automaton.can_match_after(folder.path(), b'/', &mut sets, visits)
             }
         }
     }
@@ -124,12 +126,14 @@ impl Form {
     }
 }
 
-/// Returns the automaton of a glob, whose tokens have the index 0.
-fn automaton_of(glob: &Glob) -> Result<Automaton, AllocError>
+/// Returns the automaton of a glob, whose tokens have the index 0. A table of it takes at most `dfa_size_limit` bytes. Returns an
+/// error if memory runs out.
+fn automaton_of(glob: &Glob, dfa_size_limit: usize) -> Result<Compiled, AllocError>
     ensures { IfOk result (λ a. IsAutomatonOf glob.now a) }
 {
     let alloc = glob.allocator();
     let mut builder = new_builder(alloc, 1);
     add_tokens(alloc, &mut builder, glob.options(), glob.tokens(), 0)?;
-    Ok(builder.finish())
+    let mut budget = Budget::new(dfa_size_limit);
+    Compiled::new(alloc, &mut budget, builder.finish())
 }
