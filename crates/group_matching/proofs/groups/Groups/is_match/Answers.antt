@@ -1,8 +1,4 @@
-<<<<<<< HEAD
-use Rattle.std.proofs.Common.{length, refl, sym, subst, arith}
-=======
 use Rattle.std.proofs.Common.{◌≤◌, length, refl, sym, subst, arith, true≢false, ◌∙◌}
->>>>>>> 339b9999a8a116124a64bb7f27cb1c9969fe8859
 use Rattle.std.specs.Prelude.{◌≢◌, []}
 use Rattle.std.proofs.lemmas.Result.{IfOk-weaker}
 use Rattle.path_keys.specs.Keys.{keys_found}
