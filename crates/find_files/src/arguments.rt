@@ -2,7 +2,7 @@
 
 use crate::fault::Fault;
 use std::alloc::Global;
-use std::env;
+use std::env::{self, Args};
 use std::rt::Env;
 
 /// The options without `-f`.
@@ -30,6 +30,14 @@ impl Flags {
         }
         true
     }
+}
+
+/// What a command line asks for.
+#[derive(Clone, Copy)]
+pub enum Request {
+    Help,
+    Version,
+    Search,
 }
 
 /// What the next argument may be.
@@ -68,11 +76,10 @@ impl Arguments {
     /// Reads the command line. Returns an error if an option is unknown, if the folder is missing or empty, if there is neither a
     /// glob nor a file of globs, if an argument is not UTF-8, or if memory runs out.
     pub fn read(rt: &(impl Env + AllocGlobal)) -> Result<Arguments, Fault> {
-        let mut arguments = env::args(rt).map_err(example_io::Fault::Arguments)?;
-        arguments.next();
         let mut read = Arguments::new(rt.alloc());
-        for argument in arguments {
-            read.push(argument)?;
+        match env::args(rt) {
+            Ok(arguments) => read.push_all(arguments)?,
+            Err(error) => return Err(Fault::arguments(error)),
         }
         if read.is_complete() {
             Ok(read)
@@ -90,19 +97,26 @@ impl Arguments {
         }
     }
 
+    /// Takes all arguments but the first, which is the program's name. Returns the errors of [`Arguments::push`].
+    fn push_all(&mut self, arguments: Args) -> Result<(), Fault> {
+        for argument in arguments.skip(1) {
+            self.push(argument)?;
+        }
+        Ok(())
+    }
+
     /// Takes the next argument. Returns an error if it is an unknown option, or memory runs out.
     fn push(&mut self, argument: String) -> Result<(), Fault> {
         let next = self.next;
         let is_option = argument.len() > 1 && argument.as_str().starts_with('-');
         match next {
+            Next::Any if is_option => self.set(argument.as_str()),
+            Next::Any | Next::Word => Ok(self.words.push(argument)?),
             Next::File => {
                 self.next = Next::Any;
-                self.files.push(argument)?;
+                Ok(self.files.push(argument)?)
             }
-            Next::Any if is_option => return self.set(argument.as_str()),
-            Next::Any | Next::Word => self.words.push(argument)?,
         }
-        Ok(())
     }
 
     /// Takes an argument that begins with `-`. Returns an error if it is an unknown option.
@@ -117,6 +131,15 @@ impl Arguments {
             }
         }
         Ok(())
+    }
+
+    /// Returns what is asked for. With `--help` it is the help, whatever else there is.
+    pub fn request(&self) -> Request {
+        match self.flags {
+            Flags { help: true, .. } => Request::Help,
+            Flags { version: true, .. } => Request::Version,
+            _ => Request::Search,
+        }
     }
 
     /// Returns whether nothing is missing.

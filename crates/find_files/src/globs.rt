@@ -38,10 +38,11 @@ impl Globs {
     pub fn read<R: Files + AllocGlobal>(rt: &R, arguments: &Arguments) -> Result<Globs, Fault> {
         let mut globs = GlobSetBuilder::new(rt.alloc());
         push_all(rt.alloc(), &mut globs, arguments)?;
-        for file in &arguments.files {
-            push_file(rt, &mut globs, file.clone()?, arguments.flags)?;
+        push_files(rt, &mut globs, arguments)?;
+        match Globs::new(rt.alloc(), globs) {
+            Ok(globs) => Ok(globs),
+            Err(error) => Err(Fault::Glob(error)),
         }
-        Ok(Globs::new(rt.alloc(), globs)?)
     }
 
     fn new(alloc: Global, mut globs: GlobSetBuilder) -> Result<Globs, Error> {
@@ -65,6 +66,18 @@ impl Globs {
 fn push_all(alloc: Global, globs: &mut GlobSetBuilder, arguments: &Arguments) -> Result<(), Error> {
     for text in arguments.globs() {
         globs.push(glob(alloc, text.as_str(), arguments.flags)?)?;
+    }
+    Ok(())
+}
+
+/// Adds the globs of the files.
+fn push_files<R: Files + AllocGlobal>(
+    rt: &R,
+    globs: &mut GlobSetBuilder,
+    arguments: &Arguments,
+) -> Result<(), Fault> {
+    for file in &arguments.files {
+        push_file(rt, globs, file.clone()?, arguments.flags)?;
     }
     Ok(())
 }

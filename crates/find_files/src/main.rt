@@ -9,13 +9,12 @@ mod fault;
 mod globs;
 mod walk;
 
-use arguments::Arguments;
-use example_io::Output;
+use arguments::{Arguments, Request};
 use fault::Fault;
 use globs::Globs;
 use std::process::ExitCode;
 use std::rt::Runtime;
-use walk::Walk;
+use walk::{Walk, first_pending};
 
 const USAGE: &str = "usage: find_files [OPTION..] FOLDER GLOB..";
 
@@ -42,7 +41,7 @@ fn main(rt: HostRuntime) -> ExitCode {
     match run(&rt) {
         Ok(status) => ExitCode::from(status),
         Err(fault) => {
-            let _ = match fault {
+            let _ = match &fault {
                 Fault::Usage => eprintln!(rt; "{USAGE}"),
                 fault => eprintln!(rt; "find_files: {fault}"),
             };
@@ -54,20 +53,24 @@ fn main(rt: HostRuntime) -> ExitCode {
 /// Does what the command line asks for, and returns the exit status.
 fn run(rt: &(impl Runtime + AllocGlobal)) -> Result<u8, Fault> {
     let arguments = Arguments::read(rt)?;
-    if arguments.flags.help {
-        return print_text(rt, HELP);
+    match arguments.request() {
+        Request::Help => print_text(rt, HELP),
+        Request::Version => print_text(rt, VERSION),
+        Request::Search => search(rt, &arguments),
     }
-    if arguments.flags.version {
-        return print_text(rt, VERSION);
-    }
-    let globs = Globs::read(rt, &arguments)?;
-    Walk::new(rt.alloc(), globs, &arguments)?.run(rt)
 }
 
 /// Prints a text and LF, and returns the exit status.
-fn print_text(rt: &(impl Print + AllocGlobal), text: &str) -> Result<u8, Fault> {
-    let mut output = Output::new(rt.alloc());
-    output.push_line(&[text.as_bytes()])?;
-    output.write(rt)?;
-    Ok(0)
+fn print_text(rt: &impl Print, text: &str) -> Result<u8, Fault> {
+    match rt.println(text) {
+        Ok(()) => Ok(0),
+        Err(error) => Err(Fault::output(error)),
+    }
+}
+
+/// Prints the paths that match, and returns the exit status.
+fn search(rt: &(impl Runtime + AllocGlobal), arguments: &Arguments) -> Result<u8, Fault> {
+    let pending = first_pending(rt.alloc(), arguments.folder())?;
+    let globs = Globs::read(rt, arguments)?;
+    Walk::new(globs, pending, arguments.flags).run(rt)
 }

@@ -6,7 +6,7 @@
 //! The order of whole paths is that in which each folder has its entries sorted, where the name of a folder ends in `/`: so
 //! `a.c` comes before what is in `a`, since `.` is less than `/`.
 
-use crate::arguments::Arguments;
+use crate::arguments::Flags;
 use crate::fault::Fault;
 use crate::globs::{Globs, Wanted};
 use std::alloc::{AllocError, Global};
@@ -52,30 +52,23 @@ impl Drop for Walk {
 }
 
 impl Walk {
-    /// Returns a walk that has still to open the first folder. Returns an error if memory runs out.
-    pub fn new(alloc: Global, globs: Globs, arguments: &Arguments) -> Result<Walk, AllocError> {
-        let mut folder = String::from_str(alloc, arguments.folder())?;
-        if !folder.as_str().ends_with('/') {
-            folder.push('/')?;
-        }
-        let skipped = folder.len();
-        let mut pending = Vec::new(alloc);
-        pending.push(folder)?;
-        Ok(Walk {
+    /// Returns a walk that has these paths pending, as [`first_pending`] returns them.
+    pub fn new(globs: Globs, pending: Vec<String>, flags: Flags) -> Walk {
+        let skipped = match pending.first() {
+            Some(folder) => folder.len(),
+            None => 0,
+        };
+        Walk {
+            skipped,
             globs,
             pending,
-            skipped,
-            end: if arguments.flags.ends_in_nul {
-                0
-            } else {
-                b'\n'
-            },
-            counts: arguments.flags.count,
+            end: if flags.ends_in_nul { 0 } else { b'\n' },
+            counts: flags.count,
             opened: 0,
             left_closed: 0,
             has_printed: false,
             has_failed: false,
-        })
+        }
     }
 
     /// Walks, and prints the paths that match. Returns the exit status.
@@ -83,13 +76,23 @@ impl Walk {
     /// What cannot be read is left out, with an error on standard error. Returns an error if standard output cannot be written, or
     /// memory runs out.
     pub fn run<R: Runtime + AllocGlobal>(mut self, rt: &R) -> Result<u8, Fault> {
-        let mut output = match BufWriter::new(rt.alloc(), io::writer(rt)) {
-            Ok(output) => output,
-            Err(error) => return Err(Fault::output(error)),
-        };
-        self.walk(rt, &mut output)?;
-        output.flush().map_err(Fault::output)?;
-        Ok(self.finish(rt))
+        match BufWriter::new(rt.alloc(), io::writer(rt)) {
+            Ok(mut output) => self.walk_through(rt, &mut output),
+            Err(error) => Err(Fault::output(error)),
+        }
+    }
+
+    /// The same, with the writer that it prints to, which is flushed at the end.
+    fn walk_through<R: Runtime + AllocGlobal, W: Write>(
+        &mut self,
+        rt: &R,
+        output: &mut W,
+    ) -> Result<u8, Fault> {
+        self.walk(rt, output)?;
+        match output.flush() {
+            Ok(()) => Ok(self.finish(rt)),
+            Err(error) => Err(Fault::output(error)),
+        }
     }
 
     /// Prints the numbers of folders, if they were asked for, and returns the exit status.
@@ -209,9 +212,7 @@ impl Walk {
         if kind.is_dir() && !wanted.is_folder {
             self.left_closed = self.left_closed.saturating_add(1);
         } else if kind.is_dir() {
-            let mut folder = String::from_str(alloc, path)?;
-            folder.push('/')?;
-            self.pending.push(folder)?;
+            self.pending.push(with_slash(alloc, path)?)?;
         } else if kind.is_file() && wanted.is_file {
             self.pending.push(String::from_str(alloc, path)?)?;
         }
@@ -227,6 +228,17 @@ impl Walk {
         };
         let _ = eprintln!(rt; "find_files: {fault}");
     }
+}
+
+/// Returns what is pending before the first folder is opened: its path.
+pub fn first_pending(alloc: Global, folder: &str) -> Result<Vec<String>, AllocError> {
+    let folder = with_slash(alloc, folder.strip_suffix('/').unwrap_or(folder))?;
+    Ok(vec![in alloc; folder]?)
+}
+
+/// Returns the path of a folder with `/` at its end.
+fn with_slash(alloc: Global, folder: &str) -> Result<String, AllocError> {
+    format!(in alloc; "{folder}/")
 }
 
 /// Returns the error of a path that cannot be read, or of a folder with a name that is not UTF-8.
