@@ -167,32 +167,11 @@ impl Globs {
     }
 
     fn answers(&self, path: &Candidate<'_>, asked: Asked) -> Result<String> {
-        self.compared(path, asked, &self.answer(&self.set, None, path, asked)?)
-    }
-
-    fn compared(&self, path: &Candidate<'_>, asked: Asked, answer: &str) -> Result<String> {
         let limited = &self.limited;
-        let filtered = self.is_answer(&limited.filtered, FILTERED, path, asked, answer)?;
-        let simulated = self.is_answer(&limited.simulated, SIMULATED, path, asked, answer)?;
-        shown::copied(
-            self.alloc,
-            if filtered && simulated {
-                answer
-            } else {
-                "the answers under another limit differ"
-            },
-        )
-    }
-
-    fn is_answer(
-        &self,
-        set: &GlobSet,
-        limit: usize,
-        path: &Candidate<'_>,
-        asked: Asked,
-        answer: &str,
-    ) -> Result<bool> {
-        Ok(self.answer(set, Some(limit), path, asked)?.as_str() == answer)
+        let first = self.answer(&self.set, None, path, asked)?;
+        let filtered = self.answer(&limited.filtered, Some(FILTERED), path, asked)?;
+        let simulated = self.answer(&limited.simulated, Some(SIMULATED), path, asked)?;
+        shown::alike(self.alloc, &first, &filtered, &simulated)
     }
 
     /// Returns what a set and matchers under a limit answer.
@@ -203,22 +182,9 @@ impl Globs {
         path: &Candidate<'_>,
         asked: Asked,
     ) -> Result<String> {
-        self.with_each(
-            limit,
-            path,
-            asked,
-            &answer_of_set(self.alloc, set, path, asked)?,
-        )
-    }
-
-    fn with_each(
-        &self,
-        limit: Option<usize>,
-        path: &Candidate<'_>,
-        asked: Asked,
-        answer: &str,
-    ) -> Result<String> {
-        shown::pair(self.alloc, answer, &self.each(limit, path, asked)?)
+        let of_set = answer_of_set(self.alloc, set, path, asked)?;
+        let of_each = self.each(limit, path, asked)?;
+        shown::pair(self.alloc, &of_set, &of_each)
     }
 
     fn each(

@@ -1,4 +1,4 @@
-//! Replays stored rows about globs, paths, sets and JSON values: each says what a call of the crate globset returns.
+//! Replays stored rows about globs, paths, folders, sets and JSON values: each says what a call of the crate globset returns.
 //!
 //! The command-line arguments name files of rows; `rows` says how they are written, and the comments at the head of each
 //! file describe its rows.

@@ -57,6 +57,14 @@ pub fn pair(alloc: Global, first: &str, second: &str) -> Result<String> {
     Ok(format!(in alloc; "{first}\t{second}")?)
 }
 
+/// Returns an answer, or three answers that are not the same: under the default limit, filtered and simulated.
+pub fn alike(alloc: Global, first: &str, filtered: &str, simulated: &str) -> Result<String> {
+    if filtered == first && simulated == first {
+        return copied(alloc, first);
+    }
+    columns(alloc, first, filtered, simulated)
+}
+
 /// Returns three columns.
 pub fn columns(alloc: Global, first: &str, second: &str, third: &str) -> Result<String> {
     Ok(format!(in alloc; "{first}\t{second}\t{third}")?)
