@@ -12,6 +12,11 @@ counted_more p xs i d lt = by_test (p (get_or xs i d)) refl
     by_test true is = count_by_more_yes p xs i d lt is
     by_test false is = omega (arith, count_by_more_no p xs i d lt is)
 
+-- what was counted, with one more line
+counted : (lines : List (Bor (List ℕ))) (i : ℕ) (line : Bor (List ℕ)) (before after : ℕ) → i < length lines → before ≡ count_by (λ l. is_row l.now) (take i lines)
+    → after ≡ before + cond (is_row (get_or lines i line).now) 1 0 → after ≡ count_by (λ l. is_row l.now) (take (i + 1) lines)
+counted lines i line before after lt is more = more ∙ ap (λ n. n + cond (is_row (get_or lines i line).now) 1 0) is ∙ sym (counted_more (λ l. is_row l.now) lines i line lt)
+
 pub loop-index-init : goal.loop-index-init
 loop-index-init g c = record {
   rows = omega (arith, ap length c.new.ensures.items);
@@ -28,11 +33,11 @@ replay_line-requires g c = record {
 pub loop-index-preserved : goal.loop-index-preserved
 loop-index-preserved g c =
     let lines = c.args.lines.now in
-    let i = c.loop-index.index in
     let none : Bor (List ℕ) = record { ref_ptr = (0, 0); now = [] } in
-    let line = get_or lines i none in
+    let before = c.loop-index.report.passed + length c.loop-index.report.failures.items in
+    let after = c.replay_line.new.self.passed + length c.replay_line.new.self.failures.items in
     record {
-      rows = c.in_ok-replay_line.ensures.rows ∙ ap (λ n. n + cond (is_row line.now) 1 0) c.loop-index.invariant.rows ∙ sym (counted_more (λ l. is_row l.now) lines i none c.loop-index-test.true);
+      rows = counted lines c.loop-index.index none before after c.loop-index-test.true c.loop-index.invariant.rows c.in_ok-replay_line.ensures.rows;
       passed = c.in_ok-replay_line.ensures.passed;
       failures = c.in_ok-replay_line.ensures.failures (length lines) c.loop-index-test.true c.loop-index.invariant.failures;
     }
