@@ -49,5 +49,6 @@ pub fn has_text(alloc: Global, automaton: &Automaton) -> Result<bool, AllocError
     automaton.start(&mut starts);
     automaton.live(&mut live);
     // This is no part of matching a path, so nobody counts the visits.
-    Ok(automaton.has_live(&starts, &live, &mut Visits::new()))
+    let mut visits = Visits::new();
+    Ok(automaton.has_live(&starts, &live, &mut visits))
 }

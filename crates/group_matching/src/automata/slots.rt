@@ -85,7 +85,11 @@ impl Slots {
     pub fn most_states(&self) -> usize
         ensures { result ≡ most_size self.now.machines }
     {
-        most_states(&self.automata)
+        let mut most = 0;
+        for automaton in &self.automata {
+            most = automaton.state_count().max(most);
+        }
+        most
     }
 
     /// Returns how many bytes the deterministic parts of automata take. It takes time linear in the number of these parts.
@@ -132,7 +136,8 @@ impl Slots {
 impl Slots {
     /// Returns whether tokens of some extension match a text that begins with `text` and then `byte`.
     ///
-    /// It is at most `text bytes + 2` times the states of all automata in visits. The sets get room for each state of a part that is
+    /// It is at most `text bytes + 2` times the states of all automata in visits. The runs use the same sets of states, one after
+    /// another. The sets get room for each state of a part that is
     /// simulated. Returns an error if memory runs out.
     pub fn can_match_after(
         &self,
@@ -146,7 +151,12 @@ impl Slots {
         ensures room { most_size self.now.machines ≤ sets_room sets.old → IsOk result }
         ensures visits { visits.new ≤ visits.old + (length text.now + 2) * total_reads self.now.machines }
     {
-        can_match_after(&self.automata, text, byte, sets, visits)
+        for automaton in &self.automata {
+            if automaton.can_match_after(text, byte, sets, visits)? {
+                return Ok(true);
+            }
+        }
+        Ok(false)
     }
 }
 
@@ -231,7 +241,8 @@ impl SlotsBuilder {
         ensures count { self.new.index_count ≡ self.old.index_count }
     {
         // These lookups are no part of matching a path, so nobody counts them.
-        if let [slot, ..] = self.slots.get(&key, &mut Visits::new()) {
+        let mut visits = Visits::new();
+        if let [slot, ..] = self.slots.get(&key, &mut visits) {
             return Ok(*slot);
         }
         self.add_slot(alloc, key)
@@ -269,39 +280,6 @@ impl SlotsBuilder {
             index_count,
         })
     }
-}
-
-/// Returns the number of states of the largest automaton.
-fn most_states(automata: &[Compiled]) -> usize
-    ensures { result ≡ most_size automata.now }
-{
-    let mut most = 0;
-    for automaton in automata {
-        most = automaton.state_count().max(most);
-    }
-    most
-}
-
-/// Returns whether tokens of some automaton match a text that begins with `text` and then `byte`. The runs use the same sets of
-/// states, one after another. Returns an error if memory runs out.
-fn can_match_after(
-    automata: &[Compiled],
-    text: &[u8],
-    byte: u8,
-    sets: &mut StateSets,
-    visits: &mut Visits,
-) -> Result<bool, AllocError>
-    ensures some { IfOk result (λ yes. (by_slot : ℕ → List IndexedTokens) → AreFor automata.now by_slot → IsTrue yes ↔ SomeSlotAfter (length automata.now) by_slot (text.now ++ byte ∷ [])) }
-    ensures kept { sets_room sets.old ≤ sets_room sets.new }
-    ensures room { most_size automata.now ≤ sets_room sets.old → IsOk result }
-    ensures visits { visits.new ≤ visits.old + (length text.now + 2) * total_reads automata.now }
-{
-    for automaton in automata {
-        if automaton.can_match_after(text, byte, sets, visits)? {
-            return Ok(true);
-        }
-    }
-    Ok(false)
 }
 
 /// Returns the automata of builders. Returns an error if memory runs out.
