@@ -2,6 +2,8 @@
 //!
 //! A path is from the folder on, without the folder and its `/`. The paths come in the order of their bytes. A folder is opened only
 //! if a path below it can match.
+//!
+//! The runtime has its own type here and in the walk, since a type parameter for it doubles what is to be proved of them.
 #![tactic(auto)]
 
 mod arguments;
@@ -13,7 +15,6 @@ use arguments::{Arguments, Request};
 use fault::Fault;
 use globs::Globs;
 use std::process::ExitCode;
-use std::rt::Runtime;
 use walk::{Walk, first_pending};
 
 const USAGE: &str = "usage: find_files [OPTION..] FOLDER GLOB..";
@@ -51,7 +52,7 @@ fn main(rt: HostRuntime) -> ExitCode {
 }
 
 /// Does what the command line asks for, and returns the exit status.
-fn run(rt: &(impl Runtime + AllocGlobal)) -> Result<u8, Fault> {
+fn run(rt: &HostRuntime) -> Result<u8, Fault> {
     let arguments = Arguments::read(rt)?;
     match arguments.request() {
         Request::Help => print_text(rt, HELP),
@@ -69,7 +70,7 @@ fn print_text(rt: &impl Print, text: &str) -> Result<u8, Fault> {
 }
 
 /// Prints the paths that match, and returns the exit status.
-fn search(rt: &(impl Runtime + AllocGlobal), arguments: &Arguments) -> Result<u8, Fault> {
+fn search(rt: &HostRuntime, arguments: &Arguments) -> Result<u8, Fault> {
     let pending = first_pending(rt.alloc(), arguments.folder())?;
     let globs = Globs::read(rt, arguments)?;
     Walk::new(globs, pending, arguments.flags).run(rt)

@@ -12,7 +12,6 @@ use crate::globs::{Globs, Wanted};
 use std::alloc::{AllocError, Global};
 use std::fs::{self, DirEntry, FileType, ReadDir};
 use std::io::{self, BufWriter, ErrorKind, Write};
-use std::rt::{Files, Runtime};
 
 /// A walk through the folders below one.
 pub struct Walk {
@@ -75,7 +74,7 @@ impl Walk {
     ///
     /// What cannot be read is left out, with an error on standard error. Returns an error if standard output cannot be written, or
     /// memory runs out.
-    pub fn run<R: Runtime + AllocGlobal>(mut self, rt: &R) -> Result<u8, Fault> {
+    pub fn run(mut self, rt: &HostRuntime) -> Result<u8, Fault> {
         match BufWriter::new(rt.alloc(), io::writer(rt)) {
             Ok(mut output) => self.walk_through(rt, &mut output),
             Err(error) => Err(Fault::output(error)),
@@ -83,9 +82,9 @@ impl Walk {
     }
 
     /// The same, with the writer that it prints to, which is flushed at the end.
-    fn walk_through<R: Runtime + AllocGlobal, W: Write>(
+    fn walk_through<W: Write>(
         &mut self,
-        rt: &R,
+        rt: &HostRuntime,
         output: &mut W,
     ) -> Result<u8, Fault> {
         self.walk(rt, output)?;
@@ -111,9 +110,9 @@ impl Walk {
     }
 
     /// Does what is pending, until nothing is.
-    fn walk<R: Runtime + AllocGlobal, W: Write>(
+    fn walk<W: Write>(
         &mut self,
-        rt: &R,
+        rt: &HostRuntime,
         output: &mut W,
     ) -> Result<(), Fault> {
         for _ in 0..u64::MAX {
@@ -126,9 +125,9 @@ impl Walk {
     }
 
     /// Opens a folder, or prints the path of a file.
-    fn visit<R: Runtime + AllocGlobal, W: Write>(
+    fn visit<W: Write>(
         &mut self,
-        rt: &R,
+        rt: &HostRuntime,
         path: &str,
         output: &mut W,
     ) -> Result<(), Fault> {
@@ -155,7 +154,7 @@ impl Walk {
     }
 
     /// Opens a folder. What is to be done with its entries is then pending, in the order of their bytes.
-    fn open<R: Runtime + AllocGlobal>(&mut self, rt: &R, folder: &str) -> Result<(), Fault> {
+    fn open(&mut self, rt: &HostRuntime, folder: &str) -> Result<(), Fault> {
         self.opened = self.opened.saturating_add(1);
         let first = self.pending.len();
         match fs::read_dir(rt, folder) {
@@ -169,11 +168,11 @@ impl Walk {
     }
 
     /// Takes the entries of a folder.
-    fn take_all<R: Runtime + AllocGlobal>(
+    fn take_all(
         &mut self,
-        rt: &R,
+        rt: &HostRuntime,
         folder: &str,
-        entries: ReadDir<R>,
+        entries: ReadDir,
     ) -> Result<(), Fault> {
         for entry in entries {
             match entry {
@@ -185,7 +184,7 @@ impl Walk {
     }
 
     /// Takes an entry of a folder. Its type is asked for only where it matters.
-    fn take<R: Runtime + AllocGlobal>(&mut self, rt: &R, entry: &DirEntry<R>) -> Result<(), Fault> {
+    fn take(&mut self, rt: &HostRuntime, entry: &DirEntry) -> Result<(), Fault> {
         let path = entry.path().as_str();
         let shown = self.shown(path);
         let wanted = self.globs.wanted(shown);
@@ -232,8 +231,9 @@ impl Walk {
 
 /// Returns what is pending before the first folder is opened: its path.
 pub fn first_pending(alloc: Global, folder: &str) -> Result<Vec<String>, AllocError> {
-    let folder = with_slash(alloc, folder.strip_suffix('/').unwrap_or(folder))?;
-    Ok(vec![in alloc; folder]?)
+    let mut pending = Vec::new(alloc);
+    pending.push(with_slash(alloc, folder.strip_suffix('/').unwrap_or(folder))?)?;
+    Ok(pending)
 }
 
 /// Returns the path of a folder with `/` at its end.
