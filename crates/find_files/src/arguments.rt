@@ -3,7 +3,6 @@
 use crate::fault::Fault;
 use std::alloc::Global;
 use std::env::{self, Args};
-use std::rt::Env;
 
 /// The options without `-f`.
 #[derive(Clone, Copy, Default)]
@@ -75,7 +74,7 @@ impl Drop for Arguments {
 impl Arguments {
     /// Reads the command line. Returns an error if an option is unknown, if the folder is missing or empty, if there is neither a
     /// glob nor a file of globs, if an argument is not UTF-8, or if memory runs out.
-    pub fn read(rt: &(impl Env + AllocGlobal)) -> Result<Arguments, Fault> {
+    pub fn read(rt: &HostRuntime) -> Result<Arguments, Fault> {
         let mut read = Arguments::new(rt.alloc());
         match env::args(rt) {
             Ok(arguments) => read.push_all(arguments)?,

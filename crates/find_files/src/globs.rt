@@ -7,7 +7,6 @@ use crate::fault::Fault;
 use example_io::TextFile;
 use globset::{Candidate, Error, Glob, GlobBuilder, GlobSet, GlobSetBuilder, Scratch, Visits};
 use std::alloc::Global;
-use std::rt::Files;
 
 /// What a walk does with a path.
 #[derive(Clone, Copy)]
@@ -35,7 +34,7 @@ impl Drop for Globs {
 impl Globs {
     /// Reads the globs of the command line, and those of its files. Returns the error of the first one that is no glob, an error if
     /// a file cannot be read, or an error if memory runs out.
-    pub fn read<R: Files + AllocGlobal>(rt: &R, arguments: &Arguments) -> Result<Globs, Fault> {
+    pub fn read(rt: &HostRuntime, arguments: &Arguments) -> Result<Globs, Fault> {
         let mut globs = GlobSetBuilder::new(rt.alloc());
         push_all(rt.alloc(), &mut globs, arguments)?;
         push_files(rt, &mut globs, arguments)?;
@@ -71,8 +70,8 @@ fn push_all(alloc: Global, globs: &mut GlobSetBuilder, arguments: &Arguments) ->
 }
 
 /// Adds the globs of the files.
-fn push_files<R: Files + AllocGlobal>(
-    rt: &R,
+fn push_files(
+    rt: &HostRuntime,
     globs: &mut GlobSetBuilder,
     arguments: &Arguments,
 ) -> Result<(), Fault> {
@@ -83,8 +82,8 @@ fn push_files<R: Files + AllocGlobal>(
 }
 
 /// Adds the globs of a file. Returns an error with its line if one is no glob.
-fn push_file<R: Files + AllocGlobal>(
-    rt: &R,
+fn push_file(
+    rt: &HostRuntime,
     globs: &mut GlobSetBuilder,
     name: String,
     flags: Flags,

@@ -3,7 +3,7 @@
 //! A path is from the folder on, without the folder and its `/`. The paths come in the order of their bytes. A folder is opened only
 //! if a path below it can match.
 //!
-//! The runtime has its own type here and in the walk, since a type parameter for it doubles what is to be proved of them.
+//! The runtime has its own type everywhere, since a type parameter for it doubles what is to be proved of the walk.
 #![tactic(auto)]
 
 mod arguments;
@@ -62,7 +62,7 @@ fn run(rt: &HostRuntime) -> Result<u8, Fault> {
 }
 
 /// Prints a text and LF, and returns the exit status.
-fn print_text(rt: &impl Print, text: &str) -> Result<u8, Fault> {
+fn print_text(rt: &HostRuntime, text: &str) -> Result<u8, Fault> {
     match rt.println(text) {
         Ok(()) => Ok(0),
         Err(error) => Err(Fault::output(error)),

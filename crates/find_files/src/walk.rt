@@ -82,11 +82,7 @@ impl Walk {
     }
 
     /// The same, with the writer that it prints to, which is flushed at the end.
-    fn walk_through<W: Write>(
-        &mut self,
-        rt: &HostRuntime,
-        output: &mut W,
-    ) -> Result<u8, Fault> {
+    fn walk_through<W: Write>(&mut self, rt: &HostRuntime, output: &mut W) -> Result<u8, Fault> {
         self.walk(rt, output)?;
         match output.flush() {
             Ok(()) => Ok(self.finish(rt)),
@@ -95,7 +91,7 @@ impl Walk {
     }
 
     /// Prints the numbers of folders, if they were asked for, and returns the exit status.
-    fn finish(&self, rt: &impl Eprint) -> u8 {
+    fn finish(&self, rt: &HostRuntime) -> u8 {
         if self.counts {
             let (opened, closed) = (self.opened, self.left_closed);
             let _ = eprintln!(rt; "find_files: folders opened: {opened}, left closed: {closed}");
@@ -110,11 +106,7 @@ impl Walk {
     }
 
     /// Does what is pending, until nothing is.
-    fn walk<W: Write>(
-        &mut self,
-        rt: &HostRuntime,
-        output: &mut W,
-    ) -> Result<(), Fault> {
+    fn walk<W: Write>(&mut self, rt: &HostRuntime, output: &mut W) -> Result<(), Fault> {
         for _ in 0..u64::MAX {
             let Some(path) = self.pending.pop() else {
                 break;
@@ -168,12 +160,7 @@ impl Walk {
     }
 
     /// Takes the entries of a folder.
-    fn take_all(
-        &mut self,
-        rt: &HostRuntime,
-        folder: &str,
-        entries: ReadDir,
-    ) -> Result<(), Fault> {
+    fn take_all(&mut self, rt: &HostRuntime, folder: &str, entries: ReadDir) -> Result<(), Fault> {
         for entry in entries {
             match entry {
                 Ok(entry) => self.take(rt, &entry)?,
@@ -208,18 +195,32 @@ impl Walk {
         kind: FileType,
         wanted: Wanted,
     ) -> Result<(), AllocError> {
-        if kind.is_dir() && !wanted.is_folder {
-            self.left_closed = self.left_closed.saturating_add(1);
-        } else if kind.is_dir() {
-            self.pending.push(with_slash(alloc, path)?)?;
+        if kind.is_dir() {
+            self.push_folder(alloc, path, wanted.is_folder)
         } else if kind.is_file() && wanted.is_file {
-            self.pending.push(String::from_str(alloc, path)?)?;
+            Ok(self.pending.push(String::from_str(alloc, path)?)?)
+        } else {
+            Ok(())
         }
-        Ok(())
+    }
+
+    /// Adds a folder to what is pending, if it is wanted, and otherwise counts it as left closed.
+    fn push_folder(
+        &mut self,
+        alloc: Global,
+        path: &str,
+        is_wanted: bool,
+    ) -> Result<(), AllocError> {
+        if is_wanted {
+            Ok(self.pending.push(with_slash(alloc, path)?)?)
+        } else {
+            self.left_closed = self.left_closed.saturating_add(1);
+            Ok(())
+        }
     }
 
     /// Prints that something cannot be read.
-    fn report(&mut self, rt: &(impl Eprint + AllocGlobal), path: &str, error: io::Error) {
+    fn report(&mut self, rt: &HostRuntime, path: &str, error: io::Error) {
         self.has_failed = true;
         let fault = match fault_of(rt.alloc(), path, error) {
             Ok(fault) => fault,
