@@ -194,7 +194,7 @@ def path_of_glob(source, glob):
 
 
 def folder_for(source, glob):
-    """Returns a folder for a glob: what is before a `/` of a path that it matches, or that path, with some small changes or none."""
+    """Returns a folder for a glob: what is before a `/` of a path that it matches, or that path, perhaps with small changes."""
     path = word(source, reading(glob), glob.options)
     ends = [at for at, byte in enumerate(path) if byte == ord("/")] + [len(path)]
     folder = path[: source.pick(ends)] if source.chance(0.9) else source.pick(FRAGMENTS)

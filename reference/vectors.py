@@ -326,10 +326,15 @@ GROUPS = {
     "Extension": [(["*.e#"], PLAIN), (["**/*.e#"], PLAIN + SEPARATOR)],
     "End": [(["*_n#", "*/D/n#", "**/*n#/"], PLAIN)],
     "Beginning": [(["D/n#*", "n#*", "/D/n#*"], PLAIN), (["D/**", "src/D/n#/**", "/n#/**"], PLAIN + SEPARATOR)],
-    "RequiredExtension": [(["D/*.e#", "*n#/?.rs", "[dn]#/**/*.rs", "D/n#/**/x*.e#"], PLAIN + SEPARATOR), (["*.e#", "D*.e#"], SEPARATOR)],
+    "RequiredExtension": [
+        (["D/*.e#", "*n#/?.rs", "[dn]#/**/*.rs", "D/n#/**/x*.e#"], PLAIN + SEPARATOR), (["*.e#", "D*.e#"], SEPARATOR),
+    ],
     "ByLastComponent": [(["**/n#?[ab]*", "**/[ab]n#*"], SEPARATOR)],
     "ByPath": [
-        (["D/?/[a-c]", "{D,b#,{{c,}}d}/x*", "D/**/n#?", "*/[!n]#/?", "?#{/**,}", "{n#/,}D/{**/b,c}"], PLAIN + SEPARATOR + CASE + EMPTY),
+        (
+            ["D/?/[a-c]", "{D,b#,{{c,}}d}/x*", "D/**/n#?", "*/[!n]#/?", "?#{/**,}", "{n#/,}D/{**/b,c}"],
+            PLAIN + SEPARATOR + CASE + EMPTY,
+        ),
         (["D/n#", "n#/*", "src/D/f#*.rs", "D/**"], CASE),
         (["D/n#*", "?#/*/n#", "*/D/n#", "D*/n#"], SEPARATOR),
     ],
