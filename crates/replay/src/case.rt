@@ -13,10 +13,11 @@ use serde_json::Value;
 use std::alloc::Global;
 use std::hash::{DefaultHasher, Hash, Hasher};
 
-/// The limits on the bytes of tables that are not the default. Under both no table is made, and all automata are simulated: under
-/// the first with filters, where they have many globs, and under the second without.
+/// A limit on the bytes of tables under which no table is made: all automata are simulated, with a filter where they have many
+/// globs.
 const FILTERED: usize = 1;
 
+/// The limit under which no filter is made, either.
 const SIMULATED: usize = 0;
 
 /// Sets of the same globs under the limits that are not the default.
