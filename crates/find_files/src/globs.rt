@@ -44,8 +44,8 @@ impl Globs {
         }
     }
 
-    fn new(alloc: Global, mut globs: GlobSetBuilder) -> Result<Globs, Error> {
-        let set = globs.take_set()?;
+    fn new(alloc: Global, globs: GlobSetBuilder) -> Result<Globs, Error> {
+        let set = globs.build()?;
         let scratch = Scratch::new(alloc, &set)?;
         Ok(Globs { set, scratch })
     }
