@@ -48,7 +48,7 @@ impl<'t> Table<'t> {
 
     /// Takes the types that were read.
     fn take(alloc: Global, types: &mut Types<'t>) -> Result<Table<'t>, Error> {
-        let set = types.globs.take_set()?;
+        let set = types.globs.build()?;
         let scratch = Scratch::new(alloc, &set)?;
         let matching = Vec::with_capacity(alloc, set.len())?;
         Ok(Table {

@@ -55,7 +55,7 @@ impl<'t> Rules<'t> {
 
     /// Takes the patterns that were read.
     fn take(alloc: Global, patterns: &mut Patterns<'t>) -> Result<Rules<'t>, Error> {
-        let set = patterns.globs.take_set()?;
+        let set = patterns.globs.build()?;
         let scratch = Scratch::new(alloc, &set)?;
         let matching = Vec::with_capacity(alloc, set.len())?;
         Ok(Rules {
