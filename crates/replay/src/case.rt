@@ -331,7 +331,7 @@ fn limited_set(alloc: Global, globs: &[Glob], limit: usize) -> Result<GlobSet, E
     for glob in globs {
         builder.push(glob.clone()?)?;
     }
-    builder.take_set()
+    builder.build()
 }
 
 /// Returns the globs in a JSON array.

@@ -13,8 +13,8 @@ pub fn command_of_globs(alloc: Global, arguments: &[String]) -> Result<Command, 
     ensures { MatchResult result (λ command. command_of_globs (map string_bytes arguments.now) ≡ Ok (command_value command))
         (IsFaultOf (command_of_globs (map string_bytes arguments.now))) }
 {
-    let mut parsed = GlobArguments::parse(alloc, arguments)?;
-    let set = parsed.globs.take_set()?;
+    let parsed = GlobArguments::parse(alloc, arguments)?;
+    let set = parsed.globs.build()?;
     if set.is_empty() {
         return Err(CommandFault::NoGlob);
     }

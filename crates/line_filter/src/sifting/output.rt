@@ -275,7 +275,8 @@ fn is_matched(set: &GlobSet, path: &Candidate<'_>, scratch: &mut Scratch) -> boo
     ensures matched { result ≡ is_matched (set_globs set.now) path.now }
     ensures fits { Fits scratch.new set.now }
 {
-    set.is_match_with(path, scratch, &mut Visits::new())
+    let mut visits = Visits::new();
+    set.is_match_with(path, scratch, &mut visits)
 }
 
 /// Replaces the vector's items by the indexes that the set returns for a path. Returns an error if memory runs out.
@@ -289,7 +290,8 @@ fn find(
     ensures found { OnOk result (into.new.items ≡ answer (set_globs set.now) path.now) }
     ensures fits { Fits scratch.new set.now }
 {
-    match set.matches_into_with(path, scratch, into, &mut Visits::new()) {
+    let mut visits = Visits::new();
+    match set.matches_into_with(path, scratch, into, &mut visits) {
         Ok(()) => Ok(()),
         Err(_) => Err(AllocError),
     }
