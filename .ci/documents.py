@@ -1,10 +1,12 @@
-"""The texts of README.md and of the comments of the libraries: their lines, blocks and examples."""
+"""The texts of documents and of the comments of the libraries: their lines, blocks and examples."""
 
 import os
 import re
 import subprocess
 
 TOP = os.path.dirname(os.path.dirname(os.path.realpath(__file__)))
+# The documents whose commands, examples and statements on globs are tried.
+DOCUMENTS = ("README.md", "docs/USING.md", "docs/PERFORMANCE.md")
 
 
 class Failure(Exception):
@@ -60,8 +62,8 @@ def files_of(*patterns):
 
 
 def documents(crates):
-    """Returns the names of README.md and of the sources of these crates."""
-    return ["README.md", *(name for crate in crates for name in files_of(f"crates/{crate}/src/*.rt"))]
+    """Returns the names of the documents and of the sources of these crates."""
+    return [*DOCUMENTS, *(name for crate in crates for name in files_of(f"crates/{crate}/src/*.rt"))]
 
 
 def examples():
