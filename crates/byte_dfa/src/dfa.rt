@@ -145,8 +145,9 @@ impl Dfa {
 
     /// Puts the index of each end that a text leads to into a set, beside what it holds.
     ///
-    /// It reads at most one entry for each byte, and the lists of the states where indexes are found. It is at most one visit
-    /// for each byte, and one more. It takes no memory. If no text with the last byte leads to an end, it is no visit.
+    /// It reads at most one entry for each byte. Beside these it reads a list, and its place, at the start, in each state where
+    /// indexes are found, and at the end of the text. It is at most one visit for each byte, and one for the end. It takes no
+    /// memory. If no text with the last byte leads to an end, it is no visit.
     pub fn find(&self, text: &[u8], into: &mut IndexSet, visits: &mut Visits)
         requires { self.now.source.index_count ≤ index_room into.old }
         ensures room { index_room into.new ≡ index_room into.old }
@@ -180,8 +181,9 @@ impl Dfa {
 
     /// Returns whether a text leads to some end. It stops at the first that is found.
     ///
-    /// It reads at most one entry for each byte, and the lists of the states where indexes are found. It is at most one visit
-    /// for each byte, and one more. It takes no memory. If no text with the last byte leads to an end, it is no visit.
+    /// It reads at most one entry for each byte. Beside these it reads the length of a list, and its place, at the start, in each
+    /// state where indexes are found, and at the end of the text. It is at most one visit for each byte, and one for the end. It
+    /// takes no memory. If no text with the last byte leads to an end, it is no visit.
     pub fn is_match(&self, text: &[u8], visits: &mut Visits) -> bool
         ensures some { IsTrue result ↔ ((k : ℕ) × IsReached self.now.source text.now k) }
         ensures visits { visits.new ≤ visits.old + (length text.now + 1) }
@@ -212,7 +214,8 @@ impl Dfa {
 
     /// Returns whether some text that begins with `text` and then `byte` leads to some end.
     ///
-    /// It reads at most one entry for each byte. It is at most one visit for each byte, and takes no memory.
+    /// It reads an entry for each byte of `text` at most, and one for `byte`, each of which is a visit, and lists as
+    /// [`Dfa::is_match`] does. It takes no memory.
     pub fn can_match_after(&self, text: &[u8], byte: u8, visits: &mut Visits) -> bool
         ensures some { IsTrue result ↔ MatchesAfter self.now.source (text.now ++ byte ∷ []) }
         ensures visits { visits.new ≤ visits.old + (length text.now + 1) }

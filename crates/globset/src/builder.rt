@@ -126,9 +126,10 @@ impl GlobSetBuilder {
     /// Returns the set of the globs that were added, in order. The builder is unchanged, and more globs can be added to it. The
     /// globs are not copied: the set keeps what it needs to match.
     ///
-    /// It takes time and memory linear in the texts of the globs, except that some of these are sorted. The factor is largest
-    /// for globs that need an automaton: a deterministic one has up to 512 numbers for each state and 2,048 more, and to find one
-    /// of them may take reading up to 2,048 states.
+    /// Keys, states and filters take time and memory linear in the texts of the globs, except that some of these are sorted. Tables
+    /// of deterministic automata come on top, and are not linear, but limited: they take at most the bytes of
+    /// [`GlobSetBuilder::dfa_size_limit`], at most 2^22 numbers are made for them, or one for each 4 bytes of that limit if this is
+    /// more, and to make one of them may take reading up to 2,048 states.
     ///
     /// Returns an error if memory runs out, and no other.
     pub fn build(&self) -> Result<GlobSet, Error>

@@ -123,9 +123,10 @@ impl GlobSet {
     /// The iterator has to end, and its items have to be known to the prover: those of a slice, of a `Vec` and of
     /// iterators over either are.
     ///
-    /// It takes time and memory linear in the texts of the globs, except that some of these are sorted. The factor is largest
-    /// for globs that need an automaton: a deterministic one has up to 512 numbers for each state and 2,048 more, and to find one
-    /// of them may take reading up to 2,048 states.
+    /// Keys, states and filters take time and memory linear in the texts of the globs, except that some of these are sorted. Tables
+    /// of deterministic automata come on top, and are not linear, but limited: they take at most 16 MiB
+    /// ([`DEFAULT_DFA_SIZE_LIMIT`](crate::DEFAULT_DFA_SIZE_LIMIT)), at most 2^22 numbers are made for them, and to make one of these
+    /// may take reading up to 2,048 states. [`GlobSetBuilder::dfa_size_limit`] sets another limit.
     ///
     /// Returns an error if memory runs out, and no other.
     pub fn new<'g, I: IntoIterator<Item = &'g Glob>>(

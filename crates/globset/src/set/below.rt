@@ -83,8 +83,8 @@ impl GlobSet {
 
     /// The same as [`GlobSet::can_match_below_visits`], with a scratch: it takes no memory, and cannot fail.
     ///
-    /// The scratch has to fit the set. It then fits each set that it fitted before. The call adds no more visits than
-    /// [`GlobSet::can_match_below_visits`] may.
+    /// The scratch has to fit the set. It then fits each set that it fitted before. The bound on the visits is that of
+    /// [`GlobSet::can_match_below_visits`].
     ///
     /// ```rust
     /// use globset::{Candidate, Glob, GlobSet, Scratch, Visits};

@@ -13,8 +13,8 @@ use globset_glob::{Candidate, Error, Visits};
 impl GlobSet {
     /// The same as [`GlobSet::is_match_visits`], with a scratch: it takes no memory, and cannot fail.
     ///
-    /// The scratch has to fit the set. It then fits each set that it fitted before. The call adds no more visits than
-    /// [`GlobSet::is_match_visits`] may.
+    /// The scratch has to fit the set. It then fits each set that it fitted before. The bound on the visits is that of
+    /// [`GlobSet::is_match_visits`].
     pub fn is_match_with(
         &self,
         path: &Candidate<'_>,
@@ -38,8 +38,8 @@ impl GlobSet {
 
     /// The same as [`GlobSet::matches_all_visits`], with a scratch: it takes no memory, and cannot fail.
     ///
-    /// The scratch has to fit the set. It then fits each set that it fitted before. The call adds no more visits than
-    /// [`GlobSet::matches_all_visits`] may.
+    /// The scratch has to fit the set. It then fits each set that it fitted before. The bound on the visits is that of
+    /// [`GlobSet::matches_all_visits`].
     pub fn matches_all_with(
         &self,
         path: &Candidate<'_>,
@@ -64,8 +64,8 @@ impl GlobSet {
 
     /// The same as [`GlobSet::matches_visits`], with a scratch: only the vector may take memory.
     ///
-    /// The scratch has to fit the set. It then fits each set that it fitted before, after an error too. The call adds no more visits
-    /// than [`GlobSet::matches_visits`] may.
+    /// The scratch has to fit the set. It then fits each set that it fitted before, after an error too. The bound on the visits is
+    /// that of [`GlobSet::matches_visits`].
     ///
     /// Returns an error if memory runs out, and no other; the vector is then empty. It needs no memory if the vector has a capacity
     /// of [`GlobSet::len`].
