@@ -147,8 +147,7 @@ impl Automata {
             return Ok(false);
         }
         sets.clear_marks(self.index_count())?;
-        self.by_path
-            .find(path, &mut sets.states, &mut sets.marks, visits)?;
+        run_by_path(&self.by_path, path, sets, visits)?;
         run_by_component(&self.by_component, path, sets, visits)?;
         run_by_extension(by_extension, path, sets, visits)?;
         Ok(true)
@@ -169,7 +168,7 @@ impl Automata {
         ensures room { most_states self.now ≤ sets_room sets.old → IsOk result }
         ensures visits { visits.new ≤ visits.old + (1 + (length path.now + 1) * reads_for self.now path.now) }
     {
-        if self.by_path.is_match(path.path(), sets, visits)? {
+        if is_match_by_path(&self.by_path, path.path(), sets, visits)? {
             return Ok(true);
         }
         if is_match_by_component(&self.by_component, path.path(), sets, visits)? {
@@ -203,6 +202,43 @@ impl Automata {
             && self.by_component.state_count() == 0
             && by_extension.state_count() == 0
     }
+}
+
+/// Marks the indexes of the globs that the whole path matches, beside those that are marked.
+fn run_by_path(
+    automaton: &Compiled,
+    path: &[u8],
+    sets: &mut MatchingSets,
+    visits: &mut Visits,
+) -> Result<(), AllocError>
+    requires { automaton.now.index_count ≤ index_room sets.old.marks }
+    ensures found { OnOk result ((xs : List IndexedTokens) → IsFor automaton.now xs → (k : ℕ) → IsTrue (has_index sets.new.marks k) ↔ (SomeMatches xs path.now k ⊎ IsTrue (has_index sets.old.marks k))) }
+    ensures kept { KeepsRoom sets.old sets.new }
+    ensures memory { size automaton.now ≤ sets_room sets.old.states → IsOk result }
+    ensures visits { visits.new ≤ visits.old + (length path.now + 1) * most_reads automaton.now }
+{
+    if automaton.state_count() == 0 {
+        return Ok(());
+    }
+    automaton.find(path, &mut sets.states, &mut sets.marks, visits)
+}
+
+/// Returns whether the whole path matches tokens.
+fn is_match_by_path(
+    automaton: &Compiled,
+    path: &[u8],
+    sets: &mut StateSets,
+    visits: &mut Visits,
+) -> Result<bool, AllocError>
+    ensures some { IfOk result (λ yes. (xs : List IndexedTokens) → IsFor automaton.now xs → IsTrue yes ↔ ((k : ℕ) × SomeMatches xs path.now k)) }
+    ensures kept { sets_room sets.old ≤ sets_room sets.new }
+    ensures memory { size automaton.now ≤ sets_room sets.old → IsOk result }
+    ensures visits { visits.new ≤ visits.old + (length path.now + 1) * most_reads automaton.now }
+{
+    if automaton.state_count() == 0 {
+        return Ok(false);
+    }
+    automaton.is_match(path, sets, visits)
 }
 
 /// Marks the indexes of the globs that the path's last component matches, beside those that are marked. The component is only

@@ -33,24 +33,24 @@ returns-clause-found c = λ on. record {
       let last = ap size c.by_extension-by_extension.ensures.automaton in
       let some : (size c.args.self.now.by_path + (size c.args.self.now.by_component + size c.by_extension-by_extension.result.now) ≡ 0) → ⊥ = (λ nil. true≢false (sym (c.is_idle.ensures.1 nil) ∙ c.if-is_idle.false)) in
       omega (arith, last, same, some);
-  room = omega (arith, c.in_ok-clear_marks.ensures.room, c.index_count.ensures, c.in_ok-find.ensures.room, c.in_ok-run_by_component.ensures.kept.indexes, c.in_ok-run_by_extension.ensures.kept.indexes);
+  room = omega (arith, c.in_ok-clear_marks.ensures.room, c.index_count.ensures, c.in_ok-run_by_path.ensures.kept.indexes, c.in_ok-run_by_component.ensures.kept.indexes, c.in_ok-run_by_extension.ensures.kept.indexes);
   same = λ t are k.
       let extension_tokens = tokens_under t.by_slot c.args.self.now.extensions.slots (component_extension c.args.path.now) in
-      let one = c.in_ok-find.ensures.found t.by_path (subst (λ (a : AutomataParts). IsFor a.by_path t.by_path) (sym c.self.view_is) are.path) k in
+      let one = c.in_ok-run_by_path.ensures.found t.by_path (subst (λ (a : AutomataParts). IsFor a.by_path t.by_path) (sym c.self.view_is) are.path) k in
       let two = c.in_ok-run_by_component.ensures.found t.by_component (subst (λ (a : AutomataParts). IsFor a.by_component t.by_component) (sym c.self.view_is) are.component) k in
       let are_for = subst (λ p. IsFor c.by_extension-by_extension.result.now (tokens_under t.by_slot c.args.self.now.extensions.slots (component_extension p))) c.from_bytes.ensures (c.by_extension-by_extension.ensures.tokens t.by_slot are.slots) in
       let three = c.in_ok-run_by_extension.ensures.found extension_tokens are_for k in
       let empty = c.in_ok-clear_marks.ensures.none k in three_runs (λ h. true≢false (sym h ∙ empty)) one two three;
 }
 
-pub returns-in_err-find-clause-visits : goal.returns-in_err-find-clause-visits
-returns-in_err-find-clause-visits c =
+pub returns-in_err-run_by_path-clause-visits : goal.returns-in_err-run_by_path-clause-visits
+returns-in_err-run_by_path-clause-visits c =
     let a = c.args.self.now in
     let n = length c.args.path.now in
     looked_runs n (most_reads a.by_path) (most_reads a.by_component) (most_reads (machine_under a.extensions (component_extension c.args.path.now))) c.args.visits.now c.by_extension-by_extension.new.visits
-    c.find.new.visits c.find.new.visits c.find.new.visits
+    c.run_by_path.new.visits c.run_by_path.new.visits c.run_by_path.new.visits
     c.by_extension-by_extension.ensures.visits
-    (subst (λ (p : AutomataParts). c.find.new.visits ≤ c.by_extension-by_extension.new.visits + (n + 1) * most_reads p.by_path) c.self.view_is c.find.ensures.visits)
+    (subst (λ (p : AutomataParts). c.run_by_path.new.visits ≤ c.by_extension-by_extension.new.visits + (n + 1) * most_reads p.by_path) c.self.view_is c.run_by_path.ensures.visits)
     (omega arith) (omega arith)
 
 pub returns-in_err-run_by_component-clause-visits : goal.returns-in_err-run_by_component-clause-visits
@@ -58,10 +58,10 @@ returns-in_err-run_by_component-clause-visits c =
     let a = c.args.self.now in
     let n = length c.args.path.now in
     looked_runs n (most_reads a.by_path) (most_reads a.by_component) (most_reads (machine_under a.extensions (component_extension c.args.path.now))) c.args.visits.now c.by_extension-by_extension.new.visits
-    c.find.new.visits c.run_by_component.new.visits c.run_by_component.new.visits
+    c.run_by_path.new.visits c.run_by_component.new.visits c.run_by_component.new.visits
     c.by_extension-by_extension.ensures.visits
-    (subst (λ (p : AutomataParts). c.find.new.visits ≤ c.by_extension-by_extension.new.visits + (n + 1) * most_reads p.by_path) c.self.view_is c.find.ensures.visits)
-    (subst (λ (p : AutomataParts). c.run_by_component.new.visits ≤ c.find.new.visits + (n + 1) * most_reads p.by_component) c.self.view_is c.run_by_component.ensures.visits)
+    (subst (λ (p : AutomataParts). c.run_by_path.new.visits ≤ c.by_extension-by_extension.new.visits + (n + 1) * most_reads p.by_path) c.self.view_is c.run_by_path.ensures.visits)
+    (subst (λ (p : AutomataParts). c.run_by_component.new.visits ≤ c.run_by_path.new.visits + (n + 1) * most_reads p.by_component) c.self.view_is c.run_by_component.ensures.visits)
     (omega arith)
 
 pub returns-in_err-run_by_extension-clause-visits : goal.returns-in_err-run_by_extension-clause-visits
@@ -69,10 +69,10 @@ returns-in_err-run_by_extension-clause-visits c =
     let a = c.args.self.now in
     let n = length c.args.path.now in
     looked_runs n (most_reads a.by_path) (most_reads a.by_component) (most_reads (machine_under a.extensions (component_extension c.args.path.now))) c.args.visits.now c.by_extension-by_extension.new.visits
-    c.find.new.visits c.run_by_component.new.visits c.run_by_extension.new.visits
+    c.run_by_path.new.visits c.run_by_component.new.visits c.run_by_extension.new.visits
     c.by_extension-by_extension.ensures.visits
-    (subst (λ (p : AutomataParts). c.find.new.visits ≤ c.by_extension-by_extension.new.visits + (n + 1) * most_reads p.by_path) c.self.view_is c.find.ensures.visits)
-    (subst (λ (p : AutomataParts). c.run_by_component.new.visits ≤ c.find.new.visits + (n + 1) * most_reads p.by_component) c.self.view_is c.run_by_component.ensures.visits)
+    (subst (λ (p : AutomataParts). c.run_by_path.new.visits ≤ c.by_extension-by_extension.new.visits + (n + 1) * most_reads p.by_path) c.self.view_is c.run_by_path.ensures.visits)
+    (subst (λ (p : AutomataParts). c.run_by_component.new.visits ≤ c.run_by_path.new.visits + (n + 1) * most_reads p.by_component) c.self.view_is c.run_by_component.ensures.visits)
     (subst (λ (m : Machine). c.run_by_extension.new.visits ≤ c.run_by_component.new.visits + (n + 1) * most_reads m)
     (c.by_extension-by_extension.ensures.automaton ∙ ap (λ p. machine_under a.extensions (component_extension p)) c.from_bytes.ensures) c.run_by_extension.ensures.visits)
 
@@ -81,10 +81,10 @@ returns-clause-visits c =
     let a = c.args.self.now in
     let n = length c.args.path.now in
     looked_runs n (most_reads a.by_path) (most_reads a.by_component) (most_reads (machine_under a.extensions (component_extension c.args.path.now))) c.args.visits.now c.by_extension-by_extension.new.visits
-    c.find.new.visits c.run_by_component.new.visits c.run_by_extension.new.visits
+    c.run_by_path.new.visits c.run_by_component.new.visits c.run_by_extension.new.visits
     c.by_extension-by_extension.ensures.visits
-    (subst (λ (p : AutomataParts). c.find.new.visits ≤ c.by_extension-by_extension.new.visits + (n + 1) * most_reads p.by_path) c.self.view_is c.find.ensures.visits)
-    (subst (λ (p : AutomataParts). c.run_by_component.new.visits ≤ c.find.new.visits + (n + 1) * most_reads p.by_component) c.self.view_is c.run_by_component.ensures.visits)
+    (subst (λ (p : AutomataParts). c.run_by_path.new.visits ≤ c.by_extension-by_extension.new.visits + (n + 1) * most_reads p.by_path) c.self.view_is c.run_by_path.ensures.visits)
+    (subst (λ (p : AutomataParts). c.run_by_component.new.visits ≤ c.run_by_path.new.visits + (n + 1) * most_reads p.by_component) c.self.view_is c.run_by_component.ensures.visits)
     (subst (λ (m : Machine). c.run_by_extension.new.visits ≤ c.run_by_component.new.visits + (n + 1) * most_reads m)
     (c.by_extension-by_extension.ensures.automaton ∙ ap (λ p. machine_under a.extensions (component_extension p)) c.from_bytes.ensures) c.run_by_extension.ensures.visits)
 
@@ -94,8 +94,8 @@ returns-in_err-clear_marks-clause-memory c = λ none.
     let last = ap size c.by_extension-by_extension.ensures.automaton in
     let on = c.is_idle.ensures.1 (omega (arith, none, last, same)) in absurd (true≢false (sym on ∙ c.if-is_idle.false))
 
-pub returns-in_err-find-clause-memory : goal.returns-in_err-find-clause-memory
-returns-in_err-find-clause-memory c = λ none.
+pub returns-in_err-run_by_path-clause-memory : goal.returns-in_err-run_by_path-clause-memory
+returns-in_err-run_by_path-clause-memory c = λ none.
     let same = ap (λ p. size (machine_under c.args.self.now.extensions (component_extension p))) c.from_bytes.ensures in
     let last = ap size c.by_extension-by_extension.ensures.automaton in
     let on = c.is_idle.ensures.1 (omega (arith, none, last, same)) in absurd (true≢false (sym on ∙ c.if-is_idle.false))

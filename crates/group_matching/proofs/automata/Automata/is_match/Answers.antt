@@ -12,7 +12,7 @@ use Rattle.group_matching.proofs.automata.Automata.is_match.Goals as goal
 pub returns-then-branch-clause-some : goal.returns-then-branch-clause-some
 returns-then-branch-clause-some c = λ t are.
     let by_path = subst (λ (a : AutomataParts). IsFor a.by_path t.by_path) (sym c.self.view_is) are.path in
-    let some = (c.in_ok-is_match.ensures.some t.by_path by_path).0 c.if-branch.true in
+    let some = (c.in_ok-is_match_by_path.ensures.some t.by_path by_path).0 c.if-branch.true in
     (λ yes. (some.0, inl (subst (λ text. SomeMatches t.by_path text some.0) c.path.ensures some.1)), λ found. refl)
 
 pub returns-then-branch-2-clause-some : goal.returns-then-branch-2-clause-some
@@ -32,7 +32,7 @@ returns-clause-some c =
     let by_component = subst (λ (a : AutomataParts). IsFor a.by_component t.by_component) (sym c.self.view_is) are.component in
     let extension_tokens = tokens_under t.by_slot c.args.self.now.extensions.slots (component_extension path) in
     last_run
-    (λ k some. let found = (c.in_ok-is_match.ensures.some t.by_path by_path).1 (k, subst (λ text. SomeMatches t.by_path text k) (sym c.path.ensures) some) in true≢false (sym found ∙ c.if-branch.false))
+    (λ k some. let found = (c.in_ok-is_match_by_path.ensures.some t.by_path by_path).1 (k, subst (λ text. SomeMatches t.by_path text k) (sym c.path.ensures) some) in true≢false (sym found ∙ c.if-branch.false))
     (λ k some.
     let found = (c.in_ok-is_match_by_component.ensures.some t.by_component by_component).1 (k, subst (λ text. SomeMatches t.by_component (last_component text) k) (sym c.path-2.ensures) some) in
     true≢false (sym found ∙ c.if-branch-2.false))
@@ -44,24 +44,24 @@ returns-in_err-is_match_by_component-clause-visits c =
     let a = c.args.self.now in
     let path = c.args.path.now in
     two_runs (length path) (length c.path.result.now) (length c.path-2.result.now) (most_reads a.by_path) (most_reads c.self.inside.by_path) (most_reads a.by_component)
-    (most_reads (machine_under a.extensions (component_extension path))) c.args.visits.now c.is_match.new.visits c.is_match_by_component.new.visits
-    (ap length c.path.ensures) (ap length c.path-2.ensures) (ap (λ (p : AutomataParts). most_reads p.by_path) c.self.view_is) c.is_match.ensures.visits (subst (λ (p : AutomataParts). c.is_match_by_component.new.visits ≤ c.is_match.new.visits + (length c.path-2.result.now + 1) * most_reads p.by_component) c.self.view_is c.is_match_by_component.ensures.visits)
+    (most_reads (machine_under a.extensions (component_extension path))) c.args.visits.now c.is_match_by_path.new.visits c.is_match_by_component.new.visits
+    (ap length c.path.ensures) (ap length c.path-2.ensures) (ap (λ (p : AutomataParts). most_reads p.by_path) c.self.view_is) c.is_match_by_path.ensures.visits (subst (λ (p : AutomataParts). c.is_match_by_component.new.visits ≤ c.is_match_by_path.new.visits + (length c.path-2.result.now + 1) * most_reads p.by_component) c.self.view_is c.is_match_by_component.ensures.visits)
 
 pub returns-then-branch-2-clause-visits : goal.returns-then-branch-2-clause-visits
 returns-then-branch-2-clause-visits c =
     let a = c.args.self.now in
     let path = c.args.path.now in
     two_runs (length path) (length c.path.result.now) (length c.path-2.result.now) (most_reads a.by_path) (most_reads c.self.inside.by_path) (most_reads a.by_component)
-    (most_reads (machine_under a.extensions (component_extension path))) c.args.visits.now c.is_match.new.visits c.is_match_by_component.new.visits
-    (ap length c.path.ensures) (ap length c.path-2.ensures) (ap (λ (p : AutomataParts). most_reads p.by_path) c.self.view_is) c.is_match.ensures.visits (subst (λ (p : AutomataParts). c.is_match_by_component.new.visits ≤ c.is_match.new.visits + (length c.path-2.result.now + 1) * most_reads p.by_component) c.self.view_is c.is_match_by_component.ensures.visits)
+    (most_reads (machine_under a.extensions (component_extension path))) c.args.visits.now c.is_match_by_path.new.visits c.is_match_by_component.new.visits
+    (ap length c.path.ensures) (ap length c.path-2.ensures) (ap (λ (p : AutomataParts). most_reads p.by_path) c.self.view_is) c.is_match_by_path.ensures.visits (subst (λ (p : AutomataParts). c.is_match_by_component.new.visits ≤ c.is_match_by_path.new.visits + (length c.path-2.result.now + 1) * most_reads p.by_component) c.self.view_is c.is_match_by_component.ensures.visits)
 
 pub returns-clause-visits : goal.returns-clause-visits
 returns-clause-visits c =
     let a = c.args.self.now in
     let path = c.args.path.now in
     three_runs (length path) (length c.path.result.now) (length c.path-2.result.now) (length c.path-3.result.now) (most_reads a.by_path) (most_reads c.self.inside.by_path) (most_reads a.by_component)
-    (most_reads (machine_under a.extensions (component_extension path))) (most_reads c.by_extension-by_extension.result.now) c.args.visits.now c.is_match.new.visits c.is_match_by_component.new.visits
+    (most_reads (machine_under a.extensions (component_extension path))) (most_reads c.by_extension-by_extension.result.now) c.args.visits.now c.is_match_by_path.new.visits c.is_match_by_component.new.visits
     c.by_extension-by_extension.new.visits c.is_match_by_extension.new.visits
     (ap length c.path.ensures) (ap length c.path-2.ensures) (ap length c.path-3.ensures) (ap (λ (p : AutomataParts). most_reads p.by_path) c.self.view_is)
     (ap most_reads c.by_extension-by_extension.ensures.automaton)
-    c.is_match.ensures.visits (subst (λ (p : AutomataParts). c.is_match_by_component.new.visits ≤ c.is_match.new.visits + (length c.path-2.result.now + 1) * most_reads p.by_component) c.self.view_is c.is_match_by_component.ensures.visits) c.by_extension-by_extension.ensures.visits c.is_match_by_extension.ensures.visits
+    c.is_match_by_path.ensures.visits (subst (λ (p : AutomataParts). c.is_match_by_component.new.visits ≤ c.is_match_by_path.new.visits + (length c.path-2.result.now + 1) * most_reads p.by_component) c.self.view_is c.is_match_by_component.ensures.visits) c.by_extension-by_extension.ensures.visits c.is_match_by_extension.ensures.visits
