@@ -62,7 +62,7 @@ pub fn sift<R: Read, W: Write>(
         (W.contents writer.old) (W.contents writer.new)) }
 {
     let mut chunk = zeros(alloc, CHUNK)?;
-    let mut output = Output::new(alloc, set)?;
+    let mut output = Output::new(alloc, set, numbered)?;
     let mut rest = Vec::new(alloc);
     for _ in 0..u64::MAX {
         write_pending(&mut output.pending, writer)?;
@@ -71,9 +71,9 @@ pub fn sift<R: Read, W: Write>(
             Err(_) => return Err(SiftFault::Read),
         };
         if n == 0 {
-            return output.finish(set, numbered, rest.as_slice(), writer);
+            return output.finish(rest.as_slice(), writer);
         }
-        output.handle_chunk(set, numbered, &mut rest, &chunk[..n], writer)?;
+        output.handle_chunk(&mut rest, &chunk[..n], writer)?;
     }
     write_pending(&mut output.pending, writer)?;
     Err(SiftFault::Read)
