@@ -1,12 +1,9 @@
 //! The output for lines, collected in a buffer.
 
 ghost use Rattle.std.specs.Prelude.{◌≡◌, [], ◌++◌, ◌||◌, true, false, MatchResult, IfOk, OnOk};
-ghost use Rattle.std.specs.List.{list_any};
-ghost use Rattle.std.specs.Io.KnownBytes.{Appends};
 ghost use Rattle.globset.specs.Answer.{answer};
 ghost use Rattle.globset.specs.SetValue.{Fits, set_globs};
-ghost use Rattle.line_filter.specs.Lines.{is_lf};
-ghost use Rattle.line_filter.specs.Output.{has_match, index_column, is_matched, line_output, sifted};
+ghost use Rattle.line_filter.specs.Output.{index_column, is_matched, line_output, sifted};
 ghost use Rattle.line_filter.specs.inner.Sifting.{FailsMidway, Handles, WritesAllBut};
 
 use super::fault::SiftFault;
@@ -113,7 +110,7 @@ impl<'s> Output<'s> {
     }
 
     /// Appends the output for a line, and writes what is pending if that fills the buffer.
-    fn handle_line<W: Write>(&mut self, line: &[u8], writer: &mut W) -> Result<(), SiftFault>
+    pub fn handle_line<W: Write>(&mut self, line: &[u8], writer: &mut W) -> Result<(), SiftFault>
         ensures done { MatchResult result
             (λ _. WritesAllBut (W.contents writer.old) (W.contents writer.new)
             self.new.pending.items (self.old.pending.items ++ line_output (set_globs self.old.set.now) self.old.numbered line.now)
@@ -130,7 +127,7 @@ impl<'s> Output<'s> {
     }
 
     /// Handles each whole line of the bytes, and returns the rest after the last LF.
-    fn handle_lines<'a, W: Write>(
+    pub fn handle_lines<'a, W: Write>(
         &mut self,
         bytes: &'a [u8],
         writer: &mut W,
@@ -149,92 +146,6 @@ impl<'s> Output<'s> {
             rest = &rest[i + 1..];
         }
         Ok(rest)
-    }
-
-    /// Handles each whole line of the bytes, and puts the rest after the last LF into `rest`, which was empty.
-    fn handle_lines_and_keep_rest<W: Write>(
-        &mut self,
-        rest: &mut Vec<u8>,
-        bytes: &[u8],
-        writer: &mut W,
-    ) -> Result<(), SiftFault>
-        requires { rest.old.items ≡ [] }
-        ensures done { MatchResult result
-            (λ _. Handles (set_globs self.old.set.now) self.old.numbered bytes.now rest.new.items
-            (W.contents writer.old) (W.contents writer.new)
-            self.old.pending.items self.new.pending.items self.old.any_written self.new.any_written)
-            (FailsMidway (W.contents writer.old) (W.contents writer.new)
-            (self.old.pending.items ++ sifted (set_globs self.old.set.now) self.old.numbered bytes.now)) }
-        ensures alike { AreAlike self.old self.new }
-    {
-        let tail = self.handle_lines(bytes, writer)?;
-        rest.extend_from_slice(tail)?;
-        Ok(())
-    }
-
-    /// Handles the next chunk of the input. `rest` has the bytes since the last LF before the chunk, and then those since the
-    /// last LF in it.
-    pub fn handle_chunk<W: Write>(
-        &mut self,
-        rest: &mut Vec<u8>,
-        chunk: &[u8],
-        writer: &mut W,
-    ) -> Result<(), SiftFault>
-        requires { list_any is_lf rest.old.items ≡ false }
-        ensures done { MatchResult result
-            (λ _. Handles (set_globs self.old.set.now) self.old.numbered (rest.old.items ++ chunk.now) rest.new.items
-            (W.contents writer.old) (W.contents writer.new)
-            self.old.pending.items self.new.pending.items self.old.any_written self.new.any_written)
-            (FailsMidway (W.contents writer.old) (W.contents writer.new)
-            (self.old.pending.items ++ sifted (set_globs self.old.set.now) self.old.numbered (rest.old.items ++ chunk.now))) }
-        ensures alike { AreAlike self.old self.new }
-    {
-        if rest.is_empty() {
-            return self.handle_lines_and_keep_rest(rest, chunk, writer);
-        }
-        let Some(i) = memchr(b'\n', chunk) else {
-            rest.extend_from_slice(chunk)?;
-            return Ok(());
-        };
-        rest.extend_from_slice(&chunk[..i])?;
-        self.handle_line(rest.as_slice(), writer)?;
-        rest.clear();
-        self.handle_lines_and_keep_rest(rest, &chunk[i + 1..], writer)
-    }
-
-    /// Handles the rest after the last LF of the input, which is a line if it is not empty.
-    fn handle_rest<W: Write>(&mut self, rest: &[u8], writer: &mut W) -> Result<(), SiftFault>
-        requires { list_any is_lf rest.now ≡ false }
-        ensures { MatchResult result
-            (λ _. WritesAllBut (W.contents writer.old) (W.contents writer.new)
-            self.new.pending.items (self.old.pending.items ++ sifted (set_globs self.old.set.now) self.old.numbered rest.now)
-            × (self.new.any_written ≡ (self.old.any_written || has_match (set_globs self.old.set.now) rest.now)))
-            (FailsMidway (W.contents writer.old) (W.contents writer.new)
-            (self.old.pending.items ++ sifted (set_globs self.old.set.now) self.old.numbered rest.now)) }
-    {
-        if rest.is_empty() {
-            return Ok(());
-        }
-        self.handle_line(rest, writer)
-    }
-
-    /// Handles the end of the input: handles the rest, writes what is pending and flushes the writer. Returns whether some
-    /// line was output.
-    pub fn finish<W: Write>(&mut self, rest: &[u8], writer: &mut W) -> Result<bool, SiftFault>
-        requires { list_any is_lf rest.now ≡ false }
-        ensures { MatchResult result
-            (λ any. Appends (W.contents writer.old) (W.contents writer.new)
-            (self.old.pending.items ++ sifted (set_globs self.old.set.now) self.old.numbered rest.now)
-            × (any ≡ (self.old.any_written || has_match (set_globs self.old.set.now) rest.now)))
-            (FailsMidway (W.contents writer.old) (W.contents writer.new)
-            (self.old.pending.items ++ sifted (set_globs self.old.set.now) self.old.numbered rest.now)) }
-    {
-        self.handle_rest(rest, writer)?;
-        write_pending(&mut self.pending, writer)?;
-        match writer.flush() {
-            Ok(()) => Ok(self.any_written),
-            Err(_) => Err(SiftFault::Write),
-        }
     }
 }
 

@@ -1,9 +1,7 @@
 use Rattle.std.proofs.Common.{[], ◌++◌, ◌≡◌, ◌<◌, ◌∙◌, refl, ap, sym, take, drop, length, List, ℕ, arith, subst}
-use Rattle.std.specs.List.{list_any}
 use Rattle.std.proofs.lemmas.Result.{err_from_is_err_and}
 use Rattle.std.proofs.KnownBytes.{Consumes-nil, Consumes-trans, Consumes-kept}
 use Rattle.globset.specs.SetValue.{set_globs}
-use Rattle.line_filter.specs.Lines.{is_lf}
 use Rattle.line_filter.proofs.lemmas.Sifting.{Stops-fails, Stops-start, end_result, Consumes-is, read_back}
 use Rattle.line_filter.proofs.lemmas.Handling.{Handles-pending_fails, Handles-drained, Handles-trans, Handles-fails, Handles-begin, Handles-written}
 use Rattle.line_filter.proofs.sifting.sift.Goals as goal
@@ -13,19 +11,19 @@ returns-in_err-chunk g c =
     let p = err_from_is_err_and c.from_residual.result c.from_residual.ensures.1 in
     rw p.1 (Stops-start (set_globs c.args.set.now) c.args.numbered (g.R.Read.remaining c.args.reader.now) (g.W.Write.contents c.args.writer.now) p.0 p.2)
 
-pub returns-in_err-output : goal.returns-in_err-output
-returns-in_err-output g c =
-    let p = err_from_is_err_and c.from_residual-in_err-output.result c.from_residual-in_err-output.ensures.1 in
+pub returns-in_err-sifter : goal.returns-in_err-sifter
+returns-in_err-sifter g c =
+    let p = err_from_is_err_and c.from_residual-in_err-sifter.result c.from_residual-in_err-sifter.ensures.1 in
     rw p.1 (Stops-start (set_globs c.args.set.now) c.args.numbered (g.R.Read.remaining c.args.reader.now) (g.W.Write.contents c.args.writer.now) p.0 p.2)
 
 pub loop-init : goal.loop-init
 loop-init g c = (
   [],
   Consumes-nil _,
-  Handles-begin _ _ _ _ _ _ c.new-rest.ensures.items c.in_ok-output.ensures.empty c.in_ok-output.ensures.unwritten,
+  Handles-begin _ _ _ _ _ _ c.in_ok-sifter.ensures.rest c.in_ok-sifter.ensures.empty c.in_ok-sifter.ensures.unwritten,
   omega (arith, c.in_ok-chunk.ensures),
-  c.in_ok-output.ensures.set,
-  c.in_ok-output.ensures.numbered,
+  c.in_ok-sifter.ensures.set,
+  c.in_ok-sifter.ensures.numbered,
 )
 
 pub returns-in-Err : goal.returns-in-Err
@@ -37,14 +35,14 @@ returns-in-Err g c =
     )
 
 pub finish-requires : goal.finish-requires
-finish-requires g c = ap (λ (l : List ℕ). list_any is_lf l) c.as_slice.ensures.value ∙ c.loop.invariant.2.no_lf
+finish-requires g c = c.loop.invariant.2.no_lf
 
 pub returns-then-n-eq0 : goal.returns-then-n-eq0
 returns-then-n-eq0 g c =
     let i = c.loop.invariant in
     let filled : 0 < length c.read.new.buf = omega (arith, c.read.auto.buf, c.as_mut_slice.ensures.len, c.loop.chunk.ok.0) in
-    end_result _ _ i.0 (take c.in-Ok.n c.read.new.buf) _ c.as_slice.result.now _ _ _ _ _ _ _ _ c.finish.result i.1 c.in-Ok.ensures.bytes.0
-    (ap (λ k. take k c.read.new.buf) c.if-n-eq0.true) (c.in-Ok.ensures.bytes.1 c.if-n-eq0.true filled) (Handles-written _ _ _ _ _ _ _ _ _ _ _ _ c.loop.invariant.2 c.in_ok-write_pending.ensures.0) c.as_slice.ensures.value (rw (i.4, i.5) at c.finish.ensures)
+    end_result _ _ i.0 (take c.in-Ok.n c.read.new.buf) _ c.loop.sifter.rest.items _ _ _ _ _ _ _ _ c.finish.result i.1 c.in-Ok.ensures.bytes.0
+    (ap (λ k. take k c.read.new.buf) c.if-n-eq0.true) (c.in-Ok.ensures.bytes.1 c.if-n-eq0.true filled) (Handles-written _ _ _ _ _ _ _ _ _ _ _ _ c.loop.invariant.2 c.in_ok-write_pending.ensures.0) refl (rw (i.4, i.5) at c.finish.ensures)
 
 pub slice_bounds-handle_chunk-end : goal.slice_bounds-handle_chunk-end
 slice_bounds-handle_chunk-end g c =

@@ -1,7 +1,7 @@
 use Rattle.std.proofs.lemmas.Result.{err_from_is_err_and}
 use Rattle.std.proofs.KnownBytes.{Appends-kept}
 use Rattle.line_filter.proofs.lemmas.Written.{FailsMidway-pending, Appends-drained, AppendsPrefix-all}
-use Rattle.line_filter.proofs.sifting.output.Output.finish.Goals as goal
+use Rattle.line_filter.proofs.sifting.sifter.Sifter.finish.Goals as goal
 
 pub returns-in_err-write_pending : goal.returns-in_err-write_pending
 returns-in_err-write_pending g c =
