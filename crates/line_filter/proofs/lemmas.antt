@@ -1,5 +1,4 @@
 -- Lemmas by topic.
-pub mod Or
 pub mod Lines
 pub mod Output
 pub mod Written

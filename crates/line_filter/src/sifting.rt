@@ -7,11 +7,12 @@ ghost use Rattle.line_filter.specs.Output.{Sifts, Stops};
 pub mod fault;
 mod index_text;
 mod output;
+mod sifter;
 mod writing;
 
 use fault::SiftFault;
 use globset::GlobSet;
-use output::Output;
+use sifter::Sifter;
 use std::alloc::{AllocError, Global};
 use std::io::{Read, Write};
 use writing::write_pending;
@@ -62,19 +63,20 @@ pub fn sift<R: Read, W: Write>(
         (W.contents writer.old) (W.contents writer.new)) }
 {
     let mut chunk = zeros(alloc, CHUNK)?;
-    let mut output = Output::new(alloc, set)?;
-    let mut rest = Vec::new(alloc);
+    let mut sifter = Sifter::new(alloc, set, numbered)?;
     for _ in 0..u64::MAX {
+        let output = &mut sifter.output;
         write_pending(&mut output.pending, writer)?;
         let n = match reader.read(chunk.as_mut_slice()) {
             Ok(n) => n,
             Err(_) => return Err(SiftFault::Read),
         };
         if n == 0 {
-            return output.finish(set, numbered, rest.as_slice(), writer);
+            return sifter.finish(writer);
         }
-        output.handle_chunk(set, numbered, &mut rest, &chunk[..n], writer)?;
+        sifter.handle_chunk(&chunk[..n], writer)?;
     }
+    let output = &mut sifter.output;
     write_pending(&mut output.pending, writer)?;
     Err(SiftFault::Read)
 }

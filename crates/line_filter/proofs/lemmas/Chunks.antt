@@ -1,5 +1,6 @@
 -- Chunks of the input, and the rest at its end.
 use Rattle.std.proofs.Common.{◌≡◌, ℕ, ◌+◌, ◌-◌, take, drop, List, [], ◌∷◌, ◌++◌, length, Bool, true, false, ◌||◌, ◌==◌, ap, ◌∙◌, sym, subst, append_assoc, append-nil, arith, Option, None, Some, Result, Ok, Err, MatchResult}
+use Rattle.std.proofs.Math.Bool.{or-false}
 use Rattle.std.specs.List.{list_any}
 use Rattle.std.proofs.KnownBytes.{Appends-nil}
 use Rattle.std.proofs.lemmas.List.{take_rest}
@@ -12,7 +13,6 @@ use Rattle.line_filter.specs.Output.{is_matched, line_output, sifted, has_match}
 use Rattle.line_filter.specs.inner.Sifting.{FailsMidway, WritesAllBut, Handles}
 use Rattle.line_filter.specs.declared.sifting.fault.SiftFault.{SiftFault}
 use Rattle.line_filter.proofs.lemmas.Lines.{found_lf, not_found}
-use Rattle.line_filter.proofs.lemmas.Or.{or_nothing}
 use Rattle.line_filter.proofs.lemmas.Output.{sifted-nil, has_match-nil, sifted-rest, has_match-rest}
 use Rattle.line_filter.proofs.lemmas.Handling.{Handles-start, Handles-line, Handles-trans, Handles-fails, FailsMidway-line}
 
@@ -73,7 +73,7 @@ chunk_result globs numbered rest chunk line rest' i w w1 w2 h h1 h2 o o1 o2 (Err
 pub rest_empty : (globs : List GlobValue) (numbered : Bool) (rest : List ℕ) (b : Bool) (w : Option (List ℕ)) (h : List ℕ) (o : Bool) → b ≡ (length rest == 0) → b ≡ true →
     WritesAllBut w w h (h ++ sifted globs numbered rest) × (o ≡ (o || has_match globs rest))
 rest_empty globs numbered [] b w h o e t =
-    (([], Appends-nil w, sym (ap (λ (l : List ℕ). h ++ l) (sifted-nil globs numbered) ∙ append-nil h)), sym (ap (λ m. o || m) (has_match-nil globs) ∙ or_nothing o))
+    (([], Appends-nil w, sym (ap (λ (l : List ℕ). h ++ l) (sifted-nil globs numbered) ∙ append-nil h)), sym (ap (λ m. o || m) (has_match-nil globs) ∙ or-false o))
 rest_empty globs numbered (x ∷ xs) b w h o e t = let none : length (x ∷ xs) ≡ 0 = eqb-true (length (x ∷ xs)) 0 (sym e ∙ t) in absurd (omega arith)
 
 -- a rest that is not empty is a line

@@ -1,5 +1,6 @@
 -- Handled bytes: whole lines and a rest.
 use Rattle.std.proofs.Common.{◌≡◌, ℕ, ◌+◌, ◌-◌, take, drop, List, [], ◌∷◌, ◌++◌, length, Bool, false, ◌||◌, ap, ◌∙◌, sym, subst, append_assoc, append-nil, refl, Option, None, Some}
+use Rattle.std.proofs.Math.Bool.{or_assoc, or-false}
 use Rattle.std.specs.List.{list_any}
 use Rattle.std.specs.Io.KnownBytes.{Appends}
 use Rattle.std.proofs.KnownBytes.{Appends-nil, Appends-trans}
@@ -12,7 +13,6 @@ use Rattle.line_filter.specs.inner.Sifting.{FailsMidway, WritesAllBut, Handles}
 use Rattle.line_filter.specs.declared.sifting.fault.SiftFault.{SiftFault}
 use Rattle.line_filter.specs.declared.sifting.fault.SiftFault.TheVariants.{OutOfMemory}
 use Rattle.line_filter.proofs.lemmas.Lines.{found_lf, not_found, last_rest, IsWholeLines-nil, IsWholeLines-line, IsWholeLines-append}
-use Rattle.line_filter.proofs.lemmas.Or.{or_assoc, or_nothing}
 use Rattle.line_filter.proofs.lemmas.Output.{sifted-nil, has_match-nil, sifted-append, has_match-append, sifted-line, has_match-line}
 use Rattle.line_filter.proofs.lemmas.Written.{FailsMidway-more, FailsMidway-after, FailsMidway-memory, Appends-drained}
 
@@ -26,7 +26,7 @@ Handles-start globs numbered rest w h o e = record {
   out = [];
   written = Appends-nil w;
   output = sym (ap (λ l. h ++ l) (sifted-nil globs numbered) ∙ append-nil h);
-  any_is = sym (ap (λ b. o || b) (has_match-nil globs) ∙ or_nothing o);
+  any_is = sym (ap (λ b. o || b) (has_match-nil globs) ∙ or-false o);
 }
 
 -- one line with its LF

@@ -1,11 +1,10 @@
 -- Lines: whole ones, and the rest.
 use Rattle.std.proofs.Common.{◌≡◌, ℕ, ◌+◌, ◌<◌, List, [], ◌∷◌, ◌++◌, length, take, drop, get_or, Bool, true, false, ◌||◌, cond, ap, ◌∙◌, sym, subst, append_assoc, refl, arith, add-one, suc, Option, None, Some, inl, inr}
 use Rattle.std.specs.List.{list_any, onto_first}
-use Rattle.std.proofs.lemmas.Bool.{eqb-true, cases_Bool}
+use Rattle.std.proofs.lemmas.Bool.{eqb-true, cases_Bool, or_parts, or_right}
 use Rattle.std.proofs.lemmas.List.{length-take, get_or-take, take-append-drop}
 use Rattle.std.proofs.Math.Seq.{drop-cons}
 use Rattle.memchr.specs.Find.{IsFirstByte, is_byte}
-use Rattle.line_filter.proofs.lemmas.Or.{or_false, or_true}
 use Rattle.line_filter.specs.Lines.{lines, is_lf, through_last_lf}
 use Rattle.line_filter.specs.inner.Sifting.{IsWholeLines}
 
@@ -13,15 +12,15 @@ use Rattle.line_filter.specs.inner.Sifting.{IsWholeLines}
 pub lines_line : (line rest : List ℕ) → list_any is_lf line ≡ false → lines (line ++ 10 ∷ rest) ≡ line ∷ lines rest
 lines_line [] rest e = refl
 lines_line (x ∷ xs) rest e =
-    let p = or_false (is_lf x) (list_any is_lf xs) e in
+    let p = or_parts (is_lf x) (list_any is_lf xs) e in
     ap (λ b. cond b ([] ∷ lines (xs ++ 10 ∷ rest)) (onto_first x (lines (xs ++ 10 ∷ rest)))) p.0
     ∙ ap (onto_first x) (lines_line xs rest p.1)
 
 -- some bytes with no LF are one line
 pub lines_rest : (x : ℕ) (xs : List ℕ) → list_any is_lf (x ∷ xs) ≡ false → lines (x ∷ xs) ≡ (x ∷ xs) ∷ []
-lines_rest x [] e = ap (λ b. cond b ([] ∷ []) (onto_first x [])) (or_false (is_lf x) false e).0
+lines_rest x [] e = ap (λ b. cond b ([] ∷ []) (onto_first x [])) (or_parts (is_lf x) false e).0
 lines_rest x (y ∷ ys) e =
-    let p = or_false (is_lf x) (list_any is_lf (y ∷ ys)) e in
+    let p = or_parts (is_lf x) (list_any is_lf (y ∷ ys)) e in
     ap (λ b. cond b ([] ∷ lines (y ∷ ys)) (onto_first x (lines (y ∷ ys)))) p.0 ∙ ap (onto_first x) (lines_rest y ys p.1)
 
 -- bytes with no LF have no last LF
@@ -32,13 +31,13 @@ last_rest (x ∷ xs) e = ap (λ b. cond b (x ∷ through_last_lf xs) []) e
 -- a line with its LF has an LF
 pub has_lf : (line more : List ℕ) → list_any is_lf ((line ++ 10 ∷ []) ++ more) ≡ true
 has_lf [] more = refl
-has_lf (x ∷ xs) more = or_true (is_lf x) _ (has_lf xs more)
+has_lf (x ∷ xs) more = or_right (is_lf x) _ (has_lf xs more)
 
 -- the last LF of a line with its LF, and then more
 pub last_line : (line more : List ℕ) → through_last_lf ((line ++ 10 ∷ []) ++ more) ≡ (line ++ 10 ∷ []) ++ through_last_lf more
 last_line [] more = refl
 last_line (x ∷ xs) more =
-    ap (λ b. cond b (x ∷ through_last_lf ((xs ++ 10 ∷ []) ++ more)) []) (or_true (is_lf x) _ (has_lf xs more))
+    ap (λ b. cond b (x ∷ through_last_lf ((xs ++ 10 ∷ []) ++ more)) []) (or_right (is_lf x) _ (has_lf xs more))
     ∙ ap (λ (l : List ℕ). x ∷ l) (last_line xs more)
 
 -- no bytes are no lines

@@ -1,5 +1,7 @@
 -- Output of lines.
 use Rattle.std.proofs.Common.{◌≡◌, ℕ, List, [], ◌∷◌, ◌++◌, Bool, true, false, ◌||◌, cond, ap, ◌∙◌, sym, append_assoc, append-nil, refl}
+use Rattle.std.proofs.Math.Bool.{or-false}
+use Rattle.std.proofs.lemmas.Bool.{or_right}
 use Rattle.std.specs.List.{list_any, flat_map}
 use Rattle.std.proofs.lemmas.List.Concat.{flat_map-append}
 use Rattle.std.proofs.lemmas.List.Folds.{list_any-append}
@@ -9,7 +11,6 @@ use Rattle.globset.specs.Means.{GlobValue}
 use Rattle.line_filter.specs.Output.{is_matched, index_column, line_output, sifted, has_match}
 use Rattle.line_filter.specs.inner.Sifting.{IsWholeLines}
 use Rattle.line_filter.proofs.lemmas.Lines.{lines_line, lines_rest}
-use Rattle.line_filter.proofs.lemmas.Or.{or_true, or_nothing}
 
 -- the output for no bytes
 pub sifted-nil : (globs : List GlobValue) (numbered : Bool) → sifted globs numbered [] ≡ []
@@ -39,7 +40,7 @@ sifted-line globs numbered line e = ap (flat_map (line_output globs numbered)) (
 -- a line with its LF
 pub has_match-line : (globs : List GlobValue) (line : List ℕ) → list_any is_lf line ≡ false → has_match globs (line ++ 10 ∷ []) ≡ is_matched globs line
 unfolding has_match
-has_match-line globs line e = ap (list_any (is_matched globs)) (lines_line line [] e) ∙ or_nothing (is_matched globs line)
+has_match-line globs line e = ap (list_any (is_matched globs)) (lines_line line [] e) ∙ or-false (is_matched globs line)
 
 -- the output for a rest with no LF
 pub sifted-rest : (globs : List GlobValue) (numbered : Bool) (x : ℕ) (xs : List ℕ) → list_any is_lf (x ∷ xs) ≡ false → sifted globs numbered (x ∷ xs) ≡ line_output globs numbered (x ∷ xs)
@@ -49,7 +50,7 @@ sifted-rest globs numbered x xs e = ap (flat_map (line_output globs numbered)) (
 -- a rest with no LF
 pub has_match-rest : (globs : List GlobValue) (x : ℕ) (xs : List ℕ) → list_any is_lf (x ∷ xs) ≡ false → has_match globs (x ∷ xs) ≡ is_matched globs (x ∷ xs)
 unfolding has_match
-has_match-rest globs x xs e = ap (list_any (is_matched globs)) (lines_rest x xs e) ∙ or_nothing (is_matched globs (x ∷ xs))
+has_match-rest globs x xs e = ap (list_any (is_matched globs)) (lines_rest x xs e) ∙ or-false (is_matched globs (x ∷ xs))
 
 -- a line that is not matched
 pub line_output-none : (globs : List GlobValue) (numbered : Bool) (line : List ℕ) → is_matched globs line ≡ false → line_output globs numbered line ≡ []
@@ -66,7 +67,7 @@ pub line_skipped : (globs : List GlobValue) (numbered : Bool) (line pending pend
     (pending' ≡ pending ++ line_output globs numbered line) × (o' ≡ (o || is_matched globs line))
 line_skipped globs numbered line pending pending' o o' b is p e f = (
   e ∙ sym (ap (λ l. pending ++ l) (line_output-none globs numbered line (sym is ∙ f)) ∙ append-nil pending),
-  p ∙ sym (ap (λ m. o || m) (sym is ∙ f) ∙ or_nothing o),
+  p ∙ sym (ap (λ m. o || m) (sym is ∙ f) ∙ or-false o),
 )
 
 -- a line that is matched was appended after its index column, with LF
@@ -75,5 +76,5 @@ pub line_pushed : (globs : List GlobValue) (numbered : Bool) (line pending h1 h2
 line_pushed globs numbered line pending h1 h2 h3 o b is e f p q = (
   q ∙ ap (λ l. l ++ 10 ∷ []) (p ∙ ap (λ l. l ++ line) e ∙ append_assoc pending (index_column numbered (answer globs line)) line)
       ∙ append_assoc pending (index_column numbered (answer globs line) ++ line) (10 ∷ []) ∙ ap (λ l. pending ++ l) (sym (line_output-some globs numbered line (sym is ∙ f))),
-  sym (or_true o (is_matched globs line) (sym is ∙ f)),
+  sym (or_right o (is_matched globs line) (sym is ∙ f)),
 )

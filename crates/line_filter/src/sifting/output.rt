@@ -1,12 +1,9 @@
 //! The output for lines, collected in a buffer.
 
 ghost use Rattle.std.specs.Prelude.{◌≡◌, [], ◌++◌, ◌||◌, true, false, MatchResult, IfOk, OnOk};
-ghost use Rattle.std.specs.List.{list_any};
-ghost use Rattle.std.specs.Io.KnownBytes.{Appends};
 ghost use Rattle.globset.specs.Answer.{answer};
 ghost use Rattle.globset.specs.SetValue.{Fits, set_globs};
-ghost use Rattle.line_filter.specs.Lines.{is_lf};
-ghost use Rattle.line_filter.specs.Output.{has_match, index_column, is_matched, line_output, sifted};
+ghost use Rattle.line_filter.specs.Output.{index_column, is_matched, line_output, sifted};
 ghost use Rattle.line_filter.specs.inner.Sifting.{FailsMidway, Handles, WritesAllBut};
 
 use super::fault::SiftFault;
@@ -24,65 +21,72 @@ const FULL: usize = 69632;
 /// The first capacity of the pending output: as much as is collected, and a line more.
 const ROOM: usize = 73728;
 
-/// The output that is still to be written, and whether there was any. The vectors keep their capacity from line to line.
-pub struct Output {
+/// The output for lines: what it is made with, what is still to be written, and whether there was any. The vectors keep their
+/// capacity from line to line.
+pub struct Output<'s> {
+    /// The set that lines are matched with.
+    pub set: &'s GlobSet,
+    /// Whether each line starts with the indexes that the set returns for it.
+    pub numbered: bool,
     /// Output that was not written yet.
     pub pending: Vec<u8>,
-    /// What the set is matched with, which it fits.
-    pub scratch: Scratch,
-    /// The indexes of the last line in numbered form. Its content has no meaning between calls.
-    pub indexes: Vec<usize>,
     /// Whether some line is output, be it written or pending.
     pub any_written: bool,
+    /// What the set is matched with.
+    scratch: Scratch,
+    /// The indexes of the last line in numbered form. Its content has no meaning between calls.
+    indexes: Vec<usize>,
+    ghost fits: { Fits scratch set.now },
 }
 
-impl Drop for Output {
+impl Drop for Output<'_> {
     // One call wherever a value is dropped, which keeps proofs short.
     fn drop(self) {
         let Output {
+            set: _,
+            numbered: _,
             pending: _,
+            any_written: _,
             scratch: _,
             indexes: _,
-            any_written: _,
         } = self;
     }
 }
 
-impl Output {
-    /// Returns an output with nothing pending, for this set.
-    pub fn new(alloc: Global, set: &GlobSet) -> Result<Output, AllocError>
+impl<'s> Output<'s> {
+    ghost use Rattle.line_filter.specs.inner.Outputs.{AreAlike};
+
+    /// Returns an output with nothing pending, for this set and this form.
+    pub fn new(alloc: Global, set: &'s GlobSet, numbered: bool) -> Result<Output<'s>, AllocError>
         ensures empty { IfOk result (λ output. output.pending.items ≡ []) }
         ensures unwritten { IfOk result (λ output. output.any_written ≡ false) }
-        ensures fits { IfOk result (λ output. Fits output.scratch set.now) }
+        ensures set { IfOk result (λ output. output.set.now ≡ set.now) }
+        ensures numbered { IfOk result (λ output. output.numbered ≡ numbered) }
     {
         Ok(Output {
+            set,
+            numbered,
             pending: Vec::with_capacity(alloc, ROOM)?,
+            any_written: false,
             scratch: scratch_for(alloc, set)?,
             indexes: Vec::with_capacity(alloc, set.len())?,
-            any_written: false,
         })
     }
 
     /// Appends the index column of a line that is matched, and returns whether the line is.
-    fn push_index_column(
-        &mut self,
-        set: &GlobSet,
-        numbered: bool,
-        line: &[u8],
-    ) -> Result<bool, AllocError>
-        requires fits { Fits self.old.scratch set.now }
-        ensures done { IfOk result (λ yes. (yes ≡ is_matched (set_globs set.now) line.now)
+    fn push_index_column(&mut self, line: &[u8]) -> Result<bool, AllocError>
+        ensures done { IfOk result (λ yes. (yes ≡ is_matched (set_globs self.old.set.now) line.now)
             × (self.new.any_written ≡ self.old.any_written)
             × (yes ≡ true → self.new.pending.items
-            ≡ self.old.pending.items ++ index_column numbered (answer (set_globs set.now) line.now))
+            ≡ self.old.pending.items ++ index_column self.old.numbered (answer (set_globs self.old.set.now) line.now))
             × (yes ≡ false → self.new.pending.items ≡ self.old.pending.items)) }
-        ensures fits { Fits self.new.scratch set.now }
+        ensures alike { AreAlike self.old self.new }
     {
         let path = Candidate::from_bytes(line);
-        if !numbered {
-            return Ok(is_matched(set, &path, &mut self.scratch));
+        if !self.numbered {
+            return Ok(is_matched(self.set, &path, &mut self.scratch));
         }
-        find(set, &path, &mut self.scratch, &mut self.indexes)?;
+        find(self.set, &path, &mut self.scratch, &mut self.indexes)?;
         if self.indexes.is_empty() {
             return Ok(false);
         }
@@ -91,18 +95,12 @@ impl Output {
     }
 
     /// Appends the output for a line.
-    fn push_line_output(
-        &mut self,
-        set: &GlobSet,
-        numbered: bool,
-        line: &[u8],
-    ) -> Result<(), AllocError>
-        requires fits { Fits self.old.scratch set.now }
-        ensures done { OnOk result ((self.new.pending.items ≡ self.old.pending.items ++ line_output (set_globs set.now) numbered line.now)
-            × (self.new.any_written ≡ (self.old.any_written || is_matched (set_globs set.now) line.now))) }
-        ensures fits { Fits self.new.scratch set.now }
+    fn push_line_output(&mut self, line: &[u8]) -> Result<(), AllocError>
+        ensures done { OnOk result ((self.new.pending.items ≡ self.old.pending.items ++ line_output (set_globs self.old.set.now) self.old.numbered line.now)
+            × (self.new.any_written ≡ (self.old.any_written || is_matched (set_globs self.old.set.now) line.now))) }
+        ensures alike { AreAlike self.old self.new }
     {
-        if !self.push_index_column(set, numbered, line)? {
+        if !self.push_index_column(line)? {
             return Ok(());
         }
         self.pending.extend_from_slice(line)?;
@@ -112,23 +110,16 @@ impl Output {
     }
 
     /// Appends the output for a line, and writes what is pending if that fills the buffer.
-    fn handle_line<W: Write>(
-        &mut self,
-        set: &GlobSet,
-        numbered: bool,
-        line: &[u8],
-        writer: &mut W,
-    ) -> Result<(), SiftFault>
-        requires fits { Fits self.old.scratch set.now }
+    pub fn handle_line<W: Write>(&mut self, line: &[u8], writer: &mut W) -> Result<(), SiftFault>
         ensures done { MatchResult result
             (λ _. WritesAllBut (W.contents writer.old) (W.contents writer.new)
-            self.new.pending.items (self.old.pending.items ++ line_output (set_globs set.now) numbered line.now)
-            × (self.new.any_written ≡ (self.old.any_written || is_matched (set_globs set.now) line.now)))
+            self.new.pending.items (self.old.pending.items ++ line_output (set_globs self.old.set.now) self.old.numbered line.now)
+            × (self.new.any_written ≡ (self.old.any_written || is_matched (set_globs self.old.set.now) line.now)))
             (FailsMidway (W.contents writer.old) (W.contents writer.new)
-            (self.old.pending.items ++ line_output (set_globs set.now) numbered line.now)) }
-        ensures fits { Fits self.new.scratch set.now }
+            (self.old.pending.items ++ line_output (set_globs self.old.set.now) self.old.numbered line.now)) }
+        ensures alike { AreAlike self.old self.new }
     {
-        self.push_line_output(set, numbered, line)?;
+        self.push_line_output(line)?;
         if self.pending.len() >= FULL {
             return write_pending(&mut self.pending, writer);
         }
@@ -136,136 +127,25 @@ impl Output {
     }
 
     /// Handles each whole line of the bytes, and returns the rest after the last LF.
-    fn handle_lines<'a, W: Write>(
+    pub fn handle_lines<'a, W: Write>(
         &mut self,
-        set: &GlobSet,
-        numbered: bool,
         bytes: &'a [u8],
         writer: &mut W,
     ) -> Result<&'a [u8], SiftFault>
-        requires fits { Fits self.old.scratch set.now }
         ensures done { MatchResult result
-            (λ rest. Handles (set_globs set.now) numbered bytes.now rest.now
+            (λ rest. Handles (set_globs self.old.set.now) self.old.numbered bytes.now rest.now
             (W.contents writer.old) (W.contents writer.new)
             self.old.pending.items self.new.pending.items self.old.any_written self.new.any_written)
             (FailsMidway (W.contents writer.old) (W.contents writer.new)
-            (self.old.pending.items ++ sifted (set_globs set.now) numbered bytes.now)) }
-        ensures fits { Fits self.new.scratch set.now }
+            (self.old.pending.items ++ sifted (set_globs self.old.set.now) self.old.numbered bytes.now)) }
+        ensures alike { AreAlike self.old self.new }
     {
         let mut rest = bytes;
         while let Some(i) = memchr(b'\n', rest) {
-            self.handle_line(set, numbered, &rest[..i], writer)?;
+            self.handle_line(&rest[..i], writer)?;
             rest = &rest[i + 1..];
         }
         Ok(rest)
-    }
-
-    /// Handles each whole line of the bytes, and puts the rest after the last LF into `rest`, which was empty.
-    fn handle_lines_and_keep_rest<W: Write>(
-        &mut self,
-        set: &GlobSet,
-        numbered: bool,
-        rest: &mut Vec<u8>,
-        bytes: &[u8],
-        writer: &mut W,
-    ) -> Result<(), SiftFault>
-        requires fits { Fits self.old.scratch set.now }
-        requires empty { rest.old.items ≡ [] }
-        ensures done { MatchResult result
-            (λ _. Handles (set_globs set.now) numbered bytes.now rest.new.items
-            (W.contents writer.old) (W.contents writer.new)
-            self.old.pending.items self.new.pending.items self.old.any_written self.new.any_written)
-            (FailsMidway (W.contents writer.old) (W.contents writer.new)
-            (self.old.pending.items ++ sifted (set_globs set.now) numbered bytes.now)) }
-        ensures fits { Fits self.new.scratch set.now }
-    {
-        let tail = self.handle_lines(set, numbered, bytes, writer)?;
-        rest.extend_from_slice(tail)?;
-        Ok(())
-    }
-
-    /// Handles the next chunk of the input. `rest` has the bytes since the last LF before the chunk, and then those since the
-    /// last LF in it.
-    pub fn handle_chunk<W: Write>(
-        &mut self,
-        set: &GlobSet,
-        numbered: bool,
-        rest: &mut Vec<u8>,
-        chunk: &[u8],
-        writer: &mut W,
-    ) -> Result<(), SiftFault>
-        requires fits { Fits self.old.scratch set.now }
-        requires no_lf { list_any is_lf rest.old.items ≡ false }
-        ensures done { MatchResult result
-            (λ _. Handles (set_globs set.now) numbered (rest.old.items ++ chunk.now) rest.new.items
-            (W.contents writer.old) (W.contents writer.new)
-            self.old.pending.items self.new.pending.items self.old.any_written self.new.any_written)
-            (FailsMidway (W.contents writer.old) (W.contents writer.new)
-            (self.old.pending.items ++ sifted (set_globs set.now) numbered (rest.old.items ++ chunk.now))) }
-        ensures fits { Fits self.new.scratch set.now }
-    {
-        if rest.is_empty() {
-            return self.handle_lines_and_keep_rest(set, numbered, rest, chunk, writer);
-        }
-        let Some(i) = memchr(b'\n', chunk) else {
-            rest.extend_from_slice(chunk)?;
-            return Ok(());
-        };
-        rest.extend_from_slice(&chunk[..i])?;
-        self.handle_line(set, numbered, rest.as_slice(), writer)?;
-        rest.clear();
-        self.handle_lines_and_keep_rest(set, numbered, rest, &chunk[i + 1..], writer)
-    }
-
-    /// Handles the rest after the last LF of the input, which is a line if it is not empty.
-    fn handle_rest<W: Write>(
-        &mut self,
-        set: &GlobSet,
-        numbered: bool,
-        rest: &[u8],
-        writer: &mut W,
-    ) -> Result<(), SiftFault>
-        requires fits { Fits self.old.scratch set.now }
-        requires no_lf { list_any is_lf rest.now ≡ false }
-        ensures done { MatchResult result
-            (λ _. WritesAllBut (W.contents writer.old) (W.contents writer.new)
-            self.new.pending.items (self.old.pending.items ++ sifted (set_globs set.now) numbered rest.now)
-            × (self.new.any_written ≡ (self.old.any_written || has_match (set_globs set.now) rest.now)))
-            (FailsMidway (W.contents writer.old) (W.contents writer.new)
-            (self.old.pending.items ++ sifted (set_globs set.now) numbered rest.now)) }
-        ensures fits { Fits self.new.scratch set.now }
-    {
-        if rest.is_empty() {
-            return Ok(());
-        }
-        self.handle_line(set, numbered, rest, writer)
-    }
-
-    /// Handles the end of the input: handles the rest, writes what is pending and flushes the writer. Returns whether some
-    /// line was output.
-    pub fn finish<W: Write>(
-        &mut self,
-        set: &GlobSet,
-        numbered: bool,
-        rest: &[u8],
-        writer: &mut W,
-    ) -> Result<bool, SiftFault>
-        requires fits { Fits self.old.scratch set.now }
-        requires no_lf { list_any is_lf rest.now ≡ false }
-        ensures done { MatchResult result
-            (λ any. Appends (W.contents writer.old) (W.contents writer.new)
-            (self.old.pending.items ++ sifted (set_globs set.now) numbered rest.now)
-            × (any ≡ (self.old.any_written || has_match (set_globs set.now) rest.now)))
-            (FailsMidway (W.contents writer.old) (W.contents writer.new)
-            (self.old.pending.items ++ sifted (set_globs set.now) numbered rest.now)) }
-        ensures fits { Fits self.new.scratch set.now }
-    {
-        self.handle_rest(set, numbered, rest, writer)?;
-        write_pending(&mut self.pending, writer)?;
-        match writer.flush() {
-            Ok(()) => Ok(self.any_written),
-            Err(_) => Err(SiftFault::Write),
-        }
     }
 }
 

@@ -1,9 +1,7 @@
 use Rattle.std.proofs.Common.{[], ◌++◌, ◌≡◌, ◌<◌, ◌∙◌, refl, ap, sym, take, drop, length, List, ℕ, arith, subst}
-use Rattle.std.specs.List.{list_any}
 use Rattle.std.proofs.lemmas.Result.{err_from_is_err_and}
 use Rattle.std.proofs.KnownBytes.{Consumes-nil, Consumes-trans, Consumes-kept}
 use Rattle.globset.specs.SetValue.{set_globs}
-use Rattle.line_filter.specs.Lines.{is_lf}
 use Rattle.line_filter.proofs.lemmas.Sifting.{Stops-fails, Stops-start, end_result, Consumes-is, read_back}
 use Rattle.line_filter.proofs.lemmas.Handling.{Handles-pending_fails, Handles-drained, Handles-trans, Handles-fails, Handles-begin, Handles-written}
 use Rattle.line_filter.proofs.sifting.sift.Goals as goal
@@ -13,18 +11,19 @@ returns-in_err-chunk g c =
     let p = err_from_is_err_and c.from_residual.result c.from_residual.ensures.1 in
     rw p.1 (Stops-start (set_globs c.args.set.now) c.args.numbered (g.R.Read.remaining c.args.reader.now) (g.W.Write.contents c.args.writer.now) p.0 p.2)
 
-pub returns-in_err-output : goal.returns-in_err-output
-returns-in_err-output g c =
-    let p = err_from_is_err_and c.from_residual-in_err-output.result c.from_residual-in_err-output.ensures.1 in
+pub returns-in_err-sifter : goal.returns-in_err-sifter
+returns-in_err-sifter g c =
+    let p = err_from_is_err_and c.from_residual-in_err-sifter.result c.from_residual-in_err-sifter.ensures.1 in
     rw p.1 (Stops-start (set_globs c.args.set.now) c.args.numbered (g.R.Read.remaining c.args.reader.now) (g.W.Write.contents c.args.writer.now) p.0 p.2)
 
 pub loop-init : goal.loop-init
 loop-init g c = (
   [],
   Consumes-nil _,
-  Handles-begin _ _ _ _ _ _ c.new-rest.ensures.items c.in_ok-output.ensures.empty c.in_ok-output.ensures.unwritten,
+  Handles-begin _ _ _ _ _ _ c.in_ok-sifter.ensures.rest c.in_ok-sifter.ensures.empty c.in_ok-sifter.ensures.unwritten,
   omega (arith, c.in_ok-chunk.ensures),
-  c.in_ok-output.ensures.fits,
+  c.in_ok-sifter.ensures.set,
+  c.in_ok-sifter.ensures.numbered,
 )
 
 pub returns-in-Err : goal.returns-in-Err
@@ -35,23 +34,23 @@ returns-in-Err g c =
       Handles-drained _ _ _ _ _ _ _ _ _ _ _ i.2 c.in_ok-write_pending.ensures.0 c.in_ok-write_pending.ensures.1,
     )
 
-pub finish-requires-clause-no_lf : goal.finish-requires-clause-no_lf
-finish-requires-clause-no_lf g c = ap (λ (l : List ℕ). list_any is_lf l) c.as_slice.ensures.value ∙ c.loop.invariant.2.no_lf
+pub finish-requires : goal.finish-requires
+finish-requires g c = c.loop.invariant.2.no_lf
 
 pub returns-then-n-eq0 : goal.returns-then-n-eq0
 returns-then-n-eq0 g c =
     let i = c.loop.invariant in
     let filled : 0 < length c.read.new.buf = omega (arith, c.read.auto.buf, c.as_mut_slice.ensures.len, c.loop.chunk.ok.0) in
-    end_result _ _ i.0 (take c.in-Ok.n c.read.new.buf) _ c.as_slice.result.now _ _ _ _ _ _ _ _ c.finish.result i.1 c.in-Ok.ensures.bytes.0
-    (ap (λ k. take k c.read.new.buf) c.if-n-eq0.true) (c.in-Ok.ensures.bytes.1 c.if-n-eq0.true filled) (Handles-written _ _ _ _ _ _ _ _ _ _ _ _ c.loop.invariant.2 c.in_ok-write_pending.ensures.0) c.as_slice.ensures.value c.finish.ensures.done
+    end_result _ _ i.0 (take c.in-Ok.n c.read.new.buf) _ c.loop.sifter.rest.items _ _ _ _ _ _ _ _ c.finish.result i.1 c.in-Ok.ensures.bytes.0
+    (ap (λ k. take k c.read.new.buf) c.if-n-eq0.true) (c.in-Ok.ensures.bytes.1 c.if-n-eq0.true filled) (Handles-written _ _ _ _ _ _ _ _ _ _ _ _ c.loop.invariant.2 c.in_ok-write_pending.ensures.0) refl (rw (i.4, i.5) at c.finish.ensures)
 
 pub slice_bounds-handle_chunk-end : goal.slice_bounds-handle_chunk-end
 slice_bounds-handle_chunk-end g c =
     let back : c.deref.result.now ≡ c.read.new.buf = read_back c.loop.chunk.len c.read.new.buf (drop (length c.read.new.buf) c.loop.chunk.items) _ (omega (arith, c.read.auto.buf, c.as_mut_slice.ensures.len, c.loop.chunk.ok.0)) c.deref.ensures.value in
     c.in-Ok.ensures.bound.1 ∙ ap (λ (l : List ℕ). length (take c.in-Ok.n l)) (sym back)
 
-pub handle_chunk-requires-clause-no_lf : goal.handle_chunk-requires-clause-no_lf
-handle_chunk-requires-clause-no_lf g c = c.loop.invariant.2.no_lf
+pub handle_chunk-requires : goal.handle_chunk-requires
+handle_chunk-requires g c = c.loop.invariant.2.no_lf
 
 pub returns-in_err-handle_chunk : goal.returns-in_err-handle_chunk
 returns-in_err-handle_chunk g c =
@@ -60,18 +59,20 @@ returns-in_err-handle_chunk g c =
     let p = err_from_is_err_and c.from_residual-in_err-handle_chunk.result c.from_residual-in_err-handle_chunk.ensures.1 in
     rw (p.1, p.2) (Stops-fails _ _ (i.0 ++ take c.in-Ok.n c.deref.result.now) _ _ _ _ c.in_err-handle_chunk.field-0.0
     (Consumes-trans _ _ _ _ _ i.1 (Consumes-is _ _ _ _ (ap (λ (l : List ℕ). take c.in-Ok.n l) back) c.in-Ok.ensures.bytes.0))
-    (Handles-fails _ _ _ _ _ _ _ _ _ _ _ _ _ (Handles-written _ _ _ _ _ _ _ _ _ _ _ _ c.loop.invariant.2 c.in_ok-write_pending.ensures.0) c.in_err-handle_chunk.ensures.done))
+    (Handles-fails _ _ _ _ _ _ _ _ _ _ _ _ _ (Handles-written _ _ _ _ _ _ _ _ _ _ _ _ c.loop.invariant.2 c.in_ok-write_pending.ensures.0) (rw (i.4, i.5) at c.in_err-handle_chunk.ensures.done)))
 
 pub loop-preserved : goal.loop-preserved
 loop-preserved g c =
     let i = c.loop.invariant in
+    let alike = c.handle_chunk.ensures.alike in
     let same : length c.read.new.buf ≡ c.loop.chunk.len = omega (arith, c.read.auto.buf, c.as_mut_slice.ensures.len, c.loop.chunk.ok.0) in
     let back : c.deref.result.now ≡ c.read.new.buf = read_back c.loop.chunk.len c.read.new.buf (drop (length c.read.new.buf) c.loop.chunk.items) _ same c.deref.ensures.value in (
       i.0 ++ take c.in-Ok.n c.deref.result.now,
       Consumes-trans _ _ _ _ _ i.1 (Consumes-is _ _ _ _ (ap (λ (l : List ℕ). take c.in-Ok.n l) back) c.in-Ok.ensures.bytes.0),
-      Handles-trans _ _ _ _ _ _ _ _ _ _ _ _ _ _ _ (Handles-written _ _ _ _ _ _ _ _ _ _ _ _ c.loop.invariant.2 c.in_ok-write_pending.ensures.0) c.in_ok-handle_chunk.ensures.done,
+      Handles-trans _ _ _ _ _ _ _ _ _ _ _ _ _ _ _ (Handles-written _ _ _ _ _ _ _ _ _ _ _ _ c.loop.invariant.2 c.in_ok-write_pending.ensures.0) (rw (i.4, i.5) at c.in_ok-handle_chunk.ensures.done),
       subst (λ (k : ℕ). 0 < k) (sym (ap (λ (l : List ℕ). length l) (read_back c.loop.chunk.len c.read.new.buf (drop (length c.read.new.buf) c.loop.chunk.items) _ same refl) ∙ same ∙ c.loop.chunk.ok.0)) i.3,
-      c.handle_chunk.ensures.fits,
+      alike.0 ∙ i.4,
+      alike.1 ∙ i.5,
     )
 
 pub returns-in_err-write_pending : goal.returns-in_err-write_pending

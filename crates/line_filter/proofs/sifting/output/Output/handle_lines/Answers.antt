@@ -1,17 +1,18 @@
-use Rattle.std.proofs.Common.{[], refl}
+use Rattle.std.proofs.Common.{[], ◌∙◌, refl}
 use Rattle.std.proofs.lemmas.Result.{err_from_is_err_and}
 use Rattle.line_filter.proofs.lemmas.Handling.{Handles-start, lines_step, lines_end, lines_fail}
 use Rattle.line_filter.proofs.sifting.output.Output.handle_lines.Goals as goal
 
 pub loop-i-init : goal.loop-i-init
-loop-i-init g c = ([], refl, c.requires.fits, Handles-start _ _ [] _ _ _ refl)
+loop-i-init g c = ([], refl, (refl, refl), Handles-start _ _ [] _ _ _ refl)
 
 pub loop-i-preserved : goal.loop-i-preserved
 loop-i-preserved g c =
     let i = c.loop-i.invariant in
-    let put = c.in_ok-handle_line.ensures.done in
+    let put = rw (i.2.0, i.2.1) at c.in_ok-handle_line.ensures.done in
+    let alike = c.handle_line.ensures.alike in
     let step = lines_step _ _ _ i.0 _ c.in-Some.i _ _ _ _ _ _ _ _ _ i.1 i.3 c.in-Some.ensures put.0 put.1 in
-    (step.0, step.1, c.handle_line.ensures.fits, step.2)
+    (step.0, step.1, (alike.0 ∙ i.2.0, alike.1 ∙ i.2.1), step.2)
 
 pub returns-clause-done : goal.returns-clause-done
 returns-clause-done g c =
@@ -22,4 +23,4 @@ pub returns-in_err-handle_line-clause-done : goal.returns-in_err-handle_line-cla
 returns-in_err-handle_line-clause-done g c =
     let i = c.loop-i.invariant in
     let p = err_from_is_err_and c.from_residual.result c.from_residual.ensures.1 in
-    rw (p.1, p.2) (lines_fail _ _ _ i.0 _ c.in-Some.i _ _ _ _ _ _ _ _ i.1 i.3 c.in-Some.ensures c.in_err-handle_line.ensures.done)
+    rw (p.1, p.2) (lines_fail _ _ _ i.0 _ c.in-Some.i _ _ _ _ _ _ _ _ i.1 i.3 c.in-Some.ensures (rw (i.2.0, i.2.1) at c.in_err-handle_line.ensures.done))

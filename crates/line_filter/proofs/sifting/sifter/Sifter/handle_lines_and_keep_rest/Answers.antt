@@ -1,6 +1,6 @@
 use Rattle.std.proofs.lemmas.Result.{err_from_is_err_and}
 use Rattle.line_filter.proofs.lemmas.Handling.{Handles-memory}
-use Rattle.line_filter.proofs.sifting.output.Output.handle_lines_and_keep_rest.Goals as goal
+use Rattle.line_filter.proofs.sifting.sifter.Sifter.handle_lines_and_keep_rest.Goals as goal
 
 pub returns-in_err-extend_from_slice-clause-done : goal.returns-in_err-extend_from_slice-clause-done
 returns-in_err-extend_from_slice-clause-done g c =

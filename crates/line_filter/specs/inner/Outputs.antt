@@ -1,0 +1,7 @@
+-- Outputs: what they are made with. Only private functions cite this.
+use Rattle.std.specs.Prelude.{◌≡◌}
+use Rattle.line_filter.specs.declared.sifting.output.Output.{Output}
+
+-- both are made with the same set, and in the same form
+abbrev pub AreAlike : Output → Output → Type 0
+AreAlike old new = (new.set.now ≡ old.set.now) × (new.numbered ≡ old.numbered)
