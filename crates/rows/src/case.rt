@@ -31,14 +31,14 @@ pub fn replay<C: Case>(
 
 fn compared<C: Case>(alloc: Global, case: &mut C, row: &str) -> Result<Option<String>> {
     if let Some(short) = row.strip_prefix("repeat\t") {
-        let long = expanded(alloc, short)?;
-        return compared_columns(case, &mut Columns::new(long.as_str()));
+        return compared_row(case, expanded(alloc, short)?.as_str());
     }
-    compared_columns(case, &mut Columns::new(row))
+    compared_row(case, row)
 }
 
-fn compared_columns<C: Case>(case: &mut C, columns: &mut Columns<'_>) -> Result<Option<String>> {
-    let returned = case.returned(columns)?;
+fn compared_row<C: Case>(case: &mut C, row: &str) -> Result<Option<String>> {
+    let mut columns = Columns::new(row);
+    let returned = case.returned(&mut columns)?;
     Ok(unless_equal(returned, columns.rest()?))
 }
 

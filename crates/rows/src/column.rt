@@ -72,12 +72,13 @@ pub fn unescaped(alloc: Global, column: &str) -> Result<Vec<u8>, RowError>
 /// bytes are `\0`, `\t`, `\n`, `\r` or `\xNN`.
 pub fn escaped(alloc: Global, bytes: &[u8]) -> Result<String, AllocError> {
     let mut column = String::new(alloc);
-    for (i, word) in bytes.split_str(b" ").enumerate() {
-        if i > 0 {
-            column.push(' ')?;
-        }
-        push_word(alloc, &mut column, word)?;
+    let mut rest = bytes;
+    while let Some(space) = rest.find_byte(b' ') {
+        push_word(alloc, &mut column, &rest[..space])?;
+        column.push(' ')?;
+        rest = &rest[space + 1..];
     }
+    push_word(alloc, &mut column, rest)?;
     Ok(column)
 }
 

@@ -53,8 +53,11 @@ fn write_failures(rt: &HostRuntime, file: &str, lines: &[&str], failures: &[Fail
 {
     for failure in failures {
         let row = lines[failure.index];
-        println!(rt; "{file}:{}: {row}", failure.index + 1)?;
-        println!(rt; "    returned: {}", failure.returned)?;
+        println!(rt;
+            "{file}:{}: {row}\n    returned: {}",
+            failure.index + 1,
+            failure.returned
+        )?;
     }
     Ok(())
 }
