@@ -1,0 +1,5 @@
+//! Lines of ignore files: what git reads them as, and the globs that have the same meaning.
+#![tactic(auto)]
+
+pub mod item;
+pub mod place;
