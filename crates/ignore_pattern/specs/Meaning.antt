@@ -1,14 +1,11 @@
 -- The glob of a pattern has the pattern's meaning. This is the contract of a function of the module `laws`.
-use Rattle.std.specs.Prelude.{◌≡◌, ℕ, Bool, false, List, Option, Some, None, All, ◌<◌, encode_utf8_all}
+use Rattle.std.specs.Prelude.{◌≡◌, ℕ, Bool, false, List, Option, Some, None, All, ◌<◌}
 use Rattle.std.specs.Char.{IsScalar}
 use Rattle.globset.specs.Means.{GlobValue, IsRead, glob_means}
 use Rattle.globset.specs.Silent.{silent}
 use Rattle.ignore_pattern.specs.Patterns.{Pattern, pattern_of_chars, pattern_matches}
-use Rattle.ignore_pattern.specs.Translation.{glob_options, pattern_text}
-
--- the glob of this text, given as characters, with the options of a translation
-abbrev pub translated : List ℕ → GlobValue
-translated text = record { text = encode_utf8_all text; options = glob_options }
+use Rattle.ignore_pattern.specs.Translation.{pattern_text}
+use Rattle.ignore_pattern.specs.Globs.{translated}
 
 -- A glob that has the meaning of a pattern: it is read, it is not silent, and it matches the paths that the pattern matches.
 pub record HasMeaningOf (p : Pattern) (g : GlobValue) : Type 0 where
