@@ -1,7 +1,9 @@
 pub mod Ascii
+pub mod Braces
 pub mod Classes
 pub mod Ends
 pub mod Filters
 pub mod Lines
 pub mod Lists
+pub mod Patterns
 pub mod Texts

@@ -8,6 +8,7 @@ mod ends;
 mod item;
 mod line;
 mod pattern;
+mod pattern_text;
 mod place;
 mod text;
 
