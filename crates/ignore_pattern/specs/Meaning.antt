@@ -1,5 +1,5 @@
 -- The glob of a pattern has the pattern's meaning. This is the contract of a function of the module `laws`.
-use Rattle.std.specs.Prelude.{◌≡◌, ℕ, Bool, false, List, Option, Some, None, All, ◌<◌}
+use Rattle.std.specs.Prelude.{◌≡◌, ℕ, false, List, Option, Some, None, All}
 use Rattle.std.specs.Char.{IsScalar}
 use Rattle.globset.specs.Means.{GlobValue, IsRead, glob_means}
 use Rattle.globset.specs.Silent.{silent}

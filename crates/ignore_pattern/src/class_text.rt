@@ -67,7 +67,12 @@ fn has_place(c: char) -> bool
 }
 
 /// Pushes an ASCII character if the class has it.
-fn push_written(out: &mut Vec<char>, negated: bool, items: &[Item], c: char) -> Result<(), AllocError>
+fn push_written(
+    out: &mut Vec<char>,
+    negated: bool,
+    items: &[Item],
+    c: char,
+) -> Result<(), AllocError>
     requires { c < 128 }
     ensures { OnOk result (out.new.items ≡ out.old.items ++ written negated items.now (c ∷ [])) }
 {
@@ -78,7 +83,12 @@ fn push_written(out: &mut Vec<char>, negated: bool, items: &[Item], c: char) -> 
 }
 
 /// Pushes an ASCII character if the class has it, and it has no place of its own.
-fn push_unplaced(out: &mut Vec<char>, negated: bool, items: &[Item], c: char) -> Result<(), AllocError>
+fn push_unplaced(
+    out: &mut Vec<char>,
+    negated: bool,
+    items: &[Item],
+    c: char,
+) -> Result<(), AllocError>
     requires { c < 128 }
     ensures { OnOk result (out.new.items ≡ out.old.items ++ filter (λ d. not (has_place d) && is_written negated items.now d) (c ∷ [])) }
 {
@@ -201,7 +211,12 @@ fn push_choice(out: &mut String, members: &[char]) -> Result<bool, AllocError>
 }
 
 /// Writes a class with this body, from its `[` on.
-fn push_brackets(out: &mut String, opening: &str, start: &[char], end: &[char]) -> Result<(), AllocError>
+fn push_brackets(
+    out: &mut String,
+    opening: &str,
+    start: &[char],
+    end: &[char],
+) -> Result<(), AllocError>
     ensures { OnOk result (string_bytes out.new ≡ string_bytes out.old ++ opening.now ++ encode_utf8_all (start.now ++ end.now ++ 93 ∷ [])) }
 {
     out.push_str(opening)?;
@@ -229,7 +244,12 @@ fn push_positive(out: &mut String, start: &[char], end: &[char]) -> Result<bool,
 ///
 /// Returns an error if memory runs out.
 #[tactic(auto, unfolding(crate::specs::Translation::class_text))]
-pub fn push_class(alloc: Global, out: &mut String, negated: bool, items: &[Item]) -> Result<bool, AllocError>
+pub fn push_class(
+    alloc: Global,
+    out: &mut String,
+    negated: bool,
+    items: &[Item],
+) -> Result<bool, AllocError>
     ensures { IfOk result (λ done. outcome done (string_bytes out.new) ≡ followed (string_bytes out.old) (class_text negated items.now)) }
 {
     let start = body_start(alloc, negated, items)?;

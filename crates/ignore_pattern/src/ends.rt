@@ -10,13 +10,7 @@ pub fn before_last(c: char, cs: &[char]) -> Option<&[char]>
 {
     match cs {
         [] => None,
-        [front @ .., last] => {
-            if c == *last {
-                Some(front)
-            } else {
-                None
-            }
-        }
+        [front @ .., last] => { if c == *last { Some(front) } else { None } }
     }
 }
 
@@ -26,12 +20,6 @@ pub fn without_last(byte: u8, bytes: &[u8]) -> &[u8]
 {
     match bytes {
         [] => bytes,
-        [front @ .., last] => {
-            if byte == *last {
-                front
-            } else {
-                bytes
-            }
-        }
+        [front @ .., last] => { if byte == *last { front } else { bytes } }
     }
 }

@@ -59,13 +59,7 @@ fn folders_after(more: usize, rest: &[char]) -> Option<usize>
     ensures within { IfSome result (λ n. n ≤ more + length rest.now + 1) }
 {
     match rest {
-        ['/', ..] => {
-            if more == 0 {
-                None
-            } else {
-                Some(more + 2)
-            }
-        }
+        ['/', ..] => { if more == 0 { None } else { Some(more + 2) } }
         _ => None,
     }
 }

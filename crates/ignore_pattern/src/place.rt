@@ -28,7 +28,11 @@ impl Place {
     pub fn after_escaped(c: char) -> Place
         ensures { result ≡ place_after_escaped c }
     {
-        if c == '/' { Place::AfterSlash } else { Place::Elsewhere }
+        if c == '/' {
+            Place::AfterSlash
+        } else {
+            Place::Elsewhere
+        }
     }
 
     /// Returns whether stars at this place can stand for folders.

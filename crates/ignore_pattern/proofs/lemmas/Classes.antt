@@ -74,10 +74,10 @@ module _ (all : List ℕ) (items : List Item) (first : Bool) (last : Option ℕ)
     goes_on i new next stays some within pushed cut =
         let at : length all - length (drop i.more cs) ≡ (length all - length rest) + (i.more + 1) = let h = s.fits in omega (arith, ap length cell, length-drop i.more cs) in
         let step : before (items ++ i.item ∷ []) (length all - length (drop i.more cs)) (class_items zero false i.last (drop i.more cs)) ≡ total =
-            ap (λ (k : ℕ). before (items ++ i.item ∷ []) k (class_items zero false i.last (drop i.more cs))) at
-            ∙ regroup items i.item (length all - length rest) i.more (class_items zero false i.last (drop i.more cs))
-            ∙ ap (λ (o : Option ClassAt). before items (length all - length rest) (with_item i.item o)) (sym (skip i.more false i.last cs within))
-            ∙ (rw (stays, sym some) at by_cell) in
+        ap (λ (k : ℕ). before (items ++ i.item ∷ []) k (class_items zero false i.last (drop i.more cs))) at
+        ∙ regroup items i.item (length all - length rest) i.more (class_items zero false i.last (drop i.more cs))
+        ∙ ap (λ (o : Option ClassAt). before items (length all - length rest) (with_item i.item o)) (sym (skip i.more false i.last cs within))
+        ∙ (rw (stays, sym some) at by_cell) in
         record {
           so_far = rw (pushed, cut) step;
           fits = let h = s.fits in rw cut (omega (arith, ap length cell, length-drop i.more cs));

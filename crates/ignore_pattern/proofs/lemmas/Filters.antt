@@ -22,7 +22,7 @@ filter_more p old n =
     let same : 0 + n ≡ n = omega arith in
     append_assoc old (filter p (range_with_len 0 n)) (filter p (n ∷ []))
     ∙ ap (λ (l : List ℕ). old ++ l) (sym (filter_append p (range_with_len 0 n) (n ∷ []))
-      ∙ ap (λ (x : ℕ). filter p (range_with_len 0 n ++ x ∷ [])) (sym same) ∙ ap (filter p) (sym (range_suc 0 n)) ∙ ap (λ (k : ℕ). filter p (range_with_len 0 k)) (sym (add-one n)))
+    ∙ ap (λ (x : ℕ). filter p (range_with_len 0 n ++ x ∷ [])) (sym same) ∙ ap (filter p) (sym (range_suc 0 n)) ∙ ap (λ (k : ℕ). filter p (range_with_len 0 k)) (sym (add-one n)))
 
 ascii_is : (n : ℕ) → n ≡ 128 → range_with_len 0 n ≡ ascii
 unfolding ascii

@@ -80,9 +80,9 @@ module _ (line : List ℕ) (kept : ℕ) (rest total : List ℕ) (s : Stands line
     pub after_space : c ≡ 32 → Stands line kept cs total
     after_space e = record {
       so_far =
-        ap (λ (k : ℕ). kept_with line kept k (without_spaces cs)) next_at
-        ∙ before_space line kept (length line - length rest) cs (without_spaces cs) (s.left ∙ cell ∙ ap (λ (x : ℕ). x ∷ cs) e)
-        ∙ ap (kept_with line kept (length line - length rest)) (ap (λ (x : ℕ). before_kept x (without_spaces cs)) (sym e) ∙ sym (plain c cs (λ h. absurd (omega arith)))) ∙ by_cell;
+          ap (λ (k : ℕ). kept_with line kept k (without_spaces cs)) next_at
+          ∙ before_space line kept (length line - length rest) cs (without_spaces cs) (s.left ∙ cell ∙ ap (λ (x : ℕ). x ∷ cs) e)
+          ∙ ap (kept_with line kept (length line - length rest)) (ap (λ (x : ℕ). before_kept x (without_spaces cs)) (sym e) ∙ sym (plain c cs (λ h. absurd (omega arith)))) ∙ by_cell;
       left = left_next;
       fits = fits_next;
       within = s.within;
@@ -91,9 +91,9 @@ module _ (line : List ℕ) (kept : ℕ) (rest total : List ℕ) (s : Stands line
     pub after_other : (c ≡ 32 → ⊥) → (c ≡ 92 → length cs < 1) → Stands line (length line - length cs) cs total
     after_other other lone = record {
       so_far =
-        ap (λ (k : ℕ). kept_with line k k (without_spaces cs)) next_at
-        ∙ stays line kept (length line - length rest) c cs (without_spaces cs) (s.left ∙ cell)
-        ∙ ap (kept_with line kept (length line - length rest)) (sym (before_other c (without_spaces cs) other) ∙ sym (plain c cs lone)) ∙ by_cell;
+          ap (λ (k : ℕ). kept_with line k k (without_spaces cs)) next_at
+          ∙ stays line kept (length line - length rest) c cs (without_spaces cs) (s.left ∙ cell)
+          ∙ ap (kept_with line kept (length line - length rest)) (sym (before_other c (without_spaces cs) other) ∙ sym (plain c cs lone)) ∙ by_cell;
       left = left_next;
       fits = fits_next;
       within = omega arith;
@@ -105,10 +105,10 @@ module _ (line : List ℕ) (kept : ℕ) (rest total : List ℕ) (s : Stands line
       let one : drop (suc (length line - length rest)) line ≡ d ∷ cs = drop_suc line (length line - length rest) 92 (d ∷ cs) (s.left ∙ cell) in
       record {
         so_far =
-          ap (λ (k : ℕ). kept_with line k k (without_spaces cs)) at
-          ∙ stays line (suc (length line - length rest)) (suc (length line - length rest)) d cs (without_spaces cs) one
-          ∙ stays line kept (length line - length rest) 92 (d ∷ cs) (d ∷ without_spaces cs) (s.left ∙ cell)
-          ∙ by_cell 92 (d ∷ cs) cell;
+            ap (λ (k : ℕ). kept_with line k k (without_spaces cs)) at
+            ∙ stays line (suc (length line - length rest)) (suc (length line - length rest)) d cs (without_spaces cs) one
+            ∙ stays line kept (length line - length rest) 92 (d ∷ cs) (d ∷ without_spaces cs) (s.left ∙ cell)
+            ∙ by_cell 92 (d ∷ cs) cell;
         left = ap (λ (k : ℕ). drop k line) at ∙ drop_suc line (suc (length line - length rest)) d cs one;
         fits = let h = s.fits in omega (arith, ap length cell);
         within = omega arith;

@@ -1,5 +1,5 @@
 -- The text of a pattern, by its first element.
-use Rattle.std.proofs.Common.{◌≡◌, ℕ, zero, suc, ◌+◌, Bool, true, false, ◌&&◌, ◌==◌, if◌then◌else◌, ◌⊎◌, List, [], ◌∷◌, ◌++◌, length, drop, Option, Some, None, encode_utf8_all, inl, inr, refl, sym, ◌∙◌, ap, subst, arith}
+use Rattle.std.proofs.Common.{◌≡◌, ℕ, zero, suc, ◌+◌, Bool, true, false, ◌&&◌, ◌==◌, if◌then◌else◌, ◌⊎◌, List, [], ◌∷◌, length, drop, Option, Some, None, encode_utf8_all, inl, inr, refl, sym, ◌∙◌, ap, subst, arith}
 use Rattle.std.specs.Option.{option_and_then, option_map, IfSome}
 use Rattle.std.specs.List.{prefix_len}
 use Rattle.std.specs.Str.{IsUtf8, is_utf8, chars}
@@ -10,8 +10,8 @@ use Rattle.ignore_pattern.specs.declared.place.Place.TheVariants.{Start, AfterSl
 use Rattle.ignore_pattern.specs.declared.pattern.IgnorePattern.{IgnorePattern}
 use Rattle.globset.specs.Means.{GlobValue}
 use Rattle.ignore_pattern.specs.Classes.{ClassAt, class_items, is_negated}
-use Rattle.ignore_pattern.specs.Elements.{Element, Literal, Any, Star, Folders, Everything, Class, ElementAt, at, place_after, place_after_escaped, run_at, crossing_at, class_after, class_at, escaped_at, element_at, with_element, elements}
-use Rattle.ignore_pattern.specs.Patterns.{Pattern, pattern_with, pattern_of_chars, pattern_of_line}
+use Rattle.ignore_pattern.specs.Elements.{Element, Literal, Any, Star, Folders, Everything, Class, ElementAt, at, run_at, class_after, class_at, escaped_at, element_at, with_element, elements}
+use Rattle.ignore_pattern.specs.Patterns.{pattern_with, pattern_of_chars, pattern_of_line}
 use Rattle.ignore_pattern.specs.Lines.{line_text}
 use Rattle.ignore_pattern.specs.Translation.{glob_options, elements_text, after_folders, whole_text, pattern_text}
 use Rattle.ignore_pattern.specs.Globs.{translated, glob_of_pattern, glob_of_line}

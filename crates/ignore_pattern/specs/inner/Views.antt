@@ -1,5 +1,4 @@
 -- Elements as contracts see them, whatever memory holds them.
-use Rattle.std.specs.Prelude.{Option}
 use Rattle.ignore_pattern.specs.declared.element.Element.{Element}
 use Rattle.ignore_pattern.specs.declared.element.Element.TheVariants as held
 use Rattle.ignore_pattern.specs.declared.element.ElementAt.{ElementAt}

@@ -1,6 +1,5 @@
-use Rattle.std.proofs.Common.{◌≡◌, ◌∙◌, sym, ap, refl}
+use Rattle.std.proofs.Common.{sym, refl}
 use Rattle.std.proofs.lemmas.Bool.{le-leb, lt-leb}
-use Rattle.ignore_pattern.specs.Classes.{item_has}
 use Rattle.ignore_pattern.proofs.lemmas.Ascii.{member_has, range_has}
 use Rattle.ignore_pattern.proofs.class_text.item_has.Goals as goal
 

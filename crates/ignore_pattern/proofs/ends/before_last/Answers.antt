@@ -1,4 +1,4 @@
-use Rattle.std.proofs.Common.{◌≡◌, ◌-◌, ◌∙◌, length, get_or, sym, arith}
+use Rattle.std.proofs.Common.{◌-◌, ◌∙◌, length, sym, arith}
 use Rattle.std.proofs.lemmas.List.{get_or_read}
 use Rattle.ignore_pattern.proofs.lemmas.Ends.{last_is, last_is_not}
 use Rattle.ignore_pattern.proofs.ends.before_last.Goals as goal

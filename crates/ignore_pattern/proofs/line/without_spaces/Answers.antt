@@ -1,4 +1,3 @@
-use Rattle.std.proofs.Common.{arith}
 use Rattle.ignore_pattern.specs.Lines.{without_spaces}
 use Rattle.ignore_pattern.proofs.lemmas.Lists.{head_cell}
 use Rattle.ignore_pattern.proofs.lemmas.Lines.{starts, space_step, other_step}

@@ -1,7 +1,7 @@
-use Rattle.std.proofs.Common.{◌≡◌, ℕ, List, Option, sym, ap, ◌∙◌, subst}
+use Rattle.std.proofs.Common.{◌≡◌, ℕ, List, Option, ap, ◌∙◌, subst}
 use Rattle.std.specs.Option.{option_and_then}
 use Rattle.std.specs.Result.{IfOk}
-use Rattle.std.specs.Str.{IsUtf8, chars}
+use Rattle.std.specs.Str.{chars}
 use Rattle.ignore_pattern.specs.declared.pattern.IgnorePattern.{IgnorePattern}
 use Rattle.ignore_pattern.specs.Globs.{glob_of_pattern}
 use Rattle.ignore_pattern.specs.Patterns.{pattern_of_chars}
