@@ -2,4 +2,5 @@
 #![tactic(auto)]
 
 pub mod item;
+pub mod laws;
 pub mod place;

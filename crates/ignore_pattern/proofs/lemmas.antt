@@ -1,0 +1,4 @@
+pub mod Bodies
+pub mod Items
+pub mod ClassBodies
+pub mod ElementMarks
