@@ -2,3 +2,4 @@ pub mod Bodies
 pub mod Items
 pub mod ClassBodies
 pub mod ElementMarks
+pub mod ElementTokens

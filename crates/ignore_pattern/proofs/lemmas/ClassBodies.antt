@@ -184,7 +184,7 @@ plain_middle w c h low =
       scalar = cond-true _ _ _ (lt-ltb c 55296 (omega arith));
     }
 
-end_is : (w : ℕ → Bool) → IsBody (filter w (33 ∷ 94 ∷ 45 ∷ [])) (cond (w 33) ((33, 33) ∷ []) [] ++ (cond (w 94) ((94, 94) ∷ []) [] ++ cond (w 45) ((45, 45) ∷ []) []))
+pub end_is : (w : ℕ → Bool) → IsBody (filter w (33 ∷ 94 ∷ 45 ∷ [])) (cond (w 33) ((33, 33) ∷ []) [] ++ (cond (w 94) ((94, 94) ∷ []) [] ++ cond (w 45) ((45, 45) ∷ []) []))
 end_is w = by_case (w 33) (w 94) (w 45)
   where
     plain33 : IsPlain 33
