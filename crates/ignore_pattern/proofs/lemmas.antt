@@ -3,3 +3,5 @@ pub mod Items
 pub mod ClassBodies
 pub mod ElementMarks
 pub mod ElementTokens
+pub mod SoundElements
+pub mod Exactness

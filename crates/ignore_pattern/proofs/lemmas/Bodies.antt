@@ -1,11 +1,10 @@
 -- The bodies of classes of globs, put together from single characters and ranges, and their ranges.
-use Rattle.std.proofs.Common.{◌≡◌, ℕ, zero, suc, ◌+◌, ◌<◌, ◌≤◌, Bool, true, false, not, ◌&&◌, ◌||◌, cond, List, [], ◌∷◌, ◌++◌, Option, Some, None, nat_lt, IsTrue, refl, ap, sym, ◌∙◌, subst, arith, le-ltb}
+use Rattle.std.proofs.Common.{◌≡◌, ℕ, zero, suc, ◌+◌, ◌<◌, ◌≤◌, Bool, true, false, not, ◌||◌, cond, List, [], ◌∷◌, ◌++◌, Option, Some, None, nat_lt, refl, ap, sym, ◌∙◌, arith, le-ltb}
 use Rattle.std.specs.Prelude.{◌==◌}
 use Rattle.std.specs.List.{list_all, filter, range_with_len}
 use Rattle.std.specs.Str.{all_scalars}
 use Rattle.std.specs.Char.{IsScalar}
-use Rattle.std.proofs.lemmas.Bool.{eqb-true, not-true, and_from, ne_eqb}
-use Rattle.std.proofs.lemmas.Bool.Decides.{nat_tests}
+use Rattle.std.proofs.lemmas.Bool.{eqb-true, not-true, and_from}
 use Rattle.glob_syntax.specs.Ranges.{chain, ranges, bad_chain, bad_range}
 use Rattle.glob_syntax.specs.declared.fault.Fault.{Fault}
 use Rattle.glob_syntax.specs.declared.fault.Fault.TheVariants.{InvalidRange}

@@ -1,15 +1,14 @@
 -- The glob's class of a class: its body, its ranges, and the bytes that it has.
-use Rattle.std.proofs.Common.{◌≡◌, ℕ, zero, suc, ◌+◌, ◌<◌, ◌≤◌, Bool, true, false, not, ◌&&◌, ◌||◌, cond, List, [], ◌∷◌, ◌++◌, drop, Option, Some, None, true≢false, nat_lt, nat_le, refl, ap, sym, ◌∙◌, subst, subst₂, append_assoc, arith, ⊎_elim, le-leb, lt-ltb, le-ltb, encode_utf8}
+use Rattle.std.proofs.Common.{◌≡◌, ℕ, zero, suc, ◌+◌, ◌<◌, ◌≤◌, Bool, true, false, not, ◌&&◌, ◌||◌, cond, List, [], ◌∷◌, ◌++◌, drop, None, true≢false, nat_lt, nat_le, refl, ap, sym, ◌∙◌, subst, append_assoc, arith, ⊎_elim, le-leb, lt-ltb, le-ltb}
 use Rattle.std.specs.Prelude.{◌==◌, if◌then◌else◌}
 use Rattle.std.specs.List.{list_any, list_all, flat_map, filter, range_with_len}
 use Rattle.std.specs.Str.{all_scalars}
-use Rattle.std.specs.Char.{IsScalar}
-use Rattle.std.proofs.lemmas.Bool.{cases_lt, cases_eq, ne_eqb, eq-eqb, eqb-true, and_parts, not-true, or_parts, or_from, cond-true, cond-false, cond_both, and_from}
+use Rattle.std.proofs.lemmas.Bool.{cases_lt, cases_eq, ne_eqb, and_parts, not-true, or_parts, or_from, cond-true}
 use Rattle.std.proofs.lemmas.Bool.Decides.{nat_tests}
 use lib.Utf8.{encode}
 use Rattle.glob_syntax.specs.Marks.{is_negated}
 use Rattle.glob_syntax.specs.Ranges.{ranges, bad_range}
-use Rattle.glob_syntax.specs.ClassBytes.{is_one_of, range_has, ranges_have, folded_have, class_has}
+use Rattle.glob_syntax.specs.ClassBytes.{is_one_of, range_has, ranges_have, class_has}
 use Rattle.ignore_pattern.specs.declared.item.Item.{Item}
 use Rattle.ignore_pattern.specs.Classes.{item_has, class_takes}
 use Rattle.ignore_pattern.specs.Translation.{glob_options, is_written, has_place, beyond_ascii, ascii, body_start, body_end}

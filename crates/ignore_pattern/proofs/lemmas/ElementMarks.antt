@@ -1,17 +1,17 @@
 -- How the text of an element is read, before other text: its marks, and its tokens.
-use Rattle.std.proofs.Common.{◌≡◌, ℕ, zero, suc, ◌+◌, ◌<◌, ◌≤◌, Bool, true, false, not, ◌&&◌, ◌||◌, cond, List, [], ◌∷◌, ◌++◌, length, take, drop, Option, Some, None, Result, Ok, Err, nat_lt, refl, ap, sym, ◌∙◌, subst, arith, lt-ltb, codes, position, take_all, length-append}
+use Rattle.std.proofs.Common.{◌≡◌, ℕ, zero, suc, ◌+◌, Bool, true, false, ◌||◌, cond, List, [], ◌∷◌, ◌++◌, length, take, drop, Option, Some, None, Ok, nat_lt, refl, ap, sym, ◌∙◌, arith, lt-ltb, codes, position, take_all, length-append}
 use Rattle.std.specs.Prelude.{◌==◌}
 use Rattle.std.specs.List.{list_all, prefix_len, position_or_len}
 use Rattle.std.specs.Str.{all_scalars}
 use Rattle.std.specs.Char.{IsScalar}
-use Rattle.std.proofs.lemmas.Bool.{eqb-true, and_parts, and_from, or_parts, cond-true, cond-false, not-true}
+use Rattle.std.proofs.lemmas.Bool.{eqb-true, and_parts, and_from, or_parts, cond-true, cond-false}
 use Rattle.std.proofs.lemmas.List.{take-append-le}
 use Rattle.glob_syntax.specs.declared.fault.Fault.{Fault}
 use Rattle.glob_syntax.specs.Marks.{Mark, Char, One, Stars, Open, Comma, Close, marks, mark_at, class_mark, class_at, members, is_closer, is_negated, unclosed_mark, star_run}
 use Rattle.glob_syntax.specs.Marks as mark
 use Rattle.glob_syntax.specs.Nesting.{nested, with_mark}
 use Rattle.glob_syntax.specs.Ranges.{ranges, bad_range}
-use Rattle.glob_syntax.specs.Stars.{is_run, pairs, last_run, slash_cut, slash_piece, piece}
+use Rattle.glob_syntax.specs.Stars.{is_run, pairs, slash_piece, piece}
 use Rattle.glob_syntax.specs.Token.{Token, Literal, Any, ZeroOrMore, RecursivePrefix, RecursiveSuffix, Group, Tokens, end, and_then, Branches, none, branch, before}
 use Rattle.glob_syntax.specs.Token as token
 use Rattle.glob_syntax.specs.Reading.{Levels, in_branch, in_level, open_level, next_branch, levels}

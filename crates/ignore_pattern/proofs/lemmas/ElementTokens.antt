@@ -1,28 +1,27 @@
 -- The tokens of the text of elements, and what they match.
-use Rattle.std.proofs.Common.{◌≡◌, ◌↔◌, ℕ, zero, suc, ◌+◌, ◌<◌, ◌≤◌, Bool, true, false, true≢false, not, ◌&&◌, ◌||◌, cond, List, [], ◌∷◌, ◌++◌, drop, Option, Some, None, Result, Ok, Err, IsTrue, refl, ap, sym, ◌∙◌, subst, arith, codes, append_assoc, append-nil, ⊎_elim, encode_utf8}
+use Rattle.std.proofs.Common.{◌≡◌, ℕ, zero, ◌<◌, Bool, true, false, true≢false, not, ◌&&◌, ◌||◌, cond, List, [], ◌∷◌, ◌++◌, Option, Some, None, Ok, IsTrue, refl, ap, sym, ◌∙◌, subst, arith, codes, append_assoc}
 use Rattle.std.specs.Prelude.{◌==◌, nat_eq}
-use Rattle.std.specs.List.{list_any, list_all, flat_map, filter}
+use Rattle.std.specs.List.{list_all, flat_map}
 use Rattle.std.specs.Str.{all_scalars, bytes_eq}
 use Rattle.std.specs.Char.{IsScalar}
-use Rattle.std.proofs.lemmas.Bool.{and_parts, and_from, or_parts, cases_Bool}
+use Rattle.std.proofs.lemmas.Bool.{and_parts, and_from, or_parts}
 use Rattle.glob_syntax.specs.Marks.{Mark, marks}
 use Rattle.glob_syntax.specs.Marks as mark
 use Rattle.glob_syntax.specs.Nesting.{nested}
-use Rattle.glob_syntax.specs.Ranges.{ranges, bad_range}
-use Rattle.glob_syntax.specs.ClassBytes.{is_one_of, ranges_have, class_has}
+use Rattle.glob_syntax.specs.Ranges.{ranges}
+use Rattle.glob_syntax.specs.ClassBytes.{is_one_of, class_has}
 use Rattle.glob_syntax.specs.Token.{Token, ZeroOrMore, RecursivePrefix, RecursiveSuffix, Group, Tokens, end, and_then, Branches, none, branch, before}
 use Rattle.glob_syntax.specs.Token as token
-use Rattle.glob_syntax.specs.Reading.{Levels, in_level, levels}
+use Rattle.glob_syntax.specs.Reading.{in_level, levels}
 use Rattle.glob_automaton.specs.Takes.{is_empty, is_one_byte, begins_with_slash, ends_with_slash, some_cut, takes, some_takes, takes_all}
-use Rattle.glob_automaton.proofs.lemmas.Booleans.{and_none, and_both, and_first, and_second, or_either, same_truth}
+use Rattle.glob_automaton.proofs.lemmas.Booleans.{and_none, and_both, and_second, same_truth}
 use Rattle.glob_automaton.proofs.lemmas.Cuts.{cut_of, some_cut-append}
 use Rattle.ignore_pattern.specs.declared.item.Item.{Item}
 use Rattle.ignore_pattern.specs.Classes.{class_takes}
 use Rattle.ignore_pattern.specs.Elements.{Element, Literal, Any, Star, Folders, Everything, Class, is_inner, element_takes, elements_take}
 use Rattle.ignore_pattern.specs.Translation.{glob_options, is_written, is_special, literal_text, body_start, body_end, choice, other_choices, positive, class_text, element_text, joined, elements_text}
-use Rattle.ignore_pattern.proofs.lemmas.Bodies.{IsBody, is_no_closer}
 use Rattle.ignore_pattern.proofs.lemmas.Items.{Linked, ascii_is}
-use Rattle.ignore_pattern.proofs.lemmas.ClassBodies.{IsClass, class_ranges, class_body, class_same, start_is, end_is, choice_has, HasFirst, negated_first}
+use Rattle.ignore_pattern.proofs.lemmas.ClassBodies.{IsClass, class_ranges, class_body, class_same, start_is, end_is, choice_has, negated_first}
 use Rattle.ignore_pattern.proofs.lemmas.ElementMarks.{begins_star, starts_run, Reads, NoSlashes, choices, in_level_twice, reads_literal, reads_any, reads_star, reads_folders, reads_everything, reads_positive, reads_negated, reads_choice}
 
 -- ---- tokens

@@ -1,5 +1,5 @@
 -- The bytes of items that are not ASCII, and the ranges that they are written as.
-use Rattle.std.proofs.Common.{◌≡◌, ℕ, ◌+◌, ◌/◌, ◌%◌, ◌<◌, ◌≤◌, Bool, true, false, not, ◌&&◌, ◌||◌, cond, List, [], ◌∷◌, ◌++◌, Option, Some, None, nat_lt, nat_le, refl, ap, sym, ◌∙◌, subst, subst₂, append_assoc, arith, le-ltb, lt-ltb, ⊎_elim, encode_utf8}
+use Rattle.std.proofs.Common.{◌≡◌, ℕ, ◌+◌, ◌/◌, ◌%◌, ◌<◌, ◌≤◌, Bool, true, false, ◌&&◌, ◌||◌, cond, List, [], ◌∷◌, ◌++◌, Option, Some, None, nat_lt, nat_le, refl, ap, sym, ◌∙◌, subst, subst₂, append_assoc, arith, le-ltb, lt-ltb, ⊎_elim, encode_utf8}
 use Rattle.std.specs.Prelude.{◌==◌}
 use Rattle.std.specs.List.{list_any, flat_map}
 use Rattle.std.specs.Char.{IsScalar}
