@@ -23,8 +23,7 @@ use Rattle.glob_automaton.proofs.lemmas.Cuts.{empty_is, cut_of, some_cut-append}
 use Rattle.glob_automaton.proofs.lemmas.Takes.{ends_push, ends_at}
 use Rattle.glob_groups.specs.Silent.{is_dot, is_prefix_dot_dot, are_silent}
 use Rattle.glob_groups.proofs.lemmas.Components.{Lacks, lacks_append, lacks_cons, encode_lacks, EndsComponent, last_component_at, split}
-use Rattle.globset.specs.Means.{IsRead, tokens_of_glob, glob_means}
-use Rattle.globset.specs.Silent.{silent}
+use Rattle.globset_glob.specs.Means.{IsRead, tokens_of_glob, glob_means}
 use Rattle.ignore_pattern.specs.declared.item.Item.{Item}
 use Rattle.ignore_pattern.specs.declared.place.Place.TheVariants.{Start}
 use Rattle.ignore_pattern.specs.Ends.{begins_with, without_first, ends_with, without_last}
@@ -42,11 +41,11 @@ use Rattle.ignore_pattern.proofs.lemmas.SoundElements.{takes_no_slash, AreWell, 
 -- the glob of this text is read, is not silent, and matches these paths; without a text there are none
 abbrev IsExact : (List ℕ → Bool) → Option (List ℕ) → Type 0
 IsExact matches None = (path : List ℕ) → matches path ≡ false
-IsExact matches (Some text) = IsRead (translated text) × (silent (translated text) ≡ false) × ((path : List ℕ) → glob_means (translated text) path ≡ matches path)
+IsExact matches (Some text) = IsRead (translated text) × (are_silent glob_options (tokens_of_glob (translated text)) ≡ false) × ((path : List ℕ) → glob_means (translated text) path ≡ matches path)
 
 of_tokens : (text : List ℕ) (ts : Tokens) (matches : List ℕ → Bool) → all_scalars text ≡ true → reading glob_options text ≡ Ok ts → is_prefix_alone ts ≡ false → is_prefix_dot_dot ts ≡ false
     → ((path : List ℕ) → takes_all glob_options ts path ≡ matches path) → IsExact matches (Some text)
-unfolding silent glob_means tokens_of_glob
+unfolding glob_means tokens_of_glob
 of_tokens text ts matches s r alone dots same =
     let read : reading glob_options (chars (encode_utf8_all text)) ≡ Ok ts = ap (reading glob_options) (chars-encodes text s) ∙ r in
     let tokens : tokens_of_glob (translated text) ≡ ts = ap (λ (q : Result Tokens Fault). elim q as (λ _. Tokens) [ Ok us ↦ us | Err f ↦ end ]) read in (
