@@ -3,7 +3,7 @@ use Rattle.std.specs.Prelude.{◌≡◌, ℕ, Bool, false, List, Option, Some, N
 use Rattle.std.specs.Char.{IsScalar}
 use Rattle.globset_glob.specs.Means.{GlobValue, IsRead, tokens_of_glob, glob_means}
 use Rattle.glob_groups.specs.Silent.{are_silent}
-use Rattle.ignore_pattern.specs.Patterns.{Pattern, pattern_of_chars, pattern_matches}
+use Rattle.ignore_pattern.specs.Patterns.{Pattern, pattern_of_chars, pattern_of_line, pattern_matches}
 use Rattle.ignore_pattern.specs.Translation.{glob_options, pattern_text}
 
 -- the glob of this text, given as characters, with the options of a translation
@@ -28,3 +28,7 @@ HasMeaning p (Some text) = HasMeaningOf p (translated text)
 -- for each pattern that characters are read as
 abbrev pub TranslationIsExact : Type 0
 TranslationIsExact = (cs : List ℕ) (p : Pattern) → All IsScalar cs → pattern_of_chars cs ≡ Some p → HasMeaning p (pattern_text p)
+
+-- and for the pattern of each line, whatever bytes it has
+abbrev pub LineIsExact : Type 0
+LineIsExact = (line : List ℕ) (p : Pattern) → pattern_of_line line ≡ Some p → HasMeaning p (pattern_text p)

@@ -2,7 +2,7 @@
 use Rattle.std.proofs.Common.{◌≡◌, inl, inr, ℕ, zero, suc, Bool, true, false, true≢false, not, ◌&&◌, ◌||◌, cond, nat_lt, List, [], ◌∷◌, ◌++◌, drop, Option, Some, None, Result, Ok, Err, is_ok, All, IsTrue, refl, ap, sym, ◌∙◌, subst, arith, codes, chars, encode_utf8, encode_utf8_all, ⊎_elim}
 use Rattle.std.specs.Prelude.{◌==◌}
 use Rattle.std.specs.List.{list_all}
-use Rattle.std.specs.Str.{all_scalars}
+use Rattle.std.specs.Str.{all_scalars, is_utf8}
 use Rattle.std.specs.Char.{IsScalar}
 use Rattle.std.proofs.lemmas.Bool.{and_parts, and_from, or_parts, cond_both, not-true}
 use Rattle.std.proofs.lemmas.Str.{chars-encodes}
@@ -26,12 +26,13 @@ use Rattle.glob_groups.proofs.lemmas.Components.{Lacks, lacks_append, lacks_cons
 use Rattle.globset_glob.specs.Means.{IsRead, tokens_of_glob, glob_means}
 use Rattle.ignore_pattern.specs.declared.item.Item.{Item}
 use Rattle.ignore_pattern.specs.declared.place.Place.TheVariants.{Start}
+use Rattle.ignore_pattern.specs.Lines.{line_text}
 use Rattle.ignore_pattern.specs.Ends.{begins_with, without_first, ends_with, without_last}
 use Rattle.ignore_pattern.specs.Classes.{class_takes}
 use Rattle.ignore_pattern.specs.Elements.{Element, Literal, Any, Star, Folders, Everything, Class, is_inner, element_takes, elements_take, elements}
-use Rattle.ignore_pattern.specs.Patterns.{Pattern, has_slash, pattern_with, pattern_between, pattern_of_chars, pattern_matches}
+use Rattle.ignore_pattern.specs.Patterns.{Pattern, has_slash, pattern_with, pattern_between, pattern_of_chars, pattern_of_line, pattern_matches}
 use Rattle.ignore_pattern.specs.Translation.{glob_options, body_start, body_end, element_text, joined, elements_text, needs_braces, after_folders, whole_text, pattern_text}
-use Rattle.ignore_pattern.specs.Meaning.{translated, HasMeaning, TranslationIsExact}
+use Rattle.ignore_pattern.specs.Meaning.{translated, HasMeaning, TranslationIsExact, LineIsExact}
 use Rattle.ignore_pattern.proofs.lemmas.ElementMarks.{starts_run}
 use Rattle.ignore_pattern.proofs.lemmas.ElementTokens.{class_token, positive_token, all_tokens, AreSound, are_apart, elements_read, elements_take_as, elements_none}
 use Rattle.ignore_pattern.proofs.lemmas.SoundElements.{takes_no_slash, AreWell, elements_well}
@@ -372,3 +373,19 @@ pattern_facts cs s =
 -- the law
 pub translation_is_exact : TranslationIsExact
 translation_is_exact cs p s h = has_meaning p (pattern_text p) (pattern_exact p (pattern_facts cs (all_scalar cs s) p h))
+
+-- ---- lines
+
+-- the law for characters that are given as a test
+of_scalars : (cs : List ℕ) (p : Pattern) → all_scalars cs ≡ true → pattern_of_chars cs ≡ Some p → HasMeaning p (pattern_text p)
+of_scalars cs p s h = has_meaning p (pattern_text p) (pattern_exact p (pattern_facts cs s p h))
+
+utf8_scalars : (bytes : List ℕ) → is_utf8 bytes ≡ true → all_scalars (chars bytes) ≡ true
+unfolding is_utf8
+utf8_scalars bytes h = and_first (all_scalars (chars bytes)) _ h
+
+pub line_is_exact : LineIsExact
+unfolding pattern_of_line
+line_is_exact line p =
+    cond_both (is_utf8 (line_text line)) (pattern_of_chars (chars (line_text line))) None (λ r. r ≡ Some p → HasMeaning p (pattern_text p))
+    (λ e h. of_scalars (chars (line_text line)) p (utf8_scalars (line_text line) e) h) (λ e h. absurd cc)
