@@ -1,14 +1,11 @@
 -- The glob of a pattern has the pattern's meaning. This is the contract of a function of the module `laws`.
-use Rattle.std.specs.Prelude.{◌≡◌, ℕ, Bool, false, List, Option, Some, None, All, ◌<◌, encode_utf8_all}
+use Rattle.std.specs.Prelude.{◌≡◌, ℕ, false, List, Option, Some, None, All}
 use Rattle.std.specs.Char.{IsScalar}
 use Rattle.globset_glob.specs.Means.{GlobValue, IsRead, tokens_of_glob, glob_means}
 use Rattle.glob_groups.specs.Silent.{are_silent}
-use Rattle.ignore_pattern.specs.Patterns.{Pattern, pattern_of_chars, pattern_of_line, pattern_matches}
-use Rattle.ignore_pattern.specs.Translation.{glob_options, pattern_text}
-
--- the glob of this text, given as characters, with the options of a translation
-abbrev pub translated : List ℕ → GlobValue
-translated text = record { text = encode_utf8_all text; options = glob_options }
+use Rattle.ignore_pattern.specs.Patterns.{Pattern, pattern_of_chars, pattern_matches}
+use Rattle.ignore_pattern.specs.Translation.{pattern_text}
+use Rattle.ignore_pattern.specs.Globs.{translated}
 
 -- A glob that has the meaning of a pattern: it is read, it is not silent, and it matches the paths that the pattern matches.
 pub record HasMeaningOf (p : Pattern) (g : GlobValue) : Type 0 where
@@ -28,7 +25,3 @@ HasMeaning p (Some text) = HasMeaningOf p (translated text)
 -- for each pattern that characters are read as
 abbrev pub TranslationIsExact : Type 0
 TranslationIsExact = (cs : List ℕ) (p : Pattern) → All IsScalar cs → pattern_of_chars cs ≡ Some p → HasMeaning p (pattern_text p)
-
--- and for the pattern of each line, whatever bytes it has
-abbrev pub LineIsExact : Type 0
-LineIsExact = (line : List ℕ) (p : Pattern) → pattern_of_line line ≡ Some p → HasMeaning p (pattern_text p)

@@ -1,6 +1,18 @@
 //! Lines of ignore files: what git reads them as, and the globs that have the same meaning.
 #![tactic(auto)]
 
-pub mod item;
+mod class;
+mod class_text;
+mod element;
+mod ends;
+mod item;
 pub mod laws;
-pub mod place;
+mod line;
+mod pattern;
+mod place;
+mod text;
+
+pub use pattern::{IgnorePattern, pattern_of_line};
+
+#[cfg(test)]
+mod tests;

@@ -9,6 +9,7 @@ use Rattle.glob_syntax.specs.Ranges.{chain, ranges, bad_chain, bad_range}
 use Rattle.glob_syntax.specs.declared.fault.Fault.{Fault}
 use Rattle.glob_syntax.specs.declared.fault.Fault.TheVariants.{InvalidRange}
 use Rattle.glob_syntax.specs.ClassBytes.{range_has, ranges_have}
+use Rattle.ignore_pattern.proofs.lemmas.Booleans.{or_assoc}
 
 -- ---- what follows a chain
 
@@ -137,7 +138,3 @@ body_filtered test a (suc n) body rs plain b = by_case (test a) refl (body_filte
 pub have_append : (rs ss : List (ℕ × ℕ)) (byte : ℕ) → ranges_have (rs ++ ss) byte ≡ (ranges_have rs byte || ranges_have ss byte)
 have_append [] ss byte = refl
 have_append (r ∷ rs) ss byte = ap (λ t. range_has r byte || t) (have_append rs ss byte) ∙ or_assoc (range_has r byte) (ranges_have rs byte) (ranges_have ss byte)
-  where
-    or_assoc : (p q r : Bool) → (p || (q || r)) ≡ ((p || q) || r)
-    or_assoc true q r = refl
-    or_assoc false q r = refl

@@ -12,27 +12,16 @@ use Rattle.glob_syntax.specs.ClassBytes.{is_one_of, range_has, ranges_have, clas
 use Rattle.ignore_pattern.specs.declared.item.Item.{Item}
 use Rattle.ignore_pattern.specs.Classes.{item_has, class_takes}
 use Rattle.ignore_pattern.specs.Translation.{glob_options, is_written, has_place, beyond_ascii, ascii, body_start, body_end}
+use Rattle.ignore_pattern.proofs.lemmas.Booleans.{or_none, and_true, and_none}
 use Rattle.ignore_pattern.proofs.lemmas.Bodies.{IsBody, IsPlain, is_no_closer, single_ranges, single_bad, body_none, body_hyphen, body_single, alone_filtered, body_filtered, have_append}
 use Rattle.ignore_pattern.proofs.lemmas.Items.{Linked, beyond_ranges, body_items, items_beyond, items_low, items_begin, BeginsFar, ascii_is, same_has}
-
-or_none : (p : Bool) → (p || false) ≡ p
-or_none true = refl
-or_none false = refl
 
 -- ---- ranges
 
 -- a character below 128 that is written or not
 one_has : (q : Bool) (c byte : ℕ) → c < 128 → ranges_have (cond q ((c, c) ∷ []) []) byte ≡ ((byte == c) && q)
-one_has true c byte low = or_none (range_has (c, c) byte) ∙ same_has c byte ∙ ap (is_one_of byte) (ascii_is c low) ∙ or_none (byte == c) ∙ and_true (byte == c)
-  where
-    and_true : (p : Bool) → p ≡ (p && true)
-    and_true true = refl
-    and_true false = refl
-one_has false c byte low = and_false (byte == c)
-  where
-    and_false : (p : Bool) → false ≡ (p && false)
-    and_false true = refl
-    and_false false = refl
+one_has true c byte low = or_none (range_has (c, c) byte) ∙ same_has c byte ∙ ap (is_one_of byte) (ascii_is c low) ∙ or_none (byte == c) ∙ sym (and_true (byte == c))
+one_has false c byte low = sym (and_none (byte == c))
 
 filtered_step : (byte a n : ℕ) (q t : Bool) → (byte ≡ a → q ≡ t)
     → (((byte == a) && q) || ((nat_le (a + 1) byte && nat_lt byte (a + 1 + n)) && t)) ≡ ((nat_le a byte && nat_lt byte (a + suc n)) && t)

@@ -14,12 +14,13 @@ use Rattle.glob_syntax.specs.Token.{Token, ZeroOrMore, RecursivePrefix, Recursiv
 use Rattle.glob_syntax.specs.Token as token
 use Rattle.glob_syntax.specs.Reading.{in_level, levels}
 use Rattle.glob_automaton.specs.Takes.{is_empty, is_one_byte, begins_with_slash, ends_with_slash, some_cut, takes, some_takes, takes_all}
-use Rattle.glob_automaton.proofs.lemmas.Booleans.{and_none, and_both, and_second, same_truth}
+use Rattle.glob_automaton.proofs.lemmas.Booleans.{and_both, and_second, same_truth}
 use Rattle.glob_automaton.proofs.lemmas.Cuts.{cut_of, some_cut-append}
 use Rattle.ignore_pattern.specs.declared.item.Item.{Item}
 use Rattle.ignore_pattern.specs.Classes.{class_takes}
 use Rattle.ignore_pattern.specs.Elements.{Element, Literal, Any, Star, Folders, Everything, Class, is_inner, element_takes, elements_take}
 use Rattle.ignore_pattern.specs.Translation.{glob_options, is_written, is_special, literal_text, body_start, body_end, choice, other_choices, positive, class_text, element_text, joined, elements_text}
+use Rattle.ignore_pattern.proofs.lemmas.Booleans.{or_none, and_true, and_none}
 use Rattle.ignore_pattern.proofs.lemmas.Items.{Linked, ascii_is}
 use Rattle.ignore_pattern.proofs.lemmas.ClassBodies.{IsClass, class_ranges, class_body, class_same, start_is, end_is, choice_has, negated_first}
 use Rattle.ignore_pattern.proofs.lemmas.ElementMarks.{begins_star, starts_run, Reads, NoSlashes, choices, in_level_twice, reads_literal, reads_any, reads_star, reads_folders, reads_everything, reads_positive, reads_negated, reads_choice}
@@ -217,20 +218,9 @@ elements_read (e ∷ es) text s a h =
 
 -- ---- what one token matches
 
-same_cuts : (f g : List ℕ → List ℕ → Bool) → ((x y : List ℕ) → f x y ≡ g x y) → (b : List ℕ) → some_cut f b ≡ some_cut g b
-same_cuts f g h b = λ i. some_cut (λ x y. h x y i) b
-
 no_cut : (test : List ℕ → List ℕ → Bool) → ((x y : List ℕ) → test x y ≡ false) → (b : List ℕ) → some_cut test b ≡ false
 no_cut test h [] = h [] []
 no_cut test h (c ∷ cs) = (λ i. h [] (c ∷ cs) i || no_cut (λ x y. test (c ∷ x) y) (λ x y. h (c ∷ x) y) cs i)
-
-and_true : (p : Bool) → (p && true) ≡ p
-and_true true = refl
-and_true false = refl
-
-or_none : (p : Bool) → (p || false) ≡ p
-or_none true = refl
-or_none false = refl
 
 -- the back is empty
 whole_cut : (test : List ℕ → Bool) (b : List ℕ) → some_cut (λ x y. test x && is_empty y) b ≡ test b

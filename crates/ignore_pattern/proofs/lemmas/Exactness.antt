@@ -32,7 +32,8 @@ use Rattle.ignore_pattern.specs.Classes.{class_takes}
 use Rattle.ignore_pattern.specs.Elements.{Element, Literal, Any, Star, Folders, Everything, Class, is_inner, element_takes, elements_take, elements}
 use Rattle.ignore_pattern.specs.Patterns.{Pattern, has_slash, pattern_with, pattern_between, pattern_of_chars, pattern_of_line, pattern_matches}
 use Rattle.ignore_pattern.specs.Translation.{glob_options, body_start, body_end, element_text, joined, elements_text, needs_braces, after_folders, whole_text, pattern_text}
-use Rattle.ignore_pattern.specs.Meaning.{translated, HasMeaning, TranslationIsExact, LineIsExact}
+use Rattle.ignore_pattern.specs.Globs.{translated}
+use Rattle.ignore_pattern.specs.Meaning.{HasMeaning, TranslationIsExact}
 use Rattle.ignore_pattern.proofs.lemmas.ElementMarks.{starts_run}
 use Rattle.ignore_pattern.proofs.lemmas.ElementTokens.{class_token, positive_token, all_tokens, AreSound, are_apart, elements_read, elements_take_as, elements_none}
 use Rattle.ignore_pattern.proofs.lemmas.SoundElements.{takes_no_slash, AreWell, elements_well}
@@ -384,8 +385,9 @@ utf8_scalars : (bytes : List ℕ) → is_utf8 bytes ≡ true → all_scalars (ch
 unfolding is_utf8
 utf8_scalars bytes h = and_first (all_scalars (chars bytes)) _ h
 
-pub line_is_exact : LineIsExact
+-- the law for the pattern of a line
+pub line_pattern : (line : List ℕ) (p : Pattern) → pattern_of_line line ≡ Some p → HasMeaning p (pattern_text p)
 unfolding pattern_of_line
-line_is_exact line p =
+line_pattern line p =
     cond_both (is_utf8 (line_text line)) (pattern_of_chars (chars (line_text line))) None (λ r. r ≡ Some p → HasMeaning p (pattern_text p))
     (λ e h. of_scalars (chars (line_text line)) p (utf8_scalars (line_text line) e) h) (λ e h. absurd cc)

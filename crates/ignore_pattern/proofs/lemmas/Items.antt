@@ -13,35 +13,20 @@ use Rattle.ignore_pattern.specs.declared.item.ClassName.{ClassName}
 use Rattle.ignore_pattern.specs.declared.item.ClassName.TheVariants.{Alnum, Alpha, Blank, Cntrl, Digit, Graph, Lower, Print, Punct, Space, Upper, Xdigit}
 use Rattle.ignore_pattern.specs.Classes.{named_has, item_has, is_odd_range}
 use Rattle.ignore_pattern.specs.Translation.{spelled, first_beyond, beyond_ascii}
+use Rattle.ignore_pattern.proofs.lemmas.Booleans.{or_none, or_assoc}
 use Rattle.ignore_pattern.proofs.lemmas.Bodies.{IsBody, IsPlain, body_spelled, have_append}
 
 -- ---- bytes of characters
 
 one_of_push : (byte : ℕ) (bs : List ℕ) (last : ℕ) → is_one_of byte (bs ++ last ∷ []) ≡ (is_one_of byte bs || (byte == last))
 one_of_push byte [] last = or_none (byte == last)
-  where
-    or_none : (p : Bool) → (p || false) ≡ p
-    or_none true = refl
-    or_none false = refl
 one_of_push byte (b ∷ bs) last = ap (λ t. (byte == b) || t) (one_of_push byte bs last) ∙ or_assoc (byte == b) (is_one_of byte bs) (byte == last)
-  where
-    or_assoc : (p q r : Bool) → (p || (q || r)) ≡ ((p || q) || r)
-    or_assoc true q r = refl
-    or_assoc false q r = refl
 
 from_last_push : (byte : ℕ) (bs : List ℕ) (last upper : ℕ) → is_from_last byte (bs ++ last ∷ []) upper ≡ (is_one_of byte bs || (nat_le last byte && nat_le byte upper))
 from_last_push byte [] last upper = refl
-from_last_push byte (b ∷ []) last upper = or_none (byte == b) (nat_le last byte && nat_le byte upper)
-  where
-    or_none : (p q : Bool) → (p || q) ≡ ((p || false) || q)
-    or_none true q = refl
-    or_none false q = refl
+from_last_push byte (b ∷ []) last upper = or_assoc (byte == b) false (nat_le last byte && nat_le byte upper)
 from_last_push byte (b ∷ d ∷ bs) last upper =
     ap (λ t. (byte == b) || t) (from_last_push byte (d ∷ bs) last upper) ∙ or_assoc (byte == b) (is_one_of byte (d ∷ bs)) (nat_le last byte && nat_le byte upper)
-  where
-    or_assoc : (p q r : Bool) → (p || (q || r)) ≡ ((p || q) || r)
-    or_assoc true q r = refl
-    or_assoc false q r = refl
 
 -- the UTF-8 of a character that is not ASCII: its first byte, and its last one
 pub record IsLong (c : ℕ) : Type 0 where
@@ -315,10 +300,6 @@ member_same byte c high = cond_both (nat_lt c 128) _ _ (λ rs. is_one_of byte (e
     let e : ((byte == c) || false) ≡ false = grind (arith, nat_tests) in
     ap (is_one_of byte) (ascii_is c b) ∙ e)
     (λ far. sym (or_none (range_has (c, c) byte) ∙ same_has c byte))
-  where
-    or_none : (p : Bool) → (p || false) ≡ p
-    or_none true = refl
-    or_none false = refl
 
 joined_member : (p m b ri rb : Bool) → m ≡ b → (m || ri) ≡ (m || rb) → (p || (m || ri)) ≡ (p || (b || rb))
 joined_member p m b ri rb e h = ap (λ t. p || t) (h ∙ ap (λ t. t || rb) e)

@@ -12,7 +12,7 @@ use Rattle.ignore_pattern.specs.declared.item.ClassName.{ClassName}
 use Rattle.ignore_pattern.specs.declared.place.Place.{Place}
 use Rattle.ignore_pattern.specs.declared.place.Place.TheVariants.{Elsewhere, AfterSlash}
 use Rattle.ignore_pattern.specs.Ends.{ends_with, without_last}
-use Rattle.ignore_pattern.specs.Classes.{is_odd_range, class_named, one_item, range_at, hyphen_at, name_at, bracket_at, escape_at, item_at, ClassAt, with_character, with_item, class_items, is_negated}
+use Rattle.ignore_pattern.specs.Classes.{is_odd_range, class_named, one_item, range_at, escaped_range_at, hyphen_at, name_at, bracket_at, escape_at, item_at, ClassAt, with_character, with_item, class_items, is_negated}
 use Rattle.ignore_pattern.specs.Elements.{Element, Literal, Any, Star, Folders, Everything, Class, ElementAt, at, may_cross, place_after, crossing_at, run_at, class_at, escaped_at, element_at, with_element, elements}
 use Rattle.ignore_pattern.specs.Patterns.{has_slash}
 use Rattle.ignore_pattern.proofs.lemmas.Items.{Linked}
@@ -60,16 +60,16 @@ range_read : (x y more : ℕ) → IsScalar x → IsScalar y → IfRead (Some x) 
 range_read x y more a b = cond_both (is_odd_range x y) _ _ (IfRead (Some x)) (λ e. not_read (Some x))
     (λ e. is_item (Some x) _ (record { links = λ items h. (refl, a, b, e, range_last y items h); scalar = range_scalar y b }))
 
+escaped_range_read : (x : ℕ) (cs : List ℕ) → IsScalar x → all_scalars cs ≡ true → IfRead (Some x) (escaped_range_at x cs)
+escaped_range_read x [] a s = not_read (Some x)
+escaped_range_read x (y ∷ cs) a s = range_read x y 2 a (and_parts _ _ s).0
+
 hyphen_read : (x : ℕ) (cs : List ℕ) → IsScalar x → all_scalars cs ≡ true → IfRead (Some x) (hyphen_at x cs)
 hyphen_read x [] a s = not_read (Some x)
-hyphen_read x (y ∷ []) a s =
-    cond_both (y == 93) _ _ (IfRead (Some x)) (λ e. member_read (Some x) 45 0 refl)
-    (λ e. cond_both (y == 92) _ _ (IfRead (Some x)) (λ f. not_read (Some x)) (λ f. range_read x y 1 a (and_parts _ _ s).0))
-hyphen_read x (y ∷ z ∷ cs) a s =
+hyphen_read x (y ∷ cs) a s =
     let p = and_parts _ _ s in
-    let q = and_parts _ _ p.1 in
     cond_both (y == 93) _ _ (IfRead (Some x)) (λ e. member_read (Some x) 45 0 refl)
-    (λ e. cond_both (y == 92) _ _ (IfRead (Some x)) (λ f. range_read x z 2 a q.0) (λ f. range_read x y 1 a p.0))
+    (λ e. cond_both (y == 92) _ _ (IfRead (Some x)) (λ f. escaped_range_read x cs a p.1) (λ f. range_read x y 1 a p.0))
 
 named_read : (last : Option ℕ) (r : Option ClassName) (more : ℕ) → IfRead last (elim r as (λ _. Option ItemAt) [ None ↦ None | Some name ↦ one_item (Named name) more None ])
 named_read last None more = not_read last

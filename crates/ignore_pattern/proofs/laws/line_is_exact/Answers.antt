@@ -1,4 +1,4 @@
-use Rattle.ignore_pattern.proofs.lemmas.Exactness.{line_is_exact}
+use Rattle.ignore_pattern.proofs.lemmas.LineAnswers.{line_is_exact}
 use Rattle.ignore_pattern.proofs.laws.line_is_exact.Goals as goal
 
 pub returns : goal.returns

@@ -1,0 +1,19 @@
+-- Elements as contracts see them, whatever memory holds them.
+use Rattle.std.specs.Prelude.{Option}
+use Rattle.ignore_pattern.specs.declared.element.Element.{Element}
+use Rattle.ignore_pattern.specs.declared.element.Element.TheVariants as held
+use Rattle.ignore_pattern.specs.declared.element.ElementAt.{ElementAt}
+use Rattle.ignore_pattern.specs.Elements as elements
+
+-- an element; that of a class by its items
+abbrev pub element_of : Element → elements.Element
+element_of (held.Literal c) = elements.Literal c
+element_of held.Any = elements.Any
+element_of held.Star = elements.Star
+element_of held.Folders = elements.Folders
+element_of held.Everything = elements.Everything
+element_of (held.Class negated items) = elements.Class negated items.items
+
+-- what was read at one position
+abbrev pub at_of : ElementAt → elements.ElementAt
+at_of e = elements.at (element_of e.element) e.more e.place
