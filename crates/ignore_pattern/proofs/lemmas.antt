@@ -1,6 +1,7 @@
 pub mod Ascii
-pub mod Booleans
 pub mod Bodies
+pub mod Booleans
+pub mod Braces
 pub mod ClassBodies
 pub mod Classes
 pub mod ElementMarks
@@ -12,5 +13,6 @@ pub mod Items
 pub mod LineAnswers
 pub mod Lines
 pub mod Lists
+pub mod Patterns
 pub mod SoundElements
 pub mod Texts

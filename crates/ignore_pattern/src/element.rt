@@ -82,7 +82,7 @@ fn run_at(crosses: bool, more: usize, rest: &[char]) -> ElementAt
 }
 
 /// Returns how many stars are at the front.
-fn count_stars(rest: &[char]) -> usize
+pub fn count_stars(rest: &[char]) -> usize
     ensures value { result ≡ prefix_len (λ d. d == 42) rest.now }
     ensures within { result ≤ length rest.now }
 {

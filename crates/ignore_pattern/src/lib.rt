@@ -9,6 +9,7 @@ mod item;
 pub mod laws;
 mod line;
 mod pattern;
+mod pattern_text;
 mod place;
 mod text;
 

@@ -26,6 +26,19 @@ encode_high c big = λ k below. elim (cases_lt (get_or (encode c) k 0) 128) [
   | inr h ↦ h
 ]
 
+some_bytes : (y : ℕ) → 0 < length (encode y)
+some_bytes y = omega (arith, length-encode y, len_utf8_bounds y)
+
+cell_of : (bs : List ℕ) → 0 < length bs → (b : ℕ) × (rest : List ℕ) × (bs ≡ b ∷ rest) × (get_or bs 0 0 ≡ b)
+cell_of [] some = absurd (omega arith)
+cell_of (b ∷ bs) some = (b, bs, refl, refl)
+
+-- the bytes of a character that is not ASCII begin with one that is not
+pub first_byte : (c : ℕ) → 128 ≤ c → (b : ℕ) × (rest : List ℕ) × (encode c ≡ b ∷ rest) × (128 ≤ b)
+first_byte c big =
+    let f = cell_of (encode c) (some_bytes c) in
+    (f.0, f.1, f.2, subst (λ (x : ℕ). 128 ≤ x) f.3 (encode_high c big 0 (some_bytes c)))
+
 module _ (c : ℕ) (small : c < 128) where
   not_one_of : (bs : List ℕ) → AreHigh bs → is_one_of c bs ≡ false
   not_one_of [] high = refl
@@ -57,9 +70,6 @@ module _ (c : ℕ) (small : c < 128) where
     | inl low ↦ rw (encode_ascii m low) (or_false (c == m))
     | inr big ↦ rw (not_one_of (encode m) (encode_high m big), ne_eqb c m (λ e. omega arith)) refl
   ]
-
-  some_bytes : (y : ℕ) → 0 < length (encode y)
-  some_bytes y = omega (arith, length-encode y, len_utf8_bounds y)
 
   others_high : (y : ℕ) (b : ℕ) (bs : List ℕ) → encode y ≡ b ∷ bs → AreHigh bs
   others_high y b bs e = elim (cases_lt y 128) [

@@ -24,11 +24,25 @@ unfolding elements_text
 text_with e None = joined_none (element_text e)
 text_with e (Some es) = refl
 
+-- the elements after one that was read, or was not
+abbrev pub after_read : Bool → List ℕ → Option ElementAt → Option (List Element)
+after_read whole cs None = None
+after_read whole cs (Some e) = with_element e.element (elements whole e.place e.more cs)
+
+read_is : (whole : Bool) (cs : List ℕ) (x : Option ElementAt) → after_read whole cs x ≡ elim x [ None ↦ None | Some e ↦ with_element e.element (elements whole e.place e.more cs) ]
+read_is whole cs None = refl
+read_is whole cs (Some e) = refl
+
+pub elements_step : (whole : Bool) (place : Place) (c : ℕ) (cs : List ℕ) (o : Option ElementAt) → o ≡ element_at whole place c cs → after_read whole cs o ≡ elements whole place zero (c ∷ cs)
+unfolding elements
+elements_step whole place c cs o e = ap (after_read whole cs) e ∙ read_is whole cs (element_at whole place c cs)
+
 pub text_step : (whole : Bool) (place : Place) (c : ℕ) (cs : List ℕ) (e : ElementAt) → Some e ≡ element_at whole place c cs
     → text_from whole place zero (c ∷ cs) ≡ joined (element_text e.element) (text_from whole e.place zero (drop e.more cs))
-unfolding elements
 text_step whole place c cs e found =
-    rw (sym found) (text_with e.element (elements whole e.place e.more cs) ∙ ap (λ (o : Option (List Element)). joined (element_text e.element) (option_and_then elements_text o)) (skip whole e.place e.more cs))
+    ap (option_and_then elements_text) (sym (elements_step whole place c cs (Some e) found))
+    ∙ text_with e.element (elements whole e.place e.more cs)
+    ∙ ap (λ (o : Option (List Element)). joined (element_text e.element) (option_and_then elements_text o)) (skip whole e.place e.more cs)
 
 followed_joined : (bytes text : List ℕ) (o : Option (List ℕ)) → followed (bytes ++ encode_utf8_all text) o ≡ followed bytes (joined (Some text) o)
 followed_joined bytes text None = refl
@@ -55,8 +69,7 @@ next_step whole place c cs bytes new e (Some s) found done next =
     rw (next.0, next.1) (written_one bytes new (element_text e.element) (text_from whole e.place zero (drop e.more cs)) done ∙ ap (followed bytes) (sym (text_step whole place c cs e found)))
 
 pub unreadable : (whole : Bool) (place : Place) (c : ℕ) (cs bytes : List ℕ) → None ≡ element_at whole place c cs → None ≡ followed bytes (text_from whole place zero (c ∷ cs))
-unfolding elements
-unreadable whole place c cs bytes none = rw (sym none) refl
+unreadable whole place c cs bytes none = ap (λ (o : Option (List Element)). followed bytes (option_and_then elements_text o)) (elements_step whole place c cs None none)
 
 pub ends : (bytes : List ℕ) (whole : Bool) (place : Place) (rest : List ℕ) → length rest ≡ 0 → Some bytes ≡ followed bytes (text_from whole place zero rest)
 unfolding elements elements_text

@@ -1,7 +1,9 @@
 -- Texts that are written piece by piece. What is written is bytes, and the definitions speak of characters.
-use Rattle.std.specs.Prelude.{ℕ, Bool, true, false, List, [], ◌∷◌, ◌++◌, zero, drop, Option, Some, None, encode_utf8_all, codes, if◌then◌else◌}
+use Rattle.std.specs.Prelude.{ℕ, Bool, true, false, List, [], ◌∷◌, ◌++◌, zero, suc, ◌+◌, ◌==◌, drop, Option, Some, None, encode_utf8_all, codes, if◌then◌else◌}
+use Rattle.std.specs.List.{prefix_len}
 use Rattle.std.specs.Str.{bytes_eq}
 use Rattle.std.specs.Option.{option_and_then}
+use Rattle.ignore_pattern.specs.Ends.{begins_with}
 use Rattle.ignore_pattern.specs.Elements.{Element, elements}
 use Rattle.ignore_pattern.specs.declared.place.Place.{Place}
 use Rattle.ignore_pattern.specs.Translation.{elements_text, after_folders, whole_text}
@@ -33,3 +35,13 @@ text_of whole (e ∷ es) = if whole then whole_text (e ∷ es) else after_folder
 -- a text that begins with `**/`, with braces around these if nothing or `..` is after them
 abbrev pub mended : List ℕ → List ℕ
 mended text = if bytes_eq text (codes "**/") then codes "{**/}" else (if bytes_eq text (codes "**/..") then codes "{**/}.." else text)
+
+-- How many characters belong to a `**/` at the start, if there is one, where the stars after the first one are `more`, and `rest` follows them.
+abbrev pub folders_after : ℕ → List ℕ → Option ℕ
+folders_after zero rest = None
+folders_after (suc k) rest = if begins_with 47 rest then Some (suc k + 2) else None
+
+-- and at the start of these characters
+abbrev pub folders_at : List ℕ → Option ℕ
+folders_at [] = None
+folders_at (c ∷ cs) = if c == 42 then (let n = prefix_len (λ d. d == 42) cs in folders_after n (drop n cs)) else None
