@@ -3,7 +3,7 @@ use Rattle.std.specs.Prelude.{ℕ, zero, suc, ◌+◌, ◌%◌, Bool, false, not
 use Rattle.std.specs.Str.{bytes_eq}
 use Rattle.std.specs.List.{list_any, position}
 use Rattle.std.specs.Char.{is_ascii_alphabetic, is_ascii_alphanumeric, is_ascii_digit, is_ascii_hexdigit, is_ascii_lowercase, is_ascii_uppercase, is_ascii_punctuation, is_ascii_graphic, is_ascii_control}
-use Rattle.globset.specs.ClassBytes.{is_one_of, is_spanned}
+use Rattle.globset_glob.specs.ClassBytes.{is_one_of, is_spanned}
 use Rattle.ignore_pattern.specs.Ends.{ends_with, without_last}
 use Rattle.ignore_pattern.specs.declared.item.ClassName.{ClassName}
 use Rattle.ignore_pattern.specs.declared.item.ClassName.TheVariants.{Alnum, Alpha, Blank, Cntrl, Digit, Graph, Lower, Print, Punct, Space, Upper, Xdigit}

@@ -6,4 +6,5 @@ pub mod Patterns
 pub mod Translation
 pub mod Globs
 pub mod Meaning
+pub mod Answer
 pub mod inner

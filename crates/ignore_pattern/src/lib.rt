@@ -6,6 +6,7 @@ mod class_text;
 mod element;
 mod ends;
 mod item;
+pub mod laws;
 mod line;
 mod pattern;
 mod pattern_text;

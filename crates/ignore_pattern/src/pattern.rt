@@ -12,7 +12,7 @@ ghost use Rattle.ignore_pattern.specs.declared.place.Place.TheVariants.{Start};
 use crate::ends::before_last;
 use crate::line::line_text;
 use crate::pattern_text::text_of;
-use globset::{Error, Glob, GlobBuilder};
+use globset_glob::{Error, Glob, GlobBuilder};
 use std::alloc::{AllocError, Global};
 use std::str;
 

@@ -3,7 +3,7 @@ use Rattle.std.proofs.Common.{◌≡◌, ℕ, suc, ◌<◌, ◌≤◌, Bool, tru
 use Rattle.std.proofs.lemmas.Bool.{cases_lt, ne_eqb, le-leb, lt-leb}
 use Rattle.std.proofs.lemmas.Str.{encode_ascii, inside_one, length-encode, len_utf8_bounds}
 use lib.Utf8.{encode}
-use Rattle.globset.specs.ClassBytes.{is_one_of, is_from_last, is_spanned}
+use Rattle.globset_glob.specs.ClassBytes.{is_one_of, is_from_last, is_spanned}
 
 or_false : (b : Bool) → (b || false) ≡ b
 or_false true = refl
