@@ -14,5 +14,6 @@ pub mod LineAnswers
 pub mod Lines
 pub mod Lists
 pub mod Patterns
+pub mod Results
 pub mod SoundElements
 pub mod Texts

@@ -11,6 +11,7 @@ mod line;
 mod pattern;
 mod pattern_text;
 mod place;
+mod reading;
 mod text;
 
 pub use pattern::{IgnorePattern, pattern_of_line};

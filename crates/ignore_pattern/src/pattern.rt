@@ -1,20 +1,14 @@
 //! The pattern of a line, as a glob.
 
-ghost use Rattle.std.specs.Prelude.{◌≡◌, zero, IfOk};
-ghost use Rattle.std.specs.Option.{option_and_then};
-ghost use Rattle.std.specs.Str.{chars};
-ghost use Rattle.ignore_pattern.specs.Elements.{elements};
-ghost use Rattle.ignore_pattern.specs.Patterns.{has_slash, pattern_with, pattern_between, pattern_after, pattern_of_chars};
+ghost use Rattle.std.specs.Prelude.{◌≡◌, IfOk, IfErr};
+ghost use Rattle.globset_glob.specs.Errors.{IsRefusalOf, out_of_memory};
+ghost use Rattle.ignore_pattern.specs.Answer.{IsPatternOf};
+ghost use Rattle.ignore_pattern.specs.Globs.{glob_of_line};
 ghost use Rattle.ignore_pattern.specs.Translation.{glob_options};
-ghost use Rattle.ignore_pattern.specs.Globs.{glob_of_pattern, glob_of_line};
-ghost use Rattle.ignore_pattern.specs.declared.place.Place.TheVariants.{Start};
 
-use crate::ends::before_last;
-use crate::line::line_text;
-use crate::pattern_text::text_of;
+use crate::reading::read_line;
 use globset_glob::{Error, Glob, GlobBuilder};
-use std::alloc::{AllocError, Global};
-use std::str;
+use std::alloc::Global;
 
 /// What a line of an ignore file says, with the glob that has its meaning.
 #[derive(Debug, Drop)]
@@ -29,104 +23,34 @@ pub struct IgnorePattern {
 
 /// Returns the pattern of a line, without its line feed.
 ///
-/// Returns `None` if the line has none or its pattern matches nothing.
+/// Returns `None` if the line has no pattern, or its pattern matches nothing: then the line matches nothing. This takes time and
+/// memory that follow the length of the line, and 128 steps more for each item of a class.
 ///
 /// # Errors
 ///
-/// Returns an error if memory runs out.
+/// Returns an error if memory runs out, and no other: the text of the glob can always be read.
 pub fn pattern_of_line(alloc: Global, line: &[u8]) -> Result<Option<IgnorePattern>, Error>
-    ensures { IfOk result (λ r. r ≡ glob_of_line line.now) }
+    ensures pattern { IfOk result (λ r. IsPatternOf line.now r) }
+    ensures value { IfOk result (λ r. r ≡ glob_of_line line.now) }
+    ensures err { IfErr result (λ e. e ≡ out_of_memory) }
 {
-    match str::from_utf8(line_text(line)) {
-        Err(_) => Ok(None),
-        Ok(text) => {
-            let characters = characters(alloc, text)?;
-            pattern_of_chars(alloc, &characters)
-        }
-    }
-}
-
-/// Returns the characters of a text. Returns an error if memory runs out.
-fn characters(alloc: Global, text: &str) -> Result<Vec<char>, AllocError>
-    ensures { IfOk result (λ v. v.items ≡ chars text.now) }
-{
-    text.chars().collect(alloc)
-}
-
-/// Returns the pattern of the characters of a line.
-#[tactic(auto, unfolding(crate::specs::Patterns::pattern_of_chars))]
-fn pattern_of_chars(alloc: Global, cs: &[char]) -> Result<Option<IgnorePattern>, Error>
-    ensures { IfOk result (λ r. r ≡ option_and_then glob_of_pattern (pattern_of_chars cs.now)) }
-{
-    match cs {
-        ['#', ..] => Ok(None),
-        ['!', after @ ..] => pattern_after(alloc, true, after),
-        _ => pattern_after(alloc, false, cs),
-    }
-}
-
-/// Returns the pattern of the characters after the `!`, if there is one.
-fn pattern_after(
-    alloc: Global,
-    is_negated: bool,
-    cs: &[char],
-) -> Result<Option<IgnorePattern>, Error>
-    ensures { IfOk result (λ r. r ≡ option_and_then glob_of_pattern (pattern_after is_negated cs.now)) }
-{
-    match before_last('/', cs) {
-        Some(front) => pattern_between(alloc, is_negated, true, front),
-        None => pattern_between(alloc, is_negated, false, cs),
-    }
-}
-
-/// Returns the pattern of the characters between the `!` and the `/` at the end, if these are there.
-fn pattern_between(
-    alloc: Global,
-    is_negated: bool,
-    is_folders_only: bool,
-    cs: &[char],
-) -> Result<Option<IgnorePattern>, Error>
-    ensures { IfOk result (λ r. r ≡ option_and_then glob_of_pattern (pattern_between is_negated is_folders_only cs.now)) }
-{
-    match cs {
-        ['/', after @ ..] => pattern_with(alloc, is_negated, is_folders_only, true, after),
-        _ => pattern_with(alloc, is_negated, is_folders_only, has_slash(cs), cs),
-    }
-}
-
-/// Returns the pattern of these characters. `whole` says whether it is matched against whole paths.
-fn pattern_with(
-    alloc: Global,
-    is_negated: bool,
-    is_folders_only: bool,
-    whole: bool,
-    cs: &[char],
-) -> Result<Option<IgnorePattern>, Error>
-    ensures { IfOk result (λ r. r ≡ option_and_then glob_of_pattern (pattern_with is_negated is_folders_only whole (elements whole Start zero cs.now))) }
-{
-    match text_of(alloc, whole, cs)? {
+    match read_line(alloc, line)? {
         None => Ok(None),
-        Some(text) => {
-            let glob = glob_of_text(alloc, text.as_str())?;
-            Ok(Some(IgnorePattern {
+        Some(pattern) => match glob_of_text(alloc, pattern.text.as_str()) {
+            Err(error) => Err(error),
+            Ok(glob) => Ok(Some(IgnorePattern {
                 glob,
-                is_negated,
-                is_folders_only,
-            }))
-        }
+                is_negated: pattern.is_negated,
+                is_folders_only: pattern.is_folders_only,
+            })),
+        },
     }
-}
-
-/// Returns whether there is a `/`.
-fn has_slash(cs: &[char]) -> bool
-    ensures { result ≡ has_slash cs.now }
-{
-    cs.iter().any(|c| *c == '/')
 }
 
 /// Returns the glob of this text, under the options of a translation.
 fn glob_of_text(alloc: Global, text: &str) -> Result<Glob, Error>
-    ensures { IfOk result (λ g. g ≡ record { text = text.now; options = glob_options }) }
+    ensures ok { IfOk result (λ g. g ≡ record { text = text.now; options = glob_options }) }
+    ensures err { IfErr result (IsRefusalOf glob_options text.now) }
 {
     GlobBuilder::new(text)
         .literal_separator(true)
