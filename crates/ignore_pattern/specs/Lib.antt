@@ -1,0 +1,10 @@
+pub mod Ends
+pub mod Lines
+pub mod Classes
+pub mod Elements
+pub mod Patterns
+pub mod Translation
+pub mod Globs
+pub mod Meaning
+pub mod Answer
+pub mod inner
