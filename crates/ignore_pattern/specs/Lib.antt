@@ -5,3 +5,4 @@ pub mod Elements
 pub mod Patterns
 pub mod Translation
 pub mod Meaning
+pub mod Answer

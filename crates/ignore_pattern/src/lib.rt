@@ -2,4 +2,7 @@
 #![tactic(auto)]
 
 pub mod item;
+mod pattern;
 pub mod place;
+
+pub use pattern::{IgnorePattern, pattern_of_line};
