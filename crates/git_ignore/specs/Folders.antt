@@ -42,7 +42,10 @@ ignores Ignored = true
 ignores Kept = false
 ignores Undecided = false
 
+-- some folder above the path is ignored
+abbrev pub is_below_ignored : List IgnoreFile → List ℕ → Bool
+is_below_ignored files path = list_any (λ folder. ignores (files_decision files folder true)) (folders_above path)
+
 -- What the files say of a path. What is below an ignored folder is ignored, whatever matches it.
 unfoldable pub decision_below : List IgnoreFile → List ℕ → Bool → Decision
-decision_below files path is_folder =
-    if list_any (λ folder. ignores (files_decision files folder true)) (folders_above path) then Ignored else files_decision files path is_folder
+decision_below files path is_folder = if is_below_ignored files path then Ignored else files_decision files path is_folder

@@ -36,3 +36,12 @@ said (Some rule) = if rule.pattern.negated then Kept else Ignored
 -- The decision of an ignore file: that of the last rule that applies.
 unfoldable pub decision : List ℕ → List ℕ → Bool → Decision
 decision file path is_folder = said (last_rule path is_folder (rules_of file))
+
+-- the number of the line of a rule
+abbrev pub line_of : Option Rule → Option ℕ
+line_of None = None
+line_of (Some rule) = Some rule.line
+
+-- The number of the line that decides: that of the last rule that applies.
+unfoldable pub deciding_line : List ℕ → List ℕ → Bool → Option ℕ
+deciding_line file path is_folder = line_of (last_rule path is_folder (rules_of file))
