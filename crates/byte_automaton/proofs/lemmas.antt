@@ -1,4 +1,3 @@
-pub mod Bits
 pub mod Pushing
 pub mod Pass
 pub mod Reading
@@ -7,19 +6,11 @@ pub mod Deciding
 pub mod Alike
 pub mod Parts
 pub mod StepLists
-pub mod Changes
 pub mod Ending
 pub mod Live
-pub mod Disjoint
-pub mod Clearing
-pub mod IndexSets
-pub mod Summaries
 pub mod LastBytes
 pub mod Spans
-pub mod WordSets
 pub mod WordPass
-pub mod Lowered
 pub mod Taking
 pub mod Blocks
-pub mod Combining
 pub mod Loops

@@ -1,10 +1,6 @@
 -- What a push adds to an automaton.
-use Rattle.std.specs.Prelude.{◌≡◌, ℕ, ◌+◌, ◌<◌, ◌≤◌, List, [], ◌∷◌, ◌++◌, length, slice_index}
+use Rattle.std.specs.Prelude.{◌≡◌, ℕ, ◌+◌, ◌<◌, ◌≤◌, List, [], ◌∷◌, ◌++◌, length}
 use Rattle.byte_automaton.specs.Steps.{State, state, Machine}
-
--- each of the states is below s
-abbrev pub AreBelow : ℕ → List ℕ → Type 0
-AreBelow s us = (i : ℕ) → i < length us → slice_index us i < s
 
 -- two lists have the same states from low on, below high
 abbrev pub Agrees : List State → List State → ℕ → ℕ → Type 0

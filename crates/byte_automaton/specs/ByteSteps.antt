@@ -1,7 +1,8 @@
 -- The steps by a byte from the states of a set.
 use Rattle.std.specs.Prelude.{◌≡◌, ℕ, ◌<◌, ◌&&◌, ◌||◌, ◌==◌, ◌↔◌, Bool, false, List, [], ◌∷◌, IsTrue}
 use Rattle.byte_automaton.specs.Runs.{size, AcceptsFrom}
-use Rattle.byte_automaton.specs.Sets.{has_byte, has_state, state_room}
+use Rattle.bit_sets.specs.Bytes.{has_byte}
+use Rattle.byte_automaton.specs.Sets.{has_state, state_room}
 use Rattle.byte_automaton.specs.Steps.{Accepts, Machine}
 use Rattle.byte_automaton.specs.declared.byte_steps.ByteSteps.{ByteSteps}
 use Rattle.byte_automaton.specs.declared.byte_steps.Step.{Step}

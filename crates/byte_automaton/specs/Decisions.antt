@@ -1,12 +1,8 @@
 -- States that decide an index: whatever bytes follow, the text leads to an end of the index, and to no other end.
-use Rattle.std.specs.Prelude.{◌≡◌, ℕ, ◌+◌, ◌*◌, ◌<◌, ◌⊎◌, List, [], ◌∷◌, length, IsTrue}
-use Rattle.byte_automaton.specs.declared.byte_set.ByteSet.{ByteSet}
-use Rattle.byte_automaton.specs.Sets.{has_byte}
+use Rattle.std.specs.Prelude.{◌≡◌, ℕ, ◌+◌, ◌*◌, ◌<◌, ◌⊎◌, List, [], ◌∷◌, length}
+use Rattle.bit_sets.specs.declared.byte_set.ByteSet.{ByteSet}
+use Rattle.bit_sets.specs.Bytes.{HasEvery}
 use Rattle.byte_automaton.specs.Steps.{State, stays, final, state, Machine}
-
--- the set has every byte
-abbrev pub HasEvery : ByteSet → Type 0
-HasEvery w = (c : ℕ) → c < 256 → IsTrue (has_byte w c)
 
 -- the state s stays on every byte, and goes on to one state, which is an end of the index k
 abbrev pub Decides : List State → ℕ → ℕ → Type 0

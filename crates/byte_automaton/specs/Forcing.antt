@@ -1,17 +1,8 @@
 -- What a state forces on a text.
-use Rattle.std.specs.Prelude.{◌≡◌, ℕ, ◌+◌, ◌<◌, IsTrue}
-use Rattle.std.specs.Int.Bits.{bit_or}
-use Rattle.byte_automaton.specs.declared.byte_set.ByteSet.{ByteSet}
-use Rattle.byte_automaton.specs.Sets.{has_byte}
+use Rattle.std.specs.Prelude.{◌≡◌, ℕ, ◌+◌}
+use Rattle.bit_sets.specs.declared.byte_set.ByteSet.{ByteSet}
+use Rattle.bit_sets.specs.Bytes.{AllFold}
 use Rattle.byte_automaton.specs.Steps.{State, reads, final}
-
--- the byte with the bit of the value 32 set, which makes an ASCII letter lowercase
-unfoldable pub folded : ℕ → ℕ
-folded c = bit_or c 32
-
--- each byte of the set folds to this one
-abbrev pub AllFold : ByteSet → ℕ → Type 0
-AllFold w letter = (c : ℕ) → c < 256 → IsTrue (has_byte w c) → letter ≡ folded c
 
 -- the state s reads bytes that fold to this one, no others, and goes on to the state below
 abbrev pub Forces : State → ℕ → ℕ → Type 0

@@ -1,10 +1,7 @@
 -- Parts of an automaton: some of its states that follow each other, alone.
-use Rattle.std.specs.Prelude.{◌≡◌, ℕ, ◌+◌, ◌<◌, ◌≤◌, List, length, slice_index, ◌↔◌}
+use Rattle.std.specs.Prelude.{◌≡◌, ℕ, ◌+◌, ◌<◌, ◌≤◌, List, length, ◌↔◌}
+use Rattle.bit_sets.specs.Numbers.{AreFrom}
 use Rattle.byte_automaton.specs.Steps.{State, reads, skips, stays, final, state, IsIn, Accepts, Machine, IsReached}
-
--- no number is below low
-abbrev pub AreFrom : ℕ → List ℕ → Type 0
-AreFrom low us = (i : ℕ) → i < length us → low ≤ slice_index us i
 
 -- what the state goes on to is not below low
 abbrev pub GoesFrom : ℕ → State → Type 0

@@ -1,8 +1,9 @@
 -- What a set of states accepts.
 use Rattle.std.specs.Prelude.{ℕ, ◌+◌, ◌*◌, ◌<◌, ◌↔◌, List, [], ◌∷◌, ◌++◌, length, IsTrue}
-use Rattle.byte_automaton.specs.Sets.{has_byte, has_state}
+use Rattle.bit_sets.specs.Bytes.{has_byte}
+use Rattle.byte_automaton.specs.Sets.{has_state}
 use Rattle.byte_automaton.specs.Steps.{Accepts, Machine, IsReached}
-use Rattle.byte_automaton.specs.declared.byte_set.ByteSet.{ByteSet}
+use Rattle.bit_sets.specs.declared.byte_set.ByteSet.{ByteSet}
 use Rattle.byte_automaton.specs.declared.state_set.StateSet.{StateSet}
 
 -- the number of states

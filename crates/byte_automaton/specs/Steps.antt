@@ -1,7 +1,7 @@
 -- States over bytes, and the texts that lead from a state to an end.
 use Rattle.std.specs.Prelude.{◌≡◌, ℕ, ◌⊎◌, List, [], ◌∷◌, slice_index_or, IsTrue}
-use Rattle.byte_automaton.specs.declared.byte_set.ByteSet.{ByteSet}
-use Rattle.byte_automaton.specs.Sets.{has_byte}
+use Rattle.bit_sets.specs.declared.byte_set.ByteSet.{ByteSet}
+use Rattle.bit_sets.specs.Bytes.{has_byte}
 
 -- a state reads a byte of a set and goes on to one state; or goes on without a byte to any of some states;
 -- or does that and also stays on each byte of a set; or is an end, and names an index

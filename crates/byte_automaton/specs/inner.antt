@@ -1,10 +1,8 @@
 pub mod Bounds
-pub mod Seen
 pub mod Views
 pub mod Pass
 pub mod Exits
 pub mod Lowering
 pub mod StepRoom
-pub mod Summary
 pub mod WordSets
 pub mod Blocks

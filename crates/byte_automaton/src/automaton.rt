@@ -1,7 +1,9 @@
 //! An automaton, and the steps of its runs.
 
 ghost use Rattle.std.specs.Prelude.{◌≡◌, ℕ, ◌+◌, ◌*◌, ◌<◌, ◌≤◌, ◌^◌, ◌||◌, ◌⊎◌, ◌↔◌, ◌∷◌, [], List, length, true, false, Some, None, IsTrue, IsFalse, IfOk, OnOk, OnErr, MatchOption};
-ghost use Rattle.byte_automaton.specs.Sets.{has_byte, has_state, has_index, state_room, index_room};
+ghost use Rattle.bit_sets.specs.Bytes.{has_byte};
+ghost use Rattle.bit_sets.specs.Indexes.{has_index, index_room};
+ghost use Rattle.byte_automaton.specs.Sets.{has_state, state_room};
 ghost use Rattle.byte_automaton.specs.Steps.{Machine, IsReached, state, final};
 ghost use Rattle.byte_automaton.specs.Alike.{AreAlike};
 ghost use Rattle.byte_automaton.specs.ByteSteps.{leads_to, step_room};
@@ -20,11 +22,10 @@ mod spans;
 mod word_passes;
 
 use crate::blocks::Blocks;
-use crate::byte_set::ByteSet;
 use crate::byte_steps::ByteSteps;
-use crate::index_set::IndexSet;
 use crate::state::State;
 use crate::state_set::StateSet;
+use bit_sets::{ByteSet, IndexSet};
 use std::alloc::AllocError;
 use std::marker::Model;
 use visits::Visits;

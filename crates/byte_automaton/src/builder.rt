@@ -2,14 +2,15 @@
 
 ghost use Rattle.std.specs.Prelude.{◌≡◌, ℕ, ◌<◌, ◌++◌, ◌∷◌, [], List, length, OnOk, OnErr, IfOk, IfSome};
 ghost use Rattle.byte_automaton.specs.Steps.{Machine, reads, skips, stays, final};
-ghost use Rattle.byte_automaton.specs.Building.{AreBelow, Pushes};
+ghost use Rattle.bit_sets.specs.Numbers.{AreBelow};
+ghost use Rattle.byte_automaton.specs.Building.{Pushes};
 ghost use Rattle.byte_automaton.specs.Runs.{size};
-ghost use Rattle.byte_automaton.specs.declared.byte_set.ByteSet.{ByteSet};
+ghost use Rattle.bit_sets.specs.declared.byte_set.ByteSet.{ByteSet};
 ghost use Rattle.byte_automaton.specs.inner.Views.{AreSound, machine, set_at};
 
 use crate::automaton::Automaton;
-use crate::byte_set::ByteSet;
 use crate::state::State;
+use bit_sets::ByteSet;
 use std::alloc::{AllocError, Global};
 use std::marker::Model;
 

@@ -4,8 +4,8 @@ ghost use Rattle.byte_automaton.specs.Sets.{state_room};
 ghost use Rattle.byte_automaton.specs.inner.StepRoom.{AreWithin};
 
 use crate::automaton::Automaton;
-use crate::byte_set::ByteSet;
 use crate::state_set::StateSet;
+use bit_sets::ByteSet;
 use std::alloc::{AllocError, Global};
 use visits::Visits;
 
@@ -31,7 +31,8 @@ pub struct ByteSteps {
 
 impl ByteSteps {
     ghost use Rattle.std.specs.Prelude.{◌≡◌, ℕ, ◌+◌, ◌<◌, ◌≤◌, ◌&&◌, ◌||◌, ◌==◌, ◌↔◌, ◌∷◌, List, false, IsFalse, IfOk, OnOk};
-    ghost use Rattle.byte_automaton.specs.Sets.{has_byte, has_state};
+    ghost use Rattle.bit_sets.specs.Bytes.{has_byte};
+    ghost use Rattle.byte_automaton.specs.Sets.{has_state};
     ghost use Rattle.byte_automaton.specs.Steps.{Machine};
     ghost use Rattle.byte_automaton.specs.Runs.{AcceptsFrom};
     ghost use Rattle.byte_automaton.specs.declared.state_set.StateSet.{StateSet};

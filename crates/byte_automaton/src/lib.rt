@@ -8,23 +8,15 @@
 mod automaton;
 mod blocks;
 mod builder;
-mod byte_set;
 mod byte_steps;
-mod index_set;
-mod lowered;
 mod run;
 mod state;
 mod state_set;
 mod state_sets;
-mod word_set;
-mod words;
 
 pub use automaton::Automaton;
 pub use builder::Builder;
-pub use byte_set::ByteSet;
 pub use byte_steps::ByteSteps;
-pub use index_set::IndexSet;
 pub use run::Span;
 pub use state_set::StateSet;
 pub use state_sets::StateSets;
-pub use words::{has_bit, set_bit};

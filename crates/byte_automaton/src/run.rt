@@ -1,7 +1,8 @@
 //! Runs of an automaton over whole texts.
 
 ghost use Rattle.std.specs.Prelude.{◌≡◌, ℕ, ◌+◌, ◌*◌, ◌<◌, ◌≤◌, ◌⊎◌, ◌↔◌, [], length, IsTrue, IsFalse};
-ghost use Rattle.byte_automaton.specs.Sets.{has_index, index_room, sets_room};
+ghost use Rattle.bit_sets.specs.Indexes.{has_index, index_room};
+ghost use Rattle.byte_automaton.specs.Sets.{sets_room};
 ghost use Rattle.byte_automaton.specs.Steps.{Accepts, IsReached};
 ghost use Rattle.byte_automaton.specs.Runs.{size, AcceptsFrom};
 ghost use Rattle.byte_automaton.specs.Spans.{IsSpan, IsWithin};
@@ -10,11 +11,13 @@ mod after;
 mod in_word;
 
 use crate::automaton::Automaton;
-use crate::index_set::IndexSet;
 use crate::state_sets::StateSets;
-use crate::word_set::WORD_STATES;
+use bit_sets::IndexSet;
 use std::mem::swap;
 use visits::Visits;
+
+/// The states that a word has a bit for.
+const WORD_STATES: usize = 64;
 
 /// States of an automaton that follow each other: those from `low` to `start`.
 ///

@@ -1,12 +1,14 @@
 //! States, as an automaton keeps them.
 
 ghost use Rattle.std.specs.Prelude.{◌≡◌, ℕ, ◌+◌, ◌<◌, ◌≤◌, ◌||◌, ◌↔◌, List, length, slice_index, true, false, Some, None, IsTrue, IsFalse, OnOk, MatchOption};
-ghost use Rattle.byte_automaton.specs.Sets.{has_byte, has_state, state_room};
-ghost use Rattle.byte_automaton.specs.declared.byte_set.ByteSet.{ByteSet};
+ghost use Rattle.bit_sets.specs.Bytes.{has_byte, differ};
+ghost use Rattle.byte_automaton.specs.Sets.{has_state, state_room};
+ghost use Rattle.bit_sets.specs.declared.byte_set.ByteSet.{ByteSet};
 ghost use Rattle.byte_automaton.specs.Steps.{final};
-ghost use Rattle.byte_automaton.specs.Alike.{differ, reads_byte};
+ghost use Rattle.byte_automaton.specs.Alike.{reads_byte};
 ghost use Rattle.byte_automaton.specs.Forcing.{IsNoEnd};
-ghost use Rattle.byte_automaton.specs.Parts.{AreFrom, GoesFrom};
+ghost use Rattle.bit_sets.specs.Numbers.{AreFrom};
+ghost use Rattle.byte_automaton.specs.Parts.{GoesFrom};
 ghost use Rattle.byte_automaton.specs.ByteSteps.{leads_to, step_room};
 ghost use Rattle.byte_automaton.specs.inner.Exits.{StaysBefore};
 ghost use Rattle.byte_automaton.specs.inner.Views.{set_at, exits_at, of_state, IsHeld, GoesBelow};
@@ -14,9 +16,9 @@ ghost use Rattle.byte_automaton.specs.inner.Pass.{goes_now, goes_next, names, En
 
 mod in_word;
 
-use crate::byte_set::ByteSet;
 use crate::byte_steps::ByteSteps;
 use crate::state_set::StateSet;
+use bit_sets::ByteSet;
 use std::alloc::AllocError;
 
 /// A state, in 16 bytes. Its set of bytes is kept as the number of one of the automaton's sets, and several states that it

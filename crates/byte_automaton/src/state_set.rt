@@ -4,9 +4,9 @@ ghost use Rattle.byte_automaton.specs.inner.Bounds.{AreBounds};
 
 mod word_steps;
 
-use crate::words::{
-    Seen, add_bits, clear_between, grow, has_bit, hash_between, keep_bits, last_below, remove_bits,
-    set_bit, words_for,
+use bit_sets::words::{
+    Seen, add_bits, are_disjoint, are_within, clear_between, grow, has_bit, hash_between,
+    keep_bits, last_below, remove_bits, set_bit, words_for,
 };
 use std::alloc::{AllocError, Global};
 use std::hash::{FoldHasher, Hasher};
@@ -47,9 +47,8 @@ impl Clone for StateSet {
 impl StateSet {
     ghost use Rattle.std.specs.Prelude.{◌≡◌, ℕ, ◌+◌, ◌<◌, ◌≤◌, ◌&&◌, ◌||◌, ◌==◌, ◌↔◌, not, false, IsTrue, IfOk, OnOk, IsOk};
     ghost use Rattle.byte_automaton.specs.Sets.{has_state, state_room};
-    ghost use Rattle.byte_automaton.specs.Building.{AreBelow};
-    ghost use Rattle.byte_automaton.specs.inner.Seen.{IsLastBelow};
-    ghost use Rattle.byte_automaton.specs.inner.Pass.{is_listed};
+    ghost use Rattle.bit_sets.specs.Numbers.{AreBelow, is_listed};
+    ghost use Rattle.bit_sets.specs.Seen.{IsLastBelow};
 
     /// Returns an empty set with room for no state. It allocates nothing.
     pub(crate) fn empty(alloc: Global) -> StateSet
@@ -207,25 +206,14 @@ impl StateSet {
         requires { state_room other.now ≡ state_room self.now }
         ensures { IsTrue result → (s : ℕ) → IsTrue (has_state self.now s) → IsTrue (has_state other.now s) }
     {
-        for i in 0..self.words.len() {
-            if self.words[i] & !other.words[i] != 0 {
-                return false;
-            }
-        }
-        true
+        are_within(&self.words, &other.words)
     }
 
     /// Returns whether no state is in both of two sets.
     pub fn is_disjoint(&self, other: &StateSet) -> bool
         ensures { IsTrue result ↔ ((s : ℕ) → IsTrue (has_state self.now s) → has_state other.now s ≡ false) }
     {
-        let count = self.words.len().min(other.words.len());
-        for i in 0..count {
-            if self.words[i] & other.words[i] != 0 {
-                return false;
-            }
-        }
-        true
+        are_disjoint(&self.words, &other.words)
     }
 
     /// Reads the next state below a bound. This is the highest one that is in the set; or if the word before the bound has

@@ -3,8 +3,8 @@
 ghost use Rattle.std.specs.Prelude.{◌≡◌, ◌≤◌, OnOk, IsOk};
 ghost use Rattle.byte_automaton.specs.Sets.{sets_room};
 
-use crate::index_set::IndexSet;
 use crate::state_set::StateSet;
+use bit_sets::IndexSet;
 use std::alloc::{AllocError, Global};
 
 /// The two sets of states that a run changes between: those that the text so far leads to, and those that one more byte leads to.

@@ -3,13 +3,15 @@
 ghost use Rattle.std.specs.Prelude.{◌≡◌, ℕ, ◌+◌, ◌*◌, ◌<◌, ◌≤◌, ◌↔◌, ◌⊎◌, [], ◌∷◌, List, length, slice_get, slice_index, Some, false, IsTrue, OnOk, IfOk, IfSome};
 ghost use Rattle.byte_automaton.specs.Runs.{size, AcceptsFrom, AreEnding};
 ghost use Rattle.byte_automaton.specs.ByteSteps.{step_room, LeadsAsEvery};
-ghost use Rattle.byte_automaton.specs.Sets.{has_index, has_state, state_room};
+ghost use Rattle.bit_sets.specs.Indexes.{has_index};
+ghost use Rattle.byte_automaton.specs.Sets.{has_state, state_room};
 ghost use Rattle.byte_dfa.specs.inner.Building.{AreFoundSets, AreAllEnding, IsEntryTo, IsBase, IsCellOf, IsRowOf, IsSound, IsNumbered, KeepsFound, Grows, HasRoomFor, BeginsAt, IsComplete, AreLiveSets, total};
 ghost use Rattle.byte_dfa.specs.inner.Tables.{special};
 
 use crate::classes::ByteClasses;
 use crate::lists::push_list;
-use byte_automaton::{Automaton, ByteSteps, IndexSet, StateSet};
+use bit_sets::IndexSet;
+use byte_automaton::{Automaton, ByteSteps, StateSet};
 use std::alloc::{AllocError, Global};
 use std::collections::HashMap;
 use std::hash::{FoldHasher, Hasher};

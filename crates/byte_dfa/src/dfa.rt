@@ -1,7 +1,7 @@
 //! A deterministic automaton.
 
 ghost use Rattle.std.specs.Prelude.{◌≡◌, ℕ, ◌+◌, ◌≤◌, ◌⊎◌, ◌↔◌, ◌<◌, ◌^◌, ◌++◌, ◌∷◌, [], length, slice_index, IsTrue, IfOk, IfSome};
-ghost use Rattle.byte_automaton.specs.Sets.{has_index, index_room};
+ghost use Rattle.bit_sets.specs.Indexes.{has_index, index_room};
 ghost use Rattle.byte_automaton.specs.Live.{MatchesAfter};
 ghost use Rattle.byte_automaton.specs.Steps.{IsReached};
 ghost use Rattle.byte_dfa.specs.DfaValue.{DfaValue};
@@ -11,7 +11,8 @@ use crate::classes::ByteClasses;
 use crate::construction::{Construction, SPECIAL};
 use crate::lists::{has_some, put_listed};
 use crate::source::Source;
-use byte_automaton::{Automaton, ByteSet, IndexSet};
+use bit_sets::{ByteSet, IndexSet};
+use byte_automaton::Automaton;
 use std::alloc::{AllocError, Global};
 use std::marker::Model;
 use std::mem;

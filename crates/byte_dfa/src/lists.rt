@@ -1,11 +1,11 @@
 //! Lists of indexes, one after another in a vector of numbers.
 
 ghost use Rattle.std.specs.Prelude.{◌≡◌, ℕ, ◌+◌, ◌<◌, ◌≤◌, ◌^◌, ◌||◌, ◌↔◌, [], length, slice_index, IsTrue, IsFalse, OnOk, IfOk};
-ghost use Rattle.byte_automaton.specs.Sets.{has_index, index_room};
-ghost use Rattle.byte_automaton.specs.inner.Pass.{is_listed};
+ghost use Rattle.bit_sets.specs.Indexes.{has_index, index_room};
+ghost use Rattle.bit_sets.specs.Numbers.{is_listed};
 ghost use Rattle.byte_dfa.specs.inner.Lists.{list_at, IsList, IsListOf, KeepsLists, HasNoneFirst};
 
-use byte_automaton::IndexSet;
+use bit_sets::IndexSet;
 use std::alloc::{AllocError, Global};
 
 /// Puts the indexes of a list into a set.
@@ -67,10 +67,7 @@ fn indexes_from(
 {
     let mut list = Vec::new(alloc);
     let mut at = from;
-    while let Some(index) = set.first_from(at) {
-        if index >= from + count {
-            break;
-        }
+    while let Some(index) = set.next_below(at, from + count) {
         list.push(index - from)?;
         at = index + 1;
     }

@@ -1,6 +1,6 @@
 -- Starts without a window: which bytes a text has to have that leads from one to an end.
 use Rattle.std.specs.Prelude.{◌≡◌, ℕ, ◌<◌, ◌⊎◌, List, [], ◌∷◌, length, slice_index}
-use Rattle.byte_automaton.specs.Forcing.{folded}
+use Rattle.bit_sets.specs.Bytes.{folded}
 use Rattle.byte_automaton.specs.Steps.{Accepts, Machine}
 use Rattle.byte_automaton.specs.Texts.{AllBytes}
 use Rattle.byte_filter.specs.declared.others.OtherStart.{OtherStart}

@@ -1,7 +1,7 @@
 //! A filter: parts under the keys of windows.
 
 ghost use Rattle.std.specs.Prelude.{◌≡◌, ℕ, List, ◌+◌, ◌*◌, ◌%◌, ◌<◌, ◌≤◌, ◌⊎◌, ◌↔◌, ◌++◌, ◌∷◌, [], length, IsTrue, IfOk, OnOk, OnErr};
-ghost use Rattle.byte_automaton.specs.Sets.{has_index, index_room};
+ghost use Rattle.bit_sets.specs.Indexes.{has_index, index_room};
 ghost use Rattle.byte_filter.specs.Entries.{entry, HasEntry, ArePartsBelow, IsNamed};
 ghost use Rattle.byte_filter.specs.Signs.{AreSigned};
 ghost use Rattle.byte_filter.specs.inner.Signatures.{IsOf};
@@ -11,7 +11,7 @@ use crate::key_bits::KeyBits;
 use crate::rolling::{first_key, next_key};
 use crate::signature::Signature;
 use crate::window::LONG;
-use byte_automaton::IndexSet;
+use bit_sets::IndexSet;
 use std::alloc::{AllocError, Global};
 use std::marker::Model;
 use visits::Visits;

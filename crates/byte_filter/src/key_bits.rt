@@ -3,7 +3,7 @@
 ghost use Rattle.std.specs.Prelude.{◌≡◌, ◌*◌, ◌<◌, ◌≤◌, length};
 
 use crate::hashing::{MOST_PLACES, place};
-use byte_automaton::{has_bit, set_bit};
+use bit_sets::words::{has_bit, set_bit};
 use std::alloc::{AllocError, Global};
 
 /// A bit for each hash of a key: those of the keys that were put in are set.

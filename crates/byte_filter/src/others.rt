@@ -1,15 +1,16 @@
 //! The starts without a window.
 
 ghost use Rattle.std.specs.Prelude.{◌≡◌, ℕ, ◌<◌, ◌≤◌, length, slice_index, IsTrue};
-ghost use Rattle.byte_automaton.specs.Bits.{bit_of};
-ghost use Rattle.byte_automaton.specs.Forcing.{folded};
-ghost use Rattle.byte_automaton.specs.Sets.{has_index, index_room};
+ghost use Rattle.bit_sets.specs.Bits.{bit_of};
+ghost use Rattle.bit_sets.specs.Bytes.{folded};
+ghost use Rattle.bit_sets.specs.Indexes.{has_index, index_room};
 ghost use Rattle.byte_filter.specs.Others.{AreOthersBelow, IsOther};
 ghost use Rattle.byte_filter.specs.inner.Others.{HasBytes};
 
 use crate::filter::Signs;
 use crate::signature::{ANY_TEXT, has_signs};
-use byte_automaton::{IndexSet, set_bit};
+use bit_sets::IndexSet;
+use bit_sets::words::set_bit;
 
 /// A start without a window.
 #[derive(Clone, Copy)]
@@ -51,7 +52,7 @@ fn bytes_of(text: &[u8]) -> [u64; 4]
 }
 
 /// Returns a byte, folded.
-#[tactic(auto, unfolding(byte_automaton::specs::Forcing::folded))]
+#[tactic(auto, unfolding(bit_sets::specs::Bytes::folded))]
 fn fold(byte: u8) -> u8
     ensures { result ≡ folded byte }
 {

@@ -1,7 +1,7 @@
 //! The key of the last bytes, as it is moved along a text.
 
 ghost use Rattle.std.specs.Prelude.{◌≡◌, ◌+◌, ◌*◌, ◌%◌, ◌≤◌, length};
-ghost use Rattle.byte_automaton.specs.Forcing.{folded};
+ghost use Rattle.bit_sets.specs.Bytes.{folded};
 ghost use Rattle.byte_filter.specs.inner.Rolling.{EndsInThree};
 
 use crate::window::LONG;
@@ -15,7 +15,7 @@ pub fn first_key(text: &[u8]) -> u32
 }
 
 /// Returns the key of the window of four bytes that ends with a byte, by that of the window that ends before it.
-#[tactic(auto, unfolding(byte_automaton::specs::Forcing::folded))]
+#[tactic(auto, unfolding(bit_sets::specs::Bytes::folded))]
 pub fn next_key(key: u32, byte: u8) -> u32
     ensures is { result ≡ key % 16777216 * 256 + folded byte }
     ensures three { result % 16777216 ≡ key % 65536 * 256 + folded byte }

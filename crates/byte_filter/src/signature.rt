@@ -1,14 +1,14 @@
 //! Signatures of texts: which windows of three bytes a text may have.
 
 ghost use Rattle.std.specs.Prelude.{◌≡◌, ℕ, ◌<◌, ◌↔◌, false, length, slice_index, IsTrue};
-ghost use Rattle.byte_automaton.specs.Bits.{bit_of};
+ghost use Rattle.bit_sets.specs.Bits.{bit_of};
 ghost use Rattle.byte_filter.specs.Signs.{sign_of, AreSigned};
 ghost use Rattle.byte_filter.specs.inner.Signatures.{HasSigns, IsOf};
 
 use crate::hashing::place;
 use crate::rolling::{first_key, next_key};
 use crate::window::LONG;
-use byte_automaton::{has_bit, set_bit};
+use bit_sets::words::{has_bit, set_bit};
 
 /// The sign that each text has.
 pub const ANY_TEXT: u8 = 255;

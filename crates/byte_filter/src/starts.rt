@@ -1,7 +1,7 @@
 //! A filter for the starts of an automaton.
 
 ghost use Rattle.std.specs.Prelude.{◌≡◌, ℕ, ◌+◌, ◌*◌, ◌<◌, ◌≤◌, ◌⊎◌, ◌↔◌, length, slice_index, Contains, IsTrue, IfOk, IfSome, OnOk, MatchOption};
-ghost use Rattle.byte_automaton.specs.Sets.{has_index, index_room};
+ghost use Rattle.bit_sets.specs.Indexes.{has_index, index_room};
 ghost use Rattle.byte_automaton.specs.Steps.{Accepts, IsReached, Machine};
 ghost use Rattle.byte_filter.specs.Entries.{ArePartsBelow};
 ghost use Rattle.byte_filter.specs.Others.{AreOthersBelow};
@@ -13,7 +13,8 @@ use crate::counts::{Counts, rarest_bytes};
 use crate::filter::Filter;
 use crate::others::{OtherStart, mark_others};
 use crate::window::{StartWindows, find_required, forced_bytes};
-use byte_automaton::{Automaton, IndexSet};
+use bit_sets::IndexSet;
+use byte_automaton::Automaton;
 use std::alloc::{AllocError, Global};
 use std::marker::Model;
 use visits::Visits;

@@ -1,7 +1,7 @@
 //! A trie.
 
 ghost use Rattle.std.specs.Prelude.{◌≡◌, ◌≢◌, ℕ, ◌+◌, ◌≤◌, ◌↔◌, [], List, map, length, IsTrue, IfOk};
-ghost use Rattle.byte_automaton.specs.Sets.{index_room, HasAlso};
+ghost use Rattle.bit_sets.specs.Indexes.{index_room, HasAlso};
 ghost use Rattle.byte_table.specs.Entries.{indexes_under};
 ghost use Rattle.byte_trie.specs.Texts.{found, entry_of};
 ghost use Rattle.byte_trie.specs.inner.Building.{IsOrdered};
@@ -11,7 +11,7 @@ use crate::side::Side;
 use crate::text::Text;
 use crate::tree::Tree;
 use crate::walk;
-use byte_automaton::IndexSet;
+use bit_sets::IndexSet;
 use byte_table::Entries;
 use std::alloc::{AllocError, Global};
 use std::marker::Model;

@@ -1,13 +1,13 @@
 //! Walks down a tree along a path.
 
 ghost use Rattle.std.specs.Prelude.{◌≡◌, ◌≢◌, ℕ, ◌+◌, ◌≤◌, ◌<◌, ◌^◌, ◌↔◌, [], length, IsTrue};
-ghost use Rattle.byte_automaton.specs.Sets.{index_room, HasAlso};
+ghost use Rattle.bit_sets.specs.Indexes.{index_room, HasAlso};
 ghost use Rattle.byte_trie.specs.inner.Sides.{from_side};
 ghost use Rattle.byte_trie.specs.inner.Nodes.{under, along, IsTree};
 
 use crate::side::Side;
 use crate::tree::Tree;
-use byte_automaton::IndexSet;
+use bit_sets::IndexSet;
 use visits::Visits;
 
 /// Puts the indexes of the nodes along a path into a set, beside what it holds: those that it has room for.

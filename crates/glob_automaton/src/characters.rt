@@ -9,7 +9,8 @@ ghost use Rattle.glob_automaton.specs.Characters.{is_between};
 ghost use Rattle.glob_automaton.specs.inner.TokenStates.{IsSetOf, continues, is_ascii_wild, begins_three};
 ghost use Rattle.glob_automaton.specs.inner.Building.{Grows, BuildsRow, BuildsCharacter};
 
-use byte_automaton::{Builder, ByteSet};
+use bit_sets::ByteSet;
+use byte_automaton::Builder;
 use glob_syntax::Options;
 use std::alloc::AllocError;
 

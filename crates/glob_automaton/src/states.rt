@@ -13,7 +13,8 @@ ghost use Rattle.glob_automaton.specs.inner.Building.{Grows, BuildsText, BuildsT
 ghost use Rattle.glob_automaton.specs.inner.Frames.{flat_weight, BuildsFlat};
 
 use crate::characters::add_character;
-use byte_automaton::{Builder, ByteSet};
+use bit_sets::ByteSet;
+use byte_automaton::Builder;
 use glob_syntax::{Class, Options, Token};
 use std::alloc::AllocError;
 

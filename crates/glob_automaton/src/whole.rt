@@ -10,7 +10,8 @@ ghost use Rattle.glob_automaton.specs.IndexedTokens.{IndexedTokens, indexed, IsF
 ghost use Rattle.glob_automaton.specs.inner.Building.{Grows, BuildsWhole};
 
 use crate::groups::add_sequence;
-use byte_automaton::{Builder, ByteSet};
+use bit_sets::ByteSet;
+use byte_automaton::Builder;
 use glob_syntax::{Options, Token};
 use std::alloc::{AllocError, Global};
 

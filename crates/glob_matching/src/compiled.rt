@@ -2,7 +2,8 @@
 
 ghost use Rattle.std.specs.Prelude.{◌≡◌, ◌+◌, ◌*◌, ◌≤◌, ◌↔◌, ◌⊎◌, ◌++◌, ◌∷◌, [], ℕ, List, length, IsTrue, IsOk, OnOk, IfOk};
 ghost use Rattle.byte_automaton.specs.Runs.{size, most_reads};
-ghost use Rattle.byte_automaton.specs.Sets.{has_index, index_room, sets_room};
+ghost use Rattle.bit_sets.specs.Indexes.{has_index, index_room};
+ghost use Rattle.byte_automaton.specs.Sets.{sets_room};
 ghost use Rattle.glob_automaton.specs.After.{SomeMeanAfter};
 ghost use Rattle.glob_automaton.specs.IndexedTokens.{IndexedTokens, IsFor, SomeMatches};
 
@@ -11,7 +12,8 @@ use crate::division::{divided, joint};
 use crate::filtered::{Filtered, filter_for};
 use crate::parts::Parts;
 use crate::simulation;
-use byte_automaton::{Automaton, IndexSet, StateSets};
+use bit_sets::IndexSet;
+use byte_automaton::{Automaton, StateSets};
 use std::alloc::{AllocError, Global};
 use std::marker::Model;
 use visits::Visits;

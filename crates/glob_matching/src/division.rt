@@ -1,7 +1,7 @@
 //! How an automaton is divided into parts.
 
 ghost use Rattle.std.specs.Prelude.{◌≡◌, ◌<◌, ◌≤◌, [], length, IsTrue, IfOk, IfSome};
-ghost use Rattle.byte_automaton.specs.Building.{AreBelow};
+ghost use Rattle.bit_sets.specs.Numbers.{AreBelow};
 ghost use Rattle.byte_automaton.specs.Parts.{IsPart};
 ghost use Rattle.byte_automaton.specs.Runs.{size};
 ghost use Rattle.glob_matching.specs.inner.Parts.{ArePartsBelow};

@@ -1,15 +1,17 @@
 //! Automata with many starts, of which those alone are run that a filter names.
 
-ghost use Rattle.std.specs.Prelude.{◌≡◌, ◌+◌, ◌*◌, ◌<◌, ◌≤◌, ◌↔◌, ◌⊎◌, ◌++◌, ◌∷◌, [], ℕ, length, IsTrue, IsOk, IfOk, IfSome, MatchOption, OnOk, true, false};
+ghost use Rattle.std.specs.Prelude.{◌≡◌, ◌+◌, ◌*◌, ◌<◌, ◌≤◌, ◌↔◌, ◌⊎◌, ◌++◌, ◌∷◌, [], ℕ, length, IsTrue, IsOk, IfOk, IfSome, OnOk};
 ghost use Rattle.byte_automaton.specs.Live.{MatchesAfter};
 ghost use Rattle.byte_automaton.specs.Runs.{size, most_reads};
-ghost use Rattle.byte_automaton.specs.Sets.{has_index, index_room, sets_room};
+ghost use Rattle.bit_sets.specs.Indexes.{has_index, index_room};
+ghost use Rattle.byte_automaton.specs.Sets.{sets_room};
 ghost use Rattle.byte_automaton.specs.Steps.{IsReached};
 ghost use Rattle.byte_filter.specs.Starts.{IsFilterOf, IsReachedMarked};
 ghost use Rattle.glob_matching.specs.inner.Filtered.{AreApart, span_at};
 
 use crate::simulation;
-use byte_automaton::{Automaton, IndexSet, Span, StateSets};
+use bit_sets::IndexSet;
+use byte_automaton::{Automaton, Span, StateSets};
 use byte_filter::StartFilter;
 use std::alloc::{AllocError, Global};
 use std::marker::Model;
@@ -226,7 +228,7 @@ fn find_from_marked(
 {
     let count = automaton.starts().len();
     let mut from = 0;
-    while let Some(i) = next_below(&sets.starts, from, count) {
+    while let Some(i) = sets.starts.next_below(from, count) {
         automaton.find_from(span_of(automaton, i), text, sets, found, visits);
         from = i + 1;
     }
@@ -247,19 +249,11 @@ fn is_match_from_marked(
 {
     let count = automaton.starts().len();
     let mut from = 0;
-    while let Some(i) = next_below(&sets.starts, from, count) {
+    while let Some(i) = sets.starts.next_below(from, count) {
         if automaton.is_match_from(span_of(automaton, i), text, sets, visits) {
             return true;
         }
         from = i + 1;
     }
     false
-}
-
-/// Returns the lowest index of a set from a number on and below another, or `None` if there is none.
-fn next_below(set: &IndexSet, from: usize, end: usize) -> Option<usize>
-    ensures { MatchOption result ((i : ℕ) → from ≤ i → i < end → has_index set.now i ≡ false) (λ at. (from ≤ at) × (at < end) × (has_index set.now at ≡ true) × ((i : ℕ) → from ≤ i → i < at → has_index set.now i ≡ false)) }
-{
-    let at = set.first_from(from)?;
-    if at < end { Some(at) } else { None }
 }

@@ -3,10 +3,12 @@
 ghost use Rattle.std.specs.Prelude.{◌≡◌, ◌+◌, ◌*◌, ◌≤◌, ◌↔◌, ◌⊎◌, ◌++◌, ◌∷◌, [], ℕ, length, IsTrue, IsOk, OnOk, IfOk};
 ghost use Rattle.byte_automaton.specs.Live.{MatchesAfter};
 ghost use Rattle.byte_automaton.specs.Runs.{size};
-ghost use Rattle.byte_automaton.specs.Sets.{has_index, index_room, sets_room};
+ghost use Rattle.bit_sets.specs.Indexes.{has_index, index_room};
+ghost use Rattle.byte_automaton.specs.Sets.{sets_room};
 ghost use Rattle.byte_automaton.specs.Steps.{IsReached};
 
-use byte_automaton::{Automaton, IndexSet, StateSets};
+use bit_sets::IndexSet;
+use byte_automaton::{Automaton, StateSets};
 use std::alloc::AllocError;
 use visits::Visits;
 

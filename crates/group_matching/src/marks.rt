@@ -2,9 +2,9 @@
 
 ghost use Rattle.std.specs.Prelude.{◌≡◌, ◌≤◌, ◌<◌, ◌↔◌, [], ℕ, IsOk, OnOk, IsTrue, filter, vec_capacity};
 ghost use Rattle.std.specs.List.{range_with_len};
-ghost use Rattle.byte_automaton.specs.Sets.{has_index};
+ghost use Rattle.bit_sets.specs.Indexes.{has_index};
 
-use byte_automaton::IndexSet;
+use bit_sets::IndexSet;
 use std::alloc::AllocError;
 
 /// Pushes the indexes of a set that are below `count`, ascending, onto an empty vector. Returns an error if memory runs out; some
@@ -16,10 +16,7 @@ pub fn push_marked(marks: &IndexSet, count: usize, into: &mut Vec<usize>) -> Res
     ensures capacity { vec_capacity into.old ≤ vec_capacity into.new }
 {
     let mut from = 0;
-    while let Some(index) = marks.first_from(from) {
-        if index >= count {
-            break;
-        }
+    while let Some(index) = marks.next_below(from, count) {
         into.push(index)?;
         from = index + 1;
     }
@@ -31,19 +28,9 @@ pub fn are_all_marked(marks: &IndexSet, count: usize) -> bool
     ensures { IsTrue result ↔ ((k : ℕ) → k < count → IsTrue (has_index marks.now k)) }
 {
     for index in 0..count {
-        if !is_marked(marks, index) {
+        if !marks.has(index) {
             return false;
         }
     }
     true
-}
-
-/// Returns whether a set has an index.
-fn is_marked(marks: &IndexSet, index: usize) -> bool
-    ensures { result ≡ has_index marks.now index }
-{
-    match marks.first_from(index) {
-        Some(first) => first == index,
-        None => false,
-    }
 }

@@ -1,7 +1,7 @@
 //! Which globs of a list match a path.
 
 ghost use Rattle.std.specs.Prelude.{◌≡◌, ◌≢◌, ◌+◌, ◌*◌, ◌≤◌, ◌↔◌, [], List, ℕ, IfOk, IsOk, OnOk, OnErr, IsTrue, length, vec_capacity};
-ghost use Rattle.byte_automaton.specs.Sets.{has_index, index_room};
+ghost use Rattle.bit_sets.specs.Indexes.{has_index, index_room};
 ghost use Rattle.group_matching.specs.Globs.{TokenGlob, is_listed_at, listed, load, most_visits};
 ghost use Rattle.group_matching.specs.Indexes.{ContainsAllBelow};
 ghost use Rattle.group_matching.specs.inner.Room.{HasRoom, KeepsRoom};
@@ -11,7 +11,7 @@ ghost use Rattle.group_matching.specs.inner.Groups.{AreGroupsOf, group_count, gr
 use crate::groups::Groups;
 use crate::marks::{are_all_marked, push_marked};
 use crate::matching_sets::MatchingSets;
-use byte_automaton::IndexSet;
+use bit_sets::IndexSet;
 use glob_path::Candidate;
 use std::alloc::AllocError;
 use visits::Visits;

@@ -2,11 +2,13 @@
 
 ghost use Rattle.std.specs.Prelude.{◌≡◌, ◌+◌, ◌*◌, ◌≤◌, ◌↔◌, ℕ, List, false, length, IfOk, IsOk, IsTrue, OnOk};
 ghost use Rattle.byte_automaton.specs.Runs.{size, most_reads};
-ghost use Rattle.byte_automaton.specs.Sets.{has_index, index_room, sets_room};
+ghost use Rattle.bit_sets.specs.Indexes.{has_index, index_room};
+ghost use Rattle.byte_automaton.specs.Sets.{sets_room};
 ghost use Rattle.glob_automaton.specs.IndexedTokens.{IndexedTokens, IsFor, SomeMatches};
 ghost use Rattle.group_matching.specs.inner.Room.{HasRoom, KeepsRoom};
 
-use byte_automaton::{IndexSet, StateSets};
+use bit_sets::IndexSet;
+use byte_automaton::StateSets;
 use glob_matching::Compiled;
 use std::alloc::{AllocError, Global};
 use visits::Visits;

@@ -1,7 +1,7 @@
 //! Indexes under keys, and the indexes that a path finds.
 
 ghost use Rattle.std.specs.Prelude.{◌≡◌, ◌≢◌, ◌+◌, ◌*◌, ◌≤◌, ◌++◌, ◌∷◌, ◌↔◌, ◌⊎◌, ◌<◌, ◌^◌, [], ℕ, List, length, map, IsTrue, IsFalse, MatchOption, OnOk, IfOk, ⊤};
-ghost use Rattle.byte_automaton.specs.Sets.{index_room, HasAlso};
+ghost use Rattle.bit_sets.specs.Indexes.{index_room, HasAlso};
 ghost use Rattle.byte_table.specs.Entries.{indexes_under};
 ghost use Rattle.byte_trie.specs.Laws.{IsAt};
 ghost use Rattle.byte_trie.specs.Texts.{entry_of};
@@ -14,7 +14,7 @@ ghost use Rattle.path_keys.specs.inner.Folders.{AreFolders};
 ghost use Rattle.path_keys.specs.inner.Parts.{HasOthers, tables_count};
 
 use crate::folders::Folders;
-use byte_automaton::IndexSet;
+use bit_sets::IndexSet;
 use byte_table::Table;
 use byte_trie::{Side, Text, Trie};
 use glob_path::{Candidate, component_extension_of, last_component_of};

@@ -4,12 +4,12 @@ use Rattle.std.specs.Prelude.{◌↔◌, IsFalse}
 use Rattle.std.proofs.lemmas.Bool.{cases_lt}
 use Rattle.std.proofs.lemmas.List.{get_or_past}
 use Rattle.std.proofs.Math.Logic.{⊎_elim}
-use Rattle.byte_automaton.specs.declared.byte_set.ByteSet.{ByteSet}
+use Rattle.bit_sets.specs.declared.byte_set.ByteSet.{ByteSet}
 use Rattle.byte_automaton.specs.declared.state_set.StateSet.{StateSet}
-use Rattle.byte_automaton.specs.Sets.{has_byte}
+use Rattle.bit_sets.specs.Bytes.{has_byte, differ}
 use Rattle.byte_automaton.specs.Steps.{State, reads, skips, stays, state, Machine, Accepts, ends, by_byte, by_skip, by_out, by_stay}
 use Rattle.byte_automaton.specs.Runs.{AcceptsFrom}
-use Rattle.byte_automaton.specs.Alike.{differ, reads_byte, AreAlike}
+use Rattle.byte_automaton.specs.Alike.{reads_byte, AreAlike}
 use Rattle.byte_automaton.proofs.lemmas.Pass.{or_none}
 
 -- states past the last read nothing

@@ -6,14 +6,14 @@ use Rattle.std.proofs.lemmas.Bool.{cases_lt, cases_eq, cases_Bool, eqb-true, eq-
 use Rattle.std.proofs.Math.Logic.{⊎_elim}
 use Rattle.std.proofs.lemmas.List.{places}
 use Rattle.std.proofs.lemmas.Nat.Bits.{bit_at_and, bit_at-lt}
-use Rattle.byte_automaton.specs.Bits.{bit_of}
+use Rattle.bit_sets.specs.Bits.{bit_of, is_in_word}
 use Rattle.byte_automaton.specs.Steps.{State, reads, state}
 use Rattle.byte_automaton.specs.inner.Pass.{goes_now, goes_next}
-use Rattle.byte_automaton.specs.Sets.{has_byte}
+use Rattle.bit_sets.specs.Bytes.{has_byte}
 use Rattle.byte_automaton.specs.declared.blocks.Block.{Block}
-use Rattle.byte_automaton.specs.declared.byte_set.ByteSet.{ByteSet}
-use Rattle.byte_automaton.specs.inner.Blocks.{is_in_word, has_mask, ReadsDown, AreMasks, AreBlocks, Takes}
-use Rattle.byte_automaton.proofs.lemmas.Bits.{bit_in, bit_front, bit_zeros, one_bit, or_false}
+use Rattle.bit_sets.specs.declared.byte_set.ByteSet.{ByteSet}
+use Rattle.byte_automaton.specs.inner.Blocks.{has_mask, ReadsDown, AreMasks, AreBlocks, Takes}
+use Rattle.bit_sets.proofs.lemmas.Bits.{bit_in, bit_front, bit_zeros, one_bit, or_false}
 use Rattle.byte_automaton.proofs.lemmas.Pass.{and_both, and_first, and_second, or_first, or_second}
 use Rattle.byte_automaton.proofs.lemmas.Taking.{all_taken}
 

@@ -4,7 +4,8 @@ use Rattle.std.specs.Prelude.{◌↔◌, ◌==◌}
 use Rattle.std.proofs.lemmas.Bool.{cases_lt, or_cases, eqb-true}
 use Rattle.std.proofs.Math.Logic.{⊎_elim}
 use Rattle.byte_automaton.specs.Steps.{State, state, Accepts}
-use Rattle.byte_automaton.specs.inner.Pass.{is_listed, EndsBy}
+use Rattle.bit_sets.specs.Numbers.{is_listed}
+use Rattle.byte_automaton.specs.inner.Pass.{EndsBy}
 use Rattle.byte_automaton.specs.inner.Views.{GoesBelow}
 use Rattle.byte_automaton.proofs.lemmas.Pass.{Step, step_there, step_back, goes_below_later, or_first, or_second}
 

@@ -2,9 +2,9 @@
 use Rattle.std.proofs.Common.{◌≡◌, ℕ, ◌<◌, Bool, List, [], ◌∷◌, ◌++◌, Some, length, IsTrue, refl, subst}
 use Rattle.std.specs.Prelude.{◌==◌}
 use Rattle.std.proofs.lemmas.Bool.{eq-eqb}
-use Rattle.byte_automaton.specs.Sets.{has_byte}
+use Rattle.bit_sets.specs.Bytes.{has_byte}
 use Rattle.byte_automaton.specs.Steps.{State, state, Accepts, ends, by_byte, by_skip, by_out, by_stay}
-use Rattle.byte_automaton.specs.declared.byte_set.ByteSet.{ByteSet}
+use Rattle.bit_sets.specs.declared.byte_set.ByteSet.{ByteSet}
 use Rattle.byte_automaton.specs.inner.Pass.{goes_next}
 use Rattle.byte_automaton.proofs.lemmas.Pass.{and_both, accepts_within}
 

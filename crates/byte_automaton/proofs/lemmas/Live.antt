@@ -8,10 +8,10 @@ use Rattle.byte_automaton.specs.Steps.{State, state, Accepts}
 use Rattle.byte_automaton.specs.Texts.{AllBytes}
 use Rattle.byte_automaton.specs.inner.Pass.{goes_next, LeadsBy}
 use Rattle.byte_automaton.specs.inner.Views.{GoesBelow}
-use Rattle.byte_automaton.specs.declared.byte_set.ByteSet.{ByteSet}
+use Rattle.bit_sets.specs.declared.byte_set.ByteSet.{ByteSet}
 use Rattle.byte_automaton.proofs.lemmas.Pass.{Step, step_there, step_back, goes_below_later, and_both, and_first, and_second}
 use Rattle.std.proofs.lemmas.Bool.{eqb-true}
-use Rattle.byte_automaton.specs.Sets.{has_byte}
+use Rattle.bit_sets.specs.Bytes.{has_byte}
 use Rattle.byte_automaton.specs.Steps.{reads, skips, stays, final}
 
 -- a byte leads to a lower state, or stays

@@ -3,7 +3,7 @@ use Rattle.std.proofs.Common.{◌≡◌, ℕ, ◌+◌, ◌-◌, ◌*◌, ◌<◌
 use Rattle.std.proofs.lemmas.List.{map-append, take_more, take_all, get_or_append_left, get_or_push, length_push}
 use Rattle.std.proofs.lemmas.Bool.{cases_lt}
 use Rattle.std.proofs.Math.Nat.{mul-le-mul_right}
-use Rattle.byte_automaton.specs.Building.{AreBelow}
+use Rattle.bit_sets.specs.Numbers.{AreBelow}
 use Rattle.byte_automaton.specs.inner.Lowering.{all_lowered}
 
 -- the visits of a run that has read i bytes of n, and of one more pass

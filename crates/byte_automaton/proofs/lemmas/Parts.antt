@@ -3,10 +3,11 @@ use Rattle.std.proofs.Common.{◌≡◌, ℕ, zero, suc, ◌+◌, ◌-◌, ◌<�
 use Rattle.std.specs.Prelude.{◌↔◌}
 use Rattle.std.proofs.lemmas.Bool.{cases_lt}
 use Rattle.std.proofs.Math.Logic.{⊎_elim}
-use Rattle.byte_automaton.specs.declared.byte_set.ByteSet.{ByteSet}
+use Rattle.bit_sets.specs.declared.byte_set.ByteSet.{ByteSet}
 use Rattle.byte_automaton.specs.Steps.{State, reads, skips, stays, final, state, Machine, IsIn, Accepts, ends, by_byte, by_skip, by_out, by_stay}
-use Rattle.byte_automaton.specs.Building.{AreBelow, Pushes}
-use Rattle.byte_automaton.specs.Parts.{AreFrom, GoesFrom, IsPart}
+use Rattle.bit_sets.specs.Numbers.{AreBelow, AreFrom}
+use Rattle.byte_automaton.specs.Building.{Pushes}
+use Rattle.byte_automaton.specs.Parts.{GoesFrom, IsPart}
 use Rattle.byte_automaton.specs.Runs.{size}
 use Rattle.byte_automaton.specs.inner.Lowering.{all_lowered, lowered}
 use Rattle.byte_automaton.specs.inner.Views.{GoesBelow}

@@ -4,11 +4,11 @@ use Rattle.std.specs.Prelude.{◌↔◌, ◌==◌, Option, MatchOption, is_some}
 use Rattle.std.proofs.lemmas.Bool.{eqb-true, eq-eqb, or_cases, cases_lt}
 use Rattle.std.proofs.lemmas.List.{get_or_past}
 use Rattle.std.proofs.Math.Logic.{⊎_elim}
-use Rattle.byte_automaton.specs.Sets.{has_byte}
+use Rattle.bit_sets.specs.Bytes.{has_byte}
 use Rattle.byte_automaton.specs.Steps.{State, reads, skips, stays, final, state, IsIn, Accepts, ends, by_byte, by_skip, by_out, by_stay}
-use Rattle.byte_automaton.specs.Building.{AreBelow}
+use Rattle.bit_sets.specs.Numbers.{AreBelow, is_listed}
 use Rattle.byte_automaton.specs.inner.Views.{GoesBelow}
-use Rattle.byte_automaton.specs.inner.Pass.{is_listed, head, goes_now, goes_next, names, Alive, Later, Named, Holds}
+use Rattle.byte_automaton.specs.inner.Pass.{head, goes_now, goes_next, names, Alive, Later, Named, Holds}
 
 -- truth values
 

@@ -4,10 +4,11 @@ use Rattle.std.proofs.lemmas.Bool.{cases_lt}
 use Rattle.std.proofs.lemmas.List.{length-map, length-append, map-append, get_or_append_left, get_or_push, get_or_past, length-drop, take-append-le, drop-append-le, take_all, append_assoc}
 use Rattle.std.proofs.Math.Seq.{drop-append_seam, get_or-append_seam}
 use Rattle.byte_automaton.specs.Steps.{State, reads, skips, stays, state, Machine}
-use Rattle.byte_automaton.specs.Building.{AreBelow, Pushes}
+use Rattle.bit_sets.specs.Numbers.{AreBelow}
+use Rattle.byte_automaton.specs.Building.{Pushes}
 use Rattle.byte_automaton.specs.inner.Views.{exits_at, of_state, of_states, IsHeld, AreHeld, GoesBelow, NamesBelow, AreSound, machine}
 use Rattle.std.specs.Prelude.{Result, Ok, Err, OnErr}
-use Rattle.byte_automaton.specs.declared.byte_set.ByteSet.{ByteSet}
+use Rattle.bit_sets.specs.declared.byte_set.ByteSet.{ByteSet}
 use Rattle.byte_automaton.specs.declared.state.State as declared
 use Rattle.byte_automaton.specs.declared.state.State.TheVariants.{Reads, Skips, Stays, End}
 

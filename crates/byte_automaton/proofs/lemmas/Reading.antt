@@ -4,12 +4,12 @@ use Rattle.std.specs.Prelude.{◌↔◌, Option, Some, None, MatchOption}
 use Rattle.std.proofs.lemmas.Bool.{or_cases}
 use Rattle.std.proofs.Math.Logic.{⊎_elim}
 use Rattle.byte_automaton.specs.Steps.{State, state, final, Machine, IsIn, IsReached}
-use Rattle.byte_automaton.specs.Building.{AreBelow}
+use Rattle.bit_sets.specs.Numbers.{AreBelow, is_listed}
 use Rattle.byte_automaton.specs.Runs.{size}
-use Rattle.byte_automaton.specs.inner.Pass.{is_listed, names, Alive}
+use Rattle.byte_automaton.specs.inner.Pass.{names, Alive}
 use Rattle.byte_automaton.proofs.lemmas.Pass.{listed_in, in_listed, listed_below, or_first}
 use Rattle.byte_automaton.specs.inner.Views.{set_at, of_state, of_states, IsHeld, AreHeld, NamesBelow, machine}
-use Rattle.byte_automaton.specs.declared.byte_set.ByteSet.{ByteSet}
+use Rattle.bit_sets.specs.declared.byte_set.ByteSet.{ByteSet}
 use Rattle.byte_automaton.specs.declared.state.State as declared
 use Rattle.byte_automaton.specs.declared.state.State.TheVariants.{Reads, Skips, Stays, End}
 

@@ -3,13 +3,15 @@ use Rattle.std.proofs.Common.{◌≡◌, ℕ, suc, ◌+◌, ◌<◌, ◌≤◌, 
 use Rattle.std.specs.Prelude.{◌↔◌, ◌==◌, ◌||◌}
 use Rattle.std.proofs.lemmas.Bool.{eqb-true, eq-eqb, or_cases, cases_Bool, cases_lt}
 use Rattle.std.proofs.Math.Logic.{⊎_elim}
-use Rattle.byte_automaton.specs.Sets.{has_byte, has_state}
+use Rattle.bit_sets.specs.Bytes.{has_byte}
+use Rattle.byte_automaton.specs.Sets.{has_state}
 use Rattle.byte_automaton.specs.Steps.{State, reads, skips, stays, final, Machine, Accepts}
-use Rattle.byte_automaton.specs.Parts.{AreFrom, GoesFrom}
+use Rattle.bit_sets.specs.Numbers.{AreFrom, is_listed}
+use Rattle.byte_automaton.specs.Parts.{GoesFrom}
 use Rattle.byte_automaton.specs.Runs.{size, AcceptsBelow, AcceptsFrom}
 use Rattle.byte_automaton.specs.Spans.{IsWithin}
 use Rattle.byte_automaton.specs.inner.Views.{GoesBelow}
-use Rattle.byte_automaton.specs.inner.Pass.{is_listed, goes_now, goes_next, Alive, Holds}
+use Rattle.byte_automaton.specs.inner.Pass.{goes_now, goes_next, Alive, Holds}
 use Rattle.byte_automaton.proofs.lemmas.Pass.{and_second, or_first}
 use Rattle.byte_automaton.specs.declared.state_set.StateSet.{StateSet}
 

@@ -3,7 +3,7 @@ use Rattle.std.proofs.Common.{◌≡◌, ℕ, zero, suc, Bool, true, false, ◌|
 use Rattle.std.specs.Prelude.{◌==◌}
 use Rattle.std.specs.Bool.{if◌then◌else◌}
 use Rattle.byte_automaton.specs.ByteSteps.{is_step_to}
-use Rattle.byte_automaton.specs.Sets.{has_byte}
+use Rattle.bit_sets.specs.Bytes.{has_byte}
 use Rattle.byte_automaton.specs.inner.StepRoom.{AreWithin}
 use Rattle.byte_automaton.specs.declared.byte_steps.Step.{Step}
 

@@ -1,14 +1,9 @@
 -- States that a run takes together, a word of a set of states at once.
 use Rattle.std.specs.Prelude.{◌≡◌, ℕ, ◌+◌, ◌*◌, ◌/◌, ◌%◌, ◌<◌, ◌≤◌, ◌⊎◌, ◌↔◌, ◌&&◌, ◌==◌, Bool, false, List, ◌∷◌, length, Option, Some, None, slice_index_or, IsTrue, IsFalse}
-use Rattle.std.specs.Int.{bit_at}
-use Rattle.byte_automaton.specs.Bits.{bit_of}
+use Rattle.bit_sets.specs.Bits.{bit_of}
 use Rattle.byte_automaton.specs.Steps.{State, state}
 use Rattle.byte_automaton.specs.inner.Pass.{goes_now, goes_next, Holds}
 use Rattle.byte_automaton.specs.declared.blocks.Block.{Block}
-
--- bit s of the words that have `word` at a place, and no other bit
-abbrev pub is_in_word : ℕ → ℕ → ℕ → Bool
-is_in_word at word s = (s / 64 == at) && (bit_at word (s % 64) == 1)
 
 -- the state s goes on by the bytes of a set alone, to the state below
 pub record ReadsDown (a : List State) (s : ℕ) (set : ℕ → Bool) : Type 0 where

@@ -1,6 +1,6 @@
 -- Where the bits of a list of machine words lie.
 use Rattle.std.specs.Prelude.{◌≡◌, ℕ, ◌*◌, ◌<◌, ◌≤◌, true, List, length}
-use Rattle.byte_automaton.specs.Bits.{bit_of}
+use Rattle.bit_sets.specs.Bits.{bit_of}
 
 -- No bit is set below the first number or above the last. If the first is not above the last, the last is a bit of the
 -- words; otherwise no bit is set, and the last is 0.

@@ -1,11 +1,8 @@
 -- One pass over the states at one position of a text.
-use Rattle.std.specs.Prelude.{◌≡◌, ℕ, ◌<◌, ◌⊎◌, Bool, false, ◌&&◌, ◌||◌, ◌==◌, List, [], ◌∷◌, length, Option, Some, None, IsTrue}
-use Rattle.byte_automaton.specs.Sets.{has_byte}
+use Rattle.std.specs.Prelude.{◌≡◌, ℕ, ◌<◌, ◌⊎◌, Bool, false, ◌&&◌, ◌==◌, List, [], ◌∷◌, length, Option, Some, None, IsTrue}
+use Rattle.bit_sets.specs.Bytes.{has_byte}
+use Rattle.bit_sets.specs.Numbers.{is_listed}
 use Rattle.byte_automaton.specs.Steps.{State, reads, skips, stays, final, Accepts}
-
-abbrev pub is_listed : ℕ → List ℕ → Bool
-is_listed t [] = false
-is_listed t (x ∷ xs) = (t == x) || is_listed t xs
 
 -- the next byte, if there is one
 abbrev pub head : List ℕ → Option ℕ

@@ -1,14 +1,15 @@
 -- The states as an automaton keeps them: sets of bytes lie in one list, and what a state goes on to without a byte in another.
 use Rattle.std.specs.Prelude.{ℕ, ◌+◌, ◌<◌, List, [], ◌∷◌, map, length, slice_index, slice_index_or, slice_range}
 use Rattle.byte_automaton.specs.Steps.{State, reads, skips, stays, final, state, Machine}
-use Rattle.byte_automaton.specs.Building.{AreBelow}
-use Rattle.byte_automaton.specs.declared.byte_set.ByteSet.{ByteSet}
+use Rattle.bit_sets.specs.Bytes.{no_bytes}
+use Rattle.bit_sets.specs.Numbers.{AreBelow}
+use Rattle.bit_sets.specs.declared.byte_set.ByteSet.{ByteSet}
 use Rattle.byte_automaton.specs.declared.state.State as declared
 use Rattle.byte_automaton.specs.declared.state.State.TheVariants.{Reads, Skips, Stays, End}
 
 -- the set with the number n; one past the last has no byte
 abbrev pub set_at : List ByteSet → ℕ → ByteSet
-set_at sets n = slice_index_or sets n (record { words = [] })
+set_at sets n = slice_index_or sets n no_bytes
 
 -- the states that stand in the list behind their count
 abbrev pub exits_at : List ℕ → ℕ → List ℕ

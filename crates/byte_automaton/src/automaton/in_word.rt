@@ -6,10 +6,10 @@ ghost use Rattle.byte_automaton.specs.Parts.{GoesFrom};
 ghost use Rattle.byte_automaton.specs.Runs.{size};
 ghost use Rattle.byte_automaton.specs.inner.Views.{GoesBelow};
 ghost use Rattle.byte_automaton.specs.inner.Pass.{goes_now, goes_next, names};
-ghost use Rattle.byte_automaton.specs.inner.WordSets.{has_in_word};
+ghost use Rattle.bit_sets.specs.WordSets.{has_in_word};
 
 use crate::automaton::Automaton;
-use crate::word_set::WordSet;
+use bit_sets::WordSet;
 
 impl Automaton {
     /// Takes the steps of a state of `from`: puts into `from` what it goes on to without a byte, and into `to` what it goes

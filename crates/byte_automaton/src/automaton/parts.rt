@@ -2,16 +2,17 @@
 
 ghost use Rattle.std.specs.Prelude.{◌≡◌, ℕ, ◌+◌, ◌-◌, ◌<◌, ◌≤◌, ◌⊎◌, ◌↔◌, length, IsTrue, IsFalse, OnOk, IfOk, MatchOption};
 ghost use Rattle.byte_automaton.specs.Steps.{IsIn, state};
-ghost use Rattle.byte_automaton.specs.Building.{AreBelow, Pushes};
-ghost use Rattle.byte_automaton.specs.Parts.{AreFrom, GoesFrom, LeadsOut, IsPart};
+ghost use Rattle.bit_sets.specs.Numbers.{AreBelow, AreFrom};
+ghost use Rattle.byte_automaton.specs.Building.{Pushes};
+ghost use Rattle.byte_automaton.specs.Parts.{GoesFrom, LeadsOut, IsPart};
 ghost use Rattle.byte_automaton.specs.Runs.{size};
 ghost use Rattle.byte_automaton.specs.inner.Lowering.{all_lowered, lowered};
 ghost use Rattle.byte_automaton.specs.inner.Views.{of_state, IsHeld, GoesBelow, NamesBelow};
 
 use crate::automaton::Automaton;
 use crate::builder::Builder;
-use crate::byte_set::ByteSet;
 use crate::state::{State, exits_of, set_of};
+use bit_sets::ByteSet;
 use std::alloc::{AllocError, Global};
 
 impl Automaton {

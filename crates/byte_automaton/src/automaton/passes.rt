@@ -1,13 +1,14 @@
 //! One pass over some states of an automaton that follow each other, at one position of a text.
 
 ghost use Rattle.std.specs.Prelude.{◌≡◌, ℕ, ◌+◌, ◌<◌, ◌≤◌, ◌⊎◌, ◌↔◌, ◌∷◌, [], List, IsTrue};
-ghost use Rattle.byte_automaton.specs.Sets.{has_index, state_room, index_room};
+ghost use Rattle.bit_sets.specs.Indexes.{has_index, index_room};
+ghost use Rattle.byte_automaton.specs.Sets.{state_room};
 ghost use Rattle.byte_automaton.specs.Runs.{size, AcceptsBelow, AcceptsFrom, HasSome};
 ghost use Rattle.byte_automaton.specs.Spans.{IsClosed, IsFrom, IsWithin};
 
 use crate::automaton::Automaton;
-use crate::index_set::IndexSet;
 use crate::state_set::StateSet;
+use bit_sets::IndexSet;
 use visits::Visits;
 
 impl Automaton {

@@ -1,8 +1,9 @@
 //! Passes that take the states of a block at once.
 
 ghost use Rattle.std.specs.Prelude.{◌≡◌, ℕ, ◌+◌, ◌*◌, ◌/◌, ◌%◌, ◌<◌, ◌≤◌, ◌⊎◌, ◌↔◌, ◌&&◌, ◌||◌, ◌==◌, ◌∷◌, List, length, IsTrue, MatchOption, IfOk, IfSome, OnOk};
-ghost use Rattle.byte_automaton.specs.Bits.{bit_of};
-ghost use Rattle.byte_automaton.specs.Sets.{has_byte, has_state, state_room};
+ghost use Rattle.bit_sets.specs.Bits.{bit_of};
+ghost use Rattle.bit_sets.specs.Bytes.{has_byte};
+ghost use Rattle.byte_automaton.specs.Sets.{has_state, state_room};
 ghost use Rattle.byte_automaton.specs.Spans.{IsClosed, IsFrom, IsWithin};
 ghost use Rattle.byte_automaton.specs.Steps.{reads, state};
 ghost use Rattle.byte_automaton.specs.Runs.{size, AcceptsBelow, AcceptsFrom, HasSome};
@@ -10,10 +11,10 @@ ghost use Rattle.byte_automaton.specs.inner.Blocks.{AreBlocks, AreMasks, Takes};
 
 use crate::automaton::Automaton;
 use crate::blocks::{Blocks, Taken};
-use crate::byte_set::ByteSet;
 use crate::state::{State, set_of};
 use crate::state_set::StateSet;
-use crate::words::set_bit;
+use bit_sets::ByteSet;
+use bit_sets::words::set_bit;
 use std::alloc::AllocError;
 use visits::Visits;
 

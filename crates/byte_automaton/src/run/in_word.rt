@@ -1,15 +1,14 @@
 //! Runs over the states of a span of at most 64 states, which change between two words.
 
 ghost use Rattle.std.specs.Prelude.{◌≡◌, ℕ, ◌+◌, ◌*◌, ◌<◌, ◌≤◌, ◌⊎◌, ◌↔◌, ◌∷◌, [], List, length, IsTrue};
-ghost use Rattle.byte_automaton.specs.Sets.{has_index, index_room};
+ghost use Rattle.bit_sets.specs.Indexes.{has_index, index_room};
 ghost use Rattle.byte_automaton.specs.Steps.{Accepts};
 ghost use Rattle.byte_automaton.specs.Spans.{IsSpan};
 ghost use Rattle.byte_automaton.specs.inner.WordSets.{IsOfSpan, AcceptsInWord};
 
 use crate::automaton::Automaton;
-use crate::index_set::IndexSet;
 use crate::run::Span;
-use crate::word_set::WordSet;
+use bit_sets::{IndexSet, WordSet};
 use visits::Visits;
 
 impl Automaton {

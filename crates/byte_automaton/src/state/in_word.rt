@@ -2,15 +2,14 @@
 
 ghost use Rattle.std.specs.Prelude.{◌≡◌, ℕ, ◌+◌, ◌<◌, ◌≤◌, ◌||◌, List, false, Some, None, MatchOption};
 ghost use Rattle.byte_automaton.specs.Steps.{final};
-ghost use Rattle.byte_automaton.specs.declared.byte_set.ByteSet.{ByteSet};
+ghost use Rattle.bit_sets.specs.declared.byte_set.ByteSet.{ByteSet};
 ghost use Rattle.byte_automaton.specs.Parts.{GoesFrom};
 ghost use Rattle.byte_automaton.specs.inner.Views.{of_state, IsHeld, GoesBelow};
 ghost use Rattle.byte_automaton.specs.inner.Pass.{goes_now, goes_next, names};
-ghost use Rattle.byte_automaton.specs.inner.WordSets.{has_in_word};
+ghost use Rattle.bit_sets.specs.WordSets.{has_in_word};
 
-use crate::byte_set::ByteSet;
 use crate::state::{State, exits_of, set_of};
-use crate::word_set::WordSet;
+use bit_sets::{ByteSet, WordSet};
 
 impl State {
     /// Takes the steps of a state: puts into `from` what it goes on to without a byte, and into `to` what it goes on to by the

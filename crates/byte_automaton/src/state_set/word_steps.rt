@@ -3,10 +3,10 @@
 ghost use Rattle.std.specs.Prelude.{◌≡◌, ℕ, ◌+◌, ◌-◌, ◌*◌, ◌/◌, ◌%◌, ◌^◌, ◌<◌, ◌≤◌, ◌||◌, ◌==◌, false, IsTrue, IsFalse};
 ghost use Rattle.std.specs.Int.{bit_at};
 ghost use Rattle.byte_automaton.specs.Sets.{has_state, state_room};
-ghost use Rattle.byte_automaton.specs.inner.Blocks.{is_in_word};
+ghost use Rattle.bit_sets.specs.Bits.{is_in_word};
 
-use crate::lowered::set_lowered;
 use crate::state_set::StateSet;
+use bit_sets::words::set_lowered;
 
 impl StateSet {
     /// Returns a bound that is not above another. No state from it on and below the other is in the set.

@@ -5,7 +5,7 @@ use Rattle.std.proofs.lemmas.Bool.{cases_lt, eq-eqb, eqb-true, or_cases}
 use Rattle.std.proofs.lemmas.List.{get_or_append_left, take-append-le, length-take-le, length-drop, drop-append-le, take_all, take_more}
 use Rattle.std.proofs.Math.Logic.{⊎_elim}
 use Rattle.std.proofs.Math.Seq.{get_or-append_seam}
-use Rattle.byte_automaton.specs.inner.Pass.{is_listed}
+use Rattle.bit_sets.specs.Numbers.{is_listed}
 use Rattle.byte_automaton.proofs.lemmas.Pass.{or_first, or_second}
 use Rattle.byte_dfa.specs.inner.Lists.{list_at, IsList, IsListOf, KeepsLists, HasNoneFirst}
 

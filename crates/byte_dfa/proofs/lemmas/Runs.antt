@@ -9,9 +9,9 @@ use Rattle.std.proofs.Math.Nat.{add-mod_left, mul-div_cancel}
 use Rattle.byte_automaton.specs.Decisions.{IsAtDecision, EndsAtDecisions}
 use Rattle.byte_automaton.specs.Runs.{AcceptsFrom, HasLastBytes}
 use Rattle.byte_automaton.specs.Steps.{state, final, Machine, IsReached, Accepts, ends, by_byte, by_skip, by_out, by_stay}
-use Rattle.byte_automaton.specs.declared.byte_set.ByteSet.{ByteSet}
+use Rattle.bit_sets.specs.declared.byte_set.ByteSet.{ByteSet}
 use Rattle.byte_automaton.specs.declared.state_set.StateSet.{StateSet}
-use Rattle.byte_automaton.specs.inner.Pass.{is_listed}
+use Rattle.bit_sets.specs.Numbers.{is_listed}
 use Rattle.byte_automaton.specs.Texts.{AllBytes}
 use Rattle.byte_automaton.proofs.lemmas.Alike.{from_alike}
 use Rattle.byte_automaton.proofs.lemmas.Deciding.{reached_by}

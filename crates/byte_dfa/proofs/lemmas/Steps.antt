@@ -4,7 +4,7 @@ use Rattle.std.specs.Prelude.{◌↔◌}
 use Rattle.std.proofs.lemmas.Bool.{or_cases}
 use Rattle.std.proofs.lemmas.List.{get_or-take, get_or-drop}
 use Rattle.std.proofs.Math.Logic.{⊎_elim}
-use Rattle.byte_automaton.specs.inner.Pass.{is_listed}
+use Rattle.bit_sets.specs.Numbers.{is_listed}
 use Rattle.byte_automaton.specs.Texts.{AllBytes}
 use Rattle.byte_automaton.proofs.lemmas.Pass.{or_first, or_second}
 use Rattle.byte_dfa.specs.inner.Tables.{Table, special, entry, after, on_entry, later, finds_from, finds, IsRow, IsTable}

@@ -1,6 +1,6 @@
 -- Lists of indexes, one after another in a list of numbers.
 use Rattle.std.specs.Prelude.{◌≡◌, ℕ, ◌+◌, ◌<◌, ◌≤◌, ◌↔◌, IsTrue, List, length, take, drop, slice_index}
-use Rattle.byte_automaton.specs.inner.Pass.{is_listed}
+use Rattle.bit_sets.specs.Numbers.{is_listed}
 
 -- a list stands as its length and then its indexes
 abbrev pub list_at : List ℕ → ℕ → List ℕ

@@ -2,9 +2,9 @@
 use Rattle.std.specs.Prelude.{◌≡◌, ℕ, ◌+◌, ◌*◌, ◌/◌, ◌%◌, ◌<◌, ◌↔◌, Bool, false, ◌||◌, IsTrue, List, [], ◌∷◌, length, slice_index, slice_index_or}
 use Rattle.byte_automaton.specs.Runs.{HasLastBytes}
 use Rattle.byte_automaton.specs.Steps.{Machine, IsReached}
-use Rattle.byte_automaton.specs.declared.byte_set.ByteSet.{ByteSet}
+use Rattle.bit_sets.specs.declared.byte_set.ByteSet.{ByteSet}
 use Rattle.byte_automaton.specs.Texts.{AllBytes}
-use Rattle.byte_automaton.specs.inner.Pass.{is_listed}
+use Rattle.bit_sets.specs.Numbers.{is_listed}
 use Rattle.byte_dfa.specs.inner.Lists.{list_at, IsList}
 
 -- A state is the place where its row begins. The row has an entry for each class of bytes, and the places of two lists: of

@@ -1,6 +1,6 @@
 -- Sets of keys that may seem to have others, too.
 use Rattle.std.specs.Prelude.{ℕ, ◌*◌, Bool, length}
-use Rattle.byte_automaton.specs.Bits.{bit_of}
+use Rattle.bit_sets.specs.Bits.{bit_of}
 use Rattle.byte_filter.specs.declared.key_bits.KeyBits.{KeyBits}
 use Rattle.byte_filter.specs.Hashes.{place_of}
 

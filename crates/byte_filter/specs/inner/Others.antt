@@ -1,6 +1,6 @@
 -- Bytes of texts, as bits.
 use Rattle.std.specs.Prelude.{◌≡◌, ℕ, ◌<◌, ◌⊎◌, List, length, slice_index, Contains, IsTrue}
-use Rattle.byte_automaton.specs.Bits.{bit_of}
+use Rattle.bit_sets.specs.Bits.{bit_of}
 use Rattle.byte_automaton.specs.Steps.{Machine}
 use Rattle.byte_filter.specs.Others.{HasByteBefore, IsRequiredByte}
 

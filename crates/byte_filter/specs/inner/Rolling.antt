@@ -1,6 +1,6 @@
 -- The key of a window, as it is moved along a text.
 use Rattle.std.specs.Prelude.{◌≡◌, ℕ, ◌+◌, ◌*◌, ◌%◌, List, slice_index}
-use Rattle.byte_automaton.specs.Forcing.{folded}
+use Rattle.bit_sets.specs.Bytes.{folded}
 use Rattle.byte_filter.specs.Windows.{key_at}
 
 -- the last three bytes of the key are those of the text from the position i on, folded; of these the last two, and the last, too

@@ -1,6 +1,6 @@
 -- Signatures of texts, and signs of windows.
 use Rattle.std.specs.Prelude.{◌≡◌, ℕ, ◌<◌, ◌⊎◌, ◌↔◌, List, slice_index, Contains, IsTrue, true}
-use Rattle.byte_automaton.specs.Bits.{bit_of}
+use Rattle.bit_sets.specs.Bits.{bit_of}
 use Rattle.byte_filter.specs.Signs.{sign_of, IsSign}
 use Rattle.byte_filter.specs.declared.signature.Signature.{Signature}
 

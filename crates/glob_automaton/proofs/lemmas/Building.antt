@@ -3,7 +3,7 @@ use Rattle.std.proofs.Common.{ℕ, ◌≤◌, Bool, List, [], ◌∷◌, ◌++�
 use Rattle.glob_syntax.specs.declared.options.Options.{Options}
 use Rattle.byte_automaton.specs.Steps.{State, reads, skips, Machine}
 use Rattle.byte_automaton.specs.Building.{Agrees, Keeps, Pushes}
-use Rattle.byte_automaton.specs.declared.byte_set.ByteSet.{ByteSet}
+use Rattle.bit_sets.specs.declared.byte_set.ByteSet.{ByteSet}
 use Rattle.glob_automaton.specs.Characters.{is_between}
 use Rattle.glob_automaton.specs.inner.TokenStates.{IsSetOf, is_letter, ReadsEach, continues, begins_three, is_ascii_wild}
 use Rattle.glob_automaton.specs.inner.Building.{Grows, BuildsText, BuildsRow, BuildsCharacter}

@@ -14,7 +14,8 @@ use Rattle.glob_syntax.specs.inner.Weight.{weight, token_weight, branches_weight
 use Rattle.glob_syntax.proofs.lemmas.FlatTokens.{IsSole}
 use Rattle.glob_automaton.specs.Blank.{is_blank_token, is_kept, any_kept}
 use Rattle.byte_automaton.specs.Steps.{State, skips, state, Machine}
-use Rattle.byte_automaton.specs.Building.{AreBelow, Pushes}
+use Rattle.bit_sets.specs.Numbers.{AreBelow}
+use Rattle.byte_automaton.specs.Building.{Pushes}
 use Rattle.byte_automaton.specs.Runs.{size}
 use Rattle.glob_automaton.specs.inner.TokenStates.{IsBuilt, IsBuiltToken, AreBuilt}
 use Rattle.glob_automaton.specs.inner.Building.{Grows, Builds, BuildsToken}

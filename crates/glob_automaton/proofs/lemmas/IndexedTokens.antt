@@ -9,7 +9,7 @@ use Rattle.glob_automaton.specs.Takes.{takes_all}
 use Rattle.glob_automaton.specs.TokenMeans.{means, is_prefix_alone}
 use Rattle.byte_automaton.specs.Steps.{state, stays, final, IsIn, Accepts, Machine, IsReached}
 use Rattle.byte_automaton.specs.Building.{Agrees, Pushes}
-use Rattle.byte_automaton.specs.declared.byte_set.ByteSet.{ByteSet}
+use Rattle.bit_sets.specs.declared.byte_set.ByteSet.{ByteSet}
 use Rattle.glob_automaton.specs.inner.TokenStates.{IsSetOf, is_any_byte}
 use Rattle.glob_automaton.specs.inner.Building.{Grows, Builds, BuildsWhole}
 use Rattle.byte_automaton.specs.Texts.{AllBytes}

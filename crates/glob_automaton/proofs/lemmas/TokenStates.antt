@@ -10,9 +10,9 @@ use Rattle.glob_syntax.specs.Token.{Token, Literal, Any, ZeroOrMore, RecursivePr
 use Rattle.glob_syntax.specs.ClassBytes.{class_has}
 use Rattle.glob_automaton.specs.Takes.{takes, some_takes, takes_all, is_empty, is_one_byte, is_wild, is_wild_character, begins_with_slash, ends_with_slash, slash}
 use Rattle.glob_automaton.specs.Blank.{is_kept, any_kept}
-use Rattle.byte_automaton.specs.Sets.{has_byte}
+use Rattle.bit_sets.specs.Bytes.{has_byte}
 use Rattle.byte_automaton.specs.Steps.{State, reads, skips, stays, final, state, IsIn, Accepts, ends, by_byte, by_skip, by_out, by_stay}
-use Rattle.byte_automaton.specs.declared.byte_set.ByteSet.{ByteSet}
+use Rattle.bit_sets.specs.declared.byte_set.ByteSet.{ByteSet}
 use Rattle.byte_automaton.specs.Texts.{AllBytes}
 use Rattle.glob_automaton.specs.inner.TokenStates.{IsSetOf, is_any_byte, is_slash, Reads, Stays, spells, is_letter, IsSpelled, IsToSlash, passes, ReadsEach, AreRead, wild_rows, IsCharacter, IsBuilt, IsBuiltToken, AreBuilt}
 use Rattle.glob_automaton.proofs.lemmas.Booleans.{and_both, and_first, and_second, or_first, or_second, or_either}

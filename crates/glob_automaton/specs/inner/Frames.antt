@@ -6,7 +6,8 @@ use Rattle.glob_syntax.specs.FlatTokens.{Flat, simple, opening, comma, closing}
 use Rattle.glob_syntax.specs.inner.Weight.{token_weight, branches_weight}
 use Rattle.glob_automaton.specs.Blank.{is_blank, is_blank_token, are_blank}
 use Rattle.byte_automaton.specs.Steps.{State, Machine}
-use Rattle.byte_automaton.specs.Building.{AreBelow, Agrees}
+use Rattle.bit_sets.specs.Numbers.{AreBelow}
+use Rattle.byte_automaton.specs.Building.{Agrees}
 use Rattle.byte_automaton.specs.Runs.{size}
 use Rattle.glob_automaton.specs.inner.TokenStates.{IsBuilt, AreBuilt}
 use Rattle.glob_automaton.specs.inner.Building.{Grows, BuildsToken}

@@ -7,9 +7,9 @@ use Rattle.std.specs.Str.{bytes_eq}
 use Rattle.glob_automaton.specs.Takes.{slash, is_wild, compared}
 use Rattle.glob_automaton.specs.Blank.{is_kept, any_kept}
 use Rattle.glob_automaton.specs.Characters.{is_between}
-use Rattle.byte_automaton.specs.Sets.{has_byte}
+use Rattle.bit_sets.specs.Bytes.{has_byte}
 use Rattle.byte_automaton.specs.Steps.{State, reads, skips, stays, state}
-use Rattle.byte_automaton.specs.declared.byte_set.ByteSet.{ByteSet}
+use Rattle.bit_sets.specs.declared.byte_set.ByteSet.{ByteSet}
 
 -- ---- one state
 

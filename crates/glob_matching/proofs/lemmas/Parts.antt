@@ -6,7 +6,7 @@ use Rattle.std.proofs.lemmas.List.{take_more, take_all, length-append, length-ma
 use Rattle.std.proofs.lemmas.Nat.{mul-le}
 use Rattle.std.proofs.Math.ListN.{get_or-map}
 use Rattle.std.proofs.Math.Logic.{⊎_elim}
-use Rattle.byte_automaton.specs.Building.{AreBelow}
+use Rattle.bit_sets.specs.Numbers.{AreBelow}
 use Rattle.byte_automaton.specs.Live.{MatchesAfter}
 use Rattle.byte_automaton.specs.Parts.{IsReachedBetween, IsPart}
 use Rattle.byte_automaton.specs.Runs.{size}

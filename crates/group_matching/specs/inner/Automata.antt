@@ -4,8 +4,8 @@ use Rattle.std.specs.Option.{option_map_or}
 use Rattle.byte_automaton.specs.Live.{MatchesAfter}
 use Rattle.byte_automaton.specs.Steps.{IsIn, Machine}
 use Rattle.byte_automaton.specs.Runs.{size, most_reads}
-use Rattle.byte_automaton.specs.Sets.{has_index, index_room}
-use Rattle.byte_automaton.specs.declared.index_set.IndexSet.{IndexSet}
+use Rattle.bit_sets.specs.Indexes.{has_index, index_room}
+use Rattle.bit_sets.specs.declared.index_set.IndexSet.{IndexSet}
 use Rattle.byte_table.specs.Entries.{Entry, indexes_under}
 use Rattle.glob_automaton.specs.After.{MeanAfter, SomeMeanAfter}
 use Rattle.glob_automaton.specs.IndexedTokens.{IndexedTokens, SomeMatches, IsFor}

@@ -1,6 +1,7 @@
 -- How much room the sets have that matching works with.
 use Rattle.std.specs.Prelude.{ℕ, ◌≤◌}
-use Rattle.byte_automaton.specs.Sets.{index_room, sets_room}
+use Rattle.bit_sets.specs.Indexes.{index_room}
+use Rattle.byte_automaton.specs.Sets.{sets_room}
 use Rattle.group_matching.specs.declared.matching_sets.MatchingSets.{MatchingSets}
 
 -- room for automata of so many states, and for the indexes below a number

@@ -1,5 +1,5 @@
 use Rattle.std.proofs.Common.{◌+◌, ◌-◌, ◌≤◌}
-use Rattle.byte_automaton.specs.Sets.{has_index}
+use Rattle.bit_sets.specs.Indexes.{has_index}
 use Rattle.byte_dfa.proofs.lemmas.Lists.{IsListedTo}
 use Rattle.byte_dfa.proofs.lists.indexes_from.Given as goal
 

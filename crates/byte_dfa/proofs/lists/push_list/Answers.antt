@@ -1,6 +1,6 @@
 use Rattle.std.proofs.Common.{◌≡◌, ℕ, ◌+◌, ◌∷◌, [], ◌++◌, List, length, IsTrue, append_assoc, arith, refl, sym, ◌∙◌}
 use Rattle.std.proofs.lemmas.Bool.{eqb-true}
-use Rattle.byte_automaton.specs.Sets.{has_index}
+use Rattle.bit_sets.specs.Indexes.{has_index}
 use Rattle.byte_dfa.proofs.lemmas.Lists.{keeps_lists, keeps_then, list_empty, list_last}
 use Rattle.byte_dfa.proofs.lists.push_list.Goals as goal
 

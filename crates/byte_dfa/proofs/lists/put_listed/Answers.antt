@@ -1,6 +1,6 @@
 use Rattle.std.proofs.Common.{◌<◌, length, slice_index, arith, refl, ap, ◌∙◌}
 use Rattle.std.proofs.lemmas.List.{take_all}
-use Rattle.byte_automaton.specs.Sets.{has_index}
+use Rattle.bit_sets.specs.Indexes.{has_index}
 use Rattle.byte_dfa.specs.inner.Lists.{list_at}
 use Rattle.byte_dfa.proofs.lemmas.Lists.{list_range, put_more}
 use Rattle.byte_dfa.proofs.lists.put_listed.Goals as goal

@@ -1,6 +1,6 @@
 use Rattle.std.proofs.Common.{◌≡◌, ℕ, ◌||◌, take}
-use Rattle.byte_automaton.specs.Sets.{has_index, index_room}
-use Rattle.byte_automaton.specs.inner.Pass.{is_listed}
+use Rattle.bit_sets.specs.Indexes.{has_index, index_room}
+use Rattle.bit_sets.specs.Numbers.{is_listed}
 use Rattle.byte_dfa.specs.inner.Lists.{list_at}
 use Rattle.byte_dfa.proofs.lists.put_listed.Given as goal
 

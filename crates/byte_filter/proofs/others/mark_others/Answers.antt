@@ -3,7 +3,7 @@ use Rattle.std.specs.Prelude.{◌==◌}
 use Rattle.std.proofs.Math.Logic.{⊎_elim}
 use Rattle.std.proofs.lemmas.List.{take_all}
 use Rattle.byte_automaton.proofs.lemmas.Pass.{or_first, or_second}
-use Rattle.byte_automaton.specs.Sets.{has_index, index_room}
+use Rattle.bit_sets.specs.Indexes.{has_index, index_room}
 use Rattle.byte_filter.specs.Others.{HasEach, IsOther}
 use Rattle.byte_filter.proofs.lemmas.Others.{other_at, below_at, other_more}
 use Rattle.byte_filter.proofs.others.mark_others.Goals.{then-has_signs, else-has_signs}

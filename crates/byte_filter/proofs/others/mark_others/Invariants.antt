@@ -1,5 +1,5 @@
 use Rattle.std.proofs.Common.{◌≡◌, ℕ, take, IsTrue}
-use Rattle.byte_automaton.specs.Sets.{has_index, index_room}
+use Rattle.bit_sets.specs.Indexes.{has_index, index_room}
 use Rattle.byte_filter.specs.Others.{IsOther}
 use Rattle.byte_filter.proofs.others.mark_others.Given as goal
 

@@ -1,5 +1,5 @@
 use Rattle.std.proofs.Common.{ℕ, ◌<◌, slice_index, IsTrue}
-use Rattle.byte_automaton.specs.Bits.{bit_of}
+use Rattle.bit_sets.specs.Bits.{bit_of}
 use Rattle.byte_filter.proofs.signature.has_signs.Given as goal
 
 abbrev pub invariant-loop-sign : goal.invariant-loop-sign

@@ -1,7 +1,7 @@
 use Rattle.std.proofs.Common.{◌≡◌, ◌+◌, [], ◌∷◌, length, IsTrue, arith, refl, ap, subst, ◌∙◌}
 use Rattle.std.specs.Prelude.{◌↔◌}
-use Rattle.byte_automaton.specs.Bits.{bit_of}
-use Rattle.byte_automaton.proofs.lemmas.Bits.{bit_zeros}
+use Rattle.bit_sets.specs.Bits.{bit_of}
+use Rattle.bit_sets.proofs.lemmas.Bits.{bit_zeros}
 use Rattle.byte_filter.specs.Signs.{sign_of, IsSignBefore}
 use Rattle.byte_filter.proofs.lemmas.Signatures.{bits_first, bits_more}
 use Rattle.byte_filter.proofs.lemmas.Windows.{key_moved}

@@ -1,6 +1,6 @@
 use Rattle.std.proofs.Common.{ℕ, ◌+◌, ◌<◌, IsTrue}
 use Rattle.std.specs.Prelude.{◌↔◌}
-use Rattle.byte_automaton.specs.Bits.{bit_of}
+use Rattle.bit_sets.specs.Bits.{bit_of}
 use Rattle.byte_filter.specs.Signs.{IsSignBefore}
 use Rattle.byte_filter.specs.inner.Rolling.{EndsInThree}
 use Rattle.byte_filter.proofs.signature.words_of.Given as goal

@@ -1,6 +1,6 @@
 use Rattle.std.proofs.Common.{◌+◌, sym, ap, ◌∙◌, arith, drop, rules}
 use Rattle.std.specs.Prelude.{option_and_then}
-use Rattle.byte_automaton.proofs.lemmas.IndexSets.{also_then}
+use Rattle.bit_sets.proofs.lemmas.IndexSets.{also_then}
 use Rattle.byte_trie.specs.inner.Sides.{from_side}
 use Rattle.byte_trie.specs.inner.Nodes.{child_at, held_at, under, along}
 use Rattle.byte_trie.proofs.lemmas.Sides.{length-from_side}

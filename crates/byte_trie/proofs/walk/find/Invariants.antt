@@ -1,6 +1,6 @@
 use Rattle.std.proofs.Common.{◌≡◌, ◌+◌, ◌<◌, ◌≤◌, length, drop}
-use Rattle.byte_automaton.specs.Sets.{index_room, HasAlso}
-use Rattle.byte_automaton.specs.declared.index_set.IndexSet.{IndexSet}
+use Rattle.bit_sets.specs.Indexes.{index_room, HasAlso}
+use Rattle.bit_sets.specs.declared.index_set.IndexSet.{IndexSet}
 use Rattle.byte_trie.specs.inner.Sides.{from_side}
 use Rattle.byte_trie.specs.inner.Nodes.{under, along, node_count}
 use Rattle.byte_trie.proofs.walk.find.Given as goal

@@ -5,7 +5,8 @@ use Rattle.glob_syntax.specs.FlatTokens.{all_levels, levels_of, opening, comma, 
 use Rattle.glob_syntax.specs.Views.{flat_of, flats}
 use Rattle.glob_syntax.proofs.lemmas.FlatTokens.{levels_more, open_around, depth, sole}
 use Rattle.byte_automaton.specs.Steps.{skips}
-use Rattle.byte_automaton.specs.Building.{AreBelow, Pushes}
+use Rattle.bit_sets.specs.Numbers.{AreBelow}
+use Rattle.byte_automaton.specs.Building.{Pushes}
 use Rattle.byte_automaton.specs.Runs.{size}
 use Rattle.glob_automaton.specs.inner.Frames.{Frame, frame_of, frames_of, ended, nexts_of, Stands}
 use Rattle.glob_automaton.specs.inner.Building.{Grows}

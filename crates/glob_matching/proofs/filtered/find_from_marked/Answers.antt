@@ -1,5 +1,5 @@
 use Rattle.std.proofs.Common.{◌≡◌, ℕ, ◌+◌, ◌<◌, ◌≤◌, length, true, false, ap, arith, ◌∙◌}
-use Rattle.byte_automaton.specs.Sets.{has_index}
+use Rattle.bit_sets.specs.Indexes.{has_index}
 use Rattle.glob_matching.proofs.lemmas.Filtered.{found_all, found_more, visits_all, visits_more}
 use Rattle.glob_matching.proofs.filtered.find_from_marked.Goals as goal
 

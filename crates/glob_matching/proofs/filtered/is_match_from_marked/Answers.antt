@@ -1,7 +1,7 @@
 use Rattle.std.proofs.Common.{◌≡◌, ℕ, ◌+◌, ◌<◌, ◌≤◌, length, slice_index, IsTrue, true, false, true≢false, refl, ap, arith, sym, ◌∙◌}
 use Rattle.std.proofs.Math.Logic.{⊎_elim}
 use Rattle.std.specs.Prelude.{◌↔◌}
-use Rattle.byte_automaton.specs.Sets.{has_index}
+use Rattle.bit_sets.specs.Indexes.{has_index}
 use Rattle.byte_automaton.specs.Steps.{Accepts}
 use Rattle.glob_matching.proofs.lemmas.Filtered.{before_all, before_more, visits_all, visits_more}
 use Rattle.glob_matching.proofs.filtered.is_match_from_marked.Goals as goal

@@ -1,6 +1,7 @@
 use Rattle.std.proofs.Common.{◌≡◌, ℕ, ◌+◌, ◌*◌, ◌≤◌, ◌⊎◌, IsTrue, length, take}
 use Rattle.std.specs.Prelude.{◌↔◌}
-use Rattle.byte_automaton.specs.Sets.{has_index, index_room, sets_room}
+use Rattle.bit_sets.specs.Indexes.{has_index, index_room}
+use Rattle.byte_automaton.specs.Sets.{sets_room}
 use Rattle.glob_matching.specs.inner.Parts.{SomeReached, total}
 use Rattle.glob_matching.proofs.parts.find_by_simulation.Given as goal
 

@@ -2,7 +2,7 @@ use Rattle.std.proofs.Common.{◌≡◌, ℕ, ◌⊎◌, inr, List, IsTrue, ap, 
 use Rattle.std.specs.Prelude.{◌↔◌, OnOk}
 use Rattle.std.proofs.Math.Logic.{⊎_elim}
 use Rattle.byte_automaton.specs.Runs.{size, most_reads}
-use Rattle.byte_automaton.specs.Sets.{has_index}
+use Rattle.bit_sets.specs.Indexes.{has_index}
 use Rattle.glob_automaton.specs.IndexedTokens.{IndexedTokens, SomeMatches, IsFor}
 use Rattle.glob_automaton.proofs.lemmas.IndexedTokens.{all_bytes}
 use Rattle.glob_path.specs.PathParts.{last_component}

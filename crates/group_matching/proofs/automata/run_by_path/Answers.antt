@@ -1,7 +1,7 @@
 use Rattle.std.proofs.Common.{◌≡◌, inr, IsTrue, arith}
 use Rattle.std.proofs.Math.Logic.{⊎_elim}
 use Rattle.byte_automaton.specs.Runs.{size}
-use Rattle.byte_automaton.specs.Sets.{has_index}
+use Rattle.bit_sets.specs.Indexes.{has_index}
 use Rattle.glob_automaton.proofs.lemmas.IndexedTokens.{all_bytes}
 use Rattle.group_matching.proofs.lemmas.Automata.{no_matches}
 use Rattle.group_matching.proofs.automata.run_by_path.Goals as goal

@@ -1,7 +1,7 @@
 use Rattle.std.proofs.Common.{◌≡◌, ◌≤◌, ◌-◌}
 use Rattle.std.specs.Prelude.{filter, vec_capacity}
 use Rattle.std.specs.List.{range_with_len}
-use Rattle.byte_automaton.specs.Sets.{has_index}
+use Rattle.bit_sets.specs.Indexes.{has_index}
 use Rattle.group_matching.proofs.marks.push_marked.Given as goal
 
 abbrev pub invariant-loop-index : goal.invariant-loop-index

@@ -1,6 +1,6 @@
 use Rattle.std.proofs.Common.{◌≡◌, ◌+◌, sym, subst}
 use Rattle.byte_automaton.specs.Alike.{reads_byte}
-use Rattle.byte_automaton.specs.Sets.{has_byte}
+use Rattle.bit_sets.specs.Bytes.{has_byte}
 use Rattle.byte_automaton.specs.Steps.{state}
 use Rattle.byte_automaton.specs.inner.Views.{AreHeld, machine}
 use Rattle.byte_automaton.proofs.lemmas.Alike.{alike_more}

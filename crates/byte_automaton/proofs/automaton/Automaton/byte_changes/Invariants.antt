@@ -1,7 +1,7 @@
 use Rattle.std.proofs.Common.{◌≡◌, ℕ, ◌+◌, ◌<◌}
 use Rattle.std.specs.Prelude.{◌↔◌, IsFalse}
 use Rattle.byte_automaton.specs.Alike.{reads_byte}
-use Rattle.byte_automaton.specs.Sets.{has_byte}
+use Rattle.bit_sets.specs.Bytes.{has_byte}
 use Rattle.byte_automaton.specs.Steps.{state}
 use Rattle.byte_automaton.proofs.automaton.Automaton.byte_changes.Given as goal
 

@@ -1,5 +1,6 @@
 use Rattle.std.proofs.Common.{◌<◌, ◌≤◌, [], false, arith, sym, ◌∙◌, refl}
-use Rattle.byte_automaton.specs.Sets.{has_state, has_index}
+use Rattle.bit_sets.specs.Indexes.{has_index}
+use Rattle.byte_automaton.specs.Sets.{has_state}
 use Rattle.byte_automaton.specs.Steps.{state}
 use Rattle.byte_automaton.proofs.lemmas.Pass.{iff_trans, some_found, read_passed, read_taken, stays_at_end, names_it, names_none, last_position}
 use Rattle.byte_automaton.proofs.lemmas.Spans.{none_lower, read_from, still_from}

@@ -1,6 +1,7 @@
 use Rattle.std.proofs.Common.{◌≡◌, ℕ, ◌+◌, ◌<◌, ◌≤◌, [], ◌⊎◌, false, IsTrue}
 use Rattle.std.specs.Prelude.{◌↔◌}
-use Rattle.byte_automaton.specs.Sets.{has_state, has_index, state_room, index_room}
+use Rattle.bit_sets.specs.Indexes.{has_index, index_room}
+use Rattle.byte_automaton.specs.Sets.{has_state, state_room}
 use Rattle.byte_automaton.specs.inner.Pass.{Alive, Holds}
 use Rattle.byte_automaton.proofs.automaton.Automaton.ends_in.Given as goal
 

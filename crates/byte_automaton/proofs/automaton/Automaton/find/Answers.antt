@@ -1,7 +1,8 @@
 use Rattle.std.proofs.Common.{◌≡◌, min, true≢false, sym, inr, IsTrue, ℕ, ◌+◌, ◌<◌, ◌∷◌, [], length, get_or, drop, arith, ap, ◌∙◌}
 use Rattle.std.proofs.lemmas.List.{drop_more, drop_all}
 use Rattle.std.proofs.Math.Logic.{⊎_elim}
-use Rattle.byte_automaton.specs.Sets.{index_room, state_room, has_index}
+use Rattle.bit_sets.specs.Indexes.{index_room, has_index}
+use Rattle.byte_automaton.specs.Sets.{state_room}
 use Rattle.byte_automaton.specs.Steps.{IsReached}
 use Rattle.byte_automaton.specs.Runs.{size}
 use Rattle.byte_automaton.proofs.lemmas.Loops.{visits_within}

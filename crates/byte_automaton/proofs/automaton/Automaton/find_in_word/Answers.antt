@@ -2,11 +2,11 @@ use Rattle.std.proofs.Common.{◌<◌, ◌≤◌, [], inl, inr, false, true≢fa
 use Rattle.std.proofs.lemmas.Bool.{cases_lt}
 use Rattle.byte_automaton.specs.Parts.{GoesFrom}
 use Rattle.byte_automaton.specs.Runs.{size}
-use Rattle.byte_automaton.specs.Sets.{has_index}
+use Rattle.bit_sets.specs.Indexes.{has_index}
 use Rattle.byte_automaton.specs.Steps.{state}
-use Rattle.byte_automaton.specs.inner.WordSets.{has_in_word}
+use Rattle.bit_sets.specs.WordSets.{has_in_word}
 use Rattle.byte_automaton.proofs.lemmas.Pass.{iff_trans, stays_at_end, names_it, names_none}
-use Rattle.byte_automaton.proofs.lemmas.WordSets.{bit_low, word_falls}
+use Rattle.bit_sets.proofs.lemmas.WordSets.{bit_low, word_falls}
 use Rattle.byte_automaton.proofs.lemmas.WordPass.{none_left, word_taken}
 use Rattle.byte_automaton.proofs.automaton.Automaton.find_in_word.Goals as goal
 

@@ -1,10 +1,10 @@
 use Rattle.std.proofs.Common.{◌≡◌, ℕ, ◌+◌, ◌*◌, ◌<◌, ◌≤◌, ◌⊎◌, [], length, false, IsTrue}
 use Rattle.std.specs.Prelude.{◌↔◌}
 use Rattle.byte_automaton.specs.Runs.{size}
-use Rattle.byte_automaton.specs.Sets.{has_index, index_room}
+use Rattle.bit_sets.specs.Indexes.{has_index, index_room}
 use Rattle.byte_automaton.specs.Steps.{Accepts}
 use Rattle.byte_automaton.specs.inner.Pass.{Holds}
-use Rattle.byte_automaton.specs.inner.WordSets.{has_in_word, AreInWordBelow}
+use Rattle.bit_sets.specs.WordSets.{has_in_word, AreInWordBelow}
 use Rattle.byte_automaton.proofs.automaton.Automaton.find_in_word.Given as goal
 
 abbrev pub invariant-loop-s : goal.invariant-loop-s

@@ -1,6 +1,7 @@
 use Rattle.std.proofs.Common.{◌≡◌, min, true≢false, sym, ℕ, ◌+◌, ◌<◌, ◌∷◌, [], length, get_or, drop, arith, ap, ◌∙◌}
 use Rattle.std.proofs.lemmas.List.{drop_more, drop_all}
-use Rattle.byte_automaton.specs.Sets.{index_room, state_room}
+use Rattle.bit_sets.specs.Indexes.{index_room}
+use Rattle.byte_automaton.specs.Sets.{state_room}
 use Rattle.byte_automaton.specs.Runs.{size}
 use Rattle.byte_automaton.proofs.lemmas.Loops.{visits_within}
 use Rattle.byte_automaton.proofs.lemmas.Pass.{iff_trans}

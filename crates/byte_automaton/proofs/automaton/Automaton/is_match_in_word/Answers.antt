@@ -3,9 +3,9 @@ use Rattle.std.proofs.lemmas.Bool.{cases_lt}
 use Rattle.byte_automaton.specs.Parts.{GoesFrom}
 use Rattle.byte_automaton.specs.Runs.{size}
 use Rattle.byte_automaton.specs.Steps.{state, Accepts}
-use Rattle.byte_automaton.specs.inner.WordSets.{has_in_word}
+use Rattle.bit_sets.specs.WordSets.{has_in_word}
 use Rattle.byte_automaton.proofs.lemmas.Pass.{iff_trans, stays_at_end, names_none, no_end, some_end}
-use Rattle.byte_automaton.proofs.lemmas.WordSets.{bit_low, word_falls}
+use Rattle.bit_sets.proofs.lemmas.WordSets.{bit_low, word_falls}
 use Rattle.byte_automaton.proofs.lemmas.WordPass.{none_left, word_taken}
 use Rattle.byte_automaton.proofs.automaton.Automaton.is_match_in_word.Goals as goal
 

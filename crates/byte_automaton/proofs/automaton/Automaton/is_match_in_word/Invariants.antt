@@ -3,7 +3,7 @@ use Rattle.std.specs.Prelude.{◌↔◌}
 use Rattle.byte_automaton.specs.Runs.{size}
 use Rattle.byte_automaton.specs.Steps.{Accepts}
 use Rattle.byte_automaton.specs.inner.Pass.{Holds}
-use Rattle.byte_automaton.specs.inner.WordSets.{has_in_word, AreInWordBelow}
+use Rattle.bit_sets.specs.WordSets.{has_in_word, AreInWordBelow}
 use Rattle.byte_automaton.proofs.automaton.Automaton.is_match_in_word.Given as goal
 
 abbrev pub invariant-loop-s : goal.invariant-loop-s

@@ -1,5 +1,6 @@
 use Rattle.std.proofs.Common.{ℕ, ◌<◌, Some, IsTrue}
-use Rattle.byte_automaton.specs.Sets.{has_byte, has_state}
+use Rattle.bit_sets.specs.Bytes.{has_byte}
+use Rattle.byte_automaton.specs.Sets.{has_state}
 use Rattle.byte_automaton.specs.Steps.{state}
 use Rattle.byte_automaton.specs.inner.Pass.{goes_next}
 use Rattle.byte_automaton.proofs.automaton.Automaton.last_bytes.Given as goal

@@ -2,7 +2,7 @@ use Rattle.std.proofs.Common.{◌≡◌, ◌+◌, ◌<◌, ◌∷◌, [], length
 use Rattle.std.proofs.lemmas.Nat.{mul-le}
 use Rattle.std.proofs.lemmas.Bool.{eqb-true, or_cases}
 use Rattle.std.proofs.lemmas.List.{drop_more, drop_all}
-use Rattle.byte_automaton.specs.inner.WordSets.{has_in_word}
+use Rattle.bit_sets.specs.WordSets.{has_in_word}
 use Rattle.byte_automaton.proofs.lemmas.Pass.{iff_trans}
 use Rattle.byte_automaton.proofs.lemmas.Spans.{one_accepts, one_put}
 use Rattle.byte_automaton.proofs.lemmas.WordPass.{none_accepts}

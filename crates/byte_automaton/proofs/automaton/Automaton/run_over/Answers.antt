@@ -1,7 +1,8 @@
 use Rattle.std.proofs.Common.{◌≡◌, min, true≢false, sym, ℕ, ◌+◌, ◌<◌, ◌∷◌, [], length, get_or, drop, arith, ap, refl, ◌∙◌}
 use Rattle.std.proofs.lemmas.Nat.{mul-le}
 use Rattle.std.proofs.lemmas.List.{drop_more, drop_all}
-use Rattle.byte_automaton.specs.Sets.{index_room, state_room, has_state}
+use Rattle.bit_sets.specs.Indexes.{index_room}
+use Rattle.byte_automaton.specs.Sets.{state_room, has_state}
 use Rattle.byte_automaton.proofs.lemmas.Pass.{iff_trans}
 use Rattle.byte_automaton.proofs.lemmas.Spans.{one_accepts, one_within, one_put, within_below}
 use Rattle.byte_automaton.proofs.automaton.Automaton.run_over.Goals as goal

@@ -3,10 +3,10 @@ use Rattle.std.proofs.Common.{◌<◌, ◌≤◌, ◌+◌, ◌∷◌, inl, inr, 
 use Rattle.byte_automaton.specs.Parts.{GoesFrom}
 use Rattle.byte_automaton.specs.Runs.{size}
 use Rattle.byte_automaton.specs.Steps.{state}
-use Rattle.byte_automaton.specs.inner.WordSets.{has_in_word}
+use Rattle.bit_sets.specs.WordSets.{has_in_word}
 use Rattle.byte_automaton.proofs.lemmas.Pass.{iff_trans, none_swept, quiet_step, next_position}
 use Rattle.byte_automaton.proofs.lemmas.Spans.{none_lower, still_within}
-use Rattle.byte_automaton.proofs.lemmas.WordSets.{bit_low, word_falls}
+use Rattle.bit_sets.proofs.lemmas.WordSets.{bit_low, word_falls}
 use Rattle.byte_automaton.proofs.lemmas.WordPass.{none_left, word_taken}
 use Rattle.byte_automaton.proofs.automaton.Automaton.step_in_word.Goals as goal
 

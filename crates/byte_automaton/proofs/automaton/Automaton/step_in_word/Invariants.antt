@@ -2,7 +2,8 @@ use Rattle.std.proofs.Common.{◌≡◌, ℕ, ◌+◌, ◌≤◌, ◌∷◌, Lis
 use Rattle.std.specs.Prelude.{◌↔◌}
 use Rattle.byte_automaton.specs.Runs.{size}
 use Rattle.byte_automaton.specs.inner.Pass.{Holds}
-use Rattle.byte_automaton.specs.inner.WordSets.{has_in_word, AreInWordBelow, AcceptsInWord}
+use Rattle.bit_sets.specs.WordSets.{has_in_word, AreInWordBelow}
+use Rattle.byte_automaton.specs.inner.WordSets.{AcceptsInWord}
 use Rattle.byte_automaton.proofs.automaton.Automaton.step_in_word.Given as goal
 
 abbrev pub invariant-loop-s : goal.invariant-loop-s

@@ -2,7 +2,7 @@ use Rattle.std.proofs.Common.{◌≡◌, ℕ, ◌+◌, ◌*◌, [], ◌∷◌, �
 use Rattle.std.proofs.lemmas.List.{length-map}
 use Rattle.byte_automaton.specs.Steps.{Machine, state}
 use Rattle.byte_automaton.specs.Runs.{size}
-use Rattle.byte_automaton.specs.Building.{AreBelow}
+use Rattle.bit_sets.specs.Numbers.{AreBelow}
 use Rattle.byte_automaton.specs.inner.Views.{of_state, NamesBelow, machine}
 use Rattle.byte_automaton.proofs.lemmas.Decisions.{AreDecided, decided_more, same_more, all_decisions}
 use Rattle.byte_automaton.proofs.automaton.Automaton.with_decisions.Goals as goal

@@ -1,7 +1,7 @@
 use Rattle.std.proofs.Common.{◌≡◌, ℕ, ◌+◌, ◌*◌, ◌<◌, ◌≤◌, ◌&&◌, ◌||◌, length}
 use Rattle.std.specs.Prelude.{◌==◌}
-use Rattle.byte_automaton.specs.Bits.{bit_of}
-use Rattle.byte_automaton.specs.Sets.{has_byte}
+use Rattle.bit_sets.specs.Bits.{bit_of}
+use Rattle.bit_sets.specs.Bytes.{has_byte}
 use Rattle.byte_automaton.proofs.automaton.word_passes.add_column.Given as goal
 
 abbrev pub invariant-loop-c : goal.invariant-loop-c

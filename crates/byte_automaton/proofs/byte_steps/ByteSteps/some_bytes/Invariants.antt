@@ -1,5 +1,5 @@
 use Rattle.std.proofs.Common.{◌≡◌, ℕ, ◌||◌, false, drop}
-use Rattle.byte_automaton.specs.Sets.{has_byte}
+use Rattle.bit_sets.specs.Bytes.{has_byte}
 use Rattle.byte_automaton.specs.ByteSteps.{is_some_byte, is_step_to}
 use Rattle.byte_automaton.proofs.byte_steps.ByteSteps.some_bytes.Given as goal
 

@@ -1,6 +1,6 @@
 use Rattle.std.proofs.Common.{◌≡◌, ℕ, false, true≢false, refl, sym, ◌∙◌, [], arith}
-use Rattle.byte_automaton.specs.Bits.{bit_of}
-use Rattle.byte_automaton.proofs.lemmas.Bits.{bit_past}
+use Rattle.bit_sets.specs.Bits.{bit_of}
+use Rattle.bit_sets.proofs.lemmas.Bits.{bit_past}
 use Rattle.byte_automaton.proofs.state_set.StateSet.empty.Goals as goal
 
 pub invariant_of-result : goal.invariant_of-result

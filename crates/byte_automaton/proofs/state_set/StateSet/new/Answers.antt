@@ -1,8 +1,8 @@
 use Rattle.std.proofs.Common.{◌≡◌, ℕ, false, true≢false, refl, replicate, sym, ◌∙◌, arith}
 use Rattle.std.proofs.Math.Seq.{take-nil}
 use Rattle.std.proofs.Math.Nat.{sub-zero}
-use Rattle.byte_automaton.specs.Bits.{bit_of}
-use Rattle.byte_automaton.proofs.lemmas.Bits.{bit_zeros}
+use Rattle.bit_sets.specs.Bits.{bit_of}
+use Rattle.bit_sets.proofs.lemmas.Bits.{bit_zeros}
 use Rattle.byte_automaton.proofs.state_set.StateSet.new.Goals as goal
 
 pub returns-clause-none : goal.returns-clause-none

@@ -1,7 +1,7 @@
 use Rattle.std.proofs.Common.{◌≡◌, ℕ, ◌||◌, ◌==◌, ◌++◌, length, drop, take, ap, sym, ◌∙◌, inl, inr, arith, rules}
 use Rattle.std.proofs.lemmas.Bool.{or_cases, eqb-true, cases_lt}
 use Rattle.std.proofs.lemmas.List.{places}
-use Rattle.byte_automaton.specs.Bits.{bit_of}
+use Rattle.bit_sets.specs.Bits.{bit_of}
 use Rattle.byte_automaton.proofs.state_set.StateSet.put.Goals as goal
 
 pub invariant_of-self : goal.invariant_of-self

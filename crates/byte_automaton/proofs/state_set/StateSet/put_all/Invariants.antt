@@ -1,6 +1,6 @@
 use Rattle.std.proofs.Common.{◌≡◌, ℕ, ◌||◌, drop}
 use Rattle.byte_automaton.specs.Sets.{has_state, state_room}
-use Rattle.byte_automaton.specs.inner.Pass.{is_listed}
+use Rattle.bit_sets.specs.Numbers.{is_listed}
 use Rattle.byte_automaton.proofs.state_set.StateSet.put_all.Given as goal
 
 abbrev pub invariant-loop-state : goal.invariant-loop-state

@@ -2,10 +2,9 @@ use Rattle.std.proofs.Common.{◌≡◌, ℕ, ◌+◌, ◌/◌, ◌%◌, ◌||�
 use Rattle.std.proofs.lemmas.Bool.{or_cases, eqb-true, cases_lt}
 use Rattle.std.proofs.lemmas.List.{places}
 use Rattle.std.specs.Int.{bit_at}
-use Rattle.byte_automaton.specs.Bits.{bit_of}
-use Rattle.byte_automaton.specs.inner.Blocks.{is_in_word}
+use Rattle.bit_sets.specs.Bits.{bit_of, is_in_word}
 use Rattle.byte_automaton.proofs.lemmas.Pass.{and_first}
-use Rattle.byte_automaton.proofs.lemmas.Lowered.{some_bit}
+use Rattle.bit_sets.proofs.lemmas.Lowered.{some_bit}
 use Rattle.byte_automaton.proofs.state_set.StateSet.put_lowered.Goals as goal
 
 pub invariant_of-self : goal.invariant_of-self

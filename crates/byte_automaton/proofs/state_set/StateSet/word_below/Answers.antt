@@ -1,6 +1,6 @@
 use Rattle.std.proofs.Common.{◌≡◌, ℕ, ◌-◌, ◌/◌, ◌%◌, eqb, get_or, ap, sym, ◌∙◌, refl, arith}
 use Rattle.std.specs.Int.{bit_at}
-use Rattle.byte_automaton.proofs.lemmas.Bits.{masked, kept_bit, cut_bit, bit_in, zero_bit}
+use Rattle.bit_sets.proofs.lemmas.Bits.{masked, kept_bit, cut_bit, bit_in, zero_bit}
 use Rattle.byte_automaton.proofs.lemmas.Blocks.{word_read}
 use Rattle.byte_automaton.proofs.state_set.StateSet.word_below.Goals as goal
 

@@ -1,7 +1,7 @@
 use Rattle.std.proofs.Common.{◌≡◌, ℕ, ◌+◌, ◌*◌, ◌/◌, ◌∷◌, [], ◌++◌, IsTrue, length, refl, sym, ap, subst, ◌∙◌, arith, length-append}
 use Rattle.std.specs.Prelude.{◌↔◌}
 use Rattle.byte_automaton.specs.Runs.{AcceptsFrom}
-use Rattle.byte_automaton.specs.Sets.{has_index}
+use Rattle.bit_sets.specs.Indexes.{has_index}
 use Rattle.byte_dfa.specs.declared.construction.Found.{Found}
 use Rattle.byte_dfa.specs.inner.Building.{half, HasRoomFor, IsFound}
 use Rattle.byte_dfa.specs.inner.Lists.{IsListOf}

@@ -1,7 +1,7 @@
 use Rattle.std.proofs.Common.{◌≡◌, Bool, true, false, ◌&&◌, refl, sym, ap, ◌∙◌, arith}
 use Rattle.std.proofs.lemmas.Option.{slice_get_read}
 use Rattle.std.specs.Cmp.Lexicographic.{same_text}
-use Rattle.byte_automaton.specs.Bits.{bit_of}
+use Rattle.bit_sets.specs.Bits.{bit_of}
 use Rattle.byte_dfa.proofs.construction.Construction.known.Goals as goal
 
 both_first : (p q : Bool) → (p && q) ≡ true → true ≡ p

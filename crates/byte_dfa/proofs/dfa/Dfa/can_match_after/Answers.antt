@@ -2,7 +2,7 @@ use Rattle.std.proofs.Common.{◌≡◌, ℕ, ◌+◌, ◌/◌, ◌%◌, ◌<◌
 use Rattle.std.proofs.lemmas.List.{drop_more, drop_all}
 use Rattle.std.specs.Prelude.{◌↔◌, slice_index_or}
 use Rattle.byte_automaton.specs.Live.{MatchesAfter}
-use Rattle.byte_automaton.specs.inner.Pass.{is_listed}
+use Rattle.bit_sets.specs.Numbers.{is_listed}
 use Rattle.byte_automaton.proofs.lemmas.Deciding.{all_bytes}
 use Rattle.byte_automaton.proofs.lemmas.Pass.{or_first}
 use Rattle.byte_dfa.specs.DfaValue.{DfaValue}

@@ -1,9 +1,9 @@
 use Rattle.std.proofs.Common.{◌≡◌, ℕ, ◌+◌, ◌<◌, ◌≤◌, ◌∷◌, ◌-◌, ◌||◌, inr, [], drop, length, get_or, slice_index, IsTrue, arith, sym, ap, subst, ◌∙◌}
 use Rattle.std.proofs.Math.Logic.{⊎_elim}
 use Rattle.std.proofs.lemmas.List.{drop_more, drop_all}
-use Rattle.byte_automaton.specs.Sets.{has_index, index_room}
+use Rattle.bit_sets.specs.Indexes.{has_index, index_room}
 use Rattle.byte_automaton.proofs.lemmas.Deciding.{all_bytes}
-use Rattle.byte_automaton.specs.inner.Pass.{is_listed}
+use Rattle.bit_sets.specs.Numbers.{is_listed}
 use Rattle.byte_dfa.specs.DfaValue.{DfaValue}
 use Rattle.byte_dfa.specs.inner.Tables.{table_of, entry, special, on_entry, finds}
 use Rattle.byte_dfa.proofs.lemmas.Lists.{list_wider}

@@ -1,6 +1,6 @@
 use Rattle.std.proofs.Common.{◌≡◌, ℕ, ◌+◌, ◌≤◌, ◌||◌, drop, IsTrue}
-use Rattle.byte_automaton.specs.Sets.{has_index, index_room}
-use Rattle.byte_automaton.specs.inner.Pass.{is_listed}
+use Rattle.bit_sets.specs.Indexes.{has_index, index_room}
+use Rattle.bit_sets.specs.Numbers.{is_listed}
 use Rattle.byte_dfa.specs.inner.Tables.{table_of, later, finds, on_entry, IsRow}
 use Rattle.byte_dfa.proofs.dfa.Dfa.find.Given as goal
 

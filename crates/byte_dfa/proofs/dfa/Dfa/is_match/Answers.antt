@@ -1,6 +1,6 @@
 use Rattle.std.proofs.Common.{◌≡◌, ℕ, ◌+◌, ◌<◌, ◌∷◌, ◌-◌, [], drop, length, get_or, slice_index, true≢false, arith, sym, ap, ◌∙◌}
 use Rattle.std.proofs.lemmas.List.{drop_more, drop_all}
-use Rattle.byte_automaton.specs.inner.Pass.{is_listed}
+use Rattle.bit_sets.specs.Numbers.{is_listed}
 use Rattle.byte_automaton.proofs.lemmas.Deciding.{all_bytes}
 use Rattle.byte_automaton.proofs.lemmas.Pass.{or_first}
 use Rattle.byte_dfa.specs.DfaValue.{DfaValue}

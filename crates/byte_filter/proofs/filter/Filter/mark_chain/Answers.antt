@@ -1,7 +1,7 @@
 use Rattle.std.proofs.Common.{◌≡◌, ℕ, ◌+◌, ◌-◌, ◌<◌, ◌⊎◌, ◌||◌, inl, inr, IsTrue, true≢false, length, arith, refl, ap, sym, subst, ◌∙◌}
 use Rattle.std.specs.Prelude.{◌↔◌, ◌==◌}
 use Rattle.std.proofs.Math.Logic.{⊎_elim}
-use Rattle.byte_automaton.specs.Sets.{has_index, index_room}
+use Rattle.bit_sets.specs.Indexes.{has_index, index_room}
 use Rattle.byte_filter.specs.Entries.{HasEntry, ArePartsBelow}
 use Rattle.byte_filter.specs.inner.Chains.{link_at, IsLast, HasEntryFrom}
 use Rattle.byte_filter.specs.Hashes.{place_of}

@@ -1,6 +1,6 @@
 use Rattle.std.proofs.Common.{◌%◌, inr, sym, subst, IsTrue}
 use Rattle.std.proofs.Math.Logic.{⊎_elim}
-use Rattle.byte_automaton.specs.Sets.{has_index}
+use Rattle.bit_sets.specs.Indexes.{has_index}
 use Rattle.byte_filter.specs.Entries.{HasEntry}
 use Rattle.byte_filter.proofs.lemmas.Chains.{none_short}
 use Rattle.byte_filter.proofs.filter.Filter.mark_short.Goals as goal

@@ -1,7 +1,7 @@
 use Rattle.std.proofs.Common.{◌+◌, ◌*◌, ◌≤◌, length, inl, inr, IsTrue, arith, ap, sym, subst, ◌∙◌}
 use Rattle.std.proofs.Math.Logic.{⊎_elim}
 use Rattle.std.proofs.lemmas.Nat.{mul-le}
-use Rattle.byte_automaton.specs.Sets.{has_index, index_room}
+use Rattle.bit_sets.specs.Indexes.{has_index, index_room}
 use Rattle.byte_automaton.proofs.lemmas.Deciding.{all_bytes}
 use Rattle.byte_filter.specs.Entries.{IsNamed}
 use Rattle.byte_filter.specs.Others.{IsOther}

@@ -1,7 +1,7 @@
 use Rattle.std.proofs.Common.{◌+◌, ◌≤◌, ◌⊎◌, IsTrue, length, arith, ap, subst}
 use Rattle.std.specs.Prelude.{◌↔◌}
 use Rattle.byte_automaton.specs.Runs.{size}
-use Rattle.byte_automaton.specs.Sets.{has_index}
+use Rattle.bit_sets.specs.Indexes.{has_index}
 use Rattle.byte_automaton.specs.Steps.{Machine, IsReached}
 use Rattle.glob_matching.specs.inner.Parts.{total}
 use Rattle.glob_matching.proofs.lemmas.Parts.{found_all, whole_reached, on_ok, visits_more, visits_upto}

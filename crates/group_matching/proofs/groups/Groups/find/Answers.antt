@@ -1,5 +1,5 @@
 use Rattle.std.proofs.Common.{◌≡◌, length, ap, arith, ◌∙◌}
-use Rattle.byte_automaton.specs.Sets.{has_index}
+use Rattle.bit_sets.specs.Indexes.{has_index}
 use Rattle.group_matching.specs.inner.Groups.{GroupParts, group_count}
 use Rattle.group_matching.proofs.lemmas.Matching.{marked_are}
 use Rattle.group_matching.proofs.groups.Groups.find.Goals as goal

@@ -1,6 +1,6 @@
 use Rattle.std.proofs.Common.{◌≤◌, length, ap, sym, subst, arith}
 use Rattle.std.specs.Prelude.{◌↔◌, IsTrue}
-use Rattle.byte_automaton.specs.Sets.{has_index, index_room}
+use Rattle.bit_sets.specs.Indexes.{has_index, index_room}
 use Rattle.group_matching.specs.inner.Automata.{AreFound, reads_for}
 use Rattle.group_matching.specs.inner.Groups.{GroupParts, AreGroupsOf, group_count}
 use Rattle.group_matching.proofs.lemmas.Groups.{group_parts}

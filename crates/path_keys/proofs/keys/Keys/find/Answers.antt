@@ -1,6 +1,6 @@
 use Rattle.std.proofs.Common.{◌≡◌, ◌∙◌, ◌++◌, ap, subst}
-use Rattle.byte_automaton.specs.Sets.{HasAlso}
-use Rattle.byte_automaton.proofs.lemmas.IndexSets.{also_then}
+use Rattle.bit_sets.specs.Indexes.{HasAlso}
+use Rattle.bit_sets.proofs.lemmas.IndexSets.{also_then}
 use Rattle.byte_table.specs.Entries.{indexes_under}
 use Rattle.byte_trie.specs.Texts.{Texts, found}
 use Rattle.byte_trie.specs.declared.side.Side.{Side}

@@ -1,0 +1,9 @@
+pub mod Bits
+pub mod Combining
+pub mod Clearing
+pub mod Disjoint
+pub mod Lowered
+pub mod Changes
+pub mod Summaries
+pub mod IndexSets
+pub mod WordSets

@@ -1,0 +1,16 @@
+-- Sets of indexes.
+use Rattle.std.specs.Prelude.{ℕ, ◌*◌, ◌<◌, ◌⊎◌, ◌↔◌, Bool, List, length, IsTrue, Contains}
+use Rattle.bit_sets.specs.Bits.{bit_of}
+use Rattle.bit_sets.specs.declared.index_set.IndexSet.{IndexSet}
+
+-- the set has the index k
+abbrev pub has_index : IndexSet → ℕ → Bool
+has_index set k = bit_of set.words.items k
+
+-- a set has room for the indexes below this
+abbrev pub index_room : IndexSet → ℕ
+index_room set = 64 * length set.words.items
+
+-- the new set has what the old one has, and those of the indexes that the old one has room for
+abbrev pub HasAlso : IndexSet → IndexSet → List ℕ → Type 0
+HasAlso old new indexes = (k : ℕ) → IsTrue (has_index new k) ↔ ((Contains indexes k × (k < index_room old)) ⊎ IsTrue (has_index old k))

@@ -1,0 +1,145 @@
+//! Sets of indexes.
+
+ghost use Rattle.bit_sets.specs.inner.Summary.{IsSummary};
+
+use crate::words::{
+    clear_all, clear_words, first_from, first_in_word, grow, has_bit, set_bit, words_for,
+};
+use std::alloc::{AllocError, Global};
+
+/// A set of indexes, as a bit for each.
+///
+/// ```
+/// // The indexes below `count`, ascending.
+/// let mut from = 0;
+/// while let Some(index) = found.next_below(from, count) {
+///     list.push(index)?;
+///     from = index + 1;
+/// }
+/// ```
+pub struct IndexSet {
+    words: Vec<u64>,
+    /// A bit for each word, which is set if the word has a bit that is. So 64 words without one are passed over at once, and
+    /// only words that have one are cleared.
+    summary: Vec<u64>,
+    ghost summed: { IsSummary words.items summary.items },
+}
+
+impl Drop for IndexSet {
+    // One call wherever a value is dropped, which keeps proofs short.
+    fn drop(self) {
+        let IndexSet {
+            words: _,
+            summary: _,
+        } = self;
+    }
+}
+
+impl IndexSet {
+    ghost use Rattle.std.specs.Prelude.{◌≡◌, ℕ, ◌<◌, ◌≤◌, ◌||◌, ◌==◌, ◌↔◌, true, false, IfOk, OnOk, IsOk, IsTrue, MatchOption};
+    ghost use Rattle.bit_sets.specs.Indexes.{has_index, index_room, HasAlso};
+
+    /// Returns an empty set with room for no index. It allocates nothing.
+    pub fn empty(alloc: Global) -> IndexSet
+        ensures room { index_room result ≡ 0 }
+        ensures none { (k : ℕ) → has_index result k ≡ false }
+    {
+        IndexSet {
+            words: Vec::new(alloc),
+            summary: Vec::new(alloc),
+        }
+    }
+
+    /// Returns an empty set with room for so many indexes. It takes a bit of memory for each, and one more for each 64. Returns
+    /// an error if memory runs out.
+    pub fn new(alloc: Global, indexes: usize) -> Result<IndexSet, AllocError>
+        ensures room { IfOk result (λ set. indexes ≤ index_room set) }
+        ensures none { IfOk result (λ set. (k : ℕ) → has_index set k ≡ false) }
+    {
+        let mut set = IndexSet::empty(alloc);
+        set.reserve(indexes)?;
+        Ok(set)
+    }
+
+    /// Makes room for so many indexes, if there is less. It takes a bit of memory for each, and one more for each 64. Returns an
+    /// error if memory runs out. The set has the same indexes in each case.
+    pub fn reserve(&mut self, indexes: usize) -> Result<(), AllocError>
+        ensures ok { OnOk result (indexes ≤ index_room self.new) }
+        ensures kept { index_room self.old ≤ index_room self.new }
+        ensures has { (k : ℕ) → has_index self.new k ≡ has_index self.old k }
+        ensures memory { indexes ≤ index_room self.old → IsOk result }
+    {
+        let words = words_for(indexes);
+        grow(&mut self.summary, words_for(words))?;
+        grow(&mut self.words, words)
+    }
+
+    /// Takes every index out. The time follows how many were put in; beside that, a word is written for each 4,096 indexes that
+    /// there is room for.
+    pub fn clear(&mut self)
+        ensures room { index_room self.new ≡ index_room self.old }
+        ensures none { (k : ℕ) → has_index self.new k ≡ false }
+    {
+        clear_words(&mut self.words, &self.summary);
+        clear_all(&mut self.summary);
+    }
+
+    /// Returns whether there is room for an index.
+    pub fn has_room_for(&self, index: usize) -> bool
+        ensures { IsTrue result ↔ (index < index_room self.now) }
+    {
+        index / 64 < self.words.len()
+    }
+
+    /// Returns whether an index is in the set.
+    pub fn has(&self, index: usize) -> bool
+        ensures { result ≡ has_index self.now index }
+    {
+        if self.has_room_for(index) {
+            return has_bit(&self.words, index);
+        }
+        false
+    }
+
+    /// Puts an index in.
+    pub fn put(&mut self, index: usize)
+        requires { index < index_room self.old }
+        ensures room { index_room self.new ≡ index_room self.old }
+        ensures has { (k : ℕ) → has_index self.new k ≡ ((k == index) || has_index self.old k) }
+    {
+        set_bit(&mut self.words, index);
+        set_bit(&mut self.summary, index / 64);
+    }
+
+    /// Puts those of some indexes in that there is room for.
+    pub fn put_all(&mut self, indexes: &[usize])
+        ensures room { index_room self.new ≡ index_room self.old }
+        ensures has { HasAlso self.old self.new indexes.now }
+    {
+        for index in indexes {
+            if self.has_room_for(*index) {
+                self.put(*index);
+            }
+        }
+    }
+
+    /// Returns the lowest index of the set from a number on and below another, or `None` if there is none. 64 times 64 numbers
+    /// that are not in the set are passed over at once.
+    pub fn next_below(&self, from: usize, end: usize) -> Option<usize>
+        ensures { MatchOption result ((k : ℕ) → from ≤ k → k < end → has_index self.now k ≡ false) (λ at. (from ≤ at) × (at < end) × (has_index self.now at ≡ true) × ((k : ℕ) → from ≤ k → k < at → has_index self.now k ≡ false)) }
+    {
+        let at = self.first_from(from)?;
+        if at < end { Some(at) } else { None }
+    }
+
+    /// Returns the lowest index of the set from a number on, or `None` if there is none.
+    fn first_from(&self, from: usize) -> Option<usize>
+        ensures { MatchOption result ((k : ℕ) → from ≤ k → has_index self.now k ≡ false) (λ at. (from ≤ at) × (has_index self.now at ≡ true) × ((k : ℕ) → from ≤ k → k < at → has_index self.now k ≡ false)) }
+    {
+        if let Some(index) = first_in_word(&self.words, from) {
+            return Some(index);
+        }
+        let word = first_from(&self.summary, from / 64 + 1)?;
+        first_in_word(&self.words, word * 64)
+    }
+}

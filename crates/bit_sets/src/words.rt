@@ -1,0 +1,246 @@
+//! Sets of numbers, as the bits of machine words.
+
+ghost use Rattle.std.specs.Prelude.{◌≡◌, ℕ, ◌+◌, ◌-◌, ◌*◌, ◌/◌, ◌%◌, ◌^◌, ◌<◌, ◌≤◌, ◌&&◌, ◌||◌, ◌==◌, max, ◌↔◌, not, true, false, length, MatchOption, OnOk, IsOk, IsTrue};
+ghost use Rattle.std.specs.Int.{bit_at};
+ghost use Rattle.bit_sets.specs.Bits.{bit_of, is_in_word};
+ghost use Rattle.bit_sets.specs.Seen.{IsLastBelow};
+
+use std::alloc::AllocError;
+use std::hash::{FoldHasher, Hasher};
+
+/// A bit that was read, and whether it is set.
+#[derive(Clone, Copy)]
+pub struct Seen {
+    pub at: usize,
+    pub is_set: bool,
+}
+
+/// Returns how many words have room for so many bits.
+pub fn words_for(bits: usize) -> usize
+    ensures room { bits ≤ 64 * result }
+    ensures least { 64 * result < bits + 64 }
+    ensures fits { 64 * result ≤ 2 ^ 64 }
+{
+    if bits % 64 == 0 {
+        bits / 64
+    } else {
+        bits / 64 + 1
+    }
+}
+
+/// Adds words without a bit until there are so many words. Returns an error if memory runs out; the words are then as they were.
+pub fn grow(words: &mut Vec<u64>, count: usize) -> Result<(), AllocError>
+    ensures ok { OnOk result (count ≤ length words.new.items) }
+    ensures kept { length words.old.items ≤ length words.new.items }
+    ensures most { length words.new.items ≤ max count (length words.old.items) }
+    ensures bits { (k : ℕ) → bit_of words.new.items k ≡ bit_of words.old.items k }
+    ensures memory { count ≤ length words.old.items → IsOk result }
+{
+    if count > words.len() {
+        words.resize(count, 0)?;
+    }
+    Ok(())
+}
+
+/// Returns whether a bit is set.
+pub fn has_bit(words: &[u64], k: usize) -> bool
+    requires { k < 64 * length words.now }
+    ensures { result ≡ bit_of words.now k }
+{
+    (words[k / 64] >> (k % 64)) & 1 == 1
+}
+
+/// Sets a bit.
+pub fn set_bit(words: &mut [u64], k: usize)
+    requires { k < 64 * length words.old }
+    ensures { (j : ℕ) → bit_of words.new j ≡ ((j == k) || bit_of words.old j) }
+{
+    let word = words[k / 64];
+    words[k / 64] = word | (1u64 << (k % 64));
+}
+
+/// Clears a bit.
+pub fn clear_bit(words: &mut [u64], k: usize)
+    requires { k < 64 * length words.old }
+    ensures { (j : ℕ) → bit_of words.new j ≡ (not (j == k) && bit_of words.old j) }
+{
+    let word = words[k / 64];
+    words[k / 64] = word & !(1u64 << (k % 64));
+}
+
+/// Returns a word that has each bit in which a word and the same word moved down by one bit are different. The lowest bit of
+/// `next` moves in.
+pub fn changes(word: u64, next: u64) -> u64
+    ensures inside { (i : ℕ) → i < 63 → bit_at result i ≡ (bit_at word i + bit_at word (i + 1)) % 2 }
+    ensures last { bit_at result 63 ≡ (bit_at word 63 + bit_at next 0) % 2 }
+{
+    word ^ ((word >> 1) | ((next & 1) << 63))
+}
+
+/// Clears the bits between these two, and all others of their words.
+pub fn clear_between(words: &mut [u64], first: usize, last: usize)
+    requires order { first ≤ last }
+    requires within { last < 64 * length words.old }
+    ensures between { (k : ℕ) → first ≤ k → k ≤ last → bit_of words.new k ≡ false }
+    ensures others { (k : ℕ) → bit_of words.new k ≡ true → bit_of words.old k ≡ true }
+{
+    words[first / 64..last / 64 + 1].fill(0);
+}
+
+/// Hashes the words of the bits between these two.
+pub fn hash_between(words: &[u64], first: usize, last: usize, hasher: &mut FoldHasher)
+    requires order { first ≤ last }
+    requires within { last < 64 * length words.now }
+{
+    for word in &words[first / 64..last / 64 + 1] {
+        hasher.write_u64(*word);
+    }
+}
+
+/// Sets each bit that is set in other words.
+pub fn add_bits(words: &mut [u64], other: &[u64])
+    requires { length other.now ≡ length words.old }
+    ensures { (k : ℕ) → bit_of words.new k ≡ (bit_of other.now k || bit_of words.old k) }
+{
+    for i in 0..words.len() {
+        words[i] = words[i] | other[i];
+    }
+}
+
+/// Clears each bit that is not set in other words.
+pub fn keep_bits(words: &mut [u64], other: &[u64])
+    requires { length other.now ≡ length words.old }
+    ensures { (k : ℕ) → bit_of words.new k ≡ (bit_of other.now k && bit_of words.old k) }
+{
+    for i in 0..words.len() {
+        words[i] = words[i] & other[i];
+    }
+}
+
+/// Clears each bit that is set in other words.
+pub fn remove_bits(words: &mut [u64], other: &[u64])
+    requires { length other.now ≡ length words.old }
+    ensures { (k : ℕ) → bit_of words.new k ≡ (not (bit_of other.now k) && bit_of words.old k) }
+{
+    for i in 0..words.len() {
+        words[i] = words[i] & !other[i];
+    }
+}
+
+/// Returns whether each bit that is set is also set in other words.
+pub fn are_within(words: &[u64], other: &[u64]) -> bool
+    requires { length other.now ≡ length words.now }
+    ensures { IsTrue result → (k : ℕ) → IsTrue (bit_of words.now k) → IsTrue (bit_of other.now k) }
+{
+    for i in 0..words.len() {
+        if words[i] & !other[i] != 0 {
+            return false;
+        }
+    }
+    true
+}
+
+/// Returns whether no bit is set both in these and in other words.
+pub fn are_disjoint(words: &[u64], other: &[u64]) -> bool
+    ensures { IsTrue result ↔ ((k : ℕ) → IsTrue (bit_of words.now k) → bit_of other.now k ≡ false) }
+{
+    let count = words.len().min(other.len());
+    for i in 0..count {
+        if words[i] & other[i] != 0 {
+            return false;
+        }
+    }
+    true
+}
+
+/// Sets the bit below each bit of a word that stands at a place. The bit below its lowest one is the highest of the word
+/// before.
+pub fn set_lowered(words: &mut [u64], at: usize, word: u64)
+    requires within { at < length words.old }
+    requires fits { at * 64 < 2 ^ 64 }
+    requires before { bit_at word 0 ≡ 1 → 0 < at }
+    ensures { (k : ℕ) → bit_of words.new k ≡ (is_in_word at word (k + 1) || bit_of words.old k) }
+{
+    let old = words[at];
+    words[at] = old | (word >> 1);
+    if word & 1 == 1 {
+        set_bit(words, at * 64 - 1);
+    }
+}
+
+/// Clears all bits.
+pub fn clear_all(words: &mut [u64])
+    ensures { (k : ℕ) → bit_of words.new k ≡ false }
+{
+    words.fill(0);
+}
+
+/// Clears all bits of the words whose places are set in other words.
+pub fn clear_words(words: &mut [u64], places: &[u64])
+    requires { 64 * length places.now ≤ 2 ^ 64 }
+    ensures { (k : ℕ) → bit_of words.new k ≡ (not (bit_of places.now (k / 64)) && bit_of words.old k) }
+{
+    let mut from = 0;
+    while let Some(place) = first_from(places, from) {
+        if place >= words.len() {
+            break;
+        }
+        words[place] = 0;
+        from = place + 1;
+    }
+}
+
+/// Returns the highest bit that is set below the bound, or the lowest bit of the last word below the bound where nothing
+/// in this word is set below the bound.
+pub fn last_below(words: &[u64], upto: usize) -> Seen
+    requires some { 0 < upto }
+    requires within { upto ≤ 64 * length words.now }
+    ensures { IsLastBelow words.now upto result }
+{
+    let last = upto - 1;
+    let mask = words[last / 64] & (u64::MAX >> (63 - last % 64));
+    if mask == 0 {
+        Seen {
+            at: last / 64 * 64,
+            is_set: false,
+        }
+    } else {
+        Seen {
+            at: last / 64 * 64 + (63 - mask.leading_zeros() as usize),
+            is_set: true,
+        }
+    }
+}
+
+/// Returns the lowest bit that is set in a bit's word, from this bit on.
+pub fn first_in_word(words: &[u64], from: usize) -> Option<usize>
+    ensures { MatchOption result ((k : ℕ) → from ≤ k → k / 64 ≡ from / 64 → bit_of words.now k ≡ false) (λ at. (from ≤ at) × (bit_of words.now at ≡ true) × ((k : ℕ) → from ≤ k → k < at → bit_of words.now k ≡ false)) }
+{
+    let at = from / 64;
+    if at >= words.len() {
+        return None;
+    }
+    let word = words[at] & (u64::MAX << (from % 64));
+    if word == 0 {
+        return None;
+    }
+    Some(at * 64 + word.trailing_zeros() as usize)
+}
+
+/// Returns the lowest bit that is set from a bit on.
+pub fn first_from(words: &[u64], from: usize) -> Option<usize>
+    requires { 64 * length words.now ≤ 2 ^ 64 }
+    ensures { MatchOption result ((k : ℕ) → from ≤ k → bit_of words.now k ≡ false) (λ at. (from ≤ at) × (bit_of words.now at ≡ true) × ((k : ℕ) → from ≤ k → k < at → bit_of words.now k ≡ false)) }
+{
+    let mut at = from / 64;
+    let mut mask = u64::MAX << (from % 64);
+    while at < words.len() {
+        let word = words[at] & mask;
+        if word != 0 {
+            return Some(at * 64 + word.trailing_zeros() as usize);
+        }
+        mask = u64::MAX;
+        at += 1;
+    }
+    None
+}

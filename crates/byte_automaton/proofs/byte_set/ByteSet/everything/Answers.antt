@@ -1,6 +1,0 @@
-use Rattle.std.proofs.Common.{arith}
-use Rattle.byte_automaton.proofs.lemmas.Bits.{bit_ones}
-use Rattle.byte_automaton.proofs.byte_set.ByteSet.everything.Goals as goal
-
-pub returns : goal.returns
-returns c = λ b lt. bit_ones 4 b (omega arith)

@@ -1,7 +1,0 @@
-use Rattle.std.proofs.Common.{◌≡◌, ℕ, ◌&&◌, false, slice_index_or}
-use Rattle.std.specs.Prelude.{nat_lt}
-use Rattle.byte_automaton.specs.Bits.{bit_of}
-use Rattle.byte_automaton.proofs.byte_set.ByteSet.from_table.Given as goal
-
-abbrev pub invariant-loop-i : goal.invariant-loop-i
-invariant-loop-i l = (k : ℕ) → bit_of l.words k ≡ (nat_lt k l.i && slice_index_or l.table k false)

@@ -1,9 +1,0 @@
-use Rattle.std.proofs.Common.{◌≡◌, take}
-use Rattle.byte_automaton.specs.Sets.{index_room, HasAlso}
-use Rattle.byte_automaton.proofs.index_set.IndexSet.put_all.Given as goal
-
-abbrev pub invariant-loop-index : goal.invariant-loop-index
-invariant-loop-index l = record {
-  room : index_room l.self ≡ index_room l.fn.self;
-  has : HasAlso l.fn.self l.self (take l.index-index l.indexes);
-}

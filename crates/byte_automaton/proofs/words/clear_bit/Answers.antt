@@ -1,6 +1,0 @@
-use Rattle.std.proofs.Common.{refl, arith}
-use Rattle.byte_automaton.proofs.lemmas.Bits.{bit_cleared}
-use Rattle.byte_automaton.proofs.words.clear_bit.Goals as goal
-
-pub returns : goal.returns
-returns c = λ j. bit_cleared c.args.words.now c.args.k _ j (omega arith) refl
