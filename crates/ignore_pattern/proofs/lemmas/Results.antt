@@ -3,7 +3,6 @@ use Rattle.std.proofs.Common.{◌≡◌, ℕ, true, false, List, Some, None, inl
 use Rattle.std.specs.Prelude.{IsOk}
 use Rattle.globset_glob.specs.Means.{GlobValue, IsRead}
 use Rattle.globset_glob.specs.Errors.{ErrorValue, IsRefusalOf, out_of_memory}
-use Rattle.ignore_pattern.specs.declared.pattern.IgnorePattern.{IgnorePattern}
 use Rattle.ignore_pattern.specs.declared.reading.PatternText.{PatternText}
 use Rattle.ignore_pattern.specs.Answer.{IsPatternOf}
 use Rattle.ignore_pattern.specs.Globs.{glob_of_line}

@@ -1,4 +1,3 @@
-use Rattle.std.proofs.Common.{◌∙◌}
 use Rattle.ignore_pattern.proofs.lemmas.Results.{returned_none, returned, only_memory}
 use Rattle.ignore_pattern.proofs.pattern.pattern_of_line.Goals as goal
 
