@@ -5,7 +5,7 @@ CLASSES = (
     "[z-a] [!z-a] [^z-a] [a--] [a-\\]] [!/] [^/] [/] [.-0] [!.-0] a[/]b a[!b]b a[.-0]b x/[!/] [a/] [a/ [a-] [-a] [!a-] [!-a] [a-z-] [--a] [--/]"
     " [] [!] [^] []] [!]] [^]] []-a] [!]-a] []a [!]a] [\\]] [!\\]] [\\]a] [a\\] [a [a-b-z] [a-m-z] [\\a-z] [a-\\z] [\\a-\\z] [\\--a] [a\\-z] [\\\\] [\\\\-a]"
     " [\\ [!\\ [a- [a-\\ [^!] [!^] [!!] [^^] [a!] [a^] [[] [[a] [[a]] [a]] [[-a] [a-[] a[b-]c [x]]"
-    " [é] [!é] [é][é] [é]* [a-é] [é-z] [é-ü] [!a-é] [¿-¿] [a¿-¿] [ÿ-¿] [¿-À] [\\é-ü] [a-\\é] [日-本] [-é] ? ?? ??? é \\é é? ?é* 日本"
+    " [é] [!é] [é][é] [é]* [a-é] [é-z] [é-ü] [!a-é] [¿-¿] [a¿-¿] [ÿ-¿] [¿-À] [ü-é] [é-a] [a-é-z] [é-ü-z] [\\é-ü] [a-\\é] [日-本] [-é] ? ?? ??? é \\é é? ?é* 日本"
 ).split(" ")
 NAMES = "alnum alpha blank cntrl digit graph lower print punct space upper xdigit word ascii ALPHA al al\\pha".split() + ["", " alpha", "alpha "]
 NAMED = [f"{before}[{no}[:{name}:]]" for name in NAMES for before, no in (("", ""), ("", "!"), ("x", ""))]
@@ -38,5 +38,5 @@ PATHS = (
     " x/foo x/foo\\ a/a/b x/ax/b x/ax/y/b a/[ c/a c/b c/b/a c/é c/日本 c/a. #a/b a#b"
 ).split(" ")
 PATHS = [path.encode() for path in PATHS if path not in (".", "..")]
-PATHS += [text.encode() for text in (" ", "  ", "a ", "a  ", " a", " a ", "a b", "\t", "a\t", "a \t", "a\t\t", "\ta", "a\r", "a\r\r", "\r\ra", "a\rb", "a\n", "\n", "\ufeffa", "\ufeff", "a\x0b", "a\x0c", "\x0ba", "\x7f", "a\\ ", "a\\  ", "#a ", "!", "x\t", "x\r", "x ", "x\x0b", "x\x7f", "x_")]
-PATHS += [b"\xff", b"a\xff", b"\xc3", b"\xa9", b"x\xc3", b"\xbf", b"\xc0", b"\xc1", b"\xc2", b"\xed\xa0\x80", b"\xf4\x90\x80\x80", b"\xc0\xaf", b"a\x80", b"c/\xff", b"c/\xc0", b"\xe6"]
+PATHS += [text.encode() for text in (" ", "  ", "a ", "a  ", " a", " a ", "a b", "\t", "a\t", "a \t", "a\t\t", "\ta", "a\r", "a\r\r", "\r\ra", "a\rb", "a\n", "\n", "\ufeffa", "\ufeff", "a\x0b", "a\x0c", "\x0ba", "\x7f", "a\\ ", "a\\  ", "#a ", " #a", "!", "x\t", "x\r", "x ", "x\x0b", "x\x7f", "x_")]
+PATHS += [b"\xff", b"a\xff", b"\xc3", b"\xa9", b"\xac", b"\xbc", b"x\xc3", b"\xbf", b"\xc0", b"\xc1", b"\xc2", b"\xed\xa0\x80", b"\xf4\x90\x80\x80", b"\xc0\xaf", b"a\x80", b"c/\xff", b"c/\xc0", b"\xe6"]

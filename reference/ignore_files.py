@@ -11,7 +11,7 @@ ODD_WORDS = ["é", "ü¿", "日本", "a b", " a", "a ", "\t", "a\r", "#a", "!a",
 ODD_WORDS = [word.encode() for word in ODD_WORDS] + [b"\xff", b"\xc3", b"\xef\xbb\xbf", b"\x7f", b"\x0b", b"\n"]
 FOLDERS = [b"a/", b"b/", b"x/", b"a/b/", b"foo/", b"a/b/c/", "é/".encode(), b"[a]/", b"a*/"]
 NAMES = "alnum alpha blank cntrl digit graph lower print punct space upper xdigit word Alpha".split() + [""]
-CHARACTERS = [c.encode() for c in "abcxz09AZ.-]![^\\/:*? é¿üÿ\t{}"] + [b"-", b"-", b"]"]
+CHARACTERS = [c.encode() for c in "abcxz09AZ.-]![^\\/:*? éé¿üÿ日\t{}"] + [b"-", b"-", b"]"]
 BYTES = [bytes((byte,)) for byte in b"abcxz09AZ.-]![^\\:*? \t\r\n\x0b\x7f\x80\xa9\xbf\xc0\xc3\xe9\xff{},#"]
 WHOLE_LINES = [b"", b"", b"#a", b"#", b" #a", b" ", b"!", b"!/", b"/", b"//", b"//a", b"\\", b"\r", b"*", b"/*", b"!*/", b"!/*", b"**", b"!a", b"\xff"]
 BEGINNINGS = [b""] * 10 + [b"!"] * 6 + [b"/"] * 4 + [b"!/", b"\\!", b"\\#", b"!!", b" ", b"!\\#", b"**/", b"./"]
@@ -88,8 +88,11 @@ def body(chance):
 
 
 def line(chance):
-    if chance.random() < 0.12:
+    kind = chance.random()
+    if kind < 0.12:
         return chance.choice(WHOLE_LINES)
+    if kind < 0.3:
+        return chance.choice([b"", b"", b"!", b"/", b"x", b"!x"]) + class_text(chance) + chance.choice([b"", b"", b"", b"b", b"*", b"/b"])
     return (chance.choice(BEGINNINGS) + body(chance) + chance.choice(ENDINGS)).replace(b"\n", b"")
 
 
@@ -107,8 +110,8 @@ def class_byte(chance, text, at):
     """Returns a byte for the class after a `[`, perhaps of it, and a position after it."""
     end = text.find(b"]", at + 2)
     end = len(text) if end < 0 else end
-    inner = text[at:end] or b"a"
-    return pick(chance, [inner[i : i + 1] for i in range(len(inner))], BYTES, 0.6), end + 1
+    near = [bytes(((byte + more) % 256,)) for byte in text[at:end] for more in (0, 0, 0, 1, -1)]
+    return pick(chance, near or BYTES, BYTES, 0.6), end + 1
 
 
 def some_path(chance, text):
