@@ -194,7 +194,7 @@ def case(seed, number, count):
     chance = random.Random(f"{seed} {number}")
     folders = {b""} if chance.random() < 0.8 else set()
     folders.update(chance.sample(FOLDERS, chance.choice([0, 1, 1, 2, 3]) if folders else chance.choice([1, 2, 3])))
-    files = tuple((folder, ignore_file(chance)) for folder in sorted(folders, key=lambda folder: folder.count(b"/")))
+    files = tuple((folder, ignore_file(chance)) for folder in sorted(folders, key=lambda folder: (folder.count(b"/"), folder)))
     paths = tuple(random_path(chance, files) for _ in range(count))
     made = {path for path in paths if chance.random() < 0.35} | {folder[:-1] for folder in folders if folder}
     return Case(files, paths, with_above(made))
