@@ -13,6 +13,7 @@ pub fn push_marked(marks: &IndexSet, count: usize, into: &mut Vec<usize>) -> Res
     requires { into.old.items ≡ [] }
     ensures pushed { OnOk result (into.new.items ≡ filter (has_index marks.now) (range_with_len 0 count)) }
     ensures memory { count ≤ vec_capacity into.old → IsOk result }
+    ensures capacity { vec_capacity into.old ≤ vec_capacity into.new }
 {
     let mut from = 0;
     while let Some(index) = marks.first_from(from) {

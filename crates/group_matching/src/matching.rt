@@ -52,6 +52,7 @@ impl Groups {
         ensures cleared { OnErr result (into.new.items ≡ []) }
         ensures kept { KeepsRoom sets.old sets.new }
         ensures room { HasRoom sets.old (group_states self.now) (group_count self.now) → group_count self.now ≤ vec_capacity into.old → IsOk result }
+        ensures capacity { vec_capacity into.old ≤ vec_capacity into.new }
         ensures visits { (globs : List TokenGlob) → AreGroupsOf globs self.now → visits.new ≤ visits.old + most_visits globs path.now }
     {
         into.clear();

@@ -129,6 +129,7 @@ impl Stored {
         ensures cleared { OnErr result (into.new.items ≡ []) }
         ensures kept { KeepsRoom sets.old sets.new }
         ensures room { HasRoom sets.old (set_states self.now) (length (set_globs self.now)) → length (set_globs self.now) ≤ vec_capacity into.old → IsOk result }
+        ensures capacity { vec_capacity into.old ≤ vec_capacity into.new }
         ensures visits { visits.new ≤ visits.old + most_set_visits (set_globs self.now) path.now }
     {
         self.groups.find(path, sets, into, visits)?;

@@ -68,7 +68,7 @@ impl GlobSet {
     /// than [`GlobSet::matches_visits`] may.
     ///
     /// Returns an error if memory runs out, and no other; the vector is then empty. It needs no memory if the vector has a capacity
-    /// of [`GlobSet::len`].
+    /// of [`GlobSet::len`]. The capacity never shrinks, so that later calls need none either.
     pub fn matches_into_with(
         &self,
         path: &Candidate<'_>,
@@ -80,6 +80,7 @@ impl GlobSet {
         ensures ok { OnOk result (into.new.items ≡ answer (set_globs self.now) path.now) }
         ensures err { IfErr result (λ e. e ≡ out_of_memory) }
         ensures memory { length (set_globs self.now) ≤ vec_capacity into.old → IsOk result }
+        ensures capacity { vec_capacity into.old ≤ vec_capacity into.new }
         ensures cleared { OnErr result (into.new.items ≡ []) }
         ensures kept { scratch.new ≡ scratch.old }
         ensures visits { visits.new ≤ visits.old + most_set_visits (set_globs self.now) path.now }

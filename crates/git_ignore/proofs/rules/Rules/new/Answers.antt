@@ -1,0 +1,10 @@
+use Rattle.std.proofs.Common.{ℕ, List, subst}
+use Rattle.ignore_pattern.specs.Lines.{lines_of}
+use Rattle.git_ignore.specs.Rules.{rules_from, rules_of}
+use Rattle.git_ignore.specs.inner.Entries.{AreEntriesOf}
+use Rattle.git_ignore.proofs.rules.Rules.new.Goals as goal
+
+pub finish-requires : goal.finish-requires
+unfolding rules_of
+finish-requires c =
+    subst (λ (bytes : List ℕ). AreEntriesOf (rules_from 1 (lines_of bytes)) c.push_lines.new.self.globs c.push_lines.new.self.entries.items) c.after_mark.ensures c.in_ok-push_lines.ensures.rules

@@ -1,0 +1,5 @@
+pub mod Rules
+pub mod Folders
+pub mod RulesValue
+pub mod StackValue
+pub mod inner

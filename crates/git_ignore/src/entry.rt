@@ -1,0 +1,65 @@
+//! What is kept of a rule beside its glob.
+
+ghost use Rattle.std.specs.Prelude.{◌≡◌, ◌∷◌, None, Some, length, slice_get};
+ghost use Rattle.git_ignore.specs.inner.Entries.{chosen, decision_of, is_for, last_chosen};
+
+use crate::decision::Decision;
+
+/// What is kept of a rule beside its glob.
+#[derive(Clone, Copy, Debug)]
+pub struct RuleEntry {
+    /// The number of its line, counted from 1.
+    pub line: usize,
+    pub is_negated: bool,
+    pub is_folders_only: bool,
+}
+
+impl RuleEntry {
+    /// Returns whether the rule is for folders, or for other paths.
+    fn is_for(self, is_folder: bool) -> bool
+        ensures { result ≡ is_for is_folder self }
+    {
+        is_folder || !self.is_folders_only
+    }
+
+    /// Returns what the rule says of a path to which it is the last one that applies.
+    pub fn decision(self) -> Decision
+        ensures { result ≡ decision_of (Some self) }
+    {
+        if self.is_negated {
+            Decision::Kept
+        } else {
+            Decision::Ignored
+        }
+    }
+}
+
+/// Returns the last of the entries at these indexes that is for folders, or for other paths.
+pub fn last_entry_for(
+    entries: &[RuleEntry],
+    indexes: &[usize],
+    is_folder: bool,
+) -> Option<RuleEntry>
+    ensures { result ≡ last_chosen entries.now is_folder None indexes.now }
+{
+    let mut last = None;
+    for index in indexes {
+        last = later_entry(entries, *index, is_folder, last);
+    }
+    last
+}
+
+/// Returns the entry at an index, if it is for folders, or for other paths; and otherwise the one before.
+fn later_entry(
+    entries: &[RuleEntry],
+    index: usize,
+    is_folder: bool,
+    before: Option<RuleEntry>,
+) -> Option<RuleEntry>
+    ensures { result ≡ chosen is_folder before (slice_get entries.now index) }
+{
+    match entries.get(index) {
+        Some(entry) if entry.is_for(is_folder) => Some(*entry),
+        _ => before,
+    }
+}

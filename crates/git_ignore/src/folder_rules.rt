@@ -1,0 +1,123 @@
+//! The rules of one ignore file among several.
+
+ghost use Rattle.std.specs.Prelude.{◌≡◌, ◌<◌, ◌≤◌, ◌==◌, ◌&&◌, true, false, IfOk, IfErr, length, take, slice_index};
+ghost use Rattle.globset.specs.Errors.{out_of_memory};
+ghost use Rattle.globset.specs.SetValue.{FitsAsBefore};
+ghost use Rattle.git_ignore.specs.Folders.{file_decision, files_decision, ignores, is_below_ignored, decision_below};
+ghost use Rattle.git_ignore.specs.RulesValue.{FitsRules};
+ghost use Rattle.git_ignore.specs.inner.Stacks.{FitAll, file_of, files_of};
+
+use crate::decision::Decision;
+use crate::rules::Rules;
+use crate::scratch::IgnoreScratch;
+use globset::Error;
+use std::alloc::Global;
+
+/// The rules of an ignore file, and the folder of the file.
+pub struct FolderRules {
+    /// The path of the folder: empty for the top folder, and otherwise with `/` at its end.
+    folder: Vec<u8>,
+    rules: Rules,
+}
+
+impl Drop for FolderRules {
+    // One call wherever a value is dropped, which keeps proofs short.
+    fn drop(self) {
+        let FolderRules {
+            folder: _,
+            rules: _,
+        } = self;
+    }
+}
+
+impl FolderRules {
+    /// Reads an ignore file of a folder, and makes the scratch fit its rules. Returns an error if memory runs out, and no other.
+    pub fn new(
+        alloc: Global,
+        folder: &[u8],
+        file: &[u8],
+        scratch: &mut IgnoreScratch,
+    ) -> Result<FolderRules, Error>
+        ensures file { IfOk result (λ r. file_of r ≡ record { folder = folder.now; bytes = file.now }) }
+        ensures fits { IfOk result (λ r. FitsRules scratch.new r.rules) }
+        ensures others { FitsAsBefore scratch.old scratch.new }
+        ensures err { IfErr result (λ e. e ≡ out_of_memory) }
+    {
+        let rules = Rules::new(alloc, file)?;
+        let folder = folder.to_vec(alloc)?;
+        scratch.fit(&rules)?;
+        Ok(FolderRules { folder, rules })
+    }
+
+    /// Returns what the file says of a path, which begins in the top folder.
+    fn decide(&self, path: &[u8], is_folder: bool, scratch: &mut IgnoreScratch) -> Decision
+        requires { FitsRules scratch.old self.now.rules }
+        ensures decision { result ≡ file_decision path.now is_folder (file_of self.now) }
+        ensures scratch { scratch.new ≡ scratch.old }
+    {
+        match path.strip_prefix(self.folder.as_slice()) {
+            Some(below) => self.rules.decide(below, is_folder, scratch),
+            None => Decision::Undecided,
+        }
+    }
+}
+
+/// Returns what files say of a path, which begins in the top folder; a later file goes before an earlier one.
+fn decide_alone(
+    files: &[FolderRules],
+    path: &[u8],
+    is_folder: bool,
+    scratch: &mut IgnoreScratch,
+) -> Decision
+    requires { FitAll scratch.old files.now }
+    ensures decision { result ≡ files_decision (files_of files.now) path.now is_folder }
+    ensures scratch { scratch.new ≡ scratch.old }
+{
+    let mut count = files.len();
+    while count > 0 {
+        count -= 1;
+        let decision = files[count].decide(path, is_folder, scratch);
+        if !decision.is_undecided() {
+            return decision;
+        }
+    }
+    Decision::Undecided
+}
+
+/// Returns what files say of a path, which begins in the top folder, and of the folders above it. None of the folders that end
+/// before `start` is ignored.
+pub fn decide_below(
+    files: &[FolderRules],
+    path: &[u8],
+    start: usize,
+    is_folder: bool,
+    scratch: &mut IgnoreScratch,
+) -> Decision
+    requires fits { FitAll scratch.old files.now }
+    requires within { start ≤ length path.now }
+    requires above { is_below_ignored (files_of files.now) (take start path.now) ≡ false }
+    ensures decision { result ≡ decision_below (files_of files.now) path.now is_folder }
+    ensures scratch { scratch.new ≡ scratch.old }
+{
+    for end in start..path.len() {
+        if ignores_folder(files, path, end, scratch) {
+            return Decision::Ignored;
+        }
+    }
+    decide_alone(files, path, is_folder, scratch)
+}
+
+/// Returns whether a `/` is at this place of a path, and files ignore the folder before it.
+fn ignores_folder(
+    files: &[FolderRules],
+    path: &[u8],
+    end: usize,
+    scratch: &mut IgnoreScratch,
+) -> bool
+    requires fits { FitAll scratch.old files.now }
+    requires within { end < length path.now }
+    ensures ignored { result ≡ (slice_index path.now end == 47 && ignores (files_decision (files_of files.now) (take end path.now) true)) }
+    ensures scratch { scratch.new ≡ scratch.old }
+{
+    path[end] == b'/' && decide_alone(files, &path[..end], true, scratch).is_ignored()
+}

@@ -1,0 +1,142 @@
+//! Rules as they are read, line by line.
+
+ghost use Rattle.std.specs.Prelude.{◌≡◌, ◌<◌, ◌++◌, ◌∷◌, [], ◌+◌, ◌≤◌, ◌^◌, List, length, IfErr, IfOk, OnOk};
+ghost use Rattle.globset.specs.Errors.{out_of_memory};
+ghost use Rattle.globset.specs.SetValue.{builder_globs, set_globs};
+ghost use Rattle.ignore_pattern.specs.Lines.{lines_of, without_mark};
+ghost use Rattle.ignore_pattern.specs.Patterns.{pattern_of_line};
+ghost use Rattle.git_ignore.specs.Rules.{Rule, rules_from};
+ghost use Rattle.git_ignore.specs.inner.Entries.{AreEntriesOf, rule_at};
+
+use crate::entry::RuleEntry;
+use globset::{Error, GlobSet, GlobSetBuilder};
+use ignore_pattern::{IgnorePattern, pattern_of_line};
+use memchr::memchr;
+use std::alloc::Global;
+
+/// What some editors put at the start of a text.
+const BYTE_ORDER_MARK: &[u8] = b"\xef\xbb\xbf";
+
+/// The rules that were read so far: their globs, and an entry for each.
+pub struct RulesBuilder {
+    pub globs: GlobSetBuilder,
+    pub entries: Vec<RuleEntry>,
+    /// The numbers of lines that match nothing, and are neither blank nor a comment.
+    pub unread: Vec<usize>,
+}
+
+impl Drop for RulesBuilder {
+    // One call wherever a value is dropped, which keeps proofs short.
+    fn drop(self) {
+        let RulesBuilder {
+            globs: _,
+            entries: _,
+            unread: _,
+        } = self;
+    }
+}
+
+impl RulesBuilder {
+    /// Returns no rules. It allocates nothing.
+    pub fn new(alloc: Global) -> RulesBuilder
+        ensures { AreEntriesOf [] (builder_globs result.globs) result.entries.items }
+    {
+        RulesBuilder {
+            globs: GlobSetBuilder::new(alloc),
+            entries: Vec::new(alloc),
+            unread: Vec::new(alloc),
+        }
+    }
+
+    /// Adds the rules of some lines, the first of which has the number 1. Returns an error if memory runs out, and no other.
+    pub fn push_lines(&mut self, alloc: Global, bytes: &[u8]) -> Result<(), Error>
+        requires { AreEntriesOf [] (builder_globs self.old.globs) self.old.entries.items }
+        ensures rules { OnOk result (AreEntriesOf (rules_from 1 (lines_of bytes.now)) (builder_globs self.new.globs) self.new.entries.items) }
+        ensures err { IfErr result (λ e. e ≡ out_of_memory) }
+    {
+        let mut rest = bytes;
+        let mut number = 1;
+        while let Some(end) = memchr(b'\n', rest) {
+            self.push_line(alloc, number, &rest[..end])?;
+            rest = &rest[end + 1..];
+            number += 1;
+        }
+        self.push_line(alloc, number, rest)
+    }
+
+    /// Adds the rule of a line, if it has one. Returns an error if memory runs out, and no other.
+    fn push_line(&mut self, alloc: Global, number: usize, line: &[u8]) -> Result<(), Error>
+        ensures rule { OnOk result ((done : List Rule) → AreEntriesOf done (builder_globs self.old.globs) self.old.entries.items →
+            AreEntriesOf (done ++ rule_at number (pattern_of_line line.now)) (builder_globs self.new.globs) self.new.entries.items) }
+        ensures err { IfErr result (λ e. e ≡ out_of_memory) }
+    {
+        match pattern_of_line(alloc, line)? {
+            Some(pattern) => self.push_rule(number, pattern),
+            None => self.push_unread(number, line),
+        }
+    }
+
+    /// Adds a rule. Returns an error if memory runs out, and no other.
+    fn push_rule(&mut self, line: usize, pattern: IgnorePattern) -> Result<(), Error>
+        ensures glob { OnOk result (builder_globs self.new.globs ≡ builder_globs self.old.globs ++ pattern.glob ∷ []) }
+        ensures entry { OnOk result (self.new.entries.items ≡ self.old.entries.items
+            ++ record { line = line; is_negated = pattern.is_negated; is_folders_only = pattern.is_folders_only } ∷ []) }
+        ensures err { IfErr result (λ e. e ≡ out_of_memory) }
+    {
+        let IgnorePattern {
+            glob,
+            is_negated,
+            is_folders_only,
+        } = pattern;
+        self.entries.push(RuleEntry {
+            line,
+            is_negated,
+            is_folders_only,
+        })?;
+        self.globs.push(glob)
+    }
+
+    /// Returns the set of the globs, the entries, and the numbers of unread lines. Returns an error if memory runs out, and no other.
+    pub fn finish(self) -> Result<(GlobSet, Vec<RuleEntry>, Vec<usize>), Error>
+        ensures globs { IfOk result (λ p. set_globs p.0 ≡ builder_globs self.globs) }
+        ensures entries { IfOk result (λ p. p.1.items ≡ self.entries.items) }
+        ensures err { IfErr result (λ e. e ≡ out_of_memory) }
+    {
+        let RulesBuilder {
+            globs,
+            entries,
+            unread,
+        } = self;
+        let set = globs.build()?;
+        Ok((set, entries, unread))
+    }
+
+    /// Keeps the number of a line that matches nothing, unless it is blank or a comment. Returns an error if memory runs out, and no
+    /// other.
+    fn push_unread(&mut self, number: usize, line: &[u8]) -> Result<(), Error>
+        ensures globs { builder_globs self.new.globs ≡ builder_globs self.old.globs }
+        ensures entries { self.new.entries.items ≡ self.old.entries.items }
+        ensures err { IfErr result (λ e. e ≡ out_of_memory) }
+    {
+        if is_plain_line(line) {
+            return Ok(());
+        }
+        Ok(self.unread.push(number)?)
+    }
+}
+
+/// Returns the bytes of a file without a byte order mark at their start.
+pub fn after_mark(bytes: &[u8]) -> &[u8]
+    ensures { result.now ≡ without_mark bytes.now }
+{
+    match bytes.strip_prefix(BYTE_ORDER_MARK) {
+        Some(rest) => rest,
+        None => bytes,
+    }
+}
+
+/// Returns whether a line is blank or a comment.
+fn is_plain_line(line: &[u8]) -> bool {
+    let text = line.strip_suffix(b"\r").unwrap_or(line);
+    text.starts_with(b"#") || text.iter().all(|byte| *byte == b' ')
+}

@@ -1,0 +1,164 @@
+//! The rules of an ignore file.
+
+ghost use Rattle.std.specs.Prelude.{◌≡◌, IfOk, IfErr};
+ghost use Rattle.globset.specs.Errors.{out_of_memory};
+ghost use Rattle.globset.specs.SetValue.{builder_globs};
+ghost use Rattle.git_ignore.specs.Rules.{deciding_line, decision, last_rule, rules_of};
+ghost use Rattle.git_ignore.specs.RulesValue.{FitsRules};
+ghost use Rattle.git_ignore.specs.inner.Entries.{AreEntriesOf, entry_of_rule};
+
+use crate::decision::Decision;
+use crate::entry::{RuleEntry, last_entry_for};
+use crate::reading::{RulesBuilder, after_mark};
+use crate::scratch::IgnoreScratch;
+use globset::{Candidate, Error, GlobSet, Visits};
+use std::alloc::Global;
+use std::marker::Model;
+
+/// The rules of an ignore file.
+///
+/// Contracts see the bytes of the file, and the set of the globs of its rules.
+pub struct Rules {
+    /// The globs of the rules, without those that match nothing.
+    set: GlobSet,
+    /// For each glob what its rule says.
+    entries: Vec<RuleEntry>,
+    unread: Vec<usize>,
+    file: Vec<u8>,
+}
+
+impl Drop for Rules {
+    // One call wherever a value is dropped, which keeps proofs short.
+    fn drop(self) {
+        let Rules {
+            set: _,
+            entries: _,
+            unread: _,
+            file: _,
+        } = self;
+    }
+}
+
+impl Model for Rules {
+    ghost use Rattle.globset.specs.SetValue.{set_globs};
+    ghost use Rattle.git_ignore.specs.Rules.{rules_of};
+    ghost use Rattle.git_ignore.specs.RulesValue.{RulesValue};
+    ghost use Rattle.git_ignore.specs.inner.Entries.{AreEntriesOf};
+
+    ghost Value = { RulesValue };
+
+    ghost view = { λ r. record {
+      file = r.file.items;
+      set = r.set;
+    } };
+
+    ghost invariant = { λ r. AreEntriesOf (rules_of r.file.items) (set_globs r.set) r.entries.items };
+}
+
+impl Rules {
+    /// Reads an ignore file, given by its bytes. Each line has at most one rule. A line that git cannot read, or that is not UTF-8,
+    /// has none, and is no error: [`Rules::unread_lines`] returns its number.
+    ///
+    /// Returns an error if memory runs out, and no other.
+    pub fn new(alloc: Global, file: &[u8]) -> Result<Rules, Error>
+        ensures file { IfOk result (λ r. r.file ≡ file.now) }
+        ensures err { IfErr result (λ e. e ≡ out_of_memory) }
+    {
+        let mut builder = RulesBuilder::new(alloc);
+        builder.push_lines(alloc, after_mark(file))?;
+        Rules::finish(alloc, builder, file)
+    }
+
+    /// Returns the rules that were read from a file.
+    fn finish(alloc: Global, builder: RulesBuilder, file: &[u8]) -> Result<Rules, Error>
+        requires { AreEntriesOf (rules_of file.now) (builder_globs builder.globs) builder.entries.items }
+        ensures file { IfOk result (λ r. r.file ≡ file.now) }
+        ensures err { IfErr result (λ e. e ≡ out_of_memory) }
+    {
+        let (set, entries, unread) = builder.finish()?;
+        let file = file.to_vec(alloc)?;
+        Ok(Rules {
+            set,
+            entries,
+            unread,
+            file,
+        })
+    }
+
+    /// Returns what the file says of a path below its folder: what the last rule that applies says.
+    ///
+    /// The path begins in the folder of the file. What is below a folder that is ignored is ignored too: see [`crate::IgnoreStack`].
+    /// The scratch has to fit the rules. It then fits what it fitted before.
+    pub fn decide(&self, path: &[u8], is_folder: bool, scratch: &mut IgnoreScratch) -> Decision
+        requires { FitsRules scratch.old self.now }
+        ensures decision { result ≡ decision self.now.file path.now is_folder }
+        ensures scratch { scratch.new ≡ scratch.old }
+    {
+        match self.last_entry(path, is_folder, scratch) {
+            Some(entry) => entry.decision(),
+            None => Decision::Undecided,
+        }
+    }
+
+    /// Returns the number of the line, counted from 1, that has the last rule that applies to a path; `None` if no rule does.
+    pub fn deciding_line(
+        &self,
+        path: &[u8],
+        is_folder: bool,
+        scratch: &mut IgnoreScratch,
+    ) -> Option<usize>
+        requires { FitsRules scratch.old self.now }
+        ensures line { result ≡ deciding_line self.now.file path.now is_folder }
+        ensures scratch { scratch.new ≡ scratch.old }
+    {
+        match self.last_entry(path, is_folder, scratch) {
+            Some(entry) => Some(entry.line),
+            None => None,
+        }
+    }
+
+    /// The same as [`Rules::decide`], with a scratch of its own. Returns an error if memory runs out, and no other.
+    pub fn decide_once(&self, path: &[u8], is_folder: bool) -> Result<Decision, Error>
+        ensures decision { IfOk result (λ d. d ≡ decision self.now.file path.now is_folder) }
+        ensures err { IfErr result (λ e. e ≡ out_of_memory) }
+    {
+        let mut scratch = IgnoreScratch::new(*self.file.allocator(), self)?;
+        Ok(self.decide(path, is_folder, &mut scratch))
+    }
+
+    /// Returns the numbers, counted from 1, of the lines that match nothing and are neither blank nor a comment: those that git cannot
+    /// read, and those that are not UTF-8.
+    pub fn unread_lines(&self) -> &[usize] {
+        &self.unread
+    }
+
+    /// Returns the entry of the last rule that applies to a path.
+    fn last_entry(
+        &self,
+        path: &[u8],
+        is_folder: bool,
+        scratch: &mut IgnoreScratch,
+    ) -> Option<RuleEntry>
+        requires { FitsRules scratch.old self.now }
+        ensures entry { result ≡ entry_of_rule (last_rule path.now is_folder (rules_of self.now.file)) }
+        ensures scratch { scratch.new ≡ scratch.old }
+    {
+        let path = Candidate::from_bytes(path);
+        self.set
+            .matches_into_with(
+                &path,
+                &mut scratch.scratch,
+                &mut scratch.matching,
+                &mut Visits::new(),
+            )
+            .unwrap();
+        last_entry_for(&self.entries, &scratch.matching, is_folder)
+    }
+
+    /// Returns the set of the globs.
+    pub(crate) fn set(&self) -> &GlobSet
+        ensures { result.now ≡ self.now.set }
+    {
+        &self.set
+    }
+}

@@ -1,0 +1,78 @@
+//! Memory that rules match with.
+
+ghost use Rattle.std.specs.Prelude.{◌≡◌, IfOk, IfErr, IsOk, OnOk, OnErr};
+ghost use Rattle.globset.specs.Errors.{out_of_memory};
+ghost use Rattle.globset.specs.SetValue.{Fits, FitsAsBefore};
+ghost use Rattle.git_ignore.specs.RulesValue.{FitsRules};
+
+use crate::rules::Rules;
+use globset::{Error, GlobSet, Scratch};
+use std::alloc::Global;
+use std::marker::Model;
+
+/// All the memory that rules need to decide about a path: a [`Scratch`], and a number for each rule.
+///
+/// With a scratch that fits the rules, [`Rules::decide`] cannot fail. What earlier calls left in it has no effect. It can be used
+/// with all rules that it fits, and [`IgnoreScratch::fit`] makes it fit more of them.
+pub struct IgnoreScratch {
+    pub(crate) scratch: Scratch,
+    /// The indexes of the rules whose globs match a path.
+    pub(crate) matching: Vec<usize>,
+}
+
+impl Drop for IgnoreScratch {
+    // One call wherever a value is dropped, which keeps proofs short.
+    fn drop(self) {
+        let IgnoreScratch {
+            scratch: _,
+            matching: _,
+        } = self;
+    }
+}
+
+impl Model for IgnoreScratch {
+    ghost use Rattle.std.specs.Prelude.{◌≤◌, vec_capacity};
+    ghost use Rattle.globset.specs.SetValue.{ScratchValue};
+
+    ghost Value = { ScratchValue };
+
+    ghost view = { λ s. s.scratch };
+
+    ghost invariant = { λ s. s.scratch.indexes ≤ vec_capacity s.matching };
+}
+
+impl IgnoreScratch {
+    /// Returns a scratch that fits the rules. Returns an error if memory runs out, and no other.
+    pub fn new(alloc: Global, rules: &Rules) -> Result<IgnoreScratch, Error>
+        ensures fits { IfOk result (λ s. FitsRules s rules.now) }
+        ensures err { IfErr result (λ e. e ≡ out_of_memory) }
+    {
+        IgnoreScratch::for_set(alloc, rules.set())
+    }
+
+    /// Returns a scratch that fits rules with this set.
+    pub(crate) fn for_set(alloc: Global, set: &GlobSet) -> Result<IgnoreScratch, Error>
+        ensures fits { IfOk result (λ s. Fits s set.now) }
+        ensures err { IfErr result (λ e. e ≡ out_of_memory) }
+    {
+        let scratch = Scratch::new(alloc, set)?;
+        let matching = Vec::with_capacity(alloc, set.len())?;
+        Ok(IgnoreScratch { scratch, matching })
+    }
+
+    /// Makes the scratch fit more rules. It takes no memory if it fits them already.
+    ///
+    /// Returns an error if memory runs out, and no other; the scratch then fits what it fitted before.
+    pub fn fit(&mut self, rules: &Rules) -> Result<(), Error>
+        ensures fits { OnOk result (FitsRules self.new rules.now) }
+        ensures others { FitsAsBefore self.old self.new }
+        ensures kept { OnErr result (self.new ≡ self.old) }
+        ensures memory { FitsRules self.old rules.now → IsOk result }
+        ensures err { IfErr result (λ e. e ≡ out_of_memory) }
+    {
+        let set = rules.set();
+        self.matching.clear();
+        self.matching.reserve(set.len())?;
+        self.scratch.fit(set)
+    }
+}

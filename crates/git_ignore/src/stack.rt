@@ -1,0 +1,199 @@
+//! Ignore files of nested folders.
+
+ghost use Rattle.std.specs.Prelude.{◌≡◌, ◌++◌, ◌∷◌, [], true, IfOk, IfErr, OnOk, OnErr, length, take};
+ghost use Rattle.globset.specs.Errors.{out_of_memory};
+ghost use Rattle.git_ignore.specs.Folders.{decision_below, ignores, is_below_ignored};
+ghost use Rattle.git_ignore.specs.StackValue.{at_top, entered, left, with_file};
+
+use crate::decision::Decision;
+use crate::folder_rules::{FolderRules, decide_below};
+use crate::scratch::IgnoreScratch;
+use globset::{Error, GlobSet};
+use std::alloc::{AllocError, Global};
+use std::marker::Model;
+
+/// A folder above the one that a walk is in.
+#[derive(Clone, Copy)]
+pub struct FolderLevel {
+    /// How long its path is.
+    folder: usize,
+    /// How many files there are in it and above it.
+    files: usize,
+    /// Whether it is ignored, or a folder above it is.
+    is_ignored: bool,
+}
+
+/// The folder that a walk is in, with the ignore files in it and in the folders above it.
+///
+/// A walk begins in its top folder. [`IgnoreStack::enter`] goes down into a folder, [`IgnoreStack::leave`] goes up, and
+/// [`IgnoreStack::add_file`] reads an ignore file of the folder that the walk is in. A file of a deeper folder goes before those of
+/// the folders above it, and of the files of one folder the one that was added last. What is below an ignored folder is ignored,
+/// whatever matches it.
+///
+/// Whether a folder is ignored is kept when it is entered. So a path costs one pass over its bytes for each ignore file above it,
+/// however deep it is.
+pub struct IgnoreStack {
+    alloc: Global,
+    /// The path of the folder: empty for the top folder, and otherwise with `/` at its end.
+    folder: Vec<u8>,
+    /// Whether the folder is ignored, or a folder above it is.
+    is_ignored: bool,
+    /// The files, the top one first.
+    files: Vec<FolderRules>,
+    /// The folders above, the top one first.
+    levels: Vec<FolderLevel>,
+    scratch: IgnoreScratch,
+}
+
+impl Drop for IgnoreStack {
+    // One call wherever a value is dropped, which keeps proofs short.
+    fn drop(self) {
+        let IgnoreStack {
+            alloc: _,
+            folder: _,
+            is_ignored: _,
+            files: _,
+            levels: _,
+            scratch: _,
+        } = self;
+    }
+}
+
+impl Model for IgnoreStack {
+    ghost use Rattle.git_ignore.specs.StackValue.{StackValue};
+
+    ghost Value = { StackValue };
+
+    ghost use Rattle.git_ignore.specs.inner.StackParts.{IsStack, stack_value};
+
+    ghost view = { λ s. stack_value s.folder.items s.files.items s.levels.items };
+
+    ghost invariant = { λ s. IsStack s.folder.items s.is_ignored s.files.items s.levels.items s.scratch };
+}
+
+impl IgnoreStack {
+    /// Returns a walk in its top folder, which has no ignore files yet. Returns an error if memory runs out, and no other.
+    pub fn new(alloc: Global) -> Result<IgnoreStack, Error>
+        ensures top { IfOk result (λ s. s ≡ at_top) }
+        ensures err { IfErr result (λ e. e ≡ out_of_memory) }
+    {
+        let scratch = IgnoreScratch::for_set(alloc, &GlobSet::empty())?;
+        Ok(IgnoreStack {
+            alloc,
+            folder: Vec::new(alloc),
+            is_ignored: false,
+            files: Vec::new(alloc),
+            levels: Vec::new(alloc),
+            scratch,
+        })
+    }
+
+    /// Returns the path of the folder that the walk is in, from the top folder on: empty for this, and otherwise with `/` at its end.
+    pub fn folder(&self) -> &[u8]
+        ensures { result.now ≡ self.now.folder }
+    {
+        &self.folder
+    }
+
+    /// Returns whether the folder that the walk is in is ignored, or a folder above it is. Then all that is in it is ignored.
+    pub fn is_ignored(&self) -> bool
+        ensures { result ≡ is_below_ignored self.now.files self.now.folder }
+    {
+        self.is_ignored
+    }
+
+    /// Reads an ignore file of the folder that the walk is in, given by its bytes. It goes before the files that are there already.
+    ///
+    /// Returns an error if memory runs out, and no other; nothing changed then.
+    pub fn add_file(&mut self, file: &[u8]) -> Result<(), Error>
+        ensures added { OnOk result (self.new ≡ with_file self.old file.now) }
+        ensures kept { OnErr result (self.new ≡ self.old) }
+        ensures err { IfErr result (λ e. e ≡ out_of_memory) }
+    {
+        let rules = FolderRules::new(self.alloc, &self.folder, file, &mut self.scratch)?;
+        self.files.push(rules)?;
+        Ok(())
+    }
+
+    /// Goes down into a folder of this name. If it is ignored, its ignore files need not be added.
+    ///
+    /// Returns an error if memory runs out, and no other; nothing changed then.
+    pub fn enter(&mut self, name: &[u8]) -> Result<(), Error>
+        ensures entered { OnOk result (self.new ≡ entered self.old name.now) }
+        ensures kept { OnErr result (self.new ≡ self.old) }
+        ensures err { IfErr result (λ e. e ≡ out_of_memory) }
+    {
+        let decision = self.decide(name, true)?;
+        self.push_level(name, decision.is_ignored())?;
+        Ok(())
+    }
+
+    /// Goes up to the folder above, without the ignore files that were added since it was left. In the top folder it does nothing.
+    pub fn leave(&mut self)
+        ensures { self.new ≡ left self.old }
+    {
+        if let Some(level) = self.levels.pop() {
+            self.folder.truncate(level.folder);
+            self.files.truncate(level.files);
+            self.is_ignored = level.is_ignored;
+        }
+    }
+
+    /// Returns what the ignore files say of a path below the folder that the walk is in, such as the name of one of its entries.
+    ///
+    /// A folder that the path names above its last component counts, too: below one that is ignored, the path is ignored.
+    ///
+    /// Returns an error if memory runs out, and no other: the folder's path is put before it.
+    pub fn decide(&mut self, path: &[u8], is_folder: bool) -> Result<Decision, Error>
+        ensures decision { IfOk result (λ d. d ≡ decision_below self.old.files (self.old.folder ++ path.now) is_folder) }
+        ensures same { self.new ≡ self.old }
+        ensures err { IfErr result (λ e. e ≡ out_of_memory) }
+    {
+        if self.is_ignored {
+            return Ok(Decision::Ignored);
+        }
+        let start = self.folder.len();
+        self.folder.extend_from_slice(path)?;
+        let decision = decide_below(&self.files, &self.folder, start, is_folder, &mut self.scratch);
+        self.folder.truncate(start);
+        Ok(decision)
+    }
+
+    /// Goes down into a folder of this name, which is ignored or not. Returns an error if memory runs out; nothing changed then.
+    fn push_level(&mut self, name: &[u8], is_ignored: bool) -> Result<(), AllocError>
+        requires { is_ignored ≡ ignores (decision_below self.old.files (self.old.folder ++ name.now) true) }
+        ensures entered { OnOk result (self.new ≡ entered self.old name.now) }
+        ensures kept { OnErr result (self.new ≡ self.old) }
+    {
+        let level = FolderLevel {
+            folder: self.folder.len(),
+            files: self.files.len(),
+            is_ignored: self.is_ignored,
+        };
+        push_name(&mut self.folder, name)?;
+        match self.levels.push(level) {
+            Ok(()) => {
+                self.is_ignored = is_ignored;
+                Ok(())
+            }
+            Err(_) => {
+                self.folder.truncate(level.folder);
+                Err(AllocError)
+            }
+        }
+    }
+}
+
+/// Adds the name of a folder to a path, and `/`. Returns an error if memory runs out; the path is then what it was.
+fn push_name(path: &mut Vec<u8>, name: &[u8]) -> Result<(), AllocError>
+    ensures added { OnOk result (path.new.items ≡ path.old.items ++ name.now ++ 47 ∷ []) }
+    ensures kept { OnErr result (path.new.items ≡ path.old.items) }
+{
+    let len = path.len();
+    path.extend_from_slice(name)?;
+    if path.push(b'/').is_err() {
+        path.truncate(len);
+        return Err(AllocError);
+    }
+    Ok(())
+}

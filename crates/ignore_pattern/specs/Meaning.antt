@@ -1,0 +1,30 @@
+-- The glob of a pattern has the pattern's meaning. This is the contract of a function of the module `laws`.
+use Rattle.std.specs.Prelude.{◌≡◌, ℕ, Bool, false, List, Option, Some, None, All, ◌<◌, encode_utf8_all}
+use Rattle.std.specs.Char.{IsScalar}
+use Rattle.globset.specs.Means.{GlobValue, IsRead, glob_means}
+use Rattle.globset.specs.Silent.{silent}
+use Rattle.ignore_pattern.specs.Patterns.{Pattern, pattern_of_chars, pattern_matches}
+use Rattle.ignore_pattern.specs.Translation.{glob_options, pattern_text}
+
+-- the glob of this text, given as characters, with the options of a translation
+abbrev pub translated : List ℕ → GlobValue
+translated text = record { text = encode_utf8_all text; options = glob_options }
+
+-- A glob that has the meaning of a pattern: it is read, it is not silent, and it matches the paths that the pattern matches.
+pub record HasMeaningOf (p : Pattern) (g : GlobValue) : Type 0 where
+  pub read : IsRead g
+  pub listed : silent g ≡ false
+  pub means : (path : List ℕ) → glob_means g path ≡ pattern_matches p path
+
+-- a pattern that matches no path
+abbrev pub MatchesNothing : Pattern → Type 0
+MatchesNothing p = (path : List ℕ) → pattern_matches p path ≡ false
+
+-- the text of a pattern is that of a glob that has its meaning; a pattern without a text matches nothing
+abbrev pub HasMeaning : Pattern → Option (List ℕ) → Type 0
+HasMeaning p None = MatchesNothing p
+HasMeaning p (Some text) = HasMeaningOf p (translated text)
+
+-- for each pattern that characters are read as
+abbrev pub TranslationIsExact : Type 0
+TranslationIsExact = (cs : List ℕ) (p : Pattern) → All IsScalar cs → pattern_of_chars cs ≡ Some p → HasMeaning p (pattern_text p)
