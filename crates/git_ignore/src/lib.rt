@@ -13,3 +13,6 @@ pub use decision::Decision;
 pub use rules::Rules;
 pub use scratch::IgnoreScratch;
 pub use stack::IgnoreStack;
+
+#[cfg(test)]
+mod tests;

@@ -126,6 +126,15 @@ impl Rules {
         Ok(self.decide(path, is_folder, &mut scratch))
     }
 
+    /// The same as [`Rules::deciding_line`], with a scratch of its own. Returns an error if memory runs out, and no other.
+    pub fn deciding_line_once(&self, path: &[u8], is_folder: bool) -> Result<Option<usize>, Error>
+        ensures line { IfOk result (λ n. n ≡ deciding_line self.now.file path.now is_folder) }
+        ensures err { IfErr result (λ e. e ≡ out_of_memory) }
+    {
+        let mut scratch = IgnoreScratch::new(*self.file.allocator(), self)?;
+        Ok(self.deciding_line(path, is_folder, &mut scratch))
+    }
+
     /// Returns the numbers, counted from 1, of the lines that match nothing and are neither blank nor a comment: those that git cannot
     /// read, and those that are not UTF-8.
     pub fn unread_lines(&self) -> &[usize] {

@@ -154,7 +154,13 @@ impl IgnoreStack {
         }
         let start = self.folder.len();
         self.folder.extend_from_slice(path)?;
-        let decision = decide_below(&self.files, &self.folder, start, is_folder, &mut self.scratch);
+        let decision = decide_below(
+            &self.files,
+            &self.folder,
+            start,
+            is_folder,
+            &mut self.scratch,
+        );
         self.folder.truncate(start);
         Ok(decision)
     }

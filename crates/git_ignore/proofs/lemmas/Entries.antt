@@ -1,17 +1,18 @@
 -- What is stored of the rules of a file.
-use Rattle.std.proofs.Common.{◌≡◌, ℕ, suc, ◌+◌, ◌<◌, List, [], ◌∷◌, ◌++◌, length, Bool, true, false, cond, refl, ap, sym, ◌∙◌, arith, length-append, append-nil, drop, drop-cons, get_or}
+use Rattle.std.proofs.Common.{◌≡◌, ℕ, zero, suc, ◌+◌, ◌<◌, ◌≤◌, List, [], ◌∷◌, ◌++◌, length, Bool, true, false, cond, refl, ap, sym, subst, ◌∙◌, arith, length-append, append-nil, drop, drop-cons, get_or}
 use Rattle.std.specs.Prelude.{◌&&◌, ◌||◌, not, OnOk, Result, Ok, Err, Option, Some, None, if◌then◌else◌, filter, slice_get}
 use Rattle.std.specs.List.{range_with_len}
 use Rattle.std.specs.Option.{option_map_or}
 use Rattle.globset.specs.Means.{GlobValue, glob_means}
-use Rattle.globset.specs.Silent.{is_listed}
+use Rattle.globset.specs.Silent.{silent, is_listed}
 use Rattle.globset.specs.Answer.{answer}
-use Rattle.globset.specs.Indexes.{passes_at}
+use Rattle.globset.specs.Indexes.{passes_at, passing_indexes}
 use Rattle.ignore_pattern.specs.Patterns.{Pattern, pattern_matches, pattern_of_line}
 use Rattle.ignore_pattern.specs.Meaning.{HasMeaningOf, MatchesNothing}
-use Rattle.ignore_pattern.specs.Answer.{IsPatternOf}
+use Rattle.ignore_pattern.specs.Answer.{IsFor, IsPatternOf}
 use Rattle.ignore_pattern.specs.declared.pattern.IgnorePattern.{IgnorePattern}
 use Rattle.git_ignore.specs.Rules.{Rule, applies, last_rule, said, line_of, decision, deciding_line, rules_of}
+use Rattle.git_ignore.specs.declared.decision.Decision.{Decision}
 use Rattle.git_ignore.specs.declared.entry.RuleEntry.{RuleEntry}
 use Rattle.git_ignore.specs.inner.Entries.{is_for, entry_of, entry_of_rule, decision_of, line_of_entry, last_entry, AreEntriesOf, rule_at, chosen, last_chosen}
 
@@ -43,7 +44,7 @@ pick b x o = if b then Some x else o
 -- the last one of a list and one more: that one, if it applies
 or_later : {X : Type 0} (b c : Bool) (x y : X) (o : Option X)
     → (elim (if b then Some x else o) as (λ _. Option X) [ Some last ↦ Some last | None ↦ if c then Some y else None ])
-        ≡ (if b then Some x else (elim o as (λ _. Option X) [ Some last ↦ Some last | None ↦ if c then Some y else None ]))
+    ≡ (if b then Some x else (elim o as (λ _. Option X) [ Some last ↦ Some last | None ↦ if c then Some y else None ]))
 or_later true c x y o = refl
 or_later false c x y o = refl
 
@@ -65,6 +66,7 @@ last_entry_more path f (k ∷ gs) g (d ∷ es) e h =
 
 -- a glob that has the meaning of a pattern is found where the pattern matches
 found_if_matched : (p : Pattern) (g : GlobValue) (path : List ℕ) → HasMeaningOf p g → is_listed g path ≡ pattern_matches p path
+unfolding silent
 found_if_matched p g path h = ap (λ (b : Bool). not b && glob_means g path) h.listed ∙ h.means path
 
 entry_of_if : (b : Bool) (r : Rule) (o : Option Rule) → (if b then Some (entry_of r) else entry_of_rule o) ≡ entry_of_rule (if b then Some r else o)
@@ -97,7 +99,7 @@ rule_left_out done gs es n p m h =
       last = λ path f.
           h.last path f
           ∙ ap entry_of_rule (sym (last_rule_more path f done r
-              ∙ ap (λ (b : Bool). if b then Some r else last_rule path f done) (never_applies (f || not p.folders_only) (pattern_matches p path) (m path))));
+          ∙ ap (λ (b : Bool). if b then Some r else last_rule path f done) (never_applies (f || not p.folders_only) (pattern_matches p path) (m path))));
     }
 
 -- the line was read, and its rule added
@@ -107,7 +109,7 @@ pub line_added : (done : List Rule) (gs hs : List GlobValue) (es ds : List RuleE
     → AreEntriesOf done gs es → AreEntriesOf (done ++ rule_at n (pattern_of_line line)) hs ds
 line_added done gs hs es ds n line r (p, is, for) put pushed h =
     let same : ds ≡ es ++ entry_of (record { line = n; pattern = p }) ∷ [] =
-        pushed ∙ (λ i. es ++ record { line = n; is_negated = for.negated i; is_folders_only = for.folders_only i } ∷ []) in
+    pushed ∙ (λ i. es ++ record { line = n; is_negated = for.negated i; is_folders_only = for.folders_only i } ∷ []) in
     rw (is, put, same) (rule_added done gs es n p r.glob for.meaning h)
 
 -- the line was read, and it matches nothing
@@ -127,7 +129,7 @@ or_before before (Some e) = Some e
 
 chosen_first : (is_folder : Bool) (before : Option RuleEntry) (e : RuleEntry) (last : Option RuleEntry)
     → or_before (if is_for is_folder e then Some e else before) last
-        ≡ or_before before (elim last as (λ _. Option RuleEntry) [ Some last ↦ Some last | None ↦ if is_for is_folder e && true then Some e else None ])
+    ≡ or_before before (elim last as (λ _. Option RuleEntry) [ Some last ↦ Some last | None ↦ if is_for is_folder e && true then Some e else None ])
 chosen_first f before e (Some last) = refl
 chosen_first f before e None = of (is_for f e)
   where
@@ -158,7 +160,7 @@ chosen_step : (entries : List RuleEntry) (is_folder : Bool) (a : ℕ) (later : L
     → slice_get entries a ≡ Some e → ((before : Option RuleEntry) → last_chosen entries is_folder before later ≡ or_before before last)
     → (b : Bool) (before : Option RuleEntry)
     → last_chosen entries is_folder before (cond b (a ∷ later) later)
-        ≡ or_before before (elim last as (λ _. Option RuleEntry) [ Some last ↦ Some last | None ↦ if is_for is_folder e && b then Some e else None ])
+    ≡ or_before before (elim last as (λ _. Option RuleEntry) [ Some last ↦ Some last | None ↦ if is_for is_folder e && b then Some e else None ])
 chosen_step entries f a later e last at rest true before =
     ap (λ (o : Option RuleEntry). last_chosen entries f (chosen f before o) later) at ∙ rest (if is_for f e then Some e else before) ∙ chosen_first f before e last
 chosen_step entries f a later e last at rest false before = rest before ∙ passed_over f before e last
@@ -174,7 +176,7 @@ chosen_from path f globs entries (g ∷ gs) (e ∷ es) a before hg he n =
     let same : length es ≡ length gs = omega (arith, n) in
     ap (λ (b : Bool). last_chosen entries f before (cond b (a ∷ later) later)) here
     ∙ chosen_step entries f a later e (last_entry path f gs es) (first_from a entries e es he)
-        (λ b. chosen_from path f globs entries gs es (a + 1) b (next_from a globs g gs hg) (next_from a entries e es he) same) (is_listed g path) before
+    (λ b. chosen_from path f globs entries gs es (a + 1) b (next_from a globs g gs hg) (next_from a entries e es he) same) (is_listed g path) before
 
 or_before_none : (o : Option RuleEntry) → or_before None o ≡ o
 or_before_none None = refl

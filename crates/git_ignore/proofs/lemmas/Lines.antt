@@ -1,7 +1,7 @@
 -- The lines of bytes, as a search for line feeds finds them.
-use Rattle.std.proofs.Common.{◌≡◌, ℕ, zero, suc, ◌+◌, List, [], ◌∷◌, ◌++◌, take, drop, Bool, true, false, refl, ap, sym, ◌∙◌, arith, append-nil, append_assoc, subst}
-use Rattle.std.specs.Prelude.{◌==◌, Option, Some, None, if◌then◌else◌}
-use Rattle.memchr.specs.Find.{IsFirstByte, is_byte}
+use Rattle.std.proofs.Common.{◌≡◌, ℕ, zero, suc, ◌+◌, ◌<◌, ◌≤◌, List, [], ◌∷◌, ◌++◌, length, take, drop, Bool, true, false, refl, ap, sym, ◌∙◌, arith, add-one, append-nil, append_assoc, subst}
+use Rattle.std.specs.Prelude.{◌==◌, Option, Some, None, if◌then◌else◌, slice_index}
+use Rattle.memchr.specs.Find.{IsFirstByte, Nowhere, Passes, is_byte}
 use Rattle.ignore_pattern.specs.Lines.{lines_of, onto_first}
 use Rattle.ignore_pattern.specs.Patterns.{Pattern, pattern_of_line}
 use Rattle.git_ignore.specs.Rules.{Rule, rules_from}
@@ -69,6 +69,6 @@ pub last_read : (all : List Rule) (gs hs : List GlobValue) (es ds : List RuleEnt
     → AreReadUpTo all (rules_from n (lines_of rest)) gs es → IsFirstByte (is_byte 10) rest None → AddsLine gs es n rest hs ds → AreEntriesOf all hs ds
 last_read all gs hs es ds n rest h none adds =
     let same : all ≡ h.done ++ rule_at n (pattern_of_line rest) =
-        h.split ∙ ap (λ (ls : List (List ℕ)). h.done ++ rules_from n ls) (one_line rest none)
-        ∙ ap (λ (rs : List Rule). h.done ++ rs) (rules_of_first n rest [] ∙ append-nil (rule_at n (pattern_of_line rest))) in
+    h.split ∙ ap (λ (ls : List (List ℕ)). h.done ++ rules_from n ls) (one_line rest none)
+    ∙ ap (λ (rs : List Rule). h.done ++ rs) (rules_of_first n rest [] ∙ append-nil (rule_at n (pattern_of_line rest))) in
     subst (λ (rs : List Rule). AreEntriesOf rs hs ds) (sym same) (adds h.done h.stored)

@@ -1,6 +1,6 @@
 -- The folders above paths, and what the files of several folders say.
 use Rattle.std.proofs.Common.{◌≡◌, ℕ, zero, suc, ◌+◌, ◌-◌, ◌<◌, ◌≤◌, List, [], ◌∷◌, ◌++◌, length, take, drop, get_or, Bool, true, false, refl, ap, sym, subst, ◌∙◌, arith, length-append, append-nil, append_assoc}
-use Rattle.std.specs.Prelude.{◌==◌, ◌&&◌, ◌||◌, if◌then◌else◌, map, reverse}
+use Rattle.std.specs.Prelude.{◌==◌, ◌&&◌, ◌||◌, if◌then◌else◌, map, reverse, All}
 use Rattle.std.specs.List.{list_any}
 use Rattle.std.specs.Str.{bytes_eq}
 use Rattle.std.proofs.lemmas.Bool.{false_from_ne_true}
@@ -13,12 +13,12 @@ use Rattle.globset.specs.SetValue.{ScratchValue, FitsAsBefore}
 use Rattle.git_ignore.specs.Folders.{IgnoreFile, is_in, file_decision, or_else, files_decision, folders_above, ignores, is_below_ignored, decision_below}
 use Rattle.git_ignore.specs.Rules.{decision}
 use Rattle.git_ignore.specs.RulesValue.{FitsRules}
-use Rattle.git_ignore.specs.StackValue.{StackValue, left}
+use Rattle.git_ignore.specs.StackValue.{Level, StackValue, left}
 use Rattle.git_ignore.specs.declared.decision.Decision.{Decision}
 use Rattle.git_ignore.specs.declared.decision.Decision.TheVariants.{Ignored, Kept, Undecided}
 use Rattle.git_ignore.specs.declared.folder_rules.FolderRules.{FolderRules}
 use Rattle.git_ignore.specs.declared.stack.FolderLevel.{FolderLevel}
-use Rattle.git_ignore.specs.inner.Stacks.{file_of, files_of, FitAll, level_of, AreLevels}
+use Rattle.git_ignore.specs.inner.Stacks.{file_of, files_of, FitAll, level_of, IsLevel, AreLevels}
 use Rattle.git_ignore.specs.inner.StackParts.{IsStack, stack_value}
 
 -- ---- folders above a path
@@ -47,7 +47,7 @@ folders_above-append (c ∷ cs) ys =
 
 one_more : (files : List IgnoreFile) (p : List ℕ) (c : ℕ) (b : Bool)
     → list_any (λ folder. ignores (files_decision files folder true)) (map (λ f. p ++ f) (if b then [] ∷ [] else []))
-        ≡ (b && ignores (files_decision files p true))
+    ≡ (b && ignores (files_decision files p true))
 one_more files p c false = refl
 one_more files p c true = or_false (ignores (files_decision files (p ++ []) true)) ∙ ap (λ (q : List ℕ). ignores (files_decision files q true)) (append-nil p)
   where
@@ -69,8 +69,8 @@ unfolding decision_below
 below_ignored files p q d h =
     let test : List ℕ → Bool = λ folder. ignores (files_decision files folder true) in
     let more : is_below_ignored files (p ++ q) ≡ true =
-        ap (list_any test) (folders_above-append p q) ∙ list_any-append test (folders_above p) (map (λ f. p ++ f) (folders_above q))
-        ∙ ap (λ (b : Bool). b || list_any test (map (λ f. p ++ f) (folders_above q))) h in
+    ap (list_any test) (folders_above-append p q) ∙ list_any-append test (folders_above p) (map (λ f. p ++ f) (folders_above q))
+    ∙ ap (λ (b : Bool). b || list_any test (map (λ f. p ++ f) (folders_above q))) h in
     ap (λ (b : Bool). if b then Ignored else files_decision files (p ++ q) d) (sym more)
 
 pub not_below_ignored : (files : List IgnoreFile) (p : List ℕ) (is_folder : Bool) → is_below_ignored files p ≡ false → files_decision files p is_folder ≡ decision_below files p is_folder
@@ -97,7 +97,7 @@ pub met_ignored : (files : List IgnoreFile) (path : List ℕ) (i : ℕ) (is_fold
     → (get_or path i 0 == 47 && ignores (files_decision files (take i path) true)) ≡ true → Ignored ≡ decision_below files path is_folder
 met_ignored files path i d h here =
     below_ignored files (take (i + 1) path) (drop (i + 1) path) d
-        (ap (is_below_ignored files) (take_more path i 0 h) ∙ below_more files (take i path) (get_or path i 0) ∙ ap (λ (b : Bool). is_below_ignored files (take i path) || b) here ∙ or_true (is_below_ignored files (take i path)))
+    (ap (is_below_ignored files) (take_more path i 0 h) ∙ below_more files (take i path) (get_or path i 0) ∙ ap (λ (b : Bool). is_below_ignored files (take i path) || b) here ∙ or_true (is_below_ignored files (take i path)))
     ∙ ap (λ (p : List ℕ). decision_below files p d) (take-append-drop (i + 1) path)
   where
     or_true : (b : Bool) → (b || true) ≡ true
@@ -159,7 +159,7 @@ says_nothing : (files : List IgnoreFile) (f : IgnoreFile) (fs : List (List ℕ))
 says_nothing files f [] h = refl
 says_nothing files f (p ∷ fs) (h, hs) =
     let here : files_decision (files ++ f ∷ []) p true ≡ files_decision files p true =
-        file_more files f p true ∙ ap (λ (b : Bool). or_else (if b then decision f.bytes (drop (length f.folder) p) true else Undecided) (files_decision files p true)) (not_in f.folder p h) in
+    file_more files f p true ∙ ap (λ (b : Bool). or_else (if b then decision f.bytes (drop (length f.folder) p) true else Undecided) (files_decision files p true)) (not_in f.folder p h) in
     (λ i. ignores (here i) || says_nothing files f fs hs i)
 
 pub added_kept : (files : List IgnoreFile) (f : IgnoreFile) → is_below_ignored (files ++ f ∷ []) f.folder ≡ is_below_ignored files f.folder
@@ -291,5 +291,5 @@ left_value folder shorter_folder files fewer levels rest l popped cut cut_files 
     let above : StackValue = record { folder = take l.folder folder; files = take l.files (files_of files); levels = map level_of (reverse rest) } in
     let here : stack_value shorter_folder fewer rest ≡ above = λ k. record { folder = cut k; files = few k; levels = map level_of (reverse rest) } in
     let there : left (stack_value folder files levels) ≡ above =
-        ap (λ (ls : List FolderLevel). left (record { folder = folder; files = files_of files; levels = map level_of ls })) (ap reverse popped ∙ one_reversed rest l) in
+    ap (λ (ls : List FolderLevel). left (record { folder = folder; files = files_of files; levels = map level_of ls })) (ap reverse popped ∙ one_reversed rest l) in
     here ∙ sym there

@@ -1,6 +1,6 @@
-use Rattle.std.proofs.Common.{◌≡◌, take, ap, sym, ◌∙◌}
+use Rattle.std.proofs.Common.{◌≡◌, List, ℕ, length, take, ap, sym, ◌∙◌, arith}
 use Rattle.std.proofs.lemmas.List.{take_all}
-use Rattle.git_ignore.specs.Folders.{is_below_ignored}
+use Rattle.git_ignore.specs.Folders.{files_decision, is_below_ignored}
 use Rattle.git_ignore.specs.inner.Stacks.{files_of}
 use Rattle.git_ignore.proofs.lemmas.Stacks.{met_ignored, not_below_ignored, passed_byte}
 use Rattle.git_ignore.proofs.folder_rules.decide_below.Goals as goal
