@@ -76,6 +76,12 @@ fn print_deciding(
     let mut files = named.open(rt)?;
     let paths = Paths::read(rt)?;
     let mut output = Output::new(rt.alloc());
-    push_deciding(rt.alloc(), &mut files, &paths, named.ends_in_nul, &mut output)?;
+    push_deciding(
+        rt.alloc(),
+        &mut files,
+        &paths,
+        named.ends_in_nul,
+        &mut output,
+    )?;
     output.write(rt)
 }
