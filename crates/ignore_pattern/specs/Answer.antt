@@ -2,6 +2,7 @@
 use Rattle.std.specs.Prelude.{◌≡◌, ℕ, List, Option, Some, None}
 use Rattle.ignore_pattern.specs.Patterns.{Pattern, pattern_of_line}
 use Rattle.ignore_pattern.specs.Meaning.{HasMeaningOf, MatchesNothing}
+use Rattle.ignore_pattern.specs.Globs.{glob_of_line}
 use Rattle.ignore_pattern.specs.declared.pattern.IgnorePattern.{IgnorePattern}
 
 -- the glob has the meaning of the pattern, and what is beside the glob is that of the pattern
@@ -14,3 +15,7 @@ pub record IsFor (p : Pattern) (r : IgnorePattern) : Type 0 where
 abbrev pub IsPatternOf : List ℕ → Option IgnorePattern → Type 0
 IsPatternOf line None = (p : Pattern) → pattern_of_line line ≡ Some p → MatchesNothing p
 IsPatternOf line (Some r) = (p : Pattern) × (pattern_of_line line ≡ Some p) × IsFor p r
+
+-- What is returned for a line is for the line, whatever bytes it has. This is the contract of a function of the module `laws`.
+abbrev pub LineIsExact : Type 0
+LineIsExact = (line : List ℕ) → IsPatternOf line (glob_of_line line)

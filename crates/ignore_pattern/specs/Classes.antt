@@ -1,9 +1,9 @@
 -- Character classes of ignore files, as git reads them: what is after a `[`, and the bytes that it contains.
-use Rattle.std.specs.Prelude.{ℕ, zero, suc, ◌+◌, ◌%◌, Bool, true, false, not, ◌&&◌, ◌||◌, ◌==◌, nat_le, nat_lt, List, [], ◌∷◌, take, Option, Some, None, codes, if◌then◌else◌, encode_utf8, length}
+use Rattle.std.specs.Prelude.{ℕ, zero, suc, ◌+◌, ◌%◌, Bool, false, not, ◌&&◌, ◌||◌, ◌==◌, nat_le, nat_lt, List, [], ◌∷◌, take, Option, Some, None, codes, if◌then◌else◌, encode_utf8, length}
 use Rattle.std.specs.Str.{bytes_eq}
 use Rattle.std.specs.List.{list_any, position}
 use Rattle.std.specs.Char.{is_ascii_alphabetic, is_ascii_alphanumeric, is_ascii_digit, is_ascii_hexdigit, is_ascii_lowercase, is_ascii_uppercase, is_ascii_punctuation, is_ascii_graphic, is_ascii_control}
-use Rattle.globset.specs.ClassBytes.{is_one_of, is_spanned}
+use Rattle.globset_glob.specs.ClassBytes.{is_one_of, is_spanned}
 use Rattle.ignore_pattern.specs.Ends.{ends_with, without_last}
 use Rattle.ignore_pattern.specs.declared.item.ClassName.{ClassName}
 use Rattle.ignore_pattern.specs.declared.item.ClassName.TheVariants.{Alnum, Alpha, Blank, Cntrl, Digit, Graph, Lower, Print, Punct, Space, Upper, Xdigit}
@@ -74,11 +74,15 @@ one_item item more last = Some (record { item = item; more = more; last = last }
 abbrev pub range_at : ℕ → ℕ → ℕ → Option ItemAt
 range_at x y more = if is_odd_range x y then None else one_item (Range x y) more (if nat_lt y 128 then None else Some y)
 
--- What is at a `-`, after the character `x`, followed by these characters: a range, whose end may be escaped; but a member before `]`.
+-- a range from `x` whose end is escaped: what is after the `\`
+abbrev pub escaped_range_at : ℕ → List ℕ → Option ItemAt
+escaped_range_at x [] = None
+escaped_range_at x (y ∷ cs) = range_at x y 2
+
+-- What is at a `-`, after the character `x`, followed by these characters: a range; but a member before `]`.
 abbrev pub hyphen_at : ℕ → List ℕ → Option ItemAt
 hyphen_at x [] = None
-hyphen_at x (y ∷ []) = if y == 93 then one_item (Member 45) 0 (Some 45) else (if y == 92 then None else range_at x y 1)
-hyphen_at x (y ∷ z ∷ cs) = if y == 93 then one_item (Member 45) 0 (Some 45) else (if y == 92 then range_at x z 2 else range_at x y 1)
+hyphen_at x (y ∷ cs) = if y == 93 then one_item (Member 45) 0 (Some 45) else (if y == 92 then escaped_range_at x cs else range_at x y 1)
 
 -- What is at a `[:` that the `]` after `body` follows. With a `:` before that `]` it is a named class, and its name has to be one of
 -- the twelve. Otherwise the `[` is a member.

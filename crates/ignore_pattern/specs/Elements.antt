@@ -5,7 +5,7 @@
 use Rattle.std.specs.Prelude.{ℕ, zero, suc, ◌+◌, Bool, true, false, not, ◌&&◌, ◌||◌, ◌==◌, List, [], ◌∷◌, drop, Option, Some, None, if◌then◌else◌, encode_utf8}
 use Rattle.std.specs.List.{list_all, prefix_len}
 use Rattle.std.specs.Str.{bytes_eq}
-use Rattle.globset.specs.Takes.{is_empty, is_one_byte, ends_with_slash, some_cut}
+use Rattle.globset_glob.specs.Takes.{is_empty, is_one_byte, ends_with_slash, some_cut}
 use Rattle.ignore_pattern.specs.Classes.{class_items, class_takes, is_negated}
 use Rattle.ignore_pattern.specs.declared.item.Item.{Item}
 use Rattle.ignore_pattern.specs.declared.place.Place.{Place}

@@ -4,5 +4,7 @@ pub mod Classes
 pub mod Elements
 pub mod Patterns
 pub mod Translation
+pub mod Globs
 pub mod Meaning
 pub mod Answer
+pub mod inner

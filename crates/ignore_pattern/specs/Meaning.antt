@@ -1,19 +1,16 @@
 -- The glob of a pattern has the pattern's meaning. This is the contract of a function of the module `laws`.
-use Rattle.std.specs.Prelude.{◌≡◌, ℕ, Bool, false, List, Option, Some, None, All, ◌<◌, encode_utf8_all}
+use Rattle.std.specs.Prelude.{◌≡◌, ℕ, false, List, Option, Some, None, All}
 use Rattle.std.specs.Char.{IsScalar}
-use Rattle.globset.specs.Means.{GlobValue, IsRead, glob_means}
-use Rattle.globset.specs.Silent.{silent}
+use Rattle.globset_glob.specs.Means.{GlobValue, IsRead, tokens_of_glob, glob_means}
+use Rattle.glob_groups.specs.Silent.{are_silent}
 use Rattle.ignore_pattern.specs.Patterns.{Pattern, pattern_of_chars, pattern_matches}
-use Rattle.ignore_pattern.specs.Translation.{glob_options, pattern_text}
-
--- the glob of this text, given as characters, with the options of a translation
-abbrev pub translated : List ℕ → GlobValue
-translated text = record { text = encode_utf8_all text; options = glob_options }
+use Rattle.ignore_pattern.specs.Translation.{pattern_text}
+use Rattle.ignore_pattern.specs.Globs.{translated}
 
 -- A glob that has the meaning of a pattern: it is read, it is not silent, and it matches the paths that the pattern matches.
 pub record HasMeaningOf (p : Pattern) (g : GlobValue) : Type 0 where
   pub read : IsRead g
-  pub listed : silent g ≡ false
+  pub listed : are_silent g.options (tokens_of_glob g) ≡ false
   pub means : (path : List ℕ) → glob_means g path ≡ pattern_matches p path
 
 -- a pattern that matches no path

@@ -2,7 +2,7 @@
 use Rattle.std.specs.Prelude.{ℕ, zero, Bool, ◌==◌, List, [], ◌∷◌, Option, Some, None, if◌then◌else◌}
 use Rattle.std.specs.List.{list_any}
 use Rattle.std.specs.Str.{chars, is_utf8}
-use Rattle.globset.specs.PathParts.{last_component}
+use Rattle.globset_glob.specs.PathParts.{last_component}
 use Rattle.ignore_pattern.specs.Ends.{begins_with, without_first, ends_with, without_last}
 use Rattle.ignore_pattern.specs.Lines.{line_text}
 use Rattle.ignore_pattern.specs.Elements.{Element, elements, elements_take}

@@ -1,29 +1,59 @@
-//! The pattern of a line of an ignore file.
+//! The pattern of a line, as a glob.
 
 ghost use Rattle.std.specs.Prelude.{◌≡◌, IfOk, IfErr};
-ghost use Rattle.globset.specs.Errors.{out_of_memory};
+ghost use Rattle.globset_glob.specs.Errors.{IsRefusalOf, out_of_memory};
 ghost use Rattle.ignore_pattern.specs.Answer.{IsPatternOf};
+ghost use Rattle.ignore_pattern.specs.Globs.{glob_of_line};
+ghost use Rattle.ignore_pattern.specs.Translation.{glob_options};
 
-use globset::{Error, Glob};
-use std::alloc::{AllocError, Global};
+use crate::reading::read_line;
+use globset_glob::{Error, Glob, GlobBuilder};
+use std::alloc::Global;
 
 /// What a line of an ignore file says, with the glob that has its meaning.
-#[derive(Drop)]
+#[derive(Debug, Drop)]
 pub struct IgnorePattern {
-    /// The glob, which a path below the folder of the ignore file has to match.
+    /// The glob. It matches the paths below the folder of the ignore file that the pattern matches.
     pub glob: Glob,
-    /// Whether the line begins with `!`: what it matches is not ignored.
+    /// Whether the line begins with `!`: what it matches is kept, not ignored.
     pub is_negated: bool,
     /// Whether the line ends with `/`: it is for folders alone.
     pub is_folders_only: bool,
 }
 
-/// Returns the pattern of a line, or `None` if it matches nothing.
+/// Returns the pattern of a line, without its line feed.
+///
+/// Returns `None` if the line has no pattern, or its pattern matches nothing: then the line matches nothing. This takes time and
+/// memory that follow the length of the line, and 128 steps more for each item of a class.
+///
+/// # Errors
+///
+/// Returns an error if memory runs out, and no other: the text of the glob can always be read.
 pub fn pattern_of_line(alloc: Global, line: &[u8]) -> Result<Option<IgnorePattern>, Error>
     ensures pattern { IfOk result (λ r. IsPatternOf line.now r) }
+    ensures value { IfOk result (λ r. r ≡ glob_of_line line.now) }
     ensures err { IfErr result (λ e. e ≡ out_of_memory) }
 {
-    let _ = alloc;
-    let _ = line;
-    Err(Error::from(AllocError))
+    match read_line(alloc, line)? {
+        None => Ok(None),
+        Some(pattern) => match glob_of_text(alloc, pattern.text.as_str()) {
+            Err(error) => Err(error),
+            Ok(glob) => Ok(Some(IgnorePattern {
+                glob,
+                is_negated: pattern.is_negated,
+                is_folders_only: pattern.is_folders_only,
+            })),
+        },
+    }
+}
+
+/// Returns the glob of this text, under the options of a translation.
+fn glob_of_text(alloc: Global, text: &str) -> Result<Glob, Error>
+    ensures ok { IfOk result (λ g. g ≡ record { text = text.now; options = glob_options }) }
+    ensures err { IfErr result (IsRefusalOf glob_options text.now) }
+{
+    GlobBuilder::new(text)
+        .literal_separator(true)
+        .empty_alternates(true)
+        .build(alloc)
 }

@@ -1,5 +1,8 @@
 //! Where a character of a pattern stands.
 
+ghost use Rattle.std.specs.Prelude.{◌≡◌};
+ghost use Rattle.ignore_pattern.specs.Elements.{place_after, place_after_escaped, may_cross};
+
 /// Where a character of a pattern stands.
 #[derive(Clone, Copy)]
 pub enum Place {
@@ -8,4 +11,37 @@ pub enum Place {
     /// It follows a `/`.
     AfterSlash,
     Elsewhere,
+}
+
+impl Place {
+    /// Returns the place of the character after a plain one at this place.
+    pub fn after(self, c: char) -> Place
+        ensures { result ≡ place_after self c }
+    {
+        match self {
+            Place::Start => Place::Start,
+            Place::AfterSlash | Place::Elsewhere => Place::after_escaped(c),
+        }
+    }
+
+    /// Returns the place of the character after one that a `\` escapes.
+    pub fn after_escaped(c: char) -> Place
+        ensures { result ≡ place_after_escaped c }
+    {
+        if c == '/' {
+            Place::AfterSlash
+        } else {
+            Place::Elsewhere
+        }
+    }
+
+    /// Returns whether stars at this place can stand for folders.
+    pub fn may_cross(self) -> bool
+        ensures { result ≡ may_cross self }
+    {
+        match self {
+            Place::Start | Place::AfterSlash => true,
+            Place::Elsewhere => false,
+        }
+    }
 }

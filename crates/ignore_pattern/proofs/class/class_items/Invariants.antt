@@ -1,0 +1,10 @@
+use Rattle.std.proofs.Common.{zero, true, None, length}
+use Rattle.ignore_pattern.specs.Classes.{class_items}
+use Rattle.ignore_pattern.proofs.lemmas.Classes.{Reads}
+use Rattle.ignore_pattern.proofs.class.class_items.Given as goal
+
+abbrev pub invariant-loop-rest : goal.invariant-loop-rest
+invariant-loop-rest l = Reads l.cs l.items.items l.first l.last l.rest (class_items zero true None l.cs)
+
+abbrev pub decreases-loop-rest : goal.decreases-loop-rest
+decreases-loop-rest l = length l.rest
