@@ -11,6 +11,8 @@ pub struct Flags {
     pub literal_separator: bool,
     pub ends_in_nul: bool,
     pub count: bool,
+    /// Whether `.gitignore` files are read, and what they ignore is left out.
+    pub ignored: bool,
     pub help: bool,
     pub version: bool,
 }
@@ -23,6 +25,7 @@ impl Flags {
             "-s" => self.literal_separator = true,
             "-0" => self.ends_in_nul = true,
             "--count" => self.count = true,
+            "--ignored" => self.ignored = true,
             "-h" | "--help" => self.help = true,
             "--version" => self.version = true,
             _ => return false,
@@ -73,7 +76,7 @@ impl Drop for Arguments {
 
 impl Arguments {
     /// Reads the command line. Returns an error if an option is unknown, if the folder is missing or empty, if there is neither a
-    /// glob nor a file of globs, if an argument is not UTF-8, or if memory runs out.
+    /// glob nor a file of globs nor `--ignored`, if an argument is not UTF-8, or if memory runs out.
     pub fn read(rt: &HostRuntime) -> Result<Arguments, Fault> {
         let mut read = Arguments::new(rt.alloc());
         match env::args(rt) {
@@ -145,7 +148,8 @@ impl Arguments {
     fn is_complete(&self) -> bool {
         let globs = self.globs().len() + self.files.len();
         let next_is_file = matches!(self.next, Next::File);
-        let is_search = !self.folder().is_empty() && globs > 0 && !next_is_file;
+        let has_globs = globs > 0 || self.flags.ignored;
+        let is_search = !self.folder().is_empty() && has_globs && !next_is_file;
         is_search || self.flags.help || self.flags.version
     }
 

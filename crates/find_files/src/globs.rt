@@ -32,7 +32,7 @@ impl Drop for Globs {
 }
 
 impl Globs {
-    /// Reads the globs of the command line, and those of its files. Returns the error of the first one that is no glob, an error if
+    /// Reads the globs of the command line, and those of its files; without any of them every path matches. Returns the error of the first one that is no glob, an error if
     /// a file cannot be read, or an error if memory runs out.
     pub fn read(rt: &HostRuntime, arguments: &Arguments) -> Result<Globs, Fault> {
         let mut globs = GlobSetBuilder::new(rt.alloc());
@@ -61,8 +61,11 @@ impl Globs {
     }
 }
 
-/// Adds the globs of the command line.
+/// Adds the globs of the command line, or `**` if it has none and names no file of them.
 fn push_all(alloc: Global, globs: &mut GlobSetBuilder, arguments: &Arguments) -> Result<(), Error> {
+    if arguments.globs().is_empty() && arguments.files.is_empty() {
+        return globs.push(Glob::new(alloc, "**")?);
+    }
     for text in arguments.globs() {
         globs.push(glob(alloc, text.as_str(), arguments.flags)?)?;
     }

@@ -9,11 +9,13 @@
 mod arguments;
 mod fault;
 mod globs;
+mod ignored;
 mod walk;
 
 use arguments::{Arguments, Request};
 use fault::Fault;
 use globs::Globs;
+use ignored::Ignored;
 use std::process::ExitCode;
 use walk::{Walk, first_pending};
 
@@ -29,6 +31,8 @@ printed, nor is anything else that is neither a file nor a folder.
   -s       * and ? do not match /
   -f FILE  globs from FILE as well, one a line; a line that is blank or begins with # has none
   -0       a path ends in NUL in place of LF
+  --ignored  leaves out what .gitignore files on the way and .git/info/exclude ignore, and what is named .git; symbolic links
+           are printed; no GLOB is needed
   --count  how many folders were opened and how many were left closed, on standard error
   --       what follows is FOLDER or a GLOB
   --help, --version
@@ -73,5 +77,6 @@ fn print_text(rt: &HostRuntime, text: &str) -> Result<u8, Fault> {
 fn search(rt: &HostRuntime, arguments: &Arguments) -> Result<u8, Fault> {
     let pending = first_pending(rt.alloc(), arguments.folder())?;
     let globs = Globs::read(rt, arguments)?;
-    Walk::new(globs, pending, arguments.flags).run(rt)
+    let ignored = Ignored::new(rt.alloc(), arguments.flags.ignored)?;
+    Walk::new(globs, ignored, pending, arguments.flags).run(rt)
 }

@@ -9,6 +9,7 @@
 use crate::arguments::Flags;
 use crate::fault::Fault;
 use crate::globs::{Globs, Wanted};
+use crate::ignored::Ignored;
 use std::alloc::{AllocError, Global};
 use std::fs::{self, DirEntry, FileType, ReadDir};
 use std::io::{self, BufWriter, ErrorKind, Write};
@@ -16,6 +17,7 @@ use std::io::{self, BufWriter, ErrorKind, Write};
 /// A walk through the folders below one.
 pub struct Walk {
     globs: Globs,
+    ignored: Ignored,
     /// The paths of files that are still to be printed and of folders that are still to be opened, the next one last. Those of
     /// folders end in `/`. Each begins with that of the first folder.
     pending: Vec<String>,
@@ -38,6 +40,7 @@ impl Drop for Walk {
     fn drop(self) {
         let Walk {
             globs: _,
+            ignored: _,
             pending: _,
             skipped: _,
             end: _,
@@ -52,7 +55,7 @@ impl Drop for Walk {
 
 impl Walk {
     /// Returns a walk that has these paths pending, as [`first_pending`] returns them.
-    pub fn new(globs: Globs, pending: Vec<String>, flags: Flags) -> Walk {
+    pub fn new(globs: Globs, ignored: Ignored, pending: Vec<String>, flags: Flags) -> Walk {
         let skipped = match pending.first() {
             Some(folder) => folder.len(),
             None => 0,
@@ -60,6 +63,7 @@ impl Walk {
         Walk {
             skipped,
             globs,
+            ignored,
             pending,
             end: if flags.ends_in_nul { 0 } else { b'\n' },
             counts: flags.count,
@@ -148,6 +152,7 @@ impl Walk {
     /// Opens a folder. What is to be done with its entries is then pending, in the order of their bytes.
     fn open(&mut self, rt: &HostRuntime, folder: &str) -> Result<(), Fault> {
         self.opened = self.opened.saturating_add(1);
+        self.read_ignore_files(rt, folder)?;
         let first = self.pending.len();
         match fs::read_dir(rt, folder) {
             Ok(entries) => self.take_all(rt, folder, entries)?,
@@ -155,6 +160,16 @@ impl Walk {
         }
         if let Some(added) = self.pending.as_mut_slice().get_mut(first..) {
             added.sort_unstable_by(|one, other| other.as_str().cmp(one.as_str()));
+        }
+        Ok(())
+    }
+
+    /// Reads the ignore files of a folder, if they are asked for.
+    fn read_ignore_files(&mut self, rt: &HostRuntime, folder: &str) -> Result<(), Fault> {
+        let below = folder.get(self.skipped..).unwrap_or(folder);
+        match self.ignored.enter(rt, folder, below)? {
+            Some(error) => self.report(rt, folder, error),
+            None => {}
         }
         Ok(())
     }
@@ -179,7 +194,7 @@ impl Walk {
             return Ok(());
         }
         match entry.file_type() {
-            Ok(kind) => Ok(self.push(rt.alloc(), path, kind, wanted)?),
+            Ok(kind) => self.take_kind(rt.alloc(), path, kind, wanted),
             Err(error) => {
                 self.report(rt, path, error);
                 Ok(())
@@ -187,7 +202,27 @@ impl Walk {
         }
     }
 
-    /// Adds a path to those that are pending, if it is wanted. Links, and what else is neither a file nor a folder, are not.
+    /// Takes an entry of this kind, unless it is ignored. A folder that is ignored is left closed.
+    fn take_kind(
+        &mut self,
+        alloc: Global,
+        path: &str,
+        kind: FileType,
+        wanted: Wanted,
+    ) -> Result<(), Fault> {
+        let below = path.get(self.skipped..).unwrap_or(path);
+        if self.ignored.leaves_out(below, kind.is_dir())? {
+            let wanted = Wanted {
+                is_file: false,
+                is_folder: false,
+            };
+            return Ok(self.push(alloc, path, kind, wanted)?);
+        }
+        Ok(self.push(alloc, path, kind, wanted)?)
+    }
+
+    /// Adds a path to those that are pending, if it is wanted. Links are not, unless ignore files are
+    /// read, as git prints them; what else is neither a file nor a folder is not.
     fn push(
         &mut self,
         alloc: Global,
@@ -197,7 +232,7 @@ impl Walk {
     ) -> Result<(), AllocError> {
         if kind.is_dir() {
             self.push_folder(alloc, path, wanted.is_folder)
-        } else if kind.is_file() && wanted.is_file {
+        } else if self.ignored.is_file(kind) && wanted.is_file {
             Ok(self.pending.push(String::from_str(alloc, path)?)?)
         } else {
             Ok(())
