@@ -20,6 +20,13 @@ class Failed(Exception):
     """A run that was stopped or ended with an error; the text says which."""
 
 
+def machine():
+    """What the times are of: the processor and the number of cores."""
+    with open("/proc/cpuinfo", encoding="utf-8") as file:
+        models = [line.split(":", 1)[1].strip() for line in file if line.startswith("model name")]
+    return f"{models[0] if models else 'unknown processor'}, {os.cpu_count()} cores"
+
+
 def allow_many_arguments():
     """Raises the limit of the bytes of arguments, which is part of that of the stack, for programs started after it."""
     _, hard = resource.getrlimit(resource.RLIMIT_STACK)

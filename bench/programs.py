@@ -11,7 +11,7 @@ HERE = os.path.dirname(os.path.abspath(__file__))
 OUT = os.path.join(HERE, "out")
 PROGRAM_CRATE = os.path.join(os.path.dirname(HERE), "crates", "globsift")
 INSTALLED_CRATES = "/usr/share/cargo/registry"
-PACKAGES = ["librust-globset-dev", "librust-memchr-dev"]
+PACKAGES = ["librust-globset-dev", "librust-memchr-dev", "librust-ignore-dev"]
 # Debian's newest release, whatever this machine runs, since older ones have a much older globset.
 RELEASE = "sid"
 SOURCES = ["/etc/apt/sources.list", "/etc/apt/sources.list.d/*.list", "/etc/apt/sources.list.d/*.sources"]
@@ -25,12 +25,17 @@ def run(command, **settings):
     return subprocess.run(command, check=True, **settings)
 
 
-def globset_version(crates):
-    """The version of the newest globset in a folder of crates, or None."""
+def crate_version(crate, crates):
+    """The version of the newest release of a crate in a folder of crates, or None."""
     if not os.path.isdir(crates):
         return None
-    versions = [name[len("globset-") :] for name in os.listdir(crates) if name.startswith("globset-")]
+    versions = [found[1] for found in (re.fullmatch(rf"{crate}-([0-9.]+)", name) for name in os.listdir(crates)) if found]
     return max(versions, key=lambda version: [int(number) for number in version.split(".")], default=None)
+
+
+def globset_version(crates):
+    """The version of the newest globset in a folder of crates, or None."""
+    return crate_version("globset", crates)
 
 
 def mirror():
@@ -80,17 +85,17 @@ def download_crates(address):
     return root + INSTALLED_CRATES
 
 
-def find_crates(given, address):
-    """The folder of crates to build the baseline from: a given one, the installed one, or a downloaded one.
+def find_crates(given, address, crate="globset"):
+    """The folder of crates, with this one among them, to build a baseline from: a given one, the installed one, or a downloaded one.
 
     It is downloaded from the mirror with this address, or, if that is None, from the system's own.
     """
     downloaded = os.path.join(OUT, "root") + INSTALLED_CRATES
     for folder in [given] if given else [INSTALLED_CRATES, downloaded]:
-        if globset_version(folder):
+        if crate_version(crate, folder):
             return os.path.abspath(folder)
     if given:
-        raise SystemExit(f"{given} has no globset")
+        raise SystemExit(f"{given} has no {crate}")
     return download_crates(address or mirror())
 
 

@@ -5,16 +5,23 @@ ghost use Rattle.std.specs.Iterator.{at_most};
 
 use memchr::memchr;
 
-/// An iterator over lines without LF. A rest after the last LF is a line too, unless it is empty.
+/// An iterator over lines without what ends them, which is one byte, mostly LF. A rest after the last such byte is a line too,
+/// unless it is empty.
 #[derive(Drop)]
 pub struct Lines<'a> {
     rest: &'a [u8],
+    end: u8,
 }
 
 impl<'a> Lines<'a> {
-    /// Returns the lines of these bytes.
+    /// Returns the lines of these bytes, ended by LF.
     pub fn new(bytes: &'a [u8]) -> Lines<'a> {
-        Lines { rest: bytes }
+        Lines::ended_by(bytes, b'\n')
+    }
+
+    /// Returns the lines of these bytes, ended by this byte.
+    pub fn ended_by(bytes: &'a [u8], end: u8) -> Lines<'a> {
+        Lines { rest: bytes, end }
     }
 }
 
@@ -28,7 +35,7 @@ impl<'a> Iterator for Lines<'a> {
         if rest.is_empty() {
             return None;
         }
-        let end = memchr(b'\n', rest).unwrap_or(rest.len());
+        let end = memchr(self.end, rest).unwrap_or(rest.len());
         self.rest = rest.get(end + 1..).unwrap_or(&[]);
         Some(&rest[..end])
     }

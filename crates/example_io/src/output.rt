@@ -26,10 +26,16 @@ impl Output {
 
     /// Adds a line of these parts, and LF. Returns an error if memory runs out.
     pub fn push_line(&mut self, parts: &[&[u8]]) -> Result<(), AllocError> {
+        self.push(parts)?;
+        self.push(&[b"\n"])
+    }
+
+    /// Adds these parts. Returns an error if memory runs out.
+    pub fn push(&mut self, parts: &[&[u8]]) -> Result<(), AllocError> {
         for part in parts {
             self.bytes.extend_from_slice(part)?;
         }
-        self.bytes.extend_from_slice(b"\n")
+        Ok(())
     }
 
     /// Writes the lines to standard output. After an error a beginning of them was written.

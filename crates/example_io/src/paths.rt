@@ -30,4 +30,9 @@ impl Paths {
     pub fn iter(&self) -> Lines<'_> {
         Lines::new(self.bytes.as_slice())
     }
+
+    /// Returns the paths as they are if this byte ends each of them, in place of LF.
+    pub fn ended_by(&self, end: u8) -> Lines<'_> {
+        Lines::ended_by(self.bytes.as_slice(), end)
+    }
 }

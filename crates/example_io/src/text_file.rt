@@ -32,6 +32,16 @@ impl TextFile {
         }
     }
 
+    /// Returns its name, as it was given.
+    pub fn name(&self) -> &str {
+        self.name.as_str()
+    }
+
+    /// Returns its bytes.
+    pub fn bytes(&self) -> &[u8] {
+        &self.bytes
+    }
+
     /// Returns the lines without LF or CRLF, and without a byte order mark at the start of the file. A rest after the last LF is
     /// a line too, unless it is empty. Returns the error of the first line that is not UTF-8, or an error if memory runs out.
     pub fn lines(&self, alloc: Global) -> Result<Vec<&str>, Fault> {

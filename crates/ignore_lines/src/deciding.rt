@@ -1,0 +1,89 @@
+//! Which line of several ignore files decides about a path.
+
+use crate::ignore_file::{DecidingLine, IgnoreFile};
+use example_io::{Output, Paths};
+use std::alloc::{AllocError, Global};
+
+/// A line, and the index of its file.
+#[derive(Clone, Copy)]
+struct Found {
+    file: usize,
+    line: DecidingLine,
+    /// How long the path of the file's folder is.
+    depth: usize,
+}
+
+/// Adds what decides about each path, and the path. Returns an error if memory runs out.
+pub fn push_deciding(
+    alloc: Global,
+    files: &mut [IgnoreFile],
+    paths: &Paths,
+    ends_in_nul: bool,
+    output: &mut Output,
+) -> Result<(), AllocError> {
+    let end = if ends_in_nul { b'\0' } else { b'\n' };
+    for given in paths.ended_by(end) {
+        let path = given.strip_suffix(b"/").unwrap_or(given);
+        let found = deciding_below(files, path, path.len() < given.len());
+        push_found(alloc, files, found, ends_in_nul, output)?;
+        output.push(&[given, &[end]])?;
+    }
+    Ok(())
+}
+
+/// Adds the file, the number and the text of a line, each with what ends it. Returns an error if memory runs out.
+fn push_found(
+    alloc: Global,
+    files: &[IgnoreFile],
+    found: Option<Found>,
+    ends_in_nul: bool,
+    output: &mut Output,
+) -> Result<(), AllocError> {
+    let (within, last): (&[u8], &[u8]) = if ends_in_nul {
+        (b"\0", b"\0")
+    } else {
+        (b":", b"\t")
+    };
+    let Some(found) = found else {
+        return output.push(&[within, within, last]);
+    };
+    let Some(file) = files.get(found.file) else {
+        return Ok(());
+    };
+    let number = found.line.number.to_string(alloc)?;
+    let text = file.line(found.line.number);
+    let name = file.name().as_bytes();
+    output.push(&[name, within, number.as_bytes(), within, text, last])
+}
+
+/// Returns the line that decides about a path: the one that ignores the highest folder above it that is ignored, if there is one.
+fn deciding_below(files: &mut [IgnoreFile], path: &[u8], is_folder: bool) -> Option<Found> {
+    for (end, byte) in path.iter().enumerate() {
+        if *byte == b'/' {
+            let found = deciding(files, path.get(..end).unwrap_or(path), true);
+            if matches!(found, Some(found) if found.line.ignores) {
+                return found;
+            }
+        }
+    }
+    deciding(files, path, is_folder)
+}
+
+/// Returns the line that decides about a path alone: that of the file in the deepest folder that has such a line.
+fn deciding(files: &mut [IgnoreFile], path: &[u8], is_folder: bool) -> Option<Found> {
+    let mut deepest: Option<Found> = None;
+    for (index, file) in files.iter_mut().enumerate() {
+        let depth = file.folder().len();
+        if matches!(deepest, Some(found) if found.depth > depth) {
+            continue;
+        }
+        if let Some(line) = file.deciding_line(path, is_folder) {
+            deepest = Some(Found {
+                file: index,
+                line,
+                depth,
+            });
+        }
+    }
+    deepest
+}

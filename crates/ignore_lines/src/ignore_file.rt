@@ -1,0 +1,92 @@
+//! An ignore file that is for the folder in which it is.
+
+ghost use Rattle.git_ignore.specs.RulesValue.{FitsRules};
+
+use example_io::{Fault, TextFile};
+use git_ignore::{Decision, IgnoreScratch, Rules};
+use memchr::memrchr;
+use std::alloc::Global;
+
+/// What some editors put at the start of a text.
+const BYTE_ORDER_MARK: &[u8] = b"\xef\xbb\xbf";
+
+/// An ignore file, its rules, and the memory that they are matched with.
+pub struct IgnoreFile {
+    text: TextFile,
+    rules: Rules,
+    scratch: IgnoreScratch,
+    ghost fits: { FitsRules scratch rules },
+}
+
+impl Drop for IgnoreFile {
+    // One call wherever a value is dropped, which keeps proofs short.
+    fn drop(self) {
+        let IgnoreFile {
+            text: _,
+            rules: _,
+            scratch: _,
+        } = self;
+    }
+}
+
+/// A line of an ignore file that decides about a path.
+#[derive(Clone, Copy)]
+pub struct DecidingLine {
+    /// Its number, counted from 1.
+    pub number: usize,
+    /// Whether it ignores the path, or keeps it.
+    pub ignores: bool,
+}
+
+impl IgnoreFile {
+    /// Takes a file, and reads its rules. Returns an error if memory runs out.
+    pub fn new(alloc: Global, text: TextFile) -> Result<IgnoreFile, Fault> {
+        let Ok(rules) = Rules::new(alloc, text.bytes()) else {
+            return Err(Fault::OutOfMemory);
+        };
+        let Ok(scratch) = IgnoreScratch::new(alloc, &rules) else {
+            return Err(Fault::OutOfMemory);
+        };
+        Ok(IgnoreFile {
+            text,
+            rules,
+            scratch,
+        })
+    }
+
+    /// Returns the name of the file.
+    pub fn name(&self) -> &str {
+        self.text.name()
+    }
+
+    /// Returns the folder in which the file is, by its name: empty, or with `/` at its end.
+    pub fn folder(&self) -> &[u8] {
+        let name = self.text.name().as_bytes();
+        match memrchr(b'/', name) {
+            Some(end) => name.get(..end + 1).unwrap_or(name),
+            None => &[],
+        }
+    }
+
+    /// Returns the line that decides about a path, if the path is below the folder and a line does.
+    pub fn deciding_line(&mut self, path: &[u8], is_folder: bool) -> Option<DecidingLine> {
+        let below = path.strip_prefix(self.folder())?;
+        let number = self
+            .rules
+            .deciding_line(below, is_folder, &mut self.scratch)?;
+        let decision = self.rules.decide(below, is_folder, &mut self.scratch);
+        Some(DecidingLine {
+            number,
+            ignores: decision == Decision::Ignored,
+        })
+    }
+
+    /// Returns the text of the line with this number, counted from 1.
+    pub fn line(&self, number: usize) -> &[u8] {
+        let bytes = self.text.bytes();
+        let bytes = bytes.strip_prefix(BYTE_ORDER_MARK).unwrap_or(bytes);
+        let mut lines = bytes.split(|byte| *byte == b'\n').take(number);
+        let line = lines.last().unwrap_or(&[]);
+        line.strip_suffix(b"\r").unwrap_or(line)
+    }
+}

@@ -1,0 +1,67 @@
+//! A walk over the folders of paths, one path after another.
+
+use example_io::Fault;
+use git_ignore::IgnoreStack;
+use memchr::{memchr, memrchr};
+use std::alloc::Global;
+
+/// The folder of the last path, with the rules of the ignore file of the top folder.
+///
+/// What is said of a folder is kept while paths are below it. So paths that come as a walk finds them ask for each folder once.
+pub struct Walk {
+    stack: IgnoreStack,
+}
+
+impl Drop for Walk {
+    // One call wherever a value is dropped, which keeps proofs short.
+    fn drop(self) {
+        let Walk { stack: _ } = self;
+    }
+}
+
+impl Walk {
+    /// Returns a walk in the top folder, which has this ignore file. Returns an error if memory runs out.
+    pub fn new(alloc: Global, file: &[u8]) -> Result<Walk, Fault> {
+        let Ok(mut stack) = IgnoreStack::new(alloc) else {
+            return Err(Fault::OutOfMemory);
+        };
+        match stack.add_file(file) {
+            Ok(()) => Ok(Walk { stack }),
+            Err(_) => Err(Fault::OutOfMemory),
+        }
+    }
+
+    /// Goes to the folder of a file, and returns whether the file is ignored. Returns an error if memory runs out.
+    pub fn ignores(&mut self, path: &[u8]) -> Result<bool, Fault> {
+        let mut rest = self.go_up(path);
+        while let Some(end) = memchr(b'/', rest) {
+            self.enter(&rest[..end])?;
+            rest = &rest[end + 1..];
+        }
+        match self.stack.decide(rest, false) {
+            Ok(decision) => Ok(decision.is_ignored()),
+            // There is no other error than that memory ran out.
+            Err(_) => Err(Fault::OutOfMemory),
+        }
+    }
+
+    /// Goes up to the deepest folder that the path is below, and returns the path from there.
+    fn go_up<'a>(&mut self, path: &'a [u8]) -> &'a [u8] {
+        let folder = self.stack.folder();
+        let same = folder.iter().zip(path).take_while(|(a, b)| a == b).count();
+        let kept = memrchr(b'/', &folder[..same]).map_or(0, |at| at + 1);
+        let levels = folder[kept..].iter().filter(|byte| **byte == b'/').count();
+        for _ in 0..levels {
+            self.stack.leave();
+        }
+        &path[kept..]
+    }
+
+    /// Goes down into a folder. Returns an error if memory runs out.
+    fn enter(&mut self, name: &[u8]) -> Result<(), Fault> {
+        match self.stack.enter(name) {
+            Ok(()) => Ok(()),
+            Err(_) => Err(Fault::OutOfMemory),
+        }
+    }
+}
