@@ -3,6 +3,7 @@
 
 use crate::pattern::pattern_of_line;
 use std::alloc::Global;
+use std::process::Abort;
 use std::test::Fail;
 
 /// Returns what is returned for a line, as a row has it.
@@ -23,16 +24,61 @@ fn shown(alloc: Global, line: &[u8]) -> Result<String, Fail> {
     Ok(out)
 }
 
-#[test]
-fn rows(rt: HostRuntime) -> Result<(), Fail> {
-    for (line, row) in ROWS {
+/// Compares what is returned for the line of each row with what the row has.
+fn compare(rt: &(impl Abort + AllocGlobal), rows: &[(&[u8], &str)]) -> Result<(), Fail> {
+    for (line, row) in rows {
         let shown = shown(rt.alloc(), line)?;
-        assert_eq!(rt; shown.as_str(), row, "of {line:?}");
+        assert_eq!(rt; shown.as_str(), *row, "of {line:?}");
     }
     Ok(())
 }
 
-const ROWS: [(&[u8], &str); 113] = [
+#[test]
+fn signs(rt: HostRuntime) -> Result<(), Fail> {
+    compare(&rt, &SIGNS)
+}
+
+#[test]
+fn line_ends(rt: HostRuntime) -> Result<(), Fail> {
+    compare(&rt, &LINE_ENDS)
+}
+
+#[test]
+fn cut_lines(rt: HostRuntime) -> Result<(), Fail> {
+    compare(&rt, &CUT_LINES)
+}
+
+#[test]
+fn stars(rt: HostRuntime) -> Result<(), Fail> {
+    compare(&rt, &STARS)
+}
+
+#[test]
+fn folders(rt: HostRuntime) -> Result<(), Fail> {
+    compare(&rt, &FOLDERS)
+}
+
+#[test]
+fn classes(rt: HostRuntime) -> Result<(), Fail> {
+    compare(&rt, &CLASSES)
+}
+
+#[test]
+fn negated_classes(rt: HostRuntime) -> Result<(), Fail> {
+    compare(&rt, &NEGATED_CLASSES)
+}
+
+#[test]
+fn named_classes(rt: HostRuntime) -> Result<(), Fail> {
+    compare(&rt, &NAMED_CLASSES)
+}
+
+#[test]
+fn bytes_of_characters(rt: HostRuntime) -> Result<(), Fail> {
+    compare(&rt, &BYTES_OF_CHARACTERS)
+}
+
+const SIGNS: [(&[u8], &str); 20] = [
     (b"a", "**/a"),
     (b"a/b", "a/b"),
     (b"/a", "a"),
@@ -53,6 +99,9 @@ const ROWS: [(&[u8], &str); 113] = [
     (b"//", "-"),
     (b"//a", "/a"),
     (b"a//b", "a//b"),
+];
+
+const LINE_ENDS: [(&[u8], &str); 13] = [
     (b"{a,b}", "**/\\{a\\,b\\}"),
     (b"a]b", "**/a\\]b"),
     (b"\xc3\xa9", "**/é"),
@@ -66,6 +115,9 @@ const ROWS: [(&[u8], &str); 113] = [
     (b"a\\\\\\ ", "**/a\\\\ "),
     (b"a\t", "**/a\t"),
     (b"a\t ", "**/a\t"),
+];
+
+const CUT_LINES: [(&[u8], &str); 13] = [
     (b"a\r", "**/a"),
     (b"a\r\r", "**/a\r"),
     (b"a \r", "**/a"),
@@ -79,6 +131,9 @@ const ROWS: [(&[u8], &str); 113] = [
     (b"foo\\/", "-"),
     (b"\xff", "-"),
     (b"a\xc3", "-"),
+];
+
+const STARS: [(&[u8], &str); 15] = [
     (b"*", "**/*"),
     (b"**", "**/*"),
     (b"a**", "**/a*"),
@@ -94,6 +149,9 @@ const ROWS: [(&[u8], &str); 113] = [
     (b"?**/b", "?*/b"),
     (b"\\a**/b", "a*/b"),
     (b"a/**b", "a/*b"),
+];
+
+const FOLDERS: [(&[u8], &str); 11] = [
     (b"**\\/x", "*{,/**}/x"),
     (b"a/**\\/b", "a/*{,/**}/b"),
     (b"**/**/b", "**/{**/}b"),
@@ -105,6 +163,9 @@ const ROWS: [(&[u8], &str); 113] = [
     (b"..a", "**/..a"),
     (b"a/..", "a/.."),
     (b"*a**/b", "*a*/b"),
+];
+
+const CLASSES: [(&[u8], &str); 14] = [
     (b"[a]", "**/[a]"),
     (b"[]a]", "**/[]a]"),
     (b"[!a]", "**/[!/a]"),
@@ -119,6 +180,9 @@ const ROWS: [(&[u8], &str); 113] = [
     (b"[!]", "-"),
     (b"[a\\]", "-"),
     (b"[\\]]", "**/[]]"),
+];
+
+const NEGATED_CLASSES: [(&[u8], &str); 8] = [
     (b"[!]a]", "**/[!]/a]"),
     (b"[!!]", "**/[!/!]"),
     (b"[!-]", "**/[!/-]"),
@@ -127,6 +191,9 @@ const ROWS: [(&[u8], &str); 113] = [
     (b"[a/]", "[a]"),
     (b"[/]", "-"),
     (b"[.-0]", "**/[.0]"),
+];
+
+const NAMED_CLASSES: [(&[u8], &str); 12] = [
     (b"[[:digit:]]", "**/[0123456789]"),
     (b"[[:blank:]]", "**/[\t ]"),
     (b"[[:foo:]]", "-"),
@@ -139,6 +206,9 @@ const ROWS: [(&[u8], &str); 113] = [
     (b"[\\a-c]", "**/[abc]"),
     (b"[--0]", "**/[.0-]"),
     (b"[a-\\c]", "**/[abc]"),
+];
+
+const BYTES_OF_CHARACTERS: [(&[u8], &str); 7] = [
     (b"[\xc3\xa9]", "**/[é-é]"),
     (b"[z-\xc3\xa9]", "**/[z{|}~\u{7f}\u{80}-é]"),
     (b"[\xc3\xa9-z]", "**/[é-é]"),
