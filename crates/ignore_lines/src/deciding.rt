@@ -39,21 +39,47 @@ fn push_found(
     ends_in_nul: bool,
     output: &mut Output,
 ) -> Result<(), AllocError> {
-    let (within, last): (&[u8], &[u8]) = if ends_in_nul {
-        (b"\0", b"\0")
-    } else {
-        (b":", b"\t")
-    };
-    let Some(found) = found else {
-        return output.push(&[within, within, last]);
-    };
-    let Some(file) = files.get(found.file) else {
-        return Ok(());
-    };
-    let number = found.line.number.to_string(alloc)?;
-    let text = file.line(found.line.number);
+    match found {
+        Some(found) => match files.get(found.file) {
+            Some(file) => push_line(alloc, file, found.line.number, ends_in_nul, output),
+            None => Ok(()),
+        },
+        None => push_fields(b"", b"", b"", ends_in_nul, output),
+    }
+}
+
+/// Adds the name of a file, the number of a line, and its text.
+fn push_line(
+    alloc: Global,
+    file: &IgnoreFile,
+    number: usize,
+    ends_in_nul: bool,
+    output: &mut Output,
+) -> Result<(), AllocError> {
+    let shown = number.to_string(alloc)?;
     let name = file.name().as_bytes();
-    output.push(&[name, within, number.as_bytes(), within, text, last])
+    push_fields(
+        name,
+        shown.as_bytes(),
+        file.line(number),
+        ends_in_nul,
+        output,
+    )
+}
+
+/// Adds three fields, each with what ends it.
+fn push_fields(
+    name: &[u8],
+    number: &[u8],
+    text: &[u8],
+    ends_in_nul: bool,
+    output: &mut Output,
+) -> Result<(), AllocError> {
+    if ends_in_nul {
+        output.push(&[name, b"\0", number, b"\0", text, b"\0"])
+    } else {
+        output.push(&[name, b":", number, b":", text, b"\t"])
+    }
 }
 
 /// Returns the line that decides about a path: the one that ignores the highest folder above it that is ignored, if there is one.

@@ -2,7 +2,7 @@
 
 use example_io::Fault;
 use git_ignore::IgnoreStack;
-use memchr::{memchr, memrchr};
+use memchr::memrchr;
 use std::alloc::Global;
 
 /// The folder of the last path, with the rules of the ignore file of the top folder.
@@ -33,12 +33,15 @@ impl Walk {
 
     /// Goes to the folder of a file, and returns whether the file is ignored. Returns an error if memory runs out.
     pub fn ignores(&mut self, path: &[u8]) -> Result<bool, Fault> {
-        let mut rest = self.go_up(path);
-        while let Some(end) = memchr(b'/', rest) {
-            self.enter(&rest[..end])?;
-            rest = &rest[end + 1..];
-        }
-        match self.stack.decide(rest, false) {
+        let below = self.go_up(path);
+        let name = match memrchr(b'/', below) {
+            Some(end) => {
+                self.enter_all(&below[..end])?;
+                &below[end + 1..]
+            }
+            None => below,
+        };
+        match self.stack.decide(name, false) {
             Ok(decision) => Ok(decision.is_ignored()),
             // There is no other error than that memory ran out.
             Err(_) => Err(Fault::OutOfMemory),
@@ -55,6 +58,14 @@ impl Walk {
             self.stack.leave();
         }
         &path[kept..]
+    }
+
+    /// Goes down into folders, each in the one before. Returns an error if memory runs out.
+    fn enter_all(&mut self, folders: &[u8]) -> Result<(), Fault> {
+        for name in folders.split(|byte| *byte == b'/') {
+            self.enter(name)?;
+        }
+        Ok(())
     }
 
     /// Goes down into a folder. Returns an error if memory runs out.
