@@ -4,7 +4,7 @@ ghost use Rattle.git_ignore.specs.RulesValue.{FitsRules};
 
 use example_io::{Fault, TextFile};
 use git_ignore::{Decision, IgnoreScratch, Rules};
-use memchr::memrchr;
+use memchr::{memchr, memrchr};
 use std::alloc::Global;
 
 /// What some editors put at the start of a text.
@@ -81,12 +81,14 @@ impl IgnoreFile {
         })
     }
 
-    /// Returns the text of the line with this number, counted from 1.
+    /// Returns the text of the line with this number, counted from 1, up to the first NUL.
     pub fn line(&self, number: usize) -> &[u8] {
         let bytes = self.text.bytes();
         let bytes = bytes.strip_prefix(BYTE_ORDER_MARK).unwrap_or(bytes);
         let mut lines = bytes.split(|byte| *byte == b'\n').take(number);
         let line = lines.last().unwrap_or(&[]);
-        line.strip_suffix(b"\r").unwrap_or(line)
+        let line = line.strip_suffix(b"\r").unwrap_or(line);
+        let end = memchr(b'\0', line).unwrap_or(line.len());
+        line.get(..end).unwrap_or(line)
     }
 }
