@@ -30,8 +30,9 @@ pub struct FolderLevel {
 /// the folders above it, and of the files of one folder the one that was added last. What is below an ignored folder is ignored,
 /// whatever matches it.
 ///
-/// Whether a folder is ignored is kept when it is entered. So a path costs one pass over its bytes for each ignore file above it,
-/// however deep it is.
+/// Whether a folder is ignored is kept when it is entered. So the name of an entry costs one pass over its path for each ignore file
+/// above it. A path of several components costs such a pass for each of its folders that was not entered, and one for itself: its
+/// cost grows with the square of its depth if none was.
 pub struct IgnoreStack {
     alloc: Global,
     /// The path of the folder: empty for the top folder, and otherwise with `/` at its end.
