@@ -1,2 +1,3 @@
 pub mod Extensions
 pub mod LastPositions
+pub mod Keys

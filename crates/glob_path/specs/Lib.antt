@@ -1,2 +1,3 @@
 pub mod PathParts
 pub mod Below
+pub mod Key

@@ -3,7 +3,9 @@
 
 mod as_path;
 mod candidate;
+mod key;
 mod parts;
 
 pub use as_path::AsPath;
 pub use candidate::{Candidate, component_extension_of, last_component_of};
+pub use key::Key;
