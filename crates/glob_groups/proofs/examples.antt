@@ -1,4 +1,4 @@
 pub mod Words
 pub mod SilentGlobs
-pub mod Groups
+pub mod Strategies
 pub mod Direct

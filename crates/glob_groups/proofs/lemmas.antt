@@ -4,7 +4,7 @@ pub mod Direct
 pub mod EndMeaning
 pub mod Endings
 pub mod FlatTests
-pub mod Groups
+pub mod Strategies
 pub mod Keys
 pub mod Silent
 pub mod TokenMeaning

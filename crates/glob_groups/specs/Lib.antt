@@ -1,7 +1,7 @@
 pub mod Silent
 pub mod TokenTests
-pub mod Groups
+pub mod Strategies
 pub mod Direct
-pub mod GroupMeaning
+pub mod StrategyMeaning
 pub mod Below
 pub mod inner

@@ -1,2 +1,2 @@
-pub mod ByKey
+pub mod DecidedByKey
 pub mod FlatTests

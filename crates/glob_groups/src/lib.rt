@@ -1,7 +1,7 @@
 //! By what a set of globs decides each of its globs.
 #![tactic(auto)]
 
-mod group;
 mod silence;
+mod strategy;
 
-pub use group::{Group, group_of, tokens_after_prefix, tokens_before_ending};
+pub use strategy::{MatchStrategy, strategy_of, tokens_after_prefix, tokens_before_ending};

@@ -1,4 +1,4 @@
-//! The globs of a list in their groups.
+//! The globs of a list, grouped by what decides each of them.
 
 ghost use Rattle.std.specs.Prelude.{◌≡◌, ◌<◌, ◌++◌, ◌∷◌, [], List, length, OnOk, IfOk};
 ghost use Rattle.glob_syntax.specs.FlatTokens.{IsNested};
@@ -7,13 +7,13 @@ ghost use Rattle.group_matching.specs.Globs.{TokenGlob, token_glob};
 ghost use Rattle.group_matching.specs.inner.Groups.{AreGroupsOf, group_count};
 
 use crate::automata::{Automata, AutomataBuilder};
-use glob_groups::{Group, group_of, tokens_after_prefix, tokens_before_ending};
+use glob_groups::{MatchStrategy, strategy_of, tokens_after_prefix, tokens_before_ending};
 use glob_syntax::{Options, Token};
 use path_keys::{Keys, KeysBuilder};
 use std::alloc::{AllocError, Global};
 use std::marker::Model;
 
-/// A list of globs, each in its group. The index of a glob is its position in the list.
+/// A list of globs, grouped by what decides each of them. The index of a glob is its position in the list.
 pub struct Groups {
     pub(crate) keys: Keys,
     pub(crate) automata: Automata,
@@ -107,24 +107,19 @@ impl GroupsBuilder {
         ensures groups { OnOk result ((globs : List TokenGlob) → index ≡ length globs → AreGroupsOf globs self.old → AreGroupsOf (globs ++ token_glob options (tokens_of tokens.now) ∷ []) self.new) }
         ensures count { group_count self.new ≡ group_count self.old }
     {
-        match group_of(alloc, options, tokens)? {
-            Group::Silent => Ok(()),
-            Group::WholePath(key) => self.keys.add_path(key, index),
-            Group::LastComponent(key) => self.keys.add_component(key, index),
-            Group::Extension(key) => self.keys.add_extension(key, index),
-            Group::LastComponents(key) => self.keys.add_components(key, index),
-            Group::End(key) => self.keys.add_end(key, index),
-            Group::Beginning(key) => self.keys.add_beginning(key, index),
-            Group::RequiredExtension(key) => {
+        match strategy_of(alloc, options, tokens)? {
+            MatchStrategy::Excluded => Ok(()),
+            MatchStrategy::Key(key) => self.keys.add(key, index),
+            MatchStrategy::RequiredExtension(extension) => {
                 let rest = tokens_before_ending(tokens);
                 self.automata
-                    .add_by_extension(alloc, key, options, rest, index)
+                    .add_by_extension(alloc, extension, options, rest, index)
             }
-            Group::ByLastComponent => {
+            MatchStrategy::Basename => {
                 let rest = tokens_after_prefix(tokens);
                 self.automata.add_by_component(alloc, options, rest, index)
             }
-            Group::ByPath => self.automata.add_by_path(alloc, options, tokens, index),
+            MatchStrategy::Path => self.automata.add_by_path(alloc, options, tokens, index),
         }
     }
 

@@ -1,7 +1,7 @@
 //! Many globs at once: which of a list of globs match a path.
 //!
-//! [`GroupsBuilder`] takes the tokens of each glob with its options, and puts them into the glob's group. [`Groups`] asks
-//! keys for the globs that a text decides, and runs automata for the others. They work with [`MatchingSets`], which a caller
+//! [`GroupsBuilder`] takes the tokens of each glob with its options, and puts the glob where its strategy says. [`Groups`] asks
+//! keys for the globs that a key decides, and runs automata for the others. They work with [`MatchingSets`], which a caller
 //! can use again. Nothing here knows the text of a glob.
 #![tactic(auto)]
 

@@ -4,6 +4,8 @@ use Rattle.byte_table.specs.Entries.{Entry, entry, indexes_under}
 use Rattle.byte_trie.specs.declared.side.Side.{Side}
 use Rattle.byte_trie.specs.declared.side.Side.TheVariants.{Beginning, End}
 use Rattle.byte_trie.specs.Texts.{Texts, found}
+use Rattle.glob_path.specs.Key.{KeyValue}
+use Rattle.glob_path.specs.Key as path_key
 use Rattle.glob_path.specs.PathParts.{last_component, component_extension}
 
 -- indexes under whole paths, last components, extensions of these, and texts that paths begin or end with
@@ -58,6 +60,15 @@ after_separator key = 47 ∷ key
 -- the key as a path, and as the last components of a longer path
 abbrev pub with_components : KeyParts → List ℕ → ℕ → KeyParts
 with_components t key n = with_end (with_path t key n) (after_separator key) n
+
+-- one index more under a key
+abbrev pub with_key : KeyParts → KeyValue → ℕ → KeyParts
+with_key t (path_key.WholePath bytes) n = with_path t bytes n
+with_key t (path_key.Basename bytes) n = with_component t bytes n
+with_key t (path_key.Extension bytes) n = with_extension t bytes n
+with_key t (path_key.ComponentSuffix bytes) n = with_components t bytes n
+with_key t (path_key.Suffix bytes) n = with_end t bytes n
+with_key t (path_key.Prefix bytes) n = with_beginning t bytes n
 
 -- The new list has n in addition if `more` is true, and is then longer by at most one. Otherwise it has the same indexes, and is
 -- not longer.

@@ -1,15 +1,13 @@
 //! Indexes under keys, and the indexes that a path finds.
 
-ghost use Rattle.std.specs.Prelude.{◌≡◌, ◌≢◌, ◌+◌, ◌*◌, ◌≤◌, ◌++◌, ◌∷◌, ◌↔◌, ◌⊎◌, ◌<◌, ◌^◌, [], ℕ, List, length, map, IsTrue, IsFalse, MatchOption, OnOk, IfOk, ⊤};
+ghost use Rattle.std.specs.Prelude.{◌≡◌, ◌≢◌, ◌+◌, ◌*◌, ◌≤◌, ◌++◌, ◌∷◌, ◌↔◌, ◌<◌, ◌^◌, [], ℕ, List, length, map, IsTrue, IsFalse, MatchOption, OnOk, IfOk};
 ghost use Rattle.bit_sets.specs.Indexes.{index_room, HasAlso};
 ghost use Rattle.byte_table.specs.Entries.{indexes_under};
-ghost use Rattle.byte_trie.specs.Laws.{IsAt};
 ghost use Rattle.byte_trie.specs.Texts.{entry_of};
-ghost use Rattle.byte_trie.specs.declared.side.Side.TheVariants.{Beginning, End};
-ghost use Rattle.glob_path.specs.Below.{BeginsWith, folder_start};
+ghost use Rattle.glob_path.specs.Key.{KeyMatches, KeyMayMatchBelow, key_seen};
 ghost use Rattle.glob_path.specs.PathParts.{component_extension, last_component};
 ghost use Rattle.path_keys.specs.Below.{BelowMore, MatchesBelow};
-ghost use Rattle.path_keys.specs.Keys.{FindsMore, after_separator, keys_found, no_keys, with_beginning, with_component, with_components, with_end, with_extension, with_path};
+ghost use Rattle.path_keys.specs.Keys.{FindsMore, keys_found, no_keys, with_beginning, with_components, with_end, with_key, with_path};
 ghost use Rattle.path_keys.specs.inner.Folders.{AreFolders};
 ghost use Rattle.path_keys.specs.inner.Parts.{HasOthers, tables_count};
 
@@ -17,13 +15,12 @@ use crate::folders::Folders;
 use bit_sets::IndexSet;
 use byte_table::Table;
 use byte_trie::{Side, Text, Trie};
-use glob_path::{Candidate, component_extension_of, last_component_of};
+use glob_path::{Candidate, Key, component_extension_of, last_component_of};
 use std::alloc::{AllocError, Global};
 use std::marker::Model;
 use visits::Visits;
 
-/// Indexes under keys. A key is a whole path, the last component of a path or the extension of that, or a text that a path begins
-/// or ends with.
+/// Indexes under keys, where a path finds those of the keys that match it.
 pub struct Keys {
     paths: Table,
     components: Table,
@@ -254,66 +251,13 @@ impl KeysBuilder {
         }
     }
 
-    /// Adds an index for the path that is the key. Returns an error if memory runs out.
-    pub fn add_path(&mut self, key: Vec<u8>, index: usize) -> Result<(), AllocError>
-        ensures keys { OnOk result (self.new ≡ with_path self.old key.items index) }
-        ensures found { OnOk result (FindsMore self.old self.new index (λ path. path ≡ key.items)) }
-        ensures below { OnOk result (BelowMore self.old self.new (λ folder. BeginsWith key.items (folder_start folder))) }
+    /// Adds an index for the paths that a key matches. Returns an error if memory runs out.
+    pub fn add(&mut self, key: Key, index: usize) -> Result<(), AllocError>
+        ensures keys { OnOk result (self.new ≡ with_key self.old (key_seen key) index) }
+        ensures found { OnOk result (FindsMore self.old self.new index (KeyMatches (key_seen key))) }
+        ensures below { OnOk result (BelowMore self.old self.new (KeyMayMatchBelow (key_seen key))) }
     {
-        self.paths.push(Text { bytes: key, index })?;
-        Ok(())
-    }
-
-    /// Adds an index for the paths whose last component is the key. Returns an error if memory runs out.
-    pub fn add_component(&mut self, key: Vec<u8>, index: usize) -> Result<(), AllocError>
-        ensures keys { OnOk result (self.new ≡ with_component self.old key.items index) }
-        ensures found { OnOk result (FindsMore self.old self.new index (λ path. last_component path ≡ key.items)) }
-        ensures below { OnOk result (BelowMore self.old self.new (λ folder. ⊤)) }
-    {
-        self.components.insert(key, index)
-    }
-
-    /// Adds an index for the paths whose last component has the key as its extension. Returns an error if memory runs out.
-    pub fn add_extension(&mut self, key: Vec<u8>, index: usize) -> Result<(), AllocError>
-        ensures keys { OnOk result (self.new ≡ with_extension self.old key.items index) }
-        ensures found { OnOk result (FindsMore self.old self.new index (λ path. component_extension path ≡ key.items)) }
-        ensures below { OnOk result (BelowMore self.old self.new (λ folder. ⊤)) }
-    {
-        self.extensions.insert(key, index)
-    }
-
-    /// Adds an index for the paths that begin with the key. Returns an error if memory runs out.
-    pub fn add_beginning(&mut self, key: Vec<u8>, index: usize) -> Result<(), AllocError>
-        ensures keys { OnOk result (self.new ≡ with_beginning self.old key.items index) }
-        ensures found { OnOk result (FindsMore self.old self.new index (λ path. IsAt Beginning path key.items)) }
-        ensures below { OnOk result (BelowMore self.old self.new (λ folder. BeginsWith key.items (folder_start folder) ⊎ BeginsWith (folder_start folder) key.items)) }
-    {
-        self.beginnings.push(Text { bytes: key, index })?;
-        Ok(())
-    }
-
-    /// Adds an index for the paths that end with the key. Returns an error if memory runs out.
-    pub fn add_end(&mut self, key: Vec<u8>, index: usize) -> Result<(), AllocError>
-        ensures keys { OnOk result (self.new ≡ with_end self.old key.items index) }
-        ensures found { OnOk result (FindsMore self.old self.new index (λ path. IsAt End path key.items)) }
-        ensures below { OnOk result (BelowMore self.old self.new (λ folder. ⊤)) }
-    {
-        self.ends.push(Text { bytes: key, index })?;
-        Ok(())
-    }
-
-    /// Adds an index for the path that is the key, and for the paths that end with `/` and the key. Returns an error if memory runs
-    /// out.
-    pub fn add_components(&mut self, key: Vec<u8>, index: usize) -> Result<(), AllocError>
-        ensures keys { OnOk result (self.new ≡ with_components self.old key.items index) }
-        ensures found { OnOk result (FindsMore self.old self.new index (λ path. (path ≡ key.items) ⊎ IsAt End path (after_separator key.items))) }
-        ensures below { OnOk result (BelowMore self.old self.new (λ folder. ⊤)) }
-    {
-        let mut end = Vec::new(*key.allocator());
-        end.push(b'/')?;
-        end.extend_from_slice(&key)?;
-        self.add_path(key, index)?;
-        self.add_end(end, index)
+        self.put(key, index)
     }
 
     /// Returns what was added. Returns an error if memory runs out.
@@ -340,6 +284,55 @@ impl KeysBuilder {
             has_others,
             folders,
         })
+    }
+
+    /// Puts an index under a key, where keys of its kind are. Returns an error if memory runs out.
+    fn put(&mut self, key: Key, index: usize) -> Result<(), AllocError>
+        ensures { OnOk result (self.new ≡ with_key self.old (key_seen key) index) }
+    {
+        match key {
+            Key::WholePath(bytes) => self.put_path(bytes, index),
+            Key::Basename(bytes) => self.components.insert(bytes, index),
+            Key::Extension(bytes) => self.extensions.insert(bytes, index),
+            Key::ComponentSuffix(bytes) => self.put_components(bytes, index),
+            Key::Suffix(bytes) => self.put_end(bytes, index),
+            Key::Prefix(bytes) => self.put_beginning(bytes, index),
+        }
+    }
+
+    /// Puts an index under a whole path. Returns an error if memory runs out.
+    fn put_path(&mut self, bytes: Vec<u8>, index: usize) -> Result<(), AllocError>
+        ensures { OnOk result (self.new ≡ with_path self.old bytes.items index) }
+    {
+        self.paths.push(Text { bytes, index })?;
+        Ok(())
+    }
+
+    /// Puts an index under the beginning of paths. Returns an error if memory runs out.
+    fn put_beginning(&mut self, bytes: Vec<u8>, index: usize) -> Result<(), AllocError>
+        ensures { OnOk result (self.new ≡ with_beginning self.old bytes.items index) }
+    {
+        self.beginnings.push(Text { bytes, index })?;
+        Ok(())
+    }
+
+    /// Puts an index under the end of paths. Returns an error if memory runs out.
+    fn put_end(&mut self, bytes: Vec<u8>, index: usize) -> Result<(), AllocError>
+        ensures { OnOk result (self.new ≡ with_end self.old bytes.items index) }
+    {
+        self.ends.push(Text { bytes, index })?;
+        Ok(())
+    }
+
+    /// Puts an index under a whole path, and under the end that is `/` and the same bytes. Returns an error if memory runs out.
+    fn put_components(&mut self, bytes: Vec<u8>, index: usize) -> Result<(), AllocError>
+        ensures { OnOk result (self.new ≡ with_components self.old bytes.items index) }
+    {
+        let mut end = Vec::new(*bytes.allocator());
+        end.push(b'/')?;
+        end.extend_from_slice(&bytes)?;
+        self.put_path(bytes, index)?;
+        self.put_end(end, index)
     }
 
     /// Returns whether there are keys for last components, extensions or ends of paths.

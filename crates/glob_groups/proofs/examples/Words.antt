@@ -9,13 +9,13 @@ use Rattle.glob_syntax.specs.Nesting.{nested}
 use Rattle.glob_syntax.specs.Stars.{piece}
 use Rattle.glob_syntax.specs.Reading.{reading, whole, levels}
 use Rattle.glob_syntax.specs.declared.options.Options.{Options}
-use Rattle.glob_groups.specs.Groups.{GroupValue, group_of_tokens}
+use Rattle.glob_groups.specs.Strategies.{StrategyValue, strategy_of_tokens}
 use Rattle.glob_groups.specs.Direct.{is_direct, needs_automaton}
 use Rattle.glob_groups.specs.Silent.{are_silent}
 
--- What a proof unfolds to compute the group of a glob that is written out, and whether it is direct.
+-- What a proof unfolds to compute the strategy for a glob that is written out, and whether it is direct.
 unfoldable pub globs_on_literals : Unit {0}
-unfolding chars encode_utf8 ranges bad_range marks mark_at nested piece reading whole levels group_of_tokens is_direct needs_automaton
+unfolding chars encode_utf8 ranges bad_range marks mark_at nested piece reading whole levels strategy_of_tokens is_direct needs_automaton
 globs_on_literals = tt
 
 -- ---- texts under options
@@ -56,9 +56,9 @@ separated text = case text false true
 abbrev pub silence : Case → Option Bool
 silence x = elim (reading x.options (chars x.text)) [ Ok ts ↦ Some (are_silent x.options ts) | Err f ↦ None ]
 
--- the group of the glob, or `None` if its text is not a glob
-abbrev pub group : Case → Option GroupValue
-group x = elim (reading x.options (chars x.text)) [ Ok ts ↦ Some (group_of_tokens x.options ts) | Err f ↦ None ]
+-- the strategy for the glob, or `None` if its text is not a glob
+abbrev pub strategy : Case → Option StrategyValue
+strategy x = elim (reading x.options (chars x.text)) [ Ok ts ↦ Some (strategy_of_tokens x.options ts) | Err f ↦ None ]
 
 -- whether the glob is direct, or `None` if its text is not a glob
 abbrev pub directness : Case → Option Bool

@@ -20,7 +20,7 @@ use Rattle.glob_automaton.proofs.lemmas.Cuts.{empty_is}
 use Rattle.glob_automaton.proofs.lemmas.TakesByParts.{TakesAll, then_takes}
 use Rattle.glob_groups.specs.Silent.{is_dot}
 use Rattle.glob_groups.specs.TokenTests.{all_pass, some_all_pass, is_literal_except, literal_text, is_extension, ending}
-use Rattle.glob_groups.specs.Groups.{before_ending, is_last_component}
+use Rattle.glob_groups.specs.Strategies.{before_ending, is_last_component}
 use Rattle.glob_groups.specs.inner.FlatTests as flat
 use Rattle.glob_groups.specs.inner.FlatTests.{EndsInExtension}
 use Rattle.glob_groups.proofs.lemmas.FlatTests.{AreSimple, is_plain, extension_simple, extension_same}
@@ -222,7 +222,7 @@ extension_no_slash (and_then t ts) h =
     let dot = dot_is t (and_first (is_dot t) (all_pass is_plain ts) h) in
     and_both (is_literal_except (slash ∷ []) t) (all_pass (is_literal_except (slash ∷ [])) ts) (ap (is_literal_except (slash ∷ [])) dot) (plain_no_slash ts (and_second (is_dot t) (all_pass is_plain ts) h))
 
--- RecursivePrefix is not alone before an ending, since the glob would be of another group
+-- RecursivePrefix is not alone before an ending, since another strategy would fit the glob
 alone_before : (ts : Tokens) (k : List ℕ) → ending ts ≡ Some k → is_last_component ts ≡ false → is_prefix_alone (before_ending ts) ≡ false
 alone_before end k e h = refl
 alone_before (and_then t end) k e h = by_case (is_extension (and_then t end)) refl

@@ -1,18 +1,23 @@
--- Paths below a folder, by groups.
+-- Paths below a folder, by the strategies for globs.
 use Rattle.std.proofs.Common.{◌≡◌, ℕ, ◌<◌, arith, ◌⊎◌, inl, inr, true, true≢false, List, [], ◌∷◌, ◌++◌, IsTrue, refl, ap, sym, ◌∙◌, subst}
+use Rattle.std.specs.Prelude.{◌↔◌}
 use Rattle.std.proofs.Math.Logic.{⊎_elim}
 use Rattle.std.proofs.lemmas.List.{append-nil, append_assoc}
 use Rattle.byte_automaton.specs.Texts.{AllBytes}
 use Rattle.byte_automaton.proofs.lemmas.Deciding.{rest_bytes}
+use Rattle.glob_automaton.specs.After.{MeanAfter}
 use Rattle.glob_automaton.specs.Takes.{slash}
 use Rattle.glob_automaton.specs.TokenMeans.{means}
 use Rattle.glob_path.specs.PathParts.{is_separator, last_component, component_extension}
 use Rattle.glob_syntax.specs.declared.options.Options.{Options}
 use Rattle.glob_syntax.specs.Token.{Tokens}
 use Rattle.glob_path.specs.Below.{path_below, folder_start, BeginsWith}
+use Rattle.glob_path.specs.Key.{KeyValue, KeyMatches, KeyMayMatchBelow, key_bytes}
+use Rattle.glob_path.specs.Key as path_key
+use Rattle.glob_groups.specs.Silent.{are_listed}
 use Rattle.glob_groups.specs.Below.{AreListedBelow, TellsBelow, HasBytes}
-use Rattle.glob_groups.specs.GroupMeaning.{Tells}
-use Rattle.glob_groups.specs.Groups.{GroupValue, Silent, WholePath, LastComponent, Extension, LastComponents, End, Beginning, RequiredExtension, ByLastComponent, ByPath, after_prefix, before_ending}
+use Rattle.glob_groups.specs.StrategyMeaning.{Tells}
+use Rattle.glob_groups.specs.Strategies.{StrategyValue, Excluded, Key, RequiredExtension, Basename, Path, after_prefix, before_ending}
 use Rattle.glob_groups.proofs.lemmas.Components.{Lacks, lacks_back, last_component_at, split, IsExtension, extension_ends, extension_parts}
 use Rattle.glob_groups.proofs.lemmas.TokenMeaning.{extension_end}
 use Rattle.glob_path.proofs.lemmas.LastPositions.{neither}
@@ -72,33 +77,49 @@ front_bytes : (p q : List ℕ) → AllBytes (p ++ q) → AllBytes p
 front_bytes [] q h = tt
 front_bytes (c ∷ p) q h = (h.0, front_bytes p q h.1)
 
--- what is known of the tokens of a group, beside what it says of paths
-abbrev pub IsShaped : Options → Tokens → GroupValue → Type 0
-IsShaped o ts (LastComponent key) = Lacks is_separator key
-IsShaped o ts (Extension key) = IsExtension key
-IsShaped o ts ByLastComponent = (b : List ℕ) → IsTrue (means o (after_prefix ts) b) → Lacks is_separator b
-IsShaped o ts group = Unit {0}
+-- what is known of a key, beside what it says of paths
+abbrev pub IsKeyShaped : KeyValue → Type 0
+IsKeyShaped (path_key.Basename key) = Lacks is_separator key
+IsKeyShaped (path_key.Extension key) = IsExtension key
+IsKeyShaped key = Unit {0}
 
-module _ (o : Options) (ts : Tokens) (folder : List ℕ) (bytes : AllBytes folder) where
-  pub tells_below : (group : GroupValue) → HasBytes group → IsShaped o ts group → ((path : List ℕ) → Tells group o ts path) → TellsBelow group o ts folder
-  tells_below Silent has shape tells = λ (rest, all, h). true≢false (sym h ∙ tells (path_below folder rest))
-  tells_below (WholePath key) has shape tells = (
+-- what is known of the tokens that a strategy fits, beside what it says of paths
+abbrev pub IsShaped : Options → Tokens → StrategyValue → Type 0
+IsShaped o ts (Key key) = IsKeyShaped key
+IsShaped o ts Basename = (b : List ℕ) → IsTrue (means o (after_prefix ts) b) → Lacks is_separator b
+IsShaped o ts strategy = Unit {0}
+
+module _ (o : Options) (ts : Tokens) (folder : List ℕ) where
+  pub key_tells_below : (key : KeyValue) → AllBytes (key_bytes key) → IsKeyShaped key → ((path : List ℕ) → IsTrue (are_listed o ts path) ↔ KeyMatches key path)
+      → AreListedBelow o ts folder ↔ KeyMayMatchBelow key folder
+  key_tells_below (path_key.WholePath key) has shape tells = (
     λ (rest, all, h). (rest, with_slash folder rest ∙ (tells (path_below folder rest)).0 h),
     λ (rest, is). let cut = sym (with_slash folder rest) ∙ is in
         (rest, (rest_bytes folder (slash ∷ rest) (subst AllBytes (sym cut) has)).1, (tells (path_below folder rest)).1 cut),
   )
-  tells_below (LastComponent key) has shape tells = (key, has, (tells (path_below folder key)).1 (name_below folder key shape))
-  tells_below (Extension key) has shape tells =
-      (key, has, (tells (path_below folder key)).1 (extension_ends (path_below folder key) key shape (folder ++ slash ∷ [], sym (with_slash folder key))))
-  tells_below (LastComponents key) has shape tells = (key, has, (tells (path_below folder key)).1 (inr (folder, refl)))
-  tells_below (End key) has shape tells = (key, has, (tells (path_below folder key)).1 (folder ++ slash ∷ [], with_slash folder key))
-  tells_below (Beginning key) has shape tells = (
+  key_tells_below (path_key.Basename key) has shape tells = (λ some. tt, λ t. (key, has, (tells (path_below folder key)).1 (name_below folder key shape)))
+  key_tells_below (path_key.Extension key) has shape tells =
+      (λ some. tt, λ t. (key, has, (tells (path_below folder key)).1 (extension_ends (path_below folder key) key shape (folder ++ slash ∷ [], sym (with_slash folder key)))))
+  key_tells_below (path_key.ComponentSuffix key) has shape tells = (λ some. tt, λ t. (key, has, (tells (path_below folder key)).1 (inr (folder, refl))))
+  key_tells_below (path_key.Suffix key) has shape tells = (λ some. tt, λ t. (key, has, (tells (path_below folder key)).1 (folder ++ slash ∷ [], with_slash folder key)))
+  key_tells_below (path_key.Prefix key) has shape tells = (
     λ (rest, all, h). let (z, is) = (tells (path_below folder rest)).0 h in overlap key (folder_start folder) z rest (is ∙ sym (with_slash folder rest)),
     λ either. ⊎_elim {C = AreListedBelow o ts folder}
         (λ (z, is). (z, rest_bytes (folder_start folder) z (subst AllBytes (sym is) has), (tells (path_below folder z)).1 ([], append-nil key ∙ sym is ∙ with_slash folder z)))
         (λ (z, is). ([], tt, (tells (path_below folder [])).1 (z, is)))
         either,
   )
+
+  pub path_tells_below : ((path : List ℕ) → are_listed o ts path ≡ means o ts path) → AreListedBelow o ts folder ↔ MeanAfter o ts (folder_start folder)
+  path_tells_below tells = (
+    λ (rest, all, h). (rest, all, subst (λ f. IsTrue (means o ts f)) (sym (with_slash folder rest)) (sym (tells (path_below folder rest)) ∙ h)),
+    λ (rest, all, h). (rest, all, tells (path_below folder rest) ∙ subst (λ f. IsTrue (means o ts f)) (with_slash folder rest) h),
+  )
+
+module _ (o : Options) (ts : Tokens) (folder : List ℕ) (bytes : AllBytes folder) where
+  pub tells_below : (strategy : StrategyValue) → HasBytes strategy → IsShaped o ts strategy → ((path : List ℕ) → Tells strategy o ts path) → TellsBelow strategy o ts folder
+  tells_below Excluded has shape tells = λ (rest, all, h). true≢false (sym h ∙ tells (path_below folder rest))
+  tells_below (Key key) has shape tells = key_tells_below o ts folder key has shape tells
   tells_below (RequiredExtension key) has shape tells = (
     λ (rest, all, h).
         let path = path_below folder rest in
@@ -115,14 +136,11 @@ module _ (o : Options) (ts : Tokens) (folder : List ℕ) (bytes : AllBytes folde
           (tells path).1 (path_below folder rest) (append_assoc folder (slash ∷ rest) key) ∙ subst (λ f. IsTrue (means o (before_ending ts) f)) (with_slash folder rest) h,
         ),
   )
-  tells_below ByLastComponent has shape tells = (
+  tells_below Basename has shape tells = (
     λ (rest, all, h).
         let path = path_below folder rest in
         let s = split path in
         (last_component path, rest_bytes s.front (last_component path) (subst AllBytes s.cut (append_bytes folder (slash ∷ rest) bytes (let small : slash < 256 = omega arith in small, all))), sym (tells path) ∙ h),
     λ (name, all, h). (name, all, tells (path_below folder name) ∙ ap (means o (after_prefix ts)) (name_below folder name (shape name h)) ∙ h),
   )
-  tells_below ByPath has shape tells = (
-    λ (rest, all, h). (rest, all, subst (λ f. IsTrue (means o ts f)) (sym (with_slash folder rest)) (sym (tells (path_below folder rest)) ∙ h)),
-    λ (rest, all, h). (rest, all, tells (path_below folder rest) ∙ subst (λ f. IsTrue (means o ts f)) (with_slash folder rest) h),
-  )
+  tells_below Path has shape tells = path_tells_below o ts folder tells

@@ -6,7 +6,7 @@ use Rattle.glob_syntax.specs.Token.{Tokens}
 use Rattle.glob_automaton.specs.TokenMeans.{is_prefix}
 use Rattle.glob_automaton.proofs.lemmas.Booleans.{and_none}
 use Rattle.glob_groups.specs.TokenTests.{first_and_rest, ending, is_whole_path, is_last_components, is_star_extension, is_end, is_beginning, is_below_folder}
-use Rattle.glob_groups.specs.Groups.{is_any_extension}
+use Rattle.glob_groups.specs.Strategies.{is_any_extension}
 use Rattle.glob_groups.specs.Direct.{is_direct, has_ending, needs_automaton}
 
 -- a case-insensitive glob is not direct

@@ -1,4 +1,4 @@
--- Which paths the tokens of the groups match that compare the end or the beginning of a path with a key.
+-- Which paths tokens match of which a key at the end or the beginning of a path decides.
 use Rattle.std.proofs.Common.{◌≡◌, ℕ, ◌⊎◌, inl, inr, Bool, true, false, true≢false, not, ◌&&◌, ◌||◌, List, [], ◌∷◌, ◌++◌, IsTrue, refl, ap, sym, ◌∙◌, subst}
 use Rattle.std.specs.Prelude.{◌↔◌, encode_utf8}
 use Rattle.std.proofs.Math.Logic.{⊎_elim}

@@ -13,10 +13,10 @@ use Rattle.glob_automaton.specs.TokenMeans.{is_prefix}
 use Rattle.glob_automaton.specs.TokenMeans.{is_prefix_alone as tree_alone}
 use Rattle.glob_automaton.proofs.lemmas.Booleans.{and_first, and_second, and_none}
 use Rattle.glob_groups.specs.Silent.{is_dot}
-use Rattle.glob_groups.specs.Groups as groups
+use Rattle.glob_groups.specs.Strategies as strategies
 use Rattle.glob_groups.specs.TokenTests as tree
 use Rattle.glob_groups.specs.TokenTests.{is_literal_except, is_star, is_suffix, has_tokens, all_pass, some_all_pass}
-use Rattle.glob_groups.specs.Groups.{matches_no_slash}
+use Rattle.glob_groups.specs.Strategies.{matches_no_slash}
 use Rattle.glob_groups.specs.inner.FlatTests as flat
 use Rattle.glob_groups.specs.inner.FlatTests.{is_simple_that, all_simple_pass, some_all_simple_pass}
 
@@ -57,7 +57,7 @@ first_same test r here there same (closing ∷ ts) n = absurd n
 pub whole_path_same : (ts : List Flat) → IsNested ts → flat.is_whole_path ts ≡ tree.is_whole_path (tree_of ts)
 whole_path_same = some_same (is_literal_except []) (λ bs. refl)
 
-pub last_component_same : (ts : List Flat) → IsNested ts → flat.is_last_component ts ≡ groups.is_last_component (tree_of ts)
+pub last_component_same : (ts : List Flat) → IsNested ts → flat.is_last_component ts ≡ strategies.is_last_component (tree_of ts)
 last_component_same =
     first_same is_prefix (λ bs. refl) (some_all_simple_pass (is_literal_except (slash ∷ []))) (some_all_pass (is_literal_except (slash ∷ [])))
     (some_same (is_literal_except (slash ∷ [])) (λ bs. refl))
@@ -75,7 +75,7 @@ extension_same = first_same is_dot (λ bs. refl) (all_simple_pass is_plain) (all
 star_extension_same : (ts : List Flat) → IsNested ts → flat.is_star_extension ts ≡ tree.is_star_extension (tree_of ts)
 star_extension_same = first_same is_star (λ bs. refl) flat.is_extension tree.is_extension extension_same
 
-pub any_extension_same : (o : Options) (ts : List Flat) → IsNested ts → flat.is_any_extension o ts ≡ groups.is_any_extension o (tree_of ts)
+pub any_extension_same : (o : Options) (ts : List Flat) → IsNested ts → flat.is_any_extension o ts ≡ strategies.is_any_extension o (tree_of ts)
 any_extension_same o ts n = λ i.
     first_same is_prefix (λ bs. refl) flat.is_star_extension tree.is_star_extension star_extension_same ts n i || (not o.literal_separator && star_extension_same ts n i)
 
@@ -127,42 +127,42 @@ beginning_same o ts n = λ i. alone_same ts n i || (not o.literal_separator && l
 pub below_folder_same : (ts : List Flat) → IsNested ts → flat.is_below_folder ts ≡ tree.is_below_folder (tree_of ts)
 below_folder_same = last_same is_suffix (λ bs. refl)
 
-pub by_last_component_same : (o : Options) (ts : List Flat) → IsNested ts → flat.is_by_last_component o ts ≡ groups.is_by_last_component o (tree_of ts)
+pub by_last_component_same : (o : Options) (ts : List Flat) → IsNested ts → flat.is_by_last_component o ts ≡ strategies.is_by_last_component o (tree_of ts)
 by_last_component_same o = first_same is_prefix (λ bs. refl) (some_all_simple_pass (matches_no_slash o)) (some_all_pass (matches_no_slash o)) (some_same (matches_no_slash o) (λ bs. refl))
 
 -- ---- tokens after RecursivePrefix
 
-after_prefix : (t : Flat) (ts : List Flat) → IsNested (t ∷ ts) → is_simple_that is_prefix t ≡ true → (tree_of ts ≡ groups.after_prefix (tree_of (t ∷ ts))) × IsNested ts
-after_prefix (simple t) ts n h = (sym (ap groups.after_prefix (tree_simple t ts) ∙ ap (λ b. if b then tree_of ts else and_then t (tree_of ts)) h), n)
+after_prefix : (t : Flat) (ts : List Flat) → IsNested (t ∷ ts) → is_simple_that is_prefix t ≡ true → (tree_of ts ≡ strategies.after_prefix (tree_of (t ∷ ts))) × IsNested ts
+after_prefix (simple t) ts n h = (sym (ap strategies.after_prefix (tree_simple t ts) ∙ ap (λ b. if b then tree_of ts else and_then t (tree_of ts)) h), n)
 after_prefix opening ts n h = absurd (true≢false (sym h))
 after_prefix comma ts n h = absurd n
 after_prefix closing ts n h = absurd n
 
-after_other : (t : Flat) (ts : List Flat) → IsNested (t ∷ ts) → is_simple_that is_prefix t ≡ false → tree_of (t ∷ ts) ≡ groups.after_prefix (tree_of (t ∷ ts))
+after_other : (t : Flat) (ts : List Flat) → IsNested (t ∷ ts) → is_simple_that is_prefix t ≡ false → tree_of (t ∷ ts) ≡ strategies.after_prefix (tree_of (t ∷ ts))
 after_other (simple t) ts n h =
     let e = tree_simple t ts in
-    e ∙ sym (ap groups.after_prefix e ∙ ap (λ b. if b then tree_of ts else and_then t (tree_of ts)) h)
-after_other opening ts n h = let (us, e) = open_here ts n in e ∙ sym (ap groups.after_prefix e)
+    e ∙ sym (ap strategies.after_prefix e ∙ ap (λ b. if b then tree_of ts else and_then t (tree_of ts)) h)
+after_other opening ts n h = let (us, e) = open_here ts n in e ∙ sym (ap strategies.after_prefix e)
 after_other comma ts n h = absurd n
 after_other closing ts n h = absurd n
 
 -- the first token of a list is RecursivePrefix
 pub prefix_cut : (ts : List held.Token) (t : held.Token) (us : List held.Token) (whole : Tokens) → ts ≡ t ∷ us → IsNested (flats ts) → whole ≡ tokens_of ts → is_simple_that is_prefix (flat_of t) ≡ true
-    → (tokens_of us ≡ groups.after_prefix whole) × IsNested (flats us)
+    → (tokens_of us ≡ strategies.after_prefix whole) × IsNested (flats us)
 prefix_cut ts t us whole e n w h =
     let cut : flats ts ≡ flat_of t ∷ flats us = ap flats e in
     let r = after_prefix (flat_of t) (flats us) (subst IsNested cut n) h in
-    (r.0 ∙ sym (ap groups.after_prefix (w ∙ ap tree_of cut)), r.1)
+    (r.0 ∙ sym (ap strategies.after_prefix (w ∙ ap tree_of cut)), r.1)
 
 -- or it is not
 pub other_kept : (ts : List held.Token) (t : held.Token) (us : List held.Token) (whole : Tokens) → ts ≡ t ∷ us → IsNested (flats ts) → whole ≡ tokens_of ts → is_simple_that is_prefix (flat_of t) ≡ false
-    → tokens_of ts ≡ groups.after_prefix whole
+    → tokens_of ts ≡ strategies.after_prefix whole
 other_kept ts t us whole e n w h =
     let cut : flats ts ≡ flat_of t ∷ flats us = ap flats e in
-    ap tree_of cut ∙ after_other (flat_of t) (flats us) (subst IsNested cut n) h ∙ sym (ap groups.after_prefix (w ∙ ap tree_of cut))
+    ap tree_of cut ∙ after_other (flat_of t) (flats us) (subst IsNested cut n) h ∙ sym (ap strategies.after_prefix (w ∙ ap tree_of cut))
 
-pub none_kept : (ts : List held.Token) (whole : Tokens) → length ts ≡ 0 → whole ≡ tokens_of ts → tokens_of ts ≡ groups.after_prefix whole
-none_kept [] whole e w = sym (ap groups.after_prefix w)
+pub none_kept : (ts : List held.Token) (whole : Tokens) → length ts ≡ 0 → whole ≡ tokens_of ts → tokens_of ts ≡ strategies.after_prefix whole
+none_kept [] whole e w = sym (ap strategies.after_prefix w)
 none_kept (t ∷ ts) whole e w = absurd (omega arith)
 
 -- ---- texts

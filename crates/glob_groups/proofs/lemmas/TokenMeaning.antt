@@ -1,4 +1,4 @@
--- Which paths the tokens of each group match.
+-- Which paths the tokens match that each strategy fits.
 use Rattle.std.proofs.Common.{◌≡◌, ℕ, ◌<◌, Bool, true, false, true≢false, not, ◌&&◌, ◌||◌, List, [], ◌∷◌, ◌++◌, map, Some, None, IsTrue, refl, ap, sym, ◌∙◌, subst, arith}
 use Rattle.std.specs.Prelude.{◌==◌, ◌↔◌, if◌then◌else◌, encode_utf8}
 use Rattle.std.specs.Char.{to_ascii_lowercase}
@@ -23,7 +23,7 @@ use Rattle.glob_automaton.proofs.lemmas.TokenLists.{prefix_is}
 use Rattle.glob_automaton.proofs.lemmas.TakesByParts.{Takes, TakesAll, equal_bytes, prefix_takes, then_takes}
 use Rattle.glob_groups.specs.Silent as silent
 use Rattle.glob_groups.specs.TokenTests.{is_star, is_literal_except, has_tokens, all_pass, first_and_rest, some_all_pass, literal_text, is_extension, ending, is_whole_path, is_star_extension}
-use Rattle.glob_groups.specs.Groups.{matches_no_slash, after_prefix, is_last_component, is_any_extension, is_by_last_component}
+use Rattle.glob_groups.specs.Strategies.{matches_no_slash, after_prefix, is_last_component, is_any_extension, is_by_last_component}
 use Rattle.glob_groups.proofs.lemmas.Silent.{dot_is}
 use Rattle.glob_path.proofs.lemmas.LastPositions.{neither}
 use Rattle.glob_groups.proofs.lemmas.Components.{EndsWith, Lacks, lacks_cons, lacks_append, lacks_front, encode_lacks, EndsComponent, last_component_at, split, IsExtension, extension_ends, extension_parts}

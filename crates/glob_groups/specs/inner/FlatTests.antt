@@ -10,7 +10,7 @@ use Rattle.glob_automaton.specs.Takes.{slash}
 use Rattle.glob_automaton.specs.TokenMeans.{is_prefix}
 use Rattle.glob_groups.specs.Silent.{is_dot}
 use Rattle.glob_groups.specs.TokenTests.{is_literal_except, is_star, is_suffix}
-use Rattle.glob_groups.specs.Groups.{matches_no_slash}
+use Rattle.glob_groups.specs.Strategies.{matches_no_slash}
 
 -- the token is no brace or comma, and passes the test
 abbrev pub is_simple_that : (Token → Bool) → Flat → Bool

@@ -41,10 +41,10 @@ one_matches g path found h =
       λ y. h.1 (0, inl (refl, y)),
     )
 
--- whether a key matches is whether the glob does
-pub key_matches_glob : (g : GlobValue) (path : List ℕ) (found : Bool) → found ≡ means g.options (tokens_of_glob g) path → found ≡ glob_means g path
+-- whether a key that decides the glob matches is whether the glob does
+pub key_matches_glob : (g : GlobValue) (path : List ℕ) (found : Bool) {P : Type 0} → IsTrue found ↔ P → IsTrue (means g.options (tokens_of_glob g) path) ↔ P → found ≡ glob_means g path
 unfolding glob_means
-key_matches_glob g path found e = e
+key_matches_glob g path found h tells = same_truth found (means g.options (tokens_of_glob g) path) (λ y. tells.1 (h.0 y), λ y. h.1 (tells.0 y))
 
 -- a glob may have a visit for each path
 pub one_visit : (g : GlobValue) (path : List ℕ) → 1 ≤ most_visits g path
@@ -65,14 +65,15 @@ means_below g folder =
       λ (rest, bytes, h). (rest, bytes, subst matches (sym (append_assoc folder (47 ∷ []) rest)) h),
     )
 
-pub key_matches_below : (g : GlobValue) (folder : List ℕ) (found : Bool) → IsTrue found ↔ MeanAfter g.options (tokens_of_glob g) (folder_start folder) → IsTrue found ↔ GlobMeansBelow g folder
-key_matches_below g folder found h = (λ y. (means_below g folder).0 (h.0 y), λ some. h.1 ((means_below g folder).1 some))
+pub key_matches_below : (g : GlobValue) (folder : List ℕ) (found : Bool) {P : Type 0} → IsTrue found ↔ P → MeanAfter g.options (tokens_of_glob g) (folder_start folder) ↔ P
+    → IsTrue found ↔ GlobMeansBelow g folder
+key_matches_below g folder found h tells = (λ y. (means_below g folder).0 (tells.1 (h.0 y)), λ some. h.1 (tells.0 ((means_below g folder).1 some)))
 
 pub one_matches_below : (g : GlobValue) (folder : List ℕ) (found : Bool) → IsTrue found ↔ SomeMeanAfter (indexed g.options (tokens_of_glob g) 0 ∷ []) (folder_start folder)
     → IsTrue found ↔ GlobMeansBelow g folder
 one_matches_below g folder found h =
     let this = MeanAfter g.options (tokens_of_glob g) (folder_start folder) in
-    key_matches_below g folder found (λ y. ⊎_elim {C = this} (λ some. some) (λ no. absurd no) (h.0 y), λ some. h.1 (inl some))
+    key_matches_below g folder found (λ y. ⊎_elim {C = this} (λ some. some) (λ no. absurd no) (h.0 y), λ some. h.1 (inl some)) (λ some. some, λ some. some)
 
 -- a glob may have a visit for each folder
 pub one_visit_below : (g : GlobValue) (folder : List ℕ) → 1 ≤ most_visits_below g folder

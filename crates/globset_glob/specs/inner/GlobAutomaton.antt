@@ -1,10 +1,10 @@
 -- By what a matcher decides: the key or the automaton of one glob.
-use Rattle.std.specs.Prelude.{◌≡◌, ◌≤◌, ℕ, true, [], ◌∷◌}
+use Rattle.std.specs.Prelude.{◌≤◌, ℕ, [], ◌∷◌}
 use Rattle.byte_automaton.specs.Steps.{Machine}
 use Rattle.byte_automaton.specs.Runs.{size, most_reads}
 use Rattle.glob_automaton.specs.IndexedTokens.{indexed, IsFor}
-use Rattle.glob_groups.specs.GroupMeaning.{IsGroupOf, group_seen}
-use Rattle.glob_groups.specs.inner.ByKey.{is_by_key}
+use Rattle.glob_groups.specs.inner.DecidedByKey.{IsDecidedBy}
+use Rattle.glob_path.specs.Key.{key_seen}
 use Rattle.glob_text.specs.Means.{GlobValue, tokens_of_glob}
 use Rattle.globset_glob.specs.Cost.{cost}
 use Rattle.globset_glob.specs.declared.matcher.form.Form.{Form}
@@ -16,12 +16,12 @@ pub record IsAutomatonOf (g : GlobValue) (m : Machine) : Type 0 where
   pub tokens : IsFor m (indexed g.options (tokens_of_glob g) 0 ∷ [])
   pub reads : most_reads m ≤ cost g
 
--- A key is that of the glob's group, and decides alone which paths the glob matches. An automaton is that of the glob.
+-- A key decides which paths the glob matches. An automaton is that of the glob.
 abbrev pub IsFormOf : GlobValue → Form → Type 0
-IsFormOf g (Key group) = IsGroupOf g.options (tokens_of_glob g) group × (is_by_key (group_seen group) ≡ true)
+IsFormOf g (Key key) = IsDecidedBy g.options (tokens_of_glob g) (key_seen key)
 IsFormOf g (Automaton m) = IsAutomatonOf g m
 
 -- the states of the automaton; a key has none
 abbrev pub form_states : Form → ℕ
-form_states (Key group) = 0
+form_states (Key key) = 0
 form_states (Automaton m) = size m

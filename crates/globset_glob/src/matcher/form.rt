@@ -10,9 +10,9 @@ use crate::glob::Glob;
 use crate::matcher::scratch::MatcherScratch;
 use byte_automaton::StateSets;
 use glob_automaton::{add_tokens, new_builder};
-use glob_groups::{Group, group_of};
+use glob_groups::{MatchStrategy, strategy_of};
 use glob_matching::{Budget, Compiled, DEFAULT_DFA_SIZE_LIMIT};
-use glob_path::Candidate;
+use glob_path::{Candidate, Key};
 use std::alloc::{AllocError, Global};
 use visits::Visits;
 
@@ -20,23 +20,24 @@ use visits::Visits;
 #[derive(Drop)]
 pub enum Form {
     /// A key, which is compared with the path or a part of it.
-    Key(Group),
+    Key(Key),
     /// An automaton, which is run over the path.
     Automaton(Compiled),
 }
 
 impl Form {
-    /// Returns the key of a glob if it decides alone, and otherwise an automaton, of which a table takes at most `dfa_size_limit`
+    /// Returns the key of a glob if one decides it, and otherwise an automaton, of which a table takes at most `dfa_size_limit`
     /// bytes. Returns an error if memory runs out.
     pub fn of(glob: &Glob, dfa_size_limit: usize) -> Result<Form, AllocError>
         ensures { IfOk result (IsFormOf glob.now) }
     {
-        let group = group_of(glob.allocator(), glob.options(), glob.tokens())?;
-        if group.is_by_key() {
-            return Ok(Form::Key(group));
+        if let MatchStrategy::Key(key) = strategy_of(
+            glob.allocator(),
+            glob.options(),
+            glob.tokens(),
+        )? {
+            return Ok(Form::Key(key));
         }
-        // The group is dropped here, once, and not wherever the rest returns.
-        drop(group);
         Ok(Form::Automaton(automaton_of(glob, dfa_size_limit)?))
     }
 
@@ -59,10 +60,10 @@ impl Form {
         ensures visits { (g : GlobValue) → IsFormOf g self.now → visits.new ≤ visits.old + most_visits g path.now }
     {
         match self {
-            Form::Key(group) => {
+            Form::Key(key) => {
                 // As in a table, a look at a key is one visit.
                 visits.tick();
-                Ok(group.key_matches(path))
+                Ok(key.matches(path))
             }
             Form::Automaton(automaton) => {
                 let mut sets = StateSets::new(alloc);
@@ -84,9 +85,9 @@ impl Form {
         ensures visits { (g : GlobValue) → IsFormOf g self.now → visits.new ≤ visits.old + most_visits g path.now }
     {
         match self {
-            Form::Key(group) => {
+            Form::Key(key) => {
                 visits.tick();
-                group.key_matches(path)
+                key.matches(path)
             }
             Form::Automaton(automaton) => scratch.run(automaton, path.path(), visits),
         }
@@ -103,9 +104,9 @@ impl Form {
         ensures visits { (g : GlobValue) → IsFormOf g self.now → visits.new ≤ visits.old + most_visits_below g folder.now }
     {
         match self {
-            Form::Key(group) => {
+            Form::Key(key) => {
                 visits.tick();
-                Ok(group.key_can_match_below(folder.path()))
+                Ok(key.can_match_below(folder.path()))
             }
             Form::Automaton(automaton) => {
                 let mut sets = StateSets::new(alloc);

@@ -1,4 +1,4 @@
--- The groups of a list, glob by glob.
+-- The groups of the globs of a list, glob by glob.
 use Rattle.std.proofs.Common.{◌≡◌, ℕ, zero, suc, ◌+◌, ◌≤◌, ◌⊎◌, inl, inr, Bool, true, false, cond, List, [], ◌∷◌, ◌++◌, Result, Ok, Err, length, get_or, IsTrue, refl, ap, sym, subst, ◌∙◌, arith}
 use Rattle.std.specs.Prelude.{◌↔◌, Contains, OnOk}
 use Rattle.std.specs.Option.{option_map_or}
@@ -20,7 +20,7 @@ use Rattle.glob_path.specs.Below.{folder_start, path_below}
 use Rattle.glob_path.specs.PathParts.{last_component, component_extension}
 use Rattle.glob_groups.specs.Below.{AreListedBelow}
 use Rattle.glob_groups.specs.Direct.{is_direct, needs_automaton}
-use Rattle.glob_groups.specs.Groups.{after_prefix, before_ending}
+use Rattle.glob_groups.specs.Strategies.{after_prefix, before_ending}
 use Rattle.glob_groups.proofs.lemmas.BeforeEnding.{weight_before}
 use Rattle.group_matching.specs.Below.{SomeListedBelow, load_below, reads_below}
 use Rattle.group_matching.specs.Globs.{TokenGlob, is_listed, is_listed_at, reads, load}
@@ -96,16 +96,12 @@ new_below {F} {G} globs g folder more before =
 load_below_push : (globs : List TokenGlob) (g : TokenGlob) → load_below (globs ++ g ∷ []) ≡ load_below globs + reads_below g
 load_below_push globs g = sum_by-append (λ x. reads_below x) globs (g ∷ []) ∙ omega arith
 
--- what the group says of a folder, for what is found there beside what was
+-- what the strategy says of a folder, for what is found there beside what was
 pub as_listed : {A B X L : Type 0} → A ↔ (B ⊎ X) → L ↔ X → A ↔ (B ⊎ L)
 as_listed {A} {B} {X} {L} more tells = (
   λ a. ⊎_elim {C = B ⊎ L} (λ b. inl b) (λ x. inr (tells.1 x)) (more.0 a),
   λ h. more.1 (⊎_elim {C = B ⊎ X} (λ b. inl b) (λ l. inr (tells.0 l)) h),
 )
-
--- the same for a group whose globs are listed below every folder
-pub as_always : {A B L : Type 0} → A ↔ (B ⊎ Unit {0}) → L → A ↔ (B ⊎ L)
-as_always more always = as_listed more (λ l. tt, λ t. always)
 
 -- what follows from both, if a call succeeds
 pub both_on_ok : {T E P Q R : Type 0} (r : Result T E) → (P → Q → R) → OnOk r P → OnOk r Q → OnOk r R

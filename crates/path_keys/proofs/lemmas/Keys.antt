@@ -16,8 +16,10 @@ use Rattle.byte_trie.specs.declared.side.Side.TheVariants.{Beginning, End}
 use Rattle.byte_trie.specs.Texts.{beginnings, endings, parts, found}
 use Rattle.byte_trie.specs.Laws.{IsAt}
 use Rattle.byte_trie.proofs.lemmas.Laws.{finds_exactly}
+use Rattle.glob_path.specs.Key.{KeyMatches, KeyValue}
+use Rattle.glob_path.specs.Key as path_key
 use Rattle.glob_path.specs.PathParts.{last_component, component_extension}
-use Rattle.path_keys.specs.Keys.{FindsMore, KeyParts, MoreIn, after_separator, keys_found, no_keys, texts_at, with_path, with_component, with_components, with_extension, with_beginning, with_end}
+use Rattle.path_keys.specs.Keys.{FindsMore, KeyParts, MoreIn, after_separator, keys_found, no_keys, texts_at, with_path, with_component, with_components, with_extension, with_beginning, with_end, with_key}
 
 -- ---- truth values
 
@@ -334,20 +336,13 @@ nothing_if t is path = subst (λ k. keys_found k path ≡ []) (sym is) (nothing_
 
 -- ---- keys that are old ones and one more
 
-pub finds_path : (old new : KeyParts) (key : List ℕ) (n : ℕ) → new ≡ with_path old key n → FindsMore old new n (λ path. path ≡ key)
-finds_path old new key n is path m tells = subst (λ t. MoreIn (keys_found old path) (keys_found t path) n m) (sym is) (path_more old key n path m tells)
+key_more : (t : KeyParts) (key : KeyValue) (n : ℕ) (path : List ℕ) (m : Bool) → (IsTrue m ↔ KeyMatches key path) → MoreIn (keys_found t path) (keys_found (with_key t key n) path) n m
+key_more t (path_key.WholePath bytes) n path m tells = path_more t bytes n path m tells
+key_more t (path_key.Basename bytes) n path m tells = component_more t bytes n path m tells
+key_more t (path_key.Extension bytes) n path m tells = extension_more t bytes n path m tells
+key_more t (path_key.ComponentSuffix bytes) n path m tells = components_more t bytes n path m tells
+key_more t (path_key.Suffix bytes) n path m tells = end_more t bytes n path m tells
+key_more t (path_key.Prefix bytes) n path m tells = beginning_more t bytes n path m tells
 
-pub finds_component : (old new : KeyParts) (key : List ℕ) (n : ℕ) → new ≡ with_component old key n → FindsMore old new n (λ path. last_component path ≡ key)
-finds_component old new key n is path m tells = subst (λ t. MoreIn (keys_found old path) (keys_found t path) n m) (sym is) (component_more old key n path m tells)
-
-pub finds_extension : (old new : KeyParts) (key : List ℕ) (n : ℕ) → new ≡ with_extension old key n → FindsMore old new n (λ path. component_extension path ≡ key)
-finds_extension old new key n is path m tells = subst (λ t. MoreIn (keys_found old path) (keys_found t path) n m) (sym is) (extension_more old key n path m tells)
-
-pub finds_beginning : (old new : KeyParts) (key : List ℕ) (n : ℕ) → new ≡ with_beginning old key n → FindsMore old new n (λ path. IsAt Beginning path key)
-finds_beginning old new key n is path m tells = subst (λ t. MoreIn (keys_found old path) (keys_found t path) n m) (sym is) (beginning_more old key n path m tells)
-
-pub finds_end : (old new : KeyParts) (key : List ℕ) (n : ℕ) → new ≡ with_end old key n → FindsMore old new n (λ path. IsAt End path key)
-finds_end old new key n is path m tells = subst (λ t. MoreIn (keys_found old path) (keys_found t path) n m) (sym is) (end_more old key n path m tells)
-
-pub finds_components : (old new : KeyParts) (key : List ℕ) (n : ℕ) → new ≡ with_components old key n → FindsMore old new n (λ path. (path ≡ key) ⊎ IsAt End path (after_separator key))
-finds_components old new key n is path m tells = subst (λ t. MoreIn (keys_found old path) (keys_found t path) n m) (sym is) (components_more old key n path m tells)
+pub finds_key : (old new : KeyParts) (key : KeyValue) (n : ℕ) → new ≡ with_key old key n → FindsMore old new n (KeyMatches key)
+finds_key old new key n is path m tells = subst (λ t. MoreIn (keys_found old path) (keys_found t path) n m) (sym is) (key_more old key n path m tells)

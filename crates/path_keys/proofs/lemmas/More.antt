@@ -6,8 +6,10 @@ use Rattle.std.proofs.lemmas.List.{length-append}
 use Rattle.std.proofs.lemmas.List.Elements.{Contains-append_left, Contains-push, Contains-push_cases}
 use Rattle.byte_table.specs.Entries.{Entry, entry}
 use Rattle.glob_path.specs.Below.{BeginsWith, folder_start}
+use Rattle.glob_path.specs.Key.{KeyMayMatchBelow, KeyValue}
+use Rattle.glob_path.specs.Key as path_key
 use Rattle.path_keys.specs.Below.{BelowMore, HasKey, MatchesBelow, by_component, by_extension, by_end, by_path, by_beginning, by_shorter_beginning}
-use Rattle.path_keys.specs.Keys.{KeyParts, after_separator, no_keys, with_path, with_component, with_components, with_extension, with_beginning, with_end}
+use Rattle.path_keys.specs.Keys.{KeyParts, after_separator, no_keys, with_path, with_component, with_components, with_extension, with_beginning, with_end, with_key}
 
 pub key_added : (P : List ℕ → Type 0) (es : List Entry) (key : List ℕ) (i : ℕ) → HasKey P (es ++ entry key i ∷ []) ↔ (HasKey P es ⊎ P key)
 key_added P es key i = (
@@ -86,29 +88,19 @@ beginning_more t key n folder = (to, from)
     from (inr (inl new)) = by_beginning (longer.1 (inr new))
     from (inr (inr new)) = by_shorter_beginning (shorter.1 (inr new))
 
-always_more : (old new : KeyParts) → ((folder : List ℕ) → MatchesBelow new folder) → BelowMore old new (λ folder. ⊤)
-always_more old new always folder = (λ h. inr tt, λ h. always folder)
+-- if some path below every folder may find a key
+always_more : (t new : KeyParts) → ((folder : List ℕ) → MatchesBelow new folder) → BelowMore t new (λ folder. ⊤)
+always_more t new always folder = (λ h. inr tt, λ h. always folder)
 
 -- ---- keys that are old ones and one more
 
-pub below_path : (old new : KeyParts) (key : List ℕ) (n : ℕ) → new ≡ with_path old key n → BelowMore old new (λ folder. BeginsWith key (folder_start folder))
-below_path old new key n is = subst (λ k. BelowMore old k (λ folder. BeginsWith key (folder_start folder))) (sym is) (path_more old key n)
+key_more : (t : KeyParts) (key : KeyValue) (n : ℕ) → BelowMore t (with_key t key n) (KeyMayMatchBelow key)
+key_more t (path_key.WholePath bytes) n = path_more t bytes n
+key_more t (path_key.Basename bytes) n = always_more t (with_component t bytes n) (λ folder. by_component (some_added t.components (entry bytes n)))
+key_more t (path_key.Extension bytes) n = always_more t (with_extension t bytes n) (λ folder. by_extension (some_added t.extensions (entry bytes n)))
+key_more t (path_key.ComponentSuffix bytes) n = always_more t (with_components t bytes n) (λ folder. by_end (some_added t.ends (entry (after_separator bytes) n)))
+key_more t (path_key.Suffix bytes) n = always_more t (with_end t bytes n) (λ folder. by_end (some_added t.ends (entry bytes n)))
+key_more t (path_key.Prefix bytes) n = beginning_more t bytes n
 
-pub below_beginning : (old new : KeyParts) (key : List ℕ) (n : ℕ) → new ≡ with_beginning old key n
-    → BelowMore old new (λ folder. BeginsWith key (folder_start folder) ⊎ BeginsWith (folder_start folder) key)
-below_beginning old new key n is = subst (λ k. BelowMore old k (λ folder. BeginsWith key (folder_start folder) ⊎ BeginsWith (folder_start folder) key)) (sym is) (beginning_more old key n)
-
-pub below_component : (old new : KeyParts) (key : List ℕ) (n : ℕ) → new ≡ with_component old key n → BelowMore old new (λ folder. ⊤)
-below_component old new key n is =
-    subst (λ k. BelowMore old k (λ folder. ⊤)) (sym is) (always_more old (with_component old key n) (λ folder. by_component (some_added old.components (entry key n))))
-
-pub below_extension : (old new : KeyParts) (key : List ℕ) (n : ℕ) → new ≡ with_extension old key n → BelowMore old new (λ folder. ⊤)
-below_extension old new key n is =
-    subst (λ k. BelowMore old k (λ folder. ⊤)) (sym is) (always_more old (with_extension old key n) (λ folder. by_extension (some_added old.extensions (entry key n))))
-
-pub below_end : (old new : KeyParts) (key : List ℕ) (n : ℕ) → new ≡ with_end old key n → BelowMore old new (λ folder. ⊤)
-below_end old new key n is = subst (λ k. BelowMore old k (λ folder. ⊤)) (sym is) (always_more old (with_end old key n) (λ folder. by_end (some_added old.ends (entry key n))))
-
-pub below_components : (old new : KeyParts) (key : List ℕ) (n : ℕ) → new ≡ with_components old key n → BelowMore old new (λ folder. ⊤)
-below_components old new key n is =
-    subst (λ k. BelowMore old k (λ folder. ⊤)) (sym is) (always_more old (with_components old key n) (λ folder. by_end (some_added old.ends (entry (after_separator key) n))))
+pub below_key : (old new : KeyParts) (key : KeyValue) (n : ℕ) → new ≡ with_key old key n → BelowMore old new (KeyMayMatchBelow key)
+below_key old new key n is = subst (λ k. BelowMore old k (KeyMayMatchBelow key)) (sym is) (key_more old key n)

@@ -1,4 +1,4 @@
-use Rattle.std.proofs.Common.{◌≤◌, length, refl, sym, subst, arith, true≢false, ◌∙◌}
+use Rattle.std.proofs.Common.{length, refl, sym, subst, arith, true≢false, ◌∙◌}
 use Rattle.std.specs.Prelude.{◌≢◌, []}
 use Rattle.std.proofs.lemmas.Result.{IfOk-weaker}
 use Rattle.path_keys.specs.Keys.{keys_found}

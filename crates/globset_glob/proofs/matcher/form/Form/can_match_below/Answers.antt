@@ -15,8 +15,8 @@ use Rattle.globset_glob.proofs.matcher.form.Form.can_match_below.Goals as goal
 pub returns-in-Key-clause-some : goal.returns-in-Key-clause-some
 returns-in-Key-clause-some c = λ g is.
     let form = subst (λ (f : Form). IsFormOf g f) c.in-Key.is is in
-    subst (λ p. IsTrue c.key_can_match_below.result ↔ GlobMeansBelow g p) c.path.ensures
-    (key_matches_below g c.path.result.now c.key_can_match_below.result (c.key_can_match_below.ensures g.options (tokens_of_glob g) form.0 form.1))
+    subst (λ p. IsTrue c.can_match_below.result ↔ GlobMeansBelow g p) c.path.ensures
+    (key_matches_below g c.path.result.now c.can_match_below.result c.can_match_below.ensures (form.below c.path.result.now))
 
 pub returns-in-Key-clause-visits : goal.returns-in-Key-clause-visits
 returns-in-Key-clause-visits c = λ g is. omega (arith, c.tick.ensures, one_visit_below g c.args.folder.now)

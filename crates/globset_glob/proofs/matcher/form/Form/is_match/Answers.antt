@@ -13,7 +13,7 @@ use Rattle.globset_glob.proofs.matcher.form.Form.is_match.Goals as goal
 pub returns-in-Key-clause-some : goal.returns-in-Key-clause-some
 returns-in-Key-clause-some c = λ g is.
     let form = subst (λ (f : Form). IsFormOf g f) c.in-Key.is is in
-    key_matches_glob g c.args.path.now c.key_matches.result (c.key_matches.ensures g.options (tokens_of_glob g) form.0 form.1)
+    key_matches_glob g c.args.path.now c.matches.result c.matches.ensures (form.matches c.args.path.now)
 
 pub returns-in-Key-clause-visits : goal.returns-in-Key-clause-visits
 returns-in-Key-clause-visits c = λ g is. omega (arith, c.tick.ensures, one_visit g c.args.path.now)

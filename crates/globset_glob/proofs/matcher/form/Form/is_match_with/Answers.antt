@@ -9,7 +9,7 @@ use Rattle.globset_glob.proofs.matcher.form.Form.is_match_with.Goals as goal
 pub returns-in-Key-clause-some : goal.returns-in-Key-clause-some
 returns-in-Key-clause-some g c = λ glob is.
     let form = subst (λ (f : Form). IsFormOf glob f) c.in-Key.is is in
-    key_matches_glob glob c.args.path.now c.key_matches.result (c.key_matches.ensures glob.options (tokens_of_glob glob) form.0 form.1)
+    key_matches_glob glob c.args.path.now c.matches.result c.matches.ensures (form.matches c.args.path.now)
 
 pub returns-in-Automaton-clause-some : goal.returns-in-Automaton-clause-some
 returns-in-Automaton-clause-some g c = λ glob is.

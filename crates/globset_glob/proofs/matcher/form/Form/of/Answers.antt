@@ -1,10 +1,14 @@
-use Rattle.std.proofs.Common.{sym, ◌∙◌}
+use Rattle.std.proofs.Common.{subst}
 use Rattle.glob_syntax.specs.Views.{tokens_of}
 use Rattle.glob_text.proofs.lemmas.Globs.{tokens_are}
+use Rattle.glob_groups.proofs.lemmas.Keys.{decided}
+use Rattle.glob_groups.specs.StrategyMeaning.{IsStrategyOf}
+use Rattle.glob_groups.specs.declared.strategy.MatchStrategy.{MatchStrategy}
 use Rattle.globset_glob.proofs.matcher.form.Form.of.Goals as goal
 
-pub returns-then-is_by_key : goal.returns-then-is_by_key
-returns-then-is_by_key c =
+pub returns-in-Key : goal.returns-in-Key
+returns-in-Key c =
     let g = c.args.glob.now in
     let tokens = tokens_are g (tokens_of c.tokens.result.now) c.tokens.ensures.read in
-    (rw (tokens, ← c.options.ensures) c.in_ok-group.ensures, sym c.is_by_key.ensures ∙ c.if-is_by_key.true)
+    let is = subst (λ (s : MatchStrategy). IsStrategyOf c.options.result (tokens_of c.tokens.result.now) s) c.in-Key.is c.in_ok-key.ensures in
+    rw (tokens, ← c.options.ensures) (decided c.options.result (tokens_of c.tokens.result.now) c.in-Key.key is)

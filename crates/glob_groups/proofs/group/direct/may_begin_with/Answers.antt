@@ -1,9 +1,0 @@
-use Rattle.std.proofs.Common.{inl, refl, sym, ◌∙◌, true≢false}
-use Rattle.glob_groups.proofs.lemmas.Keys.{may_begin}
-use Rattle.glob_groups.proofs.group.direct.may_begin_with.Goals as goal
-
-pub returns-then-is_below : goal.returns-then-is_below
-returns-then-is_below c = (λ yes. inl (c.is_below.ensures.0 c.if-is_below.true), λ some. refl)
-
-pub returns : goal.returns
-returns c = may_begin c.args.folder.now c.args.key.now c.has_beginning.result (λ long. true≢false (sym (c.is_below.ensures.1 long) ∙ c.if-is_below.false)) c.has_beginning.ensures
