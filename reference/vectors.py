@@ -316,21 +316,22 @@ def ask_large(file, source, globs, kind, paths, make=large.path_for):
 
 # ---- many_folders.txt
 
-# For each group of globs forms of globs and their options. In a form `#` stands for a number, and `D` for one of a few folders.
+# For each key and each strategy by which a set decides globs, forms of such globs and their options. In a form `#` stands for a
+# number, and `D` for one of a few folders.
 PLAIN, SEPARATOR = [DEFAULTS], [DEFAULTS._replace(literal_separator=True)]
 CASE, EMPTY = [DEFAULTS._replace(case_insensitive=True)], [DEFAULTS._replace(empty_alternates=True)]
-GROUPS = {
-    "WholePath": [(["src/D/f#.rs", "D/n#/", "/D/n#", "n#", "D/n#//D"], PLAIN + SEPARATOR)],
-    "LastComponent": [(["**/n#"], PLAIN + SEPARATOR)],
-    "LastComponents": [(["**/D/n#", "**/n#/"], PLAIN + SEPARATOR)],
-    "Extension": [(["*.e#"], PLAIN), (["**/*.e#"], PLAIN + SEPARATOR)],
-    "End": [(["*_n#", "*/D/n#", "**/*n#/"], PLAIN)],
-    "Beginning": [(["D/n#*", "n#*", "/D/n#*"], PLAIN), (["D/**", "src/D/n#/**", "/n#/**"], PLAIN + SEPARATOR)],
-    "RequiredExtension": [
+DECIDED = {
+    "key WholePath": [(["src/D/f#.rs", "D/n#/", "/D/n#", "n#", "D/n#//D"], PLAIN + SEPARATOR)],
+    "key Basename": [(["**/n#"], PLAIN + SEPARATOR)],
+    "key ComponentSuffix": [(["**/D/n#", "**/n#/"], PLAIN + SEPARATOR)],
+    "key Extension": [(["*.e#"], PLAIN), (["**/*.e#"], PLAIN + SEPARATOR)],
+    "key Suffix": [(["*_n#", "*/D/n#", "**/*n#/"], PLAIN)],
+    "key Prefix": [(["D/n#*", "n#*", "/D/n#*"], PLAIN), (["D/**", "src/D/n#/**", "/n#/**"], PLAIN + SEPARATOR)],
+    "strategy RequiredExtension": [
         (["D/*.e#", "*n#/?.rs", "[dn]#/**/*.rs", "D/n#/**/x*.e#"], PLAIN + SEPARATOR), (["*.e#", "D*.e#"], SEPARATOR),
     ],
-    "ByLastComponent": [(["**/n#?[ab]*", "**/[ab]n#*"], SEPARATOR)],
-    "ByPath": [
+    "strategy Basename": [(["**/n#?[ab]*", "**/[ab]n#*"], SEPARATOR)],
+    "strategy Path": [
         (
             ["D/?/[a-c]", "{D,b#,{{c,}}d}/x*", "D/**/n#?", "*/[!n]#/?", "?#{/**,}", "{n#/,}D/{**/b,c}"],
             PLAIN + SEPARATOR + CASE + EMPTY,
@@ -338,24 +339,24 @@ GROUPS = {
         (["D/n#", "n#/*", "src/D/f#*.rs", "D/**"], CASE),
         (["D/n#*", "?#/*/n#", "*/D/n#", "D*/n#"], SEPARATOR),
     ],
-    "Silent": [(["**/..", "**/**/..", "**/\\.."], PLAIN + SEPARATOR)],
+    "strategy Excluded": [(["**/..", "**/**/..", "**/\\.."], PLAIN + SEPARATOR)],
 }
-# The groups of which each glob matches some path below every folder.
-GROUPS_OF_ALL_FOLDERS = ["LastComponent", "LastComponents", "Extension", "End", "ByLastComponent"]
-SELECTIVE_GROUPS = [group for group in GROUPS if group not in GROUPS_OF_ALL_FOLDERS]
+# Those by which each glob matches some path below every folder.
+DECIDED_FOR_ALL_FOLDERS = ["key Basename", "key ComponentSuffix", "key Extension", "key Suffix", "strategy Basename"]
+SELECTIVE = [name for name in DECIDED if name not in DECIDED_FOR_ALL_FOLDERS]
 
 
 def many_folders(counts, source):
     file = File(counts, "# Folders, and whether sets of globs match some path below them.\n#\n" + FOLDERS + OPTIONS)
-    for group in GROUPS:
-        for size in [1, 1, 2, 3] if group in GROUPS_OF_ALL_FOLDERS else [1, 1, 1, 1, 2, 2, 3, 4, 6]:
-            ask_folders_of_set(file, source, globs_of_groups(source, [group], size), f"of the group {group}", 7)
-    for groups, what in [(SELECTIVE_GROUPS, "of groups that match below some folders"), (list(GROUPS), "of all groups")]:
+    for name in DECIDED:
+        for size in [1, 1, 2, 3] if name in DECIDED_FOR_ALL_FOLDERS else [1, 1, 1, 1, 2, 2, 3, 4, 6]:
+            ask_folders_of_set(file, source, globs_decided_by(source, [name], size), f"of the {name}", 7)
+    for names, what in [(SELECTIVE, "of strategies that match below some folders"), (list(DECIDED), "of all strategies")]:
         for size in [1, 1, 2, 2, 2, 3, 3, 4, 5, 7, 9, 12]:
-            ask_folders_of_set(file, source, globs_of_groups(source, groups, size), what, 10)
+            ask_folders_of_set(file, source, globs_decided_by(source, names, size), what, 10)
     for size in [64, 65, 100, 300]:
-        for groups in [["WholePath"], ["Beginning"], ["RequiredExtension"], ["ByPath"], SELECTIVE_GROUPS]:
-            globs = [glob for glob in globs_of_groups(source, groups, 2 * size) if is_selective(glob)][:size]
+        for names in [["key WholePath"], ["key Prefix"], ["strategy RequiredExtension"], ["strategy Path"], SELECTIVE]:
+            globs = [glob for glob in globs_decided_by(source, names, 2 * size) if is_selective(glob)][:size]
             ask_folders_of_set(file, source, globs, "of many globs that match below some folders", 8, as_array=True)
     for make in (making.hard_glob, realistic_glob):
         for _ in range(250):
@@ -366,11 +367,11 @@ def many_folders(counts, source):
     return file
 
 
-def globs_of_groups(source, groups, size):
-    """Returns globs of these groups. Some have other options, and may be in another group."""
+def globs_decided_by(source, names, size):
+    """Returns globs that a set decides by these keys and strategies. Some have other options, and may be decided by another."""
     globs = []
     for _ in range(size):
-        forms, options = source.pick(GROUPS[source.pick(groups)])
+        forms, options = source.pick(DECIDED[source.pick(names)])
         text = source.pick(forms).replace("D", source.pick(["d0", "d1", "a"])).replace("#", str(source.below(3 * size)))
         globs.append(Glob(text, source.options() if source.chance(0.15) else source.pick(options)))
     return globs
