@@ -5,30 +5,31 @@ CLASSES = (
     "[z-a] [!z-a] [^z-a] [a--] [a-\\]] [!/] [^/] [/] [.-0] [!.-0] a[/]b a[!b]b a[.-0]b x/[!/] [a/] [a/ [a-] [-a] [!a-] [!-a] [a-z-] [--a] [--/]"
     " [] [!] [^] []] [!]] [^]] []-a] [!]-a] []a [!]a] [\\]] [!\\]] [\\]a] [a\\] [a [a-b-z] [a-m-z] [\\a-z] [a-\\z] [\\a-\\z] [\\--a] [a\\-z] [\\\\] [\\\\-a]"
     " [\\ [!\\ [a- [a-\\ [^!] [!^] [!!] [^^] [a!] [a^] [[] [[a] [[a]] [a]] [[-a] [a-[] a[b-]c [x]]"
+    " [a] [!a] [^a] []a] [a-c] [ [!-] [\\!] [\\^-] [\\a-c] [--0] [a-\\c] [z-é] [¾-¿] [ü-©]"
     " [é] [!é] [é][é] [é]* [a-é] [é-z] [é-ü] [!a-é] [¿-¿] [a¿-¿] [ÿ-¿] [¿-À] [ü-é] [é-a] [a-é-z] [é-ü-z] [\\é-ü] [a-\\é] [日-本] [-é] ? ?? ??? é \\é é? ?é* 日本"
 ).split(" ")
 NAMES = "alnum alpha blank cntrl digit graph lower print punct space upper xdigit word ascii ALPHA al al\\pha".split() + ["", " alpha", "alpha "]
 NAMED = [f"{before}[{no}[:{name}:]]" for name in NAMES for before, no in (("", ""), ("", "!"), ("x", ""))]
 NAMED += (
-    "[[:alpha:][:digit:]] [[:alpha:]-z] [[:digit:]-z] [a-[:alpha:]] [0[:alpha:]] [[:foo:]a] [a[:foo:]] [a[:foo:] [[:alpha:] [[:alpha:]a [[:alpha] [[:alpha]]"
+    "[[:foo:]] [[:alpha:][:digit:]] [[:alpha:]-z] [[:digit:]-z] [a-[:alpha:]] [0[:alpha:]] [[:foo:]a] [a[:foo:]] [a[:foo:] [[:alpha:] [[:alpha:]a [[:alpha] [[:alpha]]"
     " [[:alpha:!] [[:] [[:]] [[::]] [[::] [[:a]:] [[:-z] [:alpha:] [\\[:alpha:]] [[\\:alpha:]] [[:alpha\\:]] [[.a.]] [[=a=]] [[:é:]] [[:alpha:é] [[:!:]] [![:foo:]]"
 ).split(" ")
 STARS = (
-    "* ** *** */ **/ ***/ /* /** /*/ /**/ //** *a a* **a a** *a* a*b a**b /a*b /a**b */b **/b ***/b /**/b **/a/b **/a/**/b a/**/b a/***/b a/**/**/b **/**/b"
+    "**/a ***/a **// **/.. .. \\.. ..a * ** *** */ **/ ***/ /* /** /*/ /**/ //** *a a* **a a** *a* a*b a**b /a*b /a**b */b **/b ***/b /**/b **/a/b **/a/**/b a/**/b a/***/b a/**/**/b **/**/b"
     " a/** a/**/ a/**/* a/**b a/b** x/** x/**/y a/*/b a/*b a*/b a**/b a***/b /a**/b ab**/b a**/y/b a**/**/b a**/* a**/** a/a**/b x/a** x/a**/b é**/b"
     " ?**/b a?**/b [a]**/b \\a**/b a\\b**/c *a**/b **a/b a*/** a*/**/b **b/c a**b/c a**/ /a** /a**/ ab/** **/a** **/** **/* **\\/b **\\/x a/**\\/b a**\\/b /a**\\/b"
     " ***\\/b a\\/**/b a\\/**\\/b a\\/** \\/a a/*\\/b a/?/b a?b a/?b **/?/b */*/b */* *.c **/*.c a*.c **.c {a,b} {a,b}/** a,b *{a,b}* !** a**[b]/c a**?/c a**\\b/c"
 ).split(" ")
 LINES = [
-    "a", "/a", "a/", "/a/", "a/b", "/a/b", "a/b/", "//a", "///", "//", "/", "a//b", "a//", "./a", "../a", "a/.", "a/..", "a/./b", "!a", "!/a", "!!a", "!", "!/",
+    "a", "/a", "a/", "/a/", "a/b", "/a/b", "a/b/", "//a", "///", "//", "/", "a//b", "a//", "./a", "../a", "a/.", "a/..", "a/./b", "!a", "!a/", "!/a", "!!a", "!", "!/",
     "\\!a", "!\\!a", "\\#a", "!#a", "#a", "#", "##a", " #a", "a#b", "\\ ", "\\  ", " ", "  ", "a ", "a  ", " a", " a ", "a b", "a\\ ", "a\\  ", "a\\ \\ ", "a \\ ", "a\\\\ ",
-    "a\\\\\\ ", "a/ ", "a/\\ ", "a\\/ ", "\t", "a\t", "a \t", "a\t ", "\ta", "\\\t", "a\t\t", "a\r", "a\r\n", "a\r\r\n", "a\r\r", "\r", "\r\n", "\r\ra", "a\rb", "a \r\n", "a\r \n", "a\\\r\n",
-    "a\\ \r\n", "a/\r\n", "a\\", "\\", "\\\\", "a\\\\", "a\\\\\\", "foo\\/", "foo\\//", "x/foo\\/", "foo/\\", "a\\b", "a\\/b", "\\a/b", "\\a\\/\\b", "\\*", "\\?", "a\\*", "\\[a]", "\\{", "]", "a]", "{a}", "-", "^",
+    "a\\\\\\ ", "a/ ", "a/\\ ", "a\\/ ", "\t", "a\t", "a \t", "a\t ", "\ta", "\\\t", "a\t\t", "a\r", "a\r\n", "a\r\r\n", "a\r\r", "\r", "\r\n", "\r\ra", "a\rb", "a \r", "a \r\n", "a\r \n", "a\\\r", "a\\\r\n",
+    "a\\ \r\n", "a/\r\n", "a\\", "\\", "\\\\", "a\\\\", "a\\\\\\", "foo\\/", "foo\\//", "x/foo\\/", "foo/\\", "a\\b", "a\\/b", "\\a/b", "\\a\\/\\b", "\\*", "\\?", "a\\*", "\\[a]", "\\{", "]", "a]", "a]b", "{a}", "-", "^",
     "a\0b", "\0a", "a \0b", "a\0\\", "#\0a", "a\\\0b", "!\0a", "a/\0b", "[a\0]", "a\0\r\nb", "\ufeffa", "\ufeff#a", "\ufeff\ufeffa", "x\n\ufeffa", "\ufeff", "\ufeff\na", "\ufeff!a", "!\ufeffa",
     "", "\n", "\n\n\na", "a\n", "a\nb", "a\n\nb\n", "a\n!a", "!a\na", "a\n!a\na", "*\n!*", "*\n!a", "*\n!a\n!a/b", "/*\n!/a", "/*\n!/a/\n/a/*\n!/a/b", "a\n!a/b", "a/\n!a/b", "a/*\n!a/b", "a/**\n!a/b",
     "*\n!*/\n!b", "/*\n!/a**", "*\n!a**/b", "!*\n[\nb", "[a\na", "a\n\\\n[", "!b\na/b\n!/a/b/", "x/\n!x/y/", "x/*\n!x/y/\nx/y/*\n!x/y/b", "é\n!é", "a\x0b", "a\x0c", "\x0ba", "\x7f",
 ]
-BYTES = [b"\xff", b"\\\xff", b"a\xff", b"[\xff]", b"[a\xff]", b"[a-\xff]", b"!\xff\na", b"#\xff\na", b"a\0\xff", b"a\n\xff\n!b", b"\xc3", b"*\xc3", b"?\xff", b"\xed\xa0\x80", b"\xf4\x90\x80\x80", b"\xc0\xaf", b"\xef\xbba", b"\xef\xbb\xbf\xff"]
+BYTES = [b"\xff", b"\\\xff", b"a\xff", b"[\xff]", b"[a\xff]", b"[a-\xff]", b"!\xff\na", b"#\xff\na", b"a\0\xff", b"a\n\xff\n!b", b"\xc3", b"a\xc3", b"*\xc3", b"?\xff", b"\xed\xa0\x80", b"\xf4\x90\x80\x80", b"\xc0\xaf", b"\xef\xbba", b"\xef\xbb\xbf\xff"]
 
 FILES = [text.encode() for text in CLASSES + NAMED + STARS + LINES] + BYTES
 

@@ -58,6 +58,3 @@ mod reading;
 mod text;
 
 pub use pattern::{IgnorePattern, pattern_of_line};
-
-#[cfg(test)]
-mod tests;
