@@ -1,3 +1,4 @@
 pub mod Entries
+pub mod Folders
 pub mod Lines
 pub mod Stacks

@@ -1,3 +1,4 @@
 pub mod Entries
+pub mod FolderParts
 pub mod Stacks
 pub mod StackParts

@@ -1,10 +1,12 @@
 //! The rules of one ignore file among several.
 
-ghost use Rattle.std.specs.Prelude.{◌≡◌, ◌<◌, ◌≤◌, ◌==◌, ◌&&◌, true, false, IfOk, IfErr, length, take, slice_index};
+ghost use Rattle.std.specs.Prelude.{◌≡◌, ◌<◌, ◌≤◌, ◌==◌, ◌&&◌, true, false, IfOk, IfErr, OnOk, length, take, get_or, slice_index};
+ghost use Rattle.git_ignore.specs.declared.decision.Decision.TheVariants.{Undecided};
 ghost use Rattle.globset.specs.Errors.{out_of_memory};
 ghost use Rattle.globset.specs.SetValue.{FitsAsBefore};
 ghost use Rattle.git_ignore.specs.Folders.{file_decision, files_decision, ignores, is_below_ignored, decision_below};
 ghost use Rattle.git_ignore.specs.RulesValue.{FitsRules};
+ghost use Rattle.git_ignore.specs.inner.FolderParts.{AreOfFiles, IsFileAdded};
 ghost use Rattle.git_ignore.specs.inner.Stacks.{FitAll, file_of, files_of};
 
 use crate::decision::Decision;
@@ -12,6 +14,10 @@ use crate::rules::Rules;
 use crate::scratch::IgnoreScratch;
 use globset::Error;
 use std::alloc::Global;
+
+/// Up to how many folders above a path are asked for each by a pass over its own path. The tables of a set make such a pass much
+/// faster than one that answers for all folders.
+const FEW_FOLDERS: usize = 16;
 
 /// The rules of an ignore file, and the folder of the file.
 pub struct FolderRules {
@@ -60,6 +66,21 @@ impl FolderRules {
             None => Decision::Undecided,
         }
     }
+
+    /// Puts what the file says of each folder above a path, which begins in the top folder, at the index of the `/` after the folder,
+    /// unless there is a decision already. Returns an error if memory runs out.
+    fn decide_folders(&self, path: &[u8], decisions: &mut [Decision]) -> Result<(), Error>
+        requires { length path.now ≤ length decisions.old }
+        ensures added { OnOk result (IsFileAdded (file_of self.now) path.now decisions.old decisions.new) }
+        ensures err { IfErr result (λ e. e ≡ out_of_memory) }
+    {
+        match path.strip_prefix(self.folder.as_slice()) {
+            Some(_) => self
+                .rules
+                .decide_folders(path, self.folder.len(), decisions),
+            None => Ok(()),
+        }
+    }
 }
 
 /// Returns what files say of a path, which begins in the top folder; a later file goes before an earlier one.
@@ -85,26 +106,74 @@ fn decide_alone(
 }
 
 /// Returns what files say of a path, which begins in the top folder, and of the folders above it. None of the folders that end
-/// before `start` is ignored.
+/// before `start` is ignored. Returns an error if memory runs out.
 pub fn decide_below(
+    alloc: Global,
     files: &[FolderRules],
     path: &[u8],
     start: usize,
     is_folder: bool,
     scratch: &mut IgnoreScratch,
-) -> Decision
+) -> Result<Decision, Error>
     requires fits { FitAll scratch.old files.now }
     requires within { start ≤ length path.now }
     requires above { is_below_ignored (files_of files.now) (take start path.now) ≡ false }
-    ensures decision { result ≡ decision_below (files_of files.now) path.now is_folder }
+    ensures decision { IfOk result (λ d. d ≡ decision_below (files_of files.now) path.now is_folder) }
+    ensures scratch { scratch.new ≡ scratch.old }
+    ensures err { IfErr result (λ e. e ≡ out_of_memory) }
+{
+    if ignores_above(alloc, files, path, start, scratch)? {
+        return Ok(Decision::Ignored);
+    }
+    Ok(decide_alone(files, path, is_folder, scratch))
+}
+
+/// Returns whether files ignore a folder above a path, which begins in the top folder. None of the folders that end before `start` is
+/// ignored. Returns an error if memory runs out.
+fn ignores_above(
+    alloc: Global,
+    files: &[FolderRules],
+    path: &[u8],
+    start: usize,
+    scratch: &mut IgnoreScratch,
+) -> Result<bool, Error>
+    requires fits { FitAll scratch.old files.now }
+    requires within { start ≤ length path.now }
+    requires above { is_below_ignored (files_of files.now) (take start path.now) ≡ false }
+    ensures ignored { IfOk result (λ ignored. ignored ≡ is_below_ignored (files_of files.now) path.now) }
+    ensures scratch { scratch.new ≡ scratch.old }
+    ensures err { IfErr result (λ e. e ≡ out_of_memory) }
+{
+    if has_few_folders(&path[start..]) {
+        return Ok(ignores_above_one_by_one(files, path, start, scratch));
+    }
+    ignores_above_at_once(alloc, files, path, start)
+}
+
+/// Returns whether the folders above a path are few.
+fn has_few_folders(path: &[u8]) -> bool {
+    path.iter().filter(|byte| **byte == b'/').count() <= FEW_FOLDERS
+}
+
+/// The same as [`ignores_above`], by a pass over the path of each folder. It takes no memory.
+fn ignores_above_one_by_one(
+    files: &[FolderRules],
+    path: &[u8],
+    start: usize,
+    scratch: &mut IgnoreScratch,
+) -> bool
+    requires fits { FitAll scratch.old files.now }
+    requires within { start ≤ length path.now }
+    requires above { is_below_ignored (files_of files.now) (take start path.now) ≡ false }
+    ensures ignored { result ≡ is_below_ignored (files_of files.now) path.now }
     ensures scratch { scratch.new ≡ scratch.old }
 {
     for end in start..path.len() {
         if ignores_folder(files, path, end, scratch) {
-            return Decision::Ignored;
+            return true;
         }
     }
-    decide_alone(files, path, is_folder, scratch)
+    false
 }
 
 /// Returns whether a `/` is at this place of a path, and files ignore the folder before it.
@@ -120,4 +189,50 @@ fn ignores_folder(
     ensures scratch { scratch.new ≡ scratch.old }
 {
     path[end] == b'/' && decide_alone(files, &path[..end], true, scratch).is_ignored()
+}
+
+/// The same as [`ignores_above`], by one pass over the path for each file.
+fn ignores_above_at_once(
+    alloc: Global,
+    files: &[FolderRules],
+    path: &[u8],
+    start: usize,
+) -> Result<bool, Error>
+    requires within { start ≤ length path.now }
+    requires above { is_below_ignored (files_of files.now) (take start path.now) ≡ false }
+    ensures ignored { IfOk result (λ ignored. ignored ≡ is_below_ignored (files_of files.now) path.now) }
+    ensures err { IfErr result (λ e. e ≡ out_of_memory) }
+{
+    let decisions = decide_folders(alloc, files, path)?;
+    for end in start..path.len() {
+        if is_ignored_at(path, &decisions, end) {
+            return Ok(true);
+        }
+    }
+    Ok(false)
+}
+
+/// Returns whether a `/` is at this place of a path, and the decision there is that the folder before it is ignored.
+fn is_ignored_at(path: &[u8], decisions: &[Decision], end: usize) -> bool
+    requires within { end < length path.now }
+    requires known { end < length decisions.now }
+    ensures { result ≡ (slice_index path.now end == 47 && ignores (get_or decisions.now end Undecided)) }
+{
+    path[end] == b'/' && decisions[end].is_ignored()
+}
+
+/// Returns what files say of each folder above a path, which begins in the top folder: at the index of the `/` after the folder. There
+/// are as many decisions as the path has bytes. Returns an error if memory runs out.
+fn decide_folders(alloc: Global, files: &[FolderRules], path: &[u8]) -> Result<Vec<Decision>, Error>
+    ensures count { IfOk result (λ decisions. length decisions.items ≡ length path.now) }
+    ensures decisions { IfOk result (λ decisions. AreOfFiles (files_of files.now) path.now decisions.items) }
+    ensures err { IfErr result (λ e. e ≡ out_of_memory) }
+{
+    let mut decisions = vec![in alloc; Decision::Undecided; path.len()]?;
+    let mut count = files.len();
+    while count > 0 {
+        count -= 1;
+        files[count].decide_folders(path, &mut decisions)?;
+    }
+    Ok(decisions)
 }

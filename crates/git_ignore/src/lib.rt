@@ -4,6 +4,7 @@
 mod decision;
 mod entry;
 mod folder_rules;
+mod folders;
 mod reading;
 mod rules;
 mod scratch;

@@ -2,24 +2,26 @@
 
 ghost use Rattle.std.specs.Prelude.{◌≡◌, ◌<◌, ◌++◌, ◌∷◌, [], ◌+◌, ◌≤◌, ◌^◌, List, length, IfErr, IfOk, OnOk};
 ghost use Rattle.globset.specs.Errors.{out_of_memory};
-ghost use Rattle.globset.specs.SetValue.{builder_globs, set_globs};
+ghost use Rattle.globset.specs.SetValue.{set_globs};
+ghost use Rattle.glob_prefixes.specs.Prefixes.{IsPrefixMatcherOf};
 ghost use Rattle.ignore_pattern.specs.Lines.{lines_of, without_mark};
 ghost use Rattle.ignore_pattern.specs.Patterns.{pattern_of_line};
 ghost use Rattle.git_ignore.specs.Rules.{Rule, rules_from};
 ghost use Rattle.git_ignore.specs.inner.Entries.{AreEntriesOf, rule_at};
 
 use crate::entry::RuleEntry;
-use globset::{Error, GlobSet, GlobSetBuilder};
+use glob_prefixes::{PrefixMatcher, PrefixMatcherBuilder};
+use globset::{Error, Glob, GlobSet, GlobSetBuilder};
 use ignore_pattern::{IgnorePattern, pattern_of_line};
 use memchr::memchr;
-use std::alloc::Global;
+use std::alloc::{AllocError, Global};
 
 /// What some editors put at the start of a text.
 const BYTE_ORDER_MARK: &[u8] = b"\xef\xbb\xbf";
 
 /// The rules that were read so far: their globs, and an entry for each.
 pub struct RulesBuilder {
-    pub globs: GlobSetBuilder,
+    pub globs: Vec<Glob>,
     pub entries: Vec<RuleEntry>,
     /// The numbers of lines that match nothing, and are neither blank nor a comment.
     pub unread: Vec<usize>,
@@ -39,10 +41,10 @@ impl Drop for RulesBuilder {
 impl RulesBuilder {
     /// Returns no rules. It allocates nothing.
     pub fn new(alloc: Global) -> RulesBuilder
-        ensures { AreEntriesOf [] (builder_globs result.globs) result.entries.items }
+        ensures { AreEntriesOf [] result.globs.items result.entries.items }
     {
         RulesBuilder {
-            globs: GlobSetBuilder::new(alloc),
+            globs: Vec::new(alloc),
             entries: Vec::new(alloc),
             unread: Vec::new(alloc),
         }
@@ -50,8 +52,8 @@ impl RulesBuilder {
 
     /// Adds the rules of some lines, the first of which has the number 1. Returns an error if memory runs out, and no other.
     pub fn push_lines(&mut self, alloc: Global, bytes: &[u8]) -> Result<(), Error>
-        requires { AreEntriesOf [] (builder_globs self.old.globs) self.old.entries.items }
-        ensures rules { OnOk result (AreEntriesOf (rules_from 1 (lines_of bytes.now)) (builder_globs self.new.globs) self.new.entries.items) }
+        requires { AreEntriesOf [] self.old.globs.items self.old.entries.items }
+        ensures rules { OnOk result (AreEntriesOf (rules_from 1 (lines_of bytes.now)) self.new.globs.items self.new.entries.items) }
         ensures err { IfErr result (λ e. e ≡ out_of_memory) }
     {
         let mut rest = bytes;
@@ -66,8 +68,8 @@ impl RulesBuilder {
 
     /// Adds the rule of a line, if it has one. Returns an error if memory runs out, and no other.
     fn push_line(&mut self, alloc: Global, number: usize, line: &[u8]) -> Result<(), Error>
-        ensures rule { OnOk result ((done : List Rule) → AreEntriesOf done (builder_globs self.old.globs) self.old.entries.items →
-            AreEntriesOf (done ++ rule_at number (pattern_of_line line.now)) (builder_globs self.new.globs) self.new.entries.items) }
+        ensures rule { OnOk result ((done : List Rule) → AreEntriesOf done self.old.globs.items self.old.entries.items →
+            AreEntriesOf (done ++ rule_at number (pattern_of_line line.now)) self.new.globs.items self.new.entries.items) }
         ensures err { IfErr result (λ e. e ≡ out_of_memory) }
     {
         match pattern_of_line(alloc, line)? {
@@ -78,7 +80,7 @@ impl RulesBuilder {
 
     /// Adds a rule. Returns an error if memory runs out, and no other.
     fn push_rule(&mut self, line: usize, pattern: IgnorePattern) -> Result<(), Error>
-        ensures glob { OnOk result (builder_globs self.new.globs ≡ builder_globs self.old.globs ++ pattern.glob ∷ []) }
+        ensures glob { OnOk result (self.new.globs.items ≡ self.old.globs.items ++ pattern.glob ∷ []) }
         ensures entry { OnOk result (self.new.entries.items ≡ self.old.entries.items
             ++ record { line = line; is_negated = pattern.is_negated; is_folders_only = pattern.is_folders_only } ∷ []) }
         ensures err { IfErr result (λ e. e ≡ out_of_memory) }
@@ -93,28 +95,26 @@ impl RulesBuilder {
             is_negated,
             is_folders_only,
         })?;
-        self.globs.push(glob)
+        Ok(self.globs.push(glob)?)
     }
 
-    /// Returns the set of the globs, the entries, and the numbers of unread lines. Returns an error if memory runs out, and no other.
-    pub fn finish(self) -> Result<(GlobSet, Vec<RuleEntry>, Vec<usize>), Error>
-        ensures globs { IfOk result (λ p. set_globs p.0 ≡ builder_globs self.globs) }
-        ensures entries { IfOk result (λ p. p.1.items ≡ self.entries.items) }
-        ensures err { IfErr result (λ e. e ≡ out_of_memory) }
+    /// Returns the globs, the entries, and the numbers of unread lines.
+    pub fn into_parts(self) -> (Vec<Glob>, Vec<RuleEntry>, Vec<usize>)
+        ensures globs { result.0.items ≡ self.globs.items }
+        ensures entries { result.1.items ≡ self.entries.items }
     {
         let RulesBuilder {
             globs,
             entries,
             unread,
         } = self;
-        let set = globs.build()?;
-        Ok((set, entries, unread))
+        (globs, entries, unread)
     }
 
     /// Keeps the number of a line that matches nothing, unless it is blank or a comment. Returns an error if memory runs out, and no
     /// other.
     fn push_unread(&mut self, number: usize, line: &[u8]) -> Result<(), Error>
-        ensures globs { builder_globs self.new.globs ≡ builder_globs self.old.globs }
+        ensures globs { self.new.globs.items ≡ self.old.globs.items }
         ensures entries { self.new.entries.items ≡ self.old.entries.items }
         ensures err { IfErr result (λ e. e ≡ out_of_memory) }
     {
@@ -123,6 +123,29 @@ impl RulesBuilder {
         }
         Ok(self.unread.push(number)?)
     }
+}
+
+/// Returns a matcher of globs that answers for each prefix of a path. Returns an error if memory runs out.
+pub fn prefix_matcher(alloc: Global, globs: &[Glob]) -> Result<PrefixMatcher, AllocError>
+    ensures { IfOk result (λ m. IsPrefixMatcherOf globs.now m) }
+{
+    let mut builder = PrefixMatcherBuilder::new(alloc, globs.len());
+    for glob in globs {
+        builder.add(glob)?;
+    }
+    builder.finish()
+}
+
+/// Returns the set of globs. Returns an error if memory runs out, and no other.
+pub fn set_of(alloc: Global, globs: Vec<Glob>) -> Result<GlobSet, Error>
+    ensures globs { IfOk result (λ set. set_globs set ≡ globs.items) }
+    ensures err { IfErr result (λ e. e ≡ out_of_memory) }
+{
+    let mut builder = GlobSetBuilder::new(alloc);
+    for glob in globs {
+        builder.push(glob)?;
+    }
+    builder.take_set()
 }
 
 /// Returns the bytes of a file without a byte order mark at their start.

@@ -1,16 +1,18 @@
 //! The rules of an ignore file.
 
-ghost use Rattle.std.specs.Prelude.{◌≡◌, IfOk, IfErr};
+ghost use Rattle.std.specs.Prelude.{◌≡◌, true, IfOk, IfErr, OnOk, OnErr};
 ghost use Rattle.globset.specs.Errors.{out_of_memory};
-ghost use Rattle.globset.specs.SetValue.{builder_globs};
+ghost use Rattle.git_ignore.specs.FolderDecisions.{ArePut};
 ghost use Rattle.git_ignore.specs.Rules.{deciding_line, decision, last_rule, rules_of};
 ghost use Rattle.git_ignore.specs.RulesValue.{FitsRules};
 ghost use Rattle.git_ignore.specs.inner.Entries.{AreEntriesOf, entry_of_rule};
 
 use crate::decision::Decision;
 use crate::entry::{RuleEntry, last_entry_for};
-use crate::reading::{RulesBuilder, after_mark};
+use crate::folders::put_decisions;
+use crate::reading::{RulesBuilder, after_mark, prefix_matcher, set_of};
 use crate::scratch::IgnoreScratch;
+use glob_prefixes::PrefixMatcher;
 use globset::{Candidate, Error, GlobSet, Visits};
 use std::alloc::Global;
 use std::marker::Model;
@@ -21,6 +23,8 @@ use std::marker::Model;
 pub struct Rules {
     /// The globs of the rules, without those that match nothing.
     set: GlobSet,
+    /// The same globs, for all prefixes of a path.
+    prefixes: PrefixMatcher,
     /// For each glob what its rule says.
     entries: Vec<RuleEntry>,
     unread: Vec<usize>,
@@ -32,6 +36,7 @@ impl Drop for Rules {
     fn drop(self) {
         let Rules {
             set: _,
+            prefixes: _,
             entries: _,
             unread: _,
             file: _,
@@ -43,7 +48,7 @@ impl Model for Rules {
     ghost use Rattle.globset.specs.SetValue.{set_globs};
     ghost use Rattle.git_ignore.specs.Rules.{rules_of};
     ghost use Rattle.git_ignore.specs.RulesValue.{RulesValue};
-    ghost use Rattle.git_ignore.specs.inner.Entries.{AreEntriesOf};
+    ghost use Rattle.git_ignore.specs.inner.Entries.{AreStored};
 
     ghost Value = { RulesValue };
 
@@ -52,7 +57,7 @@ impl Model for Rules {
       set = r.set;
     } };
 
-    ghost invariant = { λ r. AreEntriesOf (rules_of r.file.items) (set_globs r.set) r.entries.items };
+    ghost invariant = { λ r. AreStored (rules_of r.file.items) (set_globs r.set) r.prefixes r.entries.items };
 }
 
 impl Rules {
@@ -71,14 +76,17 @@ impl Rules {
 
     /// Returns the rules that were read from a file.
     fn finish(alloc: Global, builder: RulesBuilder, file: &[u8]) -> Result<Rules, Error>
-        requires { AreEntriesOf (rules_of file.now) (builder_globs builder.globs) builder.entries.items }
+        requires { AreEntriesOf (rules_of file.now) builder.globs.items builder.entries.items }
         ensures file { IfOk result (λ r. r.file ≡ file.now) }
         ensures err { IfErr result (λ e. e ≡ out_of_memory) }
     {
-        let (set, entries, unread) = builder.finish()?;
+        let (globs, entries, unread) = builder.into_parts();
+        let prefixes = prefix_matcher(alloc, &globs)?;
+        let set = set_of(alloc, globs)?;
         let file = file.to_vec(alloc)?;
         Ok(Rules {
             set,
+            prefixes,
             entries,
             unread,
             file,
@@ -133,6 +141,30 @@ impl Rules {
     {
         let mut scratch = IgnoreScratch::new(*self.file.allocator(), self)?;
         Ok(self.deciding_line(path, is_folder, &mut scratch))
+    }
+
+    /// Decides about all folders above a path at once, by one pass over the path.
+    ///
+    /// The decision about a folder is put at the index of the `/` after it in the path, unless there is one already: an item that is
+    /// not [`Decision::Undecided`] stays as it is. So calls for several files, those of deeper folders first, find what the files
+    /// say together. The path below the folder of the file begins at `start`, and folders that end before are left out, as are those
+    /// for which `decisions` is too short.
+    ///
+    /// It takes memory for the states of an automaton of all globs. A byte of the path takes as many steps as this is in states, 64 in
+    /// one word together. Returns an error if memory runs out, and no other; nothing is put then.
+    pub fn decide_folders(
+        &self,
+        path: &[u8],
+        start: usize,
+        decisions: &mut [Decision],
+    ) -> Result<(), Error>
+        ensures put { OnOk result (ArePut (λ folder. decision self.now.file folder true) path.now start decisions.old decisions.new) }
+        ensures kept { OnErr result (decisions.new ≡ decisions.old) }
+        ensures err { IfErr result (λ e. e ≡ out_of_memory) }
+    {
+        let alloc = *self.file.allocator();
+        put_decisions(alloc, &self.prefixes, &self.entries, path, start, decisions)?;
+        Ok(())
     }
 
     /// Returns the numbers, counted from 1, of the lines that match nothing and are neither blank nor a comment: those that git cannot

@@ -31,8 +31,10 @@ pub struct FolderLevel {
 /// whatever matches it.
 ///
 /// Whether a folder is ignored is kept when it is entered. So the name of an entry costs one pass over its path for each ignore file
-/// above it. A path of several components costs such a pass for each of its folders that was not entered, and one for itself: its
-/// cost grows with the square of its depth if none was.
+/// above it. A path below folders that were not entered costs such a pass for each of these too, if they are at most 16. More of them
+/// cost one further pass for each file, which answers for all of them: so the cost is linear in the bytes of the path, however
+/// many folders it has. That pass takes memory for a decision at each byte of the path, and for the states of an automaton of the
+/// file's globs.
 pub struct IgnoreStack {
     alloc: Global,
     /// The path of the folder: empty for the top folder, and otherwise with `/` at its end.
@@ -144,7 +146,8 @@ impl IgnoreStack {
     ///
     /// A folder that the path names above its last component counts, too: below one that is ignored, the path is ignored.
     ///
-    /// Returns an error if memory runs out, and no other: the folder's path is put before it.
+    /// Returns an error if memory runs out, and no other: the folder's path is put before it, and a path with more than 16 folders
+    /// takes memory for a decision about each.
     pub fn decide(&mut self, path: &[u8], is_folder: bool) -> Result<Decision, Error>
         ensures decision { IfOk result (λ d. d ≡ decision_below self.old.files (self.old.folder ++ path.now) is_folder) }
         ensures same { self.new ≡ self.old }
@@ -156,6 +159,7 @@ impl IgnoreStack {
         let start = self.folder.len();
         self.folder.extend_from_slice(path)?;
         let decision = decide_below(
+            self.alloc,
             &self.files,
             &self.folder,
             start,
@@ -163,7 +167,7 @@ impl IgnoreStack {
             &mut self.scratch,
         );
         self.folder.truncate(start);
-        Ok(decision)
+        decision
     }
 
     /// Goes down into a folder of this name, which is ignored or not. Returns an error if memory runs out; nothing changed then.

@@ -82,3 +82,56 @@ fn nested_folders(rt: HostRuntime) -> Result<(), Fail> {
     assert_eq!(rt; stack.decide(b"b", false)?, Undecided);
     Ok(())
 }
+
+#[test]
+fn deep_paths(rt: HostRuntime) -> Result<(), Fail> {
+    let mut stack = IgnoreStack::new(rt.alloc())?;
+    stack.add_file(b"*.o\nout/\n!a/out/\n**/k/a/**/m/\n")?;
+    for (path, decision) in DEEP {
+        assert_eq!(rt; stack.decide(path, false)?, decision, "{path:?}");
+    }
+    stack.enter(b"a")?;
+    stack.add_file(b"!*.o\n/a/a/m/\n")?;
+    for (path, decision) in DEEP_BELOW_A {
+        assert_eq!(rt; stack.decide(path, false)?, decision, "{path:?}");
+    }
+    Ok(())
+}
+
+/// Paths of 16 folders and more, and what the file of the top folder says of them.
+const DEEP: [(&[u8], Decision); 11] = [
+    (b"a/a/a/a/a/a/a/a/a/a/a/a/a/a/a/a/a/f", Undecided),
+    (b"a/a/a/a/a/a/a/a/a/a/a/a/a/a/a/a/a/f.o", Ignored),
+    (b"a/a/a/a/a/a/a/a/a/a/a/a/a/a/a/out/f", Ignored),
+    (b"a/a/a/a/a/a/a/a/a/a/a/a/a/a/a/a/a/out/f", Ignored),
+    (b"a/a/a/a/a/a/a/a/a/a/a/a/a/a/a/a/a/out", Undecided),
+    (b"a/out/a/a/a/a/a/a/a/a/a/a/a/a/a/a/a/f", Undecided),
+    (b"b/out/a/a/a/a/a/a/a/a/a/a/a/a/a/a/a/f", Ignored),
+    (b"k/a/m/a/a/a/a/a/a/a/a/a/a/a/a/a/a/f", Ignored),
+    (b"a/a/a/a/a/a/a/a/a/a/a/a/a/a/a/k/a/a/m/f", Ignored),
+    (b"a/a/a/a/a/a/a/a/a/a/a/a/a/a/a/a/k/m/f", Undecided),
+    (b"x.o/a/a/a/a/a/a/a/a/a/a/a/a/a/a/a/a/f", Ignored),
+];
+
+/// Paths below `a`, and what its file and that of the top folder say of them.
+const DEEP_BELOW_A: [(&[u8], Decision); 7] = [
+    (b"a/a/a/a/a/a/a/a/a/a/a/a/a/a/a/a/a/f.o", Kept),
+    (b"a/a/m/a/a/a/a/a/a/a/a/a/a/a/a/a/a/f", Ignored),
+    (b"a/a/a/m/a/a/a/a/a/a/a/a/a/a/a/a/a/f", Undecided),
+    (b"x.o/a/a/a/a/a/a/a/a/a/a/a/a/a/a/a/a/f", Undecided),
+    (b"out/a/a/a/a/a/a/a/a/a/a/a/a/a/a/a/a/f", Undecided),
+    (b"a/out/a/a/a/a/a/a/a/a/a/a/a/a/a/a/a/f", Ignored),
+    (b"out/out/a/a/a/a/a/a/a/a/a/a/a/a/a/a/a/f.o", Ignored),
+];
+
+#[test]
+fn all_folders(rt: HostRuntime) -> Result<(), Fail> {
+    let rules = Rules::new(rt.alloc(), b"*\n!/a/\n")?;
+    let mut decisions = [Undecided; 5];
+    rules.decide_folders(b"a/b/c", 0, &mut decisions)?;
+    assert_eq!(rt; decisions, [Undecided, Kept, Undecided, Ignored, Undecided]);
+    let mut decisions = [Undecided, Ignored, Undecided, Undecided];
+    rules.decide_folders(b"x/a/c", 2, &mut decisions)?;
+    assert_eq!(rt; decisions, [Undecided, Ignored, Undecided, Kept]);
+    Ok(())
+}

@@ -1,8 +1,9 @@
 -- What is stored of the rules of a file.
 use Rattle.std.proofs.Common.{◌≡◌, ℕ, zero, suc, ◌+◌, ◌<◌, ◌≤◌, List, [], ◌∷◌, ◌++◌, length, Bool, true, false, cond, refl, ap, sym, subst, ◌∙◌, arith, length-append, append-nil, drop, drop-cons, get_or}
-use Rattle.std.specs.Prelude.{◌&&◌, ◌||◌, not, OnOk, Result, Ok, Err, Option, Some, None, if◌then◌else◌, filter, slice_get}
+use Rattle.std.specs.Prelude.{◌&&◌, ◌||◌, not, OnOk, Result, Ok, Err, Option, Some, None, if◌then◌else◌, filter, slice_get, All}
 use Rattle.std.specs.List.{range_with_len}
 use Rattle.std.specs.Option.{option_map_or}
+use Rattle.std.proofs.lemmas.List.Elements.{All-append}
 use Rattle.globset.specs.Means.{GlobValue, glob_means}
 use Rattle.globset.specs.Silent.{silent, is_listed}
 use Rattle.globset.specs.Answer.{answer}
@@ -73,12 +74,18 @@ entry_of_if : (b : Bool) (r : Rule) (o : Option Rule) → (if b then Some (entry
 entry_of_if true r o = refl
 entry_of_if false r o = refl
 
+one_listed : (p : Pattern) (g : GlobValue) → HasMeaningOf p g → All (λ (x : GlobValue). silent x ≡ false) (g ∷ [])
+unfolding silent
+one_listed p g m zero d within = m.listed
+one_listed p g m (suc k) d within = absurd (omega (arith, within))
+
 rule_added : (done : List Rule) (gs : List GlobValue) (es : List RuleEntry) (n : ℕ) (p : Pattern) (g : GlobValue) → HasMeaningOf p g
     → AreEntriesOf done gs es → AreEntriesOf (done ++ record { line = n; pattern = p } ∷ []) (gs ++ g ∷ []) (es ++ entry_of (record { line = n; pattern = p }) ∷ [])
 rule_added done gs es n p g m h =
     let r : Rule = record { line = n; pattern = p } in
     record {
       count = simp length-append (omega (arith, h.count));
+      listed = All-append (λ (x : GlobValue). silent x ≡ false) gs (g ∷ []) h.listed (one_listed p g m);
       last = λ path f.
           last_entry_more path f gs g es (entry_of r) h.count
           ∙ (λ i. if (is_for f (entry_of r) && found_if_matched p g path m i) then Some (entry_of r) else h.last path f i)
@@ -96,6 +103,7 @@ rule_left_out done gs es n p m h =
     let r : Rule = record { line = n; pattern = p } in
     record {
       count = h.count;
+      listed = h.listed;
       last = λ path f.
           h.last path f
           ∙ ap entry_of_rule (sym (last_rule_more path f done r

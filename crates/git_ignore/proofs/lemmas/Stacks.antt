@@ -63,15 +63,20 @@ below_more files p c =
     ∙ list_any-append test (folders_above p) (map (λ f. p ++ f) (folders_above (c ∷ [])))
     ∙ ap (λ (b : Bool). is_below_ignored files p || b) (one_more files p c (c == 47))
 
+-- what is below a path has the folders above it, too
+still_below : (files : List IgnoreFile) (p q : List ℕ) → is_below_ignored files p ≡ true → is_below_ignored files (p ++ q) ≡ true
+still_below files p q h =
+    let test : List ℕ → Bool = λ folder. ignores (files_decision files folder true) in
+    ap (list_any test) (folders_above-append p q) ∙ list_any-append test (folders_above p) (map (λ f. p ++ f) (folders_above q))
+    ∙ ap (λ (b : Bool). b || list_any test (map (λ f. p ++ f) (folders_above q))) h
+
+pub ignored_above : (files : List IgnoreFile) (p : List ℕ) (is_folder : Bool) → is_below_ignored files p ≡ true → Ignored ≡ decision_below files p is_folder
+unfolding decision_below
+ignored_above files p d h = ap (λ (b : Bool). if b then Ignored else files_decision files p d) (sym h)
+
 -- below an ignored folder all is ignored
 pub below_ignored : (files : List IgnoreFile) (p q : List ℕ) (is_folder : Bool) → is_below_ignored files p ≡ true → Ignored ≡ decision_below files (p ++ q) is_folder
-unfolding decision_below
-below_ignored files p q d h =
-    let test : List ℕ → Bool = λ folder. ignores (files_decision files folder true) in
-    let more : is_below_ignored files (p ++ q) ≡ true =
-    ap (list_any test) (folders_above-append p q) ∙ list_any-append test (folders_above p) (map (λ f. p ++ f) (folders_above q))
-    ∙ ap (λ (b : Bool). b || list_any test (map (λ f. p ++ f) (folders_above q))) h in
-    ap (λ (b : Bool). if b then Ignored else files_decision files (p ++ q) d) (sym more)
+below_ignored files p q d h = ignored_above files (p ++ q) d (still_below files p q h)
 
 pub not_below_ignored : (files : List IgnoreFile) (p : List ℕ) (is_folder : Bool) → is_below_ignored files p ≡ false → files_decision files p is_folder ≡ decision_below files p is_folder
 unfolding decision_below
@@ -93,12 +98,12 @@ passed_byte files path i h before here =
     ap (is_below_ignored files) (take_more path i 0 h) ∙ below_more files (take i path) (get_or path i 0) ∙ (λ k. before k || here k)
 
 -- a folder that ends at a byte of a path is ignored
-pub met_ignored : (files : List IgnoreFile) (path : List ℕ) (i : ℕ) (is_folder : Bool) → i < length path
-    → (get_or path i 0 == 47 && ignores (files_decision files (take i path) true)) ≡ true → Ignored ≡ decision_below files path is_folder
-met_ignored files path i d h here =
-    below_ignored files (take (i + 1) path) (drop (i + 1) path) d
-    (ap (is_below_ignored files) (take_more path i 0 h) ∙ below_more files (take i path) (get_or path i 0) ∙ ap (λ (b : Bool). is_below_ignored files (take i path) || b) here ∙ or_true (is_below_ignored files (take i path)))
-    ∙ ap (λ (p : List ℕ). decision_below files p d) (take-append-drop (i + 1) path)
+pub met_ignored : (files : List IgnoreFile) (path : List ℕ) (i : ℕ) → i < length path
+    → (get_or path i 0 == 47 && ignores (files_decision files (take i path) true)) ≡ true → true ≡ is_below_ignored files path
+met_ignored files path i h here = sym (
+    ap (is_below_ignored files) (sym (take-append-drop (i + 1) path))
+    ∙ still_below files (take (i + 1) path) (drop (i + 1) path)
+    (ap (is_below_ignored files) (take_more path i 0 h) ∙ below_more files (take i path) (get_or path i 0) ∙ ap (λ (b : Bool). is_below_ignored files (take i path) || b) here ∙ or_true (is_below_ignored files (take i path))))
   where
     or_true : (b : Bool) → (b || true) ≡ true
     or_true true = refl
@@ -106,7 +111,7 @@ met_ignored files path i d h here =
 
 -- ---- one file more
 
-or_else_nothing : (d : Decision) → or_else d Undecided ≡ d
+pub or_else_nothing : (d : Decision) → or_else d Undecided ≡ d
 or_else_nothing Undecided = refl
 or_else_nothing Ignored = refl
 or_else_nothing Kept = refl
@@ -131,7 +136,7 @@ files_up_to files i f path d h e =
 
 -- ---- a file of a folder says nothing of the folders above it
 
-not_in : (folder path : List ℕ) → length path < length folder → is_in folder path ≡ false
+pub not_in : (folder path : List ℕ) → length path < length folder → is_in folder path ≡ false
 not_in folder path h = false_from_ne_true (bytes_eq (take (length folder) path) folder) (λ same. absurd (
     let e = ap length ((bytes_eq-Decides (take (length folder) path) folder).0 same) in
     omega (arith, h, e, length-take (length folder) path)))
@@ -207,7 +212,7 @@ fit_one scratch f h (suc k) d within = absurd (omega (arith, within))
 
 -- ---- files from the last to the first
 
-or_else_decided : (d e : Decision) → (d ≡ Undecided → ⊥) → or_else d e ≡ d
+pub or_else_decided : (d e : Decision) → (d ≡ Undecided → ⊥) → or_else d e ≡ d
 or_else_decided Undecided e n = absurd (n refl)
 or_else_decided Ignored e n = refl
 or_else_decided Kept e n = refl

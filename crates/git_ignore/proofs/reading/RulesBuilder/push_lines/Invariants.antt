@@ -1,5 +1,4 @@
 use Rattle.std.proofs.Common.{◌≡◌, ◌≤◌, ◌+◌, length}
-use Rattle.globset.specs.SetValue.{builder_globs}
 use Rattle.ignore_pattern.specs.Lines.{lines_of}
 use Rattle.git_ignore.specs.Rules.{rules_from}
 use Rattle.git_ignore.specs.inner.Entries.{AreReadUpTo}
@@ -7,7 +6,7 @@ use Rattle.git_ignore.proofs.reading.RulesBuilder.push_lines.Given as goal
 
 abbrev pub invariant-loop-end : goal.invariant-loop-end
 invariant-loop-end l = record {
-  rules : AreReadUpTo (rules_from 1 (lines_of l.bytes)) (rules_from l.number (lines_of l.rest)) (builder_globs l.self.globs) l.self.entries.items;
+  rules : AreReadUpTo (rules_from 1 (lines_of l.bytes)) (rules_from l.number (lines_of l.rest)) l.self.globs.items l.self.entries.items;
   number : l.number + length l.rest ≤ length l.bytes + 1;
 }
 

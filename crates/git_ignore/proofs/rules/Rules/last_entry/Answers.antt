@@ -17,4 +17,4 @@ returns-clause-entry c =
     let found = subst (λ r. OnOk r (c.matches_into_with.new.into.items ≡ answer (set_globs c.self.inside.set) c.from_bytes-path.result)) c.unwrap.ensures c.matches_into_with.ensures.ok in
     subst (λ (v : RulesValue). c.last_entry_for.result ≡ entry_of_rule (last_rule c.args.path.now c.args.is_folder (rules_of v.file))) c.self.view_is
     (found_entry (rules_of c.self.inside.file.items) (set_globs c.self.inside.set) c.self.inside.entries.items c.deref.result.now c.args.path.now c.from_bytes-path.result
-    c.matches_into_with.new.into.items c.deref-2.result.now c.args.is_folder c.last_entry_for.result c.self.invariant c.deref.ensures.value c.deref-2.ensures.value found c.from_bytes-path.ensures c.last_entry_for.ensures)
+    c.matches_into_with.new.into.items c.deref-2.result.now c.args.is_folder c.last_entry_for.result c.self.invariant.are c.deref.ensures.value c.deref-2.ensures.value found c.from_bytes-path.ensures c.last_entry_for.ensures)

@@ -7,4 +7,4 @@ use Rattle.git_ignore.proofs.rules.Rules.new.Goals as goal
 pub finish-requires : goal.finish-requires
 unfolding rules_of
 finish-requires c =
-    subst (λ (bytes : List ℕ). AreEntriesOf (rules_from 1 (lines_of bytes)) c.push_lines.new.self.globs c.push_lines.new.self.entries.items) c.after_mark.ensures c.in_ok-push_lines.ensures.rules
+    subst (λ (bytes : List ℕ). AreEntriesOf (rules_from 1 (lines_of bytes)) c.push_lines.new.self.globs.items c.push_lines.new.self.entries.items) c.after_mark.ensures c.in_ok-push_lines.ensures.rules

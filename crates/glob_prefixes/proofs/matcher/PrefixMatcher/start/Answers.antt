@@ -1,0 +1,11 @@
+use Rattle.std.proofs.Common.{subst}
+use Rattle.std.specs.Prelude.{◌↔◌}
+use Rattle.byte_automaton.specs.Runs.{AcceptsFrom}
+use Rattle.byte_automaton.specs.Steps.{Machine, IsReached}
+use Rattle.glob_prefixes.proofs.matcher.PrefixMatcher.start.Goals as goal
+
+pub returns-clause-after : goal.returns-clause-after
+returns-clause-after c = record {
+  bytes = tt;
+  leads = λ y k. subst (λ (m : Machine). AcceptsFrom m c.start.new.into y k ↔ IsReached m y k) c.self.view_is (c.start.ensures.starts y k);
+}

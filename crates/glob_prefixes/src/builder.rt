@@ -1,0 +1,95 @@
+//! How a matcher is made.
+
+ghost use Rattle.std.specs.Prelude.{◌≡◌, ◌+◌, ◌<◌, ◌≤◌, ◌++◌, ◌∷◌, [], List, OnOk, OnErr, IfOk};
+ghost use Rattle.globset_glob.specs.Cost.{cost};
+ghost use Rattle.globset_glob.specs.Means.{GlobValue};
+ghost use Rattle.glob_prefixes.specs.Prefixes.{AreAdded, most_globs, prefix_states};
+
+use crate::matcher::PrefixMatcher;
+use byte_automaton::Builder;
+use glob_automaton::{add_tokens, new_builder};
+use globset_glob::{Glob, options_of, tokens_of};
+use std::alloc::{AllocError, Global};
+use std::marker::Model;
+
+/// Makes a [`PrefixMatcher`], glob by glob. A glob is not needed any more once it is added.
+pub struct PrefixMatcherBuilder {
+    alloc: Global,
+    automaton: Builder,
+    /// How many globs were added.
+    added: usize,
+}
+
+impl Drop for PrefixMatcherBuilder {
+    // One call wherever a value is dropped, which keeps proofs short.
+    fn drop(self) {
+        let PrefixMatcherBuilder {
+            alloc: _,
+            automaton: _,
+            added: _,
+        } = self;
+    }
+}
+
+impl Model for PrefixMatcherBuilder {
+    ghost use Rattle.std.specs.Prelude.{◌<◌, ◌^◌};
+    ghost use Rattle.glob_prefixes.specs.Prefixes.{PrefixBuilderValue};
+
+    ghost Value = { PrefixBuilderValue };
+
+    ghost view = { λ b. record {
+      machine = b.automaton;
+      added = b.added;
+    } };
+
+    ghost invariant = { λ b. b.automaton.index_count < 2 ^ 64 };
+}
+
+impl PrefixMatcherBuilder {
+    /// Returns a builder that no globs were added to. At most `count` may be. It allocates nothing.
+    pub fn new(alloc: Global, count: usize) -> PrefixMatcherBuilder
+        ensures none { AreAdded [] result }
+        ensures added { result.added ≡ 0 }
+        ensures count { most_globs result ≡ count }
+        ensures states { prefix_states result.machine ≡ 0 }
+    {
+        PrefixMatcherBuilder {
+            alloc,
+            automaton: new_builder(alloc, count),
+            added: 0,
+        }
+    }
+
+    /// Adds a glob after those that were added. Its index is the number of globs before it.
+    ///
+    /// It takes time and memory linear in the glob's text. Returns an error if memory runs out. Then the globs are those that were
+    /// added before, although the matcher may have more states.
+    pub fn add(&mut self, glob: &Glob) -> Result<(), AllocError>
+        requires { self.old.added < most_globs self.old }
+        ensures glob { OnOk result ((globs : List GlobValue) → AreAdded globs self.old → AreAdded (globs ++ glob.now ∷ []) self.new) }
+        ensures kept { OnErr result ((globs : List GlobValue) → AreAdded globs self.old → AreAdded globs self.new) }
+        ensures added { OnOk result (self.new.added ≡ self.old.added + 1) }
+        ensures same { OnErr result (self.new.added ≡ self.old.added) }
+        ensures count { most_globs self.new ≡ most_globs self.old }
+        ensures states { OnOk result (prefix_states self.new.machine ≤ prefix_states self.old.machine + cost glob.now) }
+    {
+        let (options, tokens) = (options_of(glob), tokens_of(glob));
+        add_tokens(self.alloc, &mut self.automaton, options, tokens, self.added)?;
+        self.added += 1;
+        Ok(())
+    }
+
+    /// Returns a matcher of the globs that were added. It takes time and memory linear in their texts. Returns an error if memory
+    /// runs out.
+    pub fn finish(self) -> Result<PrefixMatcher, AllocError>
+        ensures { IfOk result (λ matcher. matcher ≡ self.machine) }
+    {
+        let PrefixMatcherBuilder {
+            alloc: _,
+            automaton,
+            added: _,
+        } = self;
+        let automaton = automaton.finish().with_blocks()?;
+        Ok(PrefixMatcher::of(automaton))
+    }
+}

@@ -1,0 +1,41 @@
+//! Globs that are matched against every beginning of a text, in one pass over it.
+//!
+//! A path has a folder above it at each `/`. Which globs match these folders is asked of each of them, and each is a beginning of
+//! the path. A [`PrefixMatcher`] reads the path once, byte by byte, and tells after each of the bytes which globs match what was
+//! read: what was read is never read again.
+//!
+//! [`PrefixMatcherBuilder`] makes a matcher, glob by glob. [`PrefixStates`] are what a matcher works with, and what it remembers
+//! between two bytes.
+//!
+//! The matcher is an automaton of the tokens of all its globs, and it is simulated: no table is made, and a byte takes time linear
+//! in the states that the text so far leads to. For one path a set of globs may take less, since it decides many globs by a look at a
+//! table. A set leaves silent globs out, and this matcher does not.
+//!
+//! ```
+//! let mut builder = PrefixMatcherBuilder::new(alloc, 2);
+//! builder.add(&Glob::new(alloc, "a")?)?;
+//! builder.add(&Glob::new(alloc, "**/b")?)?;
+//! let matcher = builder.finish()?;
+//! let mut states = PrefixStates::new(alloc, &matcher)?;
+//! let mut visits = Visits::new();
+//!
+//! // The folders above `a/b/c` are `a`, which the first glob matches, and `a/b`, which the second one matches.
+//! matcher.start(&mut states);
+//! for byte in b"a/b/c" {
+//!     if *byte == b'/' {
+//!         matcher.matches(&mut states, &mut visits);
+//!         println!(rt; "{:?}", states.matching())?;
+//!     }
+//!     matcher.push(*byte, &mut states, &mut visits);
+//! }
+//! ```
+#![tactic(auto)]
+
+mod builder;
+mod marks;
+mod matcher;
+mod states;
+
+pub use builder::PrefixMatcherBuilder;
+pub use matcher::PrefixMatcher;
+pub use states::PrefixStates;

@@ -1,0 +1,24 @@
+//! Indexes that are marked, in order.
+
+ghost use Rattle.std.specs.Prelude.{◌≡◌, ◌≤◌, [], IsOk, OnOk, filter, vec_capacity};
+ghost use Rattle.std.specs.List.{range_with_len};
+ghost use Rattle.bit_sets.specs.Indexes.{has_index};
+
+use bit_sets::IndexSet;
+use std::alloc::AllocError;
+
+/// Pushes the indexes of a set that are below `count`, ascending, onto an empty vector. Returns an error if memory runs out, and
+/// so none if the vector has a capacity of `count`.
+pub fn push_marked(marks: &IndexSet, count: usize, into: &mut Vec<usize>) -> Result<(), AllocError>
+    requires { into.old.items ≡ [] }
+    ensures pushed { OnOk result (into.new.items ≡ filter (has_index marks.now) (range_with_len 0 count)) }
+    ensures memory { count ≤ vec_capacity into.old → IsOk result }
+    ensures capacity { vec_capacity into.old ≤ vec_capacity into.new }
+{
+    let mut from = 0;
+    while let Some(index) = marks.next_below(from, count) {
+        into.push(index)?;
+        from = index + 1;
+    }
+    Ok(())
+}

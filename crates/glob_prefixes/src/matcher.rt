@@ -1,0 +1,128 @@
+//! Matchers, and the steps of what they read.
+
+ghost use Rattle.std.specs.Prelude.{◌≡◌, ◌+◌, ◌*◌, ◌≤◌, ◌↔◌, ◌++◌, ◌∷◌, [], ℕ, List, length, IsTrue};
+ghost use Rattle.bit_sets.specs.Indexes.{has_index};
+ghost use Rattle.byte_automaton.specs.Steps.{IsReached};
+ghost use Rattle.globset_glob.specs.Means.{GlobValue};
+ghost use Rattle.glob_prefixes.specs.Prefixes.{FitAsBefore, FitsPrefixes, IsAfter, IsPrefixMatcherOf, matching_indexes, matching_of, prefix_states};
+
+use crate::marks::push_marked;
+use crate::states::PrefixStates;
+use byte_automaton::Automaton;
+use std::marker::Model;
+use std::mem::swap;
+use visits::Visits;
+
+/// A list of globs that are matched against every beginning of a text. The index of a glob is its position in the list.
+///
+/// A [`PrefixMatcherBuilder`](crate::PrefixMatcherBuilder) makes it. A run begins with [`PrefixMatcher::start`], reads bytes by
+/// [`PrefixMatcher::push`], and may be asked at any time by [`PrefixMatcher::matches`]. What a run remembers is in its
+/// [`PrefixStates`], which have to have room for the matcher. So several runs of a matcher may go on side by side.
+///
+/// It has at most four states for each byte of a glob's text, or 16 under `whole_character`, and four more for each glob.
+pub struct PrefixMatcher {
+    automaton: Automaton,
+}
+
+impl Drop for PrefixMatcher {
+    // One call wherever a value is dropped, which keeps proofs short.
+    fn drop(self) {
+        let PrefixMatcher { automaton: _ } = self;
+    }
+}
+
+impl Model for PrefixMatcher {
+    ghost use Rattle.glob_prefixes.specs.Prefixes.{PrefixMatcherValue};
+
+    ghost Value = { PrefixMatcherValue };
+
+    ghost view = { λ m. m.automaton };
+}
+
+impl PrefixMatcher {
+    /// Returns the matcher of an automaton.
+    pub(crate) fn of(automaton: Automaton) -> PrefixMatcher
+        ensures { result ≡ automaton }
+    {
+        PrefixMatcher { automaton }
+    }
+
+    /// Returns the number of states.
+    pub(crate) fn state_count(&self) -> usize
+        ensures { result ≡ prefix_states self.now }
+    {
+        self.automaton.state_count()
+    }
+
+    /// Returns a number that each index is below.
+    pub(crate) fn index_count(&self) -> usize
+        ensures { result ≡ self.now.index_count }
+    {
+        self.automaton.index_count()
+    }
+
+    /// Begins a run: no byte was read. What the states held has no effect.
+    pub fn start(&self, states: &mut PrefixStates)
+        requires { FitsPrefixes states.old self.now }
+        ensures after { IsAfter self.now states.new [] }
+        ensures fits { FitAsBefore states.old states.new }
+    {
+        self.automaton.start(&mut states.current);
+    }
+
+    /// Reads a byte more. It is at most one visit for each state.
+    pub fn push(&self, byte: u8, states: &mut PrefixStates, visits: &mut Visits)
+        requires { FitsPrefixes states.old self.now }
+        ensures after { (text : List ℕ) → IsAfter self.now states.old text → IsAfter self.now states.new (text ++ byte ∷ []) }
+        ensures fits { FitAsBefore states.old states.new }
+        ensures visits { visits.new ≤ visits.old + prefix_states self.now }
+    {
+        self.automaton
+            .step(&mut states.current, byte, &mut states.next, visits);
+        swap(&mut states.current, &mut states.next);
+    }
+
+    /// Reads some bytes more. It is at most `bytes * states` visits.
+    pub fn push_all(&self, bytes: &[u8], states: &mut PrefixStates, visits: &mut Visits)
+        requires { FitsPrefixes states.old self.now }
+        ensures after { (text : List ℕ) → IsAfter self.now states.old text → IsAfter self.now states.new (text ++ bytes.now) }
+        ensures fits { FitAsBefore states.old states.new }
+        ensures visits { visits.new ≤ visits.old + length bytes.now * prefix_states self.now }
+    {
+        for byte in bytes {
+            self.push(*byte, states, visits);
+        }
+    }
+
+    /// Finds the globs that match what was read so far: [`PrefixStates::matching`] returns their indexes then. More bytes may be
+    /// read after it. It is at most one visit for each state, and takes no memory.
+    ///
+    /// Silent globs are found as others are, which a set leaves out.
+    pub fn matches(&self, states: &mut PrefixStates, visits: &mut Visits)
+        requires { FitsPrefixes states.old self.now }
+        ensures matching { (globs : List GlobValue) → IsPrefixMatcherOf globs self.now → (text : List ℕ) → IsAfter self.now states.old text → matching_of states.new ≡ matching_indexes globs text }
+        ensures after { (text : List ℕ) → IsAfter self.now states.old text → IsAfter self.now states.new text }
+        ensures fits { FitAsBefore states.old states.new }
+        ensures visits { visits.new ≤ visits.old + prefix_states self.now }
+    {
+        self.mark(states, visits);
+        states.matching.clear();
+        push_marked(&states.marks, self.index_count(), &mut states.matching).unwrap();
+    }
+
+    /// Marks the indexes of the ends that what was read leads to, and no others.
+    fn mark(&self, states: &mut PrefixStates, visits: &mut Visits)
+        requires { FitsPrefixes states.old self.now }
+        ensures marked { (text : List ℕ) → IsAfter self.now states.old text → (k : ℕ) → IsTrue (has_index states.new.marks k) ↔ IsReached self.now text k }
+        ensures current { states.new.current ≡ states.old.current }
+        ensures matching { states.new.matching ≡ states.old.matching }
+        ensures fits { FitAsBefore states.old states.new }
+        ensures visits { visits.new ≤ visits.old + prefix_states self.now }
+    {
+        // To look for ends changes the set that is looked into.
+        states.asked.copy_from(&states.current);
+        states.marks.clear();
+        self.automaton
+            .ends(&mut states.asked, &mut states.marks, visits);
+    }
+}
