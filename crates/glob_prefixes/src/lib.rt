@@ -39,3 +39,6 @@ mod states;
 pub use builder::PrefixMatcherBuilder;
 pub use matcher::PrefixMatcher;
 pub use states::PrefixStates;
+
+#[cfg(test)]
+mod tests;
