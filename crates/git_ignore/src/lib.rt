@@ -1,4 +1,61 @@
 //! Ignore files, read exactly as git reads them.
+//!
+//! [`Rules`] are those of one file, which decide about paths below its folder:
+//!
+//! ```rust
+//! use git_ignore::{Decision, Rules};
+//!
+//! let rules = Rules::new(alloc, b"*.o\n\n# but not\n!a.o\nout/\n[c\n\xff\n")?;
+//! assert_eq!(rt; rules.decide_once(b"src/b.o", false)?, Decision::Ignored);
+//! assert_eq!(rt; rules.deciding_line_once(b"src/b.o", false)?, Some(1));
+//! assert_eq!(rt; rules.decide_once(b"a.o", false)?, Decision::Kept);
+//! assert_eq!(rt; rules.decide_once(b"out", false)?, Decision::Undecided);
+//! assert_eq!(rt; rules.decide_once(b"out", true)?, Decision::Ignored);
+//!
+//! // A class that is not closed, and a line that is not UTF-8.
+//! assert_eq!(rt; rules.unread_lines(), [6, 7].as_slice());
+//!
+//! // Of the folders above `a/b/c`, which end before the second and the fourth byte, `a` is kept, and `a/b` is ignored.
+//! let rules = Rules::new(alloc, b"*\n!/a/\n")?;
+//! let mut decisions = [Decision::Undecided; 5];
+//! rules.decide_folders(b"a/b/c", 0, &mut decisions)?;
+//! assert_eq!(rt; decisions[1], Decision::Kept);
+//! assert_eq!(rt; decisions[3], Decision::Ignored);
+//! ```
+//!
+//! [`IgnoreStack`] has the files of nested folders, as a walk comes by them:
+//!
+//! ```rust
+//! use git_ignore::{Decision, IgnoreStack};
+//!
+//! let mut stack = IgnoreStack::new(alloc)?;
+//! stack.add_file(b"*.o\nout/\n**/k/**/m/\n")?;
+//! assert_eq!(rt; stack.decide(b"a.o", false)?, Decision::Ignored);
+//! assert_eq!(rt; stack.decide(b"out/x", false)?, Decision::Ignored);
+//!
+//! stack.enter(b"src")?;
+//! stack.add_file(b"!a.o\n/b\n")?;
+//! assert_eq!(rt; stack.folder(), b"src/".as_slice());
+//! assert_eq!(rt; stack.decide(b"a.o", false)?, Decision::Kept);
+//! assert_eq!(rt; stack.decide(b"b", false)?, Decision::Ignored);
+//! assert_eq!(rt; stack.decide(b"c/b", false)?, Decision::Undecided);
+//!
+//! // Many folders are asked at once, and answer the same.
+//! let deep = b"a/a/a/a/a/a/a/a/k/a/a/a/a/a/a/a/a/m/f";
+//! assert_eq!(rt; stack.decide(deep, false)?, Decision::Ignored);
+//! assert_eq!(rt; stack.decide(b"b/a/a/a/a/a/a/a/a/a/a/a/a/a/a/a/a/a/f", false)?, Decision::Ignored);
+//! assert_eq!(rt; stack.decide(b"a/a/a/a/a/a/a/a/a/a/a/a/a/a/a/a/a/a/a.o", false)?, Decision::Kept);
+//!
+//! // What is below an ignored folder is not kept again.
+//! stack.enter(b"out")?;
+//! stack.add_file(b"!*")?;
+//! assert!(rt; stack.is_ignored());
+//! assert_eq!(rt; stack.decide(b"x", false)?, Decision::Ignored);
+//! stack.leave();
+//! assert!(rt; !stack.is_ignored());
+//! stack.leave();
+//! assert_eq!(rt; stack.decide(b"a.o", false)?, Decision::Ignored);
+//! ```
 #![tactic(auto)]
 
 mod decision;
@@ -14,6 +71,3 @@ pub use decision::Decision;
 pub use rules::Rules;
 pub use scratch::IgnoreScratch;
 pub use stack::IgnoreStack;
-
-#[cfg(test)]
-mod tests;

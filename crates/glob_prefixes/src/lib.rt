@@ -11,23 +11,33 @@
 //! in the states that the text so far leads to. For one path a set of globs may take less, since it decides many globs by a look at a
 //! table. A set leaves silent globs out, and this matcher does not.
 //!
-//! ```
-//! let mut builder = PrefixMatcherBuilder::new(alloc, 2);
+//! ```rust
+//! use glob_prefixes::{PrefixMatcherBuilder, PrefixStates};
+//! use globset::{Glob, Visits};
+//!
+//! let mut builder = PrefixMatcherBuilder::new(alloc, 4);
 //! builder.add(&Glob::new(alloc, "a")?)?;
 //! builder.add(&Glob::new(alloc, "**/b")?)?;
+//! builder.add(&Glob::new(alloc, "a/*")?)?;
+//! builder.add(&Glob::new(alloc, "**/..")?)?;
 //! let matcher = builder.finish()?;
 //! let mut states = PrefixStates::new(alloc, &matcher)?;
 //! let mut visits = Visits::new();
 //!
-//! // The folders above `a/b/c` are `a`, which the first glob matches, and `a/b`, which the second one matches.
+//! // The folders above `a/b/c` are `a`, which the first glob matches, and `a/b`, which the second and the third one match.
 //! matcher.start(&mut states);
-//! for byte in b"a/b/c" {
-//!     if *byte == b'/' {
-//!         matcher.matches(&mut states, &mut visits);
-//!         println!(rt; "{:?}", states.matching())?;
-//!     }
-//!     matcher.push(*byte, &mut states, &mut visits);
-//! }
+//! matcher.push(b'a', &mut states, &mut visits);
+//! matcher.matches(&mut states, &mut visits);
+//! assert_eq!(rt; states.matching(), [0].as_slice());
+//! matcher.push_all(b"/b", &mut states, &mut visits);
+//! matcher.matches(&mut states, &mut visits);
+//! assert_eq!(rt; states.matching(), [1, 2].as_slice());
+//!
+//! // What was read before has no effect.
+//! matcher.start(&mut states);
+//! matcher.push_all(b"x/..", &mut states, &mut visits);
+//! matcher.matches(&mut states, &mut visits);
+//! assert_eq!(rt; states.matching(), [3].as_slice());
 //! ```
 #![tactic(auto)]
 
@@ -39,6 +49,3 @@ mod states;
 pub use builder::PrefixMatcherBuilder;
 pub use matcher::PrefixMatcher;
 pub use states::PrefixStates;
-
-#[cfg(test)]
-mod tests;
