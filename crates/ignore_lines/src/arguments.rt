@@ -2,7 +2,7 @@
 
 use crate::ignore_file::IgnoreFile;
 use example_io::{Fault, TextFile};
-use std::alloc::Global;
+use std::alloc::{AllocError, Global};
 use std::env::{self, Args};
 use std::rt::{Env, Files};
 
@@ -57,14 +57,24 @@ impl Named {
         Ok(named)
     }
 
-    /// Reads the files. Returns an error if one cannot be read, or memory runs out.
+    /// Reads the files. Those of deeper folders come last, and files of one folder as they are named. Returns an error if one cannot be
+    /// read, or memory runs out.
     pub fn open<R: Files + AllocGlobal>(&self, rt: &R) -> Result<Vec<IgnoreFile>, Fault> {
         let mut files = Vec::new(rt.alloc());
         for name in &self.names {
             let name = String::from_str(rt.alloc(), name.as_str())?;
             let text = TextFile::read(rt, name)?;
-            files.push(IgnoreFile::new(rt.alloc(), text)?)?;
+            insert_by_depth(&mut files, IgnoreFile::new(rt.alloc(), text)?)?;
         }
         Ok(files)
     }
+}
+
+/// Inserts a file after those of its folder, and those of folders with a path that is no longer. Returns an error if memory runs out.
+fn insert_by_depth(files: &mut Vec<IgnoreFile>, file: IgnoreFile) -> Result<(), AllocError> {
+    let depth = file.folder().len();
+    let before = files.iter().take_while(|it| it.folder().len() <= depth);
+    let at = before.count().min(files.len());
+    files.insert(at, file)?;
+    Ok(())
 }

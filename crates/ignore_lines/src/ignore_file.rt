@@ -5,7 +5,7 @@ ghost use Rattle.git_ignore.specs.RulesValue.{FitsRules};
 use example_io::{Fault, TextFile};
 use git_ignore::{Decision, IgnoreScratch, Rules};
 use memchr::{memchr, memrchr};
-use std::alloc::Global;
+use std::alloc::{AllocError, Global};
 
 /// What some editors put at the start of a text.
 const BYTE_ORDER_MARK: &[u8] = b"\xef\xbb\xbf";
@@ -79,6 +79,23 @@ impl IgnoreFile {
             number,
             ignores: decision == Decision::Ignored,
         })
+    }
+
+    /// Decides about the folders above a path, as [`Rules::decide_folders`] does. Returns an error if memory runs out.
+    pub fn decide_folders(
+        &self,
+        path: &[u8],
+        decisions: &mut [Decision],
+    ) -> Result<(), AllocError> {
+        let folder = self.folder();
+        if !path.starts_with(folder) {
+            return Ok(());
+        }
+        match self.rules.decide_folders(path, folder.len(), decisions) {
+            Ok(()) => Ok(()),
+            // There is no other error than that memory ran out.
+            Err(_) => Err(AllocError),
+        }
     }
 
     /// Returns the text of the line with this number, counted from 1, up to the first NUL.
