@@ -3,6 +3,7 @@
 use crate::decision::Decision::{self, Ignored, Kept, Undecided};
 use crate::rules::Rules;
 use crate::stack::IgnoreStack;
+use std::alloc::{AllocError, Global};
 use std::test::Fail;
 
 #[test]
@@ -87,41 +88,61 @@ fn nested_folders(rt: HostRuntime) -> Result<(), Fail> {
 fn deep_paths(rt: HostRuntime) -> Result<(), Fail> {
     let mut stack = IgnoreStack::new(rt.alloc())?;
     stack.add_file(b"*.o\nout/\n!a/out/\n**/k/a/**/m/\n")?;
-    for (path, decision) in DEEP {
-        assert_eq!(rt; stack.decide(path, false)?, decision, "{path:?}");
+    for (before, after, decision) in DEEP {
+        let path = deep(rt.alloc(), before, after)?;
+        assert_eq!(rt;
+            stack.decide(&path, false)?,
+            decision,
+            "{before:?} {after:?}"
+        );
     }
     stack.enter(b"a")?;
-    stack.add_file(b"!*.o\n/a/a/m/\n")?;
-    for (path, decision) in DEEP_BELOW_A {
-        assert_eq!(rt; stack.decide(path, false)?, decision, "{path:?}");
+    stack.add_file(b"!*.o\n/b/**/n/\n")?;
+    for (before, after, decision) in DEEP_BELOW_A {
+        let path = deep(rt.alloc(), before, after)?;
+        assert_eq!(rt;
+            stack.decide(&path, false)?,
+            decision,
+            "{before:?} {after:?}"
+        );
     }
     Ok(())
 }
 
-/// Paths of 16 folders and more, and what the file of the top folder says of them.
-const DEEP: [(&[u8], Decision); 11] = [
-    (b"a/a/a/a/a/a/a/a/a/a/a/a/a/a/a/a/a/f", Undecided),
-    (b"a/a/a/a/a/a/a/a/a/a/a/a/a/a/a/a/a/f.o", Ignored),
-    (b"a/a/a/a/a/a/a/a/a/a/a/a/a/a/a/out/f", Ignored),
-    (b"a/a/a/a/a/a/a/a/a/a/a/a/a/a/a/a/a/out/f", Ignored),
-    (b"a/a/a/a/a/a/a/a/a/a/a/a/a/a/a/a/a/out", Undecided),
-    (b"a/out/a/a/a/a/a/a/a/a/a/a/a/a/a/a/a/f", Undecided),
-    (b"b/out/a/a/a/a/a/a/a/a/a/a/a/a/a/a/a/f", Ignored),
-    (b"k/a/m/a/a/a/a/a/a/a/a/a/a/a/a/a/a/f", Ignored),
-    (b"a/a/a/a/a/a/a/a/a/a/a/a/a/a/a/k/a/a/m/f", Ignored),
-    (b"a/a/a/a/a/a/a/a/a/a/a/a/a/a/a/a/k/m/f", Undecided),
-    (b"x.o/a/a/a/a/a/a/a/a/a/a/a/a/a/a/a/a/f", Ignored),
+/// Returns a path with 300 folders `a` in the middle.
+fn deep(alloc: Global, before: &[u8], after: &[u8]) -> Result<Vec<u8>, AllocError> {
+    let mut path = before.to_vec(alloc)?;
+    for _ in 0..300 {
+        path.extend_from_slice(b"a/")?;
+    }
+    path.extend_from_slice(after)?;
+    Ok(path)
+}
+
+/// What is before and after the folders `a` of a path, and what the file of the top folder says of it.
+const DEEP: [(&[u8], &[u8], Decision); 10] = [
+    (b"", b"f", Undecided),
+    (b"", b"f.o", Ignored),
+    (b"", b"out/f", Ignored),
+    (b"", b"out", Undecided),
+    (b"a/out/", b"f", Undecided),
+    (b"b/out/", b"f", Ignored),
+    (b"x.o/", b"f", Ignored),
+    (b"k/", b"m/f", Ignored),
+    (b"", b"k/a/a/m/f", Ignored),
+    (b"", b"k/m/f", Undecided),
 ];
 
-/// Paths below `a`, and what its file and that of the top folder say of them.
-const DEEP_BELOW_A: [(&[u8], Decision); 7] = [
-    (b"a/a/a/a/a/a/a/a/a/a/a/a/a/a/a/a/a/f.o", Kept),
-    (b"a/a/m/a/a/a/a/a/a/a/a/a/a/a/a/a/a/f", Ignored),
-    (b"a/a/a/m/a/a/a/a/a/a/a/a/a/a/a/a/a/f", Undecided),
-    (b"x.o/a/a/a/a/a/a/a/a/a/a/a/a/a/a/a/a/f", Undecided),
-    (b"out/a/a/a/a/a/a/a/a/a/a/a/a/a/a/a/a/f", Undecided),
-    (b"a/out/a/a/a/a/a/a/a/a/a/a/a/a/a/a/a/f", Ignored),
-    (b"out/out/a/a/a/a/a/a/a/a/a/a/a/a/a/a/a/f.o", Ignored),
+/// The same for paths below `a`, of which its file and that of the top folder say something.
+const DEEP_BELOW_A: [(&[u8], &[u8], Decision); 8] = [
+    (b"", b"f.o", Kept),
+    (b"b/", b"n/f", Ignored),
+    (b"", b"n/f", Undecided),
+    (b"c/", b"b/n/f", Undecided),
+    (b"", b"x.o/f", Undecided),
+    (b"out/", b"f", Undecided),
+    (b"", b"out/f", Ignored),
+    (b"", b"out/f.o", Ignored),
 ];
 
 #[test]
