@@ -15,9 +15,9 @@ use crate::scratch::IgnoreScratch;
 use globset::Error;
 use std::alloc::Global;
 
-/// Up to how many folders above a path are asked for each by a pass over its own path. The tables of a set make such a pass much
-/// faster than one that answers for all folders.
-const FEW_FOLDERS: usize = 16;
+/// How many folders above a path are asked for each by a pass over its own path, before one pass answers for the others. The tables
+/// of a set make such a pass much faster than one that answers for all folders.
+const FEW_FOLDERS: usize = 256;
 
 /// The rules of an ignore file, and the folder of the file.
 pub struct FolderRules {
@@ -144,15 +144,32 @@ fn ignores_above(
     ensures scratch { scratch.new ≡ scratch.old }
     ensures err { IfErr result (λ e. e ≡ out_of_memory) }
 {
-    if has_few_folders(&path[start..]) {
-        return Ok(ignores_above_one_by_one(files, path, start, scratch));
+    let few = end_of_few(path, start);
+    if ignores_above_one_by_one(files, &path[..few], start, scratch) {
+        return Ok(true);
     }
-    ignores_above_at_once(alloc, files, path, start)
+    if few == path.len() {
+        return Ok(false);
+    }
+    ignores_above_at_once(alloc, files, path, few)
 }
 
-/// Returns whether the folders above a path are few.
-fn has_few_folders(path: &[u8]) -> bool {
-    path.iter().filter(|byte| **byte == b'/').count() <= FEW_FOLDERS
+/// Returns where the few folders from `start` on end: at the `/` after the next folder, or at the end of the path if there are no more.
+fn end_of_few(path: &[u8], start: usize) -> usize
+    requires { start ≤ length path.now }
+    ensures low { start ≤ result }
+    ensures high { result ≤ length path.now }
+{
+    let mut left = FEW_FOLDERS;
+    for end in start..path.len() {
+        if path[end] == b'/' {
+            if left == 0 {
+                return end;
+            }
+            left -= 1;
+        }
+    }
+    path.len()
 }
 
 /// The same as [`ignores_above`], by a pass over the path of each folder. It takes no memory.

@@ -31,10 +31,9 @@ pub struct FolderLevel {
 /// whatever matches it.
 ///
 /// Whether a folder is ignored is kept when it is entered. So the name of an entry costs one pass over its path for each ignore file
-/// above it. A path below folders that were not entered costs such a pass for each of these too, if they are at most 16. More of them
-/// cost one further pass for each file, which answers for all of them: so the cost is linear in the bytes of the path, however
-/// many folders it has. That pass takes memory for a decision at each byte of the path, and for the states of an automaton of the
-/// file's globs.
+/// above it. A path below folders that were not entered costs such a pass for each of the first 256 of these too, and for the others
+/// together one further pass for each file: so the cost is linear in the bytes of the path, however many folders it has. The further
+/// pass takes memory for a decision at each byte of the path, and for the states of an automaton of the file's globs.
 pub struct IgnoreStack {
     alloc: Global,
     /// The path of the folder: empty for the top folder, and otherwise with `/` at its end.
@@ -146,8 +145,8 @@ impl IgnoreStack {
     ///
     /// A folder that the path names above its last component counts, too: below one that is ignored, the path is ignored.
     ///
-    /// Returns an error if memory runs out, and no other: the folder's path is put before it, and a path with more than 16 folders
-    /// takes memory for a decision about each.
+    /// Returns an error if memory runs out, and no other: the folder's path is put before it, and a path with more than 256
+    /// folders takes memory for decisions about them.
     pub fn decide(&mut self, path: &[u8], is_folder: bool) -> Result<Decision, Error>
         ensures decision { IfOk result (λ d. d ≡ decision_below self.old.files (self.old.folder ++ path.now) is_folder) }
         ensures same { self.new ≡ self.old }

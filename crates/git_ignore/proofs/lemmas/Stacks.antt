@@ -109,6 +109,10 @@ met_ignored files path i h here = sym (
     or_true true = refl
     or_true false = refl
 
+-- the folders above the beginning of a path are above the path, too
+pub ignored_early : (files : List IgnoreFile) (path : List ℕ) (i : ℕ) → is_below_ignored files (take i path) ≡ true → true ≡ is_below_ignored files path
+ignored_early files path i h = sym (ap (is_below_ignored files) (sym (take-append-drop i path)) ∙ still_below files (take i path) (drop i path) h)
+
 -- ---- one file more
 
 pub or_else_nothing : (d : Decision) → or_else d Undecided ≡ d
