@@ -1,10 +1,10 @@
 //! Sets of globs.
 
-ghost use Rattle.std.specs.Prelude.{◌≡◌, ◌↔◌, List, [], IfOk, IfErr, IsTrue, length, map};
+ghost use Rattle.std.specs.Prelude.{◌≡◌, ◌↔◌, All, List, [], IfOk, IfErr, IsTrue, length, map};
 ghost use Rattle.std.specs.Borrow.{Bor};
 ghost use Rattle.std.specs.Iterator.{Drains, IsFinite};
 ghost use Rattle.globset_glob.specs.Errors.{out_of_memory};
-ghost use Rattle.globset_glob.specs.Means.{GlobValue};
+ghost use Rattle.globset_glob.specs.Means.{GlobValue, IsRead};
 ghost use Rattle.globset.specs.SetValue.{set_globs, set_states, builder_globs};
 
 mod all;
@@ -86,7 +86,8 @@ impl GlobSet {
     ///
     /// The set matches no path, and [`GlobSet::matches_all`] is true on every path.
     pub fn empty() -> GlobSet
-        ensures { set_globs result ≡ [] }
+        ensures globs { set_globs result ≡ [] }
+        ensures states { set_states result ≡ 0 }
     {
         GlobSet { stored: None }
     }
@@ -100,7 +101,8 @@ impl GlobSet {
 
     /// Returns the number of globs in the set, silent globs included. It allocates nothing.
     pub fn len(&self) -> usize
-        ensures { result ≡ length (set_globs self.now) }
+        ensures count { result ≡ length (set_globs self.now) }
+        ensures read { All IsRead (set_globs self.now) }
     {
         match &self.stored {
             Some(stored) => stored.len(),
@@ -180,9 +182,9 @@ impl GlobSet {
 
 impl Default for GlobSet {
     ghost use Rattle.std.specs.Prelude.{◌≡◌, []};
-    ghost use Rattle.globset.specs.SetValue.{set_globs};
+    ghost use Rattle.globset.specs.SetValue.{set_globs, set_states};
 
-    ghost is_default = { λ s. set_globs s ≡ [] };
+    ghost is_default = { λ s. (set_globs s ≡ []) × (set_states s ≡ 0) };
 
     /// The same as [`GlobSet::empty`].
     fn default() -> GlobSet {

@@ -9,7 +9,8 @@ use Rattle.glob_syntax.specs.StatesPerByte.{states_per_byte}
 use Rattle.glob_syntax.specs.inner.Weight.{weight}
 use Rattle.glob_groups.specs.Direct.{is_direct, needs_automaton}
 use Rattle.glob_path.specs.Below.{path_below}
-use Rattle.globset_glob.specs.Means.{GlobValue, tokens_of_glob, glob_means}
+use Rattle.std.proofs.lemmas.List.Elements.{All-append, All-cons, All-nil}
+use Rattle.globset_glob.specs.Means.{GlobValue, IsRead, tokens_of_glob, glob_means}
 use Rattle.globset_glob.specs.Cost.{cost}
 use Rattle.group_matching.specs.Globs.{TokenGlob, reads, listed, most_visits}
 use Rattle.group_matching.specs.Below as below
@@ -87,9 +88,10 @@ size_below_push globs g few before =
     omega (arith, one, two, more, before)
 
 -- the groups of the globs, and one glob more
-pub added_push : (before after : AddedParts) (g : GlobValue) → AreAdded before → after.given ≡ before.given ++ g ∷ [] → AreGroupsOf (map by_tokens before.given ++ by_tokens g ∷ []) after.parts
+pub added_push : (before after : AddedParts) (g : GlobValue) → AreAdded before → IsRead g → after.given ≡ before.given ++ g ∷ [] → AreGroupsOf (map by_tokens before.given ++ by_tokens g ∷ []) after.parts
     → weight g.options (tokens_of_glob g) ≤ states_per_byte g.options * length g.text → AreAdded after
-added_push before after g are is groups few = record {
+added_push before after g are read is groups few = record {
+  read = rw is (All-append IsRead before.given (g ∷ []) are.read (All-cons IsRead g [] read (All-nil IsRead)));
   groups = rw is (rw (map_push before.given g) groups);
   size = λ path. rw is (size_push before.given g path few (are.size path));
   size_below = rw is (size_below_push before.given g few are.size_below);

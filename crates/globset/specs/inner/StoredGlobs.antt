@@ -1,6 +1,6 @@
 -- The value of a set, by what the set stores. No contract cites this.
-use Rattle.std.specs.Prelude.{◌≡◌, ◌≤◌, ℕ, List, [], Option, None, Some, length, map}
-use Rattle.globset_glob.specs.Means.{GlobValue, tokens_of_glob}
+use Rattle.std.specs.Prelude.{◌≡◌, ◌≤◌, ℕ, All, List, [], Option, None, Some, length, map}
+use Rattle.globset_glob.specs.Means.{GlobValue, IsRead, tokens_of_glob}
 use Rattle.group_matching.specs.Below as below
 use Rattle.group_matching.specs.Globs as tokens
 use Rattle.group_matching.specs.Globs.{TokenGlob, token_glob}
@@ -20,8 +20,9 @@ stored_set (Some set) = set
 abbrev pub by_tokens : GlobValue → TokenGlob
 by_tokens g = token_glob g.options (tokens_of_glob g)
 
--- The groups are those of the globs, of which no more states are run than their costs allow.
+-- The globs were read, and the groups are those of the globs, of which no more states are run than their costs allow.
 pub record AreStored (globs : List GlobValue) (g : GroupParts) : Type 0 where
+  pub read : All IsRead globs
   pub groups : AreGroupsOf (map by_tokens globs) g
   pub count : group_count g ≡ length globs
   pub size : (path : List ℕ) → tokens.load (map by_tokens globs) path ≤ load globs path
@@ -32,8 +33,9 @@ pub record AddedParts : Type 0 where
   pub given : List GlobValue
   pub parts : GroupParts
 
--- The groups are those of the globs, of which no more states are run than their costs allow. More globs may be added.
+-- The same of what a set is made of. More globs may be added.
 pub record AreAdded (a : AddedParts) : Type 0 where
+  pub read : All IsRead a.given
   pub groups : AreGroupsOf (map by_tokens a.given) a.parts
   pub size : (path : List ℕ) → tokens.load (map by_tokens a.given) path ≤ load a.given path
   pub size_below : below.load_below (map by_tokens a.given) ≤ load_below a.given

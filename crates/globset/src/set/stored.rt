@@ -1,7 +1,8 @@
 //! What a set stores.
 
-ghost use Rattle.std.specs.Prelude.{◌≡◌, ◌≢◌, ◌↔◌, [], ℕ, ◌+◌, ◌≤◌, IfOk, IfErr, IsOk, OnOk, OnErr, IsTrue, length, map, vec_capacity};
+ghost use Rattle.std.specs.Prelude.{◌≡◌, ◌≢◌, ◌↔◌, [], ℕ, ◌+◌, ◌≤◌, All, IfOk, IfErr, IsOk, OnOk, OnErr, IsTrue, length, map, vec_capacity};
 ghost use Rattle.globset_glob.specs.Errors.{out_of_memory};
+ghost use Rattle.globset_glob.specs.Means.{IsRead};
 ghost use Rattle.globset.specs.Answer.{answer};
 ghost use Rattle.globset.specs.SetValue.{set_globs, set_states};
 ghost use Rattle.globset.specs.Below.{MatchesBelow};
@@ -90,9 +91,10 @@ impl Stored {
         Ok(builder.finish(DEFAULT_DFA_SIZE_LIMIT)?)
     }
 
-    /// Returns the number of globs.
+    /// Returns the number of globs, each of which was read.
     pub fn len(&self) -> usize
-        ensures { result ≡ length (set_globs self.now) }
+        ensures count { result ≡ length (set_globs self.now) }
+        ensures read { All IsRead (set_globs self.now) }
     {
         self.groups.len()
     }

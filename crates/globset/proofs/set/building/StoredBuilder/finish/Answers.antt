@@ -7,6 +7,7 @@ pub of_groups-requires : goal.of_groups-requires
 of_groups-requires c =
     let added = subst AreAdded (sym c.self.view_is) c.requires.added in
     subst (λ (g : GroupParts). AreStored c.self.inside.globs g) (sym c.in_ok-groups.ensures) (record {
+      read = added.read;
       groups = added.groups;
       count = subst (λ (a : AddedParts). group_count a.parts ≡ length a.given) (sym c.self.view_is) c.requires.count;
       size = added.size;
