@@ -3,12 +3,11 @@
 ghost use Rattle.std.specs.Prelude.{◌≡◌, IfOk};
 ghost use Rattle.globset.specs.Means.{glob_means};
 
-use crate::shown;
-use anyhow::Result;
+use crate::column::{Columns, Escaped, Indexes, unescaped, unescaped_text, yes_or_no};
+use crate::fault::Fault;
 use globset::{
     Candidate, Error, Glob, GlobBuilder, GlobMatcher, GlobSet, GlobSetBuilder, ValueError, escape,
 };
-use rows::{Case, Columns, RowError, escaped, list, yes_or_no};
 use serde_json::Value;
 use std::alloc::Global;
 use std::hash::{DefaultHasher, Hash, Hasher};
@@ -20,49 +19,24 @@ const FILTERED: usize = 1;
 /// The limit under which no filter is made, either.
 const SIMULATED: usize = 0;
 
-/// Sets of the same globs under the limits that are not the default.
-struct Limited {
-    filtered: GlobSet,
-    simulated: GlobSet,
-}
-
-impl Drop for Limited {
-    // One call wherever a value is dropped, which keeps proofs short.
-    fn drop(self) {
-        let Limited {
-            filtered: _,
-            simulated: _,
-        } = self;
-    }
-}
-
-impl Limited {
-    fn of(alloc: Global, globs: &[Glob]) -> Result<Limited, Error> {
-        let filtered = limited_set(alloc, globs, FILTERED)?;
-        let simulated = limited_set(alloc, globs, SIMULATED)?;
-        Ok(Limited {
-            filtered,
-            simulated,
-        })
-    }
-}
-
-/// The globs that rows so far added, and sets of them: one under the default limit, and one under each other limit.
+/// The globs that the rows of a case so far added, and sets of them: one under the default limit, and one under each other limit.
 pub struct Globs {
     alloc: Global,
     globs: Vec<Glob>,
     set: GlobSet,
-    limited: Limited,
+    filtered: GlobSet,
+    simulated: GlobSet,
 }
 
 impl Drop for Globs {
-    // As for `Limited`.
+    // One call wherever a value is dropped, which keeps proofs short.
     fn drop(self) {
         let Globs {
             alloc: _,
             globs: _,
             set: _,
-            limited: _,
+            filtered: _,
+            simulated: _,
         } = self;
     }
 }
@@ -76,20 +50,21 @@ enum Asked {
     Below,
 }
 
-impl Case for Globs {
-    fn new(alloc: Global) -> Globs {
+impl Globs {
+    /// Returns those of a case that has no rows yet.
+    pub fn new(alloc: Global) -> Globs {
         Globs {
             alloc,
             globs: Vec::new(alloc),
             set: GlobSet::empty(),
-            limited: Limited {
-                filtered: GlobSet::empty(),
-                simulated: GlobSet::empty(),
-            },
+            filtered: GlobSet::empty(),
+            simulated: GlobSet::empty(),
         }
     }
 
-    fn returned(&mut self, columns: &mut Columns<'_>) -> Result<String> {
+    /// Returns what the call of a row returns, as columns. The columns that it leaves are those that the call should return.
+    /// Returns an error if the row cannot be read, or the call fails.
+    pub fn returned(&mut self, columns: &mut Columns<'_>) -> Result<String, Fault> {
         match columns.next()? {
             "read" => self.read(columns),
             "glob" => self.glob(columns),
@@ -102,77 +77,75 @@ impl Case for Globs {
             "escape" => self.escape(columns),
             "value" => self.value(columns),
             "array" => self.array(columns),
-            _ => Err(RowError::UnknownKind.into()),
+            _ => Err(Fault::Row("no row is of this kind")),
         }
     }
-}
 
-impl Globs {
     /// Reads a glob and copies it. Returns `reads`, and the copy's `regex()`; or `fails`, the error's kind and its text.
-    fn read(&self, columns: &mut Columns<'_>) -> Result<String> {
+    fn read(&self, columns: &mut Columns<'_>) -> Result<String, Fault> {
         match &read(self.alloc, columns)? {
-            Ok(glob) => shown_copy(self.alloc, glob),
-            Err(error) => shown::error(self.alloc, error),
+            Ok(glob) => shown(self.alloc, &glob.clone()?),
+            Err(error) => shown_error(self.alloc, error),
         }
     }
 
-    /// Reads a glob, as [`Globs::read`], and adds it to the set.
-    fn glob(&mut self, columns: &mut Columns<'_>) -> Result<String> {
+    /// Reads a glob, and adds it to the set. Returns `reads`, and its `regex()`; or `fails`, the error's kind and its text.
+    fn glob(&mut self, columns: &mut Columns<'_>) -> Result<String, Fault> {
         match read(self.alloc, columns)? {
-            Ok(glob) => self.push_shown(glob),
-            Err(error) => shown::error(self.alloc, &error),
+            Ok(glob) => {
+                let shown = shown(self.alloc, &glob)?;
+                self.push(glob)?;
+                Ok(shown)
+            }
+            Err(error) => shown_error(self.alloc, &error),
         }
-    }
-
-    fn push_shown(&mut self, glob: Glob) -> Result<String> {
-        let shown = shown::glob(self.alloc, &glob)?;
-        self.push(glob)?;
-        Ok(shown)
     }
 
     /// Adds a glob to the set, and returns the length of the set.
-    fn add(&mut self, columns: &mut Columns<'_>) -> Result<String> {
+    fn add(&mut self, columns: &mut Columns<'_>) -> Result<String, Fault> {
         self.push(read(self.alloc, columns)??)?;
-        shown::number(self.alloc, self.set.len())
+        Ok(format!(in self.alloc; "{}", self.set.len())?)
     }
 
     fn push(&mut self, glob: Glob) -> Result<(), Error> {
         self.globs.push(glob)?;
         self.set = GlobSet::new(self.alloc, &self.globs)?;
-        self.limited = Limited::of(self.alloc, &self.globs)?;
+        self.push_limited()
+    }
+
+    /// Makes the sets of the globs under the limits that are not the default.
+    fn push_limited(&mut self) -> Result<(), Error> {
+        self.filtered = limited_set(self.alloc, &self.globs, FILTERED)?;
+        self.simulated = limited_set(self.alloc, &self.globs, SIMULATED)?;
         Ok(())
     }
 
     /// Returns whether a glob matches a path, by its matcher and by a set of it alone, each of them under each limit.
-    fn is_match(&self, columns: &mut Columns<'_>) -> Result<String> {
-        let alone = Globs::of_one(self.alloc, read(self.alloc, columns)??)?;
-        shown::copied(
-            self.alloc,
-            answer_of_one(&alone.path(columns, Asked::Path)?),
-        )
-    }
-
-    fn of_one(alloc: Global, glob: Glob) -> Result<Globs, Error> {
-        let mut globs = Globs::new(alloc);
-        globs.push(glob)?;
-        Ok(globs)
+    fn is_match(&self, columns: &mut Columns<'_>) -> Result<String, Fault> {
+        let mut alone = Globs::new(self.alloc);
+        alone.push(read(self.alloc, columns)??)?;
+        let answers = alone.path(columns, Asked::Path)?;
+        Ok(String::from_str(self.alloc, answer_of_one(answers.as_str()))?)
     }
 
     /// Returns what the set answers about a path, and the indexes of the globs whose own matchers say yes. Sets and matchers under
-    /// the other limits have to return the same.
+    /// the other limits have to return the same: otherwise this returns all three answers.
     ///
     /// About a path a set answers which indexes it returns, and whether all globs match; about a folder, whether it matches some
     /// path below it.
-    fn path(&self, columns: &mut Columns<'_>, asked: Asked) -> Result<String> {
-        self.answers(&Candidate::from_bytes(&columns.bytes(self.alloc)?), asked)
+    fn path(&self, columns: &mut Columns<'_>, asked: Asked) -> Result<String, Fault> {
+        let bytes = unescaped(self.alloc, columns.next()?)?;
+        self.answers(&Candidate::from_bytes(&bytes), asked)
     }
 
-    fn answers(&self, path: &Candidate<'_>, asked: Asked) -> Result<String> {
-        let limited = &self.limited;
+    fn answers(&self, path: &Candidate<'_>, asked: Asked) -> Result<String, Fault> {
         let first = self.answer(&self.set, None, path, asked)?;
-        let filtered = self.answer(&limited.filtered, Some(FILTERED), path, asked)?;
-        let simulated = self.answer(&limited.simulated, Some(SIMULATED), path, asked)?;
-        shown::alike(self.alloc, &first, &filtered, &simulated)
+        let filtered = self.answer(&self.filtered, Some(FILTERED), path, asked)?;
+        let simulated = self.answer(&self.simulated, Some(SIMULATED), path, asked)?;
+        if filtered == first && simulated == first {
+            return Ok(first);
+        }
+        Ok(format!(in self.alloc; "{first}\t{filtered}\t{simulated}")?)
     }
 
     /// Returns what a set and matchers under a limit answer.
@@ -182,19 +155,10 @@ impl Globs {
         limit: Option<usize>,
         path: &Candidate<'_>,
         asked: Asked,
-    ) -> Result<String> {
+    ) -> Result<String, Fault> {
         let of_set = answer_of_set(self.alloc, set, path, asked)?;
-        let of_each = self.each(limit, path, asked)?;
-        shown::pair(self.alloc, &of_set, &of_each)
-    }
-
-    fn each(
-        &self,
-        limit: Option<usize>,
-        path: &Candidate<'_>,
-        asked: Asked,
-    ) -> Result<String, Error> {
-        Ok(list(self.alloc, &self.matching(limit, path, asked)?)?)
+        let of_each = self.matching(limit, path, asked)?;
+        Ok(format!(in self.alloc; "{of_set}\t{}", Indexes(&of_each))?)
     }
 
     /// Returns the indexes of the globs whose own matchers say yes.
@@ -214,54 +178,59 @@ impl Globs {
     }
 
     /// Returns whether two globs are equal, or the errors of two texts that are no globs. Equal globs must hash equally.
-    fn equal(&self, columns: &mut Columns<'_>) -> Result<String> {
-        equal(self.alloc, &read(self.alloc, columns)?, columns)
+    fn equal(&self, columns: &mut Columns<'_>) -> Result<String, Fault> {
+        let one = read(self.alloc, columns)?;
+        let other = read(self.alloc, columns)?;
+        Ok(String::from_str(self.alloc, compared(&one, &other))?)
     }
 
     /// Returns the basename and the extension of a path.
-    fn parts(&self, columns: &mut Columns<'_>) -> Result<String> {
-        parts(
-            self.alloc,
-            &Candidate::from_bytes(&columns.bytes(self.alloc)?),
-        )
+    fn parts(&self, columns: &mut Columns<'_>) -> Result<String, Fault> {
+        let bytes = unescaped(self.alloc, columns.next()?)?;
+        let path = Candidate::from_bytes(&bytes);
+        let (basename, ext) = (Escaped(path.basename()), Escaped(path.ext()));
+        Ok(format!(in self.alloc; "{basename}\t{ext}")?)
     }
 
     /// Returns the escaped text.
-    fn escape(&self, columns: &mut Columns<'_>) -> Result<String> {
-        escaped_glob(self.alloc, columns.text(self.alloc)?.as_str())
+    fn escape(&self, columns: &mut Columns<'_>) -> Result<String, Fault> {
+        let text = unescaped_text(self.alloc, columns.next()?)?;
+        let glob = escape(self.alloc, text.as_str())?;
+        Ok(format!(in self.alloc; "{}", Escaped(glob.as_bytes()))?)
     }
 
     /// Reads a glob from a JSON text. Returns `reads`, the glob and the JSON text that is written of it; or `fails` and the
     /// error.
-    fn value(&self, columns: &mut Columns<'_>) -> Result<String> {
+    fn value(&self, columns: &mut Columns<'_>) -> Result<String, Fault> {
         match &Glob::from_value(self.alloc, &json(self.alloc, columns)?) {
-            Ok(glob) => written(self.alloc, glob),
-            Err(error) => shown::value_error(self.alloc, error),
+            Ok(glob) => written(self.alloc, glob, &glob.to_value()?),
+            Err(error) => shown_value_error(self.alloc, error),
         }
     }
 
     /// Reads a set from a JSON text, in place of the set. Returns `reads` and its length; or `fails`, the index and the error.
-    fn array(&mut self, columns: &mut Columns<'_>) -> Result<String> {
-        self.read_array(&json(self.alloc, columns)?)
-    }
-
-    fn read_array(&mut self, value: &Value) -> Result<String> {
-        match GlobSet::from_value(self.alloc, value) {
-            Ok(set) => self.replace(set, value),
-            Err(error) => shown::value_error(self.alloc, &error),
+    fn array(&mut self, columns: &mut Columns<'_>) -> Result<String, Fault> {
+        let value = json(self.alloc, columns)?;
+        match GlobSet::from_value(self.alloc, &value) {
+            Ok(set) => self.set = set,
+            Err(error) => return shown_value_error(self.alloc, &error),
         }
+        self.limit_elements(&value)?;
+        Ok(format!(in self.alloc; "reads\t{}", self.set.len())?)
     }
 
-    fn replace(&mut self, set: GlobSet, value: &Value) -> Result<String> {
+    /// Makes the sets of the globs in a JSON array under the limits that are not the default.
+    fn limit_elements(&mut self, value: &Value) -> Result<(), ValueError> {
         self.globs.clear();
-        self.set = set;
-        self.limited = Limited::of(self.alloc, &elements(self.alloc, value)?)?;
-        shown::length(self.alloc, self.set.len())
+        if let Value::Array(values) = value {
+            for value in values {
+                self.globs.push(Glob::from_value(self.alloc, value)?)?;
+            }
+        }
+        self.push_limited()?;
+        self.globs.clear();
+        Ok(())
     }
-}
-
-fn shown_copy(alloc: Global, glob: &Glob) -> Result<String> {
-    shown::glob(alloc, &glob.clone()?)
 }
 
 /// Returns `yes` or `no` in place of the columns that a set of one glob answers, or these columns where its matcher differs.
@@ -273,31 +242,25 @@ fn answer_of_one(columns: &str) -> &str {
     }
 }
 
-/// Returns what a set answers about a path.
+/// Returns what a set answers about a path: the indexes that it returns, and whether all globs match it; or of a folder whether it
+/// matches some path below it.
 fn answer_of_set(
     alloc: Global,
     set: &GlobSet,
     path: &Candidate<'_>,
     asked: Asked,
-) -> Result<String> {
-    match asked {
-        Asked::Path => indexes_and_all(alloc, set, path),
-        Asked::Below => shown::copied(alloc, yes_or_no(set.can_match_below_candidate(path)?)),
+) -> Result<String, Fault> {
+    if let Asked::Below = asked {
+        let below = yes_or_no(set.can_match_below_candidate(path)?);
+        return Ok(String::from_str(alloc, below)?);
     }
-}
-
-/// Returns the indexes that a set returns for a path, and whether all globs match it.
-fn indexes_and_all(alloc: Global, set: &GlobSet, path: &Candidate<'_>) -> Result<String> {
     let some = set.is_match_candidate(path)?;
-    let all = set.matches_all_candidate(path)?;
-    shown_answer(alloc, some, all, &set.matches_candidate(alloc, path)?)
-}
-
-fn shown_answer(alloc: Global, some: bool, all: bool, indexes: &[usize]) -> Result<String> {
+    let all = yes_or_no(set.matches_all_candidate(path)?);
+    let indexes = set.matches_candidate(alloc, path)?;
     if some == indexes.is_empty() {
-        return shown::copied(alloc, "is_match and matches differ");
+        return Ok(String::from_str(alloc, "is_match and matches differ")?);
     }
-    shown::pair(alloc, &list(alloc, indexes)?, yes_or_no(all))
+    Ok(format!(in alloc; "{}\t{all}", Indexes(&indexes))?)
 }
 
 /// Returns what a matcher of a glob under the default limit or another says about a path.
@@ -334,22 +297,7 @@ fn limited_set(alloc: Global, globs: &[Glob], limit: usize) -> Result<GlobSet, E
     builder.build()
 }
 
-/// Returns the globs in a JSON array.
-fn elements(alloc: Global, value: &Value) -> Result<Vec<Glob>, ValueError> {
-    let mut globs = Vec::new(alloc);
-    if let Value::Array(values) = value {
-        for value in values {
-            globs.push(Glob::from_value(alloc, value)?)?;
-        }
-    }
-    Ok(globs)
-}
-
-/// Returns whether the glob of the next columns, or its error, is equal to this one.
-fn equal(alloc: Global, one: &Result<Glob, Error>, columns: &mut Columns<'_>) -> Result<String> {
-    shown::copied(alloc, compared(one, &read(alloc, columns)?))
-}
-
+/// Returns whether two globs, or their errors, are equal.
 fn compared(one: &Result<Glob, Error>, other: &Result<Glob, Error>) -> &'static str {
     match (one, other) {
         (Ok(one), Ok(other)) if one == other && hash_of(one) != hash_of(other) => {
@@ -361,45 +309,50 @@ fn compared(one: &Result<Glob, Error>, other: &Result<Glob, Error>) -> &'static 
     }
 }
 
-fn parts(alloc: Global, path: &Candidate<'_>) -> Result<String> {
-    shown::pair(
-        alloc,
-        &escaped(alloc, path.basename())?,
-        &escaped(alloc, path.ext())?,
-    )
+fn hash_of(glob: &Glob) -> u64 {
+    let mut state = DefaultHasher::new();
+    glob.hash(&mut state);
+    state.finish()
 }
 
-fn escaped_glob(alloc: Global, text: &str) -> Result<String> {
-    Ok(escaped(alloc, escape(alloc, text)?.as_bytes())?)
+/// Returns `reads`, and the text of `regex()`.
+fn shown(alloc: Global, glob: &Glob) -> Result<String, Fault> {
+    Ok(format!(in alloc; "reads\t{}", Escaped(glob.regex().as_bytes()))?)
 }
 
-/// Returns `reads`, the glob and the JSON text that is written of it.
-fn written(alloc: Global, glob: &Glob) -> Result<String> {
-    written_as(alloc, glob, &glob.to_value()?)
+/// Returns `fails`, the kind and the text.
+fn shown_error(alloc: Global, error: &Error) -> Result<String, Fault> {
+    let kind = format!(in alloc; "{:?}", error.kind())?;
+    let text = format!(in alloc; "{error}")?;
+    let (kind, text) = (Escaped(kind.as_bytes()), Escaped(text.as_bytes()));
+    Ok(format!(in alloc; "fails\t{kind}\t{text}")?)
 }
 
-fn written_as(alloc: Global, glob: &Glob, value: &Value) -> Result<String> {
-    if !is_read_back(alloc, glob, value)? {
-        return shown::copied(alloc, "another glob is read back");
+/// Returns `fails`, the index or `-`, and the text.
+fn shown_value_error(alloc: Global, error: &ValueError) -> Result<String, Fault> {
+    let text = format!(in alloc; "{error}")?;
+    let text = Escaped(text.as_bytes());
+    match error.index() {
+        Some(index) => Ok(format!(in alloc; "fails\t{index}\t{text}")?),
+        None => Ok(format!(in alloc; "fails\t-\t{text}")?),
     }
-    let written = escaped(alloc, value.to_string(alloc)?.as_bytes())?;
-    shown::columns(
-        alloc,
-        "reads",
-        &escaped(alloc, glob.glob().as_bytes())?,
-        &written,
-    )
 }
 
-fn is_read_back(alloc: Global, glob: &Glob, value: &Value) -> Result<bool, ValueError> {
-    Ok(Glob::from_value(alloc, value)? == *glob)
+/// Returns `reads`, the glob and the JSON text that was written of it, if the glob is read back from this.
+fn written(alloc: Global, glob: &Glob, value: &Value) -> Result<String, Fault> {
+    if Glob::from_value(alloc, value)? != *glob {
+        return Ok(String::from_str(alloc, "another glob is read back")?);
+    }
+    let text = value.to_string(alloc)?;
+    let (glob, text) = (Escaped(glob.glob().as_bytes()), Escaped(text.as_bytes()));
+    Ok(format!(in alloc; "reads\t{glob}\t{text}")?)
 }
 
 /// Returns the JSON value of the next column.
-fn json(alloc: Global, columns: &mut Columns<'_>) -> Result<Value, RowError> {
-    match Value::from_str(alloc, columns.text(alloc)?.as_str()) {
+fn json(alloc: Global, columns: &mut Columns<'_>) -> Result<Value, Fault> {
+    match Value::from_str(alloc, unescaped_text(alloc, columns.next()?)?.as_str()) {
         Ok(value) => Ok(value),
-        Err(_) => Err(RowError::NotJson),
+        Err(_) => Err(Fault::Row("a column is not JSON")),
     }
 }
 
@@ -408,13 +361,22 @@ fn json(alloc: Global, columns: &mut Columns<'_>) -> Result<Value, RowError> {
 /// The options are the letters of those that differ from the default, or `-`: `i` is `case_insensitive`, `s`
 /// `literal_separator`, `e` `empty_alternates`, `u` `allow_unclosed_class`, `w` `whole_character`, and `b` turns
 /// `backslash_escape` off.
-fn read(alloc: Global, columns: &mut Columns<'_>) -> Result<Result<Glob, Error>, RowError> {
+fn read(alloc: Global, columns: &mut Columns<'_>) -> Result<Result<Glob, Error>, Fault> {
     let options = columns.next()?;
-    let text = columns.text(alloc)?;
     if !are_options(options) {
-        return Err(RowError::UnknownOption);
+        return Err(Fault::Row("an option is unknown"));
     }
-    Ok(read_with(alloc, options, text.as_str()))
+    let text = unescaped_text(alloc, columns.next()?)?;
+    Ok(
+        GlobBuilder::new(text.as_str())
+            .case_insensitive(options.contains('i'))
+            .literal_separator(options.contains('s'))
+            .empty_alternates(options.contains('e'))
+            .allow_unclosed_class(options.contains('u'))
+            .whole_character(options.contains('w'))
+            .backslash_escape(!options.contains('b'))
+            .build(alloc),
+    )
 }
 
 fn are_options(options: &str) -> bool {
@@ -427,21 +389,4 @@ fn are_options(options: &str) -> bool {
         }
     }
     !options.is_empty()
-}
-
-fn read_with(alloc: Global, options: &str, text: &str) -> Result<Glob, Error> {
-    GlobBuilder::new(text)
-        .case_insensitive(options.contains('i'))
-        .literal_separator(options.contains('s'))
-        .empty_alternates(options.contains('e'))
-        .allow_unclosed_class(options.contains('u'))
-        .whole_character(options.contains('w'))
-        .backslash_escape(!options.contains('b'))
-        .build(alloc)
-}
-
-fn hash_of(glob: &Glob) -> u64 {
-    let mut state = DefaultHasher::new();
-    glob.hash(&mut state);
-    state.finish()
 }

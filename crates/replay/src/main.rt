@@ -1,17 +1,22 @@
-//! Replays stored rows about globs, paths, folders, sets and JSON values: each says what a call of the crate globset returns.
+//! Replays stored rows about globs, paths, folders, sets and JSON values: each says what a call of the crate globset returns, as
+//! text that a person can write and read.
 //!
-//! The command-line arguments name files of rows; `rows` says how they are written, and the comments at the head of each
-//! file describe its rows.
+//! A row is a line whose columns are separated by tabs. The first is its kind, the next ones are what the call is made with,
+//! and the last ones are what it should return. An empty line ends a case, and a line that begins with `#` is a comment. The
+//! command-line arguments name files of rows, and the comments at the head of each file describe its rows.
 #![tactic(auto)]
 
 mod case;
-mod shown;
+mod column;
+mod fault;
+mod files;
+mod report;
+mod row;
 
-use anyhow::Result;
-use case::Globs;
-use rows::replay_files;
+use files::replay_files;
+use std::io;
 use std::process::ExitCode;
 
-fn main(rt: HostRuntime) -> Result<ExitCode> {
-    replay_files::<Globs>(&rt)
+fn main(rt: HostRuntime) -> io::Result<ExitCode> {
+    replay_files(&rt)
 }

@@ -2,9 +2,10 @@
 
 ghost use Rattle.std.specs.Prelude.{◌≡◌, ◌+◌, ◌<◌, ◌≤◌, ◌^◌, ◌++◌, ◌∷◌, [], ℕ, length, IfOk, OnOk, MatchOption, cond};
 ghost use Rattle.std.specs.List.{All, count_by};
-ghost use Rattle.rows.specs.Rows.{is_row};
+ghost use Rattle.replay.specs.Rows.{is_row};
 
-use crate::case::{self, Case};
+use crate::case::Globs;
+use crate::row;
 use std::alloc::{AllocError, Global};
 
 /// The index of a line whose row failed, and what was returned instead.
@@ -22,17 +23,17 @@ pub struct Report {
 }
 
 /// Replays the rows of a file: the lines that are neither empty nor a comment. An empty line ends a case.
-pub fn replay<C: Case>(alloc: Global, lines: &[&str]) -> Result<Report, AllocError>
+pub fn replay(alloc: Global, lines: &[&str]) -> Result<Report, AllocError>
     ensures rows { IfOk result (λ r. r.passed + length r.failures.items ≡ count_by (λ line. is_row line.now) lines.now) }
     ensures failures { IfOk result (λ r. All (λ f. f.index < length lines.now) r.failures.items) }
 {
-    let mut case = C::new(alloc);
+    let mut globs = Globs::new(alloc);
     let mut report = Report {
         passed: 0,
         failures: Vec::new(alloc),
     };
     for (index, line) in lines.iter().enumerate() {
-        report.replay_line(alloc, &mut case, index, line)?;
+        report.replay_line(alloc, &mut globs, index, line)?;
     }
     Ok(report)
 }
@@ -49,10 +50,10 @@ fn is_row(line: &str) -> bool
 
 impl Report {
     /// Replays a line, if it is a row, and adds what was returned. An empty line ends a case.
-    fn replay_line<C: Case>(
+    fn replay_line(
         &mut self,
         alloc: Global,
-        case: &mut C,
+        globs: &mut Globs,
         index: usize,
         line: &str,
     ) -> Result<(), AllocError>
@@ -63,13 +64,12 @@ impl Report {
         ensures failures { OnOk result ((n : ℕ) → index < n → All (λ f. f.index < n) self.old.failures.items → All (λ f. f.index < n) self.new.failures.items) }
     {
         if line.is_empty() {
-            *case = C::new(alloc);
+            *globs = Globs::new(alloc);
         }
         if !is_row(line) {
             return Ok(());
         }
-        let returned = case::replay(alloc, case, line)?;
-        self.add(index, returned)
+        self.add(index, row::replay(alloc, globs, line)?)
     }
 
     /// Adds the row of this line: it passed if nothing else was returned.

@@ -2,8 +2,8 @@ use Rattle.std.proofs.Common.{◌≡◌, ℕ, ◌+◌, ◌<◌, Bool, true, fals
 use Rattle.std.specs.List.{count_by}
 use Rattle.std.proofs.lemmas.List.{take_all}
 use Rattle.std.proofs.lemmas.List.Sums.{count_by_more_yes, count_by_more_no}
-use Rattle.rows.specs.Rows.{is_row}
-use Rattle.rows.proofs.report.replay.Goals as goal
+use Rattle.replay.specs.Rows.{is_row}
+use Rattle.replay.proofs.report.replay.Goals as goal
 
 counted_more : {X : Type 0} (p : X → Bool) (xs : List X) (i : ℕ) (d : X) → i < length xs → count_by p (take (i + 1) xs) ≡ count_by p (take i xs) + cond (p (get_or xs i d)) 1 0
 counted_more p xs i d lt = by_test (p (get_or xs i d)) refl
@@ -18,20 +18,20 @@ counted : (lines : List (Bor (List ℕ))) (i : ℕ) (line : Bor (List ℕ)) (bef
 counted lines i line before after lt is more = more ∙ ap (λ n. n + cond (is_row (get_or lines i line).now) 1 0) is ∙ sym (counted_more (λ l. is_row l.now) lines i line lt)
 
 pub loop-index-init : goal.loop-index-init
-loop-index-init g c = record {
+loop-index-init c = record {
   rows = omega (arith, ap length c.new.ensures.items);
   passed = omega arith;
   failures = rw c.new.ensures.items (λ k d lt. absurd (omega (arith, lt)));
 }
 
 pub replay_line-requires : goal.replay_line-requires
-replay_line-requires g c = record {
+replay_line-requires c = record {
   passed = c.loop-index.invariant.passed;
   index = omega arith;
 }
 
 pub loop-index-preserved : goal.loop-index-preserved
-loop-index-preserved g c =
+loop-index-preserved c =
     let lines = c.args.lines.now in
     let none : Bor (List ℕ) = record { ref_ptr = (0, 0); now = [] } in
     let before = c.loop-index.report.passed + length c.loop-index.report.failures.items in
@@ -43,7 +43,7 @@ loop-index-preserved g c =
     }
 
 pub returns : goal.returns
-returns g c =
+returns c =
     let lines = c.args.lines.now in
     record {
       rows = c.loop-index.invariant.rows ∙ ap (λ xs. count_by (λ line. is_row line.now) xs) (take_all c.loop-index.index lines c.loop-index-test.false);

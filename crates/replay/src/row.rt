@@ -1,0 +1,76 @@
+//! Whether a row passes.
+
+ghost use Rattle.std.specs.Prelude.{◌≡◌, ◌↔◌, IsNone, IfSome, string_bytes};
+
+use crate::case::Globs;
+use crate::column::Columns;
+use crate::fault::Fault;
+use std::alloc::{AllocError, Global};
+
+/// Replays a row. Returns what was returned in place of what the row says, or `None` where it is the same.
+pub fn replay(alloc: Global, globs: &mut Globs, row: &str) -> Result<Option<String>, AllocError> {
+    match compared(alloc, globs, row) {
+        Ok(other) => Ok(other),
+        Err(fault) => Ok(Some(format!(in alloc; "{fault}")?)),
+    }
+}
+
+fn compared(alloc: Global, globs: &mut Globs, row: &str) -> Result<Option<String>, Fault> {
+    let row = expanded(alloc, row)?;
+    let mut columns = Columns {
+        rest: Some(row.as_str()),
+    };
+    let returned = globs.returned(&mut columns)?;
+    match columns.rest {
+        Some(want) => Ok(unless_equal(returned, want)),
+        None => Err(Fault::Row("a column is missing")),
+    }
+}
+
+/// Returns what was returned, or `None` if it is what should be returned.
+fn unless_equal(returned: String, want: &str) -> Option<String>
+    ensures same { IsNone result ↔ (string_bytes returned ≡ want.now) }
+    ensures other { IfSome result (λ text. text ≡ returned) }
+{
+    if returned.as_str() == want {
+        None
+    } else {
+        Some(returned)
+    }
+}
+
+/// Returns the row. Where its first column is `repeat`, returns the columns after it, with each `«COUNT TEXT»` in them replaced
+/// by as many copies of TEXT.
+fn expanded(alloc: Global, row: &str) -> Result<String, Fault> {
+    let mut out = String::new(alloc);
+    let Some(short) = row.strip_prefix("repeat\t") else {
+        out.push_str(row)?;
+        return Ok(out);
+    };
+    let mut pieces = short.split('«');
+    out.push_str(pieces.next().unwrap_or(""))?;
+    for piece in pieces {
+        if !push_piece(&mut out, piece)? {
+            return Err(Fault::Row("a repetition is not of the form «COUNT TEXT»"));
+        }
+    }
+    Ok(out)
+}
+
+/// Pushes the copies and the text of `COUNT TEXT»AFTER`, or returns false if a piece is not written like this.
+fn push_piece(out: &mut String, piece: &str) -> Result<bool, AllocError> {
+    let Some((repetition, after)) = piece.split_once('»') else {
+        return Ok(false);
+    };
+    let Some((count, text)) = repetition.split_once(' ') else {
+        return Ok(false);
+    };
+    let Ok(count) = count.parse::<usize>() else {
+        return Ok(false);
+    };
+    for _ in 0..count {
+        out.push_str(text)?;
+    }
+    out.push_str(after)?;
+    Ok(true)
+}
