@@ -40,7 +40,7 @@
 //! assert_eq!(rt; stack.decide(b"b", false)?, Decision::Ignored);
 //! assert_eq!(rt; stack.decide(b"c/b", false)?, Decision::Undecided);
 //!
-//! // Many folders are asked at once, and answer the same.
+//! // The folders above a path count, too.
 //! let deep = b"a/a/a/a/a/a/a/a/k/a/a/a/a/a/a/a/a/m/f";
 //! assert_eq!(rt; stack.decide(deep, false)?, Decision::Ignored);
 //! assert_eq!(rt; stack.decide(b"b/a/a/a/a/a/a/a/a/a/a/a/a/a/a/a/a/a/f", false)?, Decision::Ignored);
