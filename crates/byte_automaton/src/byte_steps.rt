@@ -127,6 +127,7 @@ impl Automaton {
         ensures room { step_room into.new ≡ step_room into.old }
         ensures steps { OnOk result (AreStepsOf self.now from.old into.new) }
         ensures visits { visits.new ≤ visits.old + size self.now }
+        ensures counted { visits.old ≤ visits.new }
     {
         into.clear();
         let mut upto = self.state_count();

@@ -164,6 +164,7 @@ impl Compiled {
         ensures kept { sets_room sets.old ≤ sets_room sets.new }
         ensures memory { size self.now ≤ sets_room sets.old → IsOk result }
         ensures visits { visits.new ≤ visits.old + (length text.now + 1) * most_reads self.now }
+        ensures counted { visits.old ≤ visits.new }
     {
         match &self.form {
             Form::Whole(automaton) => simulation::find(automaton, text, sets, found, visits),
@@ -187,6 +188,7 @@ impl Compiled {
         ensures kept { sets_room sets.old ≤ sets_room sets.new }
         ensures memory { size self.now ≤ sets_room sets.old → IsOk result }
         ensures visits { visits.new ≤ visits.old + (length text.now + 1) * most_reads self.now }
+        ensures counted { visits.old ≤ visits.new }
     {
         match &self.form {
             Form::Whole(automaton) => simulation::is_match(automaton, text, sets, visits),
@@ -213,6 +215,7 @@ impl Compiled {
         ensures kept { sets_room sets.old ≤ sets_room sets.new }
         ensures memory { size self.now ≤ sets_room sets.old → IsOk result }
         ensures visits { visits.new ≤ visits.old + (length text.now + 2) * size self.now }
+        ensures counted { visits.old ≤ visits.new }
     {
         match &self.form {
             Form::Whole(automaton) => {

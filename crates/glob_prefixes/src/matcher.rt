@@ -76,6 +76,7 @@ impl PrefixMatcher {
         ensures after { (text : List ℕ) → IsAfter self.now states.old text → IsAfter self.now states.new (text ++ byte ∷ []) }
         ensures fits { FitAsBefore states.old states.new }
         ensures visits { visits.new ≤ visits.old + prefix_states self.now }
+        ensures counted { visits.old ≤ visits.new }
     {
         self.automaton
             .step(&mut states.current, byte, &mut states.next, visits);
@@ -88,6 +89,7 @@ impl PrefixMatcher {
         ensures after { (text : List ℕ) → IsAfter self.now states.old text → IsAfter self.now states.new (text ++ bytes.now) }
         ensures fits { FitAsBefore states.old states.new }
         ensures visits { visits.new ≤ visits.old + length bytes.now * prefix_states self.now }
+        ensures counted { visits.old ≤ visits.new }
     {
         for byte in bytes {
             self.push(*byte, states, visits);
@@ -104,6 +106,7 @@ impl PrefixMatcher {
         ensures after { (text : List ℕ) → IsAfter self.now states.old text → IsAfter self.now states.new text }
         ensures fits { FitAsBefore states.old states.new }
         ensures visits { visits.new ≤ visits.old + prefix_states self.now }
+        ensures counted { visits.old ≤ visits.new }
     {
         self.mark(states, visits);
         states.matching.clear();
@@ -118,6 +121,7 @@ impl PrefixMatcher {
         ensures matching { states.new.matching ≡ states.old.matching }
         ensures fits { FitAsBefore states.old states.new }
         ensures visits { visits.new ≤ visits.old + prefix_states self.now }
+        ensures counted { visits.old ≤ visits.new }
     {
         // To look for ends changes the set that is looked into.
         states.asked.copy_from(&states.current);

@@ -143,6 +143,7 @@ impl Automaton {
         ensures steps { (y : List ℕ) (k : ℕ) → AcceptsBelow self.now high from.old (byte ∷ y) k ↔ AcceptsFrom self.now to.new y k }
         ensures some { IsTrue result ↔ HasSome self.now to.new }
         ensures visits { visits.new + low ≤ visits.old + high }
+        ensures counted { visits.old ≤ visits.new }
     {
         to.clear();
         let mut some = false;
@@ -175,6 +176,7 @@ impl Automaton {
         ensures to_room { state_room to.new ≡ state_room to.old }
         ensures taken { Takes self.now.states byte upto (has_state from.old) (has_state to.old) (has_state from.new) (has_state to.new) result.upto result.some }
         ensures visits { visits.new ≤ visits.old + 1 }
+        ensures counted { visits.old ≤ visits.new }
     {
         let end = from.end_below(upto);
         if end == 0 {

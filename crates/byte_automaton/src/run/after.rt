@@ -26,6 +26,7 @@ impl Automaton {
         ensures room { sets_room sets.new ≡ sets_room sets.old }
         ensures some { IsTrue result ↔ MatchesAfter self.now (text.now ++ byte ∷ []) }
         ensures visits { visits.new ≤ visits.old + (length text.now + 2) * size self.now }
+        ensures counted { visits.old ≤ visits.new }
     {
         self.start(&mut sets.current);
         for read in text {

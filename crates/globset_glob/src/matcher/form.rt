@@ -58,6 +58,7 @@ impl Form {
     ) -> Result<bool, AllocError>
         ensures some { IfOk result (λ yes. (g : GlobValue) → IsFormOf g self.now → yes ≡ glob_means g path.now) }
         ensures visits { (g : GlobValue) → IsFormOf g self.now → visits.new ≤ visits.old + most_visits g path.now }
+        ensures counted { visits.old ≤ visits.new }
     {
         match self {
             Form::Key(key) => {
@@ -83,6 +84,7 @@ impl Form {
         ensures some { (g : GlobValue) → IsFormOf g self.now → result ≡ glob_means g path.now }
         ensures kept { scratch.new ≡ scratch.old }
         ensures visits { (g : GlobValue) → IsFormOf g self.now → visits.new ≤ visits.old + most_visits g path.now }
+        ensures counted { visits.old ≤ visits.new }
     {
         match self {
             Form::Key(key) => {
@@ -102,6 +104,7 @@ impl Form {
     ) -> Result<bool, AllocError>
         ensures some { IfOk result (λ yes. (g : GlobValue) → IsFormOf g self.now → IsTrue yes ↔ GlobMeansBelow g folder.now) }
         ensures visits { (g : GlobValue) → IsFormOf g self.now → visits.new ≤ visits.old + most_visits_below g folder.now }
+        ensures counted { visits.old ≤ visits.new }
     {
         match self {
             Form::Key(key) => {

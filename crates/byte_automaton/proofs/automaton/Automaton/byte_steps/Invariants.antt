@@ -15,6 +15,7 @@ invariant-loop-upto l =
       into_room : step_room l.into ≡ step_room l.fn.into;
       holds : (b : ℕ) → b < 256 → (y : List ℕ) (k : ℕ) → Alive a (has_state l.fn.from) n (b ∷ y) k ↔ Holds a (has_state l.from) l.upto (leads_to l.into b) (λ _. false) (b ∷ y) k;
       visits : l.visits + l.upto ≤ l.fn.visits + n;
+      counted : l.fn.visits ≤ l.visits;
     }
 
 abbrev pub decreases-loop-upto : goal.decreases-loop-upto

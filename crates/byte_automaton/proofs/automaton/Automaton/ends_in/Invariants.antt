@@ -15,6 +15,7 @@ invariant-loop-upto l =
       into_room : index_room l.into ≡ index_room l.fn.into;
       holds : (k : ℕ) → (Alive a (has_state l.fn.from) l.high [] k ⊎ IsTrue (has_index l.fn.into k)) ↔ Holds a (has_state l.from) l.upto (λ _. false) (has_index l.into) [] k;
       visits : l.visits + l.upto ≤ l.fn.visits + l.high;
+      counted : l.fn.visits ≤ l.visits;
       least_visits : l.visits + l.low ≤ l.fn.visits + l.high;
     }
 

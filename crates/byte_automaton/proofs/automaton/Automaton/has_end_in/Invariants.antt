@@ -13,6 +13,7 @@ invariant-loop-upto l =
       room : state_room l.from ≡ state_room l.fn.from;
       holds : (k : ℕ) → Alive a (has_state l.fn.from) l.high [] k ↔ Holds a (has_state l.from) l.upto (λ _. false) (λ _. false) [] k;
       visits : l.visits + l.upto ≤ l.fn.visits + l.high;
+      counted : l.fn.visits ≤ l.visits;
       least_visits : l.visits + l.low ≤ l.fn.visits + l.high;
     }
 

@@ -9,6 +9,7 @@ invariant-loop-upto l =
       within : l.upto ≤ n;
       none : (t : ℕ) → l.upto ≤ t → t < n → IsTrue (has_state l.from t) → has_state l.live t ≡ false;
       visits : l.visits + l.upto ≤ l.fn.visits + n;
+      counted : l.fn.visits ≤ l.visits;
     }
 
 abbrev pub decreases-loop-upto : goal.decreases-loop-upto
