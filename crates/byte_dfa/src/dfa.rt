@@ -1,18 +1,18 @@
 //! A deterministic automaton.
 
 ghost use Rattle.std.specs.Prelude.{◌≡◌, ℕ, ◌+◌, ◌≤◌, ◌⊎◌, ◌↔◌, ◌<◌, ◌^◌, ◌++◌, ◌∷◌, [], length, slice_index, IsTrue, IfOk, IfSome};
-ghost use Rattle.bit_sets.specs.Indexes.{has_index, index_room};
-ghost use Rattle.byte_automaton.specs.Live.{MatchesAfter};
-ghost use Rattle.byte_automaton.specs.Steps.{IsReached};
+ghost use Rattle.bit_sets.specs.Indexes.{has_index, index_capacity};
+ghost use Rattle.byte_nfa.specs.Live.{MatchesAfter};
+ghost use Rattle.byte_nfa.specs.Steps.{IsReached};
 ghost use Rattle.byte_dfa.specs.DfaValue.{DfaValue};
 ghost use Rattle.byte_dfa.specs.inner.Tables.{table_of, IsTableOf};
 
 use crate::classes::ByteClasses;
-use crate::construction::{Construction, SPECIAL};
+use crate::determinizer::{Determinizer, SPECIAL};
 use crate::lists::{has_some, put_listed};
 use crate::source::Source;
 use bit_sets::{ByteSet, IndexSet};
-use byte_automaton::Automaton;
+use byte_nfa::Nfa;
 use std::alloc::{AllocError, Global};
 use std::marker::Model;
 use std::mem;
@@ -91,25 +91,25 @@ impl Dfa {
     /// if memory runs out.
     pub fn new(
         alloc: Global,
-        automaton: &Automaton,
+        automaton: &Nfa,
         budget: usize,
     ) -> Result<Option<Dfa>, AllocError>
         ensures source { IfOk result (λ made. IfSome made (λ dfa. dfa.source ≡ automaton.now)) }
         ensures size { IfOk result (λ made. IfSome made (λ dfa. dfa.size ≤ budget)) }
     {
         let last_bytes = automaton.last_bytes()?;
-        let Some(decided) = automaton.with_decisions()? else {
+        let Some(early_match) = automaton.with_early_matches()? else {
             return Ok(None);
         };
         let Some(room) = budget.min(SPECIAL).checked_sub(1) else {
             return Ok(None);
         };
-        let classes = ByteClasses::new(&decided);
-        let complete = Construction::complete(alloc, &decided, &classes, room)?;
+        let classes = ByteClasses::new(&early_match);
+        let complete = Determinizer::complete(alloc, &early_match, &classes, room)?;
         let Some((built, start)) = complete else {
             return Ok(None);
         };
-        let live = built.live_rows(alloc, &decided)?;
+        let live = built.live_rows(alloc, &early_match)?;
         let (table, lists) = built.into_parts();
         Ok(Some(Dfa {
             class_of: classes.class_of,
@@ -150,12 +150,12 @@ impl Dfa {
     /// indexes are found, and at the end of the text. It is at most one visit for each byte, and one for the end. It takes no
     /// memory. If no text with the last byte leads to an end, it is no visit.
     pub fn find(&self, text: &[u8], into: &mut IndexSet, visits: &mut Visits)
-        requires { self.now.source.index_count ≤ index_room into.old }
-        ensures room { index_room into.new ≡ index_room into.old }
+        requires { self.now.source.index_count ≤ index_capacity into.old }
+        ensures room { index_capacity into.new ≡ index_capacity into.old }
         ensures found { (k : ℕ) → IsTrue (has_index into.new k) ↔ (IsReached self.now.source text.now k ⊎ IsTrue (has_index into.old k)) }
         ensures visits { visits.new ≤ visits.old + (length text.now + 1) }
     {
-        if self.is_excluded(text) {
+        if self.rejects_last_byte(text) {
             return;
         }
         let table = self.table.as_slice();
@@ -189,7 +189,7 @@ impl Dfa {
         ensures some { IsTrue result ↔ ((k : ℕ) × IsReached self.now.source text.now k) }
         ensures visits { visits.new ≤ visits.old + (length text.now + 1) }
     {
-        if self.is_excluded(text) {
+        if self.rejects_last_byte(text) {
             return false;
         }
         let table = self.table.as_slice();
@@ -243,7 +243,7 @@ impl Dfa {
     }
 
     /// Returns whether the last byte of a text shows that it leads to no end.
-    fn is_excluded(&self, text: &[u8]) -> bool
+    fn rejects_last_byte(&self, text: &[u8]) -> bool
         ensures { IsTrue result → (k : ℕ) → IsReached self.now.source text.now k → ⊥ }
     {
         match text.split_last() {

@@ -5,12 +5,12 @@
 #![tactic(auto)]
 
 pub mod laws;
-mod side;
+mod anchor;
 mod text;
 mod tree;
 mod trie;
 mod walk;
 
-pub use side::Side;
+pub use anchor::Anchor;
 pub use text::Text;
 pub use trie::Trie;

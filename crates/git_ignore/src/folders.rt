@@ -1,7 +1,7 @@
 //! What the rules of a file say of all folders above a path, in one pass over it.
 
 ghost use Rattle.std.specs.Prelude.{◌≡◌, ℕ, List, OnOk, OnErr};
-ghost use Rattle.globset.specs.Means.{GlobValue};
+ghost use Rattle.globset.specs.GlobMatches.{GlobValue};
 ghost use Rattle.glob_prefixes.specs.Prefixes.{FitsPrefixes, IsAfter, IsPrefixMatcherOf};
 ghost use Rattle.git_ignore.specs.FolderDecisions.{ArePut};
 ghost use Rattle.git_ignore.specs.inner.FolderParts.{put_at, said_of_folder};

@@ -4,7 +4,7 @@ ghost use Rattle.std.specs.Prelude.{◌≡◌, ◌<◌, ◌++◌, ◌∷◌, [],
 ghost use Rattle.globset.specs.Errors.{out_of_memory};
 ghost use Rattle.globset.specs.SetValue.{set_globs};
 ghost use Rattle.glob_prefixes.specs.Prefixes.{IsPrefixMatcherOf};
-ghost use Rattle.ignore_pattern.specs.Lines.{lines_of, without_mark};
+ghost use Rattle.ignore_pattern.specs.Lines.{lines_of, without_lexeme};
 ghost use Rattle.ignore_pattern.specs.Patterns.{pattern_of_line};
 ghost use Rattle.git_ignore.specs.Rules.{Rule, rules_from};
 ghost use Rattle.git_ignore.specs.inner.Entries.{AreEntriesOf, rule_at};
@@ -150,7 +150,7 @@ pub fn set_of(alloc: Global, globs: Vec<Glob>) -> Result<GlobSet, Error>
 
 /// Returns the bytes of a file without a byte order mark at their start.
 pub fn after_mark(bytes: &[u8]) -> &[u8]
-    ensures { result.now ≡ without_mark bytes.now }
+    ensures { result.now ≡ without_lexeme bytes.now }
 {
     match bytes.strip_prefix(BYTE_ORDER_MARK) {
         Some(rest) => rest,

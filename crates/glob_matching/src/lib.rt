@@ -7,7 +7,7 @@
 
 mod budget;
 mod compiled;
-mod division;
+mod partition;
 mod filtered;
 mod parts;
 mod simulation;

@@ -1,17 +1,17 @@
 //! The parts of an automaton, which together find what it finds.
 
 ghost use Rattle.std.specs.Prelude.{◌≡◌, ◌+◌, ◌*◌, ◌≤◌, ◌↔◌, ◌⊎◌, ℕ, length, IsTrue, IsOk, OnOk, IfOk};
-ghost use Rattle.byte_automaton.specs.Runs.{size};
-ghost use Rattle.bit_sets.specs.Indexes.{has_index, index_room};
-ghost use Rattle.byte_automaton.specs.Sets.{sets_room};
-ghost use Rattle.byte_automaton.specs.Steps.{IsReached};
+ghost use Rattle.byte_nfa.specs.Runs.{size};
+ghost use Rattle.bit_sets.specs.Indexes.{has_index, index_capacity};
+ghost use Rattle.byte_nfa.specs.Sets.{sets_capacity};
+ghost use Rattle.byte_nfa.specs.Steps.{IsReached};
 ghost use Rattle.glob_matching.specs.inner.Parts.{sources, total, ArePartsOf, AreCounted, SomeReached};
 
 mod after;
 
 use crate::simulation;
 use bit_sets::IndexSet;
-use byte_automaton::{Automaton, StateSets};
+use byte_nfa::{Nfa, StateSets};
 use byte_dfa::{Dfa, Source};
 use std::alloc::AllocError;
 use std::marker::Model;
@@ -21,7 +21,7 @@ use visits::Visits;
 /// automaton, which is not kept.
 pub struct Parts {
     tables: Vec<Dfa>,
-    automata: Vec<Automaton>,
+    automata: Vec<Nfa>,
     state_count: usize,
     source: Source,
 }
@@ -39,7 +39,7 @@ impl Drop for Parts {
 }
 
 impl Model for Parts {
-    ghost use Rattle.byte_automaton.specs.Steps.{Machine};
+    ghost use Rattle.byte_nfa.specs.Steps.{Machine};
     ghost use Rattle.glob_matching.specs.inner.Parts.{ArePartsOf};
 
     ghost Value = { Machine };
@@ -69,7 +69,7 @@ impl Clone for Parts {
 
 impl Parts {
     /// Returns the parts of an automaton.
-    pub fn of(automaton: &Automaton, tables: Vec<Dfa>, automata: Vec<Automaton>) -> Parts
+    pub fn of(automaton: &Nfa, tables: Vec<Dfa>, automata: Vec<Nfa>) -> Parts
         requires { ArePartsOf automaton.now (size automaton.now) tables.items automata.items }
         ensures { result ≡ automaton.now }
     {
@@ -108,11 +108,11 @@ impl Parts {
         found: &mut IndexSet,
         visits: &mut Visits,
     ) -> Result<(), AllocError>
-        requires { self.now.index_count ≤ index_room found.old }
-        ensures room { index_room found.new ≡ index_room found.old }
+        requires { self.now.index_count ≤ index_capacity found.old }
+        ensures room { index_capacity found.new ≡ index_capacity found.old }
         ensures found { OnOk result ((k : ℕ) → IsTrue (has_index found.new k) ↔ (IsReached self.now text.now k ⊎ IsTrue (has_index found.old k))) }
-        ensures kept { sets_room sets.old ≤ sets_room sets.new }
-        ensures memory { size self.now ≤ sets_room sets.old → IsOk result }
+        ensures kept { sets_capacity sets.old ≤ sets_capacity sets.new }
+        ensures memory { size self.now ≤ sets_capacity sets.old → IsOk result }
         ensures visits { visits.new ≤ visits.old + (length text.now + 1) * size self.now }
     {
         find_by_tables(&self.tables, text, found, visits);
@@ -130,8 +130,8 @@ impl Parts {
         visits: &mut Visits,
     ) -> Result<bool, AllocError>
         ensures some { IfOk result (λ yes. IsTrue yes ↔ ((k : ℕ) × IsReached self.now text.now k)) }
-        ensures kept { sets_room sets.old ≤ sets_room sets.new }
-        ensures memory { size self.now ≤ sets_room sets.old → IsOk result }
+        ensures kept { sets_capacity sets.old ≤ sets_capacity sets.new }
+        ensures memory { size self.now ≤ sets_capacity sets.old → IsOk result }
         ensures visits { visits.new ≤ visits.old + (length text.now + 1) * size self.now }
     {
         if is_match_by_tables(&self.tables, text, visits) {
@@ -143,8 +143,8 @@ impl Parts {
 
 /// Puts the index of each end that a text leads to in some deterministic automaton into a set, beside what it holds.
 fn find_by_tables(tables: &[Dfa], text: &[u8], found: &mut IndexSet, visits: &mut Visits)
-    requires { AreCounted (index_room found.old) (sources tables.now) }
-    ensures room { index_room found.new ≡ index_room found.old }
+    requires { AreCounted (index_capacity found.old) (sources tables.now) }
+    ensures room { index_capacity found.new ≡ index_capacity found.old }
     ensures found { (k : ℕ) → IsTrue (has_index found.new k) ↔ (SomeReached (sources tables.now) text.now k ⊎ IsTrue (has_index found.old k)) }
     ensures visits { visits.new ≤ visits.old + (length text.now + 1) * length tables.now }
 {
@@ -169,17 +169,17 @@ fn is_match_by_tables(tables: &[Dfa], text: &[u8], visits: &mut Visits) -> bool
 /// Puts the index of each end that a text leads to in some automaton into a set, beside what it holds. The runs use the same sets
 /// of states, one after another.
 fn find_by_simulation(
-    automata: &[Automaton],
+    automata: &[Nfa],
     text: &[u8],
     sets: &mut StateSets,
     found: &mut IndexSet,
     visits: &mut Visits,
 ) -> Result<(), AllocError>
-    requires { AreCounted (index_room found.old) automata.now }
-    ensures room { index_room found.new ≡ index_room found.old }
+    requires { AreCounted (index_capacity found.old) automata.now }
+    ensures room { index_capacity found.new ≡ index_capacity found.old }
     ensures found { OnOk result ((k : ℕ) → IsTrue (has_index found.new k) ↔ (SomeReached automata.now text.now k ⊎ IsTrue (has_index found.old k))) }
-    ensures kept { sets_room sets.old ≤ sets_room sets.new }
-    ensures memory { total automata.now ≤ sets_room sets.old → IsOk result }
+    ensures kept { sets_capacity sets.old ≤ sets_capacity sets.new }
+    ensures memory { total automata.now ≤ sets_capacity sets.old → IsOk result }
     ensures visits { visits.new ≤ visits.old + (length text.now + 1) * total automata.now }
 {
     for automaton in automata {
@@ -190,14 +190,14 @@ fn find_by_simulation(
 
 /// Returns whether a text leads to some end in some automaton. The runs use the same sets of states, one after another.
 fn is_match_by_simulation(
-    automata: &[Automaton],
+    automata: &[Nfa],
     text: &[u8],
     sets: &mut StateSets,
     visits: &mut Visits,
 ) -> Result<bool, AllocError>
     ensures some { IfOk result (λ yes. IsTrue yes ↔ ((k : ℕ) × SomeReached automata.now text.now k)) }
-    ensures kept { sets_room sets.old ≤ sets_room sets.new }
-    ensures memory { total automata.now ≤ sets_room sets.old → IsOk result }
+    ensures kept { sets_capacity sets.old ≤ sets_capacity sets.new }
+    ensures memory { total automata.now ≤ sets_capacity sets.old → IsOk result }
     ensures visits { visits.new ≤ visits.old + (length text.now + 1) * total automata.now }
 {
     for automaton in automata {

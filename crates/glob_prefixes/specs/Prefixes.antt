@@ -1,13 +1,13 @@
 -- Globs that are matched against every beginning of a text, while it is read.
 use Rattle.std.specs.Prelude.{◌≡◌, ◌≤◌, ◌↔◌, ℕ, ◌+◌, List, [], ◌∷◌, ◌++◌, length, vec_capacity}
-use Rattle.bit_sets.specs.Indexes.{index_room}
-use Rattle.byte_automaton.specs.Runs.{size, AcceptsFrom}
-use Rattle.byte_automaton.specs.Sets.{state_room}
-use Rattle.byte_automaton.specs.Steps.{Machine, IsReached}
-use Rattle.byte_automaton.specs.Texts.{AllBytes}
-use Rattle.glob_automaton.specs.IndexedTokens.{IndexedTokens, indexed, IsFor}
-use Rattle.globset_glob.specs.Means.{GlobValue, tokens_of_glob, glob_means}
-use Rattle.group_matching.specs.Indexes.{passing_indexes}
+use Rattle.bit_sets.specs.Indexes.{index_capacity}
+use Rattle.byte_nfa.specs.Runs.{size, AcceptsFrom}
+use Rattle.byte_nfa.specs.Sets.{state_capacity}
+use Rattle.byte_nfa.specs.Steps.{Machine, IsReached}
+use Rattle.byte_nfa.specs.Texts.{AllBytes}
+use Rattle.glob_nfa.specs.IndexedTokens.{IndexedTokens, indexed, IsFor}
+use Rattle.globset_glob.specs.GlobMatches.{GlobValue, tokens_of_glob, glob_matches}
+use Rattle.set_matcher.specs.Indexes.{passing_indexes}
 use Rattle.glob_prefixes.specs.declared.states.PrefixStates.{PrefixStates}
 
 -- ---- matchers and their builders
@@ -36,8 +36,8 @@ pub record PrefixBuilderValue : Type 0 where
   pub added : ℕ
 
 -- how many globs may be added to a builder in all
-abbrev pub most_globs : PrefixBuilderValue → ℕ
-most_globs b = b.machine.index_count
+abbrev pub max_globs : PrefixBuilderValue → ℕ
+max_globs b = b.machine.index_count
 
 -- these globs were added to the builder, in this order
 pub record AreAdded (globs : List GlobValue) (b : PrefixBuilderValue) : Type 0 where
@@ -48,10 +48,10 @@ pub record AreAdded (globs : List GlobValue) (b : PrefixBuilderValue) : Type 0 w
 
 -- the states have room for the matcher
 pub record FitsPrefixes (states : PrefixStates) (m : PrefixMatcherValue) : Type 0 where
-  pub current : prefix_states m ≤ state_room states.current
-  pub next : state_room states.next ≡ state_room states.current
-  pub asked : state_room states.asked ≡ state_room states.current
-  pub marks : m.index_count ≤ index_room states.marks
+  pub current : prefix_states m ≤ state_capacity states.current
+  pub next : state_capacity states.next ≡ state_capacity states.current
+  pub asked : state_capacity states.asked ≡ state_capacity states.current
+  pub marks : m.index_count ≤ index_capacity states.marks
   pub matching : m.index_count ≤ vec_capacity states.matching
 
 -- the new states have room for each matcher that the old ones have room for
@@ -69,6 +69,6 @@ pub record IsAfter (m : PrefixMatcherValue) (states : PrefixStates) (text : List
 abbrev pub matching_of : PrefixStates → List ℕ
 matching_of states = states.matching.items
 
--- The indexes, ascending, of the globs that match the text. Silent globs are among them: only a set leaves those out.
-abbrev pub matching_indexes : List GlobValue → List ℕ → List ℕ
-matching_indexes globs text = passing_indexes (λ g. glob_means g text) globs
+-- The indexes, ascending, of the globs that match the text. Excluded globs are among them: only a set leaves those out.
+abbrev pub all_matching_indexes : List GlobValue → List ℕ → List ℕ
+all_matching_indexes globs text = passing_indexes (λ g. glob_matches g text) globs

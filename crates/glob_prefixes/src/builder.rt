@@ -2,12 +2,12 @@
 
 ghost use Rattle.std.specs.Prelude.{◌≡◌, ◌+◌, ◌<◌, ◌≤◌, ◌++◌, ◌∷◌, [], List, OnOk, OnErr, IfOk};
 ghost use Rattle.globset_glob.specs.Cost.{cost};
-ghost use Rattle.globset_glob.specs.Means.{GlobValue};
-ghost use Rattle.glob_prefixes.specs.Prefixes.{AreAdded, most_globs, prefix_states};
+ghost use Rattle.globset_glob.specs.GlobMatches.{GlobValue};
+ghost use Rattle.glob_prefixes.specs.Prefixes.{AreAdded, max_globs, prefix_states};
 
 use crate::matcher::PrefixMatcher;
-use byte_automaton::Builder;
-use glob_automaton::{add_tokens, new_builder};
+use byte_nfa::Builder;
+use glob_nfa::{add_tokens, new_builder};
 use globset_glob::{Glob, options_of, tokens_of};
 use std::alloc::{AllocError, Global};
 use std::marker::Model;
@@ -50,7 +50,7 @@ impl PrefixMatcherBuilder {
     pub fn new(alloc: Global, count: usize) -> PrefixMatcherBuilder
         ensures none { AreAdded [] result }
         ensures added { result.added ≡ 0 }
-        ensures count { most_globs result ≡ count }
+        ensures count { max_globs result ≡ count }
         ensures states { prefix_states result.machine ≡ 0 }
     {
         PrefixMatcherBuilder {
@@ -65,12 +65,12 @@ impl PrefixMatcherBuilder {
     /// It takes time and memory linear in the glob's text. Returns an error if memory runs out. Then the globs are those that were
     /// added before, although the matcher may have more states.
     pub fn add(&mut self, glob: &Glob) -> Result<(), AllocError>
-        requires { self.old.added < most_globs self.old }
+        requires { self.old.added < max_globs self.old }
         ensures glob { OnOk result ((globs : List GlobValue) → AreAdded globs self.old → AreAdded (globs ++ glob.now ∷ []) self.new) }
         ensures kept { OnErr result ((globs : List GlobValue) → AreAdded globs self.old → AreAdded globs self.new) }
         ensures added { OnOk result (self.new.added ≡ self.old.added + 1) }
         ensures same { OnErr result (self.new.added ≡ self.old.added) }
-        ensures count { most_globs self.new ≡ most_globs self.old }
+        ensures count { max_globs self.new ≡ max_globs self.old }
         ensures states { OnOk result (prefix_states self.new.machine ≤ prefix_states self.old.machine + cost glob.now) }
     {
         let (options, tokens) = (options_of(glob), tokens_of(glob));

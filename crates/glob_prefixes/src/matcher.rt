@@ -2,13 +2,13 @@
 
 ghost use Rattle.std.specs.Prelude.{◌≡◌, ◌+◌, ◌*◌, ◌≤◌, ◌↔◌, ◌++◌, ◌∷◌, [], ℕ, List, length, IsTrue};
 ghost use Rattle.bit_sets.specs.Indexes.{has_index};
-ghost use Rattle.byte_automaton.specs.Steps.{IsReached};
-ghost use Rattle.globset_glob.specs.Means.{GlobValue};
-ghost use Rattle.glob_prefixes.specs.Prefixes.{FitAsBefore, FitsPrefixes, IsAfter, IsPrefixMatcherOf, matching_indexes, matching_of, prefix_states};
+ghost use Rattle.byte_nfa.specs.Steps.{IsReached};
+ghost use Rattle.globset_glob.specs.GlobMatches.{GlobValue};
+ghost use Rattle.glob_prefixes.specs.Prefixes.{FitAsBefore, FitsPrefixes, IsAfter, IsPrefixMatcherOf, all_matching_indexes, matching_of, prefix_states};
 
 use crate::marks::push_marked;
 use crate::states::PrefixStates;
-use byte_automaton::Automaton;
+use byte_nfa::Nfa;
 use std::marker::Model;
 use std::mem::swap;
 use visits::Visits;
@@ -21,7 +21,7 @@ use visits::Visits;
 ///
 /// It has at most four states for each byte of a glob's text, or 16 under `whole_character`, and four more for each glob.
 pub struct PrefixMatcher {
-    automaton: Automaton,
+    automaton: Nfa,
 }
 
 impl Drop for PrefixMatcher {
@@ -41,7 +41,7 @@ impl Model for PrefixMatcher {
 
 impl PrefixMatcher {
     /// Returns the matcher of an automaton.
-    pub(crate) fn of(automaton: Automaton) -> PrefixMatcher
+    pub(crate) fn of(automaton: Nfa) -> PrefixMatcher
         ensures { result ≡ automaton }
     {
         PrefixMatcher { automaton }
@@ -97,10 +97,10 @@ impl PrefixMatcher {
     /// Finds the globs that match what was read so far: [`PrefixStates::matching`] returns their indexes then. More bytes may be
     /// read after it. It is at most one visit for each state, and takes no memory.
     ///
-    /// Silent globs are found as others are, which a set leaves out.
+    /// Excluded globs are found as others are, which a set leaves out.
     pub fn matches(&self, states: &mut PrefixStates, visits: &mut Visits)
         requires { FitsPrefixes states.old self.now }
-        ensures matching { (globs : List GlobValue) → IsPrefixMatcherOf globs self.now → (text : List ℕ) → IsAfter self.now states.old text → matching_of states.new ≡ matching_indexes globs text }
+        ensures matching { (globs : List GlobValue) → IsPrefixMatcherOf globs self.now → (text : List ℕ) → IsAfter self.now states.old text → matching_of states.new ≡ all_matching_indexes globs text }
         ensures after { (text : List ℕ) → IsAfter self.now states.old text → IsAfter self.now states.new text }
         ensures fits { FitAsBefore states.old states.new }
         ensures visits { visits.new ≤ visits.old + prefix_states self.now }

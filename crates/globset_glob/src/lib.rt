@@ -13,6 +13,6 @@ pub use glob_matching::DEFAULT_DFA_SIZE_LIMIT;
 pub use glob_path::{AsPath, Candidate};
 pub use glob_syntax::{Class, Options, Token};
 pub use glob_text::{Error, ErrorKind, ValueError, ValueErrorKind, escape};
-pub use internal::{most_states_of, options_of, tokens_of};
+pub use internal::{max_states_of, options_of, tokens_of};
 pub use matcher::{GlobMatcher, MatcherScratch};
 pub use visits::Visits;

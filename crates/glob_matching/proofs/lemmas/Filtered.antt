@@ -5,8 +5,8 @@ use Rattle.std.proofs.lemmas.Bool.{cases_lt}
 use Rattle.std.proofs.lemmas.Nat.{mul-le}
 use Rattle.std.proofs.Math.Logic.{⊎_elim}
 use Rattle.bit_sets.specs.Indexes.{has_index}
-use Rattle.byte_automaton.specs.Runs.{size}
-use Rattle.byte_automaton.specs.Steps.{Machine, Accepts}
+use Rattle.byte_nfa.specs.Runs.{size}
+use Rattle.byte_nfa.specs.Steps.{Machine, Accepts}
 use Rattle.bit_sets.specs.declared.index_set.IndexSet.{IndexSet}
 use Rattle.byte_filter.specs.Starts.{IsReachedMarked}
 use Rattle.glob_matching.specs.inner.Filtered.{low_of, AreApart, IsReachedBefore}

@@ -2,10 +2,10 @@
 use Rattle.std.specs.Prelude.{◌≡◌, ℕ, ◌+◌, ◌≤◌, ◌⊎◌, ◌↔◌, List, [], ◌∷◌, ◌++◌, length, map}
 use Rattle.std.specs.List.{All}
 use Rattle.bit_sets.specs.Numbers.{AreBelow}
-use Rattle.byte_automaton.specs.Parts.{IsReachedBetween}
-use Rattle.byte_automaton.specs.Runs.{size}
-use Rattle.byte_automaton.specs.Steps.{Machine, IsReached}
-use Rattle.byte_automaton.specs.Texts.{AllBytes}
+use Rattle.byte_nfa.specs.Parts.{IsReachedBetween}
+use Rattle.byte_nfa.specs.Runs.{size}
+use Rattle.byte_nfa.specs.Steps.{Machine, IsReached}
+use Rattle.byte_nfa.specs.Texts.{AllBytes}
 use Rattle.byte_dfa.specs.DfaValue.{DfaValue}
 
 -- the automata that deterministic ones were made from

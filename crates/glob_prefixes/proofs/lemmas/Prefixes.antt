@@ -3,20 +3,20 @@ use Rattle.std.proofs.Common.{◌≡◌, ℕ, zero, suc, ◌+◌, ◌<◌, ◌�
 use Rattle.std.specs.Prelude.{◌↔◌, OnErr, Result, Ok, Err, filter}
 use Rattle.std.specs.List.{range_with_len}
 use Rattle.std.proofs.Math.Logic.{⊎_elim}
-use Rattle.byte_automaton.specs.Runs.{AcceptsFrom}
-use Rattle.byte_automaton.specs.Sets.{has_state}
-use Rattle.byte_automaton.specs.Steps.{Machine, IsReached}
-use Rattle.byte_automaton.specs.Texts.{AllBytes}
-use Rattle.byte_automaton.specs.declared.state_set.StateSet.{StateSet}
-use Rattle.glob_automaton.specs.IndexedTokens.{IndexedTokens, indexed, IsFor, SomeMatches}
-use Rattle.glob_automaton.specs.TokenMeans.{means}
-use Rattle.glob_automaton.proofs.lemmas.Booleans.{same_truth}
+use Rattle.byte_nfa.specs.Runs.{AcceptsFrom}
+use Rattle.byte_nfa.specs.Sets.{has_state}
+use Rattle.byte_nfa.specs.Steps.{Machine, IsReached}
+use Rattle.byte_nfa.specs.Texts.{AllBytes}
+use Rattle.byte_nfa.specs.declared.state_set.StateSet.{StateSet}
+use Rattle.glob_nfa.specs.IndexedTokens.{IndexedTokens, indexed, IsFor, SomeMatches}
+use Rattle.glob_nfa.specs.TokensMatch.{tokens_match}
+use Rattle.glob_nfa.proofs.lemmas.Booleans.{same_truth}
 use Rattle.glob_syntax.specs.declared.options.Options.{Options}
 use Rattle.glob_syntax.specs.Token.{Tokens}
-use Rattle.globset_glob.specs.Means.{GlobValue, tokens_of_glob, glob_means}
-use Rattle.group_matching.specs.Indexes.{passes_at}
-use Rattle.group_matching.proofs.lemmas.Indexes.{filter_between, filter_same}
-use Rattle.glob_prefixes.specs.Prefixes.{AreAdded, IsAfter, IsPrefixMatcherOf, indexed_globs, matching_indexes}
+use Rattle.globset_glob.specs.GlobMatches.{GlobValue, tokens_of_glob, glob_matches}
+use Rattle.set_matcher.specs.Indexes.{passes_at}
+use Rattle.set_matcher.proofs.lemmas.Indexes.{filter_between, filter_same}
+use Rattle.glob_prefixes.specs.Prefixes.{AreAdded, IsAfter, IsPrefixMatcherOf, indexed_globs, all_matching_indexes}
 use Rattle.glob_prefixes.specs.declared.states.PrefixStates.{PrefixStates}
 
 -- ---- one glob more
@@ -69,11 +69,11 @@ no_index_below text j n (g ∷ gs) lt h =
     ⊎_elim {C = ⊥} (λ this. let e = this.0 in omega (arith, e, lt)) (λ rest. no_index_below text (j + 1) n gs (omega (arith, lt)) rest) h
 
 -- the tokens of an index match a text exactly if the glob at it does
-matches_at : (text : List ℕ) (j : ℕ) (gs : List GlobValue) (k : ℕ) → SomeMatches (indexed_globs j gs) text (j + k) ↔ IsTrue (passes_at (λ g. glob_means g text) gs k)
-unfolding glob_means
+matches_at : (text : List ℕ) (j : ℕ) (gs : List GlobValue) (k : ℕ) → SomeMatches (indexed_globs j gs) text (j + k) ↔ IsTrue (passes_at (λ g. glob_matches g text) gs k)
+unfolding glob_matches
 matches_at text j [] k = (λ no. absurd no, λ yes. absurd (true≢false (sym yes)))
 matches_at text j (g ∷ gs) zero =
-    let here = IsTrue (means g.options (tokens_of_glob g) text) in
+    let here = IsTrue (tokens_match g.options (tokens_of_glob g) text) in
     let e : j ≡ j + 0 = omega arith in (
       λ h. ⊎_elim {C = here} (λ this. this.1) (λ rest. absurd (no_index_below text (j + 1) (j + 0) gs (omega arith) rest)) h,
       λ yes. inl (e, yes),
@@ -82,7 +82,7 @@ matches_at text j (g ∷ gs) (suc k) =
     let later = matches_at text (j + 1) gs k in
     let e : j + 1 + k ≡ j + suc k = omega arith in
     let some = λ (n : ℕ). SomeMatches (indexed_globs (j + 1) gs) text n in (
-      λ h. ⊎_elim {C = IsTrue (passes_at (λ g. glob_means g text) gs k)} (λ this. absurd (let same = this.0 in omega (arith, same))) (λ rest. later.0 (subst some (sym e) rest)) h,
+      λ h. ⊎_elim {C = IsTrue (passes_at (λ g. glob_matches g text) gs k)} (λ this. absurd (let same = this.0 in omega (arith, same))) (λ rest. later.0 (subst some (sym e) rest)) h,
       λ yes. inr (subst some e (later.1 yes)),
     )
 
@@ -93,7 +93,7 @@ none_past test (x ∷ xs) (suc k) h = none_past test xs k (omega (arith, h))
 
 -- an index is reached exactly if the glob at it matches
 reached_at : (globs : List GlobValue) (m : Machine) (text : List ℕ) (k : ℕ) → IsPrefixMatcherOf globs m → AllBytes text
-    → IsReached m text k ↔ IsTrue (passes_at (λ g. glob_means g text) globs k)
+    → IsReached m text k ↔ IsTrue (passes_at (λ g. glob_matches g text) globs k)
 reached_at globs m text k is bytes =
     let runs = is.tokens m.states (λ s low high. refl) text k bytes in
     let z : 0 + k ≡ k = omega arith in
@@ -105,12 +105,12 @@ reached_at globs m text k is bytes =
 
 -- the indexes that are reached, ascending
 pub reached_are : (globs : List GlobValue) (m : Machine) (text : List ℕ) (has : ℕ → Bool) (found : List ℕ) → IsPrefixMatcherOf globs m → AllBytes text
-    → ((k : ℕ) → IsTrue (has k) ↔ IsReached m text k) → found ≡ filter has (range_with_len 0 m.index_count) → found ≡ matching_indexes globs text
+    → ((k : ℕ) → IsTrue (has k) ↔ IsReached m text k) → found ≡ filter has (range_with_len 0 m.index_count) → found ≡ all_matching_indexes globs text
 reached_are globs m text has found is bytes marked e =
-    let test = passes_at (λ (g : GlobValue). glob_means g text) globs in
+    let test = passes_at (λ (g : GlobValue). glob_matches g text) globs in
     let same : (k : ℕ) → has k ≡ test k = λ k. let here = reached_at globs m text k is bytes in same_truth (has k) (test k) (λ y. here.0 ((marked k).0 y), λ y. (marked k).1 (here.1 y)) in
     e ∙ filter_same has test m.index_count same
-    ∙ sym (filter_between test (length globs) m.index_count is.count (λ k low high. none_past (λ (g : GlobValue). glob_means g text) globs k low))
+    ∙ sym (filter_between test (length globs) m.index_count is.count (λ k low high. none_past (λ (g : GlobValue). glob_matches g text) globs k low))
 
 -- ---- steps
 

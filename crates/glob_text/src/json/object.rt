@@ -3,7 +3,7 @@
 ghost use Rattle.std.specs.Prelude.{◌≡◌, false, true, option_map, Err, IfOk, MatchOption, MatchResult, OnOk};
 ghost use Rattle.serde_json.specs.Find.{get_member};
 ghost use Rattle.serde_json.specs.View.{members_view, view};
-ghost use Rattle.glob_text.specs.Errors.{glob_or_refusal};
+ghost use Rattle.glob_text.specs.Errors.{glob_or_parse_error};
 ghost use Rattle.glob_text.specs.Values.{glob_of_object, has_non_boolean, has_unknown_key, of_kind, of_text};
 ghost use Rattle.glob_text.specs.Values.{is_known_key, is_non_boolean, keyed_options, option_in, options_in};
 ghost use Rattle.glob_text.specs.Values.{value_of_glob, with_option, with_options};
@@ -18,7 +18,7 @@ pub fn members_text_and_options(
     members: &Map<String, Value>,
 ) -> Result<(&str, Options), ValueErrorKind>
     ensures { MatchResult result
-        (λ (text, options). glob_of_object (members_view members.now.entries) ≡ of_text (glob_or_refusal (record { text = text.now; options = options })))
+        (λ (text, options). glob_of_object (members_view members.now.entries) ≡ of_text (glob_or_parse_error (record { text = text.now; options = options })))
         (λ kind. glob_of_object (members_view members.now.entries) ≡ Err (of_kind kind)) }
 {
     let Some(Value::String(text)) = member(members, "glob") else {

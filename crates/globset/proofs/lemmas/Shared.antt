@@ -3,7 +3,7 @@ use denote.Param.Send.{IsSend, IsSync, sendable}
 use Rattle.std.proofs.Crossing.{crosses}
 use Rattle.globset_glob.specs.contracts.glob.Glob as Glob
 use Rattle.globset_glob.specs.contracts.matcher.GlobMatcher as GlobMatcher
-use Rattle.group_matching.proofs.lemmas.Shared.{compiled-send, compiled-sync, groups-send, groups-sync}
+use Rattle.set_matcher.proofs.lemmas.Shared.{compiled-send, compiled-sync, groups-send, groups-sync}
 use Rattle.globset.specs.contracts.set.stored.Stored as Stored
 use Rattle.globset.specs.contracts.set.GlobSet as GlobSet
 

@@ -1,6 +1,6 @@
 -- The list that a chain of snapshots stands for.
 use Rattle.std.specs.Prelude.{List, [], ◌∷◌, ◌++◌}
-use Rattle.globset_glob.specs.Means.{GlobValue}
+use Rattle.globset_glob.specs.GlobMatches.{GlobValue}
 use Rattle.globset.specs.declared.set.given.Given.{Given, Nothing, After', As'}
 
 abbrev pub globs_given : Given → List GlobValue

@@ -1,15 +1,15 @@
 //! Sets as they are made, glob by glob.
 
 ghost use Rattle.std.specs.Prelude.{◌≡◌, ◌<◌, ◌++◌, ◌∷◌, [], List, IfOk, OnOk, length};
-ghost use Rattle.globset_glob.specs.Means.{GlobValue};
+ghost use Rattle.globset_glob.specs.GlobMatches.{GlobValue};
 ghost use Rattle.globset.specs.SetValue.{set_globs};
 ghost use Rattle.globset.specs.inner.StoredGlobs.{AreAdded};
-ghost use Rattle.group_matching.specs.inner.Groups.{group_count};
+ghost use Rattle.set_matcher.specs.inner.SetMatcher.{glob_count};
 
 use crate::set::given::GivenGlobs;
 use crate::set::stored::Stored;
 use globset_glob::{Glob, options_of, tokens_of};
-use group_matching::GroupsBuilder;
+use set_matcher::SetMatcherBuilder;
 use std::alloc::{AllocError, Global};
 use std::marker::Model;
 
@@ -17,7 +17,7 @@ use std::marker::Model;
 pub struct StoredBuilder {
     alloc: Global,
     globs: GivenGlobs,
-    groups: GroupsBuilder,
+    groups: SetMatcherBuilder,
 }
 
 impl Drop for StoredBuilder {
@@ -47,12 +47,12 @@ impl StoredBuilder {
     pub fn new(alloc: Global, count: usize) -> StoredBuilder
         ensures none { result.given ≡ [] }
         ensures added { AreAdded result }
-        ensures count { group_count result.parts ≡ count }
+        ensures count { glob_count result.parts ≡ count }
     {
         StoredBuilder {
             alloc,
             globs: GivenGlobs::new(),
-            groups: GroupsBuilder::new(alloc, count),
+            groups: SetMatcherBuilder::new(alloc, count),
         }
     }
 
@@ -60,10 +60,10 @@ impl StoredBuilder {
     /// linear in the glob's tokens. Returns an error if memory runs out.
     pub fn add(&mut self, glob: &Glob, index: usize) -> Result<(), AllocError>
         requires index { index ≡ length self.old.given }
-        requires count { index < group_count self.old.parts }
+        requires count { index < glob_count self.old.parts }
         ensures glob { OnOk result (self.new.given ≡ self.old.given ++ glob.now ∷ []) }
         ensures added { OnOk result (AreAdded self.old → AreAdded self.new) }
-        ensures count { OnOk result (group_count self.new.parts ≡ group_count self.old.parts) }
+        ensures count { OnOk result (glob_count self.new.parts ≡ glob_count self.old.parts) }
     {
         let (options, tokens) = (options_of(glob), tokens_of(glob));
         self.groups.add(self.alloc, options, tokens, index)?;
@@ -75,7 +75,7 @@ impl StoredBuilder {
     /// bytes. Returns an error if memory runs out.
     pub fn finish(self, dfa_size_limit: usize) -> Result<Stored, AllocError>
         requires added { AreAdded self }
-        requires count { group_count self.parts ≡ length self.given }
+        requires count { glob_count self.parts ≡ length self.given }
         ensures { IfOk result (λ s. set_globs s ≡ self.given) }
     {
         let StoredBuilder {

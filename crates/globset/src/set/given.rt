@@ -23,7 +23,7 @@ pub struct GivenGlobs {
 
 impl Model for GivenGlobs {
     ghost use Rattle.std.specs.Prelude.{List};
-    ghost use Rattle.globset_glob.specs.Means.{GlobValue};
+    ghost use Rattle.globset_glob.specs.GlobMatches.{GlobValue};
 
     ghost Value = { List GlobValue };
 

@@ -2,19 +2,19 @@
 
 ghost use Rattle.std.specs.Prelude.{◌≡◌, ◌≢◌, ◌↔◌, [], ℕ, ◌+◌, ◌≤◌, All, IfOk, IfErr, IsOk, OnOk, OnErr, IsTrue, length, map, vec_capacity};
 ghost use Rattle.globset_glob.specs.Errors.{out_of_memory};
-ghost use Rattle.globset_glob.specs.Means.{IsRead};
-ghost use Rattle.globset.specs.Answer.{answer};
+ghost use Rattle.globset_glob.specs.GlobMatches.{IsRead};
+ghost use Rattle.globset.specs.Answer.{matching_indexes};
 ghost use Rattle.globset.specs.SetValue.{set_globs, set_states};
 ghost use Rattle.globset.specs.Below.{MatchesBelow};
-ghost use Rattle.globset.specs.Work.{load, load_below, most_set_visits, most_set_visits_below};
+ghost use Rattle.globset.specs.Work.{load, load_below, max_set_visits, max_set_visits_below};
 ghost use Rattle.globset.specs.inner.StoredGlobs.{AreStored};
-ghost use Rattle.group_matching.specs.Indexes.{ContainsAllBelow};
-ghost use Rattle.group_matching.specs.inner.Room.{HasRoom, KeepsRoom};
+ghost use Rattle.set_matcher.specs.Indexes.{ContainsAllBelow};
+ghost use Rattle.set_matcher.specs.inner.Capacity.{HasCapacity, KeepsCapacity};
 
 use crate::set::building::StoredBuilder;
 use crate::set::given::GivenGlobs;
 use globset_glob::{Candidate, DEFAULT_DFA_SIZE_LIMIT, Error, Glob, Visits};
-use group_matching::{Groups, MatchingSets};
+use set_matcher::{SetMatcher, MatchingSets};
 use std::alloc::Global;
 use std::fmt;
 use std::marker::Model;
@@ -24,7 +24,7 @@ use std::marker::Model;
 pub struct Stored {
     alloc: Global,
     globs: GivenGlobs,
-    groups: Groups,
+    groups: SetMatcher,
 }
 
 impl Drop for Stored {
@@ -41,13 +41,13 @@ impl Drop for Stored {
 impl Model for Stored {
     ghost use Rattle.globset.specs.SetValue.{SetValue};
     ghost use Rattle.globset.specs.inner.StoredGlobs.{AreStored};
-    ghost use Rattle.group_matching.specs.inner.Groups.{group_states};
+    ghost use Rattle.set_matcher.specs.inner.SetMatcher.{state_count_of_set};
 
     ghost Value = { SetValue };
 
     ghost view = { λ s. record {
       globs = s.globs;
-      states = group_states s.groups;
+      states = state_count_of_set s.groups;
     } };
 
     ghost invariant = { λ s. AreStored s.globs s.groups };
@@ -55,7 +55,7 @@ impl Model for Stored {
 
 impl Stored {
     /// Returns what a set stores, whose globs are in these groups.
-    pub fn of_groups(alloc: Global, globs: GivenGlobs, groups: Groups) -> Stored
+    pub fn of_groups(alloc: Global, globs: GivenGlobs, groups: SetMatcher) -> Stored
         requires { AreStored globs groups }
         ensures { set_globs result ≡ globs }
     {
@@ -100,10 +100,10 @@ impl Stored {
     }
 
     /// Returns the number of states of the largest automaton.
-    pub fn most_states(&self) -> usize
+    pub fn max_states(&self) -> usize
         ensures { result ≡ set_states self.now }
     {
-        self.groups.most_states()
+        self.groups.max_states()
     }
 
     /// Returns how many bytes the tables of deterministic automata take. It takes time linear in the number of these.
@@ -116,7 +116,7 @@ impl Stored {
         MatchingSets::new(self.alloc)
     }
 
-    /// Replaces the vector's items by the indexes, ascending, of the globs that are not silent and match the path.
+    /// Replaces the vector's items by the indexes, ascending, of the globs that are not excluded and match the path.
     ///
     /// Returns an error if memory runs out, and no other. The vector is then empty.
     pub fn find(
@@ -126,19 +126,19 @@ impl Stored {
         into: &mut Vec<usize>,
         visits: &mut Visits,
     ) -> Result<(), Error>
-        ensures ok { OnOk result (into.new.items ≡ answer (set_globs self.now) path.now) }
+        ensures ok { OnOk result (into.new.items ≡ matching_indexes (set_globs self.now) path.now) }
         ensures err { IfErr result (λ e. e ≡ out_of_memory) }
         ensures cleared { OnErr result (into.new.items ≡ []) }
-        ensures kept { KeepsRoom sets.old sets.new }
-        ensures room { HasRoom sets.old (set_states self.now) (length (set_globs self.now)) → length (set_globs self.now) ≤ vec_capacity into.old → IsOk result }
+        ensures kept { KeepsCapacity sets.old sets.new }
+        ensures room { HasCapacity sets.old (set_states self.now) (length (set_globs self.now)) → length (set_globs self.now) ≤ vec_capacity into.old → IsOk result }
         ensures capacity { vec_capacity into.old ≤ vec_capacity into.new }
-        ensures visits { visits.new ≤ visits.old + most_set_visits (set_globs self.now) path.now }
+        ensures visits { visits.new ≤ visits.old + max_set_visits (set_globs self.now) path.now }
     {
         self.groups.find(path, sets, into, visits)?;
         Ok(())
     }
 
-    /// Returns whether some glob that is not silent matches the path.
+    /// Returns whether some glob that is not excluded matches the path.
     ///
     /// Returns an error if memory runs out, and no other.
     pub fn is_match(
@@ -147,17 +147,17 @@ impl Stored {
         sets: &mut MatchingSets,
         visits: &mut Visits,
     ) -> Result<bool, Error>
-        ensures ok { IfOk result (λ yes. IsTrue yes ↔ (answer (set_globs self.now) path.now ≢ [])) }
+        ensures ok { IfOk result (λ yes. IsTrue yes ↔ (matching_indexes (set_globs self.now) path.now ≢ [])) }
         ensures err { IfErr result (λ e. e ≡ out_of_memory) }
-        ensures kept { KeepsRoom sets.old sets.new }
-        ensures room { HasRoom sets.old (set_states self.now) (length (set_globs self.now)) → IsOk result }
-        ensures memory { load (set_globs self.now) path.now ≡ 0 → IsOk result }
-        ensures visits { visits.new ≤ visits.old + most_set_visits (set_globs self.now) path.now }
+        ensures kept { KeepsCapacity sets.old sets.new }
+        ensures room { HasCapacity sets.old (set_states self.now) (length (set_globs self.now)) → IsOk result }
+        ensures succeeds_without_automata { load (set_globs self.now) path.now ≡ 0 → IsOk result }
+        ensures visits { visits.new ≤ visits.old + max_set_visits (set_globs self.now) path.now }
     {
         Ok(self.groups.is_match(path, sets, visits)?)
     }
 
-    /// Returns whether some glob that is not silent matches some path below a folder.
+    /// Returns whether some glob that is not excluded matches some path below a folder.
     ///
     /// Returns an error if memory runs out, and no other.
     pub fn can_match_below(
@@ -168,15 +168,15 @@ impl Stored {
     ) -> Result<bool, Error>
         ensures ok { IfOk result (λ yes. IsTrue yes ↔ MatchesBelow (set_globs self.now) folder.now) }
         ensures err { IfErr result (λ e. e ≡ out_of_memory) }
-        ensures kept { KeepsRoom sets.old sets.new }
-        ensures room { HasRoom sets.old (set_states self.now) (length (set_globs self.now)) → IsOk result }
-        ensures memory { load_below (set_globs self.now) ≡ 0 → IsOk result }
-        ensures visits { visits.new ≤ visits.old + most_set_visits_below (set_globs self.now) folder.now }
+        ensures kept { KeepsCapacity sets.old sets.new }
+        ensures room { HasCapacity sets.old (set_states self.now) (length (set_globs self.now)) → IsOk result }
+        ensures succeeds_without_automata { load_below (set_globs self.now) ≡ 0 → IsOk result }
+        ensures visits { visits.new ≤ visits.old + max_set_visits_below (set_globs self.now) folder.now }
     {
         Ok(self.groups.can_match_below(folder.path(), sets, visits)?)
     }
 
-    /// Returns whether every glob matches the path and none is silent.
+    /// Returns whether every glob matches the path and none is excluded.
     ///
     /// Returns an error if memory runs out, and no other.
     pub fn matches_all(
@@ -185,12 +185,12 @@ impl Stored {
         sets: &mut MatchingSets,
         visits: &mut Visits,
     ) -> Result<bool, Error>
-        ensures ok { IfOk result (λ yes. IsTrue yes ↔ ContainsAllBelow (answer (set_globs self.now) path.now) (length (set_globs self.now))) }
+        ensures ok { IfOk result (λ yes. IsTrue yes ↔ ContainsAllBelow (matching_indexes (set_globs self.now) path.now) (length (set_globs self.now))) }
         ensures err { IfErr result (λ e. e ≡ out_of_memory) }
-        ensures kept { KeepsRoom sets.old sets.new }
-        ensures room { HasRoom sets.old (set_states self.now) (length (set_globs self.now)) → IsOk result }
-        ensures memory { load (set_globs self.now) path.now ≡ 0 → IsOk result }
-        ensures visits { visits.new ≤ visits.old + most_set_visits (set_globs self.now) path.now }
+        ensures kept { KeepsCapacity sets.old sets.new }
+        ensures room { HasCapacity sets.old (set_states self.now) (length (set_globs self.now)) → IsOk result }
+        ensures succeeds_without_automata { load (set_globs self.now) path.now ≡ 0 → IsOk result }
+        ensures visits { visits.new ≤ visits.old + max_set_visits (set_globs self.now) path.now }
     {
         Ok(self.groups.matches_all(path, sets, visits)?)
     }
@@ -214,7 +214,7 @@ impl fmt::Debug for Stored {
     fn fmt<W: fmt::Write>(&self, f: &mut fmt::Formatter<W>) -> fmt::Result {
         f.debug_struct("GlobSet")
             .field("len", &self.len())
-            .field("most_states", &self.most_states())
+            .field("max_states", &self.max_states())
             .field("table_bytes", &self.table_bytes())
             .finish()
     }

@@ -1,5 +1,5 @@
 use Rattle.std.proofs.Common.{◌≡◌, List, length, take, drop}
-use Rattle.globset.specs.Means.{GlobValue}
+use Rattle.globset.specs.GlobMatches.{GlobValue}
 use Rattle.glob_prefixes.specs.Prefixes.{FitsPrefixes, IsAfter, IsPrefixMatcherOf}
 use Rattle.git_ignore.specs.inner.FolderParts.{ArePutUpTo, said_of_folder}
 use Rattle.git_ignore.proofs.folders.put_decisions.Given as goal

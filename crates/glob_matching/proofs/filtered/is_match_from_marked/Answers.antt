@@ -2,7 +2,7 @@ use Rattle.std.proofs.Common.{◌≡◌, ℕ, ◌+◌, ◌<◌, ◌≤◌, lengt
 use Rattle.std.proofs.Math.Logic.{⊎_elim}
 use Rattle.std.specs.Prelude.{◌↔◌}
 use Rattle.bit_sets.specs.Indexes.{has_index}
-use Rattle.byte_automaton.specs.Steps.{Accepts}
+use Rattle.byte_nfa.specs.Steps.{Accepts}
 use Rattle.glob_matching.proofs.lemmas.Filtered.{before_all, before_more, visits_all, visits_more}
 use Rattle.glob_matching.proofs.filtered.is_match_from_marked.Goals as goal
 

@@ -1,6 +1,6 @@
 use Rattle.std.proofs.Common.{◌+◌, ◌<◌, length, ap, arith, ◌∙◌}
 use Rattle.std.proofs.lemmas.List.{take_all}
-use Rattle.byte_automaton.specs.Steps.{Machine}
+use Rattle.byte_nfa.specs.Steps.{Machine}
 use Rattle.glob_matching.specs.inner.Parts.{sources}
 use Rattle.glob_matching.proofs.lemmas.Parts.{source_at, sources_length, found_more, visits_more}
 use Rattle.glob_matching.proofs.parts.find_by_tables.Goals as goal

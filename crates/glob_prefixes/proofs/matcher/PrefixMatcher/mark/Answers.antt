@@ -1,8 +1,8 @@
 use Rattle.std.proofs.Common.{◌⊎◌, [], IsTrue, subst}
 use Rattle.std.specs.Prelude.{◌↔◌}
 use Rattle.bit_sets.specs.Indexes.{has_index}
-use Rattle.byte_automaton.specs.Runs.{AcceptsFrom}
-use Rattle.byte_automaton.specs.Steps.{Machine}
+use Rattle.byte_nfa.specs.Runs.{AcceptsFrom}
+use Rattle.byte_nfa.specs.Steps.{Machine}
 use Rattle.glob_prefixes.proofs.lemmas.Prefixes.{ends_reached}
 use Rattle.glob_prefixes.proofs.matcher.PrefixMatcher.mark.Goals as goal
 

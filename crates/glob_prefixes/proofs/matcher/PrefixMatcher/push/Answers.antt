@@ -1,7 +1,7 @@
 use Rattle.std.proofs.Common.{◌∷◌, subst, arith}
 use Rattle.std.specs.Prelude.{◌↔◌}
-use Rattle.byte_automaton.specs.Runs.{AcceptsFrom}
-use Rattle.byte_automaton.specs.Steps.{Machine}
+use Rattle.byte_nfa.specs.Runs.{AcceptsFrom}
+use Rattle.byte_nfa.specs.Steps.{Machine}
 use Rattle.glob_prefixes.proofs.lemmas.Prefixes.{byte_read}
 use Rattle.glob_prefixes.proofs.matcher.PrefixMatcher.push.Goals as goal
 

@@ -1,7 +1,7 @@
 use Rattle.std.proofs.Common.{subst}
 use Rattle.std.specs.Prelude.{◌↔◌}
-use Rattle.byte_automaton.specs.Runs.{AcceptsFrom}
-use Rattle.byte_automaton.specs.Steps.{Machine, IsReached}
+use Rattle.byte_nfa.specs.Runs.{AcceptsFrom}
+use Rattle.byte_nfa.specs.Steps.{Machine, IsReached}
 use Rattle.glob_prefixes.proofs.matcher.PrefixMatcher.start.Goals as goal
 
 pub returns-clause-after : goal.returns-clause-after

@@ -1,5 +1,5 @@
 use Rattle.std.proofs.Common.{◌≡◌, length, map, take}
-use Rattle.group_matching.specs.inner.Groups.{group_count}
+use Rattle.set_matcher.specs.inner.SetMatcher.{glob_count}
 use Rattle.globset.specs.inner.StoredGlobs.{AreAdded}
 use Rattle.globset.proofs.set.stored.Stored.of_references.Given as goal
 
@@ -7,5 +7,5 @@ abbrev pub invariant-loop-index : goal.invariant-loop-index
 invariant-loop-index l = record {
   given : l.builder.given ≡ map (λ g. g.now) (take l.index l.references);
   added : AreAdded l.builder;
-  count : group_count l.builder.parts ≡ length l.references;
+  count : glob_count l.builder.parts ≡ length l.references;
 }
