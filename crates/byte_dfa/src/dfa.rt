@@ -154,6 +154,7 @@ impl Dfa {
         ensures room { index_capacity into.new ≡ index_capacity into.old }
         ensures found { (k : ℕ) → IsTrue (has_index into.new k) ↔ (IsReached self.now.source text.now k ⊎ IsTrue (has_index into.old k)) }
         ensures visits { visits.new ≤ visits.old + (length text.now + 1) }
+        ensures counted { visits.old ≤ visits.new }
     {
         if self.rejects_last_byte(text) {
             return;
@@ -188,6 +189,7 @@ impl Dfa {
     pub fn is_match(&self, text: &[u8], visits: &mut Visits) -> bool
         ensures some { IsTrue result ↔ ((k : ℕ) × IsReached self.now.source text.now k) }
         ensures visits { visits.new ≤ visits.old + (length text.now + 1) }
+        ensures counted { visits.old ≤ visits.new }
     {
         if self.rejects_last_byte(text) {
             return false;
@@ -220,6 +222,7 @@ impl Dfa {
     pub fn can_match_after(&self, text: &[u8], byte: u8, visits: &mut Visits) -> bool
         ensures some { IsTrue result ↔ MatchesAfter self.now.source (text.now ++ byte ∷ []) }
         ensures visits { visits.new ≤ visits.old + (length text.now + 1) }
+        ensures counted { visits.old ≤ visits.new }
     {
         let table = self.table.as_slice();
         let mut state = self.start;

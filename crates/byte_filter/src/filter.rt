@@ -149,6 +149,7 @@ impl Filter {
         ensures room { index_capacity marks.new ≡ index_capacity marks.old }
         ensures marks { (k : ℕ) → IsTrue (has_index marks.new k) ↔ (IsNamed self.now text.now k ⊎ IsTrue (has_index marks.old k)) }
         ensures visits { visits.new ≤ visits.old + length text.now * (2 * (2 + length self.now)) }
+        ensures counted { visits.old ≤ visits.new }
     {
         if text.len() < 3 {
             return;
@@ -179,6 +180,7 @@ impl Filter {
         ensures room { index_capacity marks.new ≡ index_capacity marks.old }
         ensures marks { (k : ℕ) → IsTrue (has_index marks.new k) ↔ (HasEntry self.now text.now (key % 16777216) k ⊎ IsTrue (has_index marks.old k)) }
         ensures visits { visits.new ≤ visits.old + (2 + length self.now) }
+        ensures counted { visits.old ≤ visits.new }
     {
         if self.has_short {
             self.mark_key(key % LONG, text, signature, marks, visits);
@@ -200,6 +202,7 @@ impl Filter {
         ensures room { index_capacity marks.new ≡ index_capacity marks.old }
         ensures marks { (k : ℕ) → IsTrue (has_index marks.new k) ↔ (HasEntry self.now text.now key k ⊎ IsTrue (has_index marks.old k)) }
         ensures visits { visits.new ≤ visits.old + (2 + length self.now) }
+        ensures counted { visits.old ≤ visits.new }
     {
         visits.tick();
         if self.keys.has(key) {
@@ -222,6 +225,7 @@ impl Filter {
         ensures room { index_capacity marks.new ≡ index_capacity marks.old }
         ensures marks { (k : ℕ) → IsTrue (has_index marks.new k) ↔ (HasEntry self.now text.now key k ⊎ IsTrue (has_index marks.old k)) }
         ensures visits { visits.new ≤ visits.old + (1 + length self.now) }
+        ensures counted { visits.old ≤ visits.new }
     {
         visits.tick();
         let slot = place(key, self.heads.len());

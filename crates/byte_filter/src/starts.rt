@@ -121,6 +121,7 @@ impl StartFilter {
         ensures marks { (m : Machine) → IsFilterOf m self.now → (i k : ℕ) → i < length m.starts → Accepts m.states k (slice_index m.starts i) text.now → IsTrue (has_index marks.new i) }
         ensures exact { (m : Machine) → IsFilterOf m self.now → (k : ℕ) → IsReached m text.now k ↔ IsReachedMarked m marks.new text.now k }
         ensures visits { visits.new ≤ visits.old + length text.now * (3 * self.now.count) }
+        ensures counted { visits.old ≤ visits.new }
     {
         mark_others(&self.others, text, marks);
         self.filter.mark(text, marks, visits);

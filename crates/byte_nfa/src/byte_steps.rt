@@ -127,6 +127,7 @@ impl Nfa {
         ensures room { step_capacity into.new ≡ step_capacity into.old }
         ensures steps { OnOk result (AreStepsOf self.now from.old into.new) }
         ensures visits { visits.new ≤ visits.old + size self.now }
+        ensures counted { visits.old ≤ visits.new }
     {
         into.clear();
         let mut limit = self.state_count();

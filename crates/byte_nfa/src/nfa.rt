@@ -149,6 +149,7 @@ impl Nfa {
         ensures steps { (y : List ℕ) (k : ℕ) → AcceptsFrom self.now from.old (byte ∷ y) k ↔ AcceptsFrom self.now to.new y k }
         ensures some { IsTrue result ↔ HasSome self.now to.new }
         ensures visits { visits.new ≤ visits.old + size self.now }
+        ensures counted { visits.old ≤ visits.new }
     {
         self.step_in(0, self.state_count(), from, byte, to, visits)
     }
@@ -162,6 +163,7 @@ impl Nfa {
         ensures into_capacity { index_capacity into.new ≡ index_capacity into.old }
         ensures ends { (k : ℕ) → IsTrue (has_index into.new k) ↔ (AcceptsFrom self.now from.old [] k ⊎ IsTrue (has_index into.old k)) }
         ensures visits { visits.new ≤ visits.old + size self.now }
+        ensures counted { visits.old ≤ visits.new }
     {
         self.ends_in(0, self.state_count(), from, into, visits);
     }
@@ -172,6 +174,7 @@ impl Nfa {
         ensures room { state_capacity from.new ≡ state_capacity from.old }
         ensures some { IsTrue result ↔ ((k : ℕ) × AcceptsFrom self.now from.old [] k) }
         ensures visits { visits.new ≤ visits.old + size self.now }
+        ensures counted { visits.old ≤ visits.new }
     {
         self.has_end_in(0, self.state_count(), from, visits)
     }

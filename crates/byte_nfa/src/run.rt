@@ -40,6 +40,7 @@ impl Nfa {
         ensures into_capacity { index_capacity into.new ≡ index_capacity into.old }
         ensures found { (k : ℕ) → IsTrue (has_index into.new k) ↔ (IsReached self.now text.now k ⊎ IsTrue (has_index into.old k)) }
         ensures visits { visits.new ≤ visits.old + (length text.now + 1) * size self.now }
+        ensures counted { visits.old ≤ visits.new }
     {
         self.start(&mut sets.current);
         for byte in text {
@@ -61,6 +62,7 @@ impl Nfa {
         ensures room { sets_capacity sets.new ≡ sets_capacity sets.old }
         ensures some { IsTrue result ↔ ((k : ℕ) × IsReached self.now text.now k) }
         ensures visits { visits.new ≤ visits.old + (length text.now + 1) * size self.now }
+        ensures counted { visits.old ≤ visits.new }
     {
         self.start(&mut sets.current);
         for byte in text {
@@ -94,6 +96,7 @@ impl Nfa {
         ensures into_capacity { index_capacity into.new ≡ index_capacity into.old }
         ensures found { (k : ℕ) → IsTrue (has_index into.new k) ↔ (Accepts self.now.states k span.start text.now ⊎ IsTrue (has_index into.old k)) }
         ensures visits { (width : ℕ) → span.start < span.low + width → visits.new ≤ visits.old + (length text.now + 1) * width }
+        ensures counted { visits.old ≤ visits.new }
     {
         let _states = self.state_count();
         if span.start - span.low < WORD_STATES {
@@ -123,6 +126,7 @@ impl Nfa {
         ensures starts { sets.new.starts ≡ sets.old.starts }
         ensures some { IsTrue result ↔ ((k : ℕ) × Accepts self.now.states k span.start text.now) }
         ensures visits { (width : ℕ) → span.start < span.low + width → visits.new ≤ visits.old + (length text.now + 1) * width }
+        ensures counted { visits.old ≤ visits.new }
     {
         let _states = self.state_count();
         if span.start - span.low < WORD_STATES {
@@ -145,6 +149,7 @@ impl Nfa {
         ensures some { IsTrue result → (k : ℕ) → Accepts self.now.states k span.start text.now ↔ AcceptsFrom self.now sets.new.current [] k }
         ensures none { IsFalse result → (k : ℕ) → Accepts self.now.states k span.start text.now → ⊥ }
         ensures visits { (width : ℕ) → span.start < span.low + width → visits.new ≤ visits.old + length text.now * width }
+        ensures counted { visits.old ≤ visits.new }
     {
         // What is below the number of states has a next number.
         let _states = self.state_count();

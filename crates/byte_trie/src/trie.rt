@@ -89,6 +89,7 @@ impl Trie {
         ensures room { index_capacity into.new ≡ index_capacity into.old }
         ensures found { HasAlso into.old into.new (found self.now path.now) }
         ensures visits { visits.new ≤ visits.old + (length path.now + 1) }
+        ensures counted { visits.old ≤ visits.new }
     {
         if self.count == 0 {
             return;
@@ -102,6 +103,7 @@ impl Trie {
     pub fn is_match(&self, path: &[u8], visits: &mut Visits) -> bool
         ensures some { IsTrue result ↔ (found self.now path.now ≢ []) }
         ensures visits { visits.new ≤ visits.old + (length path.now + 1) }
+        ensures counted { visits.old ≤ visits.new }
     {
         if self.count == 0 {
             return false;
@@ -115,6 +117,7 @@ impl Trie {
     pub fn count_matches(&self, path: &[u8], visits: &mut Visits) -> usize
         ensures count { result ≡ length (found self.now path.now) }
         ensures visits { visits.new ≤ visits.old + (length path.now + 1) }
+        ensures counted { visits.old ≤ visits.new }
     {
         if self.count == 0 {
             return 0;

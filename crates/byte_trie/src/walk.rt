@@ -16,6 +16,7 @@ pub fn find(tree: &Tree, anchor: Anchor, path: &[u8], into: &mut IndexSet, visit
     ensures room { index_capacity into.new ≡ index_capacity into.old }
     ensures found { HasAlso into.old into.new (along (under tree.now 0) (from_anchor anchor path.now)) }
     ensures visits { visits.new ≤ visits.old + (length path.now + 1) }
+    ensures counted { visits.old ≤ visits.new }
 {
     let mut node = 0;
     for at in 0..path.len() + 1 {
@@ -33,6 +34,7 @@ pub fn has_some(tree: &Tree, anchor: Anchor, path: &[u8], visits: &mut Visits) -
     requires { IsTree tree.now }
     ensures some { IsTrue result ↔ (along (under tree.now 0) (from_anchor anchor path.now) ≢ []) }
     ensures visits { visits.new ≤ visits.old + (length path.now + 1) }
+    ensures counted { visits.old ≤ visits.new }
 {
     let mut node = 0;
     for at in 0..path.len() + 1 {
@@ -54,6 +56,7 @@ pub fn count(tree: &Tree, anchor: Anchor, path: &[u8], visits: &mut Visits) -> u
     requires fits { length (along (under tree.now 0) (from_anchor anchor path.now)) < 2 ^ 64 }
     ensures count { result ≡ length (along (under tree.now 0) (from_anchor anchor path.now)) }
     ensures visits { visits.new ≤ visits.old + (length path.now + 1) }
+    ensures counted { visits.old ≤ visits.new }
 {
     let mut node = 0;
     let mut count = 0;

@@ -164,6 +164,7 @@ impl Compiled {
         ensures kept { sets_capacity sets.old ≤ sets_capacity sets.new }
         ensures memory { size self.now ≤ sets_capacity sets.old → IsOk result }
         ensures visits { visits.new ≤ visits.old + (length text.now + 1) * max_reads self.now }
+        ensures counted { visits.old ≤ visits.new }
     {
         match &self.strategy {
             Strategy::Whole(automaton) => simulation::find(automaton, text, sets, found, visits),
@@ -187,6 +188,7 @@ impl Compiled {
         ensures kept { sets_capacity sets.old ≤ sets_capacity sets.new }
         ensures memory { size self.now ≤ sets_capacity sets.old → IsOk result }
         ensures visits { visits.new ≤ visits.old + (length text.now + 1) * max_reads self.now }
+        ensures counted { visits.old ≤ visits.new }
     {
         match &self.strategy {
             Strategy::Whole(automaton) => simulation::is_match(automaton, text, sets, visits),
@@ -213,6 +215,7 @@ impl Compiled {
         ensures kept { sets_capacity sets.old ≤ sets_capacity sets.new }
         ensures memory { size self.now ≤ sets_capacity sets.old → IsOk result }
         ensures visits { visits.new ≤ visits.old + (length text.now + 2) * size self.now }
+        ensures counted { visits.old ≤ visits.new }
     {
         match &self.strategy {
             Strategy::Whole(automaton) => {

@@ -93,6 +93,7 @@ impl Filtered {
         ensures kept { sets_capacity sets.old ≤ sets_capacity sets.new }
         ensures memory { size self.now ≤ sets_capacity sets.old → IsOk result }
         ensures visits { visits.new ≤ visits.old + (length text.now + 1) * max_reads self.now }
+        ensures counted { visits.old ≤ visits.new }
     {
         mark(&self.automaton, &self.filter, text, sets, visits)?;
         find_from_marked(&self.automaton, text, sets, found, visits);
@@ -113,6 +114,7 @@ impl Filtered {
         ensures kept { sets_capacity sets.old ≤ sets_capacity sets.new }
         ensures memory { size self.now ≤ sets_capacity sets.old → IsOk result }
         ensures visits { visits.new ≤ visits.old + (length text.now + 1) * max_reads self.now }
+        ensures counted { visits.old ≤ visits.new }
     {
         mark(&self.automaton, &self.filter, text, sets, visits)?;
         Ok(is_match_from_marked(&self.automaton, text, sets, visits))
@@ -136,6 +138,7 @@ impl Filtered {
         ensures kept { sets_capacity sets.old ≤ sets_capacity sets.new }
         ensures memory { size self.now ≤ sets_capacity sets.old → IsOk result }
         ensures visits { visits.new ≤ visits.old + (length text.now + 2) * size self.now }
+        ensures counted { visits.old ≤ visits.new }
     {
         simulation::can_match_after(&self.automaton, text, byte, sets, visits)
     }
@@ -203,6 +206,7 @@ fn mark(
     ensures kept { sets_capacity sets.old ≤ sets_capacity sets.new }
     ensures memory { size automaton.now ≤ sets_capacity sets.old → IsOk result }
     ensures visits { visits.new ≤ visits.old + length text.now * (3 * length automaton.now.starts) }
+    ensures counted { visits.old ≤ visits.new }
 {
     sets.reserve(automaton.state_count())?;
     sets.starts.clear();
@@ -225,6 +229,7 @@ fn find_from_marked(
     ensures found_capacity { index_capacity found.new ≡ index_capacity found.old }
     ensures found { (k : ℕ) → IsTrue (has_index found.new k) ↔ (IsReachedMarked automaton.now sets.old.starts text.now k ⊎ IsTrue (has_index found.old k)) }
     ensures visits { visits.new ≤ visits.old + (length text.now + 1) * size automaton.now }
+    ensures counted { visits.old ≤ visits.new }
 {
     let count = automaton.starts().len();
     let mut from = 0;
@@ -246,6 +251,7 @@ fn is_match_from_marked(
     ensures room { sets_capacity sets.new ≡ sets_capacity sets.old }
     ensures some { IsTrue result ↔ ((k : ℕ) × IsReachedMarked automaton.now sets.old.starts text.now k) }
     ensures visits { visits.new ≤ visits.old + (length text.now + 1) * size automaton.now }
+    ensures counted { visits.old ≤ visits.new }
 {
     let count = automaton.starts().len();
     let mut from = 0;

@@ -114,6 +114,7 @@ impl Parts {
         ensures kept { sets_capacity sets.old ≤ sets_capacity sets.new }
         ensures memory { size self.now ≤ sets_capacity sets.old → IsOk result }
         ensures visits { visits.new ≤ visits.old + (length text.now + 1) * size self.now }
+        ensures counted { visits.old ≤ visits.new }
     {
         find_by_tables(&self.tables, text, found, visits);
         find_by_simulation(&self.automata, text, sets, found, visits)
@@ -133,6 +134,7 @@ impl Parts {
         ensures kept { sets_capacity sets.old ≤ sets_capacity sets.new }
         ensures memory { size self.now ≤ sets_capacity sets.old → IsOk result }
         ensures visits { visits.new ≤ visits.old + (length text.now + 1) * size self.now }
+        ensures counted { visits.old ≤ visits.new }
     {
         if is_match_by_tables(&self.tables, text, visits) {
             return Ok(true);
@@ -147,6 +149,7 @@ fn find_by_tables(tables: &[Dfa], text: &[u8], found: &mut IndexSet, visits: &mu
     ensures room { index_capacity found.new ≡ index_capacity found.old }
     ensures found { (k : ℕ) → IsTrue (has_index found.new k) ↔ (SomeReached (sources tables.now) text.now k ⊎ IsTrue (has_index found.old k)) }
     ensures visits { visits.new ≤ visits.old + (length text.now + 1) * length tables.now }
+    ensures counted { visits.old ≤ visits.new }
 {
     for table in tables {
         table.find(text, found, visits);
@@ -157,6 +160,7 @@ fn find_by_tables(tables: &[Dfa], text: &[u8], found: &mut IndexSet, visits: &mu
 fn is_match_by_tables(tables: &[Dfa], text: &[u8], visits: &mut Visits) -> bool
     ensures some { IsTrue result ↔ ((k : ℕ) × SomeReached (sources tables.now) text.now k) }
     ensures visits { visits.new ≤ visits.old + (length text.now + 1) * length tables.now }
+    ensures counted { visits.old ≤ visits.new }
 {
     for table in tables {
         if table.is_match(text, visits) {
@@ -181,6 +185,7 @@ fn find_by_simulation(
     ensures kept { sets_capacity sets.old ≤ sets_capacity sets.new }
     ensures memory { total automata.now ≤ sets_capacity sets.old → IsOk result }
     ensures visits { visits.new ≤ visits.old + (length text.now + 1) * total automata.now }
+    ensures counted { visits.old ≤ visits.new }
 {
     for automaton in automata {
         simulation::find(automaton, text, sets, found, visits)?;
@@ -199,6 +204,7 @@ fn is_match_by_simulation(
     ensures kept { sets_capacity sets.old ≤ sets_capacity sets.new }
     ensures memory { total automata.now ≤ sets_capacity sets.old → IsOk result }
     ensures visits { visits.new ≤ visits.old + (length text.now + 1) * total automata.now }
+    ensures counted { visits.old ≤ visits.new }
 {
     for automaton in automata {
         if simulation::is_match(automaton, text, sets, visits)? {

@@ -27,6 +27,7 @@ pub fn find(
     ensures kept { sets_capacity sets.old ≤ sets_capacity sets.new }
     ensures memory { size automaton.now ≤ sets_capacity sets.old → IsOk result }
     ensures visits { visits.new ≤ visits.old + (length text.now + 1) * size automaton.now }
+    ensures counted { visits.old ≤ visits.new }
 {
     sets.reserve(automaton.state_count())?;
     automaton.find(text, sets, found, visits);
@@ -45,6 +46,7 @@ pub fn is_match(
     ensures kept { sets_capacity sets.old ≤ sets_capacity sets.new }
     ensures memory { size automaton.now ≤ sets_capacity sets.old → IsOk result }
     ensures visits { visits.new ≤ visits.old + (length text.now + 1) * size automaton.now }
+    ensures counted { visits.old ≤ visits.new }
 {
     sets.reserve(automaton.state_count())?;
     Ok(automaton.is_match(text, sets, visits))
@@ -63,6 +65,7 @@ pub fn can_match_after(
     ensures kept { sets_capacity sets.old ≤ sets_capacity sets.new }
     ensures memory { size automaton.now ≤ sets_capacity sets.old → IsOk result }
     ensures visits { visits.new ≤ visits.old + (length text.now + 2) * size automaton.now }
+    ensures counted { visits.old ≤ visits.new }
 {
     sets.reserve(automaton.state_count())?;
     Ok(automaton.can_match_after(text, byte, sets, visits))

@@ -92,6 +92,7 @@ impl LiteralIndex {
         ensures room { index_capacity found.new ≡ index_capacity found.old }
         ensures found { HasAlso found.old found.new (keys_found self.now path.now) }
         ensures visits { visits.new ≤ visits.old + (3 + 2 * (length path.now + 1)) }
+        ensures counted { visits.old ≤ visits.new }
     {
         found.put_all(self.by_path(path, visits));
         found.put_all(self.by_component(path, visits));
@@ -104,6 +105,7 @@ impl LiteralIndex {
     pub fn is_match(&self, path: &Candidate<'_>, visits: &mut Visits) -> bool
         ensures some { IsTrue result ↔ (keys_found self.now path.now ≢ []) }
         ensures visits { visits.new ≤ visits.old + (3 + 2 * (length path.now + 1)) }
+        ensures counted { visits.old ≤ visits.new }
     {
         if !self.by_path(path, visits).is_empty() {
             return true;
@@ -131,6 +133,7 @@ impl LiteralIndex {
     pub fn can_match_below(&self, folder: &[u8], visits: &mut Visits) -> bool
         ensures some { IsTrue result ↔ MatchesBelow self.now folder.now }
         ensures visits { visits.new ≤ visits.old + (length folder.now + 2) }
+        ensures counted { visits.old ≤ visits.new }
     {
         if self.has_others {
             return true;
@@ -145,6 +148,7 @@ impl LiteralIndex {
     pub fn count_found(&self, path: &Candidate<'_>, visits: &mut Visits) -> Option<usize>
         ensures count { MatchOption result (2 ^ 64 ≤ length (keys_found self.now path.now)) (λ count. count ≡ length (keys_found self.now path.now)) }
         ensures visits { visits.new ≤ visits.old + (3 + 2 * (length path.now + 1)) }
+        ensures counted { visits.old ≤ visits.new }
     {
         let in_tables = self.count_in_tables(path, visits);
         let at_beginning = self.prefixes.count_matches(path.path(), visits);
@@ -156,6 +160,7 @@ impl LiteralIndex {
     fn count_in_tables(&self, path: &Candidate<'_>, visits: &mut Visits) -> Option<usize>
         ensures count { MatchOption result (2 ^ 64 ≤ tables_count self.now path.now) (λ count. count ≡ tables_count self.now path.now) }
         ensures visits { visits.new ≤ visits.old + 3 }
+        ensures counted { visits.old ≤ visits.new }
     {
         let by_path = self.by_path(path, visits).len();
         let by_component = self.by_component(path, visits).len();
@@ -167,6 +172,7 @@ impl LiteralIndex {
     fn by_path(&self, path: &Candidate<'_>, visits: &mut Visits) -> &[usize]
         ensures found { result.now ≡ indexes_under self.now.paths path.now }
         ensures visits { visits.new ≤ visits.old + 1 }
+        ensures counted { visits.old ≤ visits.new }
     {
         if self.paths.is_empty() {
             return &[];
@@ -178,6 +184,7 @@ impl LiteralIndex {
     fn by_component(&self, path: &Candidate<'_>, visits: &mut Visits) -> &[usize]
         ensures found { result.now ≡ indexes_under self.now.components (last_component path.now) }
         ensures visits { visits.new ≤ visits.old + 1 }
+        ensures counted { visits.old ≤ visits.new }
     {
         if self.components.is_empty() {
             return &[];
@@ -189,6 +196,7 @@ impl LiteralIndex {
     fn by_extension(&self, path: &Candidate<'_>, visits: &mut Visits) -> &[usize]
         ensures found { result.now ≡ indexes_under self.now.extensions (component_extension path.now) }
         ensures visits { visits.new ≤ visits.old + 1 }
+        ensures counted { visits.old ≤ visits.new }
     {
         if self.extensions.is_empty() {
             return &[];

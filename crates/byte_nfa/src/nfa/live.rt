@@ -38,6 +38,7 @@ impl Nfa {
         requires live { AreLive self.now live.now }
         ensures some { IsTrue result ↔ ((y : List ℕ) × (k : ℕ) × AllBytes y × AcceptsFrom self.now from.now y k) }
         ensures visits { visits.new ≤ visits.old + size self.now }
+        ensures counted { visits.old ≤ visits.new }
     {
         let mut limit = self.state_count();
         while limit > 0 {
@@ -60,6 +61,7 @@ impl Nfa {
         ensures room { state_capacity live.new ≡ state_capacity live.old }
         ensures some { IsTrue result ↔ ((y : List ℕ) × (k : ℕ) × AllBytes y × AcceptsFrom self.now from.now y k) }
         ensures visits { visits.new ≤ visits.old + size self.now }
+        ensures counted { visits.old ≤ visits.new }
     {
         live.clear();
         for s in 0..self.state_count() {

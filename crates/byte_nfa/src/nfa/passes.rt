@@ -39,6 +39,7 @@ impl Nfa {
         ensures steps { (y : List ℕ) (k : ℕ) → AcceptsBelow self.now high from.old (byte ∷ y) k ↔ AcceptsFrom self.now to.new y k }
         ensures some { IsTrue result ↔ HasSome self.now to.new }
         ensures visits { visits.new + low ≤ visits.old + high }
+        ensures counted { visits.old ≤ visits.new }
     {
         if self.has_blocks() {
             return self.step_by_words(low, high, from, byte, to, visits);
@@ -68,6 +69,7 @@ impl Nfa {
         ensures steps { (y : List ℕ) (k : ℕ) → AcceptsBelow self.now high from.old (byte ∷ y) k ↔ AcceptsFrom self.now to.new y k }
         ensures some { IsTrue result ↔ HasSome self.now to.new }
         ensures visits { visits.new + low ≤ visits.old + high }
+        ensures counted { visits.old ≤ visits.new }
     {
         to.clear();
         let mut some = false;
@@ -105,6 +107,7 @@ impl Nfa {
         ensures into_capacity { index_capacity into.new ≡ index_capacity into.old }
         ensures ends { (k : ℕ) → IsTrue (has_index into.new k) ↔ (AcceptsBelow self.now high from.old [] k ⊎ IsTrue (has_index into.old k)) }
         ensures visits { visits.new + low ≤ visits.old + high }
+        ensures counted { visits.old ≤ visits.new }
     {
         let mut limit = high;
         while limit > low {
@@ -136,6 +139,7 @@ impl Nfa {
         ensures room { state_capacity from.new ≡ state_capacity from.old }
         ensures some { IsTrue result ↔ ((k : ℕ) × AcceptsBelow self.now high from.old [] k) }
         ensures visits { visits.new + low ≤ visits.old + high }
+        ensures counted { visits.old ≤ visits.new }
     {
         let mut limit = high;
         while limit > low {

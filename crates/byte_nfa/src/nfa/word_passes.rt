@@ -143,6 +143,7 @@ impl Nfa {
         ensures steps { (y : List ℕ) (k : ℕ) → AcceptsBelow self.now high from.old (byte ∷ y) k ↔ AcceptsFrom self.now to.new y k }
         ensures some { IsTrue result ↔ HasSome self.now to.new }
         ensures visits { visits.new + low ≤ visits.old + high }
+        ensures counted { visits.old ≤ visits.new }
     {
         to.clear();
         let mut some = false;
@@ -175,6 +176,7 @@ impl Nfa {
         ensures to_capacity { state_capacity to.new ≡ state_capacity to.old }
         ensures taken { Takes self.now.states byte limit (has_state from.old) (has_state to.old) (has_state from.new) (has_state to.new) result.limit result.some }
         ensures visits { visits.new ≤ visits.old + 1 }
+        ensures counted { visits.old ≤ visits.new }
     {
         let end = from.end_below(limit);
         if end == 0 {

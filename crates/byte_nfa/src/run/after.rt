@@ -26,6 +26,7 @@ impl Nfa {
         ensures room { sets_capacity sets.new ≡ sets_capacity sets.old }
         ensures some { IsTrue result ↔ MatchesAfter self.now (text.now ++ byte ∷ []) }
         ensures visits { visits.new ≤ visits.old + (length text.now + 2) * size self.now }
+        ensures counted { visits.old ≤ visits.new }
     {
         self.start(&mut sets.current);
         for read in text {

@@ -27,6 +27,7 @@ impl Nfa {
         ensures into_capacity { index_capacity into.new ≡ index_capacity into.old }
         ensures found { (k : ℕ) → IsTrue (has_index into.new k) ↔ (Accepts self.now.states k span.start text.now ⊎ IsTrue (has_index into.old k)) }
         ensures visits { (width : ℕ) → span.start < span.low + width → visits.new ≤ visits.old + (length text.now + 1) * width }
+        ensures counted { visits.old ≤ visits.new }
     {
         let mut left = self.run_in_word(span, text, visits);
         while let Some(s) = left.take_highest() {
@@ -44,6 +45,7 @@ impl Nfa {
         requires few { span.start < span.low + 64 }
         ensures some { IsTrue result ↔ ((k : ℕ) × Accepts self.now.states k span.start text.now) }
         ensures visits { (width : ℕ) → span.start < span.low + width → visits.new ≤ visits.old + (length text.now + 1) * width }
+        ensures counted { visits.old ≤ visits.new }
     {
         let mut left = self.run_in_word(span, text, visits);
         while let Some(s) = left.take_highest() {
@@ -62,6 +64,7 @@ impl Nfa {
         ensures of { IsOfSpan span result }
         ensures accepts { (k : ℕ) → Accepts self.now.states k span.start text.now ↔ AcceptsInWord self.now result [] k }
         ensures visits { (width : ℕ) → span.start < span.low + width → visits.new ≤ visits.old + length text.now * width }
+        ensures counted { visits.old ≤ visits.new }
     {
         let mut set = WordSet::empty(span.low);
         set.put(span.start);
@@ -82,6 +85,7 @@ impl Nfa {
         ensures of { IsOfSpan span result }
         ensures steps { (y : List ℕ) (k : ℕ) → AcceptsInWord self.now from (byte ∷ y) k ↔ AcceptsInWord self.now result y k }
         ensures visits { visits.new + span.low ≤ visits.old + (span.start + 1) }
+        ensures counted { visits.old ≤ visits.new }
     {
         let mut left = from;
         let mut to = WordSet::empty(span.low);

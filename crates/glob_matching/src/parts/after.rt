@@ -29,6 +29,7 @@ impl Parts {
         ensures kept { sets_capacity sets.old ≤ sets_capacity sets.new }
         ensures memory { size self.now ≤ sets_capacity sets.old → IsOk result }
         ensures visits { visits.new ≤ visits.old + (length text.now + 2) * size self.now }
+        ensures counted { visits.old ≤ visits.new }
     {
         if can_match_by_tables(&self.tables, text, byte, visits) {
             return Ok(true);
@@ -41,6 +42,7 @@ impl Parts {
 fn can_match_by_tables(tables: &[Dfa], text: &[u8], byte: u8, visits: &mut Visits) -> bool
     ensures some { IsTrue result ↔ SomeMatchesAfter (sources tables.now) (text.now ++ byte ∷ []) }
     ensures visits { visits.new ≤ visits.old + (length text.now + 2) * length tables.now }
+    ensures counted { visits.old ≤ visits.new }
 {
     for table in tables {
         if table.can_match_after(text, byte, visits) {
@@ -63,6 +65,7 @@ fn can_match_by_simulation(
     ensures kept { sets_capacity sets.old ≤ sets_capacity sets.new }
     ensures memory { total automata.now ≤ sets_capacity sets.old → IsOk result }
     ensures visits { visits.new ≤ visits.old + (length text.now + 2) * total automata.now }
+    ensures counted { visits.old ≤ visits.new }
 {
     for automaton in automata {
         if simulation::can_match_after(automaton, text, byte, sets, visits)? {

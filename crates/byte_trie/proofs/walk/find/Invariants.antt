@@ -12,4 +12,5 @@ invariant-loop-at l = record {
   node : l.node < node_count l.tree;
   at : l.at ≤ length l.path;
   visits : l.visits ≤ l.initial.visits + l.at;
+  counted : l.initial.visits ≤ l.visits;
 }

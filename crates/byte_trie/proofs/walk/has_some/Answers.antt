@@ -19,6 +19,7 @@ loop-at-preserved c =
       node = search rules;
       at = omega (arith, w.1, length-from_anchor c.args.anchor c.args.path.now);
       visits = omega (arith, c.read-reading.ensures.visits, c.loop-at.invariant.visits);
+      counted = omega arith;
     }
 
 pub returns-in-None-clause-some : goal.returns-in-None-clause-some

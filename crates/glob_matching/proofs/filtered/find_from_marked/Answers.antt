@@ -22,6 +22,7 @@ loop-i-preserved c =
       found = λ k. found_more m marks c.args.text.now k c.loop-i.from i next.0 lt marked between (inv.found k) (rw c.span_of.ensures.span at took.found k);
       visits = visits_more m c.requires.apart (length c.args.text.now + 1) c.loop-i.from i c.loop-i.visits c.args.visits.now next.0 lt inv.visits c.find_from.new.visits
           (rw c.span_of.ensures.span at took.visits);
+      counted = omega arith;
     }
 
 pub returns-clause-found : goal.returns-clause-found

@@ -13,6 +13,7 @@ invariant-loop-i l = record {
   found_capacity : index_capacity l.found ≡ index_capacity l.fn.found;
   found : (k : ℕ) → IsTrue (has_index l.found k) ↔ (IsReachedBefore l.automaton l.fn.sets.starts l.from l.text k ⊎ IsTrue (has_index l.fn.found k));
   visits : l.visits ≤ l.fn.visits + (length l.text + 1) * low_of l.automaton.starts l.from;
+  counted : l.fn.visits ≤ l.visits;
 }
 
 abbrev pub decreases-loop-i : goal.decreases-loop-i

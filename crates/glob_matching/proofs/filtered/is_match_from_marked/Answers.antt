@@ -28,6 +28,7 @@ loop-i-preserved c =
           ((before_more m marks c.args.text.now k c.loop-i.from i next.0 lt marked between).0 h);
       visits = visits_more m c.requires.apart (length c.args.text.now + 1) c.loop-i.from i c.loop-i.visits c.args.visits.now next.0 lt inv.visits c.is_match_from.new.visits
           (rw c.span_of.ensures.span at took.visits);
+      counted = omega arith;
     }
 
 pub returns-then-is_match_from-clause-some : goal.returns-then-is_match_from-clause-some

@@ -10,6 +10,7 @@ invariant-loop-i l = record {
   starts : l.sets.starts ≡ l.fn.sets.starts;
   none : (k : ℕ) → IsReachedBefore l.automaton l.fn.sets.starts l.from l.text k → ⊥;
   visits : l.visits ≤ l.fn.visits + (length l.text + 1) * low_of l.automaton.starts l.from;
+  counted : l.fn.visits ≤ l.visits;
 }
 
 abbrev pub decreases-loop-i : goal.decreases-loop-i

@@ -28,6 +28,7 @@ loop-automaton-preserved c =
       kept = omega (arith, c.find.ensures.kept, inv.kept);
       visits = rw (total_more automata i m c.loop-automaton-test.true c.automaton-item.is)
           (visits_more n (total (take i automata)) (size m) c.loop-automaton.visits c.find.new.visits c.args.visits.now c.find.ensures.visits inv.visits);
+      counted = omega arith;
     }
 
 pub returns-in_err-find-clause-memory : goal.returns-in_err-find-clause-memory

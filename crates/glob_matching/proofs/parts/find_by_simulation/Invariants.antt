@@ -11,4 +11,5 @@ invariant-loop-automaton l = record {
   found : (k : ℕ) → IsTrue (has_index l.found k) ↔ (SomeReached (take l.automaton-index l.automata) l.text k ⊎ IsTrue (has_index l.fn.found k));
   kept : sets_capacity l.fn.sets ≤ sets_capacity l.sets;
   visits : l.visits ≤ l.fn.visits + (length l.text + 1) * total (take l.automaton-index l.automata);
+  counted : l.fn.visits ≤ l.visits;
 }

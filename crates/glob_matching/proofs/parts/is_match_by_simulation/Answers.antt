@@ -44,6 +44,7 @@ loop-automaton-preserved c =
       kept = omega (arith, c.is_match.ensures.kept, inv.kept);
       visits = rw (total_more automata i m c.loop-automaton-test.true c.automaton-item.is)
           (visits_more n (total (take i automata)) (size m) c.loop-automaton.visits c.is_match.new.visits c.args.visits.now c.is_match.ensures.visits inv.visits);
+      counted = omega arith;
     }
 
 pub returns-in_err-is_match-clause-memory : goal.returns-in_err-is_match-clause-memory

@@ -8,4 +8,5 @@ invariant-loop-automaton l = record {
   none : (k : ℕ) → SomeReached (take l.automaton-index l.automata) l.text k → ⊥;
   kept : sets_capacity l.fn.sets ≤ sets_capacity l.sets;
   visits : l.visits ≤ l.fn.visits + (length l.text + 1) * total (take l.automaton-index l.automata);
+  counted : l.fn.visits ≤ l.visits;
 }

@@ -6,4 +6,5 @@ abbrev pub invariant-loop-table : goal.invariant-loop-table
 invariant-loop-table l = record {
   none : (k : ℕ) → SomeReached (take l.table-index (sources l.tables)) l.text k → ⊥;
   visits : l.visits ≤ l.fn.visits + (length l.text + 1) * l.table-index;
+  counted : l.fn.visits ≤ l.visits;
 }

@@ -34,6 +34,7 @@ loop-read-init c =
       row = sound.begins;
       same = λ z k. started_quiet d sound (c.args.text.now ++ z) k (none c.if-has_some.false);
       visits = omega arith;
+      counted = omega arith;
     }
 
 pub returns-then-state-eq-DEAD-clause-some : goal.returns-then-state-eq-DEAD-clause-some
@@ -126,11 +127,13 @@ loop-read-preserved c =
             let none = rw (w.deref-then-state-ge-SPECIAL.ensures.value, c.as_slice-table.ensures.value) at w.has_some-then-state-ge-SPECIAL.ensures.none in
             sym (quiet_later d sound l.state byte inv.row small e is (rest ++ z) k w.if-state-ge-SPECIAL.true c.next-state.ensures.small (none w.if-has_some-2.false)) ∙ (rw more at inv.same z k);
         visits = omega (arith, inv.visits, c.next-state.ensures.visits);
+        counted = omega arith;
       }
       | else-state-ge-SPECIAL w ↦ rw w.state-is record {
         row = low_row d sound l.state byte inv.row small e is w.if-state-ge-SPECIAL.false;
         same = λ z k. sym (low_later d sound l.state byte inv.row small e is (rest ++ z) k w.if-state-ge-SPECIAL.false) ∙ (rw more at inv.same z k);
         visits = omega (arith, inv.visits, c.next-state.ensures.visits);
+        counted = omega arith;
       }
     ]
 

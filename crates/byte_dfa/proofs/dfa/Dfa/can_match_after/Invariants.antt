@@ -10,4 +10,5 @@ invariant-loop-read l =
       row : IsRow d l.state;
       same : (z : List ℕ) (k : ℕ) → later d l.state (drop l.read-index l.text ++ z) k ≡ finds d (l.text ++ z) k;
       visits : l.visits ≤ l.fn.visits + l.read-index;
+      counted : l.fn.visits ≤ l.visits;
     }

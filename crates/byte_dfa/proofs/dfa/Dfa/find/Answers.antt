@@ -23,6 +23,7 @@ loop-byte-init c =
           (rw (c.deref.ensures.value, c.as_slice-table.ensures.value) at c.put_listed.ensures.has k);
       told = λ k. has_put _ (has_index c.args.into.now k) _ (rw (c.deref.ensures.value, c.as_slice-table.ensures.value) at c.put_listed.ensures.has k);
       visits = omega arith;
+      counted = omega arith;
     }
 
 pub returns-then-state-eq-DEAD-clause-found : goal.returns-then-state-eq-DEAD-clause-found
@@ -100,6 +101,7 @@ loop-byte-preserved c =
             (rw more at inv.found k);
         told = λ k. has_put (is_reported k (on_entry d (e - special))) (has_index l.into k) (has_index w.put_listed-then-state-told.new.into k) (rw (w.deref-then-state-told.ensures.value, c.as_slice-table.ensures.value) at w.put_listed-then-state-told.ensures.has k);
         visits = omega (arith, inv.visits, c.next-state.ensures.visits);
+        counted = omega arith;
       }
       | then-state-ge-SPECIAL+else-state-eq-DEAD+else-state-told w ↦ rw (w.state-is, w.into-is, w.told-is) record {
         row = high_row d sound l.state byte inv.row small e is w.if-state-ge-SPECIAL.true c.next-state.ensures.small;
@@ -110,6 +112,7 @@ loop-byte-preserved c =
             (rw more at inv.found k);
         told = inv.told;
         visits = omega (arith, inv.visits, c.next-state.ensures.visits);
+        counted = omega arith;
       }
       | else-state-ge-SPECIAL w ↦ rw (w.state-is, w.into-is, w.told-is) record {
         row = low_row d sound l.state byte inv.row small e is w.if-state-ge-SPECIAL.false;
@@ -117,6 +120,7 @@ loop-byte-preserved c =
         found = λ k. low_next d sound l.state byte inv.row small e is rest k (has_index l.into k) (finds d text k || has_index c.args.into.now k) w.if-state-ge-SPECIAL.false (rw more at inv.found k);
         told = inv.told;
         visits = omega (arith, inv.visits, c.next-state.ensures.visits);
+        counted = omega arith;
       }
     ]
 

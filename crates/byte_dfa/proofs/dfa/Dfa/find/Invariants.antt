@@ -14,4 +14,5 @@ invariant-loop-byte l =
       found : (k : ℕ) → (later d l.state (drop l.byte-index l.text) k || has_index l.into k) ≡ (finds d l.text k || has_index l.fn.into k);
       told : (k : ℕ) → IsTrue (is_reported k (on_entry d l.told)) → IsTrue (has_index l.into k);
       visits : l.visits ≤ l.fn.visits + l.byte-index;
+      counted : l.fn.visits ≤ l.visits;
     }

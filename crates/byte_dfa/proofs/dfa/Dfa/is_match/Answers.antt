@@ -30,6 +30,7 @@ loop-byte-init c =
       row = sound.begins;
       same = λ k. started_quiet d sound c.args.text.now k (none c.if-has_some.false);
       visits = omega arith;
+      counted = omega arith;
     }
 
 pub returns-then-state-eq-DEAD-clause-some : goal.returns-then-state-eq-DEAD-clause-some
@@ -122,11 +123,13 @@ loop-byte-preserved c =
             let none = rw (w.deref-then-state-ge-SPECIAL.ensures.value, c.as_slice-table.ensures.value) at w.has_some-then-state-ge-SPECIAL.ensures.none in
             sym (quiet_later d sound l.state byte inv.row small e is rest k w.if-state-ge-SPECIAL.true c.next-state.ensures.small (none w.if-has_some-2.false)) ∙ (rw more at inv.same k);
         visits = omega (arith, inv.visits, c.next-state.ensures.visits);
+        counted = omega arith;
       }
       | else-state-ge-SPECIAL w ↦ rw w.state-is record {
         row = low_row d sound l.state byte inv.row small e is w.if-state-ge-SPECIAL.false;
         same = λ k. sym (low_later d sound l.state byte inv.row small e is rest k w.if-state-ge-SPECIAL.false) ∙ (rw more at inv.same k);
         visits = omega (arith, inv.visits, c.next-state.ensures.visits);
+        counted = omega arith;
       }
     ]
 

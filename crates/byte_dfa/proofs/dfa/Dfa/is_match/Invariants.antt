@@ -10,4 +10,5 @@ invariant-loop-byte l =
       row : IsRow d l.state;
       same : (k : ℕ) → later d l.state (drop l.byte-index l.text) k ≡ finds d l.text k;
       visits : l.visits ≤ l.fn.visits + l.byte-index;
+      counted : l.fn.visits ≤ l.visits;
     }

@@ -43,6 +43,7 @@ loop-at-preserved-then-is_named c =
           (subst (λ (l : Link). (l.key ≡ c.args.key) × AreSigned y l.signs) link (c.is_named.ensures.named.0 c.if-is_named.true))
           (λ k. subst (λ p. has_index c.put.new.self k ≡ ((k == p) || has_index c.loop-at.marks k)) (ap (λ (l : Link). l.part) link) (c.put.ensures.has k));
       visits = omega (arith, inv.visits, c.tick-in-loop-at.ensures, last.within);
+      counted = omega arith;
     }
 
 pub loop-at-preserved : goal.loop-at-preserved
@@ -68,6 +69,7 @@ loop-at-preserved c =
       marks = next_passed links y slots c.args.key i c.index-link.result.now.next last same lt (has_index c.args.marks.now) (has_index c.loop-at.marks) (has_index c.loop-at.marks) marked
           (λ e. true≢false (sym (c.is_named.ensures.named.1 (subst (λ (l : Link). (l.key ≡ c.args.key) × AreSigned y l.signs) (sym link) e)) ∙ c.if-is_named.false)) (λ k. refl);
       visits = omega (arith, inv.visits, c.tick-in-loop-at.ensures, last.within);
+      counted = omega arith;
     }
 
 pub returns-clause-marks : goal.returns-clause-marks

@@ -17,6 +17,7 @@ loop-s-preserved c =
         live = live_put a s old (has_state w.put.new.self) inv.live test.below (test.leads.0 w.if-is_leading.true) w.put.ensures.has;
         none = none_more a s (has_state c.args.from.now) inv.none (λ at live. true≢false (sym at ∙ sym w.has.ensures ∙ w.if-has.false));
         visits = omega (arith, inv.visits, c.tick.ensures);
+        counted = omega arith;
       }
       | else-is_leading w ↦ rw w.live-is record {
         room = inv.room;
@@ -24,6 +25,7 @@ loop-s-preserved c =
         none = none_more a s (has_state c.args.from.now) inv.none
             (λ at live. true≢false (sym (test.leads.1 ((leads_by a s old test.below inv.live.low).1 live)) ∙ w.if-is_leading.false));
         visits = omega (arith, inv.visits, c.tick.ensures);
+        counted = omega arith;
       }
     ]
 

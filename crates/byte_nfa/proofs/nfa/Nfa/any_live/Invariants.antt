@@ -10,4 +10,5 @@ invariant-loop-s l = record {
   live : AreLiveTo l.self.states l.s (has_state l.live);
   none : (t : ℕ) → t < l.s → IsTrue (has_state l.from t) → IsLive l.self.states t → ⊥;
   visits : l.visits ≤ l.fn.visits + l.s;
+  counted : l.fn.visits ≤ l.visits;
 }

@@ -14,6 +14,7 @@ loop-limit-init c = record {
   holds = λ b lt y k. let start = none_swept c.args.self.now.states (size c.args.self.now) (has_state c.args.from.now) (leads_to c.clear.new.self b) (λ _. false) (b ∷ y) k
       (λ t lt. c.clear.ensures.none b t) (λ _. refl) in rw c.state_count-limit.ensures (start.1, start.0);
   visits = omega arith;
+  counted = omega arith;
 }
 
 pub loop-limit-preserved-in_ok-put_steps : goal.loop-limit-preserved-in_ok-put_steps
@@ -31,6 +32,7 @@ loop-limit-preserved-in_ok-put_steps c =
           (has_state c.put_steps.new.from) (leads_to c.put_steps.new.into b) (λ _. false)
           last.below last.between (sym last.marked ∙ c.if-seen.true) put.below put.from (λ t. c.in_ok-put_steps.ensures.into b t lt) (λ t. quiet_step st b t));
       visits = omega (arith, last.below);
+      counted = omega arith;
     }
 
 pub loop-limit-preserved : goal.loop-limit-preserved
@@ -45,6 +47,7 @@ loop-limit-preserved c =
       holds = λ b lt y k. iff_trans (inv.holds b lt y k) (read_passed c.args.self.now.states s c.loop-limit.limit k (b ∷ y) (has_state c.loop-limit.from) (leads_to c.loop-limit.into b) (λ _. false)
           last.below last.between (sym last.marked ∙ c.if-seen.false));
       visits = omega (arith, last.below);
+      counted = omega arith;
     }
 
 pub returns-clause-steps : goal.returns-clause-steps

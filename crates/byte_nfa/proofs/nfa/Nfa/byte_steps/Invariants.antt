@@ -15,6 +15,7 @@ invariant-loop-limit l =
       into_capacity : step_capacity l.into ≡ step_capacity l.fn.into;
       holds : (b : ℕ) → b < 256 → (y : List ℕ) (k : ℕ) → AcceptsNow a (has_state l.fn.from) n (b ∷ y) k ↔ PassInvariant a (has_state l.from) l.limit (leads_to l.into b) (λ _. false) (b ∷ y) k;
       visits : l.visits + l.limit ≤ l.fn.visits + n;
+      counted : l.fn.visits ≤ l.visits;
     }
 
 abbrev pub decreases-loop-limit : goal.decreases-loop-limit

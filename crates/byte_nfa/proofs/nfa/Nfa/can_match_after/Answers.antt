@@ -12,6 +12,7 @@ loop-read-init c = record {
   room = ap (λ n. min n (min (state_capacity c.args.sets.now.next) (index_capacity c.args.sets.now.starts))) c.start.ensures.room;
   accepts = λ z k. let start = c.start.ensures.starts (c.args.text.now ++ c.args.byte ∷ z) k in (start.1, start.0);
   visits = omega arith;
+  counted = omega arith;
 }
 
 pub loop-read-preserved : goal.loop-read-preserved
@@ -28,6 +29,7 @@ loop-read-preserved c =
       room = omega (arith, inv.room, took.from_capacity, took.to_capacity, ap state_capacity c.swap.ensures.x_after, ap state_capacity c.swap.ensures.y_after);
       accepts = λ z k. rw c.swap.ensures.x_after (iff_trans (rw more at inv.accepts z k) (took.steps (rest ++ c.args.byte ∷ z) k));
       visits = omega (arith, took.visits, inv.visits);
+      counted = omega arith;
     }
 
 pub returns-then-not-some-clause-some : goal.returns-then-not-some-clause-some

@@ -10,4 +10,5 @@ invariant-loop-read l = record {
   room : sets_capacity l.sets ≡ sets_capacity l.fn.sets;
   accepts : (z : List ℕ) (k : ℕ) → IsReached l.self (l.text ++ l.byte ∷ z) k ↔ AcceptsFrom l.self l.sets.current (drop l.read-index l.text ++ l.byte ∷ z) k;
   visits : l.visits ≤ l.fn.visits + l.read-index * size l.self;
+  counted : l.fn.visits ≤ l.visits;
 }

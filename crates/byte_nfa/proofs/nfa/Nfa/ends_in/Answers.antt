@@ -26,6 +26,7 @@ loop-limit-preserved-in-Some c =
           last.below last.between (sym last.marked ∙ c.if-seen.true) left.below left.from (λ t. stays_at_end st s t)
           (λ t. c.put.ensures.has t ∙ names_it st c.in-Some.index t (has_index c.loop-limit.into t) left.end.0));
       visits = omega (arith, last.below);
+      counted = omega arith;
       least_visits = omega (arith, inv.visits);
     }
 
@@ -49,6 +50,7 @@ loop-limit-preserved-in_default c =
           last.below last.between (sym last.marked ∙ c.if-seen.true) left.below left.from (λ t. stays_at_end st s t)
           (λ t. names_none st t (has_index c.loop-limit.into t) (left.end t)));
       visits = omega (arith, last.below);
+      counted = omega arith;
       least_visits = omega (arith, inv.visits);
     }
 
@@ -65,6 +67,7 @@ loop-limit-preserved c =
       holds = λ k. iff_trans (inv.holds k) (read_passed c.args.self.now.states s c.loop-limit.limit k [] (has_state c.loop-limit.from) (λ _. false) (has_index c.loop-limit.into)
           last.below last.between (sym last.marked ∙ c.if-seen.false));
       visits = omega (arith, last.below);
+      counted = omega arith;
       least_visits = omega (arith, inv.visits);
     }
 
@@ -76,6 +79,7 @@ loop-limit-init c = record {
   into_capacity = refl;
   holds = λ k. some_found c.args.self.now.states c.args.high (has_state c.args.from.now) (λ _. false) (has_index c.args.into.now) k (λ _. refl);
   visits = omega arith;
+  counted = omega arith;
   least_visits = omega arith;
 }
 

@@ -15,6 +15,7 @@ invariant-loop-limit l =
       into_capacity : index_capacity l.into ≡ index_capacity l.fn.into;
       holds : (k : ℕ) → (AcceptsNow a (has_state l.fn.from) l.high [] k ⊎ IsTrue (has_index l.fn.into k)) ↔ PassInvariant a (has_state l.from) l.limit (λ _. false) (has_index l.into) [] k;
       visits : l.visits + l.limit ≤ l.fn.visits + l.high;
+      counted : l.fn.visits ≤ l.visits;
       least_visits : l.visits + l.low ≤ l.fn.visits + l.high;
     }
 

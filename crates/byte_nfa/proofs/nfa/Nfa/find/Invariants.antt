@@ -10,4 +10,5 @@ invariant-loop-byte l = record {
   room : sets_capacity l.sets ≡ sets_capacity l.fn.sets;
   accepts : (k : ℕ) → IsReached l.self l.text k ↔ AcceptsFrom l.self l.sets.current (drop l.byte-index l.text) k;
   visits : l.visits ≤ l.fn.visits + l.byte-index * size l.self;
+  counted : l.fn.visits ≤ l.visits;
 }

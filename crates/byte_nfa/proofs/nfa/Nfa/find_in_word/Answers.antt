@@ -68,6 +68,7 @@ loop-s-preserved-in-Some-follow_epsilons_in_word c =
         omega arith,
         λ width less. let before = visits width less in omega (arith, before),
       );
+      counted = omega arith;
     }
 
 pub loop-s-preserved : goal.loop-s-preserved
@@ -98,6 +99,7 @@ loop-s-preserved c =
         omega arith,
         λ width less. let before = visits width less in omega (arith, before),
       );
+      counted = omega arith;
     }
 
 pub returns-clause-visits : goal.returns-clause-visits

@@ -14,6 +14,7 @@ invariant-loop-s l = record {
   holds : (k : ℕ) → (Accepts l.self.states k l.fn.span.start l.fn.text ⊎ IsTrue (has_index l.fn.into k)) ↔ PassInvariant l.self.states (has_in_word l.left) (size l.self) (λ _. false) (has_index l.into) [] k;
   bound : (n : ℕ) × AreInWordBelow n l.left × (l.fn.span.low ≤ n) × (n ≤ l.fn.span.start + 1)
       × ((width : ℕ) → l.fn.span.start < l.fn.span.low + width → l.visits + n ≤ l.fn.visits + length l.fn.text * width + (l.fn.span.start + 1));
+  counted : l.fn.visits ≤ l.visits;
 }
 
 abbrev pub decreases-loop-s : goal.decreases-loop-s

@@ -14,6 +14,7 @@ loop-limit-init c = record {
   holds = λ k. let start = none_swept c.args.self.now.states c.args.high (has_state c.args.from.now) (λ _. false) (λ _. false) [] k
       (λ t lt. refl) (λ _. refl) in (start.1, start.0);
   visits = omega arith;
+  counted = omega arith;
   least_visits = omega arith;
 }
 
@@ -29,6 +30,7 @@ loop-limit-preserved c =
       holds = λ k. iff_trans (inv.holds k) (read_passed c.args.self.now.states s c.loop-limit.limit k [] (has_state c.loop-limit.from) (λ _. false) (λ _. false)
           last.below last.between (sym last.marked ∙ c.if-seen.false));
       visits = omega (arith, last.below);
+      counted = omega arith;
       least_visits = omega (arith, inv.visits);
     }
 
@@ -51,6 +53,7 @@ loop-limit-preserved-else-is_some c =
           last.below last.between (sym last.marked ∙ c.if-seen.true) left.below left.from (λ t. stays_at_end st s t)
           (λ t. names_none st t false (no_end _ _ c.follow_epsilons.result left.end (sym c.is_some.ensures ∙ c.if-is_some.false) t)));
       visits = omega (arith, last.below);
+      counted = omega arith;
       least_visits = omega (arith, inv.visits);
     }
 

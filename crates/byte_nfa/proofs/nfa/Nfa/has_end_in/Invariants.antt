@@ -13,6 +13,7 @@ invariant-loop-limit l =
       room : state_capacity l.from ≡ state_capacity l.fn.from;
       holds : (k : ℕ) → AcceptsNow a (has_state l.fn.from) l.high [] k ↔ PassInvariant a (has_state l.from) l.limit (λ _. false) (λ _. false) [] k;
       visits : l.visits + l.limit ≤ l.fn.visits + l.high;
+      counted : l.fn.visits ≤ l.visits;
       least_visits : l.visits + l.low ≤ l.fn.visits + l.high;
     }
 

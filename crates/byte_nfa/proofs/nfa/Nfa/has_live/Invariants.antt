@@ -9,6 +9,7 @@ invariant-loop-limit l =
       within : l.limit ≤ n;
       none : (t : ℕ) → l.limit ≤ t → t < n → IsTrue (has_state l.from t) → has_state l.live t ≡ false;
       visits : l.visits + l.limit ≤ l.fn.visits + n;
+      counted : l.fn.visits ≤ l.visits;
     }
 
 abbrev pub decreases-loop-limit : goal.decreases-loop-limit

@@ -12,6 +12,7 @@ loop-byte-init c = record {
   room = ap (λ n. min n (min (state_capacity c.args.sets.now.next) (index_capacity c.args.sets.now.starts))) c.start.ensures.room;
   accepts = λ k. let start = c.start.ensures.starts c.args.text.now k in (start.1, start.0);
   visits = omega arith;
+  counted = omega arith;
 }
 
 pub loop-byte-preserved : goal.loop-byte-preserved
@@ -28,6 +29,7 @@ loop-byte-preserved c =
       room = omega (arith, inv.room, took.from_capacity, took.to_capacity, ap state_capacity c.swap.ensures.x_after, ap state_capacity c.swap.ensures.y_after);
       accepts = λ k. rw c.swap.ensures.x_after (iff_trans (rw more at inv.accepts k) (took.steps rest k));
       visits = omega (arith, took.visits, inv.visits);
+      counted = omega arith;
     }
 
 pub returns-then-not-some-clause-some : goal.returns-then-not-some-clause-some

@@ -75,6 +75,7 @@ loop-s-preserved c =
         omega arith,
         λ width less. let before = visits width less in omega (arith, before),
       );
+      counted = omega arith;
     }
 
 pub returns-clause-visits : goal.returns-clause-visits

@@ -19,6 +19,7 @@ loop-byte-init c =
       };
       accepts = λ k. one_accepts c.args.self.now start (has_in_word c.put.new.self) c.requires.span.exists is c.args.text.now k;
       visits = λ width lt. omega arith;
+      counted = omega arith;
     }
 
 pub loop-byte-preserved : goal.loop-byte-preserved
@@ -33,6 +34,7 @@ loop-byte-preserved c =
       of = took.of;
       accepts = λ k. iff_trans (rw more at inv.accepts k) (took.steps (drop (i + 1) text) k);
       visits = λ width less. let before = inv.visits width less in omega (arith, before, took.visits);
+      counted = omega arith;
     }
 
 pub returns-then-is_empty-clause-accepts : goal.returns-then-is_empty-clause-accepts

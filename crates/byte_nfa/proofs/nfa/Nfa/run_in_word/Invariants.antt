@@ -9,4 +9,5 @@ invariant-loop-byte l = record {
   of : IsOfSpan l.span l.set;
   accepts : (k : ℕ) → Accepts l.self.states k l.span.start l.text ↔ AcceptsInWord l.self l.set (drop l.byte-index l.text) k;
   visits : (width : ℕ) → l.span.start < l.span.low + width → l.visits ≤ l.fn.visits + l.byte-index * width;
+  counted : l.fn.visits ≤ l.visits;
 }

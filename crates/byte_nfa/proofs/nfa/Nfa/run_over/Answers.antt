@@ -17,6 +17,7 @@ loop-byte-init c =
       within = one_within c.args.span.low start c.put.new.self c.requires.span.order is;
       accepts = λ k. one_accepts c.args.self.now start (has_state c.put.new.self) c.requires.span.exists is c.args.text.now k;
       visits = λ width lt. omega arith;
+      counted = omega arith;
     }
 
 pub loop-byte-preserved : goal.loop-byte-preserved
@@ -38,6 +39,7 @@ loop-byte-preserved c =
       accepts = λ k. rw c.swap.ensures.x_after (iff_trans (iff_trans (rw more at inv.accepts k)
           (within_below c.args.self.now low (start + 1) c.loop-byte.sets.current (omega (arith, c.requires.span.exists)) inv.within (byte ∷ rest) k)) (took.steps rest k));
       visits = λ width less. let before = inv.visits width less in omega (arith, before, took.visits);
+      counted = omega arith;
     }
 
 pub returns-then-not-some-clause-none : goal.returns-then-not-some-clause-none

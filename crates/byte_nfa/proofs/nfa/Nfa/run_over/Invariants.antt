@@ -13,4 +13,5 @@ invariant-loop-byte l = record {
   within : IsWithin l.span.low (l.span.start + 1) l.sets.current;
   accepts : (k : ℕ) → Accepts l.self.states k l.span.start l.text ↔ AcceptsFrom l.self l.sets.current (drop l.byte-index l.text) k;
   visits : (width : ℕ) → l.span.start < l.span.low + width → l.visits ≤ l.fn.visits + l.byte-index * width;
+  counted : l.fn.visits ≤ l.visits;
 }

@@ -18,6 +18,7 @@ loop-limit-init c = record {
   without = λ h t. c.clear.ensures.none t;
   within = λ t at. absurd (true≢false (sym at ∙ c.clear.ensures.none t));
   visits = omega arith;
+  counted = omega arith;
   least_visits = omega arith;
 }
 
@@ -44,6 +45,7 @@ loop-limit-preserved-then-take_steps c =
       without = λ h. absurd (true≢false h);
       within = still_within c.args.low c.args.high s c.args.byte st le lt from took.below (has_state c.loop-limit.to) (has_state c.take_steps.new.to) took.to inv.within;
       visits = omega (arith, last.below);
+      counted = omega arith;
       least_visits = omega (arith, inv.visits);
     }
 
@@ -69,6 +71,7 @@ loop-limit-preserved-else-take_steps c =
       without = λ h t. took.to t ∙ or_none (goes_next st s (Some c.args.byte) t) (has_state c.loop-limit.to t) (took.none c.if-take_steps.false t) (inv.without h t);
       within = still_within c.args.low c.args.high s c.args.byte st le lt from took.below (has_state c.loop-limit.to) (has_state c.take_steps.new.to) took.to inv.within;
       visits = omega (arith, last.below);
+      counted = omega arith;
       least_visits = omega (arith, inv.visits);
     }
 
@@ -88,6 +91,7 @@ loop-limit-preserved c =
       without = inv.without;
       within = inv.within;
       visits = omega (arith, last.below);
+      counted = omega arith;
       least_visits = omega (arith, inv.visits);
     }
 

@@ -27,6 +27,7 @@ loop-limit-preserved-then-taken c =
       without = λ h. absurd (true≢false h);
       within = takes_within a c.args.low c.args.high c.loop-limit.limit c.args.byte bound now next now' next' some c.requires.closed inv.below inv.none takes inv.within;
       visits = omega (arith, takes.below, inv.visits, took.visits);
+      counted = omega arith;
       least_visits = omega (arith, inv.visits, took.visits);
     }
 
@@ -52,6 +53,7 @@ loop-limit-preserved c =
       without = λ h. takes_nothing a c.args.low c.args.high c.loop-limit.limit c.args.byte bound now next now' next' some c.requires.closed inv.below inv.none takes c.if-taken.false (inv.without h);
       within = takes_within a c.args.low c.args.high c.loop-limit.limit c.args.byte bound now next now' next' some c.requires.closed inv.below inv.none takes inv.within;
       visits = omega (arith, takes.below, inv.visits, took.visits);
+      counted = omega arith;
       least_visits = omega (arith, inv.visits, took.visits);
     }
 

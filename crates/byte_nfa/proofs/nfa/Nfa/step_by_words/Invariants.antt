@@ -18,6 +18,7 @@ invariant-loop-limit l =
       without : IsFalse l.some → (t : ℕ) → has_state l.to t ≡ false;
       within : IsWithin l.low l.high l.to;
       visits : l.visits + l.limit ≤ l.fn.visits + l.high;
+      counted : l.fn.visits ≤ l.visits;
       least_visits : l.visits + l.low ≤ l.fn.visits + l.high;
     }
 

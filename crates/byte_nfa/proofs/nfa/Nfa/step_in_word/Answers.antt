@@ -18,6 +18,7 @@ loop-s-init c = record {
       (λ t lt. c.empty-to.ensures.none t) (λ _. refl) in (start.1, start.0);
   within = λ t at. absurd (true≢false (sym at ∙ c.empty-to.ensures.none t));
   bound = (c.args.span.start + 1, c.requires.of.below, omega (arith, c.requires.span.order), omega arith, omega arith);
+  counted = omega arith;
 }
 
 pub take_highest-requires : goal.take_highest-requires
@@ -73,6 +74,7 @@ loop-s-preserved c =
       within = λ t at. (still_within c.args.span.low (c.args.span.start + 1) s c.args.byte st le (omega arith) (c.requires.span.closed s le (omega arith)) took.below
           (has_in_word c.loop-s.to) (has_in_word c.take_steps_in_word.new.to) took.to (λ u is. (let from = bit_low c.loop-s.to.low c.loop-s.to.word u is in omega (arith, inv.to_low), inv.within u is)) t at).1;
       bound = (s, λ t at. elim (cases_lt t s) [ inl less ↦ less | inr past ↦ absurd (true≢false (sym at ∙ none t past)) ], le, omega arith, omega (arith, visits));
+      counted = omega arith;
     }
 
 pub returns-clause-steps : goal.returns-clause-steps

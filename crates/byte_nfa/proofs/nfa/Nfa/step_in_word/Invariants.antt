@@ -13,6 +13,7 @@ invariant-loop-s l = record {
   holds : (y : List ℕ) (k : ℕ) → AcceptsInWord l.self l.fn.from (l.byte ∷ y) k ↔ PassInvariant l.self.states (has_in_word l.left) (size l.self) (has_in_word l.to) (λ _. false) (l.byte ∷ y) k;
   within : AreInWordBelow (l.fn.span.start + 1) l.to;
   bound : (n : ℕ) × AreInWordBelow n l.left × (l.fn.span.low ≤ n) × (n ≤ l.fn.span.start + 1) × (l.visits + n ≤ l.fn.visits + (l.fn.span.start + 1));
+  counted : l.fn.visits ≤ l.visits;
 }
 
 abbrev pub decreases-loop-s : goal.decreases-loop-s

@@ -46,6 +46,7 @@ loop-automaton-preserved c =
       kept = omega (arith, c.can_match_after.ensures.kept, inv.kept);
       visits = rw (total_more automata i m c.loop-automaton-test.true c.automaton-item.is)
           (visits_more n (total (take i automata)) (size m) c.loop-automaton.visits c.can_match_after.new.visits c.args.visits.now c.can_match_after.ensures.visits inv.visits);
+      counted = omega arith;
     }
 
 pub returns-in_err-can_match_after-clause-memory : goal.returns-in_err-can_match_after-clause-memory

@@ -8,4 +8,5 @@ invariant-loop-automaton l = record {
   none : SomeMatchesAfter (take l.automaton-index l.automata) (l.text ++ l.byte ∷ []) → ⊥;
   kept : sets_capacity l.fn.sets ≤ sets_capacity l.sets;
   visits : l.visits ≤ l.fn.visits + (length l.text + 2) * total (take l.automaton-index l.automata);
+  counted : l.fn.visits ≤ l.visits;
 }

@@ -25,4 +25,5 @@ loop-table-preserved c =
           (λ j before. inv.none (j, rest, bytes, before))
           (λ j reached. true≢false (sym (c.can_match_after.ensures.some.1 (j, rest, bytes, reached)) ∙ c.if-can_match_after.false)) k some;
       visits = visits_more (length c.args.text.now + 2) i 1 c.loop-table.visits c.can_match_after.new.visits c.args.visits.now (omega arith) inv.visits;
+      counted = omega arith;
     }

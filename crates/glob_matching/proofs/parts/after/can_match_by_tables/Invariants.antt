@@ -6,4 +6,5 @@ abbrev pub invariant-loop-table : goal.invariant-loop-table
 invariant-loop-table l = record {
   none : SomeMatchesAfter (take l.table-index (sources l.tables)) (l.text ++ l.byte ∷ []) → ⊥;
   visits : l.visits ≤ l.fn.visits + (length l.text + 2) * l.table-index;
+  counted : l.fn.visits ≤ l.visits;
 }
