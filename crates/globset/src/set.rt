@@ -11,7 +11,6 @@ mod all;
 mod any;
 mod below;
 mod building;
-mod given;
 mod matches;
 mod scratch;
 mod stored;

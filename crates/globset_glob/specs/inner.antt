@@ -1,1 +1,2 @@
+pub mod GivenGlobs
 pub mod GlobNfa

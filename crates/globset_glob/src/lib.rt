@@ -2,12 +2,14 @@
 #![tactic(auto)]
 
 mod builder;
+mod given;
 mod glob;
 mod internal;
 mod json;
 mod matcher;
 
 pub use builder::GlobBuilder;
+pub use given::GivenGlobs;
 pub use glob::Glob;
 pub use glob_matching::DEFAULT_DFA_SIZE_LIMIT;
 pub use glob_path::{AsPath, Candidate};

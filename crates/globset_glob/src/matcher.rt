@@ -109,6 +109,7 @@ impl GlobMatcher {
         ensures ok { IfOk result (λ yes. yes ≡ glob_matches self.now path.now) }
         ensures err { IfErr result (λ e. e ≡ out_of_memory) }
         ensures visits { visits.new ≤ visits.old + max_visits self.now path.now }
+        ensures counted { visits.old ≤ visits.new }
     {
         Ok(self.strategy.is_match(self.glob.allocator(), path, visits)?)
     }
@@ -138,6 +139,7 @@ impl GlobMatcher {
         ensures matches { result ≡ glob_matches self.now path.now }
         ensures kept { scratch.new ≡ scratch.old }
         ensures visits { visits.new ≤ visits.old + max_visits self.now path.now }
+        ensures counted { visits.old ≤ visits.new }
     {
         self.strategy.is_match_with(path, scratch, visits)
     }
@@ -188,6 +190,7 @@ impl GlobMatcher {
         ensures ok { IfOk result (λ yes. IsTrue yes ↔ GlobMatchesBelow self.now folder.now) }
         ensures err { IfErr result (λ e. e ≡ out_of_memory) }
         ensures visits { visits.new ≤ visits.old + max_visits_below self.now folder.now }
+        ensures counted { visits.old ≤ visits.new }
     {
         Ok(
             self.strategy

@@ -1,5 +1,6 @@
 pub mod Automata
 pub mod Below
+pub mod Given
 pub mod SetMatcher
 pub mod Indexes
 pub mod Matching

@@ -2,4 +2,5 @@ pub mod Indexes
 pub mod Visits
 pub mod Globs
 pub mod Below
+pub mod SetMatcherValue
 pub mod inner

@@ -119,6 +119,7 @@ impl Automata {
         ensures kept { KeepsCapacity sets.old sets.new }
         ensures memory { HasCapacity sets.old (max_states self.now) self.now.extensions.index_count → IsOk result }
         ensures visits { visits.new ≤ visits.old + (1 + (length path.now + 1) * reads_for self.now path.now) }
+        ensures counted { visits.old ≤ visits.new }
     {
         if self.find(path, sets, visits)? {
             return Ok(());
@@ -142,6 +143,7 @@ impl Automata {
         ensures memory { states_for self.now path.now ≡ 0 → IsOk result }
         ensures room { HasCapacity sets.old (max_states self.now) self.now.extensions.index_count → IsOk result }
         ensures visits { visits.new ≤ visits.old + (1 + (length path.now + 1) * reads_for self.now path.now) }
+        ensures counted { visits.old ≤ visits.new }
     {
         let by_extension = self.by_extension(&Candidate::from_bytes(path), visits);
         if self.is_idle(by_extension) {
@@ -168,6 +170,7 @@ impl Automata {
         ensures memory { states_for self.now path.now ≡ 0 → IsOk result }
         ensures room { max_states self.now ≤ sets_capacity sets.old → IsOk result }
         ensures visits { visits.new ≤ visits.old + (1 + (length path.now + 1) * reads_for self.now path.now) }
+        ensures counted { visits.old ≤ visits.new }
     {
         if is_match_by_path(&self.by_path, path.path(), sets, visits)? {
             return Ok(true);
@@ -187,6 +190,7 @@ impl Automata {
         ensures count { result.now.index_count ≡ self.now.extensions.index_count }
         ensures tokens { (by_slot : ℕ → List IndexedTokens) → AreFor self.now.extensions.machines by_slot → IsFor result.now (tokens_under by_slot self.now.extensions.matchers (component_extension path.now)) }
         ensures visits { visits.new ≤ visits.old + 1 }
+        ensures counted { visits.old ≤ visits.new }
     {
         if self.extensions.is_empty() {
             return self.extensions.none();
@@ -217,6 +221,7 @@ fn run_by_path(
     ensures kept { KeepsCapacity sets.old sets.new }
     ensures memory { size automaton.now ≤ sets_capacity sets.old.states → IsOk result }
     ensures visits { visits.new ≤ visits.old + (length path.now + 1) * max_reads automaton.now }
+    ensures counted { visits.old ≤ visits.new }
 {
     if automaton.state_count() == 0 {
         return Ok(());
@@ -235,6 +240,7 @@ fn is_match_by_path(
     ensures kept { sets_capacity sets.old ≤ sets_capacity sets.new }
     ensures memory { size automaton.now ≤ sets_capacity sets.old → IsOk result }
     ensures visits { visits.new ≤ visits.old + (length path.now + 1) * max_reads automaton.now }
+    ensures counted { visits.old ≤ visits.new }
 {
     if automaton.state_count() == 0 {
         return Ok(false);
@@ -255,6 +261,7 @@ fn run_by_component(
     ensures kept { KeepsCapacity sets.old sets.new }
     ensures memory { size automaton.now ≤ sets_capacity sets.old.states → IsOk result }
     ensures visits { visits.new ≤ visits.old + (length path.now + 1) * max_reads automaton.now }
+    ensures counted { visits.old ≤ visits.new }
 {
     if automaton.state_count() == 0 {
         return Ok(());
@@ -274,6 +281,7 @@ fn is_match_by_component(
     ensures kept { sets_capacity sets.old ≤ sets_capacity sets.new }
     ensures memory { size automaton.now ≤ sets_capacity sets.old → IsOk result }
     ensures visits { visits.new ≤ visits.old + (length path.now + 1) * max_reads automaton.now }
+    ensures counted { visits.old ≤ visits.new }
 {
     if automaton.state_count() == 0 {
         return Ok(false);
@@ -295,6 +303,7 @@ fn run_by_extension(
     ensures kept { KeepsCapacity sets.old sets.new }
     ensures memory { size automaton.now ≤ sets_capacity sets.old.states → IsOk result }
     ensures visits { visits.new ≤ visits.old + (length path.now + 1) * max_reads automaton.now }
+    ensures counted { visits.old ≤ visits.new }
 {
     if automaton.state_count() == 0 {
         return Ok(());
@@ -314,6 +323,7 @@ fn is_match_by_extension(
     ensures kept { sets_capacity sets.old ≤ sets_capacity sets.new }
     ensures memory { size automaton.now ≤ sets_capacity sets.old → IsOk result }
     ensures visits { visits.new ≤ visits.old + (length path.now + 1) * max_reads automaton.now }
+    ensures counted { visits.old ≤ visits.new }
 {
     if automaton.state_count() == 0 {
         return Ok(false);
@@ -380,6 +390,13 @@ impl AutomataBuilder {
             by_component: new_builder(alloc, index_count),
             extensions: ExtensionMatchersBuilder::new(alloc, index_count),
         }
+    }
+
+    /// Returns the number that each index is below.
+    pub fn index_count(&self) -> usize
+        ensures { result ≡ self.now.extensions.index_count }
+    {
+        self.extensions.index_count()
     }
 
     /// Adds tokens that the whole path has to match. It takes time and memory linear in the tokens. Returns an error if memory

@@ -1,12 +1,11 @@
 //! Whether some glob of a list matches some path below a folder.
 
-ghost use Rattle.std.specs.Prelude.{◌≡◌, ◌+◌, ◌≤◌, ◌↔◌, List, IfOk, IsOk, IsTrue};
+ghost use Rattle.std.specs.Prelude.{◌≡◌, ◌+◌, ◌≤◌, ◌↔◌, IfOk, IsOk, IsTrue};
 ghost use Rattle.set_matcher.specs.Below.{SomeReportedBelow, load_below, max_visits_below};
-ghost use Rattle.set_matcher.specs.Globs.{TokenGlob};
+ghost use Rattle.set_matcher.specs.SetMatcherValue.{matcher_globs};
 ghost use Rattle.set_matcher.specs.inner.Capacity.{HasCapacity, KeepsCapacity};
-ghost use Rattle.set_matcher.specs.inner.SetMatcher.{IsSetMatcherOf, glob_count, state_count_of_set};
 
-use crate::groups::SetMatcher;
+use crate::matcher::SetMatcher;
 use crate::matching_sets::MatchingSets;
 use std::alloc::AllocError;
 use visits::Visits;
@@ -22,11 +21,12 @@ impl SetMatcher {
         sets: &mut MatchingSets,
         visits: &mut Visits,
     ) -> Result<bool, AllocError>
-        ensures some { IfOk result (λ yes. (globs : List TokenGlob) → IsSetMatcherOf globs self.now → IsTrue yes ↔ SomeReportedBelow globs folder.now) }
+        ensures some { IfOk result (λ yes. IsTrue yes ↔ SomeReportedBelow (matcher_globs self.now) folder.now) }
         ensures kept { KeepsCapacity sets.old sets.new }
-        ensures room { HasCapacity sets.old (state_count_of_set self.now) (glob_count self.now) → IsOk result }
-        ensures memory { (globs : List TokenGlob) → IsSetMatcherOf globs self.now → load_below globs ≡ 0 → IsOk result }
-        ensures visits { (globs : List TokenGlob) → IsSetMatcherOf globs self.now → visits.new ≤ visits.old + max_visits_below globs folder.now }
+        ensures room { HasCapacity sets.old self.now.states self.now.index_count → IsOk result }
+        ensures memory { load_below (matcher_globs self.now) ≡ 0 → IsOk result }
+        ensures visits { visits.new ≤ visits.old + max_visits_below (matcher_globs self.now) folder.now }
+        ensures counted { visits.old ≤ visits.new }
     {
         if self.keys.can_match_below(folder, visits) {
             return Ok(true);

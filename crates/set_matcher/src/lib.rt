@@ -7,10 +7,11 @@
 
 mod automata;
 mod below;
-mod groups;
+mod given;
+mod matcher;
 mod marks;
 mod matching;
 mod matching_sets;
 
-pub use groups::{SetMatcher, SetMatcherBuilder};
+pub use matcher::{SetMatcher, SetMatcherBuilder};
 pub use matching_sets::MatchingSets;

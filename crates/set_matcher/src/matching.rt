@@ -1,17 +1,15 @@
 //! Which globs of a list match a path.
 
-ghost use Rattle.std.specs.Prelude.{◌≡◌, ◌≢◌, ◌+◌, ◌*◌, ◌≤◌, ◌↔◌, [], List, ℕ, IfOk, IsOk, OnOk, OnErr, IsTrue, length, vec_capacity};
-ghost use Rattle.bit_sets.specs.Indexes.{has_index, index_capacity};
-ghost use Rattle.set_matcher.specs.Globs.{TokenGlob, is_reported_at, reported_indexes, load, max_visits};
+ghost use Rattle.std.specs.Prelude.{◌≡◌, ◌≢◌, ◌+◌, ◌≤◌, ◌↔◌, [], ℕ, IfOk, IsOk, OnOk, OnErr, IsTrue, length, vec_capacity};
+ghost use Rattle.bit_sets.specs.Indexes.{has_index};
+ghost use Rattle.set_matcher.specs.Globs.{is_reported_at, reported_indexes, load, max_visits};
+ghost use Rattle.set_matcher.specs.SetMatcherValue.{matcher_globs};
 ghost use Rattle.set_matcher.specs.Indexes.{ContainsAllBelow};
 ghost use Rattle.set_matcher.specs.inner.Capacity.{HasCapacity, KeepsCapacity};
-ghost use Rattle.set_matcher.specs.inner.Automata.{AreIdle, IsFoundSet};
-ghost use Rattle.set_matcher.specs.inner.SetMatcher.{IsSetMatcherOf, glob_count, state_count_of_set};
 
-use crate::groups::SetMatcher;
+use crate::matcher::SetMatcher;
 use crate::marks::{are_all_marked, push_marked};
 use crate::matching_sets::MatchingSets;
-use bit_sets::IndexSet;
 use glob_path::Candidate;
 use std::alloc::AllocError;
 use visits::Visits;
@@ -19,14 +17,14 @@ use visits::Visits;
 impl SetMatcher {
     /// Returns the number of globs, with those that are excluded.
     pub fn len(&self) -> usize
-        ensures { result ≡ glob_count self.now }
+        ensures { result ≡ length (matcher_globs self.now) }
     {
-        self.automata.index_count()
+        self.len
     }
 
     /// Returns the number of states of the largest automaton.
     pub fn max_states(&self) -> usize
-        ensures { result ≡ state_count_of_set self.now }
+        ensures { result ≡ self.now.states }
     {
         self.automata.max_states()
     }
@@ -48,16 +46,17 @@ impl SetMatcher {
         into: &mut Vec<usize>,
         visits: &mut Visits,
     ) -> Result<(), AllocError>
-        ensures ok { OnOk result ((globs : List TokenGlob) → IsSetMatcherOf globs self.now → length globs ≡ glob_count self.now → into.new.items ≡ reported_indexes globs path.now) }
+        ensures ok { OnOk result (into.new.items ≡ reported_indexes (matcher_globs self.now) path.now) }
         ensures cleared { OnErr result (into.new.items ≡ []) }
         ensures kept { KeepsCapacity sets.old sets.new }
-        ensures room { HasCapacity sets.old (state_count_of_set self.now) (glob_count self.now) → glob_count self.now ≤ vec_capacity into.old → IsOk result }
+        ensures room { HasCapacity sets.old self.now.states self.now.index_count → length (matcher_globs self.now) ≤ vec_capacity into.old → IsOk result }
         ensures capacity { vec_capacity into.old ≤ vec_capacity into.new }
-        ensures visits { (globs : List TokenGlob) → IsSetMatcherOf globs self.now → visits.new ≤ visits.old + max_visits globs path.now }
+        ensures visits { visits.new ≤ visits.old + max_visits (matcher_globs self.now) path.now }
+        ensures counted { visits.old ≤ visits.new }
     {
         into.clear();
         self.mark(path, sets, visits)?;
-        if let Err(error) = push_marked(&sets.marks, self.automata.index_count(), into) {
+        if let Err(error) = push_marked(&sets.marks, self.len(), into) {
             into.clear();
             return Err(error);
         }
@@ -74,11 +73,12 @@ impl SetMatcher {
         sets: &mut MatchingSets,
         visits: &mut Visits,
     ) -> Result<bool, AllocError>
-        ensures some { IfOk result (λ yes. (globs : List TokenGlob) → IsSetMatcherOf globs self.now → IsTrue yes ↔ (reported_indexes globs path.now ≢ [])) }
+        ensures some { IfOk result (λ yes. IsTrue yes ↔ (reported_indexes (matcher_globs self.now) path.now ≢ [])) }
         ensures kept { KeepsCapacity sets.old sets.new }
-        ensures room { HasCapacity sets.old (state_count_of_set self.now) (glob_count self.now) → IsOk result }
-        ensures memory { (globs : List TokenGlob) → IsSetMatcherOf globs self.now → load globs path.now ≡ 0 → IsOk result }
-        ensures visits { (globs : List TokenGlob) → IsSetMatcherOf globs self.now → visits.new ≤ visits.old + max_visits globs path.now }
+        ensures room { HasCapacity sets.old self.now.states self.now.index_count → IsOk result }
+        ensures memory { load (matcher_globs self.now) path.now ≡ 0 → IsOk result }
+        ensures visits { visits.new ≤ visits.old + max_visits (matcher_globs self.now) path.now }
+        ensures counted { visits.old ≤ visits.new }
     {
         if self.keys.is_match(path, visits) {
             return Ok(true);
@@ -96,36 +96,18 @@ impl SetMatcher {
         sets: &mut MatchingSets,
         visits: &mut Visits,
     ) -> Result<bool, AllocError>
-        ensures all { IfOk result (λ yes. (globs : List TokenGlob) → IsSetMatcherOf globs self.now → length globs ≡ glob_count self.now → IsTrue yes ↔ ContainsAllBelow (reported_indexes globs path.now) (length globs)) }
+        ensures all { IfOk result (λ yes. IsTrue yes ↔ ContainsAllBelow (reported_indexes (matcher_globs self.now) path.now) (length (matcher_globs self.now))) }
         ensures kept { KeepsCapacity sets.old sets.new }
-        ensures room { HasCapacity sets.old (state_count_of_set self.now) (glob_count self.now) → IsOk result }
-        ensures memory { (globs : List TokenGlob) → IsSetMatcherOf globs self.now → load globs path.now ≡ 0 → IsOk result }
-        ensures visits { (globs : List TokenGlob) → IsSetMatcherOf globs self.now → visits.new ≤ visits.old + max_visits globs path.now }
+        ensures room { HasCapacity sets.old self.now.states self.now.index_count → IsOk result }
+        ensures memory { load (matcher_globs self.now) path.now ≡ 0 → IsOk result }
+        ensures visits { visits.new ≤ visits.old + max_visits (matcher_globs self.now) path.now }
+        ensures counted { visits.old ≤ visits.new }
     {
         if self.automata.find(path.path(), sets, visits)? {
-            return Ok(self.finds_all(path, &mut sets.marks, visits));
+            self.keys.find(path, &mut sets.marks, visits);
+            return Ok(are_all_marked(&sets.marks, self.len()));
         }
-        Ok(self.keys_are_all(path, visits))
-    }
-
-    /// Returns whether every index is found, if no automaton has to be run.
-    fn keys_are_all(&self, path: &Candidate<'_>, visits: &mut Visits) -> bool
-        requires { AreIdle self.now.automata path.now }
-        ensures all { (globs : List TokenGlob) → IsSetMatcherOf globs self.now → length globs ≡ glob_count self.now → IsTrue result ↔ ContainsAllBelow (reported_indexes globs path.now) (length globs) }
-        ensures visits { visits.new ≤ visits.old + (3 + 2 * (length path.now + 1)) }
-    {
-        self.keys.count_found(path, visits) == Some(self.automata.index_count())
-    }
-
-    /// Returns whether every index is found, where those that automata found are marked.
-    fn finds_all(&self, path: &Candidate<'_>, marks: &mut IndexSet, visits: &mut Visits) -> bool
-        requires { IsFoundSet self.now.automata path.now marks.old }
-        ensures all { (globs : List TokenGlob) → IsSetMatcherOf globs self.now → length globs ≡ glob_count self.now → IsTrue result ↔ ContainsAllBelow (reported_indexes globs path.now) (length globs) }
-        ensures room { index_capacity marks.new ≡ index_capacity marks.old }
-        ensures visits { visits.new ≤ visits.old + (3 + 2 * (length path.now + 1)) }
-    {
-        self.keys.find(path, marks, visits);
-        are_all_marked(marks, self.automata.index_count())
+        Ok(self.keys.count_found(path, visits) == Some(self.len()))
     }
 
     /// Marks the indexes of the globs that are not excluded and match the path, and no others. Returns an error if memory runs
@@ -136,10 +118,11 @@ impl SetMatcher {
         sets: &mut MatchingSets,
         visits: &mut Visits,
     ) -> Result<(), AllocError>
-        ensures marked { OnOk result ((globs : List TokenGlob) → IsSetMatcherOf globs self.now → length globs ≡ glob_count self.now → (k : ℕ) → IsTrue (has_index sets.new.marks k) ↔ IsTrue (is_reported_at globs path.now k)) }
+        ensures marked { OnOk result ((k : ℕ) → IsTrue (has_index sets.new.marks k) ↔ IsTrue (is_reported_at (matcher_globs self.now) path.now k)) }
         ensures kept { KeepsCapacity sets.old sets.new }
-        ensures room { HasCapacity sets.old (state_count_of_set self.now) (glob_count self.now) → IsOk result }
-        ensures visits { (globs : List TokenGlob) → IsSetMatcherOf globs self.now → visits.new ≤ visits.old + max_visits globs path.now }
+        ensures room { HasCapacity sets.old self.now.states self.now.index_count → IsOk result }
+        ensures visits { visits.new ≤ visits.old + max_visits (matcher_globs self.now) path.now }
+        ensures counted { visits.old ≤ visits.new }
     {
         self.automata.mark(path.path(), sets, visits)?;
         self.keys.find(path, &mut sets.marks, visits);

@@ -17,7 +17,7 @@ use visits::Visits;
 /// marked there.
 ///
 /// What they hold has no effect on a later call. A call makes more room where they have too little, so they can be handed to calls
-/// on any groups, in turn.
+/// with any matcher, in turn.
 pub struct MatchingSets {
     pub(crate) states: StateSets,
     pub(crate) marks: IndexSet,
@@ -81,6 +81,7 @@ impl MatchingSets {
         ensures kept { KeepsCapacity self.old self.new }
         ensures room { size automaton.now ≤ sets_capacity self.old.states → IsOk result }
         ensures visits { visits.new ≤ visits.old + (length text.now + 1) * max_reads automaton.now }
+        ensures counted { visits.old ≤ visits.new }
     {
         automaton.is_match(text, &mut self.states, visits)
     }

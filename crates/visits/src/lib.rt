@@ -16,7 +16,7 @@ enum Ticks {
 ///
 /// A visit is one counted read, such as of a state of an automaton, of an entry of a table or of a node of a trie. Several
 /// states whose bits lie in one machine word can be read together, which is one visit. A function that makes visits takes a
-/// `&mut Visits`, and its contract says how many it makes at most.
+/// `&mut Visits`, and its contract says how many it makes at most and that it never sets the count back.
 ///
 /// In a running program a count has no size, and counting takes no time. In contracts it is a number without an upper
 /// bound.

@@ -3,7 +3,7 @@ use Rattle.std.specs.Prelude.{◌≡◌, ℕ, Bool, false, not, ◌&&◌, ◌||�
 use Rattle.globset.specs.GlobMatches.{GlobValue}
 use Rattle.globset.specs.Excluded.{excluded, is_reported}
 use Rattle.ignore_pattern.specs.Patterns.{Pattern}
-use Rattle.glob_prefixes.specs.Prefixes.{PrefixMatcherValue, IsPrefixMatcherOf}
+use Rattle.glob_prefixes.specs.Prefixes.{PrefixMatcherValue}
 use Rattle.git_ignore.specs.Rules.{Rule, last_rule}
 use Rattle.git_ignore.specs.declared.decision.Decision.{Decision}
 use Rattle.git_ignore.specs.declared.decision.Decision.TheVariants.{Ignored, Kept, Undecided}
@@ -63,7 +63,7 @@ last_chosen entries is_folder before (i ∷ is) = last_chosen entries is_folder 
 -- What is stored of the rules of a file: the globs twice, as a set and as a matcher of prefixes, and the entries.
 pub record AreStored (rules : List Rule) (globs : List GlobValue) (prefixes : PrefixMatcherValue) (entries : List RuleEntry) : Type 0 where
   pub are : AreEntriesOf rules globs entries
-  pub matched : IsPrefixMatcherOf globs prefixes
+  pub matched : prefixes.globs ≡ globs
 
 -- The first rules of a file were read, and these are still to be read.
 pub record AreReadUpTo (all rest : List Rule) (globs : List GlobValue) (entries : List RuleEntry) : Type 0 where

@@ -1,6 +1,6 @@
 -- Globs in an automaton, and what a run over it finds.
 use Rattle.std.proofs.Common.{◌≡◌, ℕ, zero, suc, ◌+◌, ◌<◌, ◌≤◌, ◌⊎◌, inl, inr, Bool, false, true≢false, List, [], ◌∷◌, ◌++◌, append-nil, append_assoc, length, length-append, IsTrue, refl, ap, sym, subst, ◌∙◌, arith}
-use Rattle.std.specs.Prelude.{◌↔◌, OnErr, Result, Ok, Err, filter}
+use Rattle.std.specs.Prelude.{◌↔◌, ◌^◌, filter}
 use Rattle.std.specs.List.{range_with_len}
 use Rattle.std.proofs.Math.Logic.{⊎_elim}
 use Rattle.byte_nfa.specs.Runs.{AcceptsFrom}
@@ -16,7 +16,8 @@ use Rattle.glob_syntax.specs.Token.{Tokens}
 use Rattle.globset_glob.specs.GlobMatches.{GlobValue, tokens_of_glob, glob_matches}
 use Rattle.set_matcher.specs.Indexes.{passes_at}
 use Rattle.set_matcher.proofs.lemmas.Indexes.{filter_between, filter_same}
-use Rattle.glob_prefixes.specs.Prefixes.{AreAdded, IsAfter, IsPrefixMatcherOf, indexed_globs, all_matching_indexes}
+use Rattle.glob_prefixes.specs.Prefixes.{IsAfter, PrefixMatcherValue, all_matching_indexes}
+use Rattle.glob_prefixes.specs.inner.Added.{AreAdded, IsPrefixMatcherOf, indexed_globs}
 use Rattle.glob_prefixes.specs.declared.states.PrefixStates.{PrefixStates}
 
 -- ---- one glob more
@@ -32,7 +33,7 @@ indexed_more j (h ∷ gs) g =
 pub glob_added : (globs : List GlobValue) (g : GlobValue) (o : Options) (ts : Tokens) (n : ℕ) (old new : Machine)
     → o ≡ g.options → tokens_of_glob g ≡ ts → n < old.index_count → new.index_count ≡ old.index_count
     → ((xs : List IndexedTokens) → IsFor old xs → IsFor new (xs ++ indexed o ts n ∷ []))
-    → AreAdded globs (record { machine = old; added = n }) → AreAdded (globs ++ g ∷ []) (record { machine = new; added = n + 1 })
+    → AreAdded globs old n → AreAdded (globs ++ g ∷ []) new (n + 1)
 glob_added globs g o ts n old new options tokens room same adds h =
     let e : 0 + length globs ≡ n = let count = h.count in omega (arith, count) in
     let more : length (globs ++ g ∷ []) ≡ n + 1 = length-append globs (g ∷ []) ∙ (let count = h.count in omega (arith, count)) in
@@ -44,22 +45,20 @@ glob_added globs g o ts n old new options tokens room same adds h =
         count = omega (arith, more, room, same);
       };
       count = sym more;
+      few = subst (λ (k : ℕ). k < 2 ^ 64) (sym same) h.few;
     }
 
 -- nothing was added, although there may be more states
 pub globs_kept : (globs : List GlobValue) (n : ℕ) (old new : Machine) → new.index_count ≡ old.index_count → ((xs : List IndexedTokens) → IsFor old xs → IsFor new xs)
-    → AreAdded globs (record { machine = old; added = n }) → AreAdded globs (record { machine = new; added = n })
+    → AreAdded globs old n → AreAdded globs new n
 globs_kept globs n old new same keeps h = record {
   are = record {
     tokens = keeps (indexed_globs 0 globs) h.are.tokens;
     count = let count = h.are.count in omega (arith, count, same);
   };
   count = h.count;
+  few = subst (λ (k : ℕ). k < 2 ^ 64) (sym same) h.few;
 }
-
-pub on_err : {X E P : Type 0} (r : Result X E) → P → OnErr r P
-on_err (Ok x) p = tt
-on_err (Err e) p = p
 
 -- ---- the globs that match a text
 
@@ -119,34 +118,34 @@ bytes_more [] c l b = (l, tt)
 bytes_more (d ∷ ds) c l b = (b.0, bytes_more ds c l b.1)
 
 -- one byte more was read
-pub byte_read : (m : Machine) (old new : PrefixStates) (stepped : StateSet) (text : List ℕ) (byte : ℕ) → byte < 256
-    → ((y : List ℕ) (k : ℕ) → AcceptsFrom m old.current (byte ∷ y) k ↔ AcceptsFrom m stepped y k) → new.current ≡ stepped
+pub byte_read : (m : PrefixMatcherValue) (old new : PrefixStates) (stepped : StateSet) (text : List ℕ) (byte : ℕ) → byte < 256
+    → ((y : List ℕ) (k : ℕ) → AcceptsFrom m.machine old.current (byte ∷ y) k ↔ AcceptsFrom m.machine stepped y k) → new.current ≡ stepped
     → IsAfter m old text → IsAfter m new (text ++ byte ∷ [])
 byte_read m old new stepped text byte lt steps same h = record {
   bytes = bytes_more text byte lt h.bytes;
   leads = λ y k.
       let e : text ++ byte ∷ y ≡ (text ++ byte ∷ []) ++ y = sym (append_assoc text (byte ∷ []) y) in
-      subst (λ (set : StateSet). AcceptsFrom m set y k ↔ IsReached m ((text ++ byte ∷ []) ++ y) k) (sym same) (
-        λ a. subst (λ (t : List ℕ). IsReached m t k) e ((h.leads (byte ∷ y) k).0 ((steps y k).1 a)),
-        λ r. (steps y k).0 ((h.leads (byte ∷ y) k).1 (subst (λ (t : List ℕ). IsReached m t k) (sym e) r)),
+      subst (λ (set : StateSet). AcceptsFrom m.machine set y k ↔ IsReached m.machine ((text ++ byte ∷ []) ++ y) k) (sym same) (
+        λ a. subst (λ (t : List ℕ). IsReached m.machine t k) e ((h.leads (byte ∷ y) k).0 ((steps y k).1 a)),
+        λ r. (steps y k).0 ((h.leads (byte ∷ y) k).1 (subst (λ (t : List ℕ). IsReached m.machine t k) (sym e) r)),
       );
 }
 
 -- the ends that what was read leads to, by a copy of the states
-pub ends_reached : (m : Machine) (states : PrefixStates) (asked : StateSet) (text : List ℕ) (k : ℕ) (found before : Bool)
+pub ends_reached : (m : PrefixMatcherValue) (states : PrefixStates) (asked : StateSet) (text : List ℕ) (k : ℕ) (found before : Bool)
     → ((s : ℕ) → has_state asked s ≡ has_state states.current s) → before ≡ false
-    → IsTrue found ↔ (AcceptsFrom m asked [] k ⊎ IsTrue before) → IsAfter m states text → IsTrue found ↔ IsReached m text k
+    → IsTrue found ↔ (AcceptsFrom m.machine asked [] k ⊎ IsTrue before) → IsAfter m states text → IsTrue found ↔ IsReached m.machine text k
 ends_reached m states asked text k found before same none ends after =
     let lead = after.leads [] k in
     let all : text ++ [] ≡ text = append-nil text in (
-      λ yes. subst (λ (t : List ℕ). IsReached m t k) all (lead.0
-          (⊎_elim {C = AcceptsFrom m states.current [] k} (λ (t, within, at, accepts). (t, within, sym (same t) ∙ at, accepts)) (λ b. absurd (true≢false (sym b ∙ none))) (ends.0 yes))),
-      λ r. let (t, within, at, accepts) = lead.1 (subst (λ (t : List ℕ). IsReached m t k) (sym all) r) in ends.1 (inl (t, within, same t ∙ at, accepts)),
+      λ yes. subst (λ (t : List ℕ). IsReached m.machine t k) all (lead.0
+          (⊎_elim {C = AcceptsFrom m.machine states.current [] k} (λ (t, within, at, accepts). (t, within, sym (same t) ∙ at, accepts)) (λ b. absurd (true≢false (sym b ∙ none))) (ends.0 yes))),
+      λ r. let (t, within, at, accepts) = lead.1 (subst (λ (t : List ℕ). IsReached m.machine t k) (sym all) r) in ends.1 (inl (t, within, same t ∙ at, accepts)),
     )
 
 -- states are after a text by their current set alone
-pub same_current : (m : Machine) (old new : PrefixStates) (text : List ℕ) → new.current ≡ old.current → IsAfter m old text → IsAfter m new text
+pub same_current : (m : PrefixMatcherValue) (old new : PrefixStates) (text : List ℕ) → new.current ≡ old.current → IsAfter m old text → IsAfter m new text
 same_current m old new text e h = record {
   bytes = h.bytes;
-  leads = λ y k. subst (λ (set : StateSet). AcceptsFrom m set y k ↔ IsReached m (text ++ y) k) (sym e) (h.leads y k);
+  leads = λ y k. subst (λ (set : StateSet). AcceptsFrom m.machine set y k ↔ IsReached m.machine (text ++ y) k) (sym e) (h.leads y k);
 }

@@ -1,15 +1,13 @@
 -- Laws of the indexes that sets return.
 use Rattle.std.proofs.Common.{◌≡◌, ℕ, zero, suc, ◌+◌, ◌<◌, List, [], ◌∷◌, ◌++◌, length, Bool, true, false, cond, Option, Some, refl, ap, sym, ◌∙◌, arith, length-append}
-use Rattle.std.specs.Prelude.{◌≢◌, Contains, filter, slice_get}
+use Rattle.std.specs.Prelude.{Contains, filter, slice_get}
 use Rattle.std.specs.List.{range_with_len}
 use Rattle.std.proofs.lemmas.List.{append_assoc}
 use Rattle.std.specs.Option.{option_map_or}
 use Rattle.globset_glob.specs.GlobMatches.{GlobValue}
 use Rattle.globset_glob.specs.Texts.{AllBytes}
-use Rattle.glob_path.specs.Below.{path_below}
 use Rattle.globset.specs.Excluded.{is_reported}
 use Rattle.globset.specs.Answer.{matching_indexes}
-use Rattle.globset.specs.Below.{MatchesBelow}
 use Rattle.set_matcher.specs.Indexes.{passes_at}
 use Rattle.globset.specs.Laws.{AddKeeps, OrderRenames, OneGlobSet, BelowHasPaths, BelowEnds}
 use Rattle.set_matcher.proofs.lemmas.Indexes.{filter_more, passing_is_contained, contained_passes, passes_within}

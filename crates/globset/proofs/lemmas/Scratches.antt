@@ -1,5 +1,5 @@
 -- Room for a set in a scratch that fits it.
-use Rattle.std.proofs.Common.{◌≡◌, ℕ, ◌≤◌, length, ap, arith}
+use Rattle.std.proofs.Common.{◌≡◌, ℕ, length, ap, arith}
 use Rattle.set_matcher.specs.declared.matching_sets.MatchingSets.{MatchingSets}
 use Rattle.set_matcher.specs.inner.Capacity.{HasCapacity, KeepsCapacity}
 use Rattle.globset.specs.SetValue.{Fits, ScratchValue, SetValue, set_globs, set_states}

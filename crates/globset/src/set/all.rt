@@ -62,6 +62,7 @@ impl GlobSet {
         ensures succeeds_if_empty { set_globs self.now ≡ [] → IsOk result }
         ensures succeeds_without_automata { load (set_globs self.now) path.now ≡ 0 → IsOk result }
         ensures visits { visits.new ≤ visits.old + max_set_visits (set_globs self.now) path.now }
+        ensures counted { visits.old ≤ visits.new }
         ensures no_visits_if_empty { set_globs self.now ≡ [] → visits.new ≡ visits.old }
     {
         if self.is_empty() {

@@ -70,6 +70,7 @@ impl GlobSet {
         ensures succeeds_if_empty { set_globs self.now ≡ [] → IsOk result }
         ensures succeeds_without_automata { load_below (set_globs self.now) ≡ 0 → IsOk result }
         ensures visits { visits.new ≤ visits.old + max_set_visits_below (set_globs self.now) folder.now }
+        ensures counted { visits.old ≤ visits.new }
         ensures no_visits_if_empty { set_globs self.now ≡ [] → visits.new ≡ visits.old }
     {
         if self.is_empty() {
@@ -107,6 +108,7 @@ impl GlobSet {
         ensures some { IsTrue result ↔ MatchesBelow (set_globs self.now) folder.now }
         ensures kept { scratch.new ≡ scratch.old }
         ensures visits { visits.new ≤ visits.old + max_set_visits_below (set_globs self.now) folder.now }
+        ensures counted { visits.old ≤ visits.new }
         ensures no_visits_if_empty { set_globs self.now ≡ [] → visits.new ≡ visits.old }
     {
         if self.is_empty() {

@@ -100,6 +100,7 @@ impl GlobSet {
         ensures succeeds_if_empty { set_globs self.now ≡ [] → IsOk result }
         ensures cleared { OnErr result (into.new.items ≡ []) }
         ensures visits { visits.new ≤ visits.old + max_set_visits (set_globs self.now) path.now }
+        ensures counted { visits.old ≤ visits.new }
         ensures no_visits_if_empty { set_globs self.now ≡ [] → visits.new ≡ visits.old }
     {
         into.clear();

@@ -25,6 +25,7 @@ impl GlobSet {
         ensures some { IsTrue result ↔ (matching_indexes (set_globs self.now) path.now ≢ []) }
         ensures kept { scratch.new ≡ scratch.old }
         ensures visits { visits.new ≤ visits.old + max_set_visits (set_globs self.now) path.now }
+        ensures counted { visits.old ≤ visits.new }
         ensures no_visits_if_empty { set_globs self.now ≡ [] → visits.new ≡ visits.old }
     {
         if self.is_empty() {
@@ -51,6 +52,7 @@ impl GlobSet {
             ↔ ContainsAllBelow (matching_indexes (set_globs self.now) path.now) (length (set_globs self.now)) }
         ensures kept { scratch.new ≡ scratch.old }
         ensures visits { visits.new ≤ visits.old + max_set_visits (set_globs self.now) path.now }
+        ensures counted { visits.old ≤ visits.new }
         ensures no_visits_if_empty { set_globs self.now ≡ [] → visits.new ≡ visits.old }
     {
         if self.is_empty() {
@@ -84,6 +86,7 @@ impl GlobSet {
         ensures cleared { OnErr result (into.new.items ≡ []) }
         ensures kept { scratch.new ≡ scratch.old }
         ensures visits { visits.new ≤ visits.old + max_set_visits (set_globs self.now) path.now }
+        ensures counted { visits.old ≤ visits.new }
         ensures no_visits_if_empty { set_globs self.now ≡ [] → visits.new ≡ visits.old }
     {
         into.clear();

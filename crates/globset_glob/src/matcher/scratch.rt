@@ -20,5 +20,6 @@ pub trait MatcherScratch {
         requires { size automaton.now ≤ states self.old }
         ensures some { (xs : List IndexedTokens) → IsFor automaton.now xs → IsTrue result ↔ ((k : ℕ) × SomeMatches xs text.now k) }
         ensures kept { self.new ≡ self.old }
-        ensures visits { visits.new ≤ visits.old + (length text.now + 1) * max_reads automaton.now };
+        ensures visits { visits.new ≤ visits.old + (length text.now + 1) * max_reads automaton.now }
+        ensures counted { visits.old ≤ visits.new };
 }

@@ -58,6 +58,7 @@ impl Strategy {
     ) -> Result<bool, AllocError>
         ensures some { IfOk result (λ yes. (g : GlobValue) → IsStrategyOfMatcher g self.now → yes ≡ glob_matches g path.now) }
         ensures visits { (g : GlobValue) → IsStrategyOfMatcher g self.now → visits.new ≤ visits.old + max_visits g path.now }
+        ensures counted { visits.old ≤ visits.new }
     {
         match self {
             Strategy::Key(key) => {
@@ -83,6 +84,7 @@ impl Strategy {
         ensures some { (g : GlobValue) → IsStrategyOfMatcher g self.now → result ≡ glob_matches g path.now }
         ensures kept { scratch.new ≡ scratch.old }
         ensures visits { (g : GlobValue) → IsStrategyOfMatcher g self.now → visits.new ≤ visits.old + max_visits g path.now }
+        ensures counted { visits.old ≤ visits.new }
     {
         match self {
             Strategy::Key(key) => {
@@ -102,6 +104,7 @@ impl Strategy {
     ) -> Result<bool, AllocError>
         ensures some { IfOk result (λ yes. (g : GlobValue) → IsStrategyOfMatcher g self.now → IsTrue yes ↔ GlobMatchesBelow g folder.now) }
         ensures visits { (g : GlobValue) → IsStrategyOfMatcher g self.now → visits.new ≤ visits.old + max_visits_below g folder.now }
+        ensures counted { visits.old ≤ visits.new }
     {
         match self {
             Strategy::Key(key) => {

@@ -1,4 +1,4 @@
--- The groups of the globs of a list, glob by glob.
+-- The matcher of the globs of a list, glob by glob.
 use Rattle.std.proofs.Common.{◌≡◌, ℕ, zero, suc, ◌+◌, ◌≤◌, ◌⊎◌, inl, inr, Bool, true, false, cond, List, [], ◌∷◌, ◌++◌, Result, Ok, Err, length, get_or, IsTrue, refl, ap, sym, subst, ◌∙◌, arith}
 use Rattle.std.specs.Prelude.{◌↔◌, Contains, OnOk}
 use Rattle.std.specs.Option.{option_map_or}
@@ -28,7 +28,7 @@ use Rattle.byte_table.specs.Entries.{indexes_under}
 use Rattle.literal_index.specs.Below.{MatchesBelow}
 use Rattle.literal_index.specs.LiteralIndex.{KeyParts, MoreIn, keys_found}
 use Rattle.set_matcher.specs.inner.Automata.{AutomataParts, ExtensionParts, TokenLists, AreForLists, AreFor, AreFound, AreFoundBelow, AddsTokens, before_extension, first, folder_reads, machine_under, reads_for, tokens_under, total_reads}
-use Rattle.set_matcher.specs.inner.SetMatcher.{SetMatcherParts, IsSetMatcherOf, listed_count}
+use Rattle.set_matcher.specs.inner.SetMatcher.{SetMatcherParts, IsSetMatcherOf, set_matcher_parts, listed_count}
 use Rattle.set_matcher.proofs.lemmas.Automata.{extension_cut}
 use Rattle.set_matcher.proofs.lemmas.Matching.{some_listed}
 use Rattle.set_matcher.proofs.lemmas.ExtensionMatchers.{after_push}
@@ -146,9 +146,6 @@ keys_added globs g n old new at automata more below before = record {
       (before.below folder bytes);
   few_below = let same = ap (λ a. folder_reads a) automata in omega (arith, same, before.few_below, load_below_push globs g);
 }
-
-abbrev pub set_matcher_parts : KeyParts → AutomataParts → SetMatcherParts
-set_matcher_parts keys automata = record { keys = keys; automata = automata }
 
 pub key_added : (globs : List TokenGlob) (g : TokenGlob) (n : ℕ) (old new : KeyParts) (a : AutomataParts) → n ≡ length globs
     → ((path : List ℕ) → MoreIn (keys_found old path) (keys_found new path) n (is_reported g path))

@@ -5,7 +5,7 @@ use Rattle.glob_matching.specs.contracts.compiled.Compiled as Compiled
 use Rattle.literal_index.proofs.lemmas.Shared.{keys-send, keys-sync, table-send, table-sync}
 use Rattle.set_matcher.specs.contracts.automata.matchers.ExtensionMatchers as ExtensionMatchers
 use Rattle.set_matcher.specs.contracts.automata.Automata as Automata
-use Rattle.set_matcher.specs.contracts.groups.SetMatcher as SetMatcher
+use Rattle.set_matcher.specs.contracts.matcher.SetMatcher as SetMatcher
 
 pub compiled-send : IsSend Compiled.the_field.row
 compiled-send = search (sendable, crosses) depth 40 fits 20000
@@ -25,8 +25,8 @@ automata-send = search (sendable, matchers-send, compiled-send) depth 20
 automata-sync : IsSync Automata.the_field.row
 automata-sync = search (sendable, matchers-sync, compiled-sync) depth 20
 
-pub groups-send : IsSend SetMatcher.the_field.row
-groups-send = search (sendable, keys-send, automata-send) depth 20
+pub matcher-send : IsSend SetMatcher.the_field.row
+matcher-send = search (sendable, crosses, keys-send, automata-send) depth 20
 
-pub groups-sync : IsSync SetMatcher.the_field.row
-groups-sync = search (sendable, keys-sync, automata-sync) depth 20
+pub matcher-sync : IsSync SetMatcher.the_field.row
+matcher-sync = search (sendable, crosses, keys-sync, automata-sync) depth 20

@@ -1,24 +1,19 @@
 -- What is stored to tell which globs of a list match a path.
-use Rattle.std.specs.Prelude.{◌↔◌, ◌⊎◌, ℕ, ◌≤◌, List, Contains, cond, length, sum_by, IsTrue}
-use Rattle.set_matcher.specs.Globs.{TokenGlob, is_reported, is_reported_at, load}
+use Rattle.std.specs.Prelude.{◌≡◌, ◌↔◌, ◌⊎◌, ℕ, ◌≤◌, List, Contains, cond, length, sum_by, IsTrue}
+use Rattle.set_matcher.specs.Globs.{FlatGlob, TokenGlob, is_reported, is_reported_at, load, token_globs}
 use Rattle.byte_nfa.specs.Texts.{AllBytes}
 use Rattle.set_matcher.specs.Below.{SomeReportedBelow, load_below}
 use Rattle.literal_index.specs.Below.{MatchesBelow}
 use Rattle.literal_index.specs.LiteralIndex.{KeyParts, keys_found}
-use Rattle.set_matcher.specs.inner.Automata.{AutomataParts, TokenLists, AreForLists, AreFound, AreFoundBelow, folder_reads, max_states, reads_for}
+use Rattle.set_matcher.specs.inner.Automata.{AutomataParts, TokenLists, AreForLists, AreFound, AreFoundBelow, folder_reads, reads_for}
 
 -- the keys of globs, and automata for the globs without one
 pub record SetMatcherParts : Type 0 where
   pub keys : KeyParts
   pub automata : AutomataParts
 
--- the number that each index is below
-abbrev pub glob_count : SetMatcherParts → ℕ
-glob_count g = g.automata.extensions.index_count
-
--- the number of states of the largest automaton
-abbrev pub state_count_of_set : SetMatcherParts → ℕ
-state_count_of_set g = max_states g.automata
+abbrev pub set_matcher_parts : KeyParts → AutomataParts → SetMatcherParts
+set_matcher_parts keys automata = record { keys = keys; automata = automata }
 
 -- how many globs are reported for a path
 abbrev pub listed_count : List TokenGlob → List ℕ → ℕ
@@ -34,3 +29,10 @@ pub record IsSetMatcherOf (globs : List TokenGlob) (g : SetMatcherParts) : Type 
   pub reads : (path : List ℕ) → reads_for g.automata path ≤ load globs path
   pub below : (folder : List ℕ) → AllBytes folder → (MatchesBelow g.keys folder ⊎ AreFoundBelow g.automata.extensions tokens folder) ↔ SomeReportedBelow globs folder
   pub few_below : folder_reads g.automata ≤ load_below globs
+
+-- What is true of the parts of each such value: they are a matcher of the globs, of which there are so many, and automata have
+-- an index for each.
+pub record IsMatcherOf (given : List FlatGlob) (len : ℕ) (keys : KeyParts) (automata : AutomataParts) : Type 0 where
+  pub matcher : IsSetMatcherOf (token_globs given) (set_matcher_parts keys automata)
+  pub counted : len ≡ length given
+  pub indexed : len ≤ automata.extensions.index_count

@@ -27,6 +27,7 @@ impl Automata {
         ensures memory { folder_reads self.now ≡ 0 → IsOk result }
         ensures room { max_states self.now ≤ sets_capacity sets.old → IsOk result }
         ensures visits { visits.new ≤ visits.old + (length folder.now + 2) * folder_reads self.now }
+        ensures counted { visits.old ≤ visits.new }
     {
         if self.has_component {
             return Ok(true);

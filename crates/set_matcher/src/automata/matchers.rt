@@ -150,6 +150,7 @@ impl ExtensionMatchers {
         ensures kept { sets_capacity sets.old ≤ sets_capacity sets.new }
         ensures room { max_size self.now.machines ≤ sets_capacity sets.old → IsOk result }
         ensures visits { visits.new ≤ visits.old + (length text.now + 2) * total_reads self.now.machines }
+        ensures counted { visits.old ≤ visits.new }
     {
         for automaton in &self.automata {
             if automaton.can_match_after(text, byte, sets, visits)? {
@@ -209,6 +210,13 @@ impl ExtensionMatchersBuilder {
             none: new_builder(alloc, index_count),
             index_count,
         }
+    }
+
+    /// Returns the number that each index is below.
+    pub fn index_count(&self) -> usize
+        ensures { result ≡ self.now.index_count }
+    {
+        self.index_count
     }
 
     /// Adds the tokens of a glob that matches only paths with one extension. It takes time and memory linear in the tokens.

@@ -12,6 +12,7 @@ loop-byte-init c = record {
   after = λ text h. subst (λ (t : List ℕ). IsAfter c.args.self.now c.args.states.now t) (sym (append-nil text)) h;
   fits = λ m f. f;
   visits = omega arith;
+  counted = omega arith;
 }
 
 pub loop-byte-preserved : goal.loop-byte-preserved
@@ -26,6 +27,7 @@ loop-byte-preserved c =
           subst (λ (t : List ℕ). IsAfter c.args.self.now c.push.new.states t) more (c.push.ensures.after (text ++ take i bytes) (c.loop-byte.invariant.after text h));
       fits = λ m f. c.push.ensures.fits m (c.loop-byte.invariant.fits m f);
       visits = omega (arith, c.loop-byte.invariant.visits, c.push.ensures.visits);
+      counted = omega arith;
     }
 
 pub returns-clause-after : goal.returns-clause-after

@@ -7,4 +7,5 @@ invariant-loop-byte l = record {
   after : (text : List ℕ) → IsAfter l.self l.fn.states text → IsAfter l.self l.states (text ++ take l.byte-index l.bytes);
   fits : FitAsBefore l.fn.states l.states;
   visits : l.visits ≤ l.fn.visits + l.byte-index * prefix_states l.self;
+  counted : l.fn.visits ≤ l.visits;
 }

@@ -18,6 +18,7 @@ loop-automaton-preserved c =
           (λ some. true≢false (sym ((c.in_ok-can_match_after.ensures.some (by_slot i) (is_for machines i m lt is by_slot are)).1 some) ∙ c.if-branch.false));
       kept = omega (arith, c.can_match_after.ensures.kept, inv.kept);
       visits = visits_more machines i m lt is (length c.args.text.now + 2) c.args.visits.now c.loop-automaton.visits c.can_match_after.new.visits c.can_match_after.ensures.visits inv.visits;
+      counted = omega (arith, c.can_match_after.ensures.counted, inv.counted);
     }
 
 pub returns-then-branch-clause-some : goal.returns-then-branch-clause-some

@@ -9,4 +9,5 @@ invariant-loop-automaton l = record {
   none : (by_slot : ℕ → List IndexedTokens) → AreFor l.self.machines by_slot → SomeExtensionAfter l.automaton-index by_slot (l.text ++ l.byte ∷ []) → ⊥;
   kept : sets_capacity l.fn.sets ≤ sets_capacity l.sets;
   visits : l.visits ≤ l.fn.visits + (length l.text + 2) * total_reads (take l.automaton-index l.self.machines);
+  counted : l.fn.visits ≤ l.visits;
 }
