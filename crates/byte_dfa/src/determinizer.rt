@@ -11,7 +11,7 @@ ghost use Rattle.byte_dfa.specs.inner.Tables.{special};
 use crate::classes::ByteClasses;
 use crate::lists::push_list;
 use bit_sets::IndexSet;
-use byte_nfa::{Nfa, ByteSteps, StateSet};
+use byte_nfa::{ByteSteps, Nfa, StateSet};
 use std::alloc::{AllocError, Global};
 use std::collections::HashMap;
 use std::hash::{FoldHasher, Hasher};

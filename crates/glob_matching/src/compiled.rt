@@ -8,8 +8,8 @@ ghost use Rattle.glob_nfa.specs.After.{SomeMeanAfter};
 ghost use Rattle.glob_nfa.specs.IndexedTokens.{IndexedTokens, IsFor, SomeMatches};
 
 use crate::budget::Budget;
-use crate::partition::{partitioned, joint};
 use crate::filtered::{Filtered, filter_for};
+use crate::partition::{joint, partitioned};
 use crate::parts::Parts;
 use crate::simulation;
 use bit_sets::IndexSet;
@@ -76,11 +76,7 @@ impl Compiled {
     /// states, up to the factors of these limits.
     ///
     /// With a budget of no bytes the automaton is simulated as a whole.
-    pub fn new(
-        alloc: Global,
-        budget: &mut Budget,
-        automaton: Nfa,
-    ) -> Result<Compiled, AllocError>
+    pub fn new(alloc: Global, budget: &mut Budget, automaton: Nfa) -> Result<Compiled, AllocError>
         ensures { IfOk result (λ c. c ≡ automaton) }
     {
         if !is_large(*budget, &automaton) {

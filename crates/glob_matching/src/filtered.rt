@@ -11,8 +11,8 @@ ghost use Rattle.glob_matching.specs.inner.Filtered.{AreApart, span_at};
 
 use crate::simulation;
 use bit_sets::IndexSet;
-use byte_nfa::{Nfa, Span, StateSets};
 use byte_filter::StartFilter;
+use byte_nfa::{Nfa, Span, StateSets};
 use std::alloc::{AllocError, Global};
 use std::marker::Model;
 use visits::Visits;
