@@ -12,7 +12,7 @@ use crate::determinizer::{Determinizer, SPECIAL};
 use crate::lists::{has_some, put_listed};
 use crate::source::Source;
 use bit_sets::{ByteSet, IndexSet};
-use byte_nfa::Nfa;
+use byte_nfa::Draft;
 use std::alloc::{AllocError, Global};
 use std::marker::Model;
 use std::mem;
@@ -89,7 +89,7 @@ impl Dfa {
     ///
     /// The table and the lists have at most `budget` numbers together. Returns `None` if that is not enough, and an error
     /// if memory runs out.
-    pub fn new(alloc: Global, automaton: &Nfa, budget: usize) -> Result<Option<Dfa>, AllocError>
+    pub fn new(alloc: Global, automaton: &Draft, budget: usize) -> Result<Option<Dfa>, AllocError>
         ensures source { IfOk result (λ made. IfSome made (λ dfa. dfa.source ≡ automaton.now)) }
         ensures size { IfOk result (λ made. IfSome made (λ dfa. dfa.size ≤ budget)) }
     {
