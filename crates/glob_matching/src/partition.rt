@@ -9,7 +9,7 @@ ghost use Rattle.glob_matching.specs.inner.Parts.{ArePartsBelow};
 use crate::budget::Budget;
 use crate::parts::Parts;
 use byte_dfa::Dfa;
-use byte_nfa::Nfa;
+use byte_nfa::{Draft, Nfa};
 use std::alloc::{AllocError, Global};
 
 /// The most states of a part that is made deterministic.
@@ -77,7 +77,7 @@ struct Part {
 pub fn partitioned(
     alloc: Global,
     budget: &mut Budget,
-    automaton: &Nfa,
+    automaton: &Draft,
 ) -> Result<Option<Parts>, AllocError>
     ensures { IfOk result (λ made. IfSome made (λ parts. parts ≡ automaton.now)) }
 {
@@ -117,7 +117,7 @@ pub fn partitioned(
 pub fn joint(
     alloc: Global,
     budget: &mut Budget,
-    automaton: &Nfa,
+    automaton: &Draft,
 ) -> Result<Option<Parts>, AllocError>
     ensures { IfOk result (λ made. IfSome made (λ parts. parts ≡ automaton.now)) }
 {
@@ -159,7 +159,7 @@ impl Partition {
     fn next_part(
         &mut self,
         alloc: Global,
-        automaton: &Nfa,
+        automaton: &Draft,
         low: usize,
         first: usize,
         maximum: usize,
@@ -197,7 +197,7 @@ impl Partition {
     fn table_of(
         &mut self,
         alloc: Global,
-        automaton: &Nfa,
+        automaton: &Draft,
         low: usize,
         high: usize,
         maximum: usize,
@@ -231,7 +231,7 @@ impl Partition {
     /// whether it could: no step leads out of what is added.
     fn add(
         &mut self,
-        automaton: &Nfa,
+        automaton: &Draft,
         from: usize,
         low: usize,
         high: usize,
@@ -252,7 +252,7 @@ impl Partition {
     }
 
     /// Adds the part from `low` on and below `high`, to be simulated. Returns whether it could: no step leads out of it.
-    fn simulate(&mut self, automaton: &Nfa, low: usize, high: usize) -> Result<bool, AllocError>
+    fn simulate(&mut self, automaton: &Draft, low: usize, high: usize) -> Result<bool, AllocError>
         requires parts { ArePartsBelow automaton.now low self.old.tables.items self.old.automata.items }
         requires within { high ≤ size automaton.now }
         ensures parts { IfOk result (λ yes. IsTrue yes → ArePartsBelow automaton.now high self.new.tables.items self.new.automata.items) }
@@ -270,7 +270,7 @@ impl Partition {
     }
 
     /// Returns the parts.
-    fn finish(self, automaton: &Nfa) -> Parts
+    fn finish(self, automaton: &Draft) -> Parts
         requires parts { ArePartsBelow automaton.now (size automaton.now) self.tables.items self.automata.items }
         requires begun { AreBelow (size automaton.now) automaton.now.starts }
         requires tables_few { length self.tables.items ≤ length automaton.now.starts }
@@ -286,7 +286,7 @@ impl Partition {
 }
 
 /// Returns the number of the first state behind the first `count` starts.
-fn boundary(automaton: &Nfa, count: usize) -> usize
+fn boundary(automaton: &Draft, count: usize) -> usize
     ensures { result ≤ size automaton.now }
 {
     let states = automaton.state_count();

@@ -12,7 +12,7 @@ mod after;
 use crate::simulation;
 use bit_sets::IndexSet;
 use byte_dfa::{Dfa, Source};
-use byte_nfa::{Nfa, StateSets};
+use byte_nfa::{Draft, Nfa, StateSets};
 use std::alloc::AllocError;
 use std::marker::Model;
 use visits::Visits;
@@ -69,7 +69,7 @@ impl Clone for Parts {
 
 impl Parts {
     /// Returns the parts of an automaton.
-    pub fn of(automaton: &Nfa, tables: Vec<Dfa>, automata: Vec<Nfa>) -> Parts
+    pub fn of(automaton: &Draft, tables: Vec<Dfa>, automata: Vec<Nfa>) -> Parts
         requires { ArePartsOf automaton.now (size automaton.now) tables.items automata.items }
         ensures { result ≡ automaton.now }
     {
