@@ -276,7 +276,7 @@ impl ExtensionMatchersBuilder {
         Ok(ExtensionMatchers {
             matchers,
             automata: finished(alloc, budget, builders)?,
-            none: Compiled::simulated(none.finish()),
+            none: Compiled::simulated(none.finish().into_nfa()),
             index_count,
         })
     }
