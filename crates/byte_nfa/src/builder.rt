@@ -150,7 +150,8 @@ impl Builder {
         Ok(())
     }
 
-    /// Returns the automaton. It may take time linear in the states, to give back memory that they do not need.
+    /// Returns the automaton, which is not run yet. It may take time linear in the states, to give back memory that they do not
+    /// need.
     pub fn finish(self) -> Draft
         ensures { result ≡ self }
     {

@@ -6,20 +6,20 @@
 //! run over a text keeps the set of states that the text so far leads to, counts each read of a state, and takes no memory.
 #![tactic(auto)]
 
-mod nfa;
 mod blocks;
 mod builder;
 mod byte_steps;
 mod draft;
+mod nfa;
 mod run;
 mod state;
 mod state_set;
 mod state_sets;
 
-pub use nfa::Nfa;
 pub use builder::Builder;
 pub use byte_steps::ByteSteps;
 pub use draft::Draft;
+pub use nfa::Nfa;
 pub use run::Span;
 pub use state_set::StateSet;
 pub use state_sets::StateSets;

@@ -1,12 +1,11 @@
 //! What a state of an automaton forces on a text.
 
-ghost use Rattle.std.specs.Prelude.{◌≡◌, ℕ, ◌<◌, ◌≤◌, length, MatchOption};
+ghost use Rattle.std.specs.Prelude.{◌≡◌, ℕ, ◌<◌, MatchOption};
 ghost use Rattle.byte_nfa.specs.Steps.{state, final};
-ghost use Rattle.bit_sets.specs.Numbers.{AreFrom};
 ghost use Rattle.byte_nfa.specs.Parts.{GoesFrom};
 ghost use Rattle.byte_nfa.specs.Forcing.{Forces, IsNoEnd};
 ghost use Rattle.byte_nfa.specs.Runs.{size};
-ghost use Rattle.byte_nfa.specs.inner.Views.{of_state, GoesBelow, IsHeld};
+ghost use Rattle.byte_nfa.specs.inner.Views.{GoesBelow};
 
 use crate::draft::Draft;
 use crate::state::{State, set_of};

@@ -1,6 +1,6 @@
 //! Parts of an automaton.
 
-ghost use Rattle.std.specs.Prelude.{◌≡◌, ℕ, ◌+◌, ◌-◌, ◌<◌, ◌≤◌, ◌⊎◌, ◌↔◌, length, IsTrue, IsFalse, OnOk, IfOk, MatchOption};
+ghost use Rattle.std.specs.Prelude.{◌≡◌, ℕ, ◌+◌, ◌-◌, ◌<◌, ◌≤◌, ◌⊎◌, ◌↔◌, IsTrue, IsFalse, OnOk, IfOk, MatchOption};
 ghost use Rattle.byte_nfa.specs.Steps.{IsIn, state};
 ghost use Rattle.bit_sets.specs.Numbers.{AreFrom};
 ghost use Rattle.byte_nfa.specs.Building.{Pushes};
@@ -9,8 +9,8 @@ ghost use Rattle.byte_nfa.specs.Runs.{size};
 ghost use Rattle.byte_nfa.specs.inner.Lowering.{all_lowered, lowered};
 ghost use Rattle.byte_nfa.specs.inner.Views.{of_state, IsHeld, GoesBelow, NamesBelow};
 
-use crate::draft::Draft;
 use crate::builder::Builder;
+use crate::draft::Draft;
 use crate::state::{State, exits_of, set_of};
 use bit_sets::ByteSet;
 use std::alloc::{AllocError, Global};

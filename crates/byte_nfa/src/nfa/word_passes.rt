@@ -6,8 +6,8 @@ ghost use Rattle.byte_nfa.specs.Spans.{IsClosed, IsFrom, IsWithin};
 ghost use Rattle.byte_nfa.specs.Runs.{size, AcceptsBelow, AcceptsFrom, HasSome};
 ghost use Rattle.byte_nfa.specs.inner.Blocks.{Takes};
 
-use crate::nfa::Nfa;
 use crate::blocks::Taken;
+use crate::nfa::Nfa;
 use crate::state_set::StateSet;
 use visits::Visits;
 
