@@ -3,7 +3,7 @@
 ghost use Rattle.std.specs.Prelude.{ℕ, ◌<◌, ◌≤◌};
 ghost use Rattle.byte_dfa.specs.inner.Classes.{IsDivision};
 
-use byte_nfa::Nfa;
+use byte_nfa::Draft;
 
 /// Classes of bytes that each state of an automaton reads alike. A class is a run of bytes.
 #[derive(Drop)]
@@ -17,7 +17,7 @@ pub struct ByteClasses {
 
 impl ByteClasses {
     /// Returns the classes of an automaton.
-    pub fn new(automaton: &Nfa) -> ByteClasses
+    pub fn new(automaton: &Draft) -> ByteClasses
         ensures some { 0 < result.count }
         ensures few { result.count ≤ 256 }
         ensures division { IsDivision automaton.now.states result.class_of result.representatives result.count }

@@ -11,11 +11,10 @@ ghost use Rattle.byte_dfa.specs.inner.Tables.{special};
 use crate::classes::ByteClasses;
 use crate::lists::push_list;
 use bit_sets::IndexSet;
-use byte_nfa::{Nfa, ByteSteps, StateSet};
+use byte_nfa::{ByteSteps, Draft, StateSet};
 use std::alloc::{AllocError, Global};
 use std::collections::HashMap;
 use std::hash::{FoldHasher, Hasher};
-use visits::Visits;
 
 /// An entry from here on leads to a state that is dead, or where indexes are found on entry.
 pub const SPECIAL: usize = 1 << 31;
@@ -83,7 +82,7 @@ impl Determinizer {
     /// room for so many numbers, or if too many states are found whose rows are not written yet.
     pub fn complete(
         alloc: Global,
-        automaton: &Nfa,
+        automaton: &Draft,
         classes: &ByteClasses,
         room: usize,
     ) -> Result<Option<(Determinizer, usize)>, AllocError>
@@ -125,7 +124,7 @@ impl Determinizer {
     fn begin(
         &mut self,
         alloc: Global,
-        automaton: &Nfa,
+        automaton: &Draft,
         classes: &ByteClasses,
         states: &mut StateSet,
     ) -> Result<Option<usize>, AllocError>
@@ -151,7 +150,7 @@ impl Determinizer {
     fn write_rows(
         &mut self,
         alloc: Global,
-        automaton: &Nfa,
+        automaton: &Draft,
         classes: &ByteClasses,
         states: &mut StateSet,
     ) -> Result<bool, AllocError>
@@ -183,7 +182,7 @@ impl Determinizer {
     }
 
     /// Returns for each set that was found whether some bytes lead from it to an end. Returns an error if memory runs out.
-    pub fn live_rows(&self, alloc: Global, automaton: &Nfa) -> Result<Vec<bool>, AllocError>
+    pub fn live_rows(&self, alloc: Global, automaton: &Draft) -> Result<Vec<bool>, AllocError>
         requires { AreFoundSets automaton.now self.now.found.items self.now.lists.items }
         ensures { IfOk result (λ live. AreLiveSets automaton.now self.now.found.items live.items) }
     {
@@ -191,14 +190,14 @@ impl Determinizer {
         automaton.live(&mut live);
         let mut rows = Vec::new(alloc);
         for row in 0..self.found.len() {
-            let is_live = automaton.has_live(&self.found[row].states, &live, &mut Visits::new());
+            let is_live = automaton.has_live(&self.found[row].states, &live);
             rows.push(is_live)?;
         }
         Ok(rows)
     }
 
     /// Returns a construction of no states, with room for so many numbers.
-    fn new(alloc: Global, automaton: &Nfa, room: usize) -> Result<Determinizer, AllocError>
+    fn new(alloc: Global, automaton: &Draft, room: usize) -> Result<Determinizer, AllocError>
         ensures found { IfOk result (λ c. c.found.items ≡ []) }
         ensures lists { IfOk result (λ c. c.lists.items ≡ 0 ∷ []) }
         ensures rows { IfOk result (λ c. c.rows.items ≡ []) }
@@ -223,7 +222,7 @@ impl Determinizer {
     fn state_id(
         &mut self,
         alloc: Global,
-        automaton: &Nfa,
+        automaton: &Draft,
         classes: &ByteClasses,
         states: &StateSet,
         below: usize,
@@ -264,7 +263,7 @@ impl Determinizer {
     fn ends_of(
         &self,
         alloc: Global,
-        automaton: &Nfa,
+        automaton: &Draft,
         states: &StateSet,
     ) -> Result<IndexSet, AllocError>
         requires room { HasCapacityFor automaton.now states.now }
@@ -278,7 +277,7 @@ impl Determinizer {
         // The others lead to no end without a byte.
         let mut from = states.clone()?;
         from.keep(&self.accepting);
-        automaton.ends(&mut from, &mut set, &mut Visits::new());
+        automaton.ends(&mut from, &mut set);
         Ok(set)
     }
 
@@ -286,7 +285,7 @@ impl Determinizer {
     fn add(
         &mut self,
         alloc: Global,
-        automaton: &Nfa,
+        automaton: &Draft,
         classes: &ByteClasses,
         states: &StateSet,
         below: usize,
@@ -327,7 +326,7 @@ impl Determinizer {
     fn write_row(
         &mut self,
         alloc: Global,
-        automaton: &Nfa,
+        automaton: &Draft,
         classes: &ByteClasses,
         row: Row,
         steps: &ByteSteps,
@@ -376,7 +375,7 @@ impl Determinizer {
     /// base, or that of a class before.
     fn shared_entry(
         &self,
-        automaton: &Nfa,
+        automaton: &Draft,
         classes: &ByteClasses,
         row: Row,
         steps: &ByteSteps,
@@ -416,7 +415,7 @@ impl Determinizer {
     fn new_entry(
         &mut self,
         alloc: Global,
-        automaton: &Nfa,
+        automaton: &Draft,
         classes: &ByteClasses,
         row: Row,
         steps: &ByteSteps,
@@ -463,7 +462,7 @@ impl Determinizer {
     /// Puts the steps by a byte from the states that the set of a row has beside those of its base into `into`. Returns the row.
     fn row_steps(
         &self,
-        automaton: &Nfa,
+        automaton: &Draft,
         number: usize,
         into: &mut ByteSteps,
     ) -> Result<Row, AllocError>
@@ -477,7 +476,7 @@ impl Determinizer {
         let base = self.base_of(automaton, number);
         let mut rest = self.found[number].states.clone()?;
         rest.remove(&self.found[base].states);
-        automaton.byte_steps(&mut rest, into, &mut Visits::new())?;
+        automaton.byte_steps(&mut rest, into)?;
         Ok(Row {
             number,
             base,
@@ -486,7 +485,7 @@ impl Determinizer {
     }
 
     /// Returns the base of a row.
-    fn base_of(&self, automaton: &Nfa, number: usize) -> usize
+    fn base_of(&self, automaton: &Draft, number: usize) -> usize
         requires sound { AreFoundSets automaton.now self.now.found.items self.now.lists.items }
         requires row { number < length self.now.found.items }
         ensures written { 0 < result → result < number }
@@ -506,7 +505,7 @@ impl Determinizer {
     }
 
     /// Returns whether a row can be the base of another: it is written before it, and its set has none but states of the other set.
-    fn is_base(&self, automaton: &Nfa, number: usize, base: usize) -> bool
+    fn is_base(&self, automaton: &Draft, number: usize, base: usize) -> bool
         requires sound { AreFoundSets automaton.now self.now.found.items self.now.lists.items }
         requires row { number < length self.now.found.items }
         ensures written { IsTrue result → base < number }
@@ -538,7 +537,7 @@ impl Determinizer {
 
 /// Returns how many states may be found whose rows are not written yet. Most automata of which there are more at some time have
 /// very many more states than they have room for, and are given up sooner.
-fn max_waiting(automaton: &Nfa) -> usize {
+fn max_waiting(automaton: &Draft) -> usize {
     let starts = automaton.starts().len();
     starts.saturating_add(WAITING.max(starts / 2))
 }

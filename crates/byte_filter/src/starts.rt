@@ -14,7 +14,7 @@ use crate::filter::Filter;
 use crate::others::{OtherStart, mark_others};
 use crate::window::{StartWindows, find_required, forced_bytes};
 use bit_sets::IndexSet;
-use byte_nfa::Nfa;
+use byte_nfa::Draft;
 use std::alloc::{AllocError, Global};
 use std::marker::Model;
 use visits::Visits;
@@ -73,7 +73,7 @@ impl StartFilter {
     /// little to leave out. Returns an error if memory runs out.
     ///
     /// It reads the states below each start down to an end, twice.
-    pub fn new(alloc: Global, automaton: &Nfa) -> Result<Option<StartFilter>, AllocError>
+    pub fn new(alloc: Global, automaton: &Draft) -> Result<Option<StartFilter>, AllocError>
         ensures { IfOk result (λ made. IfSome made (λ filter. IsFilterOf automaton.now filter)) }
     {
         let count = automaton.starts().len();
@@ -131,7 +131,7 @@ impl StartFilter {
 /// Counts the windows of all starts of an automaton. `bytes` has the byte that each state forces, and `windows` is room to work in.
 fn counted(
     alloc: Global,
-    automaton: &Nfa,
+    automaton: &Draft,
     bytes: &[u8],
     windows: &mut StartWindows,
 ) -> Result<Counts, AllocError>

@@ -8,7 +8,7 @@ ghost use Rattle.byte_nfa.specs.Runs.{size};
 ghost use Rattle.bit_sets.specs.declared.byte_set.ByteSet.{ByteSet};
 ghost use Rattle.byte_nfa.specs.inner.Views.{AreSound, machine, set_at};
 
-use crate::nfa::Nfa;
+use crate::draft::Draft;
 use crate::state::State;
 use bit_sets::ByteSet;
 use std::alloc::{AllocError, Global};
@@ -150,8 +150,9 @@ impl Builder {
         Ok(())
     }
 
-    /// Returns the automaton. It may take time linear in the states, to give back memory that they do not need.
-    pub fn finish(self) -> Nfa
+    /// Returns the automaton, which is not run yet. It may take time linear in the states, to give back memory that they do not
+    /// need.
+    pub fn finish(self) -> Draft
         ensures { result ≡ self }
     {
         let Builder {
@@ -167,7 +168,7 @@ impl Builder {
         sets.shrink_to_fit();
         targets.shrink_to_fit();
         starts.shrink_to_fit();
-        Nfa::from_parts(states, sets, targets, starts, count)
+        Draft::from_parts(states, sets, targets, starts, count)
     }
 }
 

@@ -3,7 +3,7 @@
 ghost use Rattle.byte_nfa.specs.Sets.{state_capacity};
 ghost use Rattle.byte_nfa.specs.inner.StepCapacity.{AreWithin};
 
-use crate::nfa::Nfa;
+use crate::draft::Draft;
 use crate::state_set::StateSet;
 use bit_sets::ByteSet;
 use std::alloc::{AllocError, Global};
@@ -18,8 +18,8 @@ struct Step {
 
 /// The steps by a byte from the states of a set.
 ///
-/// [`Nfa::byte_steps`] makes them in one pass over the states. After that [`ByteSteps::add_to`] finds what a byte leads
-/// to in less time than [`Nfa::step`], which makes a pass for each byte.
+/// [`Draft::byte_steps`] makes them in one pass over the states. After that [`ByteSteps::add_to`] finds what a byte leads
+/// to in less time than a pass for each byte takes.
 #[derive(Drop)]
 pub struct ByteSteps {
     /// The states that every byte leads to.
@@ -107,32 +107,25 @@ impl ByteSteps {
     }
 }
 
-impl Nfa {
-    ghost use Rattle.std.specs.Prelude.{◌≡◌, ◌+◌, ◌≤◌, OnOk};
+impl Draft {
+    ghost use Rattle.std.specs.Prelude.{◌≡◌, ◌≤◌, OnOk};
     ghost use Rattle.byte_nfa.specs.Runs.{size};
     ghost use Rattle.byte_nfa.specs.ByteSteps.{step_capacity, AreStepsOf};
 
     /// Puts the steps by a byte from the states of a set into `into`. What `into` held has no effect. What a state of `from`
     /// goes on to without a byte is put into `from`, before the pass comes to it. Returns an error if memory runs out.
     ///
-    /// It reads each state at most once, in one pass, and is one visit for each.
-    pub fn byte_steps(
-        &self,
-        from: &mut StateSet,
-        into: &mut ByteSteps,
-        visits: &mut Visits,
-    ) -> Result<(), AllocError>
+    /// It reads each state at most once, in one pass.
+    pub fn byte_steps(&self, from: &mut StateSet, into: &mut ByteSteps) -> Result<(), AllocError>
         requires from_capacity { size self.now ≤ state_capacity from.old }
         requires into_capacity { size self.now ≤ step_capacity into.old }
         ensures room { step_capacity into.new ≡ step_capacity into.old }
         ensures steps { OnOk result (AreStepsOf self.now from.old into.new) }
-        ensures visits { visits.new ≤ visits.old + size self.now }
-        ensures counted { visits.old ≤ visits.new }
     {
         into.clear();
         let mut limit = self.state_count();
         while limit > 0 {
-            let seen = from.read_below(limit, visits);
+            let seen = from.read_below(limit, &mut Visits::new());
             let s = seen.at;
             if seen.is_set {
                 self.put_steps(s, from, into)?;

@@ -8,12 +8,12 @@ ghost use Rattle.glob_nfa.specs.After.{SomeMeanAfter};
 ghost use Rattle.glob_nfa.specs.IndexedTokens.{IndexedTokens, IsFor, SomeMatches};
 
 use crate::budget::Budget;
-use crate::partition::{partitioned, joint};
 use crate::filtered::{Filtered, filter_for};
+use crate::partition::{joint, partitioned};
 use crate::parts::Parts;
 use crate::simulation;
 use bit_sets::IndexSet;
-use byte_nfa::{Nfa, StateSets};
+use byte_nfa::{Draft, Nfa, StateSets};
 use std::alloc::{AllocError, Global};
 use std::marker::Model;
 use visits::Visits;
@@ -76,11 +76,7 @@ impl Compiled {
     /// states, up to the factors of these limits.
     ///
     /// With a budget of no bytes the automaton is simulated as a whole.
-    pub fn new(
-        alloc: Global,
-        budget: &mut Budget,
-        automaton: Nfa,
-    ) -> Result<Compiled, AllocError>
+    pub fn new(alloc: Global, budget: &mut Budget, automaton: Draft) -> Result<Compiled, AllocError>
         ensures { IfOk result (λ c. c ≡ automaton) }
     {
         if !is_large(*budget, &automaton) {
@@ -106,7 +102,7 @@ impl Compiled {
     fn partitioned(
         alloc: Global,
         budget: &mut Budget,
-        automaton: Nfa,
+        automaton: Draft,
     ) -> Result<Compiled, AllocError>
         ensures { IfOk result (λ c. c ≡ automaton) }
     {
@@ -231,6 +227,6 @@ impl Compiled {
 const MANY_STARTS: usize = 32;
 
 /// Returns whether an automaton has many starts, of which a filter may name a few.
-fn is_large(budget: Budget, automaton: &Nfa) -> bool {
+fn is_large(budget: Budget, automaton: &Draft) -> bool {
     !budget.simulates_all() && automaton.starts().len() > MANY_STARTS
 }

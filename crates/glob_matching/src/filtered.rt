@@ -11,8 +11,8 @@ ghost use Rattle.glob_matching.specs.inner.Filtered.{AreApart, span_at};
 
 use crate::simulation;
 use bit_sets::IndexSet;
-use byte_nfa::{Nfa, Span, StateSets};
 use byte_filter::StartFilter;
+use byte_nfa::{Draft, Nfa, Span, StateSets};
 use std::alloc::{AllocError, Global};
 use std::marker::Model;
 use visits::Visits;
@@ -149,7 +149,7 @@ const FEW: usize = 3;
 
 /// Returns a filter for an automaton, or `None` if too few starts have a window, or if a run from one start comes to states of
 /// another. Returns an error if memory runs out. It takes time and memory linear in the states.
-pub fn filter_for(alloc: Global, automaton: &Nfa) -> Result<Option<StartFilter>, AllocError>
+pub fn filter_for(alloc: Global, automaton: &Draft) -> Result<Option<StartFilter>, AllocError>
     ensures { IfOk result (λ made. IfSome made (λ filter. IsFilterOf automaton.now filter × AreApart automaton.now)) }
 {
     if !are_apart(automaton) {
@@ -162,7 +162,7 @@ pub fn filter_for(alloc: Global, automaton: &Nfa) -> Result<Option<StartFilter>,
 }
 
 /// Returns whether a run from each start comes to no state but those behind the start before it. It reads each state.
-fn are_apart(automaton: &Nfa) -> bool
+fn are_apart(automaton: &Draft) -> bool
     ensures { IsTrue result → AreApart automaton.now }
 {
     let _states = automaton.state_count();
@@ -176,7 +176,7 @@ fn are_apart(automaton: &Nfa) -> bool
 }
 
 /// Returns the states of a start: those behind the start before it.
-fn span_of(automaton: &Nfa, i: usize) -> Span
+fn span_of(automaton: &Draft, i: usize) -> Span
     requires { i < length automaton.now.starts }
     ensures span { result ≡ span_at automaton.now.starts i }
     ensures exists { result.start < size automaton.now }
@@ -187,6 +187,26 @@ fn span_of(automaton: &Nfa, i: usize) -> Span
     Span {
         low,
         start: starts[i],
+    }
+}
+
+/// Returns the states of a start: those behind the start before it. It reads both starts, each of which is a visit.
+fn read_span(automaton: &Nfa, i: usize, visits: &mut Visits) -> Span
+    requires { i < length automaton.now.starts }
+    ensures span { result ≡ span_at automaton.now.starts i }
+    ensures exists { result.start < size automaton.now }
+    ensures visits { visits.new ≤ visits.old + 2 }
+    ensures counted { visits.old ≤ visits.new }
+{
+    let _states = automaton.state_count();
+    let low = if i == 0 {
+        0
+    } else {
+        automaton.start_at(i - 1, visits) + 1
+    };
+    Span {
+        low,
+        start: automaton.start_at(i, visits),
     }
 }
 
@@ -228,13 +248,14 @@ fn find_from_marked(
     ensures room { sets_capacity sets.new ≡ sets_capacity sets.old }
     ensures found_capacity { index_capacity found.new ≡ index_capacity found.old }
     ensures found { (k : ℕ) → IsTrue (has_index found.new k) ↔ (IsReachedMarked automaton.now sets.old.starts text.now k ⊎ IsTrue (has_index found.old k)) }
-    ensures visits { visits.new ≤ visits.old + (length text.now + 1) * size automaton.now }
+    ensures visits { visits.new ≤ visits.old + (length text.now + 1) * size automaton.now + 2 * length automaton.now.starts }
     ensures counted { visits.old ≤ visits.new }
 {
-    let count = automaton.starts().len();
+    let count = automaton.start_count();
     let mut from = 0;
     while let Some(i) = sets.starts.next_below(from, count) {
-        automaton.find_from(span_of(automaton, i), text, sets, found, visits);
+        let span = read_span(automaton, i, visits);
+        automaton.find_from(span, text, sets, found, visits);
         from = i + 1;
     }
 }
@@ -250,13 +271,14 @@ fn is_match_from_marked(
     requires room { size automaton.now ≤ sets_capacity sets.old }
     ensures room { sets_capacity sets.new ≡ sets_capacity sets.old }
     ensures some { IsTrue result ↔ ((k : ℕ) × IsReachedMarked automaton.now sets.old.starts text.now k) }
-    ensures visits { visits.new ≤ visits.old + (length text.now + 1) * size automaton.now }
+    ensures visits { visits.new ≤ visits.old + (length text.now + 1) * size automaton.now + 2 * length automaton.now.starts }
     ensures counted { visits.old ≤ visits.new }
 {
-    let count = automaton.starts().len();
+    let count = automaton.start_count();
     let mut from = 0;
     while let Some(i) = sets.starts.next_below(from, count) {
-        if automaton.is_match_from(span_of(automaton, i), text, sets, visits) {
+        let span = read_span(automaton, i, visits);
+        if automaton.is_match_from(span, text, sets, visits) {
             return true;
         }
         from = i + 1;

@@ -1,6 +1,6 @@
 //! How an automaton is divided into parts.
 
-ghost use Rattle.std.specs.Prelude.{◌≡◌, ◌<◌, ◌≤◌, [], length, IsTrue, IfOk, IfSome};
+ghost use Rattle.std.specs.Prelude.{◌≡◌, ◌+◌, ◌<◌, ◌≤◌, [], length, IsTrue, IfOk, IfSome};
 ghost use Rattle.bit_sets.specs.Numbers.{AreBelow};
 ghost use Rattle.byte_nfa.specs.Parts.{IsPart};
 ghost use Rattle.byte_nfa.specs.Runs.{size};
@@ -8,8 +8,8 @@ ghost use Rattle.glob_matching.specs.inner.Parts.{ArePartsBelow};
 
 use crate::budget::Budget;
 use crate::parts::Parts;
-use byte_nfa::Nfa;
 use byte_dfa::Dfa;
+use byte_nfa::{Draft, Nfa};
 use std::alloc::{AllocError, Global};
 
 /// The most states of a part that is made deterministic.
@@ -77,7 +77,7 @@ struct Part {
 pub fn partitioned(
     alloc: Global,
     budget: &mut Budget,
-    automaton: &Nfa,
+    automaton: &Draft,
 ) -> Result<Option<Parts>, AllocError>
     ensures { IfOk result (λ made. IfSome made (λ parts. parts ≡ automaton.now)) }
 {
@@ -113,17 +113,21 @@ pub fn partitioned(
     Ok(Some(partition.finish(automaton)))
 }
 
-/// Returns an automaton as one deterministic part, if that is not too large. Returns an error if memory runs out.
+/// Returns an automaton as one deterministic part, if it has a start and is not too large. Returns an error if memory runs out.
 pub fn joint(
     alloc: Global,
     budget: &mut Budget,
-    automaton: &Nfa,
+    automaton: &Draft,
 ) -> Result<Option<Parts>, AllocError>
     ensures { IfOk result (λ made. IfSome made (λ parts. parts ≡ automaton.now)) }
 {
+    let starts = automaton.starts().len();
+    if starts == 0 {
+        return Ok(None);
+    }
     let mut partition = Partition::new(alloc, *budget);
     let high = automaton.state_count();
-    let maximum = max_numbers(high, automaton.starts().len());
+    let maximum = max_numbers(high, starts);
     let table = partition.table_of(alloc, automaton, 0, high, maximum)?;
     *budget = partition.left;
     match table {
@@ -155,7 +159,7 @@ impl Partition {
     fn next_part(
         &mut self,
         alloc: Global,
-        automaton: &Nfa,
+        automaton: &Draft,
         low: usize,
         first: usize,
         maximum: usize,
@@ -165,6 +169,7 @@ impl Partition {
         ensures some { IfOk result (λ made. IfSome made (λ part. low < part.high)) }
         ensures within { IfOk result (λ made. IfSome made (λ part. part.high ≤ size automaton.now)) }
         ensures next { IfOk result (λ made. IfSome made (λ part. first < part.next)) }
+        ensures starts { IfOk result (λ made. IfSome made (λ part. part.next ≤ length automaton.now.starts)) }
         ensures tables { self.new.tables ≡ self.old.tables }
         ensures automata { self.new.automata ≡ self.old.automata }
     {
@@ -192,7 +197,7 @@ impl Partition {
     fn table_of(
         &mut self,
         alloc: Global,
-        automaton: &Nfa,
+        automaton: &Draft,
         low: usize,
         high: usize,
         maximum: usize,
@@ -226,7 +231,7 @@ impl Partition {
     /// whether it could: no step leads out of what is added.
     fn add(
         &mut self,
-        automaton: &Nfa,
+        automaton: &Draft,
         from: usize,
         low: usize,
         high: usize,
@@ -236,7 +241,8 @@ impl Partition {
         requires part { IsPart automaton.now low high table.source }
         requires some { low < high }
         requires within { low ≤ size automaton.now }
-        ensures { IfOk result (λ yes. IsTrue yes → ArePartsBelow automaton.now high self.new.tables.items self.new.automata.items) }
+        ensures parts { IfOk result (λ yes. IsTrue yes → ArePartsBelow automaton.now high self.new.tables.items self.new.automata.items) }
+        ensures one_more { IfOk result (λ yes. IsTrue yes → length self.new.tables.items ≡ length self.old.tables.items + 1) }
     {
         if !self.simulate(automaton, from, low)? {
             return Ok(false);
@@ -246,15 +252,11 @@ impl Partition {
     }
 
     /// Adds the part from `low` on and below `high`, to be simulated. Returns whether it could: no step leads out of it.
-    fn simulate(
-        &mut self,
-        automaton: &Nfa,
-        low: usize,
-        high: usize,
-    ) -> Result<bool, AllocError>
+    fn simulate(&mut self, automaton: &Draft, low: usize, high: usize) -> Result<bool, AllocError>
         requires parts { ArePartsBelow automaton.now low self.old.tables.items self.old.automata.items }
         requires within { high ≤ size automaton.now }
-        ensures { IfOk result (λ yes. IsTrue yes → ArePartsBelow automaton.now high self.new.tables.items self.new.automata.items) }
+        ensures parts { IfOk result (λ yes. IsTrue yes → ArePartsBelow automaton.now high self.new.tables.items self.new.automata.items) }
+        ensures tables { self.new.tables ≡ self.old.tables }
     {
         if low >= high {
             return Ok(low == high);
@@ -268,9 +270,10 @@ impl Partition {
     }
 
     /// Returns the parts.
-    fn finish(self, automaton: &Nfa) -> Parts
+    fn finish(self, automaton: &Draft) -> Parts
         requires parts { ArePartsBelow automaton.now (size automaton.now) self.tables.items self.automata.items }
         requires begun { AreBelow (size automaton.now) automaton.now.starts }
+        requires tables_few { length self.tables.items ≤ length automaton.now.starts }
         ensures { result ≡ automaton.now }
     {
         let Partition {
@@ -283,7 +286,7 @@ impl Partition {
 }
 
 /// Returns the number of the first state behind the first `count` starts.
-fn boundary(automaton: &Nfa, count: usize) -> usize
+fn boundary(automaton: &Draft, count: usize) -> usize
     ensures { result ≤ size automaton.now }
 {
     let states = automaton.state_count();

@@ -1,7 +1,7 @@
 //! The parts of an automaton, which together find what it finds.
 
 ghost use Rattle.std.specs.Prelude.{◌≡◌, ◌+◌, ◌*◌, ◌≤◌, ◌↔◌, ◌⊎◌, ℕ, length, IsTrue, IsOk, OnOk, IfOk};
-ghost use Rattle.byte_nfa.specs.Runs.{size};
+ghost use Rattle.byte_nfa.specs.Runs.{size, max_reads};
 ghost use Rattle.bit_sets.specs.Indexes.{has_index, index_capacity};
 ghost use Rattle.byte_nfa.specs.Sets.{sets_capacity};
 ghost use Rattle.byte_nfa.specs.Steps.{IsReached};
@@ -11,8 +11,8 @@ mod after;
 
 use crate::simulation;
 use bit_sets::IndexSet;
-use byte_nfa::{Nfa, StateSets};
 use byte_dfa::{Dfa, Source};
+use byte_nfa::{Draft, Nfa, StateSets};
 use std::alloc::AllocError;
 use std::marker::Model;
 use visits::Visits;
@@ -69,7 +69,7 @@ impl Clone for Parts {
 
 impl Parts {
     /// Returns the parts of an automaton.
-    pub fn of(automaton: &Nfa, tables: Vec<Dfa>, automata: Vec<Nfa>) -> Parts
+    pub fn of(automaton: &Draft, tables: Vec<Dfa>, automata: Vec<Nfa>) -> Parts
         requires { ArePartsOf automaton.now (size automaton.now) tables.items automata.items }
         ensures { result ≡ automaton.now }
     {
@@ -99,8 +99,8 @@ impl Parts {
 
     /// Puts the index of each end that a text leads to into a set, beside what it holds.
     ///
-    /// It is at most `(text bytes + 1) * states` visits. It makes room in the sets of states for those of the largest part that is
-    /// simulated. Returns an error if memory runs out.
+    /// It is at most `(text bytes + 1) * (states + 3 * starts)` visits. It makes room in the sets of states for those of the
+    /// largest part that is simulated. Returns an error if memory runs out.
     pub fn find(
         &self,
         text: &[u8],
@@ -113,7 +113,7 @@ impl Parts {
         ensures found { OnOk result ((k : ℕ) → IsTrue (has_index found.new k) ↔ (IsReached self.now text.now k ⊎ IsTrue (has_index found.old k))) }
         ensures kept { sets_capacity sets.old ≤ sets_capacity sets.new }
         ensures memory { size self.now ≤ sets_capacity sets.old → IsOk result }
-        ensures visits { visits.new ≤ visits.old + (length text.now + 1) * size self.now }
+        ensures visits { visits.new ≤ visits.old + (length text.now + 1) * max_reads self.now }
         ensures counted { visits.old ≤ visits.new }
     {
         find_by_tables(&self.tables, text, found, visits);
@@ -122,8 +122,8 @@ impl Parts {
 
     /// Returns whether a text leads to some end.
     ///
-    /// It is at most `(text bytes + 1) * states` visits. It makes room in the sets of states for those of the largest part that is
-    /// simulated. Returns an error if memory runs out.
+    /// It is at most `(text bytes + 1) * (states + 3 * starts)` visits. It makes room in the sets of states for those of the
+    /// largest part that is simulated. Returns an error if memory runs out.
     pub fn is_match(
         &self,
         text: &[u8],
@@ -133,7 +133,7 @@ impl Parts {
         ensures some { IfOk result (λ yes. IsTrue yes ↔ ((k : ℕ) × IsReached self.now text.now k)) }
         ensures kept { sets_capacity sets.old ≤ sets_capacity sets.new }
         ensures memory { size self.now ≤ sets_capacity sets.old → IsOk result }
-        ensures visits { visits.new ≤ visits.old + (length text.now + 1) * size self.now }
+        ensures visits { visits.new ≤ visits.old + (length text.now + 1) * max_reads self.now }
         ensures counted { visits.old ≤ visits.new }
     {
         if is_match_by_tables(&self.tables, text, visits) {
@@ -148,7 +148,7 @@ fn find_by_tables(tables: &[Dfa], text: &[u8], found: &mut IndexSet, visits: &mu
     requires { AreCounted (index_capacity found.old) (sources tables.now) }
     ensures room { index_capacity found.new ≡ index_capacity found.old }
     ensures found { (k : ℕ) → IsTrue (has_index found.new k) ↔ (SomeReached (sources tables.now) text.now k ⊎ IsTrue (has_index found.old k)) }
-    ensures visits { visits.new ≤ visits.old + (length text.now + 1) * length tables.now }
+    ensures visits { visits.new ≤ visits.old + (length text.now + 2) * length tables.now }
     ensures counted { visits.old ≤ visits.new }
 {
     for table in tables {
@@ -159,7 +159,7 @@ fn find_by_tables(tables: &[Dfa], text: &[u8], found: &mut IndexSet, visits: &mu
 /// Returns whether a text leads to some end in some deterministic automaton.
 fn is_match_by_tables(tables: &[Dfa], text: &[u8], visits: &mut Visits) -> bool
     ensures some { IsTrue result ↔ ((k : ℕ) × SomeReached (sources tables.now) text.now k) }
-    ensures visits { visits.new ≤ visits.old + (length text.now + 1) * length tables.now }
+    ensures visits { visits.new ≤ visits.old + (length text.now + 2) * length tables.now }
     ensures counted { visits.old ≤ visits.new }
 {
     for table in tables {

@@ -1,7 +1,6 @@
 //! States from which some bytes lead to an end.
 
 ghost use Rattle.std.specs.Prelude.{◌≡◌, ℕ, ◌+◌, ◌<◌, ◌≤◌, ◌↔◌, List, IsTrue};
-ghost use Rattle.byte_nfa.specs.Live.{AreLive};
 ghost use Rattle.byte_nfa.specs.Runs.{size, AcceptsFrom};
 ghost use Rattle.byte_nfa.specs.Sets.{has_state, state_capacity};
 ghost use Rattle.byte_nfa.specs.Steps.{state};
@@ -14,44 +13,6 @@ use crate::state_set::StateSet;
 use visits::Visits;
 
 impl Nfa {
-    /// Puts the states from which some bytes lead to an end into a set. What the set held has no effect.
-    ///
-    /// It reads each state, and is meant for what is made from an automaton before it is run.
-    pub fn live(&self, into: &mut StateSet)
-        requires { size self.now ≤ state_capacity into.old }
-        ensures room { state_capacity into.new ≡ state_capacity into.old }
-        ensures live { AreLive self.now into.new }
-    {
-        into.clear();
-        for s in 0..self.state_count() {
-            if self.is_leading(s, into) {
-                into.put(s);
-            }
-        }
-    }
-
-    /// Returns whether some bytes lead from the states of a set to an end. `live` has the states from which some do. It is at
-    /// most one visit for each state.
-    pub fn has_live(&self, from: &StateSet, live: &StateSet, visits: &mut Visits) -> bool
-        requires from_capacity { size self.now ≤ state_capacity from.now }
-        requires live_capacity { size self.now ≤ state_capacity live.now }
-        requires live { AreLive self.now live.now }
-        ensures some { IsTrue result ↔ ((y : List ℕ) × (k : ℕ) × AllBytes y × AcceptsFrom self.now from.now y k) }
-        ensures visits { visits.new ≤ visits.old + size self.now }
-        ensures counted { visits.old ≤ visits.new }
-    {
-        let mut limit = self.state_count();
-        while limit > 0 {
-            let seen = from.read_below(limit, visits);
-            let s = seen.at;
-            if seen.is_set && live.has(s) {
-                return true;
-            }
-            limit = s;
-        }
-        false
-    }
-
     /// Returns whether some bytes lead from the states of a set to an end. It reads the states from the lowest on, until it
     /// comes to such a state of the set, and puts those from which some bytes lead to an end into `live`. What `live` held has
     /// no effect. It is at most one visit for each state.

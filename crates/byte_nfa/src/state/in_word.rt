@@ -53,7 +53,12 @@ impl State {
 
     /// Takes the steps of a state at the end of the text: puts into `from` what it goes on to without a byte. Returns its index
     /// if it is an end.
-    pub fn follow_epsilons_in_word(&self, s: usize, targets: &[usize], from: &mut WordSet) -> Option<usize>
+    pub fn follow_epsilons_in_word(
+        &self,
+        s: usize,
+        targets: &[usize],
+        from: &mut WordSet,
+    ) -> Option<usize>
         requires below { (sets : List ByteSet) × IsHeld sets targets.now self.now × GoesBelow s (of_state sets targets.now self.now) × GoesFrom from.old.low (of_state sets targets.now self.now) }
         requires within { s < from.old.low + 64 }
         ensures low { from.new.low ≡ from.old.low }

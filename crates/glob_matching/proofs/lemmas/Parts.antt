@@ -105,6 +105,15 @@ visits_limit n a b v w le h = let more = mul-le n a n b (omega arith) le in omeg
 pub visits_more : (n a b v u w : ℕ) → u ≤ v + n * b → v ≤ w + n * a → u ≤ w + n * (a + b)
 visits_more n a b v u w this before = let sum : n * (a + b) ≡ n * a + n * b = omega arith in omega arith
 
+-- of t deterministic automata, each with a visit beside those of its positions, and of others that have a states
+pub visits_of_parts : (n t a s b v u w : ℕ) → t + a ≤ s → t ≤ b → u ≤ w + (n + 2) * t → v ≤ u + (n + 1) * a → v ≤ w + (n + 1) * (s + 3 * b)
+visits_of_parts n t a s b v u w few starts first then =
+    let more = mul-le (n + 1) (t + a + t) (n + 1) (s + 3 * b) (omega arith) (omega arith) in
+    let looks = mul-le 1 t (n + 1) t (omega arith) (omega arith) in
+    let once : (n + 2) * t ≡ (n + 1) * t + t = omega arith in
+    let sum : (n + 1) * (t + a + t) ≡ (n + 1) * t + (n + 1) * a + (n + 1) * t = omega arith in
+    omega arith
+
 -- ---- parts
 
 pub no_parts : (m : Machine) → ArePartsBelow m 0 [] []

@@ -8,8 +8,8 @@ ghost use Rattle.glob_matching.specs.inner.Parts.{sources, total, SomeMatchesAft
 
 use crate::parts::Parts;
 use crate::simulation;
-use byte_nfa::{Nfa, StateSets};
 use byte_dfa::Dfa;
+use byte_nfa::{Nfa, StateSets};
 use std::alloc::AllocError;
 use visits::Visits;
 

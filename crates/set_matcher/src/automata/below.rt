@@ -6,7 +6,7 @@ ghost use Rattle.byte_nfa.specs.Sets.{sets_capacity};
 ghost use Rattle.set_matcher.specs.inner.Automata.{AreForLists, AreFoundBelow, TokenLists, folder_reads, max_states};
 
 use crate::automata::Automata;
-use byte_nfa::{Nfa, StateSet, StateSets};
+use byte_nfa::{Draft, StateSet, StateSets};
 use std::alloc::{AllocError, Global};
 use visits::Visits;
 
@@ -42,14 +42,12 @@ impl Automata {
 /// Returns whether some text leads to an end of an automaton.
 ///
 /// It reads each state, and takes two bits of memory for each of them until it returns. Returns an error if memory runs out.
-pub fn has_text(alloc: Global, automaton: &Nfa) -> Result<bool, AllocError>
+pub fn has_text(alloc: Global, automaton: &Draft) -> Result<bool, AllocError>
     ensures { IfOk result (λ yes. IsTrue yes ↔ MatchesAfter automaton.now []) }
 {
     let mut starts = StateSet::new(alloc, automaton.state_count())?;
     let mut live = StateSet::new(alloc, automaton.state_count())?;
     automaton.start(&mut starts);
     automaton.live(&mut live);
-    // This is no part of matching a path, so nobody counts the visits.
-    let mut visits = Visits::new();
-    Ok(automaton.has_live(&starts, &live, &mut visits))
+    Ok(automaton.has_live(&starts, &live))
 }

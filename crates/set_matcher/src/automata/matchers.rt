@@ -12,8 +12,8 @@ ghost use Rattle.set_matcher.specs.inner.Automata.{AddsTokens, AreFor, KeepsToke
 
 use byte_nfa::{Builder, StateSets};
 use byte_table::Table;
-use glob_nfa::{add_tokens, new_builder};
 use glob_matching::{Budget, Compiled};
+use glob_nfa::{add_tokens, new_builder};
 use glob_syntax::{Options, Token};
 use std::alloc::{AllocError, Global};
 use std::marker::Model;
@@ -284,7 +284,7 @@ impl ExtensionMatchersBuilder {
         Ok(ExtensionMatchers {
             matchers,
             automata: finished(alloc, budget, builders)?,
-            none: Compiled::simulated(none.finish()),
+            none: Compiled::simulated(none.finish().into_nfa()),
             index_count,
         })
     }

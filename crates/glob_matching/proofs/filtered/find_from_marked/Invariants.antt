@@ -12,7 +12,7 @@ invariant-loop-i l = record {
   starts : l.sets.starts ≡ l.fn.sets.starts;
   found_capacity : index_capacity l.found ≡ index_capacity l.fn.found;
   found : (k : ℕ) → IsTrue (has_index l.found k) ↔ (IsReachedBefore l.automaton l.fn.sets.starts l.from l.text k ⊎ IsTrue (has_index l.fn.found k));
-  visits : l.visits ≤ l.fn.visits + (length l.text + 1) * low_of l.automaton.starts l.from;
+  visits : l.visits ≤ l.fn.visits + (length l.text + 1) * low_of l.automaton.starts l.from + 2 * l.from;
   counted : l.fn.visits ≤ l.visits;
 }
 

@@ -9,7 +9,7 @@ invariant-loop-i l = record {
   room : sets_capacity l.sets ≡ sets_capacity l.fn.sets;
   starts : l.sets.starts ≡ l.fn.sets.starts;
   none : (k : ℕ) → IsReachedBefore l.automaton l.fn.sets.starts l.from l.text k → ⊥;
-  visits : l.visits ≤ l.fn.visits + (length l.text + 1) * low_of l.automaton.starts l.from;
+  visits : l.visits ≤ l.fn.visits + (length l.text + 1) * low_of l.automaton.starts l.from + 2 * l.from;
   counted : l.fn.visits ≤ l.visits;
 }
 

@@ -23,7 +23,7 @@ loop-table-preserved c =
     record {
       room = c.find.ensures.room ∙ inv.room;
       found = λ k. found_more (sources tables) i c.table-item.result.source lt is c.args.text.now k (inv.found k) (c.find.ensures.found k);
-      visits = visits_more (length c.args.text.now + 1) i 1 c.loop-table.visits c.find.new.visits c.args.visits.now (omega arith) inv.visits;
+      visits = visits_more (length c.args.text.now + 2) i 1 c.loop-table.visits c.find.new.visits c.args.visits.now (omega arith) inv.visits;
       counted = omega arith;
     }
 

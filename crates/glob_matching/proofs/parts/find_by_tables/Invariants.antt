@@ -8,6 +8,6 @@ abbrev pub invariant-loop-table : goal.invariant-loop-table
 invariant-loop-table l = record {
   room : index_capacity l.found ≡ index_capacity l.fn.found;
   found : (k : ℕ) → IsTrue (has_index l.found k) ↔ (SomeReached (take l.table-index (sources l.tables)) l.text k ⊎ IsTrue (has_index l.fn.found k));
-  visits : l.visits ≤ l.fn.visits + (length l.text + 1) * l.table-index;
+  visits : l.visits ≤ l.fn.visits + (length l.text + 2) * l.table-index;
   counted : l.fn.visits ≤ l.visits;
 }

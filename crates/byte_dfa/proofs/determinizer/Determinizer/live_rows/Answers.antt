@@ -26,7 +26,7 @@ loop-row-preserved c =
     record {
       len = rw c.in_ok-push.ensures.items (omega (arith, length-append c.loop-row.rows.items (c.has_live-is_live.result ∷ []), inv.len));
       rows = rw c.in_ok-push.ensures.items
-          (marked_more c.args.automaton.now found c.loop-row.rows.items c.has_live-is_live.result row this inv.len inv.rows here c.has_live-is_live.ensures.some);
+          (marked_more c.args.automaton.now found c.loop-row.rows.items c.has_live-is_live.result row this inv.len inv.rows here c.has_live-is_live.ensures);
     }
 
 pub returns : goal.returns

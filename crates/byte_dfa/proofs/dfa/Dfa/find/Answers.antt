@@ -138,4 +138,4 @@ returns-clause-found c = λ k.
     rw (sym source) (found_is (has_index c.put_listed-2.new.into k) (has_index c.args.into.now k) (finds d text k) _ (c.self.invariant.finds text k bytes) (listed ∙ found))
 
 pub returns-then-rejects_last_byte-clause-found : goal.returns-then-rejects_last_byte-clause-found
-returns-then-rejects_last_byte-clause-found c = λ k. (λ old. inr old, λ either. ⊎_elim {C = IsTrue (has_index c.args.into.now k)} (λ now. absurd (c.rejects_last_byte.ensures c.if-rejects_last_byte.true k now)) (λ old. old) either)
+returns-then-rejects_last_byte-clause-found c = λ k. (λ old. inr old, λ either. ⊎_elim {C = IsTrue (has_index c.args.into.now k)} (λ now. absurd (c.rejects_last_byte.ensures.rejected c.if-rejects_last_byte.true k now)) (λ old. old) either)

@@ -1,4 +1,4 @@
-use Rattle.std.proofs.Common.{◌≡◌, ℕ, ◌+◌, ◌≤◌, ◌||◌, drop, IsTrue}
+use Rattle.std.proofs.Common.{◌≡◌, ℕ, ◌+◌, ◌<◌, ◌≤◌, ◌||◌, drop, IsTrue}
 use Rattle.bit_sets.specs.Indexes.{has_index, index_capacity}
 use Rattle.bit_sets.specs.Numbers.{is_reported}
 use Rattle.byte_dfa.specs.inner.Tables.{table_of, later, finds, on_entry, IsRow}
@@ -13,6 +13,6 @@ invariant-loop-byte l =
       room : index_capacity l.into ≡ index_capacity l.fn.into;
       found : (k : ℕ) → (later d l.state (drop l.byte-index l.text) k || has_index l.into k) ≡ (finds d l.text k || has_index l.fn.into k);
       told : (k : ℕ) → IsTrue (is_reported k (on_entry d l.told)) → IsTrue (has_index l.into k);
-      visits : l.visits ≤ l.fn.visits + l.byte-index;
-      counted : l.fn.visits ≤ l.visits;
+      visits : l.visits ≤ l.fn.visits + l.byte-index + 1;
+      counted : l.fn.visits < l.visits;
     }

@@ -147,4 +147,4 @@ returns-clause-some c =
     rw (sym source) (whether_found c.has_some-2.result (finds d text) _ (at_end d l.state) (λ j. c.self.invariant.finds text j bytes) (λ j. rw past at l.invariant.same j) some none)
 
 pub returns-then-rejects_last_byte-clause-some : goal.returns-then-rejects_last_byte-clause-some
-returns-then-rejects_last_byte-clause-some c = (λ h. absurd (true≢false (sym h)), λ (k, reached). absurd (c.rejects_last_byte.ensures c.if-rejects_last_byte.true k reached))
+returns-then-rejects_last_byte-clause-some c = (λ h. absurd (true≢false (sym h)), λ (k, reached). absurd (c.rejects_last_byte.ensures.rejected c.if-rejects_last_byte.true k reached))

@@ -7,8 +7,8 @@ not_both : (b : Bool) → IsTrue (not b) → IsTrue b → ⊥
 not_both true h k = true≢false (sym h)
 not_both false h k = true≢false (sym k)
 
-pub returns-in-Some : goal.returns-in-Some
-returns-in-Some c = λ missing k reached.
+pub returns-in-Some-clause-rejected : goal.returns-in-Some-clause-rejected
+returns-in-Some-clause-rejected c = λ missing k reached.
     let source = ap (λ (v : DfaValue). v.source) c.self.view_is in
     let cut = c.in-Some.ensures.cases.0 in
     let reached' = subst (λ (m : Machine). IsReached m c.args.text.now k) (sym source) reached in
