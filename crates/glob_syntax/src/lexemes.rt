@@ -43,10 +43,7 @@ fn nested_lexeme<'a>(depth: usize, lexeme: Lexeme<'a>) -> Result<(usize, Lexeme<
                 Ok((depth, lexeme))
             }
         }
-        Lexeme::Char { .. } => Ok((depth, lexeme)),
-        Lexeme::One => Ok((depth, lexeme)),
-        Lexeme::Stars(_) => Ok((depth, lexeme)),
-        Lexeme::Class { .. } => Ok((depth, lexeme)),
+        _ => Ok((depth, lexeme)),
     }
 }
 
