@@ -23,26 +23,15 @@ fn nested_lexeme<'a>(depth: usize, lexeme: Lexeme<'a>) -> Result<(usize, Lexeme<
     match lexeme {
         Lexeme::Bad(parse_error_kind) => Err(parse_error_kind),
         Lexeme::Open => Ok((depth + 1, lexeme)),
-        Lexeme::Close => {
-            if depth == 0 {
-                Err(ParseErrorKind::UnopenedAlternates)
-            } else {
-                Ok((depth - 1, lexeme))
-            }
-        }
-        Lexeme::Comma => {
-            if depth == 0 {
-                Ok((
-                    0,
-                    Lexeme::Char {
-                        escaped: false,
-                        c: ',',
-                    },
-                ))
-            } else {
-                Ok((depth, lexeme))
-            }
-        }
+        Lexeme::Close if depth == 0 => Err(ParseErrorKind::UnopenedAlternates),
+        Lexeme::Close => Ok((depth - 1, lexeme)),
+        Lexeme::Comma if depth == 0 => Ok((
+            0,
+            Lexeme::Char {
+                escaped: false,
+                c: ',',
+            },
+        )),
         _ => Ok((depth, lexeme)),
     }
 }
