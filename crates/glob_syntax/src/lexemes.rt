@@ -9,13 +9,16 @@ ghost use Rattle.glob_syntax.specs.inner.LexemeViews.{lexeme_of, lexemes_of};
 
 pub mod lexeme;
 
-use crate::parse_error_kind::{ParseErrorKind, ReadError};
 use crate::options::Options;
+use crate::parse_error_kind::{ParseErrorKind, ReadError};
 use lexeme::{Lexeme, lexeme_at};
 use std::alloc::Global;
 
 /// Returns a lexeme inside `depth` open groups, and how many are open after it.
-fn nested_lexeme<'a>(depth: usize, lexeme: Lexeme<'a>) -> Result<(usize, Lexeme<'a>), ParseErrorKind>
+fn nested_lexeme<'a>(
+    depth: usize,
+    lexeme: Lexeme<'a>,
+) -> Result<(usize, Lexeme<'a>), ParseErrorKind>
     requires { depth + 1 < 2 ^ 64 }
     ensures value { map_ok (λ s. (s.0, lexeme_of s.1)) result ≡ nested_lexeme depth (lexeme_of lexeme.entry) }
     ensures one_more { IfOk result (λ s. s.0 ≤ depth + 1) }
