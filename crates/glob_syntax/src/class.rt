@@ -5,8 +5,8 @@ ghost use Rattle.glob_syntax.specs.Ranges.{ranges, bad_range};
 
 mod table;
 
-use crate::parse_error_kind::ParseErrorKind;
 use crate::options::Options;
+use crate::parse_error_kind::ParseErrorKind;
 use std::alloc::{AllocError, Global};
 use std::marker::Model;
 use table::{Membership, table_of};

@@ -10,7 +10,7 @@ ghost use Rattle.glob_syntax.specs.inner.LexemeViews.{lexeme_of, lexemes_of};
 
 use crate::lexemes::lexeme::Lexeme;
 use crate::stars::is_whole_run;
-use crate::stars::piece::push_piece;
+use crate::stars::piece::{Position, push_piece};
 use crate::token::Token;
 use std::alloc::{AllocError, Global};
 
@@ -18,34 +18,21 @@ use std::alloc::{AllocError, Global};
 fn starts_branch(lexeme: Lexeme<'_>) -> bool
     ensures { result ≡ starts_branch (lexeme_of lexeme.entry) }
 {
-    match lexeme {
-        Lexeme::Open => true,
-        Lexeme::Comma => true,
-        Lexeme::Close => false,
-        Lexeme::Char { .. } => false,
-        Lexeme::One => false,
-        Lexeme::Stars(_) => false,
-        Lexeme::Class { .. } => false,
-        Lexeme::Bad(_) => false,
-    }
+    matches!(lexeme, Lexeme::Open | Lexeme::Comma)
 }
 
-/// Pushes the tokens of the piece that begins with `lexeme`, the first of `rest`, before `after`. Returns how many lexemes
-/// belong to the piece after its first one.
+/// Pushes the tokens of the piece that begins at this position. Returns how many lexemes belong to the piece after its first
+/// one.
 fn push_lexeme(
     alloc: Global,
     tokens: &mut Vec<Token>,
-    start: bool,
-    lexeme: Lexeme<'_>,
-    rest: &[Lexeme<'_>],
-    after: &[Lexeme<'_>],
+    position: Position<'_, '_>,
 ) -> Result<usize, AllocError>
-    requires cell { lexemes_of rest.now ≡ lexeme_of lexeme ∷ lexemes_of after.now }
-    requires follows { Follows (flats tokens.old.items) (lexeme_of lexeme ∷ lexemes_of after.now) }
-    ensures read { IfOk result (λ more. ReadsTo (flats tokens.old.items) start (lexeme_of lexeme.entry ∷ lexemes_of after.now) (flats tokens.new.items) (starts_branch (lexeme_of lexeme.entry)) (drop more (lexemes_of after.now))) }
-    ensures within { IfOk result (λ more. more ≤ length after.now) }
+    requires { Follows (flats tokens.old.items) (lexeme_of position.lexeme ∷ lexemes_of position.after.now) }
+    ensures read { IfOk result (λ more. ReadsTo (flats tokens.old.items) position.entry.start (lexeme_of position.entry.lexeme ∷ lexemes_of position.entry.after.now) (flats tokens.new.items) (starts_branch (lexeme_of position.entry.lexeme)) (drop more (lexemes_of position.entry.after.now))) }
+    ensures within { IfOk result (λ more. more ≤ length position.entry.after.now) }
 {
-    match lexeme {
+    match position.lexeme {
         Lexeme::Open => {
             tokens.push(Token::Open)?;
             Ok(0)
@@ -59,7 +46,7 @@ fn push_lexeme(
             Ok(0)
         }
         Lexeme::Bad(_) => unreachable!(),
-        _ => push_piece(alloc, tokens, start, lexeme, rest, after),
+        _ => push_piece(alloc, tokens, position),
     }
 }
 
@@ -85,7 +72,12 @@ pub fn tokens(alloc: Global, lexemes: &[Lexeme<'_>]) -> Result<Vec<Token>, Alloc
     let mut start = true;
     let mut rest = lexemes;
     while let [lexeme, others @ ..] = rest {
-        let more = push_lexeme(alloc, &mut tokens, start, *lexeme, rest, others)?;
+        let position = Position {
+            start,
+            lexeme: *lexeme,
+            after: others,
+        };
+        let more = push_lexeme(alloc, &mut tokens, position)?;
         start = starts_branch(*lexeme);
         rest = after(others, more);
     }

@@ -9,13 +9,16 @@ ghost use Rattle.glob_syntax.specs.inner.LexemeViews.{lexeme_of, lexemes_of};
 
 pub mod lexeme;
 
-use crate::parse_error_kind::{ParseErrorKind, ReadError};
 use crate::options::Options;
+use crate::parse_error_kind::{ParseErrorKind, ReadError};
 use lexeme::{Lexeme, lexeme_at};
 use std::alloc::Global;
 
 /// Returns a lexeme inside `depth` open groups, and how many are open after it.
-fn nested_lexeme<'a>(depth: usize, lexeme: Lexeme<'a>) -> Result<(usize, Lexeme<'a>), ParseErrorKind>
+fn nested_lexeme<'a>(
+    depth: usize,
+    lexeme: Lexeme<'a>,
+) -> Result<(usize, Lexeme<'a>), ParseErrorKind>
     requires { depth + 1 < 2 ^ 64 }
     ensures value { map_ok (λ s. (s.0, lexeme_of s.1)) result ≡ nested_lexeme depth (lexeme_of lexeme.entry) }
     ensures one_more { IfOk result (λ s. s.0 ≤ depth + 1) }
@@ -23,30 +26,16 @@ fn nested_lexeme<'a>(depth: usize, lexeme: Lexeme<'a>) -> Result<(usize, Lexeme<
     match lexeme {
         Lexeme::Bad(parse_error_kind) => Err(parse_error_kind),
         Lexeme::Open => Ok((depth + 1, lexeme)),
-        Lexeme::Close => {
-            if depth == 0 {
-                Err(ParseErrorKind::UnopenedAlternates)
-            } else {
-                Ok((depth - 1, lexeme))
-            }
-        }
-        Lexeme::Comma => {
-            if depth == 0 {
-                Ok((
-                    0,
-                    Lexeme::Char {
-                        escaped: false,
-                        c: ',',
-                    },
-                ))
-            } else {
-                Ok((depth, lexeme))
-            }
-        }
-        Lexeme::Char { .. } => Ok((depth, lexeme)),
-        Lexeme::One => Ok((depth, lexeme)),
-        Lexeme::Stars(_) => Ok((depth, lexeme)),
-        Lexeme::Class { .. } => Ok((depth, lexeme)),
+        Lexeme::Close if depth == 0 => Err(ParseErrorKind::UnopenedAlternates),
+        Lexeme::Close => Ok((depth - 1, lexeme)),
+        Lexeme::Comma if depth == 0 => Ok((
+            0,
+            Lexeme::Char {
+                escaped: false,
+                c: ',',
+            },
+        )),
+        _ => Ok((depth, lexeme)),
     }
 }
 

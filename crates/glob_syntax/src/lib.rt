@@ -5,18 +5,18 @@
 #![tactic(auto)]
 
 mod class;
-mod parse_error_kind;
 mod groups;
 pub mod laws;
 mod lexemes;
 mod options;
+mod parse_error_kind;
 mod reading;
 mod stars;
 mod token;
 
 pub use class::Class;
-pub use parse_error_kind::{ParseErrorKind, ReadError};
 pub use options::Options;
+pub use parse_error_kind::{ParseErrorKind, ReadError};
 pub use reading::read_tokens;
 pub use token::Token;
 pub use token::copy::copy_of;

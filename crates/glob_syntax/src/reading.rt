@@ -9,10 +9,10 @@ ghost use Rattle.glob_syntax.specs.Views.{AgreesWith, flats, tokens_of};
 ghost use Rattle.glob_syntax.specs.inner.Weight.{weight};
 ghost use Rattle.glob_syntax.specs.inner.WellFormed.{AreWellFormed};
 
-use crate::parse_error_kind::ReadError;
 use crate::groups::tokens;
 use crate::lexemes::lex;
 use crate::options::Options;
+use crate::parse_error_kind::ReadError;
 use crate::token::Token;
 use std::alloc::{AllocError, Global};
 

@@ -13,31 +13,16 @@ use crate::lexemes::lexeme::Lexeme;
 fn is_run(lexeme: Lexeme<'_>) -> bool
     ensures { result ≡ is_run (lexeme_of lexeme.entry) }
 {
-    match lexeme {
-        Lexeme::Stars(n) => n == 2,
-        Lexeme::Char { .. } => false,
-        Lexeme::One => false,
-        Lexeme::Class { .. } => false,
-        Lexeme::Open => false,
-        Lexeme::Comma => false,
-        Lexeme::Close => false,
-        Lexeme::Bad(_) => false,
-    }
+    matches!(lexeme, Lexeme::Stars(2))
 }
 
 /// Returns whether the lexeme is an unescaped `/`.
-fn is_slash(lexeme: Lexeme<'_>) -> bool
+pub fn is_slash(lexeme: Lexeme<'_>) -> bool
     ensures { result ≡ is_slash (lexeme_of lexeme.entry) }
 {
     match lexeme {
         Lexeme::Char { escaped, c } => !escaped && c == '/',
-        Lexeme::Stars(_) => false,
-        Lexeme::One => false,
-        Lexeme::Class { .. } => false,
-        Lexeme::Open => false,
-        Lexeme::Comma => false,
-        Lexeme::Close => false,
-        Lexeme::Bad(_) => false,
+        _ => false,
     }
 }
 
@@ -45,16 +30,7 @@ fn is_slash(lexeme: Lexeme<'_>) -> bool
 fn ends_branch(lexeme: Lexeme<'_>) -> bool
     ensures { result ≡ ends_branch (lexeme_of lexeme.entry) }
 {
-    match lexeme {
-        Lexeme::Comma => true,
-        Lexeme::Close => true,
-        Lexeme::Char { .. } => false,
-        Lexeme::Stars(_) => false,
-        Lexeme::One => false,
-        Lexeme::Class { .. } => false,
-        Lexeme::Open => false,
-        Lexeme::Bad(_) => false,
-    }
+    matches!(lexeme, Lexeme::Comma | Lexeme::Close)
 }
 
 /// Returns whether a branch ends before these lexemes.
@@ -101,7 +77,6 @@ pub fn is_whole_run(lexemes: &[Lexeme<'_>]) -> bool
 {
     match lexemes {
         [lexeme] => is_run(*lexeme),
-        [] => false,
-        [_, _, ..] => false,
+        _ => false,
     }
 }

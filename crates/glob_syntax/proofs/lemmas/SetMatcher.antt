@@ -122,9 +122,6 @@ lexemes_after zero ms = refl
 lexemes_after (suc n) [] = refl
 lexemes_after (suc n) (m ∷ ms) = lexemes_after n ms
 
-pub reads_none : (ms : List Lexeme) → Nests zero ms → ReadsTo [] true ms [] true ms
-reads_none ms h = record { same = refl; follows = record { depth = 0; opened = refl; closed = h } }
-
 -- two steps, one after the other
 pub reads_both : (all : List Lexeme) (ts us : List Flat) (start next : Bool) (ms ks : List Lexeme) → ReadsTo [] true all ts start ms → ReadsTo ts start ms us next ks → ReadsTo [] true all us next ks
 reads_both all ts us start next ms ks h g = record { same = g.same ∙ h.same; follows = g.follows }

@@ -87,9 +87,6 @@ class_good negated k c cs h =
       | Some f ↦ tt
     ]
 
-abbrev body_lexeme : Bool → List ℕ → Option ParseErrorKind → Lexeme
-body_lexeme negated body r = elim r [ None ↦ Class negated (ranges body) | Some f ↦ Bad f ]
-
 unclosed_good : (o : Options) (cs : List ℕ) → IsGood (unclosed_lexeme o cs)
 unclosed_good o cs = elim o.allow_unclosed_class as (λ q. IsGood (elim q [ true ↦ Char false 91 | false ↦ elim (bad_range cs) [ None ↦ Bad UnclosedClass | Some f ↦ Bad f ] ])) [
   | true ↦ refl

@@ -6,8 +6,8 @@ ghost use Rattle.glob_syntax.specs.Lexemes.{is_closer, members, unclosed_lexeme,
 ghost use Rattle.glob_syntax.specs.inner.LexemeViews.{lexeme_of};
 
 use crate::class::bad_range;
-use crate::parse_error_kind::ParseErrorKind;
 use crate::options::Options;
+use crate::parse_error_kind::ParseErrorKind;
 
 /// A lexeme of a glob's text.
 #[derive(Clone, Copy)]

@@ -1,7 +1,8 @@
 //! The tokens of a piece.
 
-ghost use Rattle.std.specs.Prelude.{◌≡◌, ◌≤◌, ◌<◌, ◌+◌, ◌∷◌, [], length, map, replicate, ◌++◌, IfOk, OnOk};
+ghost use Rattle.std.specs.Prelude.{◌≡◌, ◌≤◌, ◌∷◌, [], length, map, replicate, ◌++◌, IfOk, OnOk};
 ghost use Rattle.glob_syntax.specs.Token.{ZeroOrMore};
+ghost use Rattle.glob_syntax.specs.Lexemes.{Stars};
 ghost use Rattle.glob_syntax.specs.Stars.{run_piece, slash_piece, piece};
 ghost use Rattle.glob_syntax.specs.FlatTokens.{simple};
 ghost use Rattle.glob_syntax.specs.Views.{flat_of, flats};
@@ -9,33 +10,45 @@ ghost use Rattle.glob_syntax.specs.inner.LexemeViews.{lexeme_of, lexemes_of, Add
 
 use crate::class::{Class, ranges};
 use crate::lexemes::lexeme::Lexeme;
-use crate::stars::{last_run, pairs};
+use crate::stars::{is_slash, last_run, pairs};
 use crate::token::Token;
 use std::alloc::{AllocError, Global};
 
-/// Pushes the tokens of a piece that begins with a run of `n` stars, the first of `rest`. Returns how many lexemes belong to
+/// A lexeme of a glob, and where it is.
+#[derive(Clone, Copy)]
+pub struct Position<'a, 'b> {
+    /// Whether a branch starts at the lexeme.
+    pub start: bool,
+    pub lexeme: Lexeme<'b>,
+    /// The lexemes after it.
+    pub after: &'a [Lexeme<'b>],
+}
+
+/// Pushes the tokens of a piece that begins with a run of `n` stars, followed by `after`. Returns how many lexemes belong to
 /// the piece after its first one.
 fn push_run(
     out: &mut Vec<Token>,
     start: bool,
     n: usize,
-    rest: &[Lexeme<'_>],
+    after: &[Lexeme<'_>],
 ) -> Result<usize, AllocError>
-    requires { 0 < length rest.now }
-    ensures adds { IfOk result (λ more. Adds out.old.items out.new.items (run_piece start n (lexemes_of rest.now)) more) }
-    ensures within { IfOk result (λ more. more < length rest.now) }
+    ensures adds { IfOk result (λ more. Adds out.old.items out.new.items (run_piece start n (Stars n ∷ lexemes_of after.now)) more) }
+    ensures within { IfOk result (λ more. more ≤ length after.now) }
 {
-    let count = pairs(rest);
-    if start && count > 0 {
-        let more = if last_run(rest.split_at(count).1) {
-            count
-        } else {
-            count - 1
-        };
-        push_token(out, Token::RecursivePrefix, more)
-    } else {
-        push_stars(out, n)?;
-        Ok(0)
+    match after {
+        [slash, later @ ..] if start && n == 2 && is_slash(*slash) => {
+            let count = pairs(later) + 1;
+            let more = if last_run(after.split_at(count).1) {
+                count + 1
+            } else {
+                count
+            };
+            push_token(out, Token::RecursivePrefix, more)
+        }
+        _ => {
+            push_stars(out, n)?;
+            Ok(0)
+        }
     }
 }
 
@@ -73,23 +86,20 @@ fn push_slash(out: &mut Vec<Token>, after: &[Lexeme<'_>]) -> Result<usize, Alloc
     }
 }
 
-/// Pushes the tokens of a piece that begins with `lexeme`, the first of `rest`, followed by `after`. Returns how many lexemes
-/// belong to the piece after its first one. A brace or a comma has no tokens.
+/// Pushes the tokens of the piece that begins at this position. Returns how many lexemes belong to the piece after its first
+/// one. A brace or a comma has no tokens.
 #[tactic(auto, unfolding(crate::specs::Stars::piece))]
 pub fn push_piece(
     alloc: Global,
     out: &mut Vec<Token>,
-    start: bool,
-    lexeme: Lexeme<'_>,
-    rest: &[Lexeme<'_>],
-    after: &[Lexeme<'_>],
+    position: Position<'_, '_>,
 ) -> Result<usize, AllocError>
-    requires { lexemes_of rest.now ≡ lexeme_of lexeme ∷ lexemes_of after.now }
-    ensures adds { IfOk result (λ more. Adds out.old.items out.new.items (piece start (lexeme_of lexeme.entry) (lexemes_of after.now)) more) }
-    ensures within { IfOk result (λ more. more ≤ length after.now) }
+    ensures adds { IfOk result (λ more. Adds out.old.items out.new.items (piece position.entry.start (lexeme_of position.entry.lexeme) (lexemes_of position.entry.after.now)) more) }
+    ensures within { IfOk result (λ more. more ≤ length position.entry.after.now) }
 {
-    match lexeme {
-        Lexeme::Stars(n) => push_run(out, start, n, rest),
+    let after = position.after;
+    match position.lexeme {
+        Lexeme::Stars(n) => push_run(out, position.start, n, after),
         Lexeme::Char { escaped: _, c } => {
             if c == '/' {
                 push_slash(out, after)
@@ -103,9 +113,6 @@ pub fn push_piece(
             let class = Class::new(alloc, negated, ranges)?;
             push_token(out, Token::Class(class), 0)
         }
-        Lexeme::Open => Ok(0),
-        Lexeme::Comma => Ok(0),
-        Lexeme::Close => Ok(0),
-        Lexeme::Bad(_) => Ok(0),
+        Lexeme::Open | Lexeme::Comma | Lexeme::Close | Lexeme::Bad(_) => Ok(0),
     }
 }

@@ -1,4 +1,4 @@
-use Rattle.std.proofs.Common.{◌<◌, inl, inr, true≢false, sym, ◌∙◌, arith}
+use Rattle.std.proofs.Common.{inl, inr, true≢false, sym, ◌∙◌, arith}
 use Rattle.std.proofs.lemmas.Bool.{cases_lt}
 use Rattle.bit_sets.specs.Indexes.{index_capacity}
 use Rattle.bit_sets.proofs.lemmas.Bits.{bit_past}
