@@ -4,8 +4,8 @@
 //! text goes on as the path does.
 #![tactic(auto)]
 
-pub mod laws;
 mod anchor;
+pub mod laws;
 mod text;
 mod tree;
 mod trie;

@@ -5,17 +5,17 @@ ghost use Rattle.glob_text.specs.Errors.{out_of_memory};
 ghost use Rattle.globset_glob.specs.Cost.{cost, max_visits, max_visits_below};
 ghost use Rattle.globset_glob.specs.GlobBelow.{GlobMatchesBelow};
 
-mod strategy;
 mod scratch;
+mod strategy;
 
 use crate::glob::Glob;
-use strategy::Strategy;
 use glob_path::{AsPath, Candidate};
 use glob_text::Error;
 pub use scratch::MatcherScratch;
 use std::alloc::AllocError;
 use std::fmt;
 use std::marker::Model;
+use strategy::Strategy;
 use visits::Visits;
 
 /// Tells whether a glob matches a path.
@@ -40,7 +40,10 @@ pub struct GlobMatcher {
 impl Drop for GlobMatcher {
     // One call wherever a value is dropped, which keeps proofs short.
     fn drop(self) {
-        let GlobMatcher { glob: _, strategy: _ } = self;
+        let GlobMatcher {
+            glob: _,
+            strategy: _,
+        } = self;
     }
 }
 

@@ -8,8 +8,8 @@
 mod automata;
 mod below;
 mod given;
-mod matcher;
 mod marks;
+mod matcher;
 mod matching;
 mod matching_sets;
 

@@ -7,8 +7,8 @@ ghost use Rattle.set_matcher.specs.SetMatcherValue.{matcher_globs};
 ghost use Rattle.set_matcher.specs.Indexes.{ContainsAllBelow};
 ghost use Rattle.set_matcher.specs.inner.Capacity.{HasCapacity, KeepsCapacity};
 
-use crate::matcher::SetMatcher;
 use crate::marks::{are_all_marked, push_marked};
+use crate::matcher::SetMatcher;
 use crate::matching_sets::MatchingSets;
 use glob_path::Candidate;
 use std::alloc::AllocError;

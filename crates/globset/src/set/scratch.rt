@@ -195,7 +195,11 @@ impl Scratch {
     }
 
     /// Returns a scratch with room for automata of so many states and for so many indexes. Returns an error if memory runs out.
-    fn with_capacity_for(alloc: Global, states: usize, indexes: usize) -> Result<Scratch, AllocError>
+    fn with_capacity_for(
+        alloc: Global,
+        states: usize,
+        indexes: usize,
+    ) -> Result<Scratch, AllocError>
         ensures states { IfOk result (λ scratch. scratch.states ≡ states) }
         ensures indexes { IfOk result (λ scratch. scratch.indexes ≡ indexes) }
     {

@@ -13,7 +13,7 @@ ghost use Rattle.set_matcher.specs.inner.Capacity.{HasCapacity, KeepsCapacity};
 
 use crate::set::building::StoredBuilder;
 use globset_glob::{Candidate, DEFAULT_DFA_SIZE_LIMIT, Error, GivenGlobs, Glob, Visits};
-use set_matcher::{SetMatcher, MatchingSets};
+use set_matcher::{MatchingSets, SetMatcher};
 use std::alloc::Global;
 use std::fmt;
 use std::marker::Model;
