@@ -28,6 +28,10 @@ pub fn tokens_of_text(alloc: Global, options: Options, text: &str) -> Result<Vec
     match read_tokens(alloc, options, text) {
         Ok(tokens) => Ok(tokens),
         Err(ReadError::Memory) => Err(Error::out_of_memory()),
-        Err(ReadError::Syntax(parse_error_kind)) => Err(Error::parse_error(alloc, text, parse_error_kind)),
+        Err(ReadError::Syntax(parse_error_kind)) => Err(Error::parse_error(
+            alloc,
+            text,
+            parse_error_kind,
+        )),
     }
 }
