@@ -43,9 +43,6 @@ own_not d (t ∷ ts) h b w =
     ended_not t.index b (drop d t.bytes.items) w (indexes_under (map (rest_of d) ts) (b ∷ w)) (drop_none t.bytes.items d h.0)
     ∙ own_not d ts h.1 b w
 
-goes_not : (i x : ℕ) (q r us : List ℕ) → q ≡ x ∷ r → cond (bytes_eq q []) (i ∷ us) us ≡ us
-goes_not i x q r us e = ap (λ y. cond (bytes_eq y []) (i ∷ us) us) e
-
 one_run : (x b i : ℕ) (q r w us vs : List ℕ) → q ≡ x ∷ r → us ≡ cond (x == b) vs [] →
     cond (bytes_eq q (b ∷ w)) (i ∷ us) us ≡ cond (x == b) (cond (bytes_eq r w) (i ∷ vs) vs) []
 one_run x b i q r w us vs e u =
