@@ -91,6 +91,6 @@ impl PrefixMatcherBuilder {
             added: _,
         } = self;
         let automaton = automaton.finish().with_blocks()?;
-        Ok(PrefixMatcher::of(globs, automaton))
+        Ok(PrefixMatcher { globs, automaton })
     }
 }

@@ -4,7 +4,6 @@ ghost use Rattle.std.specs.Prelude.{◌≡◌, ◌+◌, ◌*◌, ◌≤◌, ◌�
 ghost use Rattle.bit_sets.specs.Indexes.{has_index};
 ghost use Rattle.byte_nfa.specs.Steps.{IsReached};
 ghost use Rattle.glob_prefixes.specs.Prefixes.{FitAsBefore, FitsPrefixes, IsAfter, all_matching_indexes, matching_of, max_globs, prefix_states};
-ghost use Rattle.glob_prefixes.specs.inner.Added.{IsPrefixMatcherOf};
 
 use crate::marks::push_marked;
 use crate::states::PrefixStates;
@@ -22,8 +21,8 @@ use visits::Visits;
 ///
 /// It has at most four states for each byte of a glob's text, or 16 under `whole_character`, and four more for each glob.
 pub struct PrefixMatcher {
-    globs: GivenGlobs,
-    automaton: Nfa,
+    pub(crate) globs: GivenGlobs,
+    pub(crate) automaton: Nfa,
 }
 
 impl Drop for PrefixMatcher {
@@ -51,15 +50,6 @@ impl Model for PrefixMatcher {
 }
 
 impl PrefixMatcher {
-    /// Returns the matcher of globs, by an automaton of their tokens.
-    pub(crate) fn of(globs: GivenGlobs, automaton: Nfa) -> PrefixMatcher
-        requires { IsPrefixMatcherOf globs automaton }
-        ensures globs { result.globs ≡ globs }
-        ensures machine { result.machine ≡ automaton }
-    {
-        PrefixMatcher { globs, automaton }
-    }
-
     /// Returns the number of states.
     pub(crate) fn state_count(&self) -> usize
         ensures { result ≡ prefix_states self.now }

@@ -3,5 +3,5 @@ use Rattle.byte_nfa.specs.Steps.{Machine}
 use Rattle.glob_prefixes.specs.inner.Added.{IsPrefixMatcherOf}
 use Rattle.glob_prefixes.proofs.builder.PrefixMatcherBuilder.finish.Goals as goal
 
-pub of-requires : goal.of-requires
-of-requires c = subst (λ (m : Machine). IsPrefixMatcherOf c.self.inside.globs m) (sym (c.in_ok-automaton.ensures ∙ c.finish.ensures)) c.self.invariant.are
+pub invariant_of-result : goal.invariant_of-result
+invariant_of-result c = subst (λ (m : Machine). IsPrefixMatcherOf c.self.inside.globs m) (sym (c.in_ok-automaton.ensures ∙ c.finish.ensures)) c.self.invariant.are
