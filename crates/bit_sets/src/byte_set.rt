@@ -1,6 +1,6 @@
 //! Sets of bytes.
 
-ghost use Rattle.std.specs.Prelude.{◌≡◌, ℕ, ◌+◌, ◌<◌, ◌≤◌, ◌&&◌, ◌||◌, ◌==◌, not, true, false, slice_index_or, IsTrue, IsFalse, MatchOption, ◌↔◌};
+ghost use Rattle.std.specs.Prelude.{◌≡◌, ℕ, ◌+◌, ◌<◌, ◌≤◌, ◌&&◌, ◌||◌, ◌==◌, not, true, false, slice_index_or, IsTrue, MatchOption, ◌↔◌};
 ghost use Rattle.bit_sets.specs.Bytes.{differ, has_byte, HasEvery, AllFold};
 
 use crate::words::{changes, clear_bit, first_from, has_bit, set_bit};

@@ -1,6 +1,6 @@
 //! Walks down a tree along a path.
 
-ghost use Rattle.std.specs.Prelude.{◌≡◌, ◌≢◌, ℕ, ◌+◌, ◌≤◌, ◌<◌, ◌^◌, ◌↔◌, [], length, IsTrue};
+ghost use Rattle.std.specs.Prelude.{◌≡◌, ◌≢◌, ◌+◌, ◌≤◌, ◌<◌, ◌^◌, ◌↔◌, [], length, IsTrue};
 ghost use Rattle.bit_sets.specs.Indexes.{index_capacity, HasAlso};
 ghost use Rattle.byte_trie.specs.inner.Anchors.{from_anchor};
 ghost use Rattle.byte_trie.specs.inner.Nodes.{under, along, IsTree};

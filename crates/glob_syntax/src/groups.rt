@@ -1,6 +1,6 @@
 //! Braces: the tokens of lexemes, in groups.
 
-ghost use Rattle.std.specs.Prelude.{◌≡◌, ◌≤◌, ◌∷◌, [], zero, true, IfOk, drop, length};
+ghost use Rattle.std.specs.Prelude.{◌≡◌, ◌≤◌, ◌∷◌, zero, true, IfOk, drop, length};
 ghost use Rattle.glob_syntax.specs.inner.Nests.{Nests, starts_branch};
 ghost use Rattle.glob_syntax.specs.inner.TokenReading.{Follows, ReadsTo};
 ghost use Rattle.glob_syntax.specs.Reading.{whole};

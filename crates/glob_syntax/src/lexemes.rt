@@ -1,6 +1,6 @@
 //! Splits a glob's text into lexemes, and checks that its braces match.
 
-ghost use Rattle.std.specs.Prelude.{◌≡◌, ◌+◌, ◌<◌, ◌^◌, zero, length, IfOk, ◌≤◌};
+ghost use Rattle.std.specs.Prelude.{◌≡◌, ◌+◌, ◌<◌, ◌^◌, zero, IfOk, ◌≤◌};
 ghost use Rattle.glob_syntax.specs.inner.LexemeViews.{map_ok};
 ghost use Rattle.glob_syntax.specs.Lexemes.{lexemes};
 ghost use Rattle.glob_syntax.specs.Nesting.{nested_lexeme, nested};

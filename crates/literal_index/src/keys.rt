@@ -1,6 +1,6 @@
 //! Indexes under keys, and the indexes that a path finds.
 
-ghost use Rattle.std.specs.Prelude.{◌≡◌, ◌≢◌, ◌+◌, ◌*◌, ◌≤◌, ◌++◌, ◌∷◌, ◌↔◌, ◌<◌, ◌^◌, [], ℕ, List, length, map, IsTrue, IsFalse, MatchOption, OnOk, IfOk};
+ghost use Rattle.std.specs.Prelude.{◌≡◌, ◌≢◌, ◌+◌, ◌*◌, ◌≤◌, ◌↔◌, ◌<◌, ◌^◌, [], ℕ, List, length, map, IsTrue, IsFalse, MatchOption, OnOk, IfOk};
 ghost use Rattle.bit_sets.specs.Indexes.{index_capacity, HasAlso};
 ghost use Rattle.byte_table.specs.Entries.{indexes_under};
 ghost use Rattle.byte_trie.specs.Texts.{entry_of};

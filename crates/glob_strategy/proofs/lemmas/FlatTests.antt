@@ -1,5 +1,5 @@
 -- Tests of flat tokens give the same as those of the tree that the tokens have.
-use Rattle.std.proofs.Common.{◌≡◌, Bool, true, false, true≢false, not, ◌&&◌, ◌||◌, List, [], ◌∷◌, ◌++◌, length, refl, ap, sym, ◌∙◌, subst, arith}
+use Rattle.std.proofs.Common.{◌≡◌, Bool, true, false, true≢false, not, ◌&&◌, ◌||◌, List, [], ◌∷◌, ◌++◌, refl, ap, sym, ◌∙◌, subst}
 use Rattle.std.specs.Prelude.{if◌then◌else◌, encode_utf8}
 use Rattle.std.proofs.lemmas.List.{map-append}
 use Rattle.glob_syntax.specs.declared.options.Options.{Options}
@@ -146,24 +146,12 @@ after_other opening ts n h = let (us, e) = open_here ts n in e ∙ sym (ap strat
 after_other comma ts n h = absurd n
 after_other closing ts n h = absurd n
 
--- the first token of a list is RecursivePrefix
-pub prefix_cut : (ts : List held.Token) (t : held.Token) (us : List held.Token) (whole : Tokens) → ts ≡ t ∷ us → IsNested (flats ts) → whole ≡ tokens_of ts → is_simple_that is_prefix (flat_of t) ≡ true
-    → (tokens_of us ≡ strategies.after_prefix whole) × IsNested (flats us)
-prefix_cut ts t us whole e n w h =
-    let cut : flats ts ≡ flat_of t ∷ flats us = ap flats e in
-    let r = after_prefix (flat_of t) (flats us) (subst IsNested cut n) h in
-    (r.0 ∙ sym (ap strategies.after_prefix (w ∙ ap tree_of cut)), r.1)
-
 -- or it is not
 pub other_kept : (ts : List held.Token) (t : held.Token) (us : List held.Token) (whole : Tokens) → ts ≡ t ∷ us → IsNested (flats ts) → whole ≡ tokens_of ts → is_simple_that is_prefix (flat_of t) ≡ false
     → tokens_of ts ≡ strategies.after_prefix whole
 other_kept ts t us whole e n w h =
     let cut : flats ts ≡ flat_of t ∷ flats us = ap flats e in
     ap tree_of cut ∙ after_other (flat_of t) (flats us) (subst IsNested cut n) h ∙ sym (ap strategies.after_prefix (w ∙ ap tree_of cut))
-
-pub none_kept : (ts : List held.Token) (whole : Tokens) → length ts ≡ 0 → whole ≡ tokens_of ts → tokens_of ts ≡ strategies.after_prefix whole
-none_kept [] whole e w = sym (ap strategies.after_prefix w)
-none_kept (t ∷ ts) whole e w = absurd (omega arith)
 
 -- ---- texts
 

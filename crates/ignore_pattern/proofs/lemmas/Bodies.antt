@@ -113,11 +113,6 @@ body_spelled x y body rs p q le b = record {
 abbrev pub alone : ℕ → ℕ × ℕ
 alone c = (c, c)
 
--- a character that is written or not, as text and as a range
-pub body_perhaps : (q : Bool) (c : ℕ) (body : List ℕ) (rs : List (ℕ × ℕ)) → IsPlain c → IsBody body rs → IsBody (cond q (c ∷ []) [] ++ body) (cond q ((c, c) ∷ []) [] ++ rs)
-body_perhaps true c body rs p b = body_single c body rs p b
-body_perhaps false c body rs p b = b
-
 -- those of n numbers from a on that pass the test, one after another
 abbrev pub alone_filtered : (ℕ → Bool) → ℕ → ℕ → List (ℕ × ℕ)
 alone_filtered test a zero = []

@@ -53,13 +53,6 @@ after_slash (c ∷ cs) (suc j) lt is = later (last_position is_separator cs) (af
     later (Some k) h = omega (arith, h, length-drop (suc k + 1) (c ∷ cs), length-drop (k + 1) cs)
     later None h = absurd (omega (arith, h))
 
-pub component_short : (key : List ℕ) → length (last_component key) ≤ length key
-component_short key = by_position (last_position is_separator key)
-  where
-    by_position : (o : Option ℕ) → length (after_position key o) ≤ length key
-    by_position (Some k) = omega (arith, length-drop (k + 1) key)
-    by_position None = omega arith
-
 take_begins : (start rest : List ℕ) (n : ℕ) → length start ≤ n → BeginsWith (take n (start ++ rest)) start
 take_begins [] rest n le = (take n rest, refl)
 take_begins (x ∷ start) rest zero le = absurd (omega (arith, le))
