@@ -60,7 +60,6 @@ starts line =
     }
 
 module _ (line : List ℕ) (kept : ℕ) (rest total : List ℕ) (s : Stands line kept rest total) where
-
   module _ (c : ℕ) (cs : List ℕ) (cell : rest ≡ c ∷ cs) where
     next_at : length line - length cs ≡ suc (length line - length rest)
     next_at = let h = s.fits in omega (arith, ap length cell)
