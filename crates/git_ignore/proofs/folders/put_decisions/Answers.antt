@@ -1,6 +1,6 @@
-use Rattle.std.proofs.Common.{◌≡◌, ◌<◌, List, ℕ, length, drop, take, subst, arith}
+use Rattle.std.proofs.Common.{◌<◌, List, ℕ, length, drop, take, subst, arith}
 use Rattle.glob_prefixes.specs.Prefixes.{IsAfter}
-use Rattle.git_ignore.proofs.lemmas.Folders.{all_put, byte_put, byte_read, nothing_put, nothing_read}
+use Rattle.git_ignore.proofs.lemmas.Folders.{all_put, byte_put, byte_read}
 use Rattle.git_ignore.proofs.folders.put_decisions.Goals as goal
 
 pub loop-at-preserved : goal.loop-at-preserved

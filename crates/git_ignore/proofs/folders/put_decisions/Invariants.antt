@@ -1,4 +1,4 @@
-use Rattle.std.proofs.Common.{◌≡◌, List, length, take, drop}
+use Rattle.std.proofs.Common.{take, drop}
 use Rattle.glob_prefixes.specs.Prefixes.{FitsPrefixes, IsAfter}
 use Rattle.git_ignore.specs.inner.FolderParts.{ArePutUpTo, said_of_folder}
 use Rattle.git_ignore.proofs.folders.put_decisions.Given as goal

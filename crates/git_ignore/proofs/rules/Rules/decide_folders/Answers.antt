@@ -1,4 +1,4 @@
-use Rattle.std.proofs.Common.{◌≡◌, List, true, subst}
+use Rattle.std.proofs.Common.{List, true, subst}
 use Rattle.globset.specs.GlobMatches.{GlobValue}
 use Rattle.globset.specs.SetValue.{set_globs}
 use Rattle.git_ignore.specs.FolderDecisions.{ArePut}
