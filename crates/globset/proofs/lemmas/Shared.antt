@@ -13,11 +13,11 @@ glob-send = search (sendable, crosses) depth 40 fits 20000
 glob-sync : IsSync Glob.the_field.row
 glob-sync = search (sendable, crosses) depth 40 fits 20000
 
-pub matcher-send : IsSend GlobMatcher.the_row
-matcher-send = search (sendable, crosses, glob-send, compiled-send) depth 40 fits 20000
+pub glob_matcher-send : IsSend GlobMatcher.the_row
+glob_matcher-send = search (sendable, crosses, glob-send, compiled-send) depth 40 fits 20000
 
-pub matcher-sync : IsSync GlobMatcher.the_row
-matcher-sync = search (sendable, crosses, glob-sync, compiled-sync) depth 40 fits 20000
+pub glob_matcher-sync : IsSync GlobMatcher.the_row
+glob_matcher-sync = search (sendable, crosses, glob-sync, compiled-sync) depth 40 fits 20000
 
 stored-send : IsSend Stored.the_field.row
 stored-send = search (sendable, crosses, matcher-send) depth 20
