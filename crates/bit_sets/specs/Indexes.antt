@@ -8,9 +8,9 @@ abbrev pub has_index : IndexSet → ℕ → Bool
 has_index set k = bit_of set.words.items k
 
 -- a set has room for the indexes below this
-abbrev pub index_room : IndexSet → ℕ
-index_room set = 64 * length set.words.items
+abbrev pub index_capacity : IndexSet → ℕ
+index_capacity set = 64 * length set.words.items
 
 -- the new set has what the old one has, and those of the indexes that the old one has room for
 abbrev pub HasAlso : IndexSet → IndexSet → List ℕ → Type 0
-HasAlso old new indexes = (k : ℕ) → IsTrue (has_index new k) ↔ ((Contains indexes k × (k < index_room old)) ⊎ IsTrue (has_index old k))
+HasAlso old new indexes = (k : ℕ) → IsTrue (has_index new k) ↔ ((Contains indexes k × (k < index_capacity old)) ⊎ IsTrue (has_index old k))

@@ -2,9 +2,9 @@
 use Rattle.std.specs.Prelude.{ℕ, ◌<◌, ◌≤◌, ◌||◌, ◌==◌, Bool, false, List, [], ◌∷◌, length, slice_index}
 
 -- whether n is one of the numbers
-abbrev pub is_listed : ℕ → List ℕ → Bool
-is_listed n [] = false
-is_listed n (x ∷ xs) = (n == x) || is_listed n xs
+abbrev pub is_reported : ℕ → List ℕ → Bool
+is_reported n [] = false
+is_reported n (x ∷ xs) = (n == x) || is_reported n xs
 
 -- each of the numbers is below high
 abbrev pub AreBelow : ℕ → List ℕ → Type 0

@@ -4,7 +4,7 @@ use Rattle.bit_sets.specs.Bits.{bit_of}
 use Rattle.bit_sets.specs.declared.words.Seen.{Seen}
 
 -- the highest bit below the bound, or a lower one where nothing up to the bound is set
-pub record IsLastBelow (words : List ℕ) (upto : ℕ) (seen : Seen) : Type 0 where
-  pub below : seen.at < upto
+pub record IsLastBelow (words : List ℕ) (limit : ℕ) (seen : Seen) : Type 0 where
+  pub below : seen.at < limit
   pub marked : seen.is_set ≡ bit_of words seen.at
-  pub between : (k : ℕ) → seen.at < k → k < upto → bit_of words k ≡ false
+  pub between : (k : ℕ) → seen.at < k → k < limit → bit_of words k ≡ false

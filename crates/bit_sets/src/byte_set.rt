@@ -1,6 +1,6 @@
 //! Sets of bytes.
 
-ghost use Rattle.std.specs.Prelude.{◌≡◌, ℕ, ◌+◌, ◌<◌, ◌≤◌, ◌&&◌, ◌||◌, ◌==◌, not, true, false, slice_index_or, IsTrue, IsFalse, MatchOption, ◌↔◌};
+ghost use Rattle.std.specs.Prelude.{◌≡◌, ℕ, ◌+◌, ◌<◌, ◌≤◌, ◌&&◌, ◌||◌, ◌==◌, not, true, false, slice_index_or, IsTrue, MatchOption, ◌↔◌};
 ghost use Rattle.bit_sets.specs.Bytes.{differ, has_byte, HasEvery, AllFold};
 
 use crate::words::{changes, clear_bit, first_from, has_bit, set_bit};
@@ -89,7 +89,7 @@ impl ByteSet {
     }
 
     /// Returns the set with each byte `b` more for which another set has one of `b` and `b + 1`, and not both.
-    pub fn with_changes(self, other: &ByteSet) -> ByteSet
+    pub fn with_boundaries(self, other: &ByteSet) -> ByteSet
         ensures { (b : ℕ) → b + 1 < 256 → has_byte result b ≡ (differ (has_byte other.now b) (has_byte other.now (b + 1)) || has_byte self b) }
     {
         let [a, b, c, d] = other.words;

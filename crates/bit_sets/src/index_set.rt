@@ -37,11 +37,11 @@ impl Drop for IndexSet {
 
 impl IndexSet {
     ghost use Rattle.std.specs.Prelude.{◌≡◌, ℕ, ◌<◌, ◌≤◌, ◌||◌, ◌==◌, ◌↔◌, true, false, IfOk, OnOk, IsOk, IsTrue, MatchOption};
-    ghost use Rattle.bit_sets.specs.Indexes.{has_index, index_room, HasAlso};
+    ghost use Rattle.bit_sets.specs.Indexes.{has_index, index_capacity, HasAlso};
 
     /// Returns an empty set with room for no index. It allocates nothing.
     pub fn empty(alloc: Global) -> IndexSet
-        ensures room { index_room result ≡ 0 }
+        ensures room { index_capacity result ≡ 0 }
         ensures none { (k : ℕ) → has_index result k ≡ false }
     {
         IndexSet {
@@ -53,7 +53,7 @@ impl IndexSet {
     /// Returns an empty set with room for so many indexes. It takes a bit of memory for each, and one more for each 64. Returns
     /// an error if memory runs out.
     pub fn new(alloc: Global, indexes: usize) -> Result<IndexSet, AllocError>
-        ensures room { IfOk result (λ set. indexes ≤ index_room set) }
+        ensures room { IfOk result (λ set. indexes ≤ index_capacity set) }
         ensures none { IfOk result (λ set. (k : ℕ) → has_index set k ≡ false) }
     {
         let mut set = IndexSet::empty(alloc);
@@ -64,10 +64,10 @@ impl IndexSet {
     /// Makes room for so many indexes, if there is less. It takes a bit of memory for each, and one more for each 64. Returns an
     /// error if memory runs out. The set has the same indexes in each case.
     pub fn reserve(&mut self, indexes: usize) -> Result<(), AllocError>
-        ensures ok { OnOk result (indexes ≤ index_room self.new) }
-        ensures kept { index_room self.old ≤ index_room self.new }
+        ensures ok { OnOk result (indexes ≤ index_capacity self.new) }
+        ensures kept { index_capacity self.old ≤ index_capacity self.new }
         ensures has { (k : ℕ) → has_index self.new k ≡ has_index self.old k }
-        ensures memory { indexes ≤ index_room self.old → IsOk result }
+        ensures memory { indexes ≤ index_capacity self.old → IsOk result }
     {
         let words = words_for(indexes);
         grow(&mut self.summary, words_for(words))?;
@@ -77,7 +77,7 @@ impl IndexSet {
     /// Takes every index out. The time follows how many were put in; beside that, a word is written for each 4,096 indexes that
     /// there is room for.
     pub fn clear(&mut self)
-        ensures room { index_room self.new ≡ index_room self.old }
+        ensures room { index_capacity self.new ≡ index_capacity self.old }
         ensures none { (k : ℕ) → has_index self.new k ≡ false }
     {
         clear_words(&mut self.words, &self.summary);
@@ -85,8 +85,8 @@ impl IndexSet {
     }
 
     /// Returns whether there is room for an index.
-    pub fn has_room_for(&self, index: usize) -> bool
-        ensures { IsTrue result ↔ (index < index_room self.now) }
+    pub fn has_capacity_for(&self, index: usize) -> bool
+        ensures { IsTrue result ↔ (index < index_capacity self.now) }
     {
         index / 64 < self.words.len()
     }
@@ -95,7 +95,7 @@ impl IndexSet {
     pub fn has(&self, index: usize) -> bool
         ensures { result ≡ has_index self.now index }
     {
-        if self.has_room_for(index) {
+        if self.has_capacity_for(index) {
             return has_bit(&self.words, index);
         }
         false
@@ -103,8 +103,8 @@ impl IndexSet {
 
     /// Puts an index in.
     pub fn put(&mut self, index: usize)
-        requires { index < index_room self.old }
-        ensures room { index_room self.new ≡ index_room self.old }
+        requires { index < index_capacity self.old }
+        ensures room { index_capacity self.new ≡ index_capacity self.old }
         ensures has { (k : ℕ) → has_index self.new k ≡ ((k == index) || has_index self.old k) }
     {
         set_bit(&mut self.words, index);
@@ -113,11 +113,11 @@ impl IndexSet {
 
     /// Puts those of some indexes in that there is room for.
     pub fn put_all(&mut self, indexes: &[usize])
-        ensures room { index_room self.new ≡ index_room self.old }
+        ensures room { index_capacity self.new ≡ index_capacity self.old }
         ensures has { HasAlso self.old self.new indexes.now }
     {
         for index in indexes {
-            if self.has_room_for(*index) {
+            if self.has_capacity_for(*index) {
                 self.put(*index);
             }
         }

@@ -32,7 +32,7 @@ pub fn words_for(bits: usize) -> usize
 pub fn grow(words: &mut Vec<u64>, count: usize) -> Result<(), AllocError>
     ensures ok { OnOk result (count ≤ length words.new.items) }
     ensures kept { length words.old.items ≤ length words.new.items }
-    ensures most { length words.new.items ≤ max count (length words.old.items) }
+    ensures maximum { length words.new.items ≤ max count (length words.old.items) }
     ensures bits { (k : ℕ) → bit_of words.new.items k ≡ bit_of words.old.items k }
     ensures memory { count ≤ length words.old.items → IsOk result }
 {
@@ -192,12 +192,12 @@ pub fn clear_words(words: &mut [u64], places: &[u64])
 
 /// Returns the highest bit that is set below the bound, or the lowest bit of the last word below the bound where nothing
 /// in this word is set below the bound.
-pub fn last_below(words: &[u64], upto: usize) -> Seen
-    requires some { 0 < upto }
-    requires within { upto ≤ 64 * length words.now }
-    ensures { IsLastBelow words.now upto result }
+pub fn last_below(words: &[u64], limit: usize) -> Seen
+    requires some { 0 < limit }
+    requires within { limit ≤ 64 * length words.now }
+    ensures { IsLastBelow words.now limit result }
 {
-    let last = upto - 1;
+    let last = limit - 1;
     let mask = words[last / 64] & (u64::MAX >> (63 - last % 64));
     if mask == 0 {
         Seen {

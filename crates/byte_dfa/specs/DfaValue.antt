@@ -1,6 +1,6 @@
 -- What contracts see of a deterministic automaton.
 use Rattle.std.specs.Prelude.{ℕ}
-use Rattle.byte_automaton.specs.Steps.{Machine}
+use Rattle.byte_nfa.specs.Steps.{Machine}
 
 -- the automaton that it was made from, and how many numbers its table and its lists have together
 pub record DfaValue : Type 0 where

@@ -1,18 +1,18 @@
 //! A deterministic automaton.
 
 ghost use Rattle.std.specs.Prelude.{◌≡◌, ℕ, ◌+◌, ◌≤◌, ◌⊎◌, ◌↔◌, ◌<◌, ◌^◌, ◌++◌, ◌∷◌, [], length, slice_index, IsTrue, IfOk, IfSome};
-ghost use Rattle.bit_sets.specs.Indexes.{has_index, index_room};
-ghost use Rattle.byte_automaton.specs.Live.{MatchesAfter};
-ghost use Rattle.byte_automaton.specs.Steps.{IsReached};
+ghost use Rattle.bit_sets.specs.Indexes.{has_index, index_capacity};
+ghost use Rattle.byte_nfa.specs.Live.{MatchesAfter};
+ghost use Rattle.byte_nfa.specs.Steps.{IsReached};
 ghost use Rattle.byte_dfa.specs.DfaValue.{DfaValue};
 ghost use Rattle.byte_dfa.specs.inner.Tables.{table_of, IsTableOf};
 
 use crate::classes::ByteClasses;
-use crate::construction::{Construction, SPECIAL};
+use crate::determinizer::{Determinizer, SPECIAL};
 use crate::lists::{has_some, put_listed};
 use crate::source::Source;
 use bit_sets::{ByteSet, IndexSet};
-use byte_automaton::Automaton;
+use byte_nfa::Draft;
 use std::alloc::{AllocError, Global};
 use std::marker::Model;
 use std::mem;
@@ -89,27 +89,23 @@ impl Dfa {
     ///
     /// The table and the lists have at most `budget` numbers together. Returns `None` if that is not enough, and an error
     /// if memory runs out.
-    pub fn new(
-        alloc: Global,
-        automaton: &Automaton,
-        budget: usize,
-    ) -> Result<Option<Dfa>, AllocError>
+    pub fn new(alloc: Global, automaton: &Draft, budget: usize) -> Result<Option<Dfa>, AllocError>
         ensures source { IfOk result (λ made. IfSome made (λ dfa. dfa.source ≡ automaton.now)) }
         ensures size { IfOk result (λ made. IfSome made (λ dfa. dfa.size ≤ budget)) }
     {
         let last_bytes = automaton.last_bytes()?;
-        let Some(decided) = automaton.with_decisions()? else {
+        let Some(early_match) = automaton.with_early_matches()? else {
             return Ok(None);
         };
         let Some(room) = budget.min(SPECIAL).checked_sub(1) else {
             return Ok(None);
         };
-        let classes = ByteClasses::new(&decided);
-        let complete = Construction::complete(alloc, &decided, &classes, room)?;
+        let classes = ByteClasses::new(&early_match);
+        let complete = Determinizer::complete(alloc, &early_match, &classes, room)?;
         let Some((built, start)) = complete else {
             return Ok(None);
         };
-        let live = built.live_rows(alloc, &decided)?;
+        let live = built.live_rows(alloc, &early_match)?;
         let (table, lists) = built.into_parts();
         Ok(Some(Dfa {
             class_of: classes.class_of,
@@ -146,17 +142,18 @@ impl Dfa {
 
     /// Puts the index of each end that a text leads to into a set, beside what it holds.
     ///
-    /// It reads at most one entry for each byte. Beside these it reads a list, and its place, at the start, in each state where
-    /// indexes are found, and at the end of the text. It is at most one visit for each byte, and one for the end. It takes no
-    /// memory. If no text with the last byte leads to an end, it is no visit.
+    /// It looks at the last byte first: if no text with that byte leads to an end, it reads nothing more. Otherwise it reads at
+    /// most one entry for each byte, and beside these a list, and its place, at the start, in each state where indexes are found,
+    /// and at the end of the text. The look is one visit, and there is at most one more for each byte, and one for the end. It
+    /// takes no memory.
     pub fn find(&self, text: &[u8], into: &mut IndexSet, visits: &mut Visits)
-        requires { self.now.source.index_count ≤ index_room into.old }
-        ensures room { index_room into.new ≡ index_room into.old }
+        requires { self.now.source.index_count ≤ index_capacity into.old }
+        ensures room { index_capacity into.new ≡ index_capacity into.old }
         ensures found { (k : ℕ) → IsTrue (has_index into.new k) ↔ (IsReached self.now.source text.now k ⊎ IsTrue (has_index into.old k)) }
-        ensures visits { visits.new ≤ visits.old + (length text.now + 1) }
-        ensures counted { visits.old ≤ visits.new }
+        ensures visits { visits.new ≤ visits.old + (length text.now + 2) }
+        ensures counted { visits.old < visits.new }
     {
-        if self.is_excluded(text) {
+        if self.rejects_last_byte(text, visits) {
             return;
         }
         let table = self.table.as_slice();
@@ -183,15 +180,16 @@ impl Dfa {
 
     /// Returns whether a text leads to some end. It stops at the first that is found.
     ///
-    /// It reads at most one entry for each byte. Beside these it reads the length of a list, and its place, at the start, in each
-    /// state where indexes are found, and at the end of the text. It is at most one visit for each byte, and one for the end. It
-    /// takes no memory. If no text with the last byte leads to an end, it is no visit.
+    /// It looks at the last byte first: if no text with that byte leads to an end, it reads nothing more. Otherwise it reads at
+    /// most one entry for each byte, and beside these the length of a list, and its place, at the start, in each state where
+    /// indexes are found, and at the end of the text. The look is one visit, and there is at most one more for each byte, and one
+    /// for the end. It takes no memory.
     pub fn is_match(&self, text: &[u8], visits: &mut Visits) -> bool
         ensures some { IsTrue result ↔ ((k : ℕ) × IsReached self.now.source text.now k) }
-        ensures visits { visits.new ≤ visits.old + (length text.now + 1) }
-        ensures counted { visits.old ≤ visits.new }
+        ensures visits { visits.new ≤ visits.old + (length text.now + 2) }
+        ensures counted { visits.old < visits.new }
     {
-        if self.is_excluded(text) {
+        if self.rejects_last_byte(text, visits) {
             return false;
         }
         let table = self.table.as_slice();
@@ -245,10 +243,12 @@ impl Dfa {
         self.live[last / (self.width + 2)]
     }
 
-    /// Returns whether the last byte of a text shows that it leads to no end.
-    fn is_excluded(&self, text: &[u8]) -> bool
-        ensures { IsTrue result → (k : ℕ) → IsReached self.now.source text.now k → ⊥ }
+    /// Returns whether the last byte of a text shows that it leads to no end. It is one visit, also of a text that is empty.
+    fn rejects_last_byte(&self, text: &[u8], visits: &mut Visits) -> bool
+        ensures rejected { IsTrue result → (k : ℕ) → IsReached self.now.source text.now k → ⊥ }
+        ensures visits { visits.new ≡ visits.old + 1 }
     {
+        visits.tick();
         match text.split_last() {
             Some((last, _)) => !self.last_bytes.has(*last),
             None => false,

@@ -1,13 +1,13 @@
 //! The automaton that a deterministic one was made from, which contracts speak of and which takes no memory.
 
-use byte_automaton::Automaton;
+use byte_nfa::Draft;
 use std::marker::Model;
 use std::snapshot::Snapshot;
 
 /// An automaton, or what another source is. A snapshot has no bytes.
 #[derive(Drop)]
 enum Origin {
-    Of(Snapshot<Automaton>),
+    Of(Snapshot<Draft>),
     As(Snapshot<Snapshot<Origin>>),
 }
 
@@ -18,7 +18,7 @@ pub struct Source {
 }
 
 impl Model for Source {
-    ghost use Rattle.byte_automaton.specs.Steps.{Machine};
+    ghost use Rattle.byte_nfa.specs.Steps.{Machine};
 
     ghost Value = { Machine };
 
@@ -31,7 +31,7 @@ impl Source {
     ghost use Rattle.std.specs.Prelude.{◌≡◌};
 
     /// Returns an automaton as it is.
-    pub fn of(automaton: &Automaton) -> Source
+    pub fn of(automaton: &Draft) -> Source
         ensures { result ≡ automaton.now }
     {
         Source {

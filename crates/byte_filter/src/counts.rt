@@ -4,7 +4,7 @@ ghost use Rattle.std.specs.Prelude.{◌<◌, ◌≤◌, length};
 ghost use Rattle.byte_filter.specs.inner.Others.{AreOfSome};
 
 use crate::filter::Signs;
-use crate::hashing::{MOST_PLACES, place};
+use crate::hashing::{MAX_PLACES, place};
 use crate::signature::{ANY_TEXT, sign};
 use crate::window::LONG;
 use std::alloc::{AllocError, Global};
@@ -13,7 +13,7 @@ use std::alloc::{AllocError, Global};
 pub struct Counts {
     counts: Vec<u32>,
     ghost some: { 0 < length counts.items },
-    ghost most: { length counts.items ≤ 4294967296 },
+    ghost maximum: { length counts.items ≤ 4294967296 },
 }
 
 impl Drop for Counts {
@@ -29,7 +29,7 @@ impl Counts {
 
     /// Returns counts for the windows of so many starts. Returns an error if memory runs out.
     pub fn new(alloc: Global, starts: usize) -> Result<Counts, AllocError> {
-        let places = starts.clamp(1, MOST_PLACES / 8) * 8;
+        let places = starts.clamp(1, MAX_PLACES / 8) * 8;
         Ok(Counts {
             counts: vec![in alloc; 0u32; places]?,
         })

@@ -1,12 +1,12 @@
 //! A filter: parts under the keys of windows.
 
 ghost use Rattle.std.specs.Prelude.{◌≡◌, ℕ, List, ◌+◌, ◌*◌, ◌%◌, ◌<◌, ◌≤◌, ◌⊎◌, ◌↔◌, ◌++◌, ◌∷◌, [], length, IsTrue, IfOk, OnOk, OnErr};
-ghost use Rattle.bit_sets.specs.Indexes.{has_index, index_room};
+ghost use Rattle.bit_sets.specs.Indexes.{has_index, index_capacity};
 ghost use Rattle.byte_filter.specs.Entries.{entry, HasEntry, ArePartsBelow, IsNamed};
 ghost use Rattle.byte_filter.specs.Signs.{AreSigned};
 ghost use Rattle.byte_filter.specs.inner.Signatures.{IsOf};
 
-use crate::hashing::{MOST_PLACES, place};
+use crate::hashing::{MAX_PLACES, place};
 use crate::key_bits::KeyBits;
 use crate::rolling::{first_key, next_key};
 use crate::signature::Signature;
@@ -100,7 +100,7 @@ impl Filter {
     pub fn new(alloc: Global, entries: usize) -> Result<Filter, AllocError>
         ensures { IfOk result (λ filter. filter ≡ []) }
     {
-        let slots = entries.clamp(1, MOST_PLACES / 3) * 3;
+        let slots = entries.clamp(1, MAX_PLACES / 3) * 3;
         Ok(Filter {
             keys: KeyBits::new(alloc, entries)?,
             heads: vec![in alloc; 0u32; slots]?,
@@ -145,8 +145,8 @@ impl Filter {
     ///
     /// For each byte it is at most four visits, and two for each entry.
     pub fn mark(&self, text: &[u8], marks: &mut IndexSet, visits: &mut Visits)
-        requires { ArePartsBelow (index_room marks.old) self.now }
-        ensures room { index_room marks.new ≡ index_room marks.old }
+        requires { ArePartsBelow (index_capacity marks.old) self.now }
+        ensures room { index_capacity marks.new ≡ index_capacity marks.old }
         ensures marks { (k : ℕ) → IsTrue (has_index marks.new k) ↔ (IsNamed self.now text.now k ⊎ IsTrue (has_index marks.old k)) }
         ensures visits { visits.new ≤ visits.old + length text.now * (2 * (2 + length self.now)) }
         ensures counted { visits.old ≤ visits.new }
@@ -174,10 +174,10 @@ impl Filter {
         marks: &mut IndexSet,
         visits: &mut Visits,
     )
-        requires room { ArePartsBelow (index_room marks.old) self.now }
+        requires room { ArePartsBelow (index_capacity marks.old) self.now }
         requires of { IsOf text.now signature.old }
         ensures of { IsOf text.now signature.new }
-        ensures room { index_room marks.new ≡ index_room marks.old }
+        ensures room { index_capacity marks.new ≡ index_capacity marks.old }
         ensures marks { (k : ℕ) → IsTrue (has_index marks.new k) ↔ (HasEntry self.now text.now (key % 16777216) k ⊎ IsTrue (has_index marks.old k)) }
         ensures visits { visits.new ≤ visits.old + (2 + length self.now) }
         ensures counted { visits.old ≤ visits.new }
@@ -196,10 +196,10 @@ impl Filter {
         marks: &mut IndexSet,
         visits: &mut Visits,
     )
-        requires room { ArePartsBelow (index_room marks.old) self.now }
+        requires room { ArePartsBelow (index_capacity marks.old) self.now }
         requires of { IsOf text.now signature.old }
         ensures of { IsOf text.now signature.new }
-        ensures room { index_room marks.new ≡ index_room marks.old }
+        ensures room { index_capacity marks.new ≡ index_capacity marks.old }
         ensures marks { (k : ℕ) → IsTrue (has_index marks.new k) ↔ (HasEntry self.now text.now key k ⊎ IsTrue (has_index marks.old k)) }
         ensures visits { visits.new ≤ visits.old + (2 + length self.now) }
         ensures counted { visits.old ≤ visits.new }
@@ -219,10 +219,10 @@ impl Filter {
         marks: &mut IndexSet,
         visits: &mut Visits,
     )
-        requires room { ArePartsBelow (index_room marks.old) self.now }
+        requires room { ArePartsBelow (index_capacity marks.old) self.now }
         requires of { IsOf text.now signature.old }
         ensures of { IsOf text.now signature.new }
-        ensures room { index_room marks.new ≡ index_room marks.old }
+        ensures room { index_capacity marks.new ≡ index_capacity marks.old }
         ensures marks { (k : ℕ) → IsTrue (has_index marks.new k) ↔ (HasEntry self.now text.now key k ⊎ IsTrue (has_index marks.old k)) }
         ensures visits { visits.new ≤ visits.old + (1 + length self.now) }
         ensures counted { visits.old ≤ visits.new }

@@ -4,7 +4,7 @@ ghost use Rattle.std.specs.Prelude.{◌≡◌, ℕ, ◌<◌, ◌≤◌};
 ghost use Rattle.byte_filter.specs.Hashes.{place_of};
 
 /// A hash has 32 bits, so it tells no more places than these apart.
-pub const MOST_PLACES: usize = 4_294_967_296;
+pub const MAX_PLACES: usize = 4_294_967_296;
 
 /// Returns a number below `count`, by a hash of a key.
 ///
@@ -12,10 +12,10 @@ pub const MOST_PLACES: usize = 4_294_967_296;
 #[tactic(auto, unfolding(crate::specs::Hashes::place_of), using(crate::proofs::lemmas::Hashes::place_below))]
 pub fn place(key: u32, count: usize) -> usize
     requires some { 0 < count }
-    requires most { count ≤ 4294967296 }
+    requires maximum { count ≤ 4294967296 }
     ensures is { result ≡ place_of count key }
     ensures within { result < count }
 {
-    let hash = key as usize * 2_654_435_761 % MOST_PLACES;
-    hash * count / MOST_PLACES
+    let hash = key as usize * 2_654_435_761 % MAX_PLACES;
+    hash * count / MAX_PLACES
 }

@@ -2,7 +2,7 @@
 
 ghost use Rattle.std.specs.Prelude.{◌≡◌, ◌*◌, ◌<◌, ◌≤◌, length};
 
-use crate::hashing::{MOST_PLACES, place};
+use crate::hashing::{MAX_PLACES, place};
 use bit_sets::words::{has_bit, set_bit};
 use std::alloc::{AllocError, Global};
 
@@ -10,7 +10,7 @@ use std::alloc::{AllocError, Global};
 pub struct KeyBits {
     words: Vec<u64>,
     ghost some: { 0 < length words.items },
-    ghost most: { 64 * length words.items ≤ 4294967296 },
+    ghost maximum: { 64 * length words.items ≤ 4294967296 },
 }
 
 impl Drop for KeyBits {
@@ -38,7 +38,7 @@ impl KeyBits {
 
     /// Returns a set of no keys, with 64 bits for each of so many. Returns an error if memory runs out.
     pub fn new(alloc: Global, keys: usize) -> Result<KeyBits, AllocError> {
-        let words = keys.clamp(1, MOST_PLACES / 64);
+        let words = keys.clamp(1, MAX_PLACES / 64);
         Ok(KeyBits {
             words: vec![in alloc; 0u64; words]?,
         })

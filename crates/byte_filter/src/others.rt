@@ -3,7 +3,7 @@
 ghost use Rattle.std.specs.Prelude.{◌≡◌, ℕ, ◌<◌, ◌≤◌, length, slice_index, IsTrue};
 ghost use Rattle.bit_sets.specs.Bits.{bit_of};
 ghost use Rattle.bit_sets.specs.Bytes.{folded};
-ghost use Rattle.bit_sets.specs.Indexes.{has_index, index_room};
+ghost use Rattle.bit_sets.specs.Indexes.{has_index, index_capacity};
 ghost use Rattle.byte_filter.specs.Others.{AreOthersBelow, IsOther};
 ghost use Rattle.byte_filter.specs.inner.Others.{HasBytes};
 
@@ -23,8 +23,8 @@ pub struct OtherStart {
 
 /// Puts the number of each start whose bytes a text has into a set, beside what it holds.
 pub fn mark_others(others: &[OtherStart], text: &[u8], marks: &mut IndexSet)
-    requires { AreOthersBelow (index_room marks.old) others.now }
-    ensures room { index_room marks.new ≡ index_room marks.old }
+    requires { AreOthersBelow (index_capacity marks.old) others.now }
+    ensures room { index_capacity marks.new ≡ index_capacity marks.old }
     ensures kept { (k : ℕ) → IsTrue (has_index marks.old k) → IsTrue (has_index marks.new k) }
     ensures marks { (i : ℕ) → IsOther others.now text.now i → IsTrue (has_index marks.new i) }
 {

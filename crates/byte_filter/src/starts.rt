@@ -1,8 +1,8 @@
 //! A filter for the starts of an automaton.
 
 ghost use Rattle.std.specs.Prelude.{◌≡◌, ℕ, ◌+◌, ◌*◌, ◌<◌, ◌≤◌, ◌⊎◌, ◌↔◌, length, slice_index, Contains, IsTrue, IfOk, IfSome, OnOk, MatchOption};
-ghost use Rattle.bit_sets.specs.Indexes.{has_index, index_room};
-ghost use Rattle.byte_automaton.specs.Steps.{Accepts, IsReached, Machine};
+ghost use Rattle.bit_sets.specs.Indexes.{has_index, index_capacity};
+ghost use Rattle.byte_nfa.specs.Steps.{Accepts, IsReached, Machine};
 ghost use Rattle.byte_filter.specs.Entries.{ArePartsBelow};
 ghost use Rattle.byte_filter.specs.Others.{AreOthersBelow};
 ghost use Rattle.byte_filter.specs.Starts.{IsGuarded, IsFilterOf, IsReachedMarked};
@@ -14,7 +14,7 @@ use crate::filter::Filter;
 use crate::others::{OtherStart, mark_others};
 use crate::window::{StartWindows, find_required, forced_bytes};
 use bit_sets::IndexSet;
-use byte_automaton::Automaton;
+use byte_nfa::Draft;
 use std::alloc::{AllocError, Global};
 use std::marker::Model;
 use visits::Visits;
@@ -73,7 +73,7 @@ impl StartFilter {
     /// little to leave out. Returns an error if memory runs out.
     ///
     /// It reads the states below each start down to an end, twice.
-    pub fn new(alloc: Global, automaton: &Automaton) -> Result<Option<StartFilter>, AllocError>
+    pub fn new(alloc: Global, automaton: &Draft) -> Result<Option<StartFilter>, AllocError>
         ensures { IfOk result (λ made. IfSome made (λ filter. IsFilterOf automaton.now filter)) }
     {
         let count = automaton.starts().len();
@@ -115,8 +115,8 @@ impl StartFilter {
     /// From the marked starts the text leads to the ends that it leads to from all. It is at most three visits for each byte and
     /// start.
     pub fn mark(&self, text: &[u8], marks: &mut IndexSet, visits: &mut Visits)
-        requires { self.now.count ≤ index_room marks.old }
-        ensures room { index_room marks.new ≡ index_room marks.old }
+        requires { self.now.count ≤ index_capacity marks.old }
+        ensures room { index_capacity marks.new ≡ index_capacity marks.old }
         ensures kept { (i : ℕ) → IsTrue (has_index marks.old i) → IsTrue (has_index marks.new i) }
         ensures marks { (m : Machine) → IsFilterOf m self.now → (i k : ℕ) → i < length m.starts → Accepts m.states k (slice_index m.starts i) text.now → IsTrue (has_index marks.new i) }
         ensures exact { (m : Machine) → IsFilterOf m self.now → (k : ℕ) → IsReached m text.now k ↔ IsReachedMarked m marks.new text.now k }
@@ -131,7 +131,7 @@ impl StartFilter {
 /// Counts the windows of all starts of an automaton. `bytes` has the byte that each state forces, and `windows` is room to work in.
 fn counted(
     alloc: Global,
-    automaton: &Automaton,
+    automaton: &Draft,
     bytes: &[u8],
     windows: &mut StartWindows,
 ) -> Result<Counts, AllocError>

@@ -1,13 +1,13 @@
 //! Windows that every text has which leads from a state to an end.
 
 ghost use Rattle.std.specs.Prelude.{◌≡◌, ℕ, ◌+◌, ◌*◌, ◌<◌, ◌≤◌, length, IfOk, OnOk, MatchOption};
-ghost use Rattle.byte_automaton.specs.Forcing.{Forces};
-ghost use Rattle.byte_automaton.specs.Runs.{size};
-ghost use Rattle.byte_automaton.specs.Steps.{Machine, state};
+ghost use Rattle.byte_nfa.specs.Forcing.{Forces};
+ghost use Rattle.byte_nfa.specs.Runs.{size};
+ghost use Rattle.byte_nfa.specs.Steps.{Machine, state};
 ghost use Rattle.byte_filter.specs.inner.Cuts.{AreForced, AreRequired, ReadsThree, Stands};
 ghost use Rattle.byte_filter.specs.inner.Others.{AreRequiredBytes};
 
-use byte_automaton::Automaton;
+use byte_nfa::Draft;
 use std::alloc::{AllocError, Global};
 
 /// The keys of windows of four bytes are not below this, and those of three bytes are. A folded byte is not 0.
@@ -36,7 +36,7 @@ impl StartWindows {
 }
 
 /// Returns the byte that each state forces, folded, or 0 where it forces none. Returns an error if memory runs out.
-pub fn forced_bytes(alloc: Global, automaton: &Automaton) -> Result<Vec<u8>, AllocError>
+pub fn forced_bytes(alloc: Global, automaton: &Draft) -> Result<Vec<u8>, AllocError>
     ensures { IfOk result (λ bytes. AreForced automaton.now bytes.items) }
 {
     let mut bytes = Vec::new(alloc);
@@ -47,7 +47,7 @@ pub fn forced_bytes(alloc: Global, automaton: &Automaton) -> Result<Vec<u8>, All
 }
 
 /// Returns the byte that a state forces, folded, or 0 if it forces none.
-fn forced_byte(automaton: &Automaton, s: usize) -> u8
+fn forced_byte(automaton: &Draft, s: usize) -> u8
     requires { s < size automaton.now }
     ensures { 0 < result → Forces (state automaton.now.states s) s result }
 {
@@ -62,7 +62,7 @@ fn forced_byte(automaton: &Automaton, s: usize) -> u8
 ///
 /// It reads the states from `start` down to an end.
 pub fn find_required(
-    automaton: &Automaton,
+    automaton: &Draft,
     bytes: &[u8],
     start: usize,
     windows: &mut StartWindows,
@@ -96,7 +96,7 @@ pub fn find_required(
 /// Pushes what the state `s` forces, if every text comes to `s`: if no state above it goes on to one below `least`, and `s` is not
 /// above that.
 fn push_required(
-    automaton: &Automaton,
+    automaton: &Draft,
     bytes: &[u8],
     start: usize,
     least: usize,
@@ -120,7 +120,7 @@ fn push_required(
 /// Pushes the byte that the state `s` forces, if it is not 0. Every text comes to `s`: no state above it goes on to one below
 /// `least`, and `s` is not above that.
 fn push_byte(
-    automaton: &Automaton,
+    automaton: &Draft,
     byte: u8,
     start: usize,
     least: usize,
@@ -128,7 +128,7 @@ fn push_byte(
     bytes: &mut Vec<u8>,
 ) -> Result<(), AllocError>
     requires forced { 0 < byte → Forces (state automaton.now.states s) s byte }
-    requires upto { s ≤ least }
+    requires limit { s ≤ least }
     requires order { s ≤ start }
     requires stands { (t : ℕ) → s < t → t ≤ start → Stands automaton.now.states least t }
     ensures { OnOk result (AreRequiredBytes automaton.now start bytes.old.items → AreRequiredBytes automaton.now start bytes.new.items) }
@@ -141,7 +141,7 @@ fn push_byte(
 
 /// Pushes the keys of the windows that the state `s` forces. Every text comes to `s`, as for `push_byte`.
 fn push_windows(
-    automaton: &Automaton,
+    automaton: &Draft,
     bytes: &[u8],
     start: usize,
     least: usize,
@@ -150,7 +150,7 @@ fn push_windows(
 ) -> Result<(), AllocError>
     requires bytes { AreForced automaton.now bytes.now }
     requires within { s < size automaton.now }
-    requires upto { s ≤ least }
+    requires limit { s ≤ least }
     requires order { s ≤ start }
     requires stands { (t : ℕ) → s < t → t ≤ start → Stands automaton.now.states least t }
     ensures bytes { windows.new.bytes ≡ windows.old.bytes }

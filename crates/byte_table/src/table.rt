@@ -35,11 +35,11 @@ impl Model for Table {
 
     ghost Value = { List Entry };
 
-    ghost use Rattle.byte_table.specs.inner.Lists.{Holds};
+    ghost use Rattle.byte_table.specs.inner.Lists.{PassInvariant};
 
     ghost view = { λ t. t.entries };
 
-    ghost invariant = { λ t. Holds t.lists t.count t.entries };
+    ghost invariant = { λ t. PassInvariant t.lists t.count t.entries };
 }
 
 impl Clone for Table {

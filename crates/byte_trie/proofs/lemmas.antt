@@ -1,5 +1,5 @@
 pub mod Walks
-pub mod Sides
+pub mod Anchors
 pub mod Ranges
 pub mod Children
 pub mod Spans

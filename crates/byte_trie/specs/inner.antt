@@ -1,4 +1,4 @@
-pub mod Sides
+pub mod Anchors
 pub mod Nodes
-pub mod Holds
+pub mod PassInvariant
 pub mod Building

@@ -4,13 +4,13 @@
 //! text goes on as the path does.
 #![tactic(auto)]
 
+mod anchor;
 pub mod laws;
-mod side;
 mod text;
 mod tree;
 mod trie;
 mod walk;
 
-pub use side::Side;
+pub use anchor::Anchor;
 pub use text::Text;
 pub use trie::Trie;

@@ -1,13 +1,13 @@
 //! A trie.
 
 ghost use Rattle.std.specs.Prelude.{◌≡◌, ◌≢◌, ℕ, ◌+◌, ◌≤◌, ◌↔◌, [], List, map, length, IsTrue, IfOk};
-ghost use Rattle.bit_sets.specs.Indexes.{index_room, HasAlso};
+ghost use Rattle.bit_sets.specs.Indexes.{index_capacity, HasAlso};
 ghost use Rattle.byte_table.specs.Entries.{indexes_under};
 ghost use Rattle.byte_trie.specs.Texts.{found, entry_of};
 ghost use Rattle.byte_trie.specs.inner.Building.{IsOrdered};
-ghost use Rattle.byte_trie.specs.inner.Sides.{entry_from_side};
+ghost use Rattle.byte_trie.specs.inner.Anchors.{entry_from_anchor};
 
-use crate::side::Side;
+use crate::anchor::Anchor;
 use crate::text::Text;
 use crate::tree::Tree;
 use crate::walk;
@@ -20,7 +20,7 @@ use visits::Visits;
 /// Texts with indexes, which are looked for at one side of a path.
 pub struct Trie {
     tree: Tree,
-    side: Side,
+    anchor: Anchor,
     count: usize,
     entries: Entries,
 }
@@ -30,7 +30,7 @@ impl Drop for Trie {
     fn drop(self) {
         let Trie {
             tree: _,
-            side: _,
+            anchor: _,
             count: _,
             entries: _,
         } = self;
@@ -42,11 +42,11 @@ impl Model for Trie {
 
     ghost Value = { Texts };
 
-    ghost use Rattle.byte_trie.specs.inner.Holds.{Holds};
+    ghost use Rattle.byte_trie.specs.inner.PassInvariant.{PassInvariant};
 
-    ghost view = { λ t. record { side = t.side; entries = t.entries } };
+    ghost view = { λ t. record { anchor = t.anchor; entries = t.entries } };
 
-    ghost invariant = { λ t. Holds t.tree t.side t.count t.entries };
+    ghost invariant = { λ t. PassInvariant t.tree t.anchor t.count t.entries };
 }
 
 impl Clone for Trie {
@@ -56,7 +56,7 @@ impl Clone for Trie {
     fn clone(&self) -> Result<Trie, AllocError> {
         Ok(Trie {
             tree: self.tree.clone()?,
-            side: self.side,
+            anchor: self.anchor,
             count: self.count,
             entries: self.entries.copy(),
         })
@@ -67,15 +67,15 @@ impl Trie {
     /// Returns a trie of texts, which are looked for at a side of a path.
     ///
     /// Returns an error if memory runs out. The time is linear in the bytes of all texts, except that the texts are sorted.
-    pub fn new(alloc: Global, side: Side, texts: Vec<Text>) -> Result<Trie, AllocError>
-        ensures { IfOk result (λ t. t ≡ record { side = side; entries = map entry_of texts.items }) }
+    pub fn new(alloc: Global, anchor: Anchor, texts: Vec<Text>) -> Result<Trie, AllocError>
+        ensures { IfOk result (λ t. t ≡ record { anchor = anchor; entries = map entry_of texts.items }) }
     {
         let count = texts.len();
         let entries = entries_of(&texts);
-        let sorted = sorted(side, texts)?;
+        let sorted = sorted(anchor, texts)?;
         Ok(Trie {
             tree: Tree::build(alloc, &sorted)?,
-            side,
+            anchor,
             count,
             entries,
         })
@@ -86,7 +86,7 @@ impl Trie {
     ///
     /// It is at most one visit for each byte of the path, and one more.
     pub fn find(&self, path: &[u8], into: &mut IndexSet, visits: &mut Visits)
-        ensures room { index_room into.new ≡ index_room into.old }
+        ensures room { index_capacity into.new ≡ index_capacity into.old }
         ensures found { HasAlso into.old into.new (found self.now path.now) }
         ensures visits { visits.new ≤ visits.old + (length path.now + 1) }
         ensures counted { visits.old ≤ visits.new }
@@ -94,7 +94,7 @@ impl Trie {
         if self.count == 0 {
             return;
         }
-        walk::find(&self.tree, self.side, path, into, visits);
+        walk::find(&self.tree, self.anchor, path, into, visits);
     }
 
     /// Returns whether the path begins or ends with some text. It stops at the first, and takes no memory.
@@ -108,7 +108,7 @@ impl Trie {
         if self.count == 0 {
             return false;
         }
-        walk::has_some(&self.tree, self.side, path, visits)
+        walk::has_some(&self.tree, self.anchor, path, visits)
     }
 
     /// Returns how many indexes of texts the path begins or ends with, each as often as it was given. It takes no memory.
@@ -122,7 +122,7 @@ impl Trie {
         if self.count == 0 {
             return 0;
         }
-        walk::count(&self.tree, self.side, path, visits)
+        walk::count(&self.tree, self.anchor, path, visits)
     }
 }
 
@@ -138,13 +138,13 @@ fn entries_of(texts: &[Text]) -> Entries
 }
 
 /// Returns texts as they are read from a side of a path, in order.
-fn sorted(side: Side, mut texts: Vec<Text>) -> Result<Vec<Text>, AllocError>
+fn sorted(anchor: Anchor, mut texts: Vec<Text>) -> Result<Vec<Text>, AllocError>
     ensures order { IfOk result (λ v. IsOrdered v.items 0 0 (length v.items)) }
-    ensures same { IfOk result (λ v. (w : List ℕ) → indexes_under (map entry_of v.items) w ≡ indexes_under (map (entry_from_side side) (map entry_of texts.items)) w) }
+    ensures same { IfOk result (λ v. (w : List ℕ) → indexes_under (map entry_of v.items) w ≡ indexes_under (map (entry_from_anchor anchor) (map entry_of texts.items)) w) }
 {
-    match side {
-        Side::Beginning => {}
-        Side::End => reverse_all(&mut texts),
+    match anchor {
+        Anchor::Start => {}
+        Anchor::End => reverse_all(&mut texts),
     }
     texts.sort_by(|a, b| a.bytes.cmp(&b.bytes))?;
     Ok(texts)
@@ -152,7 +152,7 @@ fn sorted(side: Side, mut texts: Vec<Text>) -> Result<Vec<Text>, AllocError>
 
 /// Reverses each text.
 fn reverse_all(texts: &mut [Text])
-    ensures { map entry_of texts.new ≡ map (entry_from_side Side.End) (map entry_of texts.old) }
+    ensures { map entry_of texts.new ≡ map (entry_from_anchor Anchor.End) (map entry_of texts.old) }
 {
     for text in texts.iter_mut() {
         text.bytes.reverse();

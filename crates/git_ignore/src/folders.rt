@@ -1,8 +1,7 @@
 //! What the rules of a file say of all folders above a path, in one pass over it.
 
 ghost use Rattle.std.specs.Prelude.{◌≡◌, ℕ, List, OnOk, OnErr};
-ghost use Rattle.globset.specs.Means.{GlobValue};
-ghost use Rattle.glob_prefixes.specs.Prefixes.{FitsPrefixes, IsAfter, IsPrefixMatcherOf};
+ghost use Rattle.glob_prefixes.specs.Prefixes.{FitsPrefixes, IsAfter};
 ghost use Rattle.git_ignore.specs.FolderDecisions.{ArePut};
 ghost use Rattle.git_ignore.specs.inner.FolderParts.{put_at, said_of_folder};
 
@@ -24,8 +23,7 @@ pub fn put_decisions(
     start: usize,
     decisions: &mut [Decision],
 ) -> Result<(), AllocError>
-    ensures put { OnOk result ((globs : List GlobValue) → IsPrefixMatcherOf globs prefixes.now →
-        ArePut (said_of_folder globs entries.now) path.now start decisions.old decisions.new) }
+    ensures put { OnOk result (ArePut (said_of_folder prefixes.now.globs entries.now) path.now start decisions.old decisions.new) }
     ensures kept { OnErr result (decisions.new ≡ decisions.old) }
 {
     let mut states = PrefixStates::new(alloc, prefixes)?;
@@ -47,8 +45,7 @@ fn next_decision(
     before: Decision,
 ) -> Decision
     requires { FitsPrefixes states.old prefixes.now }
-    ensures decision { (globs : List GlobValue) → IsPrefixMatcherOf globs prefixes.now → (read : List ℕ) → IsAfter prefixes.now states.old read →
-        result ≡ put_at byte before (said_of_folder globs entries.now read) }
+    ensures decision { (read : List ℕ) → IsAfter prefixes.now states.old read → result ≡ put_at byte before (said_of_folder prefixes.now.globs entries.now read) }
     ensures same { (read : List ℕ) → IsAfter prefixes.now states.old read → IsAfter prefixes.now states.new read }
     ensures fits { FitsPrefixes states.new prefixes.now }
 {

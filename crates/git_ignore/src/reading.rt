@@ -3,8 +3,7 @@
 ghost use Rattle.std.specs.Prelude.{◌≡◌, ◌<◌, ◌++◌, ◌∷◌, [], ◌+◌, ◌≤◌, ◌^◌, List, length, IfErr, IfOk, OnOk};
 ghost use Rattle.globset.specs.Errors.{out_of_memory};
 ghost use Rattle.globset.specs.SetValue.{set_globs};
-ghost use Rattle.glob_prefixes.specs.Prefixes.{IsPrefixMatcherOf};
-ghost use Rattle.ignore_pattern.specs.Lines.{lines_of, without_mark};
+ghost use Rattle.ignore_pattern.specs.Lines.{lines_of, without_lexeme};
 ghost use Rattle.ignore_pattern.specs.Patterns.{pattern_of_line};
 ghost use Rattle.git_ignore.specs.Rules.{Rule, rules_from};
 ghost use Rattle.git_ignore.specs.inner.Entries.{AreEntriesOf, rule_at};
@@ -127,7 +126,7 @@ impl RulesBuilder {
 
 /// Returns a matcher of globs that answers for each prefix of a path. Returns an error if memory runs out.
 pub fn prefix_matcher(alloc: Global, globs: &[Glob]) -> Result<PrefixMatcher, AllocError>
-    ensures { IfOk result (λ m. IsPrefixMatcherOf globs.now m) }
+    ensures { IfOk result (λ m. m.globs ≡ globs.now) }
 {
     let mut builder = PrefixMatcherBuilder::new(alloc, globs.len());
     for glob in globs {
@@ -150,7 +149,7 @@ pub fn set_of(alloc: Global, globs: Vec<Glob>) -> Result<GlobSet, Error>
 
 /// Returns the bytes of a file without a byte order mark at their start.
 pub fn after_mark(bytes: &[u8]) -> &[u8]
-    ensures { result.now ≡ without_mark bytes.now }
+    ensures { result.now ≡ without_lexeme bytes.now }
 {
     match bytes.strip_prefix(BYTE_ORDER_MARK) {
         Some(rest) => rest,

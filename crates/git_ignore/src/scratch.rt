@@ -67,7 +67,7 @@ impl IgnoreScratch {
         ensures fits { OnOk result (FitsRules self.new rules.now) }
         ensures others { FitsAsBefore self.old self.new }
         ensures kept { OnErr result (self.new ≡ self.old) }
-        ensures memory { FitsRules self.old rules.now → IsOk result }
+        ensures succeeds_if_fits { FitsRules self.old rules.now → IsOk result }
         ensures err { IfErr result (λ e. e ≡ out_of_memory) }
     {
         let set = rules.set();

@@ -6,14 +6,14 @@ use byte_dfa::Dfa;
 pub const DEFAULT_DFA_SIZE_LIMIT: usize = 1 << 24;
 
 /// The most numbers that are made for tables, with those of tables that are given up, however few bytes may be kept.
-const MOST_NUMBERS: usize = 1 << 22;
+const MAX_NUMBERS: usize = 1 << 22;
 
 /// The bytes that a number of a table takes. One of a list takes more.
 const BYTES_PER_NUMBER: usize = 4;
 
 /// The most parts that are tried. With so many automata that each has few globs, such as one for each extension, few are run for
 /// a path, and simulating those takes less time than making a table for each.
-const MOST_PARTS: usize = 512;
+const MAX_PARTS: usize = 512;
 
 /// What the deterministic parts of all automata of a set may still take together.
 #[derive(Clone, Copy)]
@@ -34,8 +34,8 @@ impl Budget {
         Budget {
             simulates_all: dfa_size_limit == 0,
             bytes: dfa_size_limit,
-            numbers: MOST_NUMBERS.max(dfa_size_limit / BYTES_PER_NUMBER),
-            parts: MOST_PARTS,
+            numbers: MAX_NUMBERS.max(dfa_size_limit / BYTES_PER_NUMBER),
+            parts: MAX_PARTS,
         }
     }
 
@@ -45,7 +45,7 @@ impl Budget {
     }
 
     /// Returns how many numbers a part may have that has at most so many by itself, or 0 if it may not be tried.
-    pub(crate) fn most_numbers(self, numbers: usize) -> usize {
+    pub(crate) fn max_numbers(self, numbers: usize) -> usize {
         if self.parts == 0 || numbers > self.numbers {
             return 0;
         }

@@ -1,28 +1,28 @@
 //! Automata as they are run over paths.
 
 ghost use Rattle.std.specs.Prelude.{◌≡◌, ◌+◌, ◌*◌, ◌≤◌, ◌↔◌, ◌⊎◌, ◌++◌, ◌∷◌, [], ℕ, List, length, IsTrue, IsOk, OnOk, IfOk};
-ghost use Rattle.byte_automaton.specs.Runs.{size, most_reads};
-ghost use Rattle.bit_sets.specs.Indexes.{has_index, index_room};
-ghost use Rattle.byte_automaton.specs.Sets.{sets_room};
-ghost use Rattle.glob_automaton.specs.After.{SomeMeanAfter};
-ghost use Rattle.glob_automaton.specs.IndexedTokens.{IndexedTokens, IsFor, SomeMatches};
+ghost use Rattle.byte_nfa.specs.Runs.{size, max_reads};
+ghost use Rattle.bit_sets.specs.Indexes.{has_index, index_capacity};
+ghost use Rattle.byte_nfa.specs.Sets.{sets_capacity};
+ghost use Rattle.glob_nfa.specs.After.{SomeMeanAfter};
+ghost use Rattle.glob_nfa.specs.IndexedTokens.{IndexedTokens, IsFor, SomeMatches};
 
 use crate::budget::Budget;
-use crate::division::{divided, joint};
 use crate::filtered::{Filtered, filter_for};
+use crate::partition::{joint, partitioned};
 use crate::parts::Parts;
 use crate::simulation;
 use bit_sets::IndexSet;
-use byte_automaton::{Automaton, StateSets};
+use byte_nfa::{Draft, Nfa, StateSets};
 use std::alloc::{AllocError, Global};
 use std::marker::Model;
 use visits::Visits;
 
 /// How an automaton is run: simulated as a whole, in parts, or from the starts that a filter names.
 #[derive(Drop)]
-enum Form {
-    Whole(Automaton),
-    Divided(Parts),
+enum Strategy {
+    Whole(Nfa),
+    Partitioned(Parts),
     /// It is twice as large as the others, and few sets have one.
     Filtered(Box<Filtered>),
 }
@@ -30,23 +30,23 @@ enum Form {
 /// An automaton as it is run, in parts that are deterministic where they are not too large: running these takes less time for
 /// each byte, and no memory. Contracts see the automaton.
 pub struct Compiled {
-    form: Form,
+    strategy: Strategy,
 }
 
 impl Drop for Compiled {
     // One call wherever a value is dropped, which keeps proofs short.
     fn drop(self) {
-        let Compiled { form: _ } = self;
+        let Compiled { strategy: _ } = self;
     }
 }
 
 impl Model for Compiled {
-    ghost use Rattle.byte_automaton.specs.Steps.{Machine};
+    ghost use Rattle.byte_nfa.specs.Steps.{Machine};
     ghost use Rattle.glob_matching.specs.inner.Compiled.{machine_of};
 
     ghost Value = { Machine };
 
-    ghost view = { λ c. machine_of c.form };
+    ghost view = { λ c. machine_of c.strategy };
 }
 
 impl Clone for Compiled {
@@ -54,12 +54,12 @@ impl Clone for Compiled {
 
     /// Returns a copy. Returns an error if memory runs out.
     fn clone(&self) -> Result<Compiled, AllocError> {
-        let form = match &self.form {
-            Form::Whole(automaton) => Form::Whole(automaton.clone()?),
-            Form::Divided(parts) => Form::Divided(parts.clone()?),
-            Form::Filtered(filtered) => Form::Filtered(filtered.clone()?),
+        let strategy = match &self.strategy {
+            Strategy::Whole(automaton) => Strategy::Whole(automaton.clone()?),
+            Strategy::Partitioned(parts) => Strategy::Partitioned(parts.clone()?),
+            Strategy::Filtered(filtered) => Strategy::Filtered(filtered.clone()?),
         };
-        Ok(Compiled { form })
+        Ok(Compiled { strategy })
     }
 }
 
@@ -76,54 +76,50 @@ impl Compiled {
     /// states, up to the factors of these limits.
     ///
     /// With a budget of no bytes the automaton is simulated as a whole.
-    pub fn new(
-        alloc: Global,
-        budget: &mut Budget,
-        automaton: Automaton,
-    ) -> Result<Compiled, AllocError>
+    pub fn new(alloc: Global, budget: &mut Budget, automaton: Draft) -> Result<Compiled, AllocError>
         ensures { IfOk result (λ c. c ≡ automaton) }
     {
         if !is_large(*budget, &automaton) {
-            return Compiled::divided(alloc, budget, automaton);
+            return Compiled::partitioned(alloc, budget, automaton);
         }
         if let Some(parts) = joint(alloc, budget, &automaton)? {
             return Ok(Compiled {
-                form: Form::Divided(parts),
+                strategy: Strategy::Partitioned(parts),
             });
         }
         match filter_for(alloc, &automaton)? {
             Some(filter) => Ok(Compiled {
-                form: Form::Filtered(Box::new(
+                strategy: Strategy::Filtered(Box::new(
                     alloc,
                     Filtered::of(automaton.with_blocks()?, filter),
                 )?),
             }),
-            None => Compiled::divided(alloc, budget, automaton),
+            None => Compiled::partitioned(alloc, budget, automaton),
         }
     }
 
     /// Returns an automaton in parts, as far as the budget allows it deterministic ones. Returns an error if memory runs out.
-    fn divided(
+    fn partitioned(
         alloc: Global,
         budget: &mut Budget,
-        automaton: Automaton,
+        automaton: Draft,
     ) -> Result<Compiled, AllocError>
         ensures { IfOk result (λ c. c ≡ automaton) }
     {
-        match divided(alloc, budget, &automaton)? {
+        match partitioned(alloc, budget, &automaton)? {
             Some(parts) => Ok(Compiled {
-                form: Form::Divided(parts),
+                strategy: Strategy::Partitioned(parts),
             }),
             None => Ok(Compiled::simulated(automaton.with_blocks()?)),
         }
     }
 
     /// Returns an automaton that is simulated as a whole. It allocates nothing.
-    pub fn simulated(automaton: Automaton) -> Compiled
+    pub fn simulated(automaton: Nfa) -> Compiled
         ensures { result ≡ automaton }
     {
         Compiled {
-            form: Form::Whole(automaton),
+            strategy: Strategy::Whole(automaton),
         }
     }
 
@@ -131,18 +127,18 @@ impl Compiled {
     pub fn state_count(&self) -> usize
         ensures { result ≡ size self.now }
     {
-        match &self.form {
-            Form::Whole(automaton) => automaton.state_count(),
-            Form::Divided(parts) => parts.state_count(),
-            Form::Filtered(filtered) => filtered.state_count(),
+        match &self.strategy {
+            Strategy::Whole(automaton) => automaton.state_count(),
+            Strategy::Partitioned(parts) => parts.state_count(),
+            Strategy::Filtered(filtered) => filtered.state_count(),
         }
     }
 
     /// Returns how many bytes the deterministic parts take. It takes time linear in their number.
     pub fn table_bytes(&self) -> usize {
-        match &self.form {
-            Form::Divided(parts) => parts.table_bytes(),
-            Form::Whole(_) | Form::Filtered(_) => 0,
+        match &self.strategy {
+            Strategy::Partitioned(parts) => parts.table_bytes(),
+            Strategy::Whole(_) | Strategy::Filtered(_) => 0,
         }
     }
 
@@ -158,18 +154,18 @@ impl Compiled {
         found: &mut IndexSet,
         visits: &mut Visits,
     ) -> Result<(), AllocError>
-        requires { self.now.index_count ≤ index_room found.old }
-        ensures room { index_room found.new ≡ index_room found.old }
+        requires { self.now.index_count ≤ index_capacity found.old }
+        ensures room { index_capacity found.new ≡ index_capacity found.old }
         ensures found { OnOk result ((xs : List IndexedTokens) → IsFor self.now xs → (k : ℕ) → IsTrue (has_index found.new k) ↔ (SomeMatches xs text.now k ⊎ IsTrue (has_index found.old k))) }
-        ensures kept { sets_room sets.old ≤ sets_room sets.new }
-        ensures memory { size self.now ≤ sets_room sets.old → IsOk result }
-        ensures visits { visits.new ≤ visits.old + (length text.now + 1) * most_reads self.now }
+        ensures kept { sets_capacity sets.old ≤ sets_capacity sets.new }
+        ensures memory { size self.now ≤ sets_capacity sets.old → IsOk result }
+        ensures visits { visits.new ≤ visits.old + (length text.now + 1) * max_reads self.now }
         ensures counted { visits.old ≤ visits.new }
     {
-        match &self.form {
-            Form::Whole(automaton) => simulation::find(automaton, text, sets, found, visits),
-            Form::Divided(parts) => parts.find(text, sets, found, visits),
-            Form::Filtered(filtered) => filtered.find(text, sets, found, visits),
+        match &self.strategy {
+            Strategy::Whole(automaton) => simulation::find(automaton, text, sets, found, visits),
+            Strategy::Partitioned(parts) => parts.find(text, sets, found, visits),
+            Strategy::Filtered(filtered) => filtered.find(text, sets, found, visits),
         }
     }
 
@@ -185,15 +181,15 @@ impl Compiled {
         visits: &mut Visits,
     ) -> Result<bool, AllocError>
         ensures some { IfOk result (λ yes. (xs : List IndexedTokens) → IsFor self.now xs → IsTrue yes ↔ ((k : ℕ) × SomeMatches xs text.now k)) }
-        ensures kept { sets_room sets.old ≤ sets_room sets.new }
-        ensures memory { size self.now ≤ sets_room sets.old → IsOk result }
-        ensures visits { visits.new ≤ visits.old + (length text.now + 1) * most_reads self.now }
+        ensures kept { sets_capacity sets.old ≤ sets_capacity sets.new }
+        ensures memory { size self.now ≤ sets_capacity sets.old → IsOk result }
+        ensures visits { visits.new ≤ visits.old + (length text.now + 1) * max_reads self.now }
         ensures counted { visits.old ≤ visits.new }
     {
-        match &self.form {
-            Form::Whole(automaton) => simulation::is_match(automaton, text, sets, visits),
-            Form::Divided(parts) => parts.is_match(text, sets, visits),
-            Form::Filtered(filtered) => filtered.is_match(text, sets, visits),
+        match &self.strategy {
+            Strategy::Whole(automaton) => simulation::is_match(automaton, text, sets, visits),
+            Strategy::Partitioned(parts) => parts.is_match(text, sets, visits),
+            Strategy::Filtered(filtered) => filtered.is_match(text, sets, visits),
         }
     }
 }
@@ -212,17 +208,17 @@ impl Compiled {
         visits: &mut Visits,
     ) -> Result<bool, AllocError>
         ensures some { IfOk result (λ yes. (xs : List IndexedTokens) → IsFor self.now xs → IsTrue yes ↔ SomeMeanAfter xs (text.now ++ byte ∷ [])) }
-        ensures kept { sets_room sets.old ≤ sets_room sets.new }
-        ensures memory { size self.now ≤ sets_room sets.old → IsOk result }
+        ensures kept { sets_capacity sets.old ≤ sets_capacity sets.new }
+        ensures memory { size self.now ≤ sets_capacity sets.old → IsOk result }
         ensures visits { visits.new ≤ visits.old + (length text.now + 2) * size self.now }
         ensures counted { visits.old ≤ visits.new }
     {
-        match &self.form {
-            Form::Whole(automaton) => {
+        match &self.strategy {
+            Strategy::Whole(automaton) => {
                 simulation::can_match_after(automaton, text, byte, sets, visits)
             }
-            Form::Divided(parts) => parts.can_match_after(text, byte, sets, visits),
-            Form::Filtered(filtered) => filtered.can_match_after(text, byte, sets, visits),
+            Strategy::Partitioned(parts) => parts.can_match_after(text, byte, sets, visits),
+            Strategy::Filtered(filtered) => filtered.can_match_after(text, byte, sets, visits),
         }
     }
 }
@@ -231,6 +227,6 @@ impl Compiled {
 const MANY_STARTS: usize = 32;
 
 /// Returns whether an automaton has many starts, of which a filter may name a few.
-fn is_large(budget: Budget, automaton: &Automaton) -> bool {
+fn is_large(budget: Budget, automaton: &Draft) -> bool {
     !budget.simulates_all() && automaton.starts().len() > MANY_STARTS
 }

@@ -1,25 +1,25 @@
 //! Automata with many starts, of which those alone are run that a filter names.
 
 ghost use Rattle.std.specs.Prelude.{◌≡◌, ◌+◌, ◌*◌, ◌<◌, ◌≤◌, ◌↔◌, ◌⊎◌, ◌++◌, ◌∷◌, [], ℕ, length, IsTrue, IsOk, IfOk, IfSome, OnOk};
-ghost use Rattle.byte_automaton.specs.Live.{MatchesAfter};
-ghost use Rattle.byte_automaton.specs.Runs.{size, most_reads};
-ghost use Rattle.bit_sets.specs.Indexes.{has_index, index_room};
-ghost use Rattle.byte_automaton.specs.Sets.{sets_room};
-ghost use Rattle.byte_automaton.specs.Steps.{IsReached};
+ghost use Rattle.byte_nfa.specs.Live.{MatchesAfter};
+ghost use Rattle.byte_nfa.specs.Runs.{size, max_reads};
+ghost use Rattle.bit_sets.specs.Indexes.{has_index, index_capacity};
+ghost use Rattle.byte_nfa.specs.Sets.{sets_capacity};
+ghost use Rattle.byte_nfa.specs.Steps.{IsReached};
 ghost use Rattle.byte_filter.specs.Starts.{IsFilterOf, IsReachedMarked};
 ghost use Rattle.glob_matching.specs.inner.Filtered.{AreApart, span_at};
 
 use crate::simulation;
 use bit_sets::IndexSet;
-use byte_automaton::{Automaton, Span, StateSets};
 use byte_filter::StartFilter;
+use byte_nfa::{Draft, Nfa, Span, StateSets};
 use std::alloc::{AllocError, Global};
 use std::marker::Model;
 use visits::Visits;
 
 /// An automaton, and a filter that names the starts that a text may lead from to an end. Contracts see the automaton.
 pub struct Filtered {
-    automaton: Automaton,
+    automaton: Nfa,
     filter: StartFilter,
 }
 
@@ -34,7 +34,7 @@ impl Drop for Filtered {
 }
 
 impl Model for Filtered {
-    ghost use Rattle.byte_automaton.specs.Steps.{Machine};
+    ghost use Rattle.byte_nfa.specs.Steps.{Machine};
     ghost use Rattle.byte_filter.specs.Starts.{IsFilterOf};
     ghost use Rattle.glob_matching.specs.inner.Filtered.{AreApart};
 
@@ -61,7 +61,7 @@ impl Clone for Filtered {
 
 impl Filtered {
     /// Returns an automaton with a filter for it.
-    pub fn of(automaton: Automaton, filter: StartFilter) -> Filtered
+    pub fn of(automaton: Nfa, filter: StartFilter) -> Filtered
         requires filter { IsFilterOf automaton filter }
         requires apart { AreApart automaton }
         ensures { result ≡ automaton }
@@ -87,12 +87,12 @@ impl Filtered {
         found: &mut IndexSet,
         visits: &mut Visits,
     ) -> Result<(), AllocError>
-        requires { self.now.index_count ≤ index_room found.old }
-        ensures room { index_room found.new ≡ index_room found.old }
+        requires { self.now.index_count ≤ index_capacity found.old }
+        ensures room { index_capacity found.new ≡ index_capacity found.old }
         ensures found { OnOk result ((k : ℕ) → IsTrue (has_index found.new k) ↔ (IsReached self.now text.now k ⊎ IsTrue (has_index found.old k))) }
-        ensures kept { sets_room sets.old ≤ sets_room sets.new }
-        ensures memory { size self.now ≤ sets_room sets.old → IsOk result }
-        ensures visits { visits.new ≤ visits.old + (length text.now + 1) * most_reads self.now }
+        ensures kept { sets_capacity sets.old ≤ sets_capacity sets.new }
+        ensures memory { size self.now ≤ sets_capacity sets.old → IsOk result }
+        ensures visits { visits.new ≤ visits.old + (length text.now + 1) * max_reads self.now }
         ensures counted { visits.old ≤ visits.new }
     {
         mark(&self.automaton, &self.filter, text, sets, visits)?;
@@ -111,9 +111,9 @@ impl Filtered {
         visits: &mut Visits,
     ) -> Result<bool, AllocError>
         ensures some { IfOk result (λ yes. IsTrue yes ↔ ((k : ℕ) × IsReached self.now text.now k)) }
-        ensures kept { sets_room sets.old ≤ sets_room sets.new }
-        ensures memory { size self.now ≤ sets_room sets.old → IsOk result }
-        ensures visits { visits.new ≤ visits.old + (length text.now + 1) * most_reads self.now }
+        ensures kept { sets_capacity sets.old ≤ sets_capacity sets.new }
+        ensures memory { size self.now ≤ sets_capacity sets.old → IsOk result }
+        ensures visits { visits.new ≤ visits.old + (length text.now + 1) * max_reads self.now }
         ensures counted { visits.old ≤ visits.new }
     {
         mark(&self.automaton, &self.filter, text, sets, visits)?;
@@ -135,8 +135,8 @@ impl Filtered {
         visits: &mut Visits,
     ) -> Result<bool, AllocError>
         ensures some { IfOk result (λ yes. IsTrue yes ↔ MatchesAfter self.now (text.now ++ byte ∷ [])) }
-        ensures kept { sets_room sets.old ≤ sets_room sets.new }
-        ensures memory { size self.now ≤ sets_room sets.old → IsOk result }
+        ensures kept { sets_capacity sets.old ≤ sets_capacity sets.new }
+        ensures memory { size self.now ≤ sets_capacity sets.old → IsOk result }
         ensures visits { visits.new ≤ visits.old + (length text.now + 2) * size self.now }
         ensures counted { visits.old ≤ visits.new }
     {
@@ -149,7 +149,7 @@ const FEW: usize = 3;
 
 /// Returns a filter for an automaton, or `None` if too few starts have a window, or if a run from one start comes to states of
 /// another. Returns an error if memory runs out. It takes time and memory linear in the states.
-pub fn filter_for(alloc: Global, automaton: &Automaton) -> Result<Option<StartFilter>, AllocError>
+pub fn filter_for(alloc: Global, automaton: &Draft) -> Result<Option<StartFilter>, AllocError>
     ensures { IfOk result (λ made. IfSome made (λ filter. IsFilterOf automaton.now filter × AreApart automaton.now)) }
 {
     if !are_apart(automaton) {
@@ -162,7 +162,7 @@ pub fn filter_for(alloc: Global, automaton: &Automaton) -> Result<Option<StartFi
 }
 
 /// Returns whether a run from each start comes to no state but those behind the start before it. It reads each state.
-fn are_apart(automaton: &Automaton) -> bool
+fn are_apart(automaton: &Draft) -> bool
     ensures { IsTrue result → AreApart automaton.now }
 {
     let _states = automaton.state_count();
@@ -176,7 +176,7 @@ fn are_apart(automaton: &Automaton) -> bool
 }
 
 /// Returns the states of a start: those behind the start before it.
-fn span_of(automaton: &Automaton, i: usize) -> Span
+fn span_of(automaton: &Draft, i: usize) -> Span
     requires { i < length automaton.now.starts }
     ensures span { result ≡ span_at automaton.now.starts i }
     ensures exists { result.start < size automaton.now }
@@ -190,10 +190,30 @@ fn span_of(automaton: &Automaton, i: usize) -> Span
     }
 }
 
+/// Returns the states of a start: those behind the start before it. It reads both starts, each of which is a visit.
+fn read_span(automaton: &Nfa, i: usize, visits: &mut Visits) -> Span
+    requires { i < length automaton.now.starts }
+    ensures span { result ≡ span_at automaton.now.starts i }
+    ensures exists { result.start < size automaton.now }
+    ensures visits { visits.new ≤ visits.old + 2 }
+    ensures counted { visits.old ≤ visits.new }
+{
+    let _states = automaton.state_count();
+    let low = if i == 0 {
+        0
+    } else {
+        automaton.start_at(i - 1, visits) + 1
+    };
+    Span {
+        low,
+        start: automaton.start_at(i, visits),
+    }
+}
+
 /// Marks the starts that a text may lead from to an end, and no others than the filter names. It makes room in the sets for the
 /// states and starts. Returns an error if memory runs out.
 fn mark(
-    automaton: &Automaton,
+    automaton: &Nfa,
     filter: &StartFilter,
     text: &[u8],
     sets: &mut StateSets,
@@ -202,9 +222,9 @@ fn mark(
     requires filter { IsFilterOf automaton.now filter.now }
     requires apart { AreApart automaton.now }
     ensures marked { OnOk result ((k : ℕ) → IsReached automaton.now text.now k ↔ IsReachedMarked automaton.now sets.new.starts text.now k) }
-    ensures room { OnOk result (size automaton.now ≤ sets_room sets.new) }
-    ensures kept { sets_room sets.old ≤ sets_room sets.new }
-    ensures memory { size automaton.now ≤ sets_room sets.old → IsOk result }
+    ensures room { OnOk result (size automaton.now ≤ sets_capacity sets.new) }
+    ensures kept { sets_capacity sets.old ≤ sets_capacity sets.new }
+    ensures memory { size automaton.now ≤ sets_capacity sets.old → IsOk result }
     ensures visits { visits.new ≤ visits.old + length text.now * (3 * length automaton.now.starts) }
     ensures counted { visits.old ≤ visits.new }
 {
@@ -216,47 +236,49 @@ fn mark(
 
 /// Puts the index of each end that a text leads to from a marked start into a set, beside what it holds.
 fn find_from_marked(
-    automaton: &Automaton,
+    automaton: &Nfa,
     text: &[u8],
     sets: &mut StateSets,
     found: &mut IndexSet,
     visits: &mut Visits,
 )
     requires apart { AreApart automaton.now }
-    requires room { size automaton.now ≤ sets_room sets.old }
-    requires found_room { automaton.now.index_count ≤ index_room found.old }
-    ensures room { sets_room sets.new ≡ sets_room sets.old }
-    ensures found_room { index_room found.new ≡ index_room found.old }
+    requires room { size automaton.now ≤ sets_capacity sets.old }
+    requires found_capacity { automaton.now.index_count ≤ index_capacity found.old }
+    ensures room { sets_capacity sets.new ≡ sets_capacity sets.old }
+    ensures found_capacity { index_capacity found.new ≡ index_capacity found.old }
     ensures found { (k : ℕ) → IsTrue (has_index found.new k) ↔ (IsReachedMarked automaton.now sets.old.starts text.now k ⊎ IsTrue (has_index found.old k)) }
-    ensures visits { visits.new ≤ visits.old + (length text.now + 1) * size automaton.now }
+    ensures visits { visits.new ≤ visits.old + (length text.now + 1) * size automaton.now + 2 * length automaton.now.starts }
     ensures counted { visits.old ≤ visits.new }
 {
-    let count = automaton.starts().len();
+    let count = automaton.start_count();
     let mut from = 0;
     while let Some(i) = sets.starts.next_below(from, count) {
-        automaton.find_from(span_of(automaton, i), text, sets, found, visits);
+        let span = read_span(automaton, i, visits);
+        automaton.find_from(span, text, sets, found, visits);
         from = i + 1;
     }
 }
 
 /// Returns whether a text leads from a marked start to some end.
 fn is_match_from_marked(
-    automaton: &Automaton,
+    automaton: &Nfa,
     text: &[u8],
     sets: &mut StateSets,
     visits: &mut Visits,
 ) -> bool
     requires apart { AreApart automaton.now }
-    requires room { size automaton.now ≤ sets_room sets.old }
-    ensures room { sets_room sets.new ≡ sets_room sets.old }
+    requires room { size automaton.now ≤ sets_capacity sets.old }
+    ensures room { sets_capacity sets.new ≡ sets_capacity sets.old }
     ensures some { IsTrue result ↔ ((k : ℕ) × IsReachedMarked automaton.now sets.old.starts text.now k) }
-    ensures visits { visits.new ≤ visits.old + (length text.now + 1) * size automaton.now }
+    ensures visits { visits.new ≤ visits.old + (length text.now + 1) * size automaton.now + 2 * length automaton.now.starts }
     ensures counted { visits.old ≤ visits.new }
 {
-    let count = automaton.starts().len();
+    let count = automaton.start_count();
     let mut from = 0;
     while let Some(i) = sets.starts.next_below(from, count) {
-        if automaton.is_match_from(span_of(automaton, i), text, sets, visits) {
+        let span = read_span(automaton, i, visits);
+        if automaton.is_match_from(span, text, sets, visits) {
             return true;
         }
         from = i + 1;

@@ -7,8 +7,8 @@
 
 mod budget;
 mod compiled;
-mod division;
 mod filtered;
+mod partition;
 mod parts;
 mod simulation;
 

@@ -1,18 +1,18 @@
 //! The parts of an automaton, which together find what it finds.
 
 ghost use Rattle.std.specs.Prelude.{◌≡◌, ◌+◌, ◌*◌, ◌≤◌, ◌↔◌, ◌⊎◌, ℕ, length, IsTrue, IsOk, OnOk, IfOk};
-ghost use Rattle.byte_automaton.specs.Runs.{size};
-ghost use Rattle.bit_sets.specs.Indexes.{has_index, index_room};
-ghost use Rattle.byte_automaton.specs.Sets.{sets_room};
-ghost use Rattle.byte_automaton.specs.Steps.{IsReached};
+ghost use Rattle.byte_nfa.specs.Runs.{size, max_reads};
+ghost use Rattle.bit_sets.specs.Indexes.{has_index, index_capacity};
+ghost use Rattle.byte_nfa.specs.Sets.{sets_capacity};
+ghost use Rattle.byte_nfa.specs.Steps.{IsReached};
 ghost use Rattle.glob_matching.specs.inner.Parts.{sources, total, ArePartsOf, AreCounted, SomeReached};
 
 mod after;
 
 use crate::simulation;
 use bit_sets::IndexSet;
-use byte_automaton::{Automaton, StateSets};
 use byte_dfa::{Dfa, Source};
+use byte_nfa::{Draft, Nfa, StateSets};
 use std::alloc::AllocError;
 use std::marker::Model;
 use visits::Visits;
@@ -21,7 +21,7 @@ use visits::Visits;
 /// automaton, which is not kept.
 pub struct Parts {
     tables: Vec<Dfa>,
-    automata: Vec<Automaton>,
+    automata: Vec<Nfa>,
     state_count: usize,
     source: Source,
 }
@@ -39,7 +39,7 @@ impl Drop for Parts {
 }
 
 impl Model for Parts {
-    ghost use Rattle.byte_automaton.specs.Steps.{Machine};
+    ghost use Rattle.byte_nfa.specs.Steps.{Machine};
     ghost use Rattle.glob_matching.specs.inner.Parts.{ArePartsOf};
 
     ghost Value = { Machine };
@@ -69,7 +69,7 @@ impl Clone for Parts {
 
 impl Parts {
     /// Returns the parts of an automaton.
-    pub fn of(automaton: &Automaton, tables: Vec<Dfa>, automata: Vec<Automaton>) -> Parts
+    pub fn of(automaton: &Draft, tables: Vec<Dfa>, automata: Vec<Nfa>) -> Parts
         requires { ArePartsOf automaton.now (size automaton.now) tables.items automata.items }
         ensures { result ≡ automaton.now }
     {
@@ -99,8 +99,8 @@ impl Parts {
 
     /// Puts the index of each end that a text leads to into a set, beside what it holds.
     ///
-    /// It is at most `(text bytes + 1) * states` visits. It makes room in the sets of states for those of the largest part that is
-    /// simulated. Returns an error if memory runs out.
+    /// It is at most `(text bytes + 1) * (states + 3 * starts)` visits. It makes room in the sets of states for those of the
+    /// largest part that is simulated. Returns an error if memory runs out.
     pub fn find(
         &self,
         text: &[u8],
@@ -108,12 +108,12 @@ impl Parts {
         found: &mut IndexSet,
         visits: &mut Visits,
     ) -> Result<(), AllocError>
-        requires { self.now.index_count ≤ index_room found.old }
-        ensures room { index_room found.new ≡ index_room found.old }
+        requires { self.now.index_count ≤ index_capacity found.old }
+        ensures room { index_capacity found.new ≡ index_capacity found.old }
         ensures found { OnOk result ((k : ℕ) → IsTrue (has_index found.new k) ↔ (IsReached self.now text.now k ⊎ IsTrue (has_index found.old k))) }
-        ensures kept { sets_room sets.old ≤ sets_room sets.new }
-        ensures memory { size self.now ≤ sets_room sets.old → IsOk result }
-        ensures visits { visits.new ≤ visits.old + (length text.now + 1) * size self.now }
+        ensures kept { sets_capacity sets.old ≤ sets_capacity sets.new }
+        ensures memory { size self.now ≤ sets_capacity sets.old → IsOk result }
+        ensures visits { visits.new ≤ visits.old + (length text.now + 1) * max_reads self.now }
         ensures counted { visits.old ≤ visits.new }
     {
         find_by_tables(&self.tables, text, found, visits);
@@ -122,8 +122,8 @@ impl Parts {
 
     /// Returns whether a text leads to some end.
     ///
-    /// It is at most `(text bytes + 1) * states` visits. It makes room in the sets of states for those of the largest part that is
-    /// simulated. Returns an error if memory runs out.
+    /// It is at most `(text bytes + 1) * (states + 3 * starts)` visits. It makes room in the sets of states for those of the
+    /// largest part that is simulated. Returns an error if memory runs out.
     pub fn is_match(
         &self,
         text: &[u8],
@@ -131,9 +131,9 @@ impl Parts {
         visits: &mut Visits,
     ) -> Result<bool, AllocError>
         ensures some { IfOk result (λ yes. IsTrue yes ↔ ((k : ℕ) × IsReached self.now text.now k)) }
-        ensures kept { sets_room sets.old ≤ sets_room sets.new }
-        ensures memory { size self.now ≤ sets_room sets.old → IsOk result }
-        ensures visits { visits.new ≤ visits.old + (length text.now + 1) * size self.now }
+        ensures kept { sets_capacity sets.old ≤ sets_capacity sets.new }
+        ensures memory { size self.now ≤ sets_capacity sets.old → IsOk result }
+        ensures visits { visits.new ≤ visits.old + (length text.now + 1) * max_reads self.now }
         ensures counted { visits.old ≤ visits.new }
     {
         if is_match_by_tables(&self.tables, text, visits) {
@@ -145,10 +145,10 @@ impl Parts {
 
 /// Puts the index of each end that a text leads to in some deterministic automaton into a set, beside what it holds.
 fn find_by_tables(tables: &[Dfa], text: &[u8], found: &mut IndexSet, visits: &mut Visits)
-    requires { AreCounted (index_room found.old) (sources tables.now) }
-    ensures room { index_room found.new ≡ index_room found.old }
+    requires { AreCounted (index_capacity found.old) (sources tables.now) }
+    ensures room { index_capacity found.new ≡ index_capacity found.old }
     ensures found { (k : ℕ) → IsTrue (has_index found.new k) ↔ (SomeReached (sources tables.now) text.now k ⊎ IsTrue (has_index found.old k)) }
-    ensures visits { visits.new ≤ visits.old + (length text.now + 1) * length tables.now }
+    ensures visits { visits.new ≤ visits.old + (length text.now + 2) * length tables.now }
     ensures counted { visits.old ≤ visits.new }
 {
     for table in tables {
@@ -159,7 +159,7 @@ fn find_by_tables(tables: &[Dfa], text: &[u8], found: &mut IndexSet, visits: &mu
 /// Returns whether a text leads to some end in some deterministic automaton.
 fn is_match_by_tables(tables: &[Dfa], text: &[u8], visits: &mut Visits) -> bool
     ensures some { IsTrue result ↔ ((k : ℕ) × SomeReached (sources tables.now) text.now k) }
-    ensures visits { visits.new ≤ visits.old + (length text.now + 1) * length tables.now }
+    ensures visits { visits.new ≤ visits.old + (length text.now + 2) * length tables.now }
     ensures counted { visits.old ≤ visits.new }
 {
     for table in tables {
@@ -173,17 +173,17 @@ fn is_match_by_tables(tables: &[Dfa], text: &[u8], visits: &mut Visits) -> bool
 /// Puts the index of each end that a text leads to in some automaton into a set, beside what it holds. The runs use the same sets
 /// of states, one after another.
 fn find_by_simulation(
-    automata: &[Automaton],
+    automata: &[Nfa],
     text: &[u8],
     sets: &mut StateSets,
     found: &mut IndexSet,
     visits: &mut Visits,
 ) -> Result<(), AllocError>
-    requires { AreCounted (index_room found.old) automata.now }
-    ensures room { index_room found.new ≡ index_room found.old }
+    requires { AreCounted (index_capacity found.old) automata.now }
+    ensures room { index_capacity found.new ≡ index_capacity found.old }
     ensures found { OnOk result ((k : ℕ) → IsTrue (has_index found.new k) ↔ (SomeReached automata.now text.now k ⊎ IsTrue (has_index found.old k))) }
-    ensures kept { sets_room sets.old ≤ sets_room sets.new }
-    ensures memory { total automata.now ≤ sets_room sets.old → IsOk result }
+    ensures kept { sets_capacity sets.old ≤ sets_capacity sets.new }
+    ensures memory { total automata.now ≤ sets_capacity sets.old → IsOk result }
     ensures visits { visits.new ≤ visits.old + (length text.now + 1) * total automata.now }
     ensures counted { visits.old ≤ visits.new }
 {
@@ -195,14 +195,14 @@ fn find_by_simulation(
 
 /// Returns whether a text leads to some end in some automaton. The runs use the same sets of states, one after another.
 fn is_match_by_simulation(
-    automata: &[Automaton],
+    automata: &[Nfa],
     text: &[u8],
     sets: &mut StateSets,
     visits: &mut Visits,
 ) -> Result<bool, AllocError>
     ensures some { IfOk result (λ yes. IsTrue yes ↔ ((k : ℕ) × SomeReached automata.now text.now k)) }
-    ensures kept { sets_room sets.old ≤ sets_room sets.new }
-    ensures memory { total automata.now ≤ sets_room sets.old → IsOk result }
+    ensures kept { sets_capacity sets.old ≤ sets_capacity sets.new }
+    ensures memory { total automata.now ≤ sets_capacity sets.old → IsOk result }
     ensures visits { visits.new ≤ visits.old + (length text.now + 1) * total automata.now }
     ensures counted { visits.old ≤ visits.new }
 {

@@ -1,31 +1,31 @@
 //! Automata that are simulated.
 
 ghost use Rattle.std.specs.Prelude.{◌≡◌, ◌+◌, ◌*◌, ◌≤◌, ◌↔◌, ◌⊎◌, ◌++◌, ◌∷◌, [], ℕ, length, IsTrue, IsOk, OnOk, IfOk};
-ghost use Rattle.byte_automaton.specs.Live.{MatchesAfter};
-ghost use Rattle.byte_automaton.specs.Runs.{size};
-ghost use Rattle.bit_sets.specs.Indexes.{has_index, index_room};
-ghost use Rattle.byte_automaton.specs.Sets.{sets_room};
-ghost use Rattle.byte_automaton.specs.Steps.{IsReached};
+ghost use Rattle.byte_nfa.specs.Live.{MatchesAfter};
+ghost use Rattle.byte_nfa.specs.Runs.{size};
+ghost use Rattle.bit_sets.specs.Indexes.{has_index, index_capacity};
+ghost use Rattle.byte_nfa.specs.Sets.{sets_capacity};
+ghost use Rattle.byte_nfa.specs.Steps.{IsReached};
 
 use bit_sets::IndexSet;
-use byte_automaton::{Automaton, StateSets};
+use byte_nfa::{Nfa, StateSets};
 use std::alloc::AllocError;
 use visits::Visits;
 
 /// Puts the index of each end that a text leads to into a set, beside what it holds. It makes room in the sets of states for those
 /// of the automaton. Returns an error if memory runs out.
 pub fn find(
-    automaton: &Automaton,
+    automaton: &Nfa,
     text: &[u8],
     sets: &mut StateSets,
     found: &mut IndexSet,
     visits: &mut Visits,
 ) -> Result<(), AllocError>
-    requires { automaton.now.index_count ≤ index_room found.old }
-    ensures room { index_room found.new ≡ index_room found.old }
+    requires { automaton.now.index_count ≤ index_capacity found.old }
+    ensures room { index_capacity found.new ≡ index_capacity found.old }
     ensures found { OnOk result ((k : ℕ) → IsTrue (has_index found.new k) ↔ (IsReached automaton.now text.now k ⊎ IsTrue (has_index found.old k))) }
-    ensures kept { sets_room sets.old ≤ sets_room sets.new }
-    ensures memory { size automaton.now ≤ sets_room sets.old → IsOk result }
+    ensures kept { sets_capacity sets.old ≤ sets_capacity sets.new }
+    ensures memory { size automaton.now ≤ sets_capacity sets.old → IsOk result }
     ensures visits { visits.new ≤ visits.old + (length text.now + 1) * size automaton.now }
     ensures counted { visits.old ≤ visits.new }
 {
@@ -37,14 +37,14 @@ pub fn find(
 /// Returns whether a text leads to some end. It makes room in the sets of states for those of the automaton. Returns an error if
 /// memory runs out.
 pub fn is_match(
-    automaton: &Automaton,
+    automaton: &Nfa,
     text: &[u8],
     sets: &mut StateSets,
     visits: &mut Visits,
 ) -> Result<bool, AllocError>
     ensures some { IfOk result (λ yes. IsTrue yes ↔ ((k : ℕ) × IsReached automaton.now text.now k)) }
-    ensures kept { sets_room sets.old ≤ sets_room sets.new }
-    ensures memory { size automaton.now ≤ sets_room sets.old → IsOk result }
+    ensures kept { sets_capacity sets.old ≤ sets_capacity sets.new }
+    ensures memory { size automaton.now ≤ sets_capacity sets.old → IsOk result }
     ensures visits { visits.new ≤ visits.old + (length text.now + 1) * size automaton.now }
     ensures counted { visits.old ≤ visits.new }
 {
@@ -55,15 +55,15 @@ pub fn is_match(
 /// Returns whether some text that begins with `text` and then `byte` leads to some end. It makes room in the sets of states for
 /// those of the automaton. Returns an error if memory runs out.
 pub fn can_match_after(
-    automaton: &Automaton,
+    automaton: &Nfa,
     text: &[u8],
     byte: u8,
     sets: &mut StateSets,
     visits: &mut Visits,
 ) -> Result<bool, AllocError>
     ensures some { IfOk result (λ yes. IsTrue yes ↔ MatchesAfter automaton.now (text.now ++ byte ∷ [])) }
-    ensures kept { sets_room sets.old ≤ sets_room sets.new }
-    ensures memory { size automaton.now ≤ sets_room sets.old → IsOk result }
+    ensures kept { sets_capacity sets.old ≤ sets_capacity sets.new }
+    ensures memory { size automaton.now ≤ sets_capacity sets.old → IsOk result }
     ensures visits { visits.new ≤ visits.old + (length text.now + 2) * size automaton.now }
     ensures counted { visits.old ≤ visits.new }
 {

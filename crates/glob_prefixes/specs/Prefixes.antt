@@ -1,58 +1,39 @@
 -- Globs that are matched against every beginning of a text, while it is read.
-use Rattle.std.specs.Prelude.{◌≡◌, ◌≤◌, ◌↔◌, ℕ, ◌+◌, List, [], ◌∷◌, ◌++◌, length, vec_capacity}
-use Rattle.bit_sets.specs.Indexes.{index_room}
-use Rattle.byte_automaton.specs.Runs.{size, AcceptsFrom}
-use Rattle.byte_automaton.specs.Sets.{state_room}
-use Rattle.byte_automaton.specs.Steps.{Machine, IsReached}
-use Rattle.byte_automaton.specs.Texts.{AllBytes}
-use Rattle.glob_automaton.specs.IndexedTokens.{IndexedTokens, indexed, IsFor}
-use Rattle.globset_glob.specs.Means.{GlobValue, tokens_of_glob, glob_means}
-use Rattle.group_matching.specs.Indexes.{passing_indexes}
+use Rattle.std.specs.Prelude.{◌≡◌, ◌≤◌, ◌↔◌, ℕ, List, ◌++◌, vec_capacity}
+use Rattle.bit_sets.specs.Indexes.{index_capacity}
+use Rattle.byte_nfa.specs.Runs.{size, AcceptsFrom}
+use Rattle.byte_nfa.specs.Sets.{state_capacity}
+use Rattle.byte_nfa.specs.Steps.{Machine, IsReached}
+use Rattle.byte_nfa.specs.Texts.{AllBytes}
+use Rattle.globset_glob.specs.GlobMatches.{GlobValue, glob_matches}
+use Rattle.set_matcher.specs.Indexes.{passing_indexes}
 use Rattle.glob_prefixes.specs.declared.states.PrefixStates.{PrefixStates}
 
 -- ---- matchers and their builders
 
--- A matcher is seen as its automaton. What it matches is said by IsPrefixMatcherOf.
-abbrev pub PrefixMatcherValue : Type 0
-PrefixMatcherValue = Machine
+-- A matcher is seen as the list of its globs and its automaton; a builder, as the matcher of what was added. The index of a glob
+-- is its position in the list.
+pub record PrefixMatcherValue : Type 0 where
+  pub globs : List GlobValue
+  pub machine : Machine
 
 -- the number of states of a matcher, which is the most visits for a byte
 abbrev pub prefix_states : PrefixMatcherValue → ℕ
-prefix_states m = size m
-
--- the tokens of globs, with the indexes from this one on
-abbrev pub indexed_globs : ℕ → List GlobValue → List IndexedTokens
-indexed_globs j [] = []
-indexed_globs j (g ∷ gs) = indexed g.options (tokens_of_glob g) j ∷ indexed_globs (j + 1) gs
-
--- The matcher is for these globs. The index of a glob is its position in the list.
-pub record IsPrefixMatcherOf (globs : List GlobValue) (m : PrefixMatcherValue) : Type 0 where
-  pub tokens : IsFor m (indexed_globs 0 globs)
-  pub count : length globs ≤ m.index_count
-
--- A builder is seen as the matcher of what was added, and how many globs that is.
-pub record PrefixBuilderValue : Type 0 where
-  pub machine : PrefixMatcherValue
-  pub added : ℕ
+prefix_states m = size m.machine
 
 -- how many globs may be added to a builder in all
-abbrev pub most_globs : PrefixBuilderValue → ℕ
-most_globs b = b.machine.index_count
-
--- these globs were added to the builder, in this order
-pub record AreAdded (globs : List GlobValue) (b : PrefixBuilderValue) : Type 0 where
-  pub are : IsPrefixMatcherOf globs b.machine
-  pub count : b.added ≡ length globs
+abbrev pub max_globs : PrefixMatcherValue → ℕ
+max_globs b = b.machine.index_count
 
 -- ---- states
 
 -- the states have room for the matcher
 pub record FitsPrefixes (states : PrefixStates) (m : PrefixMatcherValue) : Type 0 where
-  pub current : prefix_states m ≤ state_room states.current
-  pub next : state_room states.next ≡ state_room states.current
-  pub asked : state_room states.asked ≡ state_room states.current
-  pub marks : m.index_count ≤ index_room states.marks
-  pub matching : m.index_count ≤ vec_capacity states.matching
+  pub current : prefix_states m ≤ state_capacity states.current
+  pub next : state_capacity states.next ≡ state_capacity states.current
+  pub asked : state_capacity states.asked ≡ state_capacity states.current
+  pub marks : m.machine.index_count ≤ index_capacity states.marks
+  pub matching : m.machine.index_count ≤ vec_capacity states.matching
 
 -- the new states have room for each matcher that the old ones have room for
 abbrev pub FitAsBefore : PrefixStates → PrefixStates → Type 0
@@ -61,7 +42,7 @@ FitAsBefore old new = (m : PrefixMatcherValue) → FitsPrefixes old m → FitsPr
 -- The states are those of the matcher after this text: what follows leads from them to the ends that it leads to after the text.
 pub record IsAfter (m : PrefixMatcherValue) (states : PrefixStates) (text : List ℕ) : Type 0 where
   pub bytes : AllBytes text
-  pub leads : (y : List ℕ) (k : ℕ) → AcceptsFrom m states.current y k ↔ IsReached m (text ++ y) k
+  pub leads : (y : List ℕ) (k : ℕ) → AcceptsFrom m.machine states.current y k ↔ IsReached m.machine (text ++ y) k
 
 -- ---- what is found
 
@@ -69,6 +50,6 @@ pub record IsAfter (m : PrefixMatcherValue) (states : PrefixStates) (text : List
 abbrev pub matching_of : PrefixStates → List ℕ
 matching_of states = states.matching.items
 
--- The indexes, ascending, of the globs that match the text. Silent globs are among them: only a set leaves those out.
-abbrev pub matching_indexes : List GlobValue → List ℕ → List ℕ
-matching_indexes globs text = passing_indexes (λ g. glob_means g text) globs
+-- The indexes, ascending, of the globs that match the text. Excluded globs are among them: only a set leaves those out.
+abbrev pub all_matching_indexes : List GlobValue → List ℕ → List ℕ
+all_matching_indexes globs text = passing_indexes (λ g. glob_matches g text) globs

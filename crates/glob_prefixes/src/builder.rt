@@ -1,20 +1,20 @@
 //! How a matcher is made.
 
-ghost use Rattle.std.specs.Prelude.{◌≡◌, ◌+◌, ◌<◌, ◌≤◌, ◌++◌, ◌∷◌, [], List, OnOk, OnErr, IfOk};
+ghost use Rattle.std.specs.Prelude.{◌≡◌, ◌+◌, ◌<◌, ◌≤◌, ◌++◌, ◌∷◌, [], OnOk, OnErr, IfOk, length};
 ghost use Rattle.globset_glob.specs.Cost.{cost};
-ghost use Rattle.globset_glob.specs.Means.{GlobValue};
-ghost use Rattle.glob_prefixes.specs.Prefixes.{AreAdded, most_globs, prefix_states};
+ghost use Rattle.glob_prefixes.specs.Prefixes.{max_globs, prefix_states};
 
 use crate::matcher::PrefixMatcher;
-use byte_automaton::Builder;
-use glob_automaton::{add_tokens, new_builder};
-use globset_glob::{Glob, options_of, tokens_of};
+use byte_nfa::Builder;
+use glob_nfa::{add_tokens, new_builder};
+use globset_glob::{GivenGlobs, Glob, options_of, tokens_of};
 use std::alloc::{AllocError, Global};
 use std::marker::Model;
 
 /// Makes a [`PrefixMatcher`], glob by glob. A glob is not needed any more once it is added.
 pub struct PrefixMatcherBuilder {
     alloc: Global,
+    globs: GivenGlobs,
     automaton: Builder,
     /// How many globs were added.
     added: usize,
@@ -25,6 +25,7 @@ impl Drop for PrefixMatcherBuilder {
     fn drop(self) {
         let PrefixMatcherBuilder {
             alloc: _,
+            globs: _,
             automaton: _,
             added: _,
         } = self;
@@ -32,29 +33,29 @@ impl Drop for PrefixMatcherBuilder {
 }
 
 impl Model for PrefixMatcherBuilder {
-    ghost use Rattle.std.specs.Prelude.{◌<◌, ◌^◌};
-    ghost use Rattle.glob_prefixes.specs.Prefixes.{PrefixBuilderValue};
+    ghost use Rattle.glob_prefixes.specs.Prefixes.{PrefixMatcherValue};
+    ghost use Rattle.glob_prefixes.specs.inner.Added.{AreAdded};
 
-    ghost Value = { PrefixBuilderValue };
+    ghost Value = { PrefixMatcherValue };
 
     ghost view = { λ b. record {
+      globs = b.globs;
       machine = b.automaton;
-      added = b.added;
     } };
 
-    ghost invariant = { λ b. b.automaton.index_count < 2 ^ 64 };
+    ghost invariant = { λ b. AreAdded b.globs b.automaton b.added };
 }
 
 impl PrefixMatcherBuilder {
     /// Returns a builder that no globs were added to. At most `count` may be. It allocates nothing.
     pub fn new(alloc: Global, count: usize) -> PrefixMatcherBuilder
-        ensures none { AreAdded [] result }
-        ensures added { result.added ≡ 0 }
-        ensures count { most_globs result ≡ count }
-        ensures states { prefix_states result.machine ≡ 0 }
+        ensures globs { result.globs ≡ [] }
+        ensures count { max_globs result ≡ count }
+        ensures states { prefix_states result ≡ 0 }
     {
         PrefixMatcherBuilder {
             alloc,
+            globs: GivenGlobs::new(),
             automaton: new_builder(alloc, count),
             added: 0,
         }
@@ -65,16 +66,15 @@ impl PrefixMatcherBuilder {
     /// It takes time and memory linear in the glob's text. Returns an error if memory runs out. Then the globs are those that were
     /// added before, although the matcher may have more states.
     pub fn add(&mut self, glob: &Glob) -> Result<(), AllocError>
-        requires { self.old.added < most_globs self.old }
-        ensures glob { OnOk result ((globs : List GlobValue) → AreAdded globs self.old → AreAdded (globs ++ glob.now ∷ []) self.new) }
-        ensures kept { OnErr result ((globs : List GlobValue) → AreAdded globs self.old → AreAdded globs self.new) }
-        ensures added { OnOk result (self.new.added ≡ self.old.added + 1) }
-        ensures same { OnErr result (self.new.added ≡ self.old.added) }
-        ensures count { most_globs self.new ≡ most_globs self.old }
-        ensures states { OnOk result (prefix_states self.new.machine ≤ prefix_states self.old.machine + cost glob.now) }
+        requires { length self.old.globs < max_globs self.old }
+        ensures glob { OnOk result (self.new.globs ≡ self.old.globs ++ glob.now ∷ []) }
+        ensures kept { OnErr result (self.new.globs ≡ self.old.globs) }
+        ensures count { max_globs self.new ≡ max_globs self.old }
+        ensures states { OnOk result (prefix_states self.new ≤ prefix_states self.old + cost glob.now) }
     {
         let (options, tokens) = (options_of(glob), tokens_of(glob));
         add_tokens(self.alloc, &mut self.automaton, options, tokens, self.added)?;
+        self.globs = self.globs.copy().and(glob);
         self.added += 1;
         Ok(())
     }
@@ -82,14 +82,15 @@ impl PrefixMatcherBuilder {
     /// Returns a matcher of the globs that were added. It takes time and memory linear in their texts. Returns an error if memory
     /// runs out.
     pub fn finish(self) -> Result<PrefixMatcher, AllocError>
-        ensures { IfOk result (λ matcher. matcher ≡ self.machine) }
+        ensures { IfOk result (λ matcher. matcher ≡ self) }
     {
         let PrefixMatcherBuilder {
             alloc: _,
+            globs,
             automaton,
             added: _,
         } = self;
         let automaton = automaton.finish().with_blocks()?;
-        Ok(PrefixMatcher::of(automaton))
+        Ok(PrefixMatcher { globs, automaton })
     }
 }

@@ -9,7 +9,7 @@
 //!
 //! The matcher is an automaton of the tokens of all its globs, and it is simulated: no table is made, and a byte takes time linear
 //! in the states that the text so far leads to. For one path a set of globs may take less, since it decides many globs by a look at a
-//! table. A set leaves silent globs out, and this matcher does not.
+//! table. A set leaves excluded globs out, and this matcher does not.
 //!
 //! ```rust
 //! use glob_prefixes::{PrefixMatcherBuilder, PrefixStates};

@@ -2,13 +2,13 @@
 
 ghost use Rattle.std.specs.Prelude.{◌≡◌, ◌+◌, ◌*◌, ◌≤◌, ◌↔◌, ◌++◌, ◌∷◌, [], ℕ, List, length, IsTrue};
 ghost use Rattle.bit_sets.specs.Indexes.{has_index};
-ghost use Rattle.byte_automaton.specs.Steps.{IsReached};
-ghost use Rattle.globset_glob.specs.Means.{GlobValue};
-ghost use Rattle.glob_prefixes.specs.Prefixes.{FitAsBefore, FitsPrefixes, IsAfter, IsPrefixMatcherOf, matching_indexes, matching_of, prefix_states};
+ghost use Rattle.byte_nfa.specs.Steps.{IsReached};
+ghost use Rattle.glob_prefixes.specs.Prefixes.{FitAsBefore, FitsPrefixes, IsAfter, all_matching_indexes, matching_of, max_globs, prefix_states};
 
 use crate::marks::push_marked;
 use crate::states::PrefixStates;
-use byte_automaton::Automaton;
+use byte_nfa::Nfa;
+use globset_glob::GivenGlobs;
 use std::marker::Model;
 use std::mem::swap;
 use visits::Visits;
@@ -21,32 +21,35 @@ use visits::Visits;
 ///
 /// It has at most four states for each byte of a glob's text, or 16 under `whole_character`, and four more for each glob.
 pub struct PrefixMatcher {
-    automaton: Automaton,
+    pub(crate) globs: GivenGlobs,
+    pub(crate) automaton: Nfa,
 }
 
 impl Drop for PrefixMatcher {
     // One call wherever a value is dropped, which keeps proofs short.
     fn drop(self) {
-        let PrefixMatcher { automaton: _ } = self;
+        let PrefixMatcher {
+            globs: _,
+            automaton: _,
+        } = self;
     }
 }
 
 impl Model for PrefixMatcher {
     ghost use Rattle.glob_prefixes.specs.Prefixes.{PrefixMatcherValue};
+    ghost use Rattle.glob_prefixes.specs.inner.Added.{IsPrefixMatcherOf};
 
     ghost Value = { PrefixMatcherValue };
 
-    ghost view = { λ m. m.automaton };
+    ghost view = { λ m. record {
+      globs = m.globs;
+      machine = m.automaton;
+    } };
+
+    ghost invariant = { λ m. IsPrefixMatcherOf m.globs m.automaton };
 }
 
 impl PrefixMatcher {
-    /// Returns the matcher of an automaton.
-    pub(crate) fn of(automaton: Automaton) -> PrefixMatcher
-        ensures { result ≡ automaton }
-    {
-        PrefixMatcher { automaton }
-    }
-
     /// Returns the number of states.
     pub(crate) fn state_count(&self) -> usize
         ensures { result ≡ prefix_states self.now }
@@ -56,7 +59,7 @@ impl PrefixMatcher {
 
     /// Returns a number that each index is below.
     pub(crate) fn index_count(&self) -> usize
-        ensures { result ≡ self.now.index_count }
+        ensures { result ≡ max_globs self.now }
     {
         self.automaton.index_count()
     }
@@ -99,10 +102,10 @@ impl PrefixMatcher {
     /// Finds the globs that match what was read so far: [`PrefixStates::matching`] returns their indexes then. More bytes may be
     /// read after it. It is at most one visit for each state, and takes no memory.
     ///
-    /// Silent globs are found as others are, which a set leaves out.
+    /// Excluded globs are found as others are, which a set leaves out.
     pub fn matches(&self, states: &mut PrefixStates, visits: &mut Visits)
         requires { FitsPrefixes states.old self.now }
-        ensures matching { (globs : List GlobValue) → IsPrefixMatcherOf globs self.now → (text : List ℕ) → IsAfter self.now states.old text → matching_of states.new ≡ matching_indexes globs text }
+        ensures matching { (text : List ℕ) → IsAfter self.now states.old text → matching_of states.new ≡ all_matching_indexes self.now.globs text }
         ensures after { (text : List ℕ) → IsAfter self.now states.old text → IsAfter self.now states.new text }
         ensures fits { FitAsBefore states.old states.new }
         ensures visits { visits.new ≤ visits.old + prefix_states self.now }
@@ -110,13 +113,14 @@ impl PrefixMatcher {
     {
         self.mark(states, visits);
         states.matching.clear();
-        push_marked(&states.marks, self.index_count(), &mut states.matching).unwrap();
+        let count = self.automaton.index_count();
+        push_marked(&states.marks, count, &mut states.matching).unwrap();
     }
 
     /// Marks the indexes of the ends that what was read leads to, and no others.
     fn mark(&self, states: &mut PrefixStates, visits: &mut Visits)
         requires { FitsPrefixes states.old self.now }
-        ensures marked { (text : List ℕ) → IsAfter self.now states.old text → (k : ℕ) → IsTrue (has_index states.new.marks k) ↔ IsReached self.now text k }
+        ensures marked { (text : List ℕ) → IsAfter self.now states.old text → (k : ℕ) → IsTrue (has_index states.new.marks k) ↔ IsReached self.now.machine text k }
         ensures current { states.new.current ≡ states.old.current }
         ensures matching { states.new.matching ≡ states.old.matching }
         ensures fits { FitAsBefore states.old states.new }

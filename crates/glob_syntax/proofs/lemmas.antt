@@ -1,10 +1,10 @@
 pub mod Classes
-pub mod FaultsStay
+pub mod ParseErrorsStay
 pub mod FlatTokens
 pub mod FlatTrees
-pub mod Groups
+pub mod SetMatcher
 pub mod Lists
-pub mod Marks
+pub mod Lexemes
 pub mod Nesting
 pub mod UnclosedClasses
 pub mod Weights

@@ -25,7 +25,7 @@ abbrev pub onto : List Flat → Levels → Levels
 onto [] l = l
 onto (t ∷ ts) l = level t (onto ts l)
 
--- The levels of the last tokens of a list, as the levels of the last marks of a glob.
+-- The levels of the last tokens of a list, as the levels of the last lexemes of a glob.
 abbrev pub levels_of : List Flat → Levels
 levels_of ts = onto ts (branch end none, [])
 

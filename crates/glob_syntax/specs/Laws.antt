@@ -1,13 +1,13 @@
 -- What follows from the definition of reading. Each law is the contract of a function of the module `laws`.
 use Rattle.std.specs.Prelude.{◌≡◌, ℕ, Bool, true, false, IsTrue, List, ◌++◌}
 use Rattle.glob_syntax.specs.declared.options.Options.{Options}
-use Rattle.glob_syntax.specs.declared.fault.Fault.{Fault}
-use Rattle.glob_syntax.specs.declared.fault.Fault.TheVariants.{UnclosedClass, InvalidRange, UnopenedAlternates, UnclosedAlternates, DanglingEscape}
-use Rattle.glob_syntax.specs.Reading.{HasFault}
+use Rattle.glob_syntax.specs.declared.parse_error_kind.ParseErrorKind.{ParseErrorKind}
+use Rattle.glob_syntax.specs.declared.parse_error_kind.ParseErrorKind.TheVariants.{UnclosedClass, InvalidRange, UnopenedAlternates, UnclosedAlternates, DanglingEscape}
+use Rattle.glob_syntax.specs.Reading.{HasParseError}
 
 -- The errors that more text cannot remove: a range that goes down, and a `}` that closes no group. The others say that the
 -- text ends too early.
-abbrev pub is_lasting : Fault → Bool
+abbrev pub is_lasting : ParseErrorKind → Bool
 is_lasting (InvalidRange first last) = true
 is_lasting UnopenedAlternates = true
 is_lasting UnclosedClass = false
@@ -15,5 +15,5 @@ is_lasting UnclosedAlternates = false
 is_lasting DanglingEscape = false
 
 -- Without `allow_unclosed_class`, a text with such an error keeps that very error whatever follows the text.
-abbrev pub FaultsStay : Type 0
-FaultsStay = (o : Options) (text more : List ℕ) (f : Fault) → o.allow_unclosed_class ≡ false → IsTrue (is_lasting f) → HasFault o text f → HasFault o (text ++ more) f
+abbrev pub ParseErrorsStay : Type 0
+ParseErrorsStay = (o : Options) (text more : List ℕ) (f : ParseErrorKind) → o.allow_unclosed_class ≡ false → IsTrue (is_lasting f) → HasParseError o text f → HasParseError o (text ++ more) f

@@ -1,6 +1,6 @@
 pub mod Token
 pub mod Ranges
-pub mod Marks
+pub mod Lexemes
 pub mod Nesting
 pub mod Stars
 pub mod Reading

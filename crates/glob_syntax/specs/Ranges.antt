@@ -5,8 +5,8 @@
 -- character to its last one, which may be the same. A last `-` is a member by itself. So `a-c-e` is one range, from `a` to
 -- `e`, and `ab-` has the members `a`, `b` and `-`.
 use Rattle.std.specs.Prelude.{ℕ, List, [], ◌∷◌, Bool, true, false, ◌==◌, nat_lt, Option, Some, None}
-use Rattle.glob_syntax.specs.declared.fault.Fault.{Fault}
-use Rattle.glob_syntax.specs.declared.fault.Fault.TheVariants.{InvalidRange}
+use Rattle.glob_syntax.specs.declared.parse_error_kind.ParseErrorKind.{ParseErrorKind}
+use Rattle.glob_syntax.specs.declared.parse_error_kind.ParseErrorKind.TheVariants.{InvalidRange}
 
 -- `-`
 abbrev pub is_hyphen : ℕ → Bool
@@ -31,15 +31,15 @@ ranges (c ∷ rest) = chain c c rest
 -- The first bad range of what is left of a body inside a chain that begins with `first`: a character after a `-` that is
 -- below `first`.
 abbrev mutual
-  pub bad_chain : ℕ → List ℕ → Option Fault
+  pub bad_chain : ℕ → List ℕ → Option ParseErrorKind
   bad_chain first [] = None
   bad_chain first (c ∷ rest) = elim (is_hyphen c) [ true ↦ bad_after_hyphen first rest | false ↦ bad_chain c rest ]
 
-  pub bad_after_hyphen : ℕ → List ℕ → Option Fault
+  pub bad_after_hyphen : ℕ → List ℕ → Option ParseErrorKind
   bad_after_hyphen first [] = None
   bad_after_hyphen first (c ∷ rest) = elim (nat_lt c first) [ true ↦ Some (InvalidRange first c) | false ↦ bad_chain first rest ]
 
 -- the first bad range of a body
-unfoldable pub bad_range : List ℕ → Option Fault
+unfoldable pub bad_range : List ℕ → Option ParseErrorKind
 bad_range [] = None
 bad_range (c ∷ rest) = bad_chain c rest

@@ -1,8 +1,8 @@
 -- Tokens and results of reading as contracts see them, whatever memory holds them.
 use Rattle.std.specs.Prelude.{◌≡◌, List, map, Result, Ok, Err}
-use Rattle.glob_syntax.specs.declared.fault.Fault.{Fault}
-use Rattle.glob_syntax.specs.declared.fault.ReadError.{ReadError}
-use Rattle.glob_syntax.specs.declared.fault.ReadError.TheVariants as errors
+use Rattle.glob_syntax.specs.declared.parse_error_kind.ParseErrorKind.{ParseErrorKind}
+use Rattle.glob_syntax.specs.declared.parse_error_kind.ReadError.{ReadError}
+use Rattle.glob_syntax.specs.declared.parse_error_kind.ReadError.TheVariants as errors
 use Rattle.glob_syntax.specs.declared.token.Token.{Token}
 use Rattle.glob_syntax.specs.declared.token.Token.TheVariants as held
 use Rattle.glob_syntax.specs.Token as tree
@@ -34,11 +34,11 @@ tokens_of ts = tree_of (flats ts)
 -- ---- results
 
 -- a returned error is that of the reading, unless memory ran out
-abbrev pub ErrorAgrees : {Y : Type 0} → ReadError → Result Y Fault → Type 0
+abbrev pub ErrorAgrees : {Y : Type 0} → ReadError → Result Y ParseErrorKind → Type 0
 ErrorAgrees errors.Memory read = Unit {0}
-ErrorAgrees (errors.Fault f) read = read ≡ Err f
+ErrorAgrees (errors.Syntax f) read = read ≡ Err f
 
 -- a returned value, seen by `view`, or a returned error is that of the reading, unless memory ran out
-abbrev pub AgreesWith : {X Y : Type 0} → (X → Y) → Result X ReadError → Result Y Fault → Type 0
+abbrev pub AgreesWith : {X Y : Type 0} → (X → Y) → Result X ReadError → Result Y ParseErrorKind → Type 0
 AgreesWith view (Ok x) read = read ≡ Ok (view x)
 AgreesWith view (Err e) read = ErrorAgrees e read

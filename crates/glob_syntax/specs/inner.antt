@@ -1,5 +1,5 @@
 pub mod ClassTable
-pub mod MarkViews
+pub mod LexemeViews
 pub mod Nests
 pub mod TokenReading
 pub mod Weight

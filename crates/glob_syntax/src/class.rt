@@ -5,15 +5,15 @@ ghost use Rattle.glob_syntax.specs.Ranges.{ranges, bad_range};
 
 mod table;
 
-use crate::fault::Fault;
 use crate::options::Options;
+use crate::parse_error_kind::ParseErrorKind;
 use std::alloc::{AllocError, Global};
 use std::marker::Model;
 use table::{Membership, table_of};
 
 /// Returns the error of the first bad range of a class's body, if it has one.
 #[tactic(auto, unfolding(crate::specs::Ranges::bad_range))]
-pub fn bad_range(body: &[char]) -> Option<Fault>
+pub fn bad_range(body: &[char]) -> Option<ParseErrorKind>
     ensures { result ≡ bad_range body.now }
 {
     let [first, rest @ ..] = body else {
@@ -25,7 +25,7 @@ pub fn bad_range(body: &[char]) -> Option<Fault>
         match rest {
             ['-', x, after @ ..] => {
                 if *x < start {
-                    return Some(Fault::InvalidRange(start, *x));
+                    return Some(ParseErrorKind::InvalidRange(start, *x));
                 }
                 rest = after;
             }

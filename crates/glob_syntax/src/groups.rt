@@ -1,92 +1,84 @@
-//! Braces: the tokens of marks, in groups.
+//! Braces: the tokens of lexemes, in groups.
 
-ghost use Rattle.std.specs.Prelude.{◌≡◌, ◌≤◌, ◌∷◌, [], zero, true, IfOk, drop, length};
+ghost use Rattle.std.specs.Prelude.{◌≡◌, ◌≤◌, ◌∷◌, zero, true, IfOk, drop, length};
 ghost use Rattle.glob_syntax.specs.inner.Nests.{Nests, starts_branch};
 ghost use Rattle.glob_syntax.specs.inner.TokenReading.{Follows, ReadsTo};
 ghost use Rattle.glob_syntax.specs.Reading.{whole};
 ghost use Rattle.glob_syntax.specs.FlatTokens.{IsNested};
 ghost use Rattle.glob_syntax.specs.Views.{flats, tokens_of};
-ghost use Rattle.glob_syntax.specs.inner.MarkViews.{mark_of, marks_of};
+ghost use Rattle.glob_syntax.specs.inner.LexemeViews.{lexeme_of, lexemes_of};
 
-use crate::marks::mark::Mark;
+use crate::lexemes::lexeme::Lexeme;
 use crate::stars::is_whole_run;
-use crate::stars::piece::push_piece;
+use crate::stars::piece::{Position, push_piece};
 use crate::token::Token;
 use std::alloc::{AllocError, Global};
 
-/// Returns whether a branch starts after the mark.
-fn starts_branch(mark: Mark<'_>) -> bool
-    ensures { result ≡ starts_branch (mark_of mark.entry) }
+/// Returns whether a branch starts after the lexeme.
+fn starts_branch(lexeme: Lexeme<'_>) -> bool
+    ensures { result ≡ starts_branch (lexeme_of lexeme.entry) }
 {
-    match mark {
-        Mark::Open => true,
-        Mark::Comma => true,
-        Mark::Close => false,
-        Mark::Char { .. } => false,
-        Mark::One => false,
-        Mark::Stars(_) => false,
-        Mark::Class { .. } => false,
-        Mark::Bad(_) => false,
-    }
+    matches!(lexeme, Lexeme::Open | Lexeme::Comma)
 }
 
-/// Pushes the tokens of the piece that begins with `mark`, the first of `rest`, before `after`. Returns how many marks
-/// belong to the piece after its first one.
-fn push_mark(
+/// Pushes the tokens of the piece that begins at this position. Returns how many lexemes belong to the piece after its first
+/// one.
+fn push_lexeme(
     alloc: Global,
     tokens: &mut Vec<Token>,
-    start: bool,
-    mark: Mark<'_>,
-    rest: &[Mark<'_>],
-    after: &[Mark<'_>],
+    position: Position<'_, '_>,
 ) -> Result<usize, AllocError>
-    requires cell { marks_of rest.now ≡ mark_of mark ∷ marks_of after.now }
-    requires follows { Follows (flats tokens.old.items) (mark_of mark ∷ marks_of after.now) }
-    ensures read { IfOk result (λ more. ReadsTo (flats tokens.old.items) start (mark_of mark.entry ∷ marks_of after.now) (flats tokens.new.items) (starts_branch (mark_of mark.entry)) (drop more (marks_of after.now))) }
-    ensures within { IfOk result (λ more. more ≤ length after.now) }
+    requires { Follows (flats tokens.old.items) (lexeme_of position.lexeme ∷ lexemes_of position.after.now) }
+    ensures read { IfOk result (λ more. ReadsTo (flats tokens.old.items) position.entry.start (lexeme_of position.entry.lexeme ∷ lexemes_of position.entry.after.now) (flats tokens.new.items) (starts_branch (lexeme_of position.entry.lexeme)) (drop more (lexemes_of position.entry.after.now))) }
+    ensures within { IfOk result (λ more. more ≤ length position.entry.after.now) }
 {
-    match mark {
-        Mark::Open => {
+    match position.lexeme {
+        Lexeme::Open => {
             tokens.push(Token::Open)?;
             Ok(0)
         }
-        Mark::Comma => {
+        Lexeme::Comma => {
             tokens.push(Token::Comma)?;
             Ok(0)
         }
-        Mark::Close => {
+        Lexeme::Close => {
             tokens.push(Token::Close)?;
             Ok(0)
         }
-        Mark::Bad(_) => unreachable!(),
-        _ => push_piece(alloc, tokens, start, mark, rest, after),
+        Lexeme::Bad(_) => unreachable!(),
+        _ => push_piece(alloc, tokens, position),
     }
 }
 
-/// Returns the marks after the first `n`.
-fn after<'a, 'b>(marks: &'a [Mark<'b>], n: usize) -> &'a [Mark<'b>]
-    requires { n ≤ length marks.now }
-    ensures { result.now ≡ drop n marks.now }
+/// Returns the lexemes after the first `n`.
+fn after<'a, 'b>(lexemes: &'a [Lexeme<'b>], n: usize) -> &'a [Lexeme<'b>]
+    requires { n ≤ length lexemes.now }
+    ensures { result.now ≡ drop n lexemes.now }
 {
-    &marks[n..]
+    &lexemes[n..]
 }
 
-/// Returns the tokens of marks whose groups are closed.
-pub fn tokens(alloc: Global, marks: &[Mark<'_>]) -> Result<Vec<Token>, AllocError>
-    requires { Nests zero (marks_of marks.now) }
-    ensures value { IfOk result (λ v. tokens_of v.items ≡ whole (marks_of marks.now)) }
+/// Returns the tokens of lexemes whose groups are closed.
+pub fn tokens(alloc: Global, lexemes: &[Lexeme<'_>]) -> Result<Vec<Token>, AllocError>
+    requires { Nests zero (lexemes_of lexemes.now) }
+    ensures value { IfOk result (λ v. tokens_of v.items ≡ whole (lexemes_of lexemes.now)) }
     ensures nested { IfOk result (λ v. IsNested (flats v.items)) }
 {
-    let mut tokens = Vec::with_capacity(alloc, marks.len())?;
-    if is_whole_run(marks) {
+    let mut tokens = Vec::with_capacity(alloc, lexemes.len())?;
+    if is_whole_run(lexemes) {
         tokens.push(Token::RecursivePrefix)?;
         return Ok(tokens);
     }
     let mut start = true;
-    let mut rest = marks;
-    while let [mark, others @ ..] = rest {
-        let more = push_mark(alloc, &mut tokens, start, *mark, rest, others)?;
-        start = starts_branch(*mark);
+    let mut rest = lexemes;
+    while let [lexeme, others @ ..] = rest {
+        let position = Position {
+            start,
+            lexeme: *lexeme,
+            after: others,
+        };
+        let more = push_lexeme(alloc, &mut tokens, position)?;
+        start = starts_branch(*lexeme);
         rest = after(others, more);
     }
     Ok(tokens)

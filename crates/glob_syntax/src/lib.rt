@@ -1,22 +1,22 @@
 //! Reads globs: from a text and options to tokens, or to the first error.
 //!
-//! `reading` splits a text into `marks`, which tell special characters from plain ones. Then `stars` reads runs of `*`, and
+//! `reading` splits a text into `lexemes`, which tell special characters from plain ones. Then `stars` reads runs of `*`, and
 //! `groups` reads braces. `class` reads the bodies of character classes. Nothing here knows which paths a glob matches.
 #![tactic(auto)]
 
 mod class;
-mod fault;
 mod groups;
 pub mod laws;
-mod marks;
+mod lexemes;
 mod options;
+mod parse_error_kind;
 mod reading;
 mod stars;
 mod token;
 
 pub use class::Class;
-pub use fault::{Fault, ReadError};
 pub use options::Options;
+pub use parse_error_kind::{ParseErrorKind, ReadError};
 pub use reading::read_tokens;
 pub use token::Token;
 pub use token::copy::copy_of;

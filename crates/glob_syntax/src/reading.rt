@@ -9,10 +9,10 @@ ghost use Rattle.glob_syntax.specs.Views.{AgreesWith, flats, tokens_of};
 ghost use Rattle.glob_syntax.specs.inner.Weight.{weight};
 ghost use Rattle.glob_syntax.specs.inner.WellFormed.{AreWellFormed};
 
-use crate::fault::ReadError;
 use crate::groups::tokens;
-use crate::marks::read_marks;
+use crate::lexemes::lex;
 use crate::options::Options;
+use crate::parse_error_kind::ReadError;
 use crate::token::Token;
 use std::alloc::{AllocError, Global};
 
@@ -25,13 +25,13 @@ fn characters(alloc: Global, text: &str) -> Result<Vec<char>, AllocError>
 
 /// Returns the tokens of a glob's text.
 ///
-/// This takes time and memory linear in the length of the text. One pass splits the text into marks, and another makes
-/// tokens of the marks. The first pass looks ahead for the `]` of each class; once there is none, it never looks again. Each
+/// This takes time and memory linear in the length of the text. One pass splits the text into lexemes, and another makes
+/// tokens of the lexemes. The first pass looks ahead for the `]` of each class; once there is none, it never looks again. Each
 /// class has a table of 256 entries, made in 256 steps for each of its ranges.
 ///
 /// # Errors
 ///
-/// Returns `ReadError::Fault` with the first error of the text, from left to right:
+/// Returns `ReadError::Syntax` with the first error of the text, from left to right:
 ///
 /// - `InvalidRange` for a class with a range that goes down, as `[z-a]`. If no `]` closes the class, this is the
 ///   error only without `allow_unclosed_class`;
@@ -49,6 +49,6 @@ pub fn read_tokens(alloc: Global, options: Options, text: &str) -> Result<Vec<To
     ensures weight { IfOk result (λ v. weight options (tokens_of v.items) ≤ states_per_byte options * length text.now) }
 {
     let characters = characters(alloc, text)?;
-    let marks = read_marks(alloc, options, &characters)?;
-    Ok(tokens(alloc, &marks)?)
+    let lexemes = lex(alloc, options, &characters)?;
+    Ok(tokens(alloc, &lexemes)?)
 }

@@ -4,7 +4,7 @@ mod Backslashes
 mod Case
 mod Classes
 mod Escape
-mod Groups
+mod SetMatcher
 mod Literals
 mod ParentDirectories
 mod Recursive

@@ -2,11 +2,11 @@
 use Rattle.std.specs.Prelude.{◌≡◌, ℕ, List, ◌++◌, Option, Some, None, encode_utf8, codes, string_bytes, ◌⊎◌, Result, Ok, Err}
 use Rattle.glob_text.specs.declared.error.kind.ErrorKind.{ErrorKind}
 use Rattle.glob_text.specs.declared.error.kind.ErrorKind.TheVariants as kinds
-use Rattle.glob_syntax.specs.declared.fault.Fault.{Fault}
-use Rattle.glob_syntax.specs.declared.fault.Fault.TheVariants as faults
+use Rattle.glob_syntax.specs.declared.parse_error_kind.ParseErrorKind.{ParseErrorKind}
+use Rattle.glob_syntax.specs.declared.parse_error_kind.ParseErrorKind.TheVariants as faults
 use Rattle.glob_syntax.specs.declared.options.Options.{Options}
-use Rattle.glob_text.specs.Means.{GlobValue}
-use Rattle.glob_syntax.specs.Reading.{HasFault, reading}
+use Rattle.glob_text.specs.GlobMatches.{GlobValue}
+use Rattle.glob_syntax.specs.Reading.{HasParseError, reading}
 use Rattle.std.specs.Str.{chars}
 
 -- An error as contracts see it: the rejected text, if it holds one, and its kind.
@@ -19,7 +19,7 @@ abbrev pub out_of_memory : ErrorValue
 out_of_memory = record { glob = None; kind = kinds.OutOfMemory }
 
 -- the kind of the error of a text with this fault
-abbrev pub kind_of : Fault → ErrorKind
+abbrev pub kind_of : ParseErrorKind → ErrorKind
 kind_of faults.UnclosedClass = kinds.UnclosedClass
 kind_of (faults.InvalidRange start end) = kinds.InvalidRange start end
 kind_of faults.UnopenedAlternates = kinds.UnopenedAlternates
@@ -27,17 +27,17 @@ kind_of faults.UnclosedAlternates = kinds.UnclosedAlternates
 kind_of faults.DanglingEscape = kinds.DanglingEscape
 
 -- The error of a text with this fault. It holds the text.
-abbrev pub refusal : List ℕ → Fault → ErrorValue
-refusal text f = record { glob = Some text; kind = kind_of f }
+abbrev pub parse_error : List ℕ → ParseErrorKind → ErrorValue
+parse_error text f = record { glob = Some text; kind = kind_of f }
 
 -- The glob of a text under its options, or if the text has a fault, the error of its first fault.
-abbrev pub glob_or_refusal : GlobValue → Result GlobValue ErrorValue
-glob_or_refusal g = elim (reading g.options (chars g.text)) [ Ok ts ↦ Ok g | Err f ↦ Err (refusal g.text f) ]
+abbrev pub glob_or_parse_error : GlobValue → Result GlobValue ErrorValue
+glob_or_parse_error g = elim (reading g.options (chars g.text)) [ Ok ts ↦ Ok g | Err f ↦ Err (parse_error g.text f) ]
 
 -- The error is one that reading the text under these options may return: that of the text's first fault, or that memory ran
 -- out.
-abbrev pub IsRefusalOf : Options → List ℕ → ErrorValue → Type 0
-IsRefusalOf o text e = (e ≡ out_of_memory) ⊎ ((f : Fault) × HasFault o (chars text) f × (e ≡ refusal text f))
+abbrev pub IsParseErrorOf : Options → List ℕ → ErrorValue → Type 0
+IsParseErrorOf o text e = (e ≡ out_of_memory) ⊎ ((f : ParseErrorKind) × HasParseError o (chars text) f × (e ≡ parse_error text f))
 
 -- ---- displayed texts
 

@@ -3,7 +3,7 @@ use Rattle.std.specs.Prelude.{◌≡◌, ◌↔◌, ℕ, ◌==◌, List, [], ◌
 use Rattle.std.specs.List.{flat_map, list_all}
 use Rattle.std.specs.Str.{chars}
 use Rattle.glob_syntax.specs.declared.options.Options.{Options}
-use Rattle.glob_text.specs.Means.{GlobValue, default_options, IsRead, glob_means}
+use Rattle.glob_text.specs.GlobMatches.{GlobValue, default_options, IsRead, glob_matches}
 
 -- the character is `?`, `*`, `[`, `]`, `{` or `}`
 abbrev pub is_special : ℕ → Bool
@@ -33,4 +33,4 @@ plain_options = record default_options { backslash_escape = false }
 
 -- The glob has a reading, and matches this path and no other.
 abbrev pub MeansOnly : GlobValue → List ℕ → Type 0
-MeansOnly g path = IsRead g × ((b : List ℕ) → IsTrue (glob_means g b) ↔ (b ≡ path))
+MeansOnly g path = IsRead g × ((b : List ℕ) → IsTrue (glob_matches g b) ↔ (b ≡ path))

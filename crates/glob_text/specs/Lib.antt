@@ -1,4 +1,4 @@
-pub mod Means
+pub mod GlobMatches
 pub mod SmallRegex
 pub mod RegexText
 pub mod RegexDenotes

@@ -10,8 +10,8 @@ use Rattle.glob_text.specs.declared.error.kind.ErrorKind.{ErrorKind}
 use Rattle.glob_text.specs.declared.error.kind.ErrorKind.TheVariants as causes
 use Rattle.glob_text.specs.declared.json.error.ValueErrorKind.{ValueErrorKind}
 use Rattle.glob_text.specs.declared.json.error.ValueErrorKind.TheVariants as kinds
-use Rattle.glob_text.specs.Errors.{ErrorValue, out_of_memory, error_text, glob_or_refusal}
-use Rattle.glob_text.specs.Means.{GlobValue, default_glob, default_options}
+use Rattle.glob_text.specs.Errors.{ErrorValue, out_of_memory, error_text, glob_or_parse_error}
+use Rattle.glob_text.specs.GlobMatches.{GlobValue, default_glob, default_options}
 
 -- An error of a value as contracts see it: the index, if the error is about an element of an array, and the kind.
 pub record ValueErrorValue : Type 0 where
@@ -114,7 +114,7 @@ options_in entries = record {
 -- a key that is not known; an option that is neither true nor false; the error of the text.
 abbrev pub glob_of_members : Members → List ℕ → Result GlobValue ValueErrorValue
 glob_of_members entries text = if has_unknown_key entries then Err unknown_key
-    else (if has_non_boolean entries then Err not_bool else of_text (glob_or_refusal (record { text = text; options = options_in entries })))
+    else (if has_non_boolean entries then Err not_bool else of_text (glob_or_parse_error (record { text = text; options = options_in entries })))
 
 -- What an object is read as. That the value under `glob` is no text, or absent, comes before every other error.
 abbrev pub glob_of_object : Members → Result GlobValue ValueErrorValue
@@ -125,7 +125,7 @@ glob_of_object entries = elim (option_and_then as_str (get_member glob_key entri
 -- What a value is read as. A text is read as the glob of its content under the default options, or gives the error of that
 -- content, and an object is read by its members. Any other value gives the error `not_text`.
 abbrev pub glob_of_value : Data → Result GlobValue ValueErrorValue
-glob_of_value (string text) = of_text (glob_or_refusal (default_glob text))
+glob_of_value (string text) = of_text (glob_or_parse_error (default_glob text))
 glob_of_value null = Err not_text
 glob_of_value (boolean b) = Err not_text
 glob_of_value (number n) = Err not_text

@@ -8,7 +8,7 @@ ghost use Rattle.glob_text.specs.inner.Equality.{same_error, same_error_laws};
 
 pub mod kind;
 
-use glob_syntax::Fault;
+use glob_syntax::ParseErrorKind;
 use kind::ErrorKind;
 use std::alloc::{AllocError, AllocFailed, Global};
 use std::fmt;
@@ -54,18 +54,18 @@ impl Model for Error {
 
 impl Error {
     ghost use Rattle.std.specs.Option.{option_map};
-    ghost use Rattle.glob_text.specs.Errors.{refusal};
+    ghost use Rattle.glob_text.specs.Errors.{parse_error};
 
     /// Returns the error of a text with this fault. If the text cannot be copied, it says that memory ran out.
-    pub(crate) fn refusal(alloc: Global, text: &str, fault: Fault) -> Error
-        ensures { (result ≡ out_of_memory) ⊎ (result ≡ refusal text.now fault) }
+    pub(crate) fn parse_error(alloc: Global, text: &str, parse_error_kind: ParseErrorKind) -> Error
+        ensures { (result ≡ out_of_memory) ⊎ (result ≡ parse_error text.now parse_error_kind) }
     {
         let Ok(glob) = String::from_str(alloc, text) else {
             return Error::out_of_memory();
         };
         Error {
             glob: Some(glob),
-            kind: ErrorKind::of(fault),
+            kind: ErrorKind::of(parse_error_kind),
         }
     }
 

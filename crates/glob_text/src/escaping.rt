@@ -2,7 +2,7 @@
 
 ghost use Rattle.std.specs.Prelude.{◌≡◌, ◌++◌, IfOk, IfErr, OnOk, IsTrue, string_bytes, encode_utf8_all};
 ghost use Rattle.glob_text.specs.Errors.{out_of_memory};
-ghost use Rattle.glob_text.specs.Means.{default_glob};
+ghost use Rattle.glob_text.specs.GlobMatches.{default_glob};
 ghost use Rattle.glob_text.specs.Escape.{is_special, escaped_char, escaped, has_no_backslash, plain_options, MeansOnly};
 
 use crate::error::Error;

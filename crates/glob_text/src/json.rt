@@ -2,7 +2,7 @@
 
 ghost use Rattle.std.specs.Prelude.{◌≡◌, Err, MatchResult};
 ghost use Rattle.serde_json.specs.View.{view};
-ghost use Rattle.glob_text.specs.Errors.{glob_or_refusal};
+ghost use Rattle.glob_text.specs.Errors.{glob_or_parse_error};
 ghost use Rattle.glob_text.specs.Values.{glob_of_value, of_kind, of_text};
 
 pub mod error;
@@ -20,7 +20,7 @@ use serde_json::Value;
 /// [`ValueErrorKind::NotBool`].
 pub fn text_and_options(value: &Value) -> Result<(&str, Options), ValueErrorKind>
     ensures { MatchResult result
-        (λ (text, options). glob_of_value (view value.now) ≡ of_text (glob_or_refusal (record { text = text.now; options = options })))
+        (λ (text, options). glob_of_value (view value.now) ≡ of_text (glob_or_parse_error (record { text = text.now; options = options })))
         (λ kind. glob_of_value (view value.now) ≡ Err (of_kind kind)) }
 {
     match value {

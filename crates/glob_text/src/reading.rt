@@ -8,7 +8,7 @@ ghost use Rattle.glob_syntax.specs.StatesPerByte.{states_per_byte};
 ghost use Rattle.glob_syntax.specs.Views.{flats, tokens_of};
 ghost use Rattle.glob_syntax.specs.inner.Weight.{weight};
 ghost use Rattle.glob_syntax.specs.inner.WellFormed.{AreWellFormed};
-ghost use Rattle.glob_text.specs.Errors.{IsRefusalOf};
+ghost use Rattle.glob_text.specs.Errors.{IsParseErrorOf};
 
 use crate::error::Error;
 use glob_syntax::{Options, ReadError, Token, read_tokens};
@@ -23,11 +23,15 @@ pub fn tokens_of_text(alloc: Global, options: Options, text: &str) -> Result<Vec
     ensures nested { IfOk result (λ v. IsNested (flats v.items)) }
     ensures well_formed { IfOk result (λ v. AreWellFormed (tokens_of v.items)) }
     ensures weight { IfOk result (λ v. weight options (tokens_of v.items) ≤ states_per_byte options * length text.now) }
-    ensures err { IfErr result (IsRefusalOf options text.now) }
+    ensures err { IfErr result (IsParseErrorOf options text.now) }
 {
     match read_tokens(alloc, options, text) {
         Ok(tokens) => Ok(tokens),
         Err(ReadError::Memory) => Err(Error::out_of_memory()),
-        Err(ReadError::Fault(fault)) => Err(Error::refusal(alloc, text, fault)),
+        Err(ReadError::Syntax(parse_error_kind)) => Err(Error::parse_error(
+            alloc,
+            text,
+            parse_error_kind,
+        )),
     }
 }

@@ -1,16 +1,16 @@
 -- Laws of the indexes that sets return.
 use Rattle.std.specs.Prelude.{◌≡◌, ◌≢◌, ℕ, ◌<◌, ◌↔◌, false, if◌then◌else◌, List, [], ◌∷◌, ◌++◌, length, Contains, slice_get}
-use Rattle.globset_glob.specs.Means.{GlobValue, glob_means}
+use Rattle.globset_glob.specs.GlobMatches.{GlobValue, glob_matches}
 use Rattle.globset_glob.specs.Texts.{AllBytes}
 use Rattle.glob_path.specs.Below.{path_below}
-use Rattle.globset.specs.Silent.{silent, is_listed}
-use Rattle.globset.specs.Answer.{answer}
+use Rattle.globset.specs.Excluded.{excluded, is_reported}
+use Rattle.globset.specs.Answer.{matching_indexes}
 use Rattle.globset.specs.Below.{MatchesBelow}
 
--- One more glob after the others: if it is listed, its index is added at the end, and otherwise nothing changes.
+-- One more glob after the others: if it is reported, its index is added at the end, and otherwise nothing changes.
 abbrev pub AddKeeps : Type 0
 AddKeeps = (globs : List GlobValue) (g : GlobValue) (path : List ℕ)
-    → answer (globs ++ g ∷ []) path ≡ answer globs path ++ (if is_listed g path then length globs ∷ [] else [])
+    → matching_indexes (globs ++ g ∷ []) path ≡ matching_indexes globs path ++ (if is_reported g path then length globs ∷ [] else [])
 
 -- The second list has the globs of the first in another order, and `to` says where each one goes: the glob at index i
 -- of the first list is at index `to i` of the second. The renaming is one to one: `to` takes the indexes of the first
@@ -26,15 +26,15 @@ pub record IsReordered (first second : List GlobValue) (to : ℕ → ℕ) : Type
 -- is `to i` for an index i of the first list's answer.
 abbrev pub OrderRenames : Type 0
 OrderRenames = (first second : List GlobValue) (to : ℕ → ℕ) (path : List ℕ) → IsReordered first second to
-    → (j : ℕ) → Contains (answer second path) j ↔ ((i : ℕ) × Contains (answer first path) i × (to i ≡ j))
+    → (j : ℕ) → Contains (matching_indexes second path) j ↔ ((i : ℕ) × Contains (matching_indexes first path) i × (to i ≡ j))
 
--- A set of one glob that is not silent: the indexes are [0] on the paths that the glob matches, and none on all others.
+-- A set of one glob that is not excluded: the indexes are [0] on the paths that the glob matches, and none on all others.
 abbrev pub OneGlobSet : Type 0
-OneGlobSet = (g : GlobValue) (path : List ℕ) → silent g ≡ false → answer (g ∷ []) path ≡ (if glob_means g path then 0 ∷ [] else [])
+OneGlobSet = (g : GlobValue) (path : List ℕ) → excluded g ≡ false → matching_indexes (g ∷ []) path ≡ (if glob_matches g path then 0 ∷ [] else [])
 
 -- If a set matches a path below a folder, it matches below the folder.
 abbrev pub BelowHasPaths : Type 0
-BelowHasPaths = (globs : List GlobValue) (folder rest : List ℕ) → AllBytes rest → answer globs (path_below folder rest) ≢ [] → MatchesBelow globs folder
+BelowHasPaths = (globs : List GlobValue) (folder rest : List ℕ) → AllBytes rest → matching_indexes globs (path_below folder rest) ≢ [] → MatchesBelow globs folder
 
 -- If a set matches nothing below a folder, it matches nothing below each folder below that.
 abbrev pub BelowEnds : Type 0

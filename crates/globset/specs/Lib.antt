@@ -1,4 +1,4 @@
-pub mod Silent
+pub mod Excluded
 pub mod Answer
 pub mod Below
 pub mod Work
@@ -7,11 +7,11 @@ pub mod SetFromValue
 pub mod Lending
 pub mod Laws
 pub mod inner
-pub use Rattle.group_matching.specs.Indexes
-pub use Rattle.group_matching.specs.Visits
+pub use Rattle.set_matcher.specs.Indexes
+pub use Rattle.set_matcher.specs.Visits
 pub use Rattle.globset_glob.specs.Token
 pub use Rattle.globset_glob.specs.Ranges
-pub use Rattle.globset_glob.specs.Marks
+pub use Rattle.globset_glob.specs.Lexemes
 pub use Rattle.globset_glob.specs.Nesting
 pub use Rattle.globset_glob.specs.Stars
 pub use Rattle.globset_glob.specs.Reading
@@ -19,9 +19,9 @@ pub use Rattle.globset_glob.specs.Blank
 pub use Rattle.globset_glob.specs.ClassBytes
 pub use Rattle.globset_glob.specs.StatesPerByte
 pub use Rattle.globset_glob.specs.Characters
-pub use Rattle.globset_glob.specs.Takes
-pub use Rattle.globset_glob.specs.TokenMeans
-pub use Rattle.globset_glob.specs.Means
+pub use Rattle.globset_glob.specs.TokenMatches
+pub use Rattle.globset_glob.specs.TokensMatch
+pub use Rattle.globset_glob.specs.GlobMatches
 pub use Rattle.globset_glob.specs.SmallRegex
 pub use Rattle.globset_glob.specs.RegexText
 pub use Rattle.globset_glob.specs.RegexDenotes

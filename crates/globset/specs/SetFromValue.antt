@@ -1,7 +1,7 @@
 -- Sets from JSON values: the globs that a value stands for, or the error.
 use Rattle.std.specs.Prelude.{ℕ, ◌+◌, List, [], ◌∷◌, Result, Ok, Err}
 use Rattle.serde_json.specs.Data.{Data, null, boolean, number, string, array, object, Items, no_items, item}
-use Rattle.globset_glob.specs.Means.{GlobValue}
+use Rattle.globset_glob.specs.GlobMatches.{GlobValue}
 use Rattle.globset_glob.specs.Values.{ValueErrorValue, not_array, at_index, glob_of_value}
 
 -- a glob and the globs after it, or the error of what comes after it

@@ -1,7 +1,7 @@
 -- Sets, builders and scratches as contracts see them: as lists of globs, and as numbers.
 use Rattle.std.specs.Prelude.{ℕ, ◌≤◌, max, List, length}
 use Rattle.globset_glob.specs.Cost.{cost}
-use Rattle.globset_glob.specs.Means.{GlobValue}
+use Rattle.globset_glob.specs.GlobMatches.{GlobValue}
 
 -- A set is seen as the list of its globs, each a text and options, and one number: the states of its largest automaton. The
 -- first glob has index 0.

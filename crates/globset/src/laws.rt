@@ -21,7 +21,7 @@ pub fn order_renames()
     ensures { OrderRenames }
 {}
 
-/// If the only glob of a set is not silent, the set matches the paths that the glob's matcher matches: the indexes are
+/// If the only glob of a set is not excluded, the set matches the paths that the glob's matcher matches: the indexes are
 /// `[0]` on these paths, and none on all others.
 pub fn one_glob_set()
     ensures { OneGlobSet }

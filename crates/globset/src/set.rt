@@ -4,14 +4,13 @@ ghost use Rattle.std.specs.Prelude.{◌≡◌, ◌↔◌, All, List, [], IfOk, I
 ghost use Rattle.std.specs.Borrow.{Bor};
 ghost use Rattle.std.specs.Iterator.{Drains, IsFinite};
 ghost use Rattle.globset_glob.specs.Errors.{out_of_memory};
-ghost use Rattle.globset_glob.specs.Means.{GlobValue, IsRead};
+ghost use Rattle.globset_glob.specs.GlobMatches.{GlobValue, IsRead};
 ghost use Rattle.globset.specs.SetValue.{set_globs, set_states, builder_globs};
 
 mod all;
 mod any;
 mod below;
 mod building;
-mod given;
 mod matches;
 mod scratch;
 mod stored;
@@ -31,9 +30,9 @@ use stored::Stored;
 /// Contracts see the list of the globs, and the number of states of the largest automaton that was made for them. The set itself
 /// keeps what it needs to match, and neither the texts nor the tokens of the globs.
 ///
-/// [`GlobSet::matches`] returns the indexes of the globs that match a path. Silent globs are left out: a glob is silent
+/// [`GlobSet::matches`] returns the indexes of the globs that match a path. Excluded globs are left out: a glob is excluded
 /// if it is case-sensitive and is parsed like `**/..`. It counts in [`GlobSet::len`], so [`GlobSet::matches_all`] is
-/// false on every path if the set has a silent glob.
+/// false on every path if the set has an excluded glob.
 ///
 /// ```rust
 /// use globset::{Glob, GlobSet};
@@ -45,7 +44,7 @@ use stored::Stored;
 /// assert!(rt; !set.matches_all("a.c")?);
 /// ```
 ///
-/// A silent glob, which matches paths by itself, but not in a set:
+/// An excluded glob, which matches paths by itself, but not in a set:
 ///
 /// ```rust
 /// use globset::{Glob, GlobSet};
@@ -99,7 +98,7 @@ impl GlobSet {
         self.len() == 0
     }
 
-    /// Returns the number of globs in the set, silent globs included. It allocates nothing.
+    /// Returns the number of globs in the set, excluded globs included. It allocates nothing.
     pub fn len(&self) -> usize
         ensures count { result ≡ length (set_globs self.now) }
         ensures read { All IsRead (set_globs self.now) }
@@ -111,11 +110,11 @@ impl GlobSet {
     }
 
     /// Returns the number of states of the largest automaton.
-    fn most_states(&self) -> usize
+    fn max_states(&self) -> usize
         ensures { result ≡ set_states self.now }
     {
         match &self.stored {
-            Some(stored) => stored.most_states(),
+            Some(stored) => stored.max_states(),
             None => 0,
         }
     }
@@ -206,13 +205,13 @@ impl Clone for GlobSet {
     }
 }
 
-/// `GlobSet { len: .., most_states: .., table_bytes: .. }`: the number of globs, that of the states of the largest automaton, and
+/// `GlobSet { len: .., max_states: .., table_bytes: .. }`: the number of globs, that of the states of the largest automaton, and
 /// how many bytes the tables of deterministic automata take.
 impl fmt::Debug for GlobSet {
     fn fmt<W: fmt::Write>(&self, f: &mut fmt::Formatter<W>) -> fmt::Result {
         match &self.stored {
             Some(stored) => stored.fmt(f),
-            None => f.write_str("GlobSet { len: 0, most_states: 0, table_bytes: 0 }"),
+            None => f.write_str("GlobSet { len: 0, max_states: 0, table_bytes: 0 }"),
         }
     }
 }

@@ -1,7 +1,7 @@
 -- One more path of many.
 use Rattle.std.proofs.Common.{◌≡◌, ◌≤◌, ℕ, List, [], ◌∷◌, ◌++◌, refl, sym, ap, ◌∙◌, subst, append_assoc}
 use Rattle.std.specs.Prelude.{slice_range}
-use Rattle.globset_glob.specs.Means.{GlobValue}
+use Rattle.globset_glob.specs.GlobMatches.{GlobValue}
 use Rattle.globset_c.specs.Paths.{AreEnds, answer_byte, answers_for}
 
 pub next_answer : (globs : List GlobValue) (bytes done all rest tail : List ℕ) (start end : ℕ) → rest ≡ end ∷ tail

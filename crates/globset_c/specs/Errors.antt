@@ -1,9 +1,9 @@
 -- What C is told of errors.
 use Rattle.std.specs.Prelude.{◌≡◌, ℕ, List, Option, Some, None}
 use Rattle.std.specs.Str.{chars}
-use Rattle.glob_syntax.specs.Reading.{HasFault}
-use Rattle.glob_syntax.specs.declared.fault.Fault.{Fault}
-use Rattle.glob_text.specs.Errors.{kind_of, refusal, error_text}
+use Rattle.glob_syntax.specs.Reading.{HasParseError}
+use Rattle.glob_syntax.specs.declared.parse_error_kind.ParseErrorKind.{ParseErrorKind}
+use Rattle.glob_text.specs.Errors.{kind_of, parse_error, error_text}
 use Rattle.glob_text.specs.declared.error.kind.ErrorKind.{ErrorKind}
 use Rattle.glob_text.specs.declared.error.kind.ErrorKind.TheVariants as kinds
 use Rattle.globset_c.specs.Options.{options_of}
@@ -23,8 +23,8 @@ told (kinds.Regex text) = None
 
 -- The text is no glob under these options, and its first error is told.
 abbrev pub IsErrorOf : List ℕ → ℕ → TextError → Type 0
-IsErrorOf text options e = (f : Fault) × HasFault (options_of options) (chars text) f × (told (kind_of f) ≡ Some e)
+IsErrorOf text options e = (f : ParseErrorKind) × HasParseError (options_of options) (chars text) f × (told (kind_of f) ≡ Some e)
 
 -- The text is no glob under these options, and P holds of what its first error displays.
 abbrev pub IfRejected : List ℕ → ℕ → (List ℕ → Type 0) → Type 0
-IfRejected text options P = (f : Fault) × HasFault (options_of options) (chars text) f × P (error_text (refusal text f))
+IfRejected text options P = (f : ParseErrorKind) × HasParseError (options_of options) (chars text) f × P (error_text (parse_error text f))

@@ -1,11 +1,11 @@
 pub mod Answers
 pub mod Errors
-pub mod Growth
+pub mod Allocation
 pub mod Held
 pub mod Kinds
 pub mod Lending
 pub mod LentAt
 pub mod Options
 pub mod Paths
-pub mod Room
+pub mod Capacity
 pub mod Statuses

@@ -1,7 +1,7 @@
 -- What the bits of options stand for.
 use Rattle.std.specs.Prelude.{ℕ, ◌<◌, Bool, not, ◌==◌, List, bit_and}
 use Rattle.glob_syntax.specs.declared.options.Options.{Options}
-use Rattle.glob_text.specs.Means.{GlobValue}
+use Rattle.glob_text.specs.GlobMatches.{GlobValue}
 
 -- The bit, a power of 2, is among those of the options.
 abbrev pub has_bit : ℕ → ℕ → Bool

@@ -1,7 +1,7 @@
 -- Many paths as bytes and their ends.
 use Rattle.std.specs.Prelude.{ℕ, ◌≤◌, List, [], ◌∷◌, length, map, slice_range, ⊤}
-use Rattle.globset_glob.specs.Means.{GlobValue}
-use Rattle.globset.specs.Answer.{answer}
+use Rattle.globset_glob.specs.GlobMatches.{GlobValue}
+use Rattle.globset.specs.Answer.{matching_indexes}
 
 -- No end is below the one before it, where the first has `start` before it, nor above the number of bytes.
 abbrev pub AreEnds : ℕ → ℕ → List ℕ → Type 0
@@ -20,7 +20,7 @@ one_if_any (index ∷ indexes) = 1
 
 -- 1 if some glob matches the path in a set of these globs, and else 0
 abbrev pub answer_byte : List GlobValue → List ℕ → ℕ
-answer_byte globs path = one_if_any (answer globs path)
+answer_byte globs path = one_if_any (matching_indexes globs path)
 
 -- the answer of each path
 abbrev pub answers_for : List GlobValue → List ℕ → ℕ → List ℕ → List ℕ

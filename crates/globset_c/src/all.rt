@@ -3,7 +3,7 @@
 ghost use Rattle.std.specs.Prelude.{◌≡◌, ◌≢◌, ◌⊎◌, Some, [], ◌∷◌, IsSome};
 ghost use Rattle.globset.specs.SetValue.{Fits, FitsAsBefore};
 ghost use Rattle.globset_c.specs.Answers.{IsAll};
-ghost use Rattle.globset_c.specs.Growth.{IsGrown};
+ghost use Rattle.globset_c.specs.Allocation.{IsGrown};
 ghost use Rattle.globset_c.specs.Kinds.{IfSet, IfWork, IsSet, IsWork};
 ghost use Rattle.globset_c.specs.Statuses.{IsOneOf};
 

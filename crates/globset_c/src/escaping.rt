@@ -3,7 +3,7 @@
 ghost use Rattle.std.specs.Prelude.{◌≡◌, ◌≢◌, [], ◌∷◌, IfOk, IfErr, string_bytes};
 ghost use Rattle.std.specs.Str.{IsUtf8};
 ghost use Rattle.glob_text.specs.Escape.{escaped};
-ghost use Rattle.globset_c.specs.Room.{IsWritten, IsTooLong};
+ghost use Rattle.globset_c.specs.Capacity.{IsWritten, IsTooLong};
 ghost use Rattle.globset_c.specs.Statuses.{IsOneOf};
 
 use crate::status::{DONE, NOT_UTF8, OUT_OF_MEMORY, Status, TOO_SMALL};

@@ -2,13 +2,13 @@
 
 ghost use Rattle.std.specs.Prelude.{◌≡◌, ◌≢◌, Some, [], ◌∷◌, IfOk, IfErr, string_bytes};
 ghost use Rattle.std.specs.Str.{IsUtf8};
-ghost use Rattle.glob_text.specs.Errors.{IsRefusalOf, error_text, out_of_memory};
-ghost use Rattle.glob_text.specs.Means.{tokens_of_glob, IsRead};
+ghost use Rattle.glob_text.specs.Errors.{IsParseErrorOf, error_text, out_of_memory};
+ghost use Rattle.glob_text.specs.GlobMatches.{tokens_of_glob, IsRead};
 ghost use Rattle.glob_text.specs.RegexText.{regex_text};
 ghost use Rattle.globset_c.specs.Errors.{IsErrorOf, IfRejected};
 ghost use Rattle.globset_c.specs.Kinds.{IfGlob, IsGlob};
 ghost use Rattle.globset_c.specs.Options.{glob_of, options_of, IsKnown};
-ghost use Rattle.globset_c.specs.Room.{IsWritten, IsTooLong};
+ghost use Rattle.globset_c.specs.Capacity.{IsWritten, IsTooLong};
 ghost use Rattle.globset_c.specs.Statuses.{IsOneOf};
 ghost use Rattle.globset_c.specs.declared.globs.Unread.TheVariants.{NotUtf8, UnknownOption};
 ghost use Rattle.globset_c.specs.declared.object.Failure.TheVariants.{WrongKind};
@@ -36,7 +36,7 @@ enum Unread {
 /// Reads a glob under the options that the bits stand for.
 fn read(alloc: Global, text: &[u8], options: u32) -> Result<Result<Glob, Error>, Unread>
     ensures made { IfOk result (λ read. IfOk read (λ g. (g ≡ glob_of text.now options) × IsRead g)) }
-    ensures rejected { IfOk result (λ read. IfErr read (IsRefusalOf (options_of options) text.now)) }
+    ensures rejected { IfOk result (λ read. IfErr read (IsParseErrorOf (options_of options) text.now)) }
     ensures known { IfOk result (λ read. IsKnown options) }
     ensures unknown { IfErr result (λ why. why ≡ UnknownOption → ¬ (IsKnown options)) }
     ensures not_utf8 { IfErr result (λ why. why ≡ NotUtf8 → ¬ (IsUtf8 text.now)) }
@@ -73,7 +73,7 @@ pub extern "C" fn globset_raw_glob_new(
             Ok(()) => DONE,
             Err(_) => OUT_OF_MEMORY,
         },
-        Ok(Err(refusal)) => match told(&refusal) {
+        Ok(Err(parse_error)) => match told(&parse_error) {
             Some(told) => {
                 *error = told;
                 REJECTED
@@ -104,24 +104,24 @@ pub extern "C" fn globset_raw_error_text(
 {
     match read(alloc, text, options) {
         Ok(Ok(_)) => NO,
-        Ok(Err(refusal)) => say(alloc, &refusal, room, needed),
+        Ok(Err(parse_error)) => say(alloc, &parse_error, room, needed),
         Err(Unread::NotUtf8) => NOT_UTF8,
         Err(Unread::UnknownOption) => UNKNOWN_OPTION,
     }
 }
 
 /// Writes what an error of a text says.
-fn say(alloc: Global, refusal: &Error, room: &mut [u8], needed: &mut usize) -> Status
-    ensures done { result ≡ DONE → IsWritten (error_text refusal.now) room.old room.new needed.new }
-    ensures too_small { result ≡ TOO_SMALL → IsTooLong (error_text refusal.now) room.old room.new needed.new }
+fn say(alloc: Global, parse_error: &Error, room: &mut [u8], needed: &mut usize) -> Status
+    ensures done { result ≡ DONE → IsWritten (error_text parse_error.now) room.old room.new needed.new }
+    ensures too_small { result ≡ TOO_SMALL → IsTooLong (error_text parse_error.now) room.old room.new needed.new }
     ensures refused { result ≢ DONE → room.new ≡ room.old }
-    ensures of_text { result ≢ OUT_OF_MEMORY → refusal.now ≢ out_of_memory }
+    ensures of_text { result ≢ OUT_OF_MEMORY → parse_error.now ≢ out_of_memory }
     ensures statuses { IsOneOf (DONE ∷ OUT_OF_MEMORY ∷ TOO_SMALL ∷ []) result }
 {
-    if refusal.glob().is_none() {
+    if parse_error.glob().is_none() {
         return OUT_OF_MEMORY;
     }
-    match refusal.to_string(alloc) {
+    match parse_error.to_string(alloc) {
         Ok(said) => text::write(said.as_bytes(), room, needed),
         Err(_) => OUT_OF_MEMORY,
     }

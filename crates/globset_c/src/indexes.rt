@@ -1,9 +1,9 @@
 //! The indexes of the globs that match a path.
 
 ghost use Rattle.std.specs.Prelude.{◌≡◌, ◌≢◌, Some, [], ◌∷◌, IsSome};
-ghost use Rattle.globset.specs.Answer.{answer};
+ghost use Rattle.globset.specs.Answer.{matching_indexes};
 ghost use Rattle.globset.specs.SetValue.{set_globs};
-ghost use Rattle.globset_c.specs.Growth.{HoldsIndexesOf};
+ghost use Rattle.globset_c.specs.Allocation.{HoldsIndexesOf};
 ghost use Rattle.globset_c.specs.Kinds.{IfSet, IfWork, IsSet, IsWork};
 ghost use Rattle.globset_c.specs.Statuses.{IsOneOf};
 
@@ -30,9 +30,9 @@ pub extern "C" fn globset_raw_set_matches<'a>(
 ) -> Status
     requires owned { IsSome work.old.object }
     ensures same_set { set.new ≡ set.old }
-    ensures found { result ≡ DONE → IfSet (Some set.old.object) (λ s. indexes.new.items.now ≡ answer (set_globs s) path.now) }
-    ensures none { result ≢ DONE → indexes.new.items.now ≡ [] }
-    ensures memory { IfSet (Some set.old.object) (λ s. IfWork work.old.object (λ w. HoldsIndexesOf w s)) → result ≡ DONE }
+    ensures found { result ≡ DONE → IfSet (Some set.old.object) (λ s. indexes.new.items.now ≡ matching_indexes (set_globs s) path.now) }
+    ensures empty_after_errors { result ≢ DONE → indexes.new.items.now ≡ [] }
+    ensures succeeds_if_fits { IfSet (Some set.old.object) (λ s. IfWork work.old.object (λ w. HoldsIndexesOf w s)) → result ≡ DONE }
     ensures right_kind { IsSet (Some set.old.object) → IsWork work.old.object → result ≢ WRONG_KIND }
     ensures statuses { IsOneOf (DONE ∷ OUT_OF_MEMORY ∷ WRONG_KIND ∷ []) result }
 {
@@ -61,8 +61,8 @@ fn found_in(object: &mut Object) -> &[usize]
 
 fn find(object: &Object, boxed: Box<Object>, path: &[u8]) -> (Box<Object>, Status)
     ensures found { result.1 ≡ DONE → IfSet (Some object.now) (λ s. IfWork (Some result.0.value) (λ w.
-        w.found.items ≡ answer (set_globs s) path.now)) }
-    ensures memory { IfSet (Some object.now) (λ s. IfWork (Some boxed.value) (λ w. HoldsIndexesOf w s)) → result.1 ≡ DONE }
+        w.found.items ≡ matching_indexes (set_globs s) path.now)) }
+    ensures succeeds_if_fits { IfSet (Some object.now) (λ s. IfWork (Some boxed.value) (λ w. HoldsIndexesOf w s)) → result.1 ≡ DONE }
     ensures right_kind { IsSet (Some object.now) → IsWork (Some boxed.value) → result.1 ≢ WRONG_KIND }
     ensures statuses { IsOneOf (DONE ∷ OUT_OF_MEMORY ∷ WRONG_KIND ∷ []) result.1 }
 {
@@ -78,8 +78,8 @@ fn find(object: &Object, boxed: Box<Object>, path: &[u8]) -> (Box<Object>, Statu
 }
 
 fn find_in(set: &GlobSet, work: &mut Work, path: &[u8]) -> Status
-    ensures found { result ≡ DONE → work.new.found.items ≡ answer (set_globs set.now) path.now }
-    ensures memory { HoldsIndexesOf work.old set.now → result ≡ DONE }
+    ensures found { result ≡ DONE → work.new.found.items ≡ matching_indexes (set_globs set.now) path.now }
+    ensures succeeds_if_fits { HoldsIndexesOf work.old set.now → result ≡ DONE }
     ensures statuses { IsOneOf (DONE ∷ OUT_OF_MEMORY ∷ []) result }
 {
     if fit_indexes(work, set).is_err() {

@@ -2,7 +2,7 @@
 
 ghost use Rattle.std.specs.Prelude.{◌≡◌, ◌≢◌, ◌⊎◌, Some, [], ◌∷◌, IsSome, IfOk, IfErr, OnOk, length};
 ghost use Rattle.globset.specs.SetValue.{Fits, FitsAsBefore, set_globs};
-ghost use Rattle.globset_c.specs.Growth.{IsGrown};
+ghost use Rattle.globset_c.specs.Allocation.{IsGrown};
 ghost use Rattle.globset_c.specs.Kinds.{IfSet, IsSet, IsWork};
 ghost use Rattle.globset_c.specs.Paths.{AreEnds, answer_byte, answers_for};
 ghost use Rattle.globset_c.specs.Statuses.{IsOneOf};

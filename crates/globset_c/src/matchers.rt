@@ -1,9 +1,9 @@
 //! Matchers of one glob.
 
 ghost use Rattle.std.specs.Prelude.{◌≡◌, ◌≢◌, ◌⊎◌, Some, [], ◌∷◌, true, false, IfOk, IfErr, IsSome};
-ghost use Rattle.glob_text.specs.Means.{glob_means};
+ghost use Rattle.glob_text.specs.GlobMatches.{glob_matches};
 ghost use Rattle.globset.specs.SetValue.{FitsAsBefore, FitsMatcher};
-ghost use Rattle.globset_c.specs.Growth.{IsGrown};
+ghost use Rattle.globset_c.specs.Allocation.{IsGrown};
 ghost use Rattle.globset_c.specs.Kinds.{IfGlob, IsGlob, IfMatcher, IfWork, IsMatcher, IsWork};
 ghost use Rattle.globset_c.specs.Statuses.{IsOneOf};
 ghost use Rattle.globset_c.specs.declared.object.Failure.TheVariants.{WrongKind};
@@ -53,8 +53,8 @@ pub extern "C" fn globset_raw_matcher_is_match(
     requires owned { IsSome work.old.object }
     ensures owned { IsSome work.new.object }
     ensures same_matcher { matcher.new ≡ matcher.old }
-    ensures yes { result ≡ YES → IfMatcher (Some matcher.old.object) (λ m. glob_means m path.now ≡ true) }
-    ensures no { result ≡ NO → IfMatcher (Some matcher.old.object) (λ m. glob_means m path.now ≡ false) }
+    ensures yes { result ≡ YES → IfMatcher (Some matcher.old.object) (λ m. glob_matches m path.now ≡ true) }
+    ensures no { result ≡ NO → IfMatcher (Some matcher.old.object) (λ m. glob_matches m path.now ≡ false) }
     ensures fits { IfMatcher (Some matcher.old.object) (λ m. IfWork work.old.object (λ w. FitsMatcher w.scratch m)) →
         (result ≡ YES) ⊎ (result ≡ NO) }
     ensures grown { IsGrown work.old.object work.new.object }
@@ -70,8 +70,8 @@ pub extern "C" fn globset_raw_matcher_is_match(
 }
 
 fn is_match_of(object: &Object, boxed: Box<Object>, path: &[u8]) -> (Box<Object>, Status)
-    ensures yes { result.1 ≡ YES → IfMatcher (Some object.now) (λ m. glob_means m path.now ≡ true) }
-    ensures no { result.1 ≡ NO → IfMatcher (Some object.now) (λ m. glob_means m path.now ≡ false) }
+    ensures yes { result.1 ≡ YES → IfMatcher (Some object.now) (λ m. glob_matches m path.now ≡ true) }
+    ensures no { result.1 ≡ NO → IfMatcher (Some object.now) (λ m. glob_matches m path.now ≡ false) }
     ensures fits { IfMatcher (Some object.now) (λ m. IfWork (Some boxed.value) (λ w. FitsMatcher w.scratch m)) →
         (result.1 ≡ YES) ⊎ (result.1 ≡ NO) }
     ensures grown { IsGrown (Some boxed.value) (Some result.0.value) }
@@ -90,8 +90,8 @@ fn is_match_of(object: &Object, boxed: Box<Object>, path: &[u8]) -> (Box<Object>
 }
 
 fn is_match_in(matcher: &GlobMatcher, work: &mut Work, path: &[u8]) -> Status
-    ensures yes { result ≡ YES → glob_means matcher.now path.now ≡ true }
-    ensures no { result ≡ NO → glob_means matcher.now path.now ≡ false }
+    ensures yes { result ≡ YES → glob_matches matcher.now path.now ≡ true }
+    ensures no { result ≡ NO → glob_matches matcher.now path.now ≡ false }
     ensures fits { FitsMatcher work.old.scratch matcher.now → (result ≡ YES) ⊎ (result ≡ NO) }
     ensures others { FitsAsBefore work.old.scratch work.new.scratch }
     ensures statuses { IsOneOf (NO ∷ YES ∷ OUT_OF_MEMORY ∷ []) result }

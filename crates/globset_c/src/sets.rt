@@ -1,10 +1,10 @@
 //! Sets of globs, and questions about one path.
 
 ghost use Rattle.std.specs.Prelude.{◌≡◌, ◌≢◌, ◌⊎◌, Some, None, [], ◌∷◌, length, IfSome, IsSome};
-ghost use Rattle.globset.specs.Answer.{answer};
+ghost use Rattle.globset.specs.Answer.{matching_indexes};
 ghost use Rattle.globset.specs.SetValue.{Fits, FitsAsBefore, set_globs};
 ghost use Rattle.globset.specs.Indexes.{ContainsAllBelow};
-ghost use Rattle.globset_c.specs.Growth.{IsGrown};
+ghost use Rattle.globset_c.specs.Allocation.{IsGrown};
 ghost use Rattle.globset_c.specs.Kinds.{IfSet, IfWork, IsSet, IsWork};
 ghost use Rattle.globset_c.specs.Statuses.{IsOneOf};
 
@@ -49,8 +49,8 @@ pub extern "C" fn globset_raw_set_is_match(set: &mut Lent, work: &mut Owned, pat
     requires owned { IsSome work.old.object }
     ensures owned { IsSome work.new.object }
     ensures same_set { set.new ≡ set.old }
-    ensures yes { result ≡ YES → IfSet (Some set.old.object) (λ s. answer (set_globs s) path.now ≢ []) }
-    ensures no { result ≡ NO → IfSet (Some set.old.object) (λ s. answer (set_globs s) path.now ≡ []) }
+    ensures yes { result ≡ YES → IfSet (Some set.old.object) (λ s. matching_indexes (set_globs s) path.now ≢ []) }
+    ensures no { result ≡ NO → IfSet (Some set.old.object) (λ s. matching_indexes (set_globs s) path.now ≡ []) }
     ensures fits { IfSet (Some set.old.object) (λ s. IfWork work.old.object (λ w. Fits w.scratch s)) →
         (result ≡ YES) ⊎ (result ≡ NO) }
     ensures grown { IsGrown work.old.object work.new.object }
@@ -66,8 +66,8 @@ pub extern "C" fn globset_raw_set_is_match(set: &mut Lent, work: &mut Owned, pat
 }
 
 fn is_match_of(object: &Object, boxed: Box<Object>, path: &[u8]) -> (Box<Object>, Status)
-    ensures yes { result.1 ≡ YES → IfSet (Some object.now) (λ s. answer (set_globs s) path.now ≢ []) }
-    ensures no { result.1 ≡ NO → IfSet (Some object.now) (λ s. answer (set_globs s) path.now ≡ []) }
+    ensures yes { result.1 ≡ YES → IfSet (Some object.now) (λ s. matching_indexes (set_globs s) path.now ≢ []) }
+    ensures no { result.1 ≡ NO → IfSet (Some object.now) (λ s. matching_indexes (set_globs s) path.now ≡ []) }
     ensures fits { IfSet (Some object.now) (λ s. IfWork (Some boxed.value) (λ w. Fits w.scratch s)) →
         (result.1 ≡ YES) ⊎ (result.1 ≡ NO) }
     ensures grown { IsGrown (Some boxed.value) (Some result.0.value) }
@@ -87,8 +87,8 @@ fn is_match_of(object: &Object, boxed: Box<Object>, path: &[u8]) -> (Box<Object>
 
 #[tactic(auto, using(crate::proofs::Nil::nil_where_none))]
 fn is_match_in(set: &GlobSet, work: &mut Work, path: &[u8]) -> Status
-    ensures yes { result ≡ YES → answer (set_globs set.now) path.now ≢ [] }
-    ensures no { result ≡ NO → answer (set_globs set.now) path.now ≡ [] }
+    ensures yes { result ≡ YES → matching_indexes (set_globs set.now) path.now ≢ [] }
+    ensures no { result ≡ NO → matching_indexes (set_globs set.now) path.now ≡ [] }
     ensures fits { Fits work.old.scratch set.now → (result ≡ YES) ⊎ (result ≡ NO) }
     ensures others { FitsAsBefore work.old.scratch work.new.scratch }
     ensures statuses { IsOneOf (NO ∷ YES ∷ OUT_OF_MEMORY ∷ []) result }

@@ -1,7 +1,7 @@
 //! Texts that are written into a caller's room.
 
 ghost use Rattle.std.specs.Prelude.{◌≡◌, ◌≢◌};
-ghost use Rattle.globset_c.specs.Room.{IsWritten, IsTooLong};
+ghost use Rattle.globset_c.specs.Capacity.{IsWritten, IsTooLong};
 ghost use Rattle.globset_c.specs.Statuses.{IsOneOf};
 ghost use Rattle.std.specs.Prelude.{[], ◌∷◌};
 

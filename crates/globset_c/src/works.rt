@@ -2,7 +2,7 @@
 
 ghost use Rattle.std.specs.Prelude.{◌≡◌, ◌≢◌, ◌⊎◌, ◌≤◌, Some, [], ◌∷◌, IsSome, IsOk, OnOk, OnErr, length, vec_capacity};
 ghost use Rattle.globset.specs.SetValue.{Fits, FitsAsBefore, FitsMatcher, set_globs};
-ghost use Rattle.globset_c.specs.Growth.{as_object, IsFitFor, IsGrown, HoldsIndexesOf};
+ghost use Rattle.globset_c.specs.Allocation.{as_object, IsFitFor, IsGrown, HoldsIndexesOf};
 ghost use Rattle.globset_c.specs.Kinds.{IfWork, IsMatcher, IsSet, IsWork};
 ghost use Rattle.globset_c.specs.Statuses.{IsOneOf};
 
@@ -42,7 +42,7 @@ pub extern "C" fn globset_raw_work_fit(work: &mut Owned, asked: &mut Lent) -> St
     ensures same { asked.new ≡ asked.old }
     ensures fits { result ≡ DONE → IsFitFor (Some asked.old.object) work.new.object }
     ensures grown { IsGrown work.old.object work.new.object }
-    ensures memory { IsFitFor (Some asked.old.object) work.old.object → result ≡ DONE }
+    ensures succeeds_if_fits { IsFitFor (Some asked.old.object) work.old.object → result ≡ DONE }
     ensures right_kind { IsSet (Some asked.old.object) ⊎ IsMatcher (Some asked.old.object) → IsWork work.old.object →
         result ≢ WRONG_KIND }
     ensures statuses { IsOneOf (DONE ∷ OUT_OF_MEMORY ∷ WRONG_KIND ∷ []) result }
@@ -56,7 +56,7 @@ pub extern "C" fn globset_raw_work_fit(work: &mut Owned, asked: &mut Lent) -> St
 fn fit_boxed(object: &Object, boxed: Box<Object>) -> (Box<Object>, Status)
     ensures fits { result.1 ≡ DONE → IsFitFor (Some object.now) (Some result.0.value) }
     ensures grown { IsGrown (Some boxed.value) (Some result.0.value) }
-    ensures memory { IsFitFor (Some object.now) (Some boxed.value) → result.1 ≡ DONE }
+    ensures succeeds_if_fits { IsFitFor (Some object.now) (Some boxed.value) → result.1 ≡ DONE }
     ensures right_kind { IsSet (Some object.now) ⊎ IsMatcher (Some object.now) → IsWork (Some boxed.value) →
         result.1 ≢ WRONG_KIND }
     ensures statuses { IsOneOf (DONE ∷ OUT_OF_MEMORY ∷ WRONG_KIND ∷ []) result.1 }
@@ -72,7 +72,7 @@ fn fit_boxed(object: &Object, boxed: Box<Object>) -> (Box<Object>, Status)
 fn fit_object(object: &Object, work: &mut Work) -> Status
     ensures fits { result ≡ DONE → IsFitFor (Some object.now) (as_object work.new) }
     ensures others { FitsAsBefore work.old.scratch work.new.scratch }
-    ensures memory { IsFitFor (Some object.now) (as_object work.old) → result ≡ DONE }
+    ensures succeeds_if_fits { IsFitFor (Some object.now) (as_object work.old) → result ≡ DONE }
     ensures right_kind { IsSet (Some object.now) ⊎ IsMatcher (Some object.now) → result ≢ WRONG_KIND }
     ensures statuses { IsOneOf (DONE ∷ OUT_OF_MEMORY ∷ WRONG_KIND ∷ []) result }
 {
@@ -91,7 +91,7 @@ fn fit_object(object: &Object, work: &mut Work) -> Status
 pub fn fit(work: &mut Work, set: &GlobSet) -> Result<(), AllocError>
     ensures fits { OnOk result (Fits work.new.scratch set.now) }
     ensures others { FitsAsBefore work.old.scratch work.new.scratch }
-    ensures memory { Fits work.old.scratch set.now → IsOk result }
+    ensures succeeds_if_fits { Fits work.old.scratch set.now → IsOk result }
     ensures same_found { work.new.found ≡ work.old.found }
 {
     match work.scratch.fit(set) {
@@ -104,7 +104,7 @@ pub fn fit(work: &mut Work, set: &GlobSet) -> Result<(), AllocError>
 pub fn fit_indexes(work: &mut Work, set: &GlobSet) -> Result<(), AllocError>
     ensures fits { OnOk result (HoldsIndexesOf work.new set.now) }
     ensures others { FitsAsBefore work.old.scratch work.new.scratch }
-    ensures memory { HoldsIndexesOf work.old set.now → IsOk result }
+    ensures succeeds_if_fits { HoldsIndexesOf work.old set.now → IsOk result }
 {
     fit(work, set)?;
     work.found.clear();
@@ -115,7 +115,7 @@ pub fn fit_indexes(work: &mut Work, set: &GlobSet) -> Result<(), AllocError>
 pub fn fit_matcher(work: &mut Work, matcher: &GlobMatcher) -> Result<(), AllocError>
     ensures fits { OnOk result (FitsMatcher work.new.scratch matcher.now) }
     ensures others { FitsAsBefore work.old.scratch work.new.scratch }
-    ensures memory { FitsMatcher work.old.scratch matcher.now → IsOk result }
+    ensures succeeds_if_fits { FitsMatcher work.old.scratch matcher.now → IsOk result }
     ensures same_found { work.new.found ≡ work.old.found }
 {
     match work.scratch.fit_matcher(matcher) {

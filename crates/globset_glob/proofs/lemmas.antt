@@ -1,1 +1,1 @@
-pub mod GlobAutomaton
+pub mod GlobNfa

@@ -1,7 +1,7 @@
 pub mod Cost
 pub mod GlobBelow
 pub mod inner
-pub use Rattle.glob_text.specs.Means
+pub use Rattle.glob_text.specs.GlobMatches
 pub use Rattle.glob_text.specs.SmallRegex
 pub use Rattle.glob_text.specs.RegexText
 pub use Rattle.glob_text.specs.RegexDenotes
@@ -11,7 +11,7 @@ pub use Rattle.glob_text.specs.Values
 pub use Rattle.glob_text.specs.Escape
 pub use Rattle.glob_syntax.specs.Token
 pub use Rattle.glob_syntax.specs.Ranges
-pub use Rattle.glob_syntax.specs.Marks
+pub use Rattle.glob_syntax.specs.Lexemes
 pub use Rattle.glob_syntax.specs.Nesting
 pub use Rattle.glob_syntax.specs.Stars
 pub use Rattle.glob_syntax.specs.Reading
@@ -20,8 +20,8 @@ pub use Rattle.glob_syntax.specs.ClassBytes
 pub use Rattle.glob_syntax.specs.StatesPerByte
 pub use Rattle.glob_syntax.specs.Views
 pub use Rattle.glob_path.specs.PathParts
-pub use Rattle.byte_automaton.specs.Texts
-pub use Rattle.glob_automaton.specs.Blank
-pub use Rattle.glob_automaton.specs.Characters
-pub use Rattle.glob_automaton.specs.Takes
-pub use Rattle.glob_automaton.specs.TokenMeans
+pub use Rattle.byte_nfa.specs.Texts
+pub use Rattle.glob_nfa.specs.Blank
+pub use Rattle.glob_nfa.specs.Characters
+pub use Rattle.glob_nfa.specs.TokenMatches
+pub use Rattle.glob_nfa.specs.TokensMatch

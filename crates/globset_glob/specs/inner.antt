@@ -1,1 +1,2 @@
-pub mod GlobAutomaton
+pub mod GivenGlobs
+pub mod GlobNfa

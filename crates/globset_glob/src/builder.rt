@@ -1,7 +1,7 @@
 //! The text and the options of a glob, before it is read.
 
 ghost use Rattle.std.specs.Prelude.{◌≡◌, IfOk, IfErr};
-ghost use Rattle.glob_text.specs.Errors.{IsRefusalOf};
+ghost use Rattle.glob_text.specs.Errors.{IsParseErrorOf};
 
 use crate::glob::Glob;
 use glob_syntax::Options;
@@ -26,7 +26,7 @@ pub struct GlobBuilder<'a> {
 }
 
 impl<'a> Model for GlobBuilder<'a> {
-    ghost use Rattle.glob_text.specs.Means.{GlobValue};
+    ghost use Rattle.glob_text.specs.GlobMatches.{GlobValue};
 
     ghost Value = { GlobValue };
 
@@ -34,7 +34,7 @@ impl<'a> Model for GlobBuilder<'a> {
 }
 
 impl<'a> GlobBuilder<'a> {
-    ghost use Rattle.glob_text.specs.Means.{IsRead, default_glob};
+    ghost use Rattle.glob_text.specs.GlobMatches.{IsRead, default_glob};
 
     /// Returns a builder with this text and the default options: `backslash_escape` is on, and the others are off.
     pub fn new(text: &'a str) -> GlobBuilder<'a>
@@ -147,7 +147,7 @@ impl<'a> GlobBuilder<'a> {
     pub fn build(&self, alloc: Global) -> Result<Glob, Error>
         ensures ok { IfOk result (λ g. g ≡ self.now) }
         ensures read { IfOk result IsRead }
-        ensures err { IfErr result (IsRefusalOf self.now.options self.now.text) }
+        ensures err { IfErr result (IsParseErrorOf self.now.options self.now.text) }
     {
         Glob::read(alloc, self.options, self.text)
     }

@@ -10,8 +10,8 @@ ghost use Rattle.std.proofs.lemmas.Slice.Eq.{bytes_eq-Decides};
 ghost use Rattle.glob_syntax.specs.contracts.options.OptionsEq.TheImpl.Laws.{laws-law};
 ghost use Rattle.glob_syntax.specs.contracts.options.OptionsHash.TheImpl.Laws.{respects_eq-law};
 ghost use Rattle.glob_text.specs.inner.Equality.{same_glob};
-ghost use Rattle.glob_text.specs.Errors.{out_of_memory, IsRefusalOf};
-ghost use Rattle.glob_text.specs.Means.{GlobValue, tokens_of_glob, glob_means};
+ghost use Rattle.glob_text.specs.Errors.{out_of_memory, IsParseErrorOf};
+ghost use Rattle.glob_text.specs.GlobMatches.{GlobValue, tokens_of_glob, glob_matches};
 
 use crate::builder::GlobBuilder;
 use crate::matcher::GlobMatcher;
@@ -58,7 +58,7 @@ impl Drop for Glob {
 impl Model for Glob {
     ghost use Rattle.std.specs.Prelude.{◌≡◌, ◌≤◌, ◌*◌, Ok, length, string_bytes};
     ghost use Rattle.std.specs.Str.{chars};
-    ghost use Rattle.glob_text.specs.Means.{GlobValue};
+    ghost use Rattle.glob_text.specs.GlobMatches.{GlobValue};
     ghost use Rattle.glob_syntax.specs.Reading.{reading};
     ghost use Rattle.glob_text.specs.RegexText.{regex_text};
     ghost use Rattle.glob_syntax.specs.FlatTokens.{IsNested};
@@ -81,7 +81,7 @@ impl Model for Glob {
 }
 
 impl Glob {
-    ghost use Rattle.glob_text.specs.Means.{IsRead, default_glob, default_options};
+    ghost use Rattle.glob_text.specs.GlobMatches.{IsRead, default_glob, default_options};
     ghost use Rattle.glob_text.specs.RegexText.{regex_text};
     ghost use Rattle.glob_text.specs.RegexDenotes.{HasExpression};
 
@@ -92,7 +92,7 @@ impl Glob {
     pub fn new(alloc: Global, glob: &str) -> Result<Glob, Error>
         ensures ok { IfOk result (λ g. g ≡ default_glob glob.now) }
         ensures read { IfOk result IsRead }
-        ensures err { IfErr result (IsRefusalOf default_options glob.now) }
+        ensures err { IfErr result (IsParseErrorOf default_options glob.now) }
     {
         GlobBuilder::new(glob).build(alloc)
     }
@@ -101,7 +101,7 @@ impl Glob {
     pub fn from_str(alloc: Global, glob: &str) -> Result<Glob, Error>
         ensures ok { IfOk result (λ g. g ≡ default_glob glob.now) }
         ensures read { IfOk result IsRead }
-        ensures err { IfErr result (IsRefusalOf default_options glob.now) }
+        ensures err { IfErr result (IsParseErrorOf default_options glob.now) }
     {
         Glob::new(alloc, glob)
     }
@@ -130,7 +130,7 @@ impl Glob {
     /// ```
     pub fn regex(&self) -> &str
         ensures text { result.now ≡ regex_text self.now.options (tokens_of_glob self.now) }
-        ensures denotes { HasExpression (glob_means self.now) result.now }
+        ensures denotes { HasExpression (glob_matches self.now) result.now }
     {
         self.regex.as_str()
     }
@@ -181,7 +181,7 @@ impl Glob {
 
 impl Glob {
     ghost use Rattle.std.specs.Str.{chars};
-    ghost use Rattle.glob_text.specs.Means.{IsRead};
+    ghost use Rattle.glob_text.specs.GlobMatches.{IsRead};
     ghost use Rattle.glob_syntax.specs.Reading.{reading};
     ghost use Rattle.glob_syntax.specs.FlatTokens.{IsNested};
     ghost use Rattle.glob_syntax.specs.StatesPerByte.{states_per_byte};
@@ -192,7 +192,7 @@ impl Glob {
     pub(crate) fn read(alloc: Global, options: Options, text: &str) -> Result<Glob, Error>
         ensures ok { IfOk result (λ g. g ≡ record { text = text.now; options = options }) }
         ensures read { IfOk result IsRead }
-        ensures err { IfErr result (IsRefusalOf options text.now) }
+        ensures err { IfErr result (IsParseErrorOf options text.now) }
     {
         let tokens = tokens_of_text(alloc, options, text)?;
         let regex = regex_of_tokens(alloc, options, &tokens)?;
@@ -254,7 +254,7 @@ impl PartialEq for Glob {
         ensures result { result ≡ same_glob self.now other.now }
         ensures fields { IsTrue result ↔ (self.now ≡ other.now) }
         ensures tokens { IsTrue result → tokens_of_glob self.now ≡ tokens_of_glob other.now }
-        ensures paths { IsTrue result → (path : List ℕ) → glob_means self.now path ≡ glob_means other.now path }
+        ensures paths { IsTrue result → (path : List ℕ) → glob_matches self.now path ≡ glob_matches other.now path }
     {
         self.text == other.text && self.options == other.options
     }

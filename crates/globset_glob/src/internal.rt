@@ -3,7 +3,7 @@
 ghost use Rattle.std.specs.Prelude.{◌≡◌, ◌≤◌, ◌*◌, ◌^◌, MatchOption, Ok, length};
 ghost use Rattle.std.specs.Str.{chars};
 ghost use Rattle.glob_syntax.specs.Reading.{reading};
-ghost use Rattle.glob_text.specs.Means.{tokens_of_glob};
+ghost use Rattle.glob_text.specs.GlobMatches.{tokens_of_glob};
 ghost use Rattle.glob_syntax.specs.FlatTokens.{IsNested};
 ghost use Rattle.glob_syntax.specs.StatesPerByte.{states_per_byte};
 ghost use Rattle.glob_syntax.specs.Views.{flats, tokens_of};
@@ -33,7 +33,7 @@ pub fn options_of(glob: &Glob) -> Options
 }
 
 /// Returns the most states that the automaton of a matcher may have, or `None` if a `usize` is too small for the number.
-pub fn most_states_of(matcher: &GlobMatcher) -> Option<usize>
+pub fn max_states_of(matcher: &GlobMatcher) -> Option<usize>
     ensures { MatchOption result (2 ^ 64 ≤ cost matcher.now) (λ n. n ≡ cost matcher.now) }
 {
     let glob = matcher.glob();

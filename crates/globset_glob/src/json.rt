@@ -3,7 +3,7 @@
 ghost use Rattle.std.specs.Prelude.{◌≡◌, IfOk, IfErr, Ok};
 ghost use Rattle.serde_json.specs.View.{view};
 ghost use Rattle.glob_text.specs.Errors.{out_of_memory};
-ghost use Rattle.glob_text.specs.Means.{IsRead};
+ghost use Rattle.glob_text.specs.GlobMatches.{IsRead};
 ghost use Rattle.glob_text.specs.Values.{IsValueErrorOf, glob_of_value, value_of_glob};
 
 use crate::glob::Glob;

@@ -2,20 +2,20 @@
 
 ghost use Rattle.std.specs.Prelude.{◌≡◌, ◌+◌, ◌≤◌, ◌↔◌, IfOk, IfErr, IsTrue};
 ghost use Rattle.glob_text.specs.Errors.{out_of_memory};
-ghost use Rattle.globset_glob.specs.Cost.{cost, most_visits, most_visits_below};
-ghost use Rattle.globset_glob.specs.GlobBelow.{GlobMeansBelow};
+ghost use Rattle.globset_glob.specs.Cost.{cost, max_visits, max_visits_below};
+ghost use Rattle.globset_glob.specs.GlobBelow.{GlobMatchesBelow};
 
-mod form;
 mod scratch;
+mod strategy;
 
 use crate::glob::Glob;
-use form::Form;
 use glob_path::{AsPath, Candidate};
 use glob_text::Error;
 pub use scratch::MatcherScratch;
 use std::alloc::AllocError;
 use std::fmt;
 use std::marker::Model;
+use strategy::Strategy;
 use visits::Visits;
 
 /// Tells whether a glob matches a path.
@@ -34,37 +34,40 @@ use visits::Visits;
 /// ```
 pub struct GlobMatcher {
     glob: Glob,
-    form: Form,
+    strategy: Strategy,
 }
 
 impl Drop for GlobMatcher {
     // One call wherever a value is dropped, which keeps proofs short.
     fn drop(self) {
-        let GlobMatcher { glob: _, form: _ } = self;
+        let GlobMatcher {
+            glob: _,
+            strategy: _,
+        } = self;
     }
 }
 
 impl Model for GlobMatcher {
-    ghost use Rattle.glob_text.specs.Means.{GlobValue};
-    ghost use Rattle.globset_glob.specs.inner.GlobAutomaton.{IsFormOf};
+    ghost use Rattle.glob_text.specs.GlobMatches.{GlobValue};
+    ghost use Rattle.globset_glob.specs.inner.GlobNfa.{IsStrategyOfMatcher};
 
     ghost Value = { GlobValue };
 
     ghost view = { λ m. m.glob };
 
-    ghost invariant = { λ m. IsFormOf m.glob m.form };
+    ghost invariant = { λ m. IsStrategyOfMatcher m.glob m.strategy };
 }
 
 impl GlobMatcher {
-    ghost use Rattle.glob_text.specs.Means.{glob_means};
+    ghost use Rattle.glob_text.specs.GlobMatches.{glob_matches};
 
     /// Returns a matcher of a glob, at the cost of [`Glob::compile_matcher_with_limit`]. Returns an error if memory runs out.
     pub(crate) fn new(glob: Glob, dfa_size_limit: usize) -> Result<GlobMatcher, Error>
         ensures ok { IfOk result (λ m. m ≡ glob) }
         ensures err { IfErr result (λ e. e ≡ out_of_memory) }
     {
-        let form = Form::of(&glob, dfa_size_limit)?;
-        Ok(GlobMatcher { glob, form })
+        let strategy = Strategy::of(&glob, dfa_size_limit)?;
+        Ok(GlobMatcher { glob, strategy })
     }
 
     /// Returns the glob.
@@ -78,7 +81,7 @@ impl GlobMatcher {
     ///
     /// For a path that is not UTF-8, or that several matchers are tried on, make a [`Candidate`].
     pub fn is_match<P: AsPath>(&self, path: P) -> Result<bool, Error>
-        ensures ok { IfOk result (λ yes. yes ≡ glob_means self.now (P.text path)) }
+        ensures ok { IfOk result (λ yes. yes ≡ glob_matches self.now (P.text path)) }
         ensures err { IfErr result (λ e. e ≡ out_of_memory) }
     {
         self.is_match_candidate(&Candidate::new(path.path_text()))
@@ -93,7 +96,7 @@ impl GlobMatcher {
     /// assert!(rt; matcher.is_match_candidate(&Candidate::from_bytes(b"\xff.c"))?);
     /// ```
     pub fn is_match_candidate(&self, path: &Candidate<'_>) -> Result<bool, Error>
-        ensures ok { IfOk result (λ yes. yes ≡ glob_means self.now path.now) }
+        ensures ok { IfOk result (λ yes. yes ≡ glob_matches self.now path.now) }
         ensures err { IfErr result (λ e. e ≡ out_of_memory) }
     {
         let mut visits = Visits::new();
@@ -106,12 +109,12 @@ impl GlobMatcher {
     /// factor under `whole_character`, also if memory runs out. The call allocates nothing if the matcher compares literals or has
     /// a deterministic automaton, and otherwise two sets of states, of one bit for each state of the automaton.
     pub fn is_match_visits(&self, path: &Candidate<'_>, visits: &mut Visits) -> Result<bool, Error>
-        ensures ok { IfOk result (λ yes. yes ≡ glob_means self.now path.now) }
+        ensures ok { IfOk result (λ yes. yes ≡ glob_matches self.now path.now) }
         ensures err { IfErr result (λ e. e ≡ out_of_memory) }
-        ensures visits { visits.new ≤ visits.old + most_visits self.now path.now }
+        ensures visits { visits.new ≤ visits.old + max_visits self.now path.now }
         ensures counted { visits.old ≤ visits.new }
     {
-        Ok(self.form.is_match(self.glob.allocator(), path, visits)?)
+        Ok(self.strategy.is_match(self.glob.allocator(), path, visits)?)
     }
 
     /// Does what [`is_match_visits`](GlobMatcher::is_match_visits) does, with memory that is handed in: it takes none, and
@@ -136,12 +139,12 @@ impl GlobMatcher {
         visits: &mut Visits,
     ) -> bool
         requires { cost self.now ≤ S.states scratch.old }
-        ensures matches { result ≡ glob_means self.now path.now }
+        ensures matches { result ≡ glob_matches self.now path.now }
         ensures kept { scratch.new ≡ scratch.old }
-        ensures visits { visits.new ≤ visits.old + most_visits self.now path.now }
+        ensures visits { visits.new ≤ visits.old + max_visits self.now path.now }
         ensures counted { visits.old ≤ visits.new }
     {
-        self.form.is_match_with(path, scratch, visits)
+        self.strategy.is_match_with(path, scratch, visits)
     }
 
     /// Returns whether the glob matches some path below a folder, or an error if memory runs out.
@@ -161,7 +164,7 @@ impl GlobMatcher {
     /// assert!(rt; !matcher.can_match_below("src")?);
     /// ```
     pub fn can_match_below<P: AsPath>(&self, folder: P) -> Result<bool, Error>
-        ensures ok { IfOk result (λ yes. IsTrue yes ↔ GlobMeansBelow self.now (P.text folder)) }
+        ensures ok { IfOk result (λ yes. IsTrue yes ↔ GlobMatchesBelow self.now (P.text folder)) }
         ensures err { IfErr result (λ e. e ≡ out_of_memory) }
     {
         self.can_match_below_candidate(&Candidate::new(folder.path_text()))
@@ -170,7 +173,7 @@ impl GlobMatcher {
     /// Returns whether the glob matches some path below a candidate's path, as [`can_match_below`](GlobMatcher::can_match_below)
     /// does, or an error if memory runs out.
     pub fn can_match_below_candidate(&self, folder: &Candidate<'_>) -> Result<bool, Error>
-        ensures ok { IfOk result (λ yes. IsTrue yes ↔ GlobMeansBelow self.now folder.now) }
+        ensures ok { IfOk result (λ yes. IsTrue yes ↔ GlobMatchesBelow self.now folder.now) }
         ensures err { IfErr result (λ e. e ≡ out_of_memory) }
     {
         let mut visits = Visits::new();
@@ -187,13 +190,13 @@ impl GlobMatcher {
         folder: &Candidate<'_>,
         visits: &mut Visits,
     ) -> Result<bool, Error>
-        ensures ok { IfOk result (λ yes. IsTrue yes ↔ GlobMeansBelow self.now folder.now) }
+        ensures ok { IfOk result (λ yes. IsTrue yes ↔ GlobMatchesBelow self.now folder.now) }
         ensures err { IfErr result (λ e. e ≡ out_of_memory) }
-        ensures visits { visits.new ≤ visits.old + most_visits_below self.now folder.now }
+        ensures visits { visits.new ≤ visits.old + max_visits_below self.now folder.now }
         ensures counted { visits.old ≤ visits.new }
     {
         Ok(
-            self.form
+            self.strategy
                 .can_match_below(self.glob.allocator(), folder, visits)?,
         )
     }
@@ -204,8 +207,8 @@ impl GlobMatcher {
         ensures err { IfErr result (λ e. e ≡ out_of_memory) }
     {
         let glob = self.glob.clone()?;
-        let form = self.form.copy_for(&glob)?;
-        Ok(GlobMatcher { glob, form })
+        let strategy = self.strategy.copy_for(&glob)?;
+        Ok(GlobMatcher { glob, strategy })
     }
 }
 
@@ -227,7 +230,7 @@ impl fmt::Debug for GlobMatcher {
     fn fmt<W: fmt::Write>(&self, f: &mut fmt::Formatter<W>) -> fmt::Result {
         f.debug_struct("GlobMatcher")
             .field("glob", &self.glob)
-            .field("table_bytes", &self.form.table_bytes())
+            .field("table_bytes", &self.strategy.table_bytes())
             .finish()
     }
 }

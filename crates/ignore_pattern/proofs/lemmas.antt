@@ -4,7 +4,7 @@ pub mod Booleans
 pub mod Braces
 pub mod ClassBodies
 pub mod Classes
-pub mod ElementMarks
+pub mod ElementLexemes
 pub mod ElementTokens
 pub mod Ends
 pub mod Exactness

@@ -55,8 +55,8 @@ item_has byte (Range x y) = is_spanned byte (encode_utf8 x) (encode_utf8 y)
 item_has byte (Named name) = named_has name byte
 
 -- The class matches the byte: an item contains it, or no item does if the class is negated. No class matches `/`.
-unfoldable pub class_takes : Bool → List Item → ℕ → Bool
-class_takes negated items byte = not (byte == 47) && (if negated then not (list_any (item_has byte) items) else list_any (item_has byte) items)
+unfoldable pub class_matches : Bool → List Item → ℕ → Bool
+class_matches negated items byte = not (byte == 47) && (if negated then not (list_any (item_has byte) items) else list_any (item_has byte) items)
 
 -- ---- reading
 

@@ -5,8 +5,8 @@
 use Rattle.std.specs.Prelude.{ℕ, zero, suc, ◌+◌, Bool, true, false, not, ◌&&◌, ◌||◌, ◌==◌, List, [], ◌∷◌, drop, Option, Some, None, if◌then◌else◌, encode_utf8}
 use Rattle.std.specs.List.{list_all, prefix_len}
 use Rattle.std.specs.Str.{bytes_eq}
-use Rattle.globset_glob.specs.Takes.{is_empty, is_one_byte, ends_with_slash, some_cut}
-use Rattle.ignore_pattern.specs.Classes.{class_items, class_takes, is_negated}
+use Rattle.globset_glob.specs.TokenMatches.{is_empty, is_one_byte, ends_with_slash, some_cut}
+use Rattle.ignore_pattern.specs.Classes.{class_items, class_matches, is_negated}
 use Rattle.ignore_pattern.specs.declared.item.Item.{Item}
 use Rattle.ignore_pattern.specs.declared.place.Place.{Place}
 use Rattle.ignore_pattern.specs.declared.place.Place.TheVariants.{Start, AfterSlash, Elsewhere}
@@ -32,22 +32,22 @@ abbrev pub is_inner : ℕ → Bool
 is_inner byte = not (byte == 47)
 
 -- the element matches the bytes
-abbrev pub element_takes : Element → List ℕ → Bool
-element_takes (Literal c) b = bytes_eq b (encode_utf8 c)
+abbrev pub element_matches : Element → List ℕ → Bool
+element_matches (Literal c) b = bytes_eq b (encode_utf8 c)
 -- any byte but `/`
-element_takes Any b = is_one_byte is_inner b
+element_matches Any b = is_one_byte is_inner b
 -- any bytes but `/`, or none
-element_takes Star b = list_all is_inner b
+element_matches Star b = list_all is_inner b
 -- no bytes, or bytes that end with `/`
-element_takes Folders b = is_empty b || ends_with_slash b
+element_matches Folders b = is_empty b || ends_with_slash b
 -- any bytes, or none
-element_takes Everything b = true
-element_takes (Class negated items) b = is_one_byte (class_takes negated items) b
+element_matches Everything b = true
+element_matches (Class negated items) b = is_one_byte (class_matches negated items) b
 
 -- the elements match the bytes one after another
 unfoldable pub elements_take : List Element → List ℕ → Bool
 elements_take [] b = is_empty b
-elements_take (e ∷ es) b = some_cut (λ x y. element_takes e x && elements_take es y) b
+elements_take (e ∷ es) b = some_cut (λ x y. element_matches e x && elements_take es y) b
 
 -- ---- reading
 

@@ -1,7 +1,7 @@
 -- The glob of a line.
 use Rattle.std.specs.Prelude.{ℕ, List, Option, encode_utf8_all}
 use Rattle.std.specs.Option.{option_map, option_and_then}
-use Rattle.globset_glob.specs.Means.{GlobValue}
+use Rattle.globset_glob.specs.GlobMatches.{GlobValue}
 use Rattle.ignore_pattern.specs.Patterns.{Pattern, pattern_of_line}
 use Rattle.ignore_pattern.specs.Translation.{glob_options, pattern_text}
 use Rattle.ignore_pattern.specs.declared.pattern.IgnorePattern.{IgnorePattern}

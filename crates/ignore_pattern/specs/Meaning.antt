@@ -1,17 +1,17 @@
 -- The glob of a pattern has the pattern's meaning. This is the contract of a function of the module `laws`.
 use Rattle.std.specs.Prelude.{◌≡◌, ℕ, false, List, Option, Some, None, All}
 use Rattle.std.specs.Char.{IsScalar}
-use Rattle.globset_glob.specs.Means.{GlobValue, IsRead, tokens_of_glob, glob_means}
-use Rattle.glob_groups.specs.Silent.{are_silent}
+use Rattle.globset_glob.specs.GlobMatches.{GlobValue, IsRead, tokens_of_glob, glob_matches}
+use Rattle.glob_strategy.specs.Excluded.{are_excluded}
 use Rattle.ignore_pattern.specs.Patterns.{Pattern, pattern_of_chars, pattern_matches}
 use Rattle.ignore_pattern.specs.Translation.{pattern_text}
 use Rattle.ignore_pattern.specs.Globs.{translated}
 
--- A glob that has the meaning of a pattern: it is read, it is not silent, and it matches the paths that the pattern matches.
+-- A glob that has the meaning of a pattern: it is read, it is not excluded, and it matches the paths that the pattern matches.
 pub record HasMeaningOf (p : Pattern) (g : GlobValue) : Type 0 where
   pub read : IsRead g
-  pub listed : are_silent g.options (tokens_of_glob g) ≡ false
-  pub means : (path : List ℕ) → glob_means g path ≡ pattern_matches p path
+  pub listed : are_excluded g.options (tokens_of_glob g) ≡ false
+  pub tokens_match : (path : List ℕ) → glob_matches g path ≡ pattern_matches p path
 
 -- a pattern that matches no path
 abbrev pub MatchesNothing : Pattern → Type 0

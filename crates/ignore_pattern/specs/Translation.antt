@@ -1,7 +1,7 @@
 -- The glob that has the meaning of a pattern.
 use Rattle.std.specs.Prelude.{ℕ, ◌+◌, ◌%◌, Bool, true, false, not, ◌&&◌, ◌||◌, ◌==◌, nat_lt, List, [], ◌∷◌, ◌++◌, Option, Some, None, codes, cond, if◌then◌else◌, filter}
 use Rattle.std.specs.List.{list_any, flat_map, range_with_len}
-use Rattle.globset_glob.specs.Means.{default_options}
+use Rattle.globset_glob.specs.GlobMatches.{default_options}
 use Rattle.glob_syntax.specs.declared.options.Options.{Options}
 use Rattle.ignore_pattern.specs.Classes.{item_has}
 use Rattle.ignore_pattern.specs.declared.item.Item.{Item}

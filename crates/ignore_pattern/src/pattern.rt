@@ -1,7 +1,7 @@
 //! The pattern of a line, as a glob.
 
 ghost use Rattle.std.specs.Prelude.{◌≡◌, IfOk, IfErr};
-ghost use Rattle.globset_glob.specs.Errors.{IsRefusalOf, out_of_memory};
+ghost use Rattle.globset_glob.specs.Errors.{IsParseErrorOf, out_of_memory};
 ghost use Rattle.ignore_pattern.specs.Answer.{IsPatternOf};
 ghost use Rattle.ignore_pattern.specs.Globs.{glob_of_line};
 ghost use Rattle.ignore_pattern.specs.Translation.{glob_options};
@@ -52,7 +52,7 @@ pub fn pattern_of_line(alloc: Global, line: &[u8]) -> Result<Option<IgnorePatter
 /// Returns the glob of this text, under the options of a translation.
 fn glob_of_text(alloc: Global, text: &str) -> Result<Glob, Error>
     ensures ok { IfOk result (λ g. g ≡ record { text = text.now; options = glob_options }) }
-    ensures err { IfErr result (IsRefusalOf glob_options text.now) }
+    ensures err { IfErr result (IsParseErrorOf glob_options text.now) }
 {
     GlobBuilder::new(text)
         .literal_separator(true)

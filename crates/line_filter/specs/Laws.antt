@@ -1,6 +1,6 @@
 -- A law of the output.
 use Rattle.std.specs.Prelude.{◌≡◌, ℕ, List, [], ◌∷◌, ◌++◌, Bool}
-use Rattle.globset.specs.Means.{GlobValue}
+use Rattle.globset.specs.GlobMatches.{GlobValue}
 use Rattle.line_filter.specs.Output.{sifted}
 
 -- An input that is cut after an LF (10): the output for the first part, and after it that for the second, is the output for

@@ -7,8 +7,8 @@
 use Rattle.std.specs.Prelude.{◌≡◌, ℕ, List, [], ◌∷◌, ◌++◌, Bool, true, false, Option, decimal, flat_map, map, if◌then◌else◌}
 use Rattle.std.specs.List.{join_with_byte, list_any}
 use Rattle.std.specs.Io.KnownBytes.{Appends, Consumes, IsAtEnd}
-use Rattle.globset.specs.Answer.{answer}
-use Rattle.globset.specs.Means.{GlobValue}
+use Rattle.globset.specs.Answer.{matching_indexes}
+use Rattle.globset.specs.GlobMatches.{GlobValue}
 use Rattle.line_filter.specs.Lines.{lines, through_last_lf}
 use Rattle.line_filter.specs.declared.sifting.fault.SiftFault.{SiftFault}
 use Rattle.line_filter.specs.declared.sifting.fault.SiftFault.TheVariants.{Read, Write, OutOfMemory}
@@ -18,9 +18,9 @@ abbrev pub has_index : List ℕ → Bool
 has_index [] = false
 has_index (index ∷ indexes) = true
 
--- The set of these globs matches the line. `answer` is the indexes of the globs that match, as a set returns them.
+-- The set of these globs matches the line. `matching_indexes` is the indexes of the globs that match, as a set returns them.
 abbrev pub is_matched : List GlobValue → List ℕ → Bool
-is_matched globs line = has_index (answer globs line)
+is_matched globs line = has_index (matching_indexes globs line)
 
 -- the indexes in decimal, separated by `,` (44), and a tab (9)
 abbrev pub index_text : List ℕ → List ℕ
@@ -33,7 +33,7 @@ index_column numbered indexes = if numbered then index_text indexes else []
 -- What is written for one line: nothing if the set does not match it. Otherwise the index column, the line and LF (10).
 unfoldable pub line_output : List GlobValue → Bool → List ℕ → List ℕ
 line_output globs numbered line =
-    if is_matched globs line then index_column numbered (answer globs line) ++ line ++ 10 ∷ [] else []
+    if is_matched globs line then index_column numbered (matching_indexes globs line) ++ line ++ 10 ∷ [] else []
 
 -- the output for these bytes: what is written for each of their lines, in order
 unfoldable pub sifted : List GlobValue → Bool → List ℕ → List ℕ
@@ -49,16 +49,16 @@ AppendsPrefix old new bytes = (out : List ℕ) × (rest : List ℕ) × Appends o
 
 -- On success: the reader was read to its end, the whole output for its bytes was written, and `any` says whether that was
 -- a line at least.
-abbrev pub Sifts : List GlobValue → Bool → Option (List ℕ) → Option (List ℕ) → Option (List ℕ) → Option (List ℕ) → Bool → Type 0
-Sifts globs numbered reader reader' writer writer' any = (bytes : List ℕ) × Consumes reader reader' bytes × IsAtEnd reader'
+abbrev pub SiftSucceeds : List GlobValue → Bool → Option (List ℕ) → Option (List ℕ) → Option (List ℕ) → Option (List ℕ) → Bool → Type 0
+SiftSucceeds globs numbered reader reader' writer writer' any = (bytes : List ℕ) × Consumes reader reader' bytes × IsAtEnd reader'
     × Appends writer writer' (sifted globs numbered bytes) × (any ≡ has_match globs bytes)
 
 -- On an error: what was written of the output for the bytes that were read. If reading failed, the output for those up to
 -- their last LF. If writing failed or memory ran out, a prefix of the output.
-abbrev pub Stops : List GlobValue → Bool → Option (List ℕ) → Option (List ℕ) → Option (List ℕ) → Option (List ℕ) → SiftFault → Type 0
-Stops globs numbered reader reader' writer writer' Read = (bytes : List ℕ) × Consumes reader reader' bytes
+abbrev pub SiftFails : List GlobValue → Bool → Option (List ℕ) → Option (List ℕ) → Option (List ℕ) → Option (List ℕ) → SiftFault → Type 0
+SiftFails globs numbered reader reader' writer writer' Read = (bytes : List ℕ) × Consumes reader reader' bytes
     × Appends writer writer' (sifted globs numbered (through_last_lf bytes))
-Stops globs numbered reader reader' writer writer' Write = (bytes : List ℕ) × Consumes reader reader' bytes
+SiftFails globs numbered reader reader' writer writer' Write = (bytes : List ℕ) × Consumes reader reader' bytes
     × AppendsPrefix writer writer' (sifted globs numbered bytes)
-Stops globs numbered reader reader' writer writer' OutOfMemory = (bytes : List ℕ) × Consumes reader reader' bytes
+SiftFails globs numbered reader reader' writer writer' OutOfMemory = (bytes : List ℕ) × Consumes reader reader' bytes
     × AppendsPrefix writer writer' (sifted globs numbered bytes)

@@ -2,7 +2,7 @@
 
 ghost use Rattle.std.specs.Prelude.{◌≡◌, MatchResult, IfOk, length};
 ghost use Rattle.globset.specs.SetValue.{set_globs};
-ghost use Rattle.line_filter.specs.Output.{Sifts, Stops};
+ghost use Rattle.line_filter.specs.Output.{SiftSucceeds, SiftFails};
 
 pub mod fault;
 mod index_text;
@@ -57,9 +57,9 @@ pub fn sift<R: Read, W: Write>(
     writer: &mut W,
 ) -> Result<bool, SiftFault>
     ensures { MatchResult result
-        (Sifts (set_globs set.now) numbered (R.remaining reader.old) (R.remaining reader.new)
+        (SiftSucceeds (set_globs set.now) numbered (R.remaining reader.old) (R.remaining reader.new)
         (W.contents writer.old) (W.contents writer.new))
-        (Stops (set_globs set.now) numbered (R.remaining reader.old) (R.remaining reader.new)
+        (SiftFails (set_globs set.now) numbered (R.remaining reader.old) (R.remaining reader.new)
         (W.contents writer.old) (W.contents writer.new)) }
 {
     let mut chunk = zeros(alloc, CHUNK)?;

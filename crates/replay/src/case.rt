@@ -1,7 +1,7 @@
 //! Rows about globs, sets, paths and JSON values.
 
 ghost use Rattle.std.specs.Prelude.{◌≡◌, IfOk};
-ghost use Rattle.globset.specs.Means.{glob_means};
+ghost use Rattle.globset.specs.GlobMatches.{glob_matches};
 
 use crate::column::{Columns, Escaped, Indexes, unescaped, unescaped_text, yes_or_no};
 use crate::fault::Fault;
@@ -270,7 +270,7 @@ fn ask_under(
     path: &Candidate<'_>,
     asked: Asked,
 ) -> Result<bool, Error>
-    ensures path { asked ≡ Asked.Path → IfOk result (λ yes. yes ≡ glob_means glob.now path.now) }
+    ensures path { asked ≡ Asked.Path → IfOk result (λ yes. yes ≡ glob_matches glob.now path.now) }
 {
     match limit {
         Some(limit) => ask(&glob.compile_matcher_with_limit(limit)?, path, asked),
@@ -279,7 +279,7 @@ fn ask_under(
 }
 
 fn ask(matcher: &GlobMatcher, path: &Candidate<'_>, asked: Asked) -> Result<bool, Error>
-    ensures path { asked ≡ Asked.Path → IfOk result (λ yes. yes ≡ glob_means matcher.now path.now) }
+    ensures path { asked ≡ Asked.Path → IfOk result (λ yes. yes ≡ glob_matches matcher.now path.now) }
 {
     match asked {
         Asked::Path => matcher.is_match_candidate(path),

@@ -131,13 +131,13 @@ module _ (word r : ℕ) (low : r < 64) where
   cut_bit i lt = rw mask_is (bit_at_and word (2 ^ (r + 1) - 1) i ∙ (let none = bit_at_ones_above (r + 1) i (omega arith) in omega arith))
 
 -- nothing is set in the mask
-pub none_below : (words : List ℕ) (upto word : ℕ) → 0 < upto → word ≡ get_or words ((upto - 1) / 64) 0
-    → bit_and word (18446744073709551615 / 2 ^ (63 - (upto - 1) % 64)) ≡ 0
-    → (k : ℕ) → (upto - 1) / 64 * 64 ≤ k → k < upto → bit_of words k ≡ false
+pub none_below : (words : List ℕ) (limit word : ℕ) → 0 < limit → word ≡ get_or words ((limit - 1) / 64) 0
+    → bit_and word (18446744073709551615 / 2 ^ (63 - (limit - 1) % 64)) ≡ 0
+    → (k : ℕ) → (limit - 1) / 64 * 64 ≤ k → k < limit → bit_of words k ≡ false
 unfolding masked
-none_below words upto word some read nil k low high =
-    let r : ℕ = (upto - 1) % 64 in
-    let at : ℕ = (upto - 1) / 64 in
+none_below words limit word some read nil k low high =
+    let r : ℕ = (limit - 1) % 64 in
+    let at : ℕ = (limit - 1) / 64 in
     let row : k / 64 ≡ at = omega arith in
     let small : r < 64 = omega arith in
     let le : k % 64 ≤ r = omega arith in
@@ -147,16 +147,16 @@ none_below words upto word some read nil k low high =
 
 -- the highest bit that is set below the bound
 abbrev pub IsTop : List ℕ → ℕ → ℕ → Type 0
-IsTop words upto at = (at < upto) × (bit_of words at ≡ true) × ((k : ℕ) → at < k → k < upto → bit_of words k ≡ false)
+IsTop words limit at = (at < limit) × (bit_of words at ≡ true) × ((k : ℕ) → at < k → k < limit → bit_of words k ≡ false)
 
 -- the highest bit of the mask
-pub top_below : (words : List ℕ) (upto word : ℕ) → 0 < upto → word ≡ get_or words ((upto - 1) / 64) 0 → word < 2 ^ 64
-    → 0 < bit_and word (18446744073709551615 / 2 ^ (63 - (upto - 1) % 64))
-    → IsTop words upto ((upto - 1) / 64 * 64 + (63 - leading_zeros w64 (bit_and word (18446744073709551615 / 2 ^ (63 - (upto - 1) % 64)))))
+pub top_below : (words : List ℕ) (limit word : ℕ) → 0 < limit → word ≡ get_or words ((limit - 1) / 64) 0 → word < 2 ^ 64
+    → 0 < bit_and word (18446744073709551615 / 2 ^ (63 - (limit - 1) % 64))
+    → IsTop words limit ((limit - 1) / 64 * 64 + (63 - leading_zeros w64 (bit_and word (18446744073709551615 / 2 ^ (63 - (limit - 1) % 64)))))
 unfolding masked
-top_below words upto word some read fits more =
-    let r : ℕ = (upto - 1) % 64 in
-    let at : ℕ = (upto - 1) / 64 in
+top_below words limit word some read fits more =
+    let r : ℕ = (limit - 1) % 64 in
+    let at : ℕ = (limit - 1) / 64 in
     let small : r < 64 = omega arith in
     let m : ℕ = masked word r small in
     let within : m < 2 ^ 64 = omega (arith, and_le_l word (18446744073709551615 / 2 ^ (63 - r))) in
@@ -167,7 +167,7 @@ top_below words upto word some read fits more =
       | inr le ↦ le
     ] in
     let same : at * 64 + j ≡ at * 64 + (63 - leading_zeros w64 m) = omega arith in
-    subst (IsTop words upto) same (
+    subst (IsTop words limit) same (
       omega arith,
       bit_in words (at * 64 + j) at j (omega arith) (omega arith) ∙ ap (λ x. eqb (bit_at x j) 1) (sym read) ∙ one_bit (bit_at word j) (sym (kept_bit word r small j le) ∙ top),
       λ k low high.

@@ -8,10 +8,6 @@ use Rattle.bit_sets.specs.Bytes.{differ}
 use Rattle.bit_sets.specs.Bits.{bit_of}
 use Rattle.bit_sets.proofs.lemmas.Bits.{bit_in}
 
--- the word moved down by one bit, and the lowest bit of the next
-moved : ℕ → ℕ → ℕ
-moved word next = bit_or (word / 2 ^ 1) (bit_and next 1 * 2 ^ 63 % 2 ^ 64)
-
 top : (next : ℕ) → bit_and next 1 * 2 ^ 63 % 2 ^ 64 ≡ bit_at next 0 * 2 ^ 63 + 0
 top next =
     let one : bit_and next 1 ≡ bit_at next 0 * 2 ^ 0 = and_pow next 0 in

@@ -13,8 +13,8 @@ module _ (old words places : List ℕ) (from : ℕ)
     (cleared : (k : ℕ) → k / 64 < from → bit_of words k ≡ (not (bit_of places (k / 64)) && bit_of old k))
     (kept : (k : ℕ) → from ≤ k / 64 → bit_of words k ≡ bit_of old k) where
   -- where no place is set from `from` on
-  pub cleared_upto : (k : ℕ) → (from ≤ k / 64 → bit_of places (k / 64) ≡ false) → bit_of words k ≡ (not (bit_of places (k / 64)) && bit_of old k)
-  cleared_upto k none =
+  pub cleared_limit : (k : ℕ) → (from ≤ k / 64 → bit_of places (k / 64) ≡ false) → bit_of words k ≡ (not (bit_of places (k / 64)) && bit_of old k)
+  cleared_limit k none =
       elim (cases_lt (k / 64) from) [
         | inl before ↦ cleared k before
         | inr low ↦ rw (none low) (kept k low)
@@ -30,7 +30,7 @@ module _ (old words places : List ℕ) (from : ℕ)
   cleared_next at within none is k lt =
       elim (cases_eq (k / 64) at) [
         | inl here ↦ zeroed_here words at k within here ∙ sym (ap (λ p. not p && bit_of old k) (ap (bit_of places) here ∙ is))
-        | inr other ↦ zeroed_other words at k other ∙ cleared_upto k (λ low. none (k / 64) low (omega (arith, other)))
+        | inr other ↦ zeroed_other words at k other ∙ cleared_limit k (λ low. none (k / 64) low (omega (arith, other)))
       ]
 
   pub kept_next : (at : ℕ) → from ≤ at → (k : ℕ) → at + 1 ≤ k / 64 → bit_of (set words at 0) k ≡ bit_of old k

@@ -4,7 +4,7 @@ use Rattle.std.specs.Prelude.{◌||◌, ◌==◌, Contains}
 use Rattle.std.proofs.Math.Logic.{⊎_elim}
 use Rattle.std.proofs.lemmas.Bool.{or_cases, eqb-true, eq-eqb}
 use Rattle.std.proofs.lemmas.List.Elements.{Contains-append_left, Contains-append_right, Contains-append_cases}
-use Rattle.bit_sets.specs.Indexes.{has_index, index_room, HasAlso}
+use Rattle.bit_sets.specs.Indexes.{has_index, index_capacity, HasAlso}
 use Rattle.bit_sets.specs.declared.index_set.IndexSet.{IndexSet}
 
 in_one : (x k : ℕ) → Contains (x ∷ []) k → x ≡ k
@@ -17,11 +17,11 @@ also_none a b same = λ k. (
   λ h. ⊎_elim {C = IsTrue (has_index b k)} (λ new. let (j, lt, e) = new.0 in absurd (omega (arith, lt))) (λ old. same k ∙ old) h,
 )
 
-pub also_then : (a b c : IndexSet) (xs ys : List ℕ) → index_room b ≡ index_room a → HasAlso a b xs → HasAlso b c ys → HasAlso a c (xs ++ ys)
+pub also_then : (a b c : IndexSet) (xs ys : List ℕ) → index_capacity b ≡ index_capacity a → HasAlso a b xs → HasAlso b c ys → HasAlso a c (xs ++ ys)
 also_then a b c xs ys room first second = λ k. (
-  λ h. ⊎_elim {C = (Contains (xs ++ ys) k × (k < index_room a)) ⊎ IsTrue (has_index a k)}
+  λ h. ⊎_elim {C = (Contains (xs ++ ys) k × (k < index_capacity a)) ⊎ IsTrue (has_index a k)}
       (λ new. inl (Contains-append_right xs ys k new.0, omega (arith, new.1, room)))
-      (λ old. ⊎_elim {C = (Contains (xs ++ ys) k × (k < index_room a)) ⊎ IsTrue (has_index a k)}
+      (λ old. ⊎_elim {C = (Contains (xs ++ ys) k × (k < index_capacity a)) ⊎ IsTrue (has_index a k)}
       (λ new. inl (Contains-append_left xs ys k new.0, new.1)) (λ older. inr older) ((first k).0 old))
       ((second k).0 h),
   λ h. ⊎_elim {C = IsTrue (has_index c k)}
@@ -33,9 +33,9 @@ also_then a b c xs ys room first second = λ k. (
 )
 
 -- an index that there is room for
-pub also_put : (a b : IndexSet) (x : ℕ) → x < index_room a → ((k : ℕ) → has_index b k ≡ ((k == x) || has_index a k)) → HasAlso a b (x ∷ [])
+pub also_put : (a b : IndexSet) (x : ℕ) → x < index_capacity a → ((k : ℕ) → has_index b k ≡ ((k == x) || has_index a k)) → HasAlso a b (x ∷ [])
 also_put a b x room has = λ k. (
-  λ h. ⊎_elim {C = (Contains (x ∷ []) k × (k < index_room a)) ⊎ IsTrue (has_index a k)}
+  λ h. ⊎_elim {C = (Contains (x ∷ []) k × (k < index_capacity a)) ⊎ IsTrue (has_index a k)}
       (λ is. let same : k ≡ x = eqb-true k x is in inl ((0, omega arith, sym same), omega (arith, same, room)))
       (λ old. inr old) (or_cases (k == x) (has_index a k) (sym (has k) ∙ h)),
   λ h. ⊎_elim {C = IsTrue (has_index b k)}
@@ -52,7 +52,7 @@ also_put a b x room has = λ k. (
     true_right false q e = e
 
 -- an index that there is no room for
-pub also_left : (a : IndexSet) (x : ℕ) → index_room a ≤ x → HasAlso a a (x ∷ [])
+pub also_left : (a : IndexSet) (x : ℕ) → index_capacity a ≤ x → HasAlso a a (x ∷ [])
 also_left a x past = λ k. (
   λ h. inr h,
   λ h. ⊎_elim {C = IsTrue (has_index a k)}

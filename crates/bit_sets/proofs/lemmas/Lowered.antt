@@ -3,7 +3,7 @@ use Rattle.std.proofs.Common.{◌≡◌, ◌≢◌, ℕ, max, ◌+◌, ◌-◌, 
 use Rattle.std.specs.Prelude.{bit_and, bit_or}
 use Rattle.std.specs.Int.{bit_at, trailing_zeros}
 use Rattle.std.proofs.lemmas.Bool.{cases_lt, cases_eq}
-use Rattle.std.proofs.lemmas.Nat.Bits.{bit_at_or, bit_at-suc, bit_at_above, bit_at-lt, bit_at-zero, bit_at-trailing_zeros, and_pow}
+use Rattle.std.proofs.lemmas.Nat.Bits.{bit_at_or, bit_at-suc, bit_at_above, bit_at-lt, bit_at-trailing_zeros, and_pow}
 use Rattle.bit_sets.specs.Bits.{bit_of, is_in_word}
 use Rattle.bit_sets.proofs.lemmas.Bits.{either_bit, or_false}
 
@@ -76,9 +76,6 @@ some_bit at word more fits before =
     let row : (t + 1) / 64 ≡ at = omega arith in
     let is : (t + 1) % 64 ≡ i = omega arith in
     (t, rw (row, is, eq-eqb at at refl, one) refl)
-
-pub no_bit : (at word s : ℕ) → word ≡ 0 → is_in_word at word s ≡ false
-no_bit at word s zero = rw (zero, bit_at-zero (s % 64)) (and_false (eqb (s / 64) at))
 
 -- the lowest bit of a word
 pub lowest_is : (word : ℕ) → bit_and word 1 ≡ bit_at word 0

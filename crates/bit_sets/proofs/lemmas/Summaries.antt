@@ -1,8 +1,8 @@
 -- A summary of words, and the bits of the words.
-use Rattle.std.proofs.Common.{◌≡◌, ℕ, ◌+◌, ◌*◌, ◌/◌, ◌^◌, ◌<◌, ◌≤◌, ◌⊎◌, inl, inr, Bool, true, false, true≢false, List, length, Option, Some, None, refl, sym, ap, ◌∙◌, arith}
-use Rattle.std.specs.Prelude.{◌||◌, ◌==◌, MatchOption}
+use Rattle.std.proofs.Common.{◌≡◌, ℕ, ◌*◌, ◌/◌, ◌^◌, ◌<◌, ◌≤◌, ◌⊎◌, inl, inr, Bool, true, false, true≢false, List, length, refl, sym, ap, ◌∙◌, arith}
+use Rattle.std.specs.Prelude.{◌||◌, ◌==◌}
 use Rattle.std.proofs.Math.Logic.{⊎_elim}
-use Rattle.std.proofs.lemmas.Bool.{cases_eq, cases_lt, or_cases, eqb-true, eq-eqb}
+use Rattle.std.proofs.lemmas.Bool.{cases_lt, or_cases, eqb-true, eq-eqb}
 use Rattle.bit_sets.specs.Bits.{bit_of}
 use Rattle.bit_sets.specs.inner.Summary.{IsSummary}
 use Rattle.bit_sets.proofs.lemmas.Bits.{bit_past}
@@ -10,10 +10,6 @@ use Rattle.bit_sets.proofs.lemmas.Bits.{bit_past}
 not_true : (b : Bool) → (b ≡ true → ⊥) → b ≡ false
 not_true true h = absurd (h refl)
 not_true false h = refl
-
--- a word whose bit is not set in the summary has no bit
-pub none_in_word : (words summary : List ℕ) → IsSummary words summary → (k : ℕ) → bit_of summary (k / 64) ≡ false → bit_of words k ≡ false
-none_in_word words summary is k off = not_true (bit_of words k) (λ bit. true≢false (sym (is.set k bit) ∙ off))
 
 -- one whose bit is set is one of the words
 pub word_within : (words summary : List ℕ) → IsSummary words summary → (i : ℕ) → bit_of summary i ≡ true → i < length words
@@ -55,44 +51,3 @@ summary_none words summary fits fits' room off off' = record {
   set = λ k bit. absurd (true≢false (sym bit ∙ off k));
   none = λ i h. off' i;
 }
-
--- the same bits are set
-pub summary_same : (words summary new marks : List ℕ) → IsSummary words summary → 64 * length new ≤ 2 ^ 64 → 64 * length marks ≤ 2 ^ 64 → length new ≤ 64 * length marks
-    → ((k : ℕ) → bit_of new k ≡ bit_of words k) → ((i : ℕ) → bit_of marks i ≡ bit_of summary i) → IsSummary new marks
-summary_same words summary new marks is fits fits' room bits set = record {
-  fits = fits;
-  fits_too = fits';
-  room = room;
-  set = λ k bit. set (k / 64) ∙ is.set k (sym (bits k) ∙ bit);
-  none = λ i off. set i ∙ is.none i (λ k at. sym (bits k) ∙ off k at);
-}
-
--- the lowest bit from a number on
-abbrev pub IsLowest : List ℕ → ℕ → ℕ → Type 0
-IsLowest words from at = (from ≤ at) × (bit_of words at ≡ true) × ((k : ℕ) → from ≤ k → k < at → bit_of words k ≡ false)
-
-module _ (words summary : List ℕ) (is : IsSummary words summary) (from : ℕ) (here : (k : ℕ) → from ≤ k → k / 64 ≡ from / 64 → bit_of words k ≡ false) where
-  none_before : (word k : ℕ) → ((i : ℕ) → from / 64 + 1 ≤ i → i < word → bit_of summary i ≡ false) → from ≤ k → k / 64 < word → bit_of words k ≡ false
-  none_before word k none low lt =
-      elim (cases_eq (k / 64) (from / 64)) [
-        | inl same ↦ here k low same
-        | inr other ↦ none_in_word words summary is k (none (k / 64) (omega (arith, other)) lt)
-      ]
-
-  pub none_at_all : ((i : ℕ) → from / 64 + 1 ≤ i → bit_of summary i ≡ false) → (k : ℕ) → from ≤ k → bit_of words k ≡ false
-  none_at_all none k low = none_before (k / 64 + 1) k (λ i le lt. none i le) low (omega arith)
-
-  -- the lowest bit of the next word that has one
-  pub lowest_in_next : (word : ℕ) → IsLowest summary (from / 64 + 1) word → (found : Option ℕ)
-      → MatchOption found ((k : ℕ) → word * 64 ≤ k → k / 64 ≡ word * 64 / 64 → bit_of words k ≡ false) (IsLowest words (word * 64))
-      → MatchOption found ((k : ℕ) → from ≤ k → bit_of words k ≡ false) (IsLowest words from)
-  lowest_in_next word (le, on, none) None nothing =
-      absurd (true≢false (sym on ∙ is.none word (λ k at. nothing k (omega arith) (omega arith))))
-  lowest_in_next word (le, on, none) (Some index) (low, bit, below) = (
-    omega arith,
-    bit,
-    λ k lo hi. elim (cases_lt k (word * 64)) [
-      | inl before ↦ none_before word k none lo (omega arith)
-      | inr past ↦ below k past hi
-    ],
-  )

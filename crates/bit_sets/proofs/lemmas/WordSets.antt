@@ -42,15 +42,6 @@ bit_put low word s t le within =
       ]
     ]
 
--- a bit of a word lies below 64
-pub bit_within : (low word s : ℕ) → word < 2 ^ 64 → is_number_bit low word s ≡ true → s < low + 64
-bit_within low word s fits is =
-    let le = bit_low low word s is in
-    elim (cases_lt s (low + 64)) [
-      | inl lt ↦ lt
-      | inr past ↦ absurd (true≢false (sym is ∙ number_bit low word s le ∙ zero_bit _ (bit_at_above word 64 (s - low) fits (omega arith))))
-    ]
-
 -- a number is taken out
 pub bit_taken : (low word i t : ℕ) → word < 2 ^ 64 → i < 64 → is_number_bit low (bit_and word (bit_not w64 (1 * 2 ^ i % 2 ^ 64))) t ≡ (not (eqb t (low + i)) && is_number_bit low word t)
 bit_taken low word i t fits within =

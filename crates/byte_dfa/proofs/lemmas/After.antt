@@ -1,10 +1,10 @@
 -- Whether a run can go on to where something is found.
 use Rattle.std.proofs.Common.{◌≡◌, ℕ, zero, suc, arith, ◌+◌, ◌/◌, ◌<◌, Bool, true, false, true≢false, List, [], ◌∷◌, ◌++◌, drop, length, IsTrue, refl, sym, ◌∙◌, subst}
 use Rattle.std.specs.Prelude.{◌↔◌, slice_index_or}
-use Rattle.byte_automaton.specs.Live.{MatchesAfter}
-use Rattle.byte_automaton.specs.Steps.{Machine, IsReached}
-use Rattle.byte_automaton.specs.Texts.{AllBytes}
-use Rattle.byte_automaton.proofs.lemmas.Live.{after_byte}
+use Rattle.byte_nfa.specs.Live.{MatchesAfter}
+use Rattle.byte_nfa.specs.Steps.{Machine, IsReached}
+use Rattle.byte_nfa.specs.Texts.{AllBytes}
+use Rattle.byte_nfa.proofs.lemmas.Live.{after_byte}
 use Rattle.byte_dfa.specs.inner.Tables.{Table, after, later, finds, IsRow, IsTable, AreLiveRows}
 use Rattle.byte_dfa.proofs.lemmas.Steps.{drop_bytes}
 

@@ -4,15 +4,15 @@ use Rattle.std.specs.Prelude.{◌↔◌, ◌&&◌, ◌||◌, slice_get}
 use Rattle.std.proofs.lemmas.Bool.{cases_lt, or_cases}
 use Rattle.std.proofs.lemmas.Option.{slice_get_within}
 use Rattle.std.proofs.Math.Logic.{⊎_elim}
-use Rattle.byte_automaton.specs.ByteSteps.{leads_to, LeadsAsEvery}
-use Rattle.byte_automaton.specs.Runs.{AcceptsFrom}
-use Rattle.byte_automaton.specs.Sets.{has_state}
-use Rattle.byte_automaton.specs.Steps.{Machine}
-use Rattle.byte_automaton.specs.declared.byte_steps.ByteSteps.{ByteSteps}
-use Rattle.byte_automaton.specs.declared.state_set.StateSet.{StateSet}
-use Rattle.byte_automaton.proofs.lemmas.Pass.{or_first, or_second}
-use Rattle.byte_dfa.specs.declared.construction.Found.{Found}
-use Rattle.byte_dfa.specs.declared.construction.Row.{Row}
+use Rattle.byte_nfa.specs.ByteSteps.{leads_to, LeadsAsEvery}
+use Rattle.byte_nfa.specs.Runs.{AcceptsFrom}
+use Rattle.byte_nfa.specs.Sets.{has_state}
+use Rattle.byte_nfa.specs.Steps.{Machine}
+use Rattle.byte_nfa.specs.declared.byte_steps.ByteSteps.{ByteSteps}
+use Rattle.byte_nfa.specs.declared.state_set.StateSet.{StateSet}
+use Rattle.byte_nfa.proofs.lemmas.Pass.{or_first, or_second}
+use Rattle.byte_dfa.specs.declared.determinizer.Found.{Found}
+use Rattle.byte_dfa.specs.declared.determinizer.Row.{Row}
 use Rattle.byte_dfa.specs.inner.Building.{AreCells, AreFoundSets, AreStepsBeside, GoesTo, IsEntryTo, IsRowOf, KeepsFound, LeadsBy}
 use Rattle.byte_dfa.specs.inner.Tables.{special}
 use Rattle.byte_dfa.proofs.lemmas.Cells.{before_row, same_place}
@@ -73,9 +73,9 @@ module _ (m : Machine) where
     )
 
     -- by bytes that lead to one set from the base, and only where every byte does beside it
-    pub alike : (below : StateSet) (a b : ℕ) → a < 256 → b < 256 → GoesTo m base a below → GoesTo m base b below → LeadsAsEvery steps a → LeadsAsEvery steps b
+    pub equivalent : (below : StateSet) (a b : ℕ) → a < 256 → b < 256 → GoesTo m base a below → GoesTo m base b below → LeadsAsEvery steps a → LeadsAsEvery steps b
         → (y : List ℕ) (k : ℕ) → AcceptsFrom m from (a ∷ y) k ↔ AcceptsFrom m from (b ∷ y) k
-    alike below a b la lb goes goes' every every' y k = iff_trans (beside a la y k) (iff_trans (either (iff_trans (goes y k) (iff_sym (goes' y k))) (
+    equivalent below a b la lb goes goes' every every' y k = iff_trans (beside a la y k) (iff_trans (either (iff_trans (goes y k) (iff_sym (goes' y k))) (
       λ (t, lt, at, h). (t, lt, every' t ∙ sym (every t) ∙ at, h),
       λ (t, lt, at, h). (t, lt, every t ∙ sym (every' t) ∙ at, h),
     )) (iff_sym (beside b lb y k)))
@@ -98,9 +98,9 @@ module _ (m : Machine) where
 pub base_place : (row : Row) (w col n : ℕ) → (0 < row.base → row.base < row.number) → row.number * (w + 2) ≤ n → col < w → 0 < row.base → row.base * (w + 2) + col < n
 base_place row w col n written le short some = let h = before_row row.base row.number w (written some) in omega (arith, h)
 
-module _ (m : Machine) (firsts : List ℕ) (w : ℕ) (found : List Found) (lists rows : List ℕ) (sets : AreFoundSets m found lists) (cells : AreCells m firsts w found lists rows) where
+module _ (m : Machine) (representatives : List ℕ) (w : ℕ) (found : List Found) (lists rows : List ℕ) (sets : AreFoundSets m found lists) (cells : AreCells m representatives w found lists rows) where
   pub under_is : (base col e : ℕ) (g : Found) → slice_get found base ≡ Some g → col < w → (0 < base → base * (w + 2) + col < length rows)
-      → (base ≡ 0 → e ≡ special) → (0 < base → e ≡ slice_index rows (base * (w + 2) + col)) → IsUnder m found lists (w + 2) g.states (slice_index firsts col) e
+      → (base ≡ 0 → e ≡ special) → (0 < base → e ≡ slice_index rows (base * (w + 2) + col)) → IsUnder m found lists (w + 2) g.states (slice_index representatives col) e
   under_is base col e g at short within dead written = elim (cases_lt 0 base) [
     | inl some ↦
         let cell = cells base col (omega arith) (within some) in
@@ -109,7 +109,7 @@ module _ (m : Machine) (firsts : List ℕ) (w : ℕ) (found : List Found) (lists
           j,
           h,
           there,
-          subst (λ (f : Found). GoesTo m f.states (slice_index firsts col) h.states) (sym is) goes,
+          subst (λ (f : Found). GoesTo m f.states (slice_index representatives col) h.states) (sym is) goes,
           subst (IsEntryTo lists (w + 2) j h) (sym (written some)) leads,
         )
     | inr none ↦
@@ -119,7 +119,7 @@ module _ (m : Machine) (firsts : List ℕ) (w : ℕ) (found : List Found) (lists
           0,
           g,
           first,
-          λ y k. (λ a. absurd (sets.dead g first (slice_index firsts col ∷ y) k a), λ a. absurd (sets.dead g first y k a)),
+          λ y k. (λ a. absurd (sets.dead g first (slice_index representatives col ∷ y) k a), λ a. absurd (sets.dead g first y k a)),
           inr (omega (arith, is)),
         )
   ]
@@ -138,18 +138,18 @@ pub entry_cases : (lists : List ℕ) (stride j e : ℕ) (h : Found) → IsEntryT
 entry_cases lists stride j e h (inl (is, none)) = inl is
 entry_cases lists stride j e h (inr is) = inr is
 
-module _ (m : Machine) (firsts : List ℕ) (w : ℕ) (found : List Found) (lists rows : List ℕ) (sets : AreFoundSets m found lists) (cells : AreCells m firsts w found lists rows)
+module _ (m : Machine) (representatives : List ℕ) (w : ℕ) (found : List Found) (lists rows : List ℕ) (sets : AreFoundSets m found lists) (cells : AreCells m representatives w found lists rows)
     (row : Row) (steps : ByteSteps) (is : IsRowOf m found row steps) where
   pub under_row : (col e : ℕ) (g : Found) → slice_get found row.base ≡ Some g → row.number * (w + 2) ≤ length rows → col < w
-      → (row.base ≡ 0 → e ≡ special) → (0 < row.base → e ≡ slice_index rows (row.base * (w + 2) + col)) → IsUnder m found lists (w + 2) g.states (slice_index firsts col) e
+      → (row.base ≡ 0 → e ≡ special) → (0 < row.base → e ≡ slice_index rows (row.base * (w + 2) + col)) → IsUnder m found lists (w + 2) g.states (slice_index representatives col) e
   under_row col e g at place short dead written =
-      under_is m firsts w found lists rows sets cells row.base col e g at short (base_place row w col (length rows) is.written place short) dead written
+      under_is m representatives w found lists rows sets cells row.base col e g at short (base_place row w col (length rows) is.written place short) dead written
 
   -- the state that the base's entry leads to
   pub target_under : (col e t : ℕ) (g : Found) → slice_get found row.base ≡ Some g → row.number * (w + 2) ≤ length rows → col < w → length found * (w + 2) ≤ special
       → (row.base ≡ 0 → e ≡ special) → (0 < row.base → e ≡ slice_index rows (row.base * (w + 2) + col))
       → ((j : ℕ) → j * (w + 2) < special → ((e ≡ j * (w + 2)) ⊎ (e ≡ special + j * (w + 2))) → t ≡ j)
-      → (h : Found) × (slice_get found t ≡ Some h) × GoesTo m g.states (slice_index firsts col) h.states
+      → (h : Found) × (slice_get found t ≡ Some h) × GoesTo m g.states (slice_index representatives col) h.states
   target_under col e t g at place short few dead written target =
       let (j, h, there, goes, leads) = under_row col e g at place short dead written in
       let same = target j (low_place found w j h there few) (entry_cases lists (w + 2) j e h leads) in

@@ -6,12 +6,12 @@ use Rattle.std.proofs.lemmas.List.{get_or_append_left}
 use Rattle.std.proofs.lemmas.Nat.{mul-le}
 use Rattle.std.proofs.Math.Logic.{⊎_elim}
 use Rattle.std.proofs.Math.Seq.{get_or-append_seam}
-use Rattle.byte_automaton.specs.ByteSteps.{AreStepsOf, LeadsAsEvery}
-use Rattle.byte_automaton.specs.Runs.{AcceptsFrom}
-use Rattle.byte_automaton.specs.Steps.{Machine}
-use Rattle.byte_automaton.specs.declared.byte_steps.ByteSteps.{ByteSteps}
-use Rattle.byte_automaton.specs.declared.state_set.StateSet.{StateSet}
-use Rattle.byte_dfa.specs.declared.construction.Found.{Found}
+use Rattle.byte_nfa.specs.ByteSteps.{AreStepsOf, LeadsAsEvery}
+use Rattle.byte_nfa.specs.Runs.{AcceptsFrom}
+use Rattle.byte_nfa.specs.Steps.{Machine}
+use Rattle.byte_nfa.specs.declared.byte_steps.ByteSteps.{ByteSteps}
+use Rattle.byte_nfa.specs.declared.state_set.StateSet.{StateSet}
+use Rattle.byte_dfa.specs.declared.determinizer.Found.{Found}
 use Rattle.byte_dfa.specs.inner.Building.{half, GoesTo, IsEntryTo, IsCell, AreCells, AreFoundSets, KeepsFound}
 use Rattle.byte_dfa.specs.inner.Lists.{KeepsLists}
 use Rattle.byte_dfa.proofs.lemmas.Found.{iff_trans, iff_sym}
@@ -36,8 +36,8 @@ same_bytes m from steps are a b la lb every every' y k = iff_trans (are a la y k
   λ (t, lt, at, h). (t, lt, every t ∙ sym (every' t) ∙ at, h),
 ) (iff_sym (are b lb y k)))
 
-module _ (m : Machine) (firsts : List ℕ) (w : ℕ) where
-  pub cells_kept : (found : List Found) (old new rows : List ℕ) → AreFoundSets m found old → KeepsLists old new → AreCells m firsts w found old rows → AreCells m firsts w found new rows
+module _ (m : Machine) (representatives : List ℕ) (w : ℕ) where
+  pub cells_kept : (found : List Found) (old new rows : List ℕ) → AreFoundSets m found old → KeepsLists old new → AreCells m representatives w found old rows → AreCells m representatives w found new rows
   cells_kept found old new rows are keeps cells = λ i c hc lt.
       let cell = cells i c hc lt in
       record {
@@ -55,7 +55,7 @@ module _ (m : Machine) (firsts : List ℕ) (w : ℕ) where
       to_new j g e count (inl (is, none)) = inl (is, count ∙ none)
       to_new j g e count (inr is) = inr is
 
-  pub cells_found : (old new : List Found) (lists rows : List ℕ) → KeepsFound old new → AreCells m firsts w old lists rows → AreCells m firsts w new lists rows
+  pub cells_found : (old new : List Found) (lists rows : List ℕ) → KeepsFound old new → AreCells m representatives w old lists rows → AreCells m representatives w new lists rows
   cells_found old new lists rows keeps cells = λ i c hc lt.
       let cell = cells i c hc lt in
       record {
@@ -66,24 +66,24 @@ module _ (m : Machine) (firsts : List ℕ) (w : ℕ) where
         at_end = cell.at_end;
       }
 
-  pub cells_push : (found : List Found) (lists rows : List ℕ) (row col e : ℕ) → AreCells m firsts w found lists rows → length rows ≡ row * (w + 2) + col → col ≤ w + 1
-      → IsCell m firsts w found lists row col e → AreCells m firsts w found lists (rows ++ e ∷ [])
+  pub cells_push : (found : List Found) (lists rows : List ℕ) (row col e : ℕ) → AreCells m representatives w found lists rows → length rows ≡ row * (w + 2) + col → col ≤ w + 1
+      → IsCell m representatives w found lists row col e → AreCells m representatives w found lists (rows ++ e ∷ [])
   cells_push found lists rows row col e h place hcol one = λ i c hc lt. by_place i c hc (let len = length-append rows (e ∷ []) in omega arith)
     where
-      by_place : (i c : ℕ) → c ≤ w + 1 → i * (w + 2) + c < length rows + 1 → IsCell m firsts w found lists i c (slice_index (rows ++ e ∷ []) (i * (w + 2) + c))
-      by_place i c hc lt = ⊎_elim {C = IsCell m firsts w found lists i c (slice_index (rows ++ e ∷ []) (i * (w + 2) + c))}
-          (λ below. subst (IsCell m firsts w found lists i c) (sym (get_or_append_left rows (e ∷ []) 0 (i * (w + 2) + c) below)) (h i c hc below))
+      by_place : (i c : ℕ) → c ≤ w + 1 → i * (w + 2) + c < length rows + 1 → IsCell m representatives w found lists i c (slice_index (rows ++ e ∷ []) (i * (w + 2) + c))
+      by_place i c hc lt = ⊎_elim {C = IsCell m representatives w found lists i c (slice_index (rows ++ e ∷ []) (i * (w + 2) + c))}
+          (λ below. subst (IsCell m representatives w found lists i c) (sym (get_or_append_left rows (e ∷ []) 0 (i * (w + 2) + c) below)) (h i c hc below))
           (λ past.
           let at : i * (w + 2) + c ≡ row * (w + 2) + col = omega arith in
           let same = same_place i c row col w hc hcol at in
           let seam : slice_index (rows ++ e ∷ []) (i * (w + 2) + c) ≡ e = ap (slice_index (rows ++ e ∷ [])) (at ∙ sym place) ∙ get_or-append_seam rows e [] 0 in
-          subst (IsCell m firsts w found lists i c) (sym seam) (subst (λ x. IsCell m firsts w found lists x c e) (sym same.0) (subst (λ x. IsCell m firsts w found lists row x e) (sym same.1) one)))
+          subst (IsCell m representatives w found lists i c) (sym seam) (subst (λ x. IsCell m representatives w found lists x c e) (sym same.0) (subst (λ x. IsCell m representatives w found lists row x e) (sym same.1) one)))
           (cases_lt (i * (w + 2) + c) (length rows))
 
   -- a cell of a byte, and the two of lists
 
   pub cell_goes : (found : List Found) (lists : List ℕ) (row col e j : ℕ) (this g : Found) → slice_get found row ≡ Some this → slice_get found j ≡ Some g → col < w
-      → GoesTo m this.states (slice_index firsts col) g.states → IsEntryTo lists (w + 2) j g e → IsCell m firsts w found lists row col e
+      → GoesTo m this.states (slice_index representatives col) g.states → IsEntryTo lists (w + 2) j g e → IsCell m representatives w found lists row col e
   cell_goes found lists row col e j this g here there short goes leads = record {
     this = this;
     row = here;
@@ -94,15 +94,15 @@ module _ (m : Machine) (firsts : List ℕ) (w : ℕ) where
 
   -- the entry of one byte is that of another which leads to the same states
   pub cell_same : (found : List Found) (lists : List ℕ) (row col other e : ℕ) (this : Found) → slice_get found row ≡ Some this → col < w → other < w
-      → ((y : List ℕ) (k : ℕ) → AcceptsFrom m this.states (slice_index firsts col ∷ y) k ↔ AcceptsFrom m this.states (slice_index firsts other ∷ y) k)
-      → IsCell m firsts w found lists row other e → IsCell m firsts w found lists row col e
-  cell_same found lists row col other e this here short short' alike cell =
+      → ((y : List ℕ) (k : ℕ) → AcceptsFrom m this.states (slice_index representatives col ∷ y) k ↔ AcceptsFrom m this.states (slice_index representatives other ∷ y) k)
+      → IsCell m representatives w found lists row other e → IsCell m representatives w found lists row col e
+  cell_same found lists row col other e this here short short' equivalent cell =
       let (j, g, there, goes, leads) = cell.goes short' in
       let is : this ≡ cell.this = cc (here, cell.row) in
-      let goes' : GoesTo m this.states (slice_index firsts other) g.states = subst (λ f. GoesTo m f.states (slice_index firsts other) g.states) (sym is) goes in
-      cell_goes found lists row col e j this g here there short (λ y k. iff_trans (alike y k) (goes' y k)) leads
+      let goes' : GoesTo m this.states (slice_index representatives other) g.states = subst (λ f. GoesTo m f.states (slice_index representatives other) g.states) (sym is) goes in
+      cell_goes found lists row col e j this g here there short (λ y k. iff_trans (equivalent y k) (goes' y k)) leads
 
-  pub cell_entry : (found : List Found) (lists : List ℕ) (row e : ℕ) (this : Found) → slice_get found row ≡ Some this → e ≡ this.on_entry → IsCell m firsts w found lists row w e
+  pub cell_entry : (found : List Found) (lists : List ℕ) (row e : ℕ) (this : Found) → slice_get found row ≡ Some this → e ≡ this.on_entry → IsCell m representatives w found lists row w e
   cell_entry found lists row e this here is = record {
     this = this;
     row = here;
@@ -111,7 +111,7 @@ module _ (m : Machine) (firsts : List ℕ) (w : ℕ) where
     at_end = λ s. absurd (omega arith);
   }
 
-  pub cell_end : (found : List Found) (lists : List ℕ) (row e : ℕ) (this : Found) → slice_get found row ≡ Some this → e ≡ this.at_end → IsCell m firsts w found lists row (w + 1) e
+  pub cell_end : (found : List Found) (lists : List ℕ) (row e : ℕ) (this : Found) → slice_get found row ≡ Some this → e ≡ this.at_end → IsCell m representatives w found lists row (w + 1) e
   cell_end found lists row e this here is = record {
     this = this;
     row = here;

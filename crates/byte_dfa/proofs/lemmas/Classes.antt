@@ -3,47 +3,47 @@ use Rattle.std.proofs.Common.{◌≡◌, ◌≢◌, ℕ, ◌+◌, ◌-◌, ◌<�
 use Rattle.std.proofs.lemmas.Bool.{cases_lt}
 use Rattle.std.proofs.lemmas.List.{get_or-set_same, get_or-set_other}
 use Rattle.std.proofs.Math.Logic.{⊎_elim}
-use Rattle.byte_automaton.specs.Steps.{State}
-use Rattle.byte_automaton.specs.Alike.{AreAlike}
+use Rattle.byte_nfa.specs.Steps.{State}
+use Rattle.byte_nfa.specs.Equivalent.{AreEquivalent}
 use Rattle.byte_dfa.specs.inner.Classes.{IsDivided}
 
-pub divided_first : (a : List State) (class_of firsts : List ℕ) → slice_index class_of 0 ≡ 0 → slice_index firsts 0 ≡ 0 → IsDivided a class_of firsts 0 1
-divided_first a class_of firsts zero_of zero_first b lt =
+pub divided_first : (a : List State) (class_of representatives : List ℕ) → slice_index class_of 0 ≡ 0 → slice_index representatives 0 ≡ 0 → IsDivided a class_of representatives 0 1
+divided_first a class_of representatives zero_of zero_first b lt =
     let is : b ≡ 0 = omega arith in
-    subst (λ x. (slice_index class_of x ≤ 0) × AreAlike a (slice_index firsts (slice_index class_of x)) x) (sym is)
+    subst (λ x. (slice_index class_of x ≤ 0) × AreEquivalent a (slice_index representatives (slice_index class_of x)) x) (sym is)
     (rw zero_of (omega arith), λ s. rw (zero_of, zero_first) refl)
 
 -- a byte that is read as the one before it, whose class is the last
-pub alike_next : (a : List State) (class_of firsts : List ℕ) (last i : ℕ) → 0 < i → IsDivided a class_of firsts last i → slice_index class_of (i - 1) ≡ last
-    → AreAlike a (i - 1) (i - 1 + 1) → AreAlike a (slice_index firsts last) i
-alike_next a class_of firsts last i some old is same =
+pub equivalent_next : (a : List State) (class_of representatives : List ℕ) (last i : ℕ) → 0 < i → IsDivided a class_of representatives last i → slice_index class_of (i - 1) ≡ last
+    → AreEquivalent a (i - 1) (i - 1 + 1) → AreEquivalent a (slice_index representatives last) i
+equivalent_next a class_of representatives last i some old is same =
     let one : i - 1 + 1 ≡ i = omega arith in
-    let before : AreAlike a (slice_index firsts last) (i - 1) = subst (λ c. AreAlike a (slice_index firsts c) (i - 1)) is (old (i - 1) (omega arith)).1 in
-    subst (AreAlike a (slice_index firsts last)) one (λ s. before s ∙ same s)
+    let before : AreEquivalent a (slice_index representatives last) (i - 1) = subst (λ c. AreEquivalent a (slice_index representatives c) (i - 1)) is (old (i - 1) (omega arith)).1 in
+    subst (AreEquivalent a (slice_index representatives last)) one (λ s. before s ∙ same s)
 
-module _ (a : List State) (class_of firsts : List ℕ) (last i : ℕ) (old : IsDivided a class_of firsts last i) (room : i < length class_of) where
+module _ (a : List State) (class_of representatives : List ℕ) (last i : ℕ) (old : IsDivided a class_of representatives last i) (room : i < length class_of) where
   -- a byte more, in the last class
-  pub divided_same : AreAlike a (slice_index firsts last) i → IsDivided a (slice_set class_of i last) firsts last (i + 1)
-  divided_same alike b lt = ⊎_elim {C = (slice_index (slice_set class_of i last) b ≤ last) × AreAlike a (slice_index firsts (slice_index (slice_set class_of i last) b)) b}
+  pub divided_same : AreEquivalent a (slice_index representatives last) i → IsDivided a (slice_set class_of i last) representatives last (i + 1)
+  divided_same equivalent b lt = ⊎_elim {C = (slice_index (slice_set class_of i last) b ≤ last) × AreEquivalent a (slice_index representatives (slice_index (slice_set class_of i last) b)) b}
       (λ low. let ne : b ≢ i = omega arith in let same : slice_index (slice_set class_of i last) b ≡ slice_index class_of b = get_or-set_other class_of i b last 0 ne in
-      subst (λ c. (c ≤ last) × AreAlike a (slice_index firsts c) b) (sym same) (old b low))
+      subst (λ c. (c ≤ last) × AreEquivalent a (slice_index representatives c) b) (sym same) (old b low))
       (λ past. let is : b ≡ i = omega arith in let here : slice_index (slice_set class_of i last) b ≡ last = ap (slice_index (slice_set class_of i last)) is ∙ get_or-set_same class_of i last 0 room in
-      subst (λ c. (c ≤ last) × AreAlike a (slice_index firsts c) b) (sym here) (omega arith, subst (AreAlike a (slice_index firsts last)) (sym is) alike))
+      subst (λ c. (c ≤ last) × AreEquivalent a (slice_index representatives c) b) (sym here) (omega arith, subst (AreEquivalent a (slice_index representatives last)) (sym is) equivalent))
       (cases_lt b i)
 
   -- the first byte of a class
-  pub divided_next : last + 1 < length firsts → IsDivided a (slice_set class_of i (last + 1)) (slice_set firsts (last + 1) i) (last + 1) (i + 1)
-  divided_next space b lt = ⊎_elim {C = (slice_index (slice_set class_of i (last + 1)) b ≤ last + 1) × AreAlike a (slice_index (slice_set firsts (last + 1) i) (slice_index (slice_set class_of i (last + 1)) b)) b}
+  pub divided_next : last + 1 < length representatives → IsDivided a (slice_set class_of i (last + 1)) (slice_set representatives (last + 1) i) (last + 1) (i + 1)
+  divided_next space b lt = ⊎_elim {C = (slice_index (slice_set class_of i (last + 1)) b ≤ last + 1) × AreEquivalent a (slice_index (slice_set representatives (last + 1) i) (slice_index (slice_set class_of i (last + 1)) b)) b}
       (λ low.
       let ne : b ≢ i = omega arith in
       let same : slice_index (slice_set class_of i (last + 1)) b ≡ slice_index class_of b = get_or-set_other class_of i b (last + 1) 0 ne in
-      let (le, alike) = old b low in
+      let (le, equivalent) = old b low in
       let ne' : slice_index class_of b ≢ last + 1 = omega arith in
-      let same' : slice_index (slice_set firsts (last + 1) i) (slice_index class_of b) ≡ slice_index firsts (slice_index class_of b) = get_or-set_other firsts (last + 1) (slice_index class_of b) i 0 ne' in
-      subst (λ c. (c ≤ last + 1) × AreAlike a (slice_index (slice_set firsts (last + 1) i) c) b) (sym same) (omega arith, subst (λ f. AreAlike a f b) (sym same') alike))
+      let same' : slice_index (slice_set representatives (last + 1) i) (slice_index class_of b) ≡ slice_index representatives (slice_index class_of b) = get_or-set_other representatives (last + 1) (slice_index class_of b) i 0 ne' in
+      subst (λ c. (c ≤ last + 1) × AreEquivalent a (slice_index (slice_set representatives (last + 1) i) c) b) (sym same) (omega arith, subst (λ f. AreEquivalent a f b) (sym same') equivalent))
       (λ past.
       let is : b ≡ i = omega arith in
       let here : slice_index (slice_set class_of i (last + 1)) b ≡ last + 1 = ap (slice_index (slice_set class_of i (last + 1))) is ∙ get_or-set_same class_of i (last + 1) 0 room in
-      let first : slice_index (slice_set firsts (last + 1) i) (last + 1) ≡ b = get_or-set_same firsts (last + 1) i 0 space ∙ sym is in
-      subst (λ c. (c ≤ last + 1) × AreAlike a (slice_index (slice_set firsts (last + 1) i) c) b) (sym here) (omega arith, subst (λ f. AreAlike a f b) (sym first) (λ s. refl)))
+      let first : slice_index (slice_set representatives (last + 1) i) (last + 1) ≡ b = get_or-set_same representatives (last + 1) i 0 space ∙ sym is in
+      subst (λ c. (c ≤ last + 1) × AreEquivalent a (slice_index (slice_set representatives (last + 1) i) c) b) (sym here) (omega arith, subst (λ f. AreEquivalent a f b) (sym first) (λ s. refl)))
       (cases_lt b i)

@@ -3,10 +3,10 @@ use Rattle.std.proofs.Common.{◌≡◌, ℕ, zero, suc, ◌+◌, ◌<◌, ◌�
 use Rattle.std.specs.Prelude.{◌↔◌, slice_get}
 use Rattle.std.proofs.Math.Logic.{⊎_elim}
 use Rattle.std.proofs.lemmas.Bool.{cases_lt}
-use Rattle.byte_automaton.specs.Runs.{AcceptsFrom}
-use Rattle.byte_automaton.specs.Steps.{Machine}
-use Rattle.byte_automaton.specs.declared.state_set.StateSet.{StateSet}
-use Rattle.byte_dfa.specs.declared.construction.Found.{Found}
+use Rattle.byte_nfa.specs.Runs.{AcceptsFrom}
+use Rattle.byte_nfa.specs.Steps.{Machine}
+use Rattle.byte_nfa.specs.declared.state_set.StateSet.{StateSet}
+use Rattle.byte_dfa.specs.declared.determinizer.Found.{Found}
 use Rattle.byte_dfa.specs.inner.Building.{half, IsLiveSet, AreSame, IsFound, AreFoundSets, KeepsFound}
 use Rattle.byte_dfa.specs.inner.Lists.{IsListOf, KeepsLists, HasNoneFirst}
 use Rattle.byte_dfa.proofs.lemmas.Lists.{list_kept}

@@ -6,22 +6,22 @@ use Rattle.std.proofs.lemmas.Nat.{mul-le}
 use Rattle.std.proofs.lemmas.Option.{slice_get_within}
 use Rattle.std.proofs.Math.Logic.{⊎_elim}
 use Rattle.std.proofs.Math.Nat.{add-mod_left, mul-div_cancel}
-use Rattle.byte_automaton.specs.Decisions.{IsAtDecision, EndsAtDecisions}
-use Rattle.byte_automaton.specs.Runs.{AcceptsFrom, HasLastBytes}
-use Rattle.byte_automaton.specs.Steps.{state, final, Machine, IsReached, Accepts, ends, by_byte, by_skip, by_out, by_stay}
+use Rattle.byte_nfa.specs.EarlyMatches.{IsAtEarlyMatch, EndsAtEarlyMatches}
+use Rattle.byte_nfa.specs.Runs.{AcceptsFrom, HasLastBytes}
+use Rattle.byte_nfa.specs.Steps.{state, final, Machine, IsReached, Accepts, ends, by_byte, by_skip, by_out, by_stay}
 use Rattle.bit_sets.specs.declared.byte_set.ByteSet.{ByteSet}
-use Rattle.byte_automaton.specs.declared.state_set.StateSet.{StateSet}
-use Rattle.bit_sets.specs.Numbers.{is_listed}
-use Rattle.byte_automaton.specs.Texts.{AllBytes}
-use Rattle.byte_automaton.proofs.lemmas.Alike.{from_alike}
-use Rattle.byte_automaton.proofs.lemmas.Deciding.{reached_by}
-use Rattle.byte_automaton.proofs.lemmas.Pass.{or_first, or_second}
+use Rattle.byte_nfa.specs.declared.state_set.StateSet.{StateSet}
+use Rattle.bit_sets.specs.Numbers.{is_reported}
+use Rattle.byte_nfa.specs.Texts.{AllBytes}
+use Rattle.byte_nfa.proofs.lemmas.Equivalent.{from_equivalent}
+use Rattle.byte_nfa.proofs.lemmas.Deciding.{reached_by}
+use Rattle.byte_nfa.proofs.lemmas.Pass.{or_first, or_second}
 use Rattle.byte_dfa.specs.declared.classes.ByteClasses.{ByteClasses}
-use Rattle.byte_dfa.specs.declared.construction.Found.{Found}
+use Rattle.byte_dfa.specs.declared.determinizer.Found.{Found}
 use Rattle.byte_dfa.specs.inner.Building.{half, IsLiveSet, AreLiveSets, GoesTo, IsEntryTo, IsCell, IsBuilt}
 use Rattle.byte_dfa.specs.inner.Classes.{IsDivision}
 use Rattle.byte_dfa.specs.inner.Lists.{list_at, IsList}
-use Rattle.byte_dfa.specs.inner.Tables.{Table, table_of, special, entry, after, on_entry, at_end, finds_from, IsRow, IsTable, IsTableOf, MatchesAfterFrom, AreLiveRows}
+use Rattle.byte_dfa.specs.inner.Tables.{Table, table_of, special, transition, after, on_entry, at_end, finds_from, IsRow, IsTable, IsTableOf, MatchesAfterFrom, AreLiveRows}
 use Rattle.byte_dfa.proofs.lemmas.Cells.{before_row}
 use Rattle.byte_dfa.proofs.lemmas.Found.{iff_trans, iff_sym}
 
@@ -56,16 +56,16 @@ nothing_after (c ∷ y) = ap (λ z. c ∷ z) (nothing_after y)
 abbrev Named : ℕ → ℕ → Type 0
 Named n k = (k < n) ⊎ ((j : ℕ) × (j < n) × (k ≡ n + j))
 
-end_named : (old m : Machine) (made : EndsAtDecisions old m) (s k : ℕ) → state m.states s ≡ final k → Named old.index_count k
+end_named : (old m : Machine) (made : EndsAtEarlyMatches old m) (s k : ℕ) → state m.states s ≡ final k → Named old.index_count k
 end_named old m made s k e = by_case (made.states s)
   where
-    by_case : IsAtDecision old.states old.index_count s (state m.states s) → Named old.index_count k
-    by_case (inl (j, (w, t, at, every, is), decided)) =
-        let both : final k ≡ final (old.index_count + j) = sym e ∙ decided in
+    by_case : IsAtEarlyMatch old.states old.index_count s (state m.states s) → Named old.index_count k
+    by_case (inl (j, (w, t, at, every, is), early_match)) =
+        let both : final k ≡ final (old.index_count + j) = sym e ∙ early_match in
         inr (j, made.below t j is, cc)
     by_case (inr (none, same)) = inl (made.below s k (sym same ∙ e))
 
-all_named : (old m : Machine) (made : EndsAtDecisions old m) (k s : ℕ) (y : List ℕ) → Accepts m.states k s y → Named old.index_count k
+all_named : (old m : Machine) (made : EndsAtEarlyMatches old m) (k s : ℕ) (y : List ℕ) → Accepts m.states k s y → Named old.index_count k
 all_named old m made k s y (ends s' e) = end_named old m made s k e
 all_named old m made k s y (by_byte s' t c z w e has rest) = all_named old m made k t z rest
 all_named old m made k s y (by_skip s' t z ts e in' rest) = all_named old m made k t y rest
@@ -109,8 +109,8 @@ module _ (m : Machine) (n : ℕ) where
           let rest' : y ≡ p ++ q = cc in
           inr (lt, inr (p, q, rest', (goes p (n + k)).0 (subst (λ u. AcceptsFrom m set (u ∷ p) (n + k)) same a)))
 
-module _ (old m : Machine) (made : EndsAtDecisions old m) (classes : ByteClasses) (division : IsDivision m.states classes.class_of classes.firsts classes.count)
-    (found : List Found) (lists rows : List ℕ) (ending : StateSet) (built : IsBuilt m classes found lists rows ending) (whole : length rows ≡ length found * (classes.count + 2))
+module _ (old m : Machine) (made : EndsAtEarlyMatches old m) (classes : ByteClasses) (division : IsDivision m.states classes.class_of classes.representatives classes.count)
+    (found : List Found) (lists rows : List ℕ) (accepting : StateSet) (built : IsBuilt m classes found lists rows accepting) (whole : length rows ≡ length found * (classes.count + 2))
     (few : length found * (classes.count + 2) ≤ special) (start : ℕ) where
   abbrev n : ℕ
   n = old.index_count
@@ -124,7 +124,7 @@ module _ (old m : Machine) (made : EndsAtDecisions old m) (classes : ByteClasses
   half_is : half m ≡ old.index_count
   half_is = let two = made.index_count in omega arith
 
-  cell : (i c : ℕ) → i < length found → c ≤ w + 1 → IsCell m classes.firsts w found lists i c (slice_index rows (i * (w + 2) + c))
+  cell : (i c : ℕ) → i < length found → c ≤ w + 1 → IsCell m classes.representatives w found lists i c (slice_index rows (i * (w + 2) + c))
   cell i c lt hc = built.cells i c hc (let h = before_row i (length found) w lt in omega (arith, whole))
 
   entry_place : (i : ℕ) (f : Found) → slice_get found i ≡ Some f → slice_index rows (i * (w + 2) + w) ≡ f.on_entry
@@ -137,17 +137,17 @@ module _ (old m : Machine) (made : EndsAtDecisions old m) (classes : ByteClasses
       let one = cell i (w + 1) (slice_get_within found i f at) (omega arith) in
       ap (slice_index rows) (let e : i * (w + 2) + w + 1 ≡ i * (w + 2) + (w + 1) = omega arith in e) ∙ one.at_end refl ∙ ap (λ (g : Found). g.at_end) (one_item found i one.this f one.row at)
 
-  told_is : (i : ℕ) (f : Found) (k : ℕ) → slice_get found i ≡ Some f → IsTrue (is_listed k (on_entry d (i * (w + 2)))) ↔ ((k < n) × AcceptsFrom m f.states [] (n + k))
+  told_is : (i : ℕ) (f : Found) (k : ℕ) → slice_get found i ≡ Some f → IsTrue (is_reported k (on_entry d (i * (w + 2)))) ↔ ((k < n) × AcceptsFrom m f.states [] (n + k))
   told_is i f k at =
       let has = (built.sets.each i f at).on_entry.has k in
-      subst (λ h. IsTrue (is_listed k (on_entry d (i * (w + 2)))) ↔ ((k < h) × AcceptsFrom m f.states [] (h + k))) half_is
-      (subst (λ place. IsTrue (is_listed k (list_at lists place)) ↔ ((k < half m) × AcceptsFrom m f.states [] (half m + k))) (sym (entry_place i f at)) has)
+      subst (λ h. IsTrue (is_reported k (on_entry d (i * (w + 2)))) ↔ ((k < h) × AcceptsFrom m f.states [] (h + k))) half_is
+      (subst (λ place. IsTrue (is_reported k (list_at lists place)) ↔ ((k < half m) × AcceptsFrom m f.states [] (half m + k))) (sym (entry_place i f at)) has)
 
-  ended_is : (i : ℕ) (f : Found) (k : ℕ) → slice_get found i ≡ Some f → IsTrue (is_listed k (at_end d (i * (w + 2)))) ↔ ((k < n) × AcceptsFrom m f.states [] k)
+  ended_is : (i : ℕ) (f : Found) (k : ℕ) → slice_get found i ≡ Some f → IsTrue (is_reported k (at_end d (i * (w + 2)))) ↔ ((k < n) × AcceptsFrom m f.states [] k)
   ended_is i f k at =
       let has = (built.sets.each i f at).at_end.has k in
-      subst (λ h. IsTrue (is_listed k (at_end d (i * (w + 2)))) ↔ ((k < h) × AcceptsFrom m f.states [] k)) half_is
-      (subst (λ place. IsTrue (is_listed k (list_at lists place)) ↔ ((k < half m) × AcceptsFrom m f.states [] k)) (sym (end_place i f at)) has)
+      subst (λ h. IsTrue (is_reported k (at_end d (i * (w + 2)))) ↔ ((k < h) × AcceptsFrom m f.states [] k)) half_is
+      (subst (λ place. IsTrue (is_reported k (list_at lists place)) ↔ ((k < half m) × AcceptsFrom m f.states [] k)) (sym (end_place i f at)) has)
 
   -- where a byte leads from a row
   record LeadsTo (i : ℕ) (f : Found) (b : ℕ) : Type 0 where
@@ -156,21 +156,21 @@ module _ (old m : Machine) (made : EndsAtDecisions old m) (classes : ByteClasses
     at : slice_get found number ≡ Some next
     goes : GoesTo m f.states b next.states
     place : after d (i * (w + 2)) b ≡ number * (w + 2)
-    quiet : entry d (i * (w + 2)) b < special → slice_index lists next.on_entry ≡ 0
+    quiet : transition d (i * (w + 2)) b < special → slice_index lists next.on_entry ≡ 0
 
   leads_to : (i : ℕ) (f : Found) (b : ℕ) → slice_get found i ≡ Some f → b < 256 → LeadsTo i f b
   leads_to i f b at byte =
-      let (short, alike) = division b byte in
+      let (short, equivalent) = division b byte in
       let class : ℕ = slice_index classes.class_of b in
       let one = cell i class (slice_get_within found i f at) (omega arith) in
       let (j, g, there, goes, leads) = one.goes short in
       let same : one.this ≡ f = one_item found i one.this f one.row at in
-      let goes' : GoesTo m f.states (slice_index classes.firsts class) g.states = subst (λ (x : Found). GoesTo m x.states (slice_index classes.firsts class) g.states) same goes in
+      let goes' : GoesTo m f.states (slice_index classes.representatives class) g.states = subst (λ (x : Found). GoesTo m x.states (slice_index classes.representatives class) g.states) same goes in
       let lt = before_row j (length found) w (slice_get_within found j g there) in
-      by_entry j g there (λ y k. iff_trans (iff_sym (from_alike m f.states (slice_index classes.firsts class) b y k alike)) (goes' y k)) (omega arith) leads
+      by_entry j g there (λ y k. iff_trans (iff_sym (from_equivalent m f.states (slice_index classes.representatives class) b y k equivalent)) (goes' y k)) (omega arith) leads
     where
       by_entry : (j : ℕ) (g : Found) → slice_get found j ≡ Some g → GoesTo m f.states b g.states → j * (w + 2) < special
-          → IsEntryTo lists (w + 2) j g (entry d (i * (w + 2)) b) → LeadsTo i f b
+          → IsEntryTo lists (w + 2) j g (transition d (i * (w + 2)) b) → LeadsTo i f b
       by_entry j g there goes lt (inl (is, none)) = record {
         number = j;
         next = g;
@@ -190,12 +190,12 @@ module _ (old m : Machine) (made : EndsAtDecisions old m) (classes : ByteClasses
 
   -- THE THEOREM of a run
   found_from : (i : ℕ) (f : Found) (y : List ℕ) (k : ℕ) → slice_get found i ≡ Some f → AllBytes y → IsTrue (finds_from d (i * (w + 2)) y k) ↔ FromHere m n f.states y k
-  found_from i f [] k at bytes = at_no_byte m n f.states k (is_listed k (on_entry d (i * (w + 2)))) (is_listed k (at_end d (i * (w + 2)))) (told_is i f k at) (ended_is i f k at)
+  found_from i f [] k at bytes = at_no_byte m n f.states k (is_reported k (on_entry d (i * (w + 2)))) (is_reported k (at_end d (i * (w + 2)))) (told_is i f k at) (ended_is i f k at)
   found_from i f (b ∷ y) k at bytes =
       let leads = leads_to i f b at bytes.0 in
       let rest : IsTrue (finds_from d (after d (i * (w + 2)) b) y k) ↔ FromHere m n leads.next.states y k =
       subst (λ s. IsTrue (finds_from d s y k) ↔ FromHere m n leads.next.states y k) (sym leads.place) (found_from leads.number leads.next y k leads.at bytes.1) in
-      at_byte m n f.states leads.next.states b y k (is_listed k (on_entry d (i * (w + 2)))) (finds_from d (after d (i * (w + 2)) b) y k) (told_is i f k at) rest leads.goes
+      at_byte m n f.states leads.next.states b y k (is_reported k (on_entry d (i * (w + 2)))) (finds_from d (after d (i * (w + 2)) b) y k) (told_is i f k at) rest leads.goes
 
   -- a row is that of a set
   record IsRowOf (s : ℕ) : Type 0 where
@@ -213,8 +213,8 @@ module _ (old m : Machine) (made : EndsAtDecisions old m) (classes : ByteClasses
       elim_at : i < length found → IsRowOf s
       elim_at lt = let one = cell i 0 lt (omega arith) in record { number = i; set = one.this; at = one.row; is = is }
 
-  row_room : (j : ℕ) (g : Found) → slice_get found j ≡ Some g → IsRow d (j * (w + 2))
-  row_room j g at = (j, refl, let h = before_row j (length found) w (slice_get_within found j g at) in omega (arith, whole))
+  row_capacity : (j : ℕ) (g : Found) → slice_get found j ≡ Some g → IsRow d (j * (w + 2))
+  row_capacity j g at = (j, refl, let h = before_row j (length found) w (slice_get_within found j g at) in omega (arith, whole))
 
   live_set : (i : ℕ) (f : Found) → slice_get found i ≡ Some f → IsLiveSet m f.states ↔ MatchesAfterFrom d (i * (w + 2))
   live_set i f at = (λ (y, k, bytes, (t, lt, in', h)). there y k bytes (t, lt, in', h) (all_named old m made k t y h), λ (k, y, bytes, h). back k y bytes ((found_from i f y k at bytes).0 h))
@@ -240,11 +240,11 @@ module _ (old m : Machine) (made : EndsAtDecisions old m) (classes : ByteClasses
   pub table_sound : (number : ℕ) (f : Found) → slice_get found number ≡ Some f → start ≡ number * (w + 2) → IsTable d
   table_sound number f begins is = record {
     classes = λ b byte. (division b byte).0;
-    begins = subst (IsRow d) (sym is) (row_room number f begins);
+    begins = subst (IsRow d) (sym is) (row_capacity number f begins);
     goes = λ s b row byte.
         let r = row_of s row in
         let leads = leads_to r.number r.set b r.at byte in
-        subst (IsRow d) (sym (ap (λ x. after d x b) r.is ∙ leads.place)) (row_room leads.number leads.next leads.at);
+        subst (IsRow d) (sym (ap (λ x. after d x b) r.is ∙ leads.place)) (row_capacity leads.number leads.next leads.at);
     entry_list = λ s row.
         let r = row_of s row in
         let list = (built.sets.each r.number r.set r.at).on_entry.list in
@@ -256,7 +256,7 @@ module _ (old m : Machine) (made : EndsAtDecisions old m) (classes : ByteClasses
     quiet = λ s b row byte low.
         let r = row_of s row in
         let leads = leads_to r.number r.set b r.at byte in
-        let none = leads.quiet (subst (λ x. entry d x b < special) r.is low) in
+        let none = leads.quiet (subst (λ x. transition d x b < special) r.is low) in
         ap (on_entry d) (ap (λ x. after d x b) r.is ∙ leads.place) ∙ ap (list_at lists) (entry_place leads.number leads.next leads.at) ∙ ap (λ c. take c (drop (leads.next.on_entry + 1) lists)) none;
     dead = λ y k bytes.
         let lt = slice_get_within found number f begins in

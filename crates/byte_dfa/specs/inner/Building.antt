@@ -1,16 +1,16 @@
 -- What is known of a table while it is made.
 use Rattle.std.specs.Prelude.{◌≡◌, ℕ, Bool, false, IsTrue, ◌+◌, ◌*◌, ◌/◌, ◌<◌, ◌≤◌, ◌↔◌, ◌⊎◌, List, [], ◌∷◌, length, slice_index, slice_index_or, slice_get, Some}
-use Rattle.byte_automaton.specs.Runs.{size, AcceptsFrom, AreEnding}
-use Rattle.byte_automaton.specs.ByteSteps.{leads_to}
-use Rattle.byte_automaton.specs.Sets.{has_state, state_room}
-use Rattle.byte_automaton.specs.Steps.{Accepts, Machine, IsReached}
-use Rattle.byte_automaton.specs.Texts.{AllBytes}
-use Rattle.byte_automaton.specs.declared.byte_steps.ByteSteps.{ByteSteps}
-use Rattle.byte_automaton.specs.declared.state_set.StateSet.{StateSet}
+use Rattle.byte_nfa.specs.Runs.{size, AcceptsFrom, AreAccepting}
+use Rattle.byte_nfa.specs.ByteSteps.{leads_to}
+use Rattle.byte_nfa.specs.Sets.{has_state, state_capacity}
+use Rattle.byte_nfa.specs.Steps.{Accepts, Machine, IsReached}
+use Rattle.byte_nfa.specs.Texts.{AllBytes}
+use Rattle.byte_nfa.specs.declared.byte_steps.ByteSteps.{ByteSteps}
+use Rattle.byte_nfa.specs.declared.state_set.StateSet.{StateSet}
 use Rattle.byte_dfa.specs.declared.classes.ByteClasses.{ByteClasses}
-use Rattle.byte_dfa.specs.declared.construction.Construction.{Construction}
-use Rattle.byte_dfa.specs.declared.construction.Found.{Found}
-use Rattle.byte_dfa.specs.declared.construction.Row.{Row}
+use Rattle.byte_dfa.specs.declared.determinizer.Determinizer.{Determinizer}
+use Rattle.byte_dfa.specs.declared.determinizer.Found.{Found}
+use Rattle.byte_dfa.specs.declared.determinizer.Row.{Row}
 use Rattle.byte_dfa.specs.inner.Lists.{IsListOf, HasNoneFirst}
 use Rattle.byte_dfa.specs.inner.Tables.{special}
 
@@ -26,18 +26,18 @@ abbrev pub GoesTo : Machine → StateSet → ℕ → StateSet → Type 0
 GoesTo m from b to = (y : List ℕ) (k : ℕ) → AcceptsFrom m from (b ∷ y) k ↔ AcceptsFrom m to y k
 
 -- a set has room for the states, and for fewer than 64 more
-pub record HasRoomFor (m : Machine) (set : StateSet) : Type 0 where
-  pub room : size m ≤ state_room set
-  pub least : state_room set < size m + 64
+pub record HasCapacityFor (m : Machine) (set : StateSet) : Type 0 where
+  pub room : size m ≤ state_capacity set
+  pub least : state_capacity set < size m + 64
 
 -- the set has exactly the states that lead to some end without a byte
-pub record AreAllEnding (m : Machine) (ending : StateSet) : Type 0 where
-  pub ends : AreEnding m ending
-  pub room : HasRoomFor m ending
+pub record AreAllAccepting (m : Machine) (accepting : StateSet) : Type 0 where
+  pub ends : AreAccepting m accepting
+  pub room : HasCapacityFor m accepting
 
 -- a set with its lists
 pub record IsFound (m : Machine) (lists : List ℕ) (f : Found) : Type 0 where
-  pub room : HasRoomFor m f.states
+  pub room : HasCapacityFor m f.states
   pub on_entry : IsListOf lists (half m) f.on_entry (λ k. AcceptsFrom m f.states [] (half m + k))
   pub at_end : IsListOf lists (half m) f.at_end (AcceptsFrom m f.states [])
 
@@ -46,17 +46,17 @@ abbrev pub IsEntryTo : List ℕ → ℕ → ℕ → Found → ℕ → Type 0
 IsEntryTo lists stride j g e = ((e ≡ j * stride) × (slice_index lists g.on_entry ≡ 0)) ⊎ (e ≡ special + j * stride)
 
 -- the number in a column of the row of number i
-pub record IsCell (m : Machine) (firsts : List ℕ) (width : ℕ) (found : List Found) (lists : List ℕ) (i c e : ℕ) : Type 0 where
+pub record IsCell (m : Machine) (representatives : List ℕ) (width : ℕ) (found : List Found) (lists : List ℕ) (i c e : ℕ) : Type 0 where
   pub this : Found
   pub row : slice_get found i ≡ Some this
-  pub goes : c < width → (j : ℕ) × (g : Found) × (slice_get found j ≡ Some g) × GoesTo m this.states (slice_index firsts c) g.states × IsEntryTo lists (width + 2) j g e
+  pub goes : c < width → (j : ℕ) × (g : Found) × (slice_get found j ≡ Some g) × GoesTo m this.states (slice_index representatives c) g.states × IsEntryTo lists (width + 2) j g e
   pub on_entry : c ≡ width → e ≡ this.on_entry
   pub at_end : c ≡ width + 1 → e ≡ this.at_end
 
 -- the numbers that are written are right
 abbrev pub AreCells : Machine → List ℕ → ℕ → List Found → List ℕ → List ℕ → Type 0
-AreCells m firsts width found lists rows =
-    (i c : ℕ) → c ≤ width + 1 → i * (width + 2) + c < length rows → IsCell m firsts width found lists i c (slice_index rows (i * (width + 2) + c))
+AreCells m representatives width found lists rows =
+    (i c : ℕ) → c ≤ width + 1 → i * (width + 2) + c < length rows → IsCell m representatives width found lists i c (slice_index rows (i * (width + 2) + c))
 
 -- the sets that were found
 pub record AreFoundSets (m : Machine) (found : List Found) (lists : List ℕ) : Type 0 where
@@ -69,16 +69,16 @@ abbrev pub KeepsFound : List Found → List Found → Type 0
 KeepsFound old new = (length old ≤ length new) × ((i : ℕ) (f : Found) → slice_get old i ≡ Some f → slice_get new i ≡ Some f)
 
 -- what is known of the parts of a construction
-pub record IsBuilt (m : Machine) (classes : ByteClasses) (found : List Found) (lists rows : List ℕ) (ending : StateSet) : Type 0 where
+pub record IsBuilt (m : Machine) (classes : ByteClasses) (found : List Found) (lists rows : List ℕ) (accepting : StateSet) : Type 0 where
   pub sets : AreFoundSets m found lists
-  pub cells : AreCells m classes.firsts classes.count found lists rows
-  pub ends : AreAllEnding m ending
+  pub cells : AreCells m classes.representatives classes.count found lists rows
+  pub ends : AreAllAccepting m accepting
 
-abbrev pub IsSound : Machine → ByteClasses → Construction → Type 0
-IsSound m classes c = IsBuilt m classes c.found.items c.lists.items c.rows.items c.ending
+abbrev pub IsSound : Machine → ByteClasses → Determinizer → Type 0
+IsSound m classes c = IsBuilt m classes c.found.items c.lists.items c.rows.items c.accepting
 
 -- how many numbers there are when all rows are written, with those that may be added
-abbrev pub total : ByteClasses → Construction → ℕ
+abbrev pub total : ByteClasses → Determinizer → ℕ
 total classes c = c.room + length c.found.items * (classes.count + 2) + length c.lists.items
 
 -- a set has a number
@@ -86,7 +86,7 @@ abbrev pub IsNumbered : List Found → ℕ → StateSet → Type 0
 IsNumbered found j states = (g : Found) × (slice_get found j ≡ Some g) × AreSame g.states states
 
 -- no row was written, but perhaps a set added
-pub record Grows (m : Machine) (classes : ByteClasses) (old new : Construction) : Type 0 where
+pub record Grows (m : Machine) (classes : ByteClasses) (old new : Determinizer) : Type 0 where
   pub sound : IsSound m classes new
   pub keeps : KeepsFound old.found.items new.found.items
   pub rows : new.rows.items ≡ old.rows.items
@@ -107,7 +107,7 @@ pub record BeginsAt (m : Machine) (found : List Found) (number : ℕ) : Type 0 w
   pub leads : (y : List ℕ) (k : ℕ) → AcceptsFrom m set.states y k ↔ IsReached m y k
 
 -- all rows are written, and a run begins in the state of the number
-pub record IsComplete (m : Machine) (classes : ByteClasses) (room : ℕ) (c : Construction) (number : ℕ) : Type 0 where
+pub record IsComplete (m : Machine) (classes : ByteClasses) (room : ℕ) (c : Determinizer) (number : ℕ) : Type 0 where
   pub sound : IsSound m classes c
   pub rows : length c.rows.items ≡ length c.found.items * (classes.count + 2)
   pub few : length c.rows.items + length c.lists.items ≤ room + 1
@@ -133,5 +133,5 @@ pub record IsRowOf (m : Machine) (found : List Found) (row : Row) (steps : ByteS
   pub every : row.every ≡ false → (t : ℕ) → has_state steps.by_every t ≡ false
 
 -- the number is right in a column of a row
-abbrev pub IsCellOf : Machine → ByteClasses → Construction → ℕ → ℕ → ℕ → Type 0
-IsCellOf m classes c row col e = IsCell m classes.firsts classes.count c.found.items c.lists.items row col e
+abbrev pub IsCellOf : Machine → ByteClasses → Determinizer → ℕ → ℕ → ℕ → Type 0
+IsCellOf m classes c row col e = IsCell m classes.representatives classes.count c.found.items c.lists.items row col e

@@ -1,14 +1,14 @@
 -- Classes of bytes that states read alike.
 use Rattle.std.specs.Prelude.{ℕ, ◌<◌, ◌≤◌, List, slice_index}
-use Rattle.byte_automaton.specs.Steps.{State}
-use Rattle.byte_automaton.specs.Alike.{AreAlike}
+use Rattle.byte_nfa.specs.Steps.{State}
+use Rattle.byte_nfa.specs.Equivalent.{AreEquivalent}
 
 -- each byte below the bound has one of the classes up to the last, and is read as the first byte of the class
 abbrev pub IsDivided : List State → List ℕ → List ℕ → ℕ → ℕ → Type 0
-IsDivided a class_of firsts last bound =
-    (b : ℕ) → b < bound → (slice_index class_of b ≤ last) × AreAlike a (slice_index firsts (slice_index class_of b)) b
+IsDivided a class_of representatives last bound =
+    (b : ℕ) → b < bound → (slice_index class_of b ≤ last) × AreEquivalent a (slice_index representatives (slice_index class_of b)) b
 
 -- each byte has a class, and is read as the first byte of the class
 abbrev pub IsDivision : List State → List ℕ → List ℕ → ℕ → Type 0
-IsDivision a class_of firsts count =
-    (b : ℕ) → b < 256 → (slice_index class_of b < count) × AreAlike a (slice_index firsts (slice_index class_of b)) b
+IsDivision a class_of representatives count =
+    (b : ℕ) → b < 256 → (slice_index class_of b < count) × AreEquivalent a (slice_index representatives (slice_index class_of b)) b

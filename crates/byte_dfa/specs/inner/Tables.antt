@@ -1,10 +1,10 @@
 -- Reading the table of a deterministic automaton.
 use Rattle.std.specs.Prelude.{◌≡◌, ℕ, ◌+◌, ◌*◌, ◌/◌, ◌%◌, ◌<◌, ◌↔◌, Bool, false, ◌||◌, IsTrue, List, [], ◌∷◌, length, slice_index, slice_index_or}
-use Rattle.byte_automaton.specs.Runs.{HasLastBytes}
-use Rattle.byte_automaton.specs.Steps.{Machine, IsReached}
+use Rattle.byte_nfa.specs.Runs.{HasLastBytes}
+use Rattle.byte_nfa.specs.Steps.{Machine, IsReached}
 use Rattle.bit_sets.specs.declared.byte_set.ByteSet.{ByteSet}
-use Rattle.byte_automaton.specs.Texts.{AllBytes}
-use Rattle.bit_sets.specs.Numbers.{is_listed}
+use Rattle.byte_nfa.specs.Texts.{AllBytes}
+use Rattle.bit_sets.specs.Numbers.{is_reported}
 use Rattle.byte_dfa.specs.inner.Lists.{list_at, IsList}
 
 -- A state is the place where its row begins. The row has an entry for each class of bytes, and the places of two lists: of
@@ -32,12 +32,12 @@ abbrev pub special : ℕ
 special = 2147483648
 
 -- the entry for a byte
-abbrev pub entry : Table → ℕ → ℕ → ℕ
-entry d s b = slice_index d.next (s + slice_index d.class_of b)
+abbrev pub transition : Table → ℕ → ℕ → ℕ
+transition d s b = slice_index d.next (s + slice_index d.class_of b)
 
 -- the state after a byte
 abbrev pub after : Table → ℕ → ℕ → ℕ
-after d s b = entry d s b % special
+after d s b = transition d s b % special
 
 -- what is found on entry, and where the text ends
 abbrev pub on_entry : Table → ℕ → List ℕ
@@ -48,12 +48,12 @@ at_end d s = list_at d.lists (slice_index d.next (s + d.width + 1))
 
 -- whether an index is found after the state was entered
 abbrev pub later : Table → ℕ → List ℕ → ℕ → Bool
-later d s [] k = is_listed k (at_end d s)
-later d s (b ∷ y) k = is_listed k (on_entry d (after d s b)) || later d (after d s b) y k
+later d s [] k = is_reported k (at_end d s)
+later d s (b ∷ y) k = is_reported k (on_entry d (after d s b)) || later d (after d s b) y k
 
 -- whether an index is found from a state on, its entry included
 abbrev pub finds_from : Table → ℕ → List ℕ → ℕ → Bool
-finds_from d s y k = is_listed k (on_entry d s) || later d s y k
+finds_from d s y k = is_reported k (on_entry d s) || later d s y k
 
 abbrev pub finds : Table → List ℕ → ℕ → Bool
 finds d y k = finds_from d d.start y k
@@ -70,7 +70,7 @@ pub record IsTable (d : Table) : Type 0 where
   pub goes : (s b : ℕ) → IsRow d s → b < 256 → IsRow d (after d s b)
   pub entry_list : (s : ℕ) → IsRow d s → IsList d.lists d.count (slice_index d.next (s + d.width))
   pub end_list : (s : ℕ) → IsRow d s → IsList d.lists d.count (slice_index d.next (s + d.width + 1))
-  pub quiet : (s b : ℕ) → IsRow d s → b < 256 → entry d s b < special → on_entry d (after d s b) ≡ []
+  pub quiet : (s b : ℕ) → IsRow d s → b < 256 → transition d s b < special → on_entry d (after d s b) ≡ []
   pub dead : (y : List ℕ) (k : ℕ) → AllBytes y → finds_from d 0 y k ≡ false
 
 -- some bytes lead from the row to where something is found, its entry included

@@ -3,7 +3,7 @@ use Rattle.std.proofs.Common.{◌≡◌, ℕ, ◌+◌, ◌<◌, ◌⊎◌, inl, 
 use Rattle.std.specs.Prelude.{◌↔◌, ◌==◌}
 use Rattle.std.proofs.lemmas.Bool.{cases_lt, or_cases, eqb-true}
 use Rattle.std.proofs.Math.Logic.{⊎_elim}
-use Rattle.byte_automaton.proofs.lemmas.Pass.{or_first, or_second}
+use Rattle.byte_nfa.proofs.lemmas.Pass.{or_first, or_second}
 use Rattle.byte_filter.specs.Signs.{sign_of, IsSignBefore}
 use Rattle.byte_filter.specs.Windows.{key_at}
 

@@ -1,7 +1,7 @@
 -- Bytes of texts, as bits.
 use Rattle.std.specs.Prelude.{◌≡◌, ℕ, ◌<◌, ◌⊎◌, List, length, slice_index, Contains, IsTrue}
 use Rattle.bit_sets.specs.Bits.{bit_of}
-use Rattle.byte_automaton.specs.Steps.{Machine}
+use Rattle.byte_nfa.specs.Steps.{Machine}
 use Rattle.byte_filter.specs.Others.{HasByteBefore, IsRequiredByte}
 
 -- the words have the bit of 255, and that of each of the first n bytes of the text, folded

@@ -4,7 +4,7 @@ use Rattle.std.specs.HashMap.{HashMap}
 use Rattle.std.specs.Str.{bytes_eq}
 use Rattle.std.proofs.Common.{Vec}
 use Rattle.byte_table.specs.Entries.{Entry, entry, indexes_under}
-use Rattle.byte_table.specs.inner.Lists.{list_under, with_index, Holds}
+use Rattle.byte_table.specs.inner.Lists.{list_under, with_index, PassInvariant}
 
 none_before : (b : Bool) (i : ℕ) → cond b (i ∷ []) [] ≡ with_index b i []
 none_before true i = refl
@@ -23,15 +23,15 @@ indexes_added (e ∷ es) key i q =
     ∙ some_before (bytes_eq e.key q) (bytes_eq key q) i e.index (indexes_under es q)
 
 pub holds_added : {X Y S : Type 0} (m n : HashMap (Vec ℕ X) (Vec ℕ Y) S) (count : ℕ) (es fs : List Entry) (key : List ℕ) (i : ℕ) →
-    Holds m count es → ((q : List ℕ) → list_under n q ≡ with_index (bytes_eq key q) i (list_under m q)) → fs ≡ es ++ entry key i ∷ [] →
-    (more : ℕ) → more ≡ count + 1 → Holds n more fs
+    PassInvariant m count es → ((q : List ℕ) → list_under n q ≡ with_index (bytes_eq key q) i (list_under m q)) → fs ≡ es ++ entry key i ∷ [] →
+    (more : ℕ) → more ≡ count + 1 → PassInvariant n more fs
 holds_added m n count es fs key i h added e more c = record {
   under = λ q. added q ∙ ap (with_index (bytes_eq key q) i) (h.under q) ∙ sym (indexes_added es key i q) ∙ ap (λ l. indexes_under l q) (sym e);
   counted = omega (arith, h.counted, ap length e, length-append es (entry key i ∷ []));
 }
 
 pub holds_kept : {X Y S : Type 0} (m n : HashMap (Vec ℕ X) (Vec ℕ Y) S) (count : ℕ) (es fs : List Entry) →
-    Holds m count es → ((q : List ℕ) → list_under n q ≡ list_under m q) → fs ≡ es → Holds n count fs
+    PassInvariant m count es → ((q : List ℕ) → list_under n q ≡ list_under m q) → fs ≡ es → PassInvariant n count fs
 holds_kept m n count es fs h kept e = record {
   under = λ q. kept q ∙ h.under q ∙ ap (λ l. indexes_under l q) (sym e);
   counted = h.counted ∙ ap length (sym e);

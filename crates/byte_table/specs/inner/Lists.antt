@@ -11,7 +11,7 @@ unfoldable pub list_under : {S X Y : Type 0} → HashMap (Vec ℕ X) (Vec ℕ Y)
 list_under lists key = option_map_or (λ v. v.items) (get_by (λ k. bytes_eq key k.items) lists) []
 
 -- the lists of all keys are those of the entries, which are so many
-pub record Holds {S X Y : Type 0} (lists : HashMap (Vec ℕ X) (Vec ℕ Y) S) (count : ℕ) (entries : List Entry) : Type 0 where
+pub record PassInvariant {S X Y : Type 0} (lists : HashMap (Vec ℕ X) (Vec ℕ Y) S) (count : ℕ) (entries : List Entry) : Type 0 where
   pub under : (key : List ℕ) → list_under lists key ≡ indexes_under entries key
   pub counted : count ≡ length entries
 

@@ -5,9 +5,9 @@ use Rattle.std.specs.List.{flat_map, Contains}
 use Rattle.std.specs.Cmp.Lexicographic.{bytes_decides}
 use Rattle.std.proofs.lemmas.Bool.{true≢false}
 use Rattle.byte_table.specs.Entries.{Entry, entry, indexes_under}
-use Rattle.byte_trie.specs.declared.side.Side.{Side}
-use Rattle.byte_trie.specs.declared.side.Side.TheVariants.{Beginning, End}
-use Rattle.byte_trie.specs.Texts.{beginnings, endings, parts, found}
+use Rattle.byte_trie.specs.declared.anchor.Anchor.{Anchor}
+use Rattle.byte_trie.specs.declared.anchor.Anchor.TheVariants.{Start, End}
+use Rattle.byte_trie.specs.Texts.{prefixes, suffixes, parts, found}
 use Rattle.byte_trie.specs.Laws.{IsAt, FindsExactly}
 
 -- ---- elements of lists, by recursion
@@ -113,21 +113,21 @@ map_part b y [] h = absurd h
 map_part b y (z ∷ zs) (inl e) = inl (ap (λ w. b ∷ w) e)
 map_part b y (z ∷ zs) (inr h) = inr (map_part b y zs h)
 
-part_begins : (p x : List ℕ) → IsPart x (beginnings p) → (rest : List ℕ) × (x ++ rest ≡ p)
+part_begins : (p x : List ℕ) → IsPart x (prefixes p) → (rest : List ℕ) × (x ++ rest ≡ p)
 unfolding IsPart
 part_begins [] x (inl e) = ([], ap (λ y. y ++ []) e)
 part_begins [] x (inr h) = absurd h
 part_begins (b ∷ p) x (inl e) = (b ∷ p, ap (λ y. y ++ b ∷ p) e)
 part_begins (b ∷ p) x (inr h) =
-    let r = part_map b x (beginnings p) h in
+    let r = part_map b x (prefixes p) h in
     let s = part_begins p r.0 r.2 in
     (s.0, ap (λ y. y ++ s.0) r.1 ∙ ap (λ y. b ∷ y) s.1)
 
-begins_part : (x rest : List ℕ) → IsPart x (beginnings (x ++ rest))
+begins_part : (x rest : List ℕ) → IsPart x (prefixes (x ++ rest))
 unfolding IsPart
 begins_part [] [] = inl refl
 begins_part [] (b ∷ rest) = inl refl
-begins_part (c ∷ x) rest = inr (map_part c x (beginnings (x ++ rest)) (begins_part x rest))
+begins_part (c ∷ x) rest = inr (map_part c x (prefixes (x ++ rest)) (begins_part x rest))
 
 part_left : (x : List ℕ) (xs ys : List (List ℕ)) → IsPart x xs → IsPart x (xs ++ ys)
 unfolding IsPart
@@ -147,37 +147,37 @@ part_either x y [] (inr h) = absurd h
 part_either x y (z ∷ zs) (inl e) = inl (inl e)
 part_either x y (z ∷ zs) (inr h) = ⊎_elim (λ a. inl (inr a)) (λ e. inr e) (part_either x y zs h)
 
-part_ends : (p x : List ℕ) → IsPart x (endings p) → (front : List ℕ) × (front ++ x ≡ p)
+part_ends : (p x : List ℕ) → IsPart x (suffixes p) → (front : List ℕ) × (front ++ x ≡ p)
 unfolding IsPart
 part_ends [] x (inl e) = ([], e)
 part_ends [] x (inr h) = absurd h
 part_ends (b ∷ p) x h =
-    ⊎_elim (λ a. let r = part_ends p x a in (b ∷ r.0, ap (λ y. b ∷ y) r.1)) (λ e. ([], e)) (part_either x (b ∷ p) (endings p) h)
+    ⊎_elim (λ a. let r = part_ends p x a in (b ∷ r.0, ap (λ y. b ∷ y) r.1)) (λ e. ([], e)) (part_either x (b ∷ p) (suffixes p) h)
 
-ends_part_whole : (x : List ℕ) → IsPart x (endings x)
+ends_part_whole : (x : List ℕ) → IsPart x (suffixes x)
 unfolding IsPart
 ends_part_whole [] = inl refl
-ends_part_whole (b ∷ x) = part_last (b ∷ x) (b ∷ x) (endings x) refl
+ends_part_whole (b ∷ x) = part_last (b ∷ x) (b ∷ x) (suffixes x) refl
 
-ends_part : (front x : List ℕ) → IsPart x (endings (front ++ x))
+ends_part : (front x : List ℕ) → IsPart x (suffixes (front ++ x))
 unfolding IsPart
 ends_part [] x = ends_part_whole x
-ends_part (c ∷ front) x = part_left x (endings (front ++ x)) ((c ∷ (front ++ x)) ∷ []) (ends_part front x)
+ends_part (c ∷ front) x = part_left x (suffixes (front ++ x)) ((c ∷ (front ++ x)) ∷ []) (ends_part front x)
 
-at_side : (side : Side) (p x : List ℕ) → IsPart x (parts side p) → IsAt side p x
-at_side Beginning p x h = part_begins p x h
-at_side End p x h = part_ends p x h
+at_anchor : (anchor : Anchor) (p x : List ℕ) → IsPart x (parts anchor p) → IsAt anchor p x
+at_anchor Start p x h = part_begins p x h
+at_anchor End p x h = part_ends p x h
 
-side_at : (side : Side) (p x : List ℕ) → IsAt side p x → IsPart x (parts side p)
-side_at Beginning p x h = subst (λ q. IsPart x (beginnings q)) h.1 (begins_part x h.0)
-side_at End p x h = subst (λ q. IsPart x (endings q)) h.1 (ends_part h.0 x)
+anchor_at : (anchor : Anchor) (p x : List ℕ) → IsAt anchor p x → IsPart x (parts anchor p)
+anchor_at Start p x h = subst (λ q. IsPart x (prefixes q)) h.1 (begins_part x h.0)
+anchor_at End p x h = subst (λ q. IsPart x (suffixes q)) h.1 (ends_part h.0 x)
 
 pub finds_exactly : FindsExactly
 finds_exactly t p i = (
   λ c.
-      let r = from_parts t.entries i (parts t.side p) (in_list i (found t p) c) in
-      (r.0, contained (entry r.0 i) t.entries (entry_in t.entries r.0 i r.1), at_side t.side p r.0 r.2),
+      let r = from_parts t.entries i (parts t.anchor p) (in_list i (found t p) c) in
+      (r.0, contained (entry r.0 i) t.entries (entry_in t.entries r.0 i r.1), at_anchor t.anchor p r.0 r.2),
   λ r.
       let has = has_entry t.entries r.0 i (in_list (entry r.0 i) t.entries r.1) in
-      contained i (found t p) (to_parts t.entries i r.0 (parts t.side p) has (side_at t.side p r.0 r.2)),
+      contained i (found t p) (to_parts t.entries i r.0 (parts t.anchor p) has (anchor_at t.anchor p r.0 r.2)),
 )

@@ -48,11 +48,6 @@ range_right xs ys i j a b =
     ∙ ap (take (j - i)) (drop_whole xs ys)
     ∙ take_all (j - i) ys (omega arith)
 
-pub range_whole : {X : Type 0} (xs : List X) (n : ℕ) → n ≡ length xs → slice_range xs 0 n ≡ xs
-range_whole xs n e =
-    let m : n - 0 ≡ n = omega arith in
-    ap (λ k. take k xs) m ∙ take_all n xs (omega arith)
-
 pub all_append : {X : Type 0} (P : X → Type 0) (xs ys : List X) → AllByRecursion P xs → AllByRecursion P ys → AllByRecursion P (xs ++ ys)
 all_append P [] ys a b = b
 all_append P (x ∷ xs) ys a b = (a.0, all_append P xs ys a.1 b)

@@ -15,10 +15,10 @@ use Rattle.std.proofs.lemmas.List.{get_or-map, map-set, get_or_default, length-m
 use Rattle.std.proofs.lemmas.List.Edits.{map_over_more}
 use Rattle.std.proofs.lemmas.List.Sorted.{ranks_by, sorted_far}
 use Rattle.byte_table.specs.Entries.{entry, indexes_under}
-use Rattle.byte_trie.specs.declared.side.Side.TheVariants.{End}
+use Rattle.byte_trie.specs.declared.anchor.Anchor.TheVariants.{End}
 use Rattle.byte_trie.specs.declared.text.Text.{Text}
 use Rattle.byte_trie.specs.Texts.{entry_of}
-use Rattle.byte_trie.specs.inner.Sides.{entry_from_side}
+use Rattle.byte_trie.specs.inner.Anchors.{entry_from_anchor}
 use Rattle.byte_trie.specs.inner.Building.{IsUpTo, IsOrdered}
 
 -- the order of texts by their bytes
@@ -28,21 +28,21 @@ is_before t u = is_lt (slice_cmp nat_cmp t.bytes.items u.bytes.items)
 pub before_ranks : IsStrictWeakOrder is_before
 before_ranks = ranks_by nat_list_cmp_total (λ t. t.bytes.items)
 
-upto_step : (x y : ℕ) (xs ys : List ℕ) (o p : Ordering) → MatchOrdering o (y < x) (y ≡ x) (x < y) → is_lt (ordering_then o p) ≡ false → (is_lt p ≡ false → IsUpTo xs ys) →
+limit_step : (x y : ℕ) (xs ys : List ℕ) (o p : Ordering) → MatchOrdering o (y < x) (y ≡ x) (x < y) → is_lt (ordering_then o p) ≡ false → (is_lt p ≡ false → IsUpTo xs ys) →
     IsUpTo (x ∷ xs) (y ∷ ys)
-upto_step x y xs ys Less p m e f = absurd (true≢false e)
-upto_step x y xs ys Equal p m e f = inr (sym m, f e)
-upto_step x y xs ys Greater p m e f = inl m
+limit_step x y xs ys Less p m e f = absurd (true≢false e)
+limit_step x y xs ys Equal p m e f = inr (sym m, f e)
+limit_step x y xs ys Greater p m e f = inl m
 
-upto_from : (xs ys : List ℕ) → is_lt (slice_cmp nat_cmp ys xs) ≡ false → IsUpTo xs ys
-upto_from [] ys e = tt
-upto_from (x ∷ xs) [] e = absurd (true≢false e)
-upto_from (x ∷ xs) (y ∷ ys) e = upto_step x y xs ys (nat_cmp y x) (slice_cmp nat_cmp ys xs) (ranked y x (nat_cmp y x) refl) e (upto_from xs ys)
+limit_from : (xs ys : List ℕ) → is_lt (slice_cmp nat_cmp ys xs) ≡ false → IsUpTo xs ys
+limit_from [] ys e = tt
+limit_from (x ∷ xs) [] e = absurd (true≢false e)
+limit_from (x ∷ xs) (y ∷ ys) e = limit_step x y xs ys (nat_cmp y x) (slice_cmp nat_cmp ys xs) (ranked y x (nat_cmp y x) refl) e (limit_from xs ys)
 
 pub ordered_from : (ts : List Text) → IsSortedBy is_before ts → IsOrdered ts 0 0 (length ts)
 ordered_from ts h i j d e a b c =
     subst (λ t. IsUpTo (get_or ts i d).bytes.items t.bytes.items) (get_or_default ts j d e c)
-    (upto_from (get_or ts i d).bytes.items (get_or ts j d).bytes.items (sorted_far is_before before_ranks ts h i j d b c))
+    (limit_from (get_or ts i d).bytes.items (get_or ts j d).bytes.items (sorted_far is_before before_ranks ts h i j d b c))
 
 tied : (o p : Ordering) → p ≡ ordering_reverse o → (not (is_lt o) && not (is_lt p)) ≡ is_eq o
 tied Less p e = refl
@@ -90,11 +90,11 @@ under_stable xs ys h w =
 
 -- one more text is reversed
 pub turn_more : (ts ys : List Text) (i : ℕ) (item new : Text) → i < length ts →
-    map entry_of ys ≡ map (entry_from_side End) (take i (map entry_of ts)) ++ drop i (map entry_of ts) → length ys ≡ length ts → item ≡ get_or ys i item →
+    map entry_of ys ≡ map (entry_from_anchor End) (take i (map entry_of ts)) ++ drop i (map entry_of ts) → length ys ≡ length ts → item ≡ get_or ys i item →
     new.bytes.items ≡ reverse item.bytes.items → new.index ≡ item.index →
-    map entry_of (set ys i new) ≡ map (entry_from_side End) (take (i + 1) (map entry_of ts)) ++ drop (i + 1) (map entry_of ts)
+    map entry_of (set ys i new) ≡ map (entry_from_anchor End) (take (i + 1) (map entry_of ts)) ++ drop (i + 1) (map entry_of ts)
 turn_more ts ys i item new l h n e r x =
     map-set entry_of ys i new
     ∙ ap (set (map entry_of ys) i) ((λ k. entry (r k) (x k)))
-    ∙ map_over_more (entry_from_side End) (map entry_of ts) (map entry_of ys) i (entry_of item) (omega (arith, length-map ts entry_of)) h
+    ∙ map_over_more (entry_from_anchor End) (map entry_of ts) (map entry_of ys) i (entry_of item) (omega (arith, length-map ts entry_of)) h
     (ap entry_of e ∙ sym (get_or-map entry_of ys i item (entry_of item) (omega arith)))

@@ -43,9 +43,6 @@ own_not d (t ∷ ts) h b w =
     ended_not t.index b (drop d t.bytes.items) w (indexes_under (map (rest_of d) ts) (b ∷ w)) (drop_none t.bytes.items d h.0)
     ∙ own_not d ts h.1 b w
 
-goes_not : (i x : ℕ) (q r us : List ℕ) → q ≡ x ∷ r → cond (bytes_eq q []) (i ∷ us) us ≡ us
-goes_not i x q r us e = ap (λ y. cond (bytes_eq y []) (i ∷ us) us) e
-
 one_run : (x b i : ℕ) (q r w us vs : List ℕ) → q ≡ x ∷ r → us ≡ cond (x == b) vs [] →
     cond (bytes_eq q (b ∷ w)) (i ∷ us) us ≡ cond (x == b) (cond (bytes_eq r w) (i ∷ vs) vs) []
 one_run x b i q r w us vs e u =
@@ -99,13 +96,13 @@ picked_push texts d (y ∷ bs) (r ∷ ss) x s b w n h =
     apart true false us vs ws f = sym (append-nil us)
     apart false q us vs ws f = refl
 
-upto_tail : (x : ℕ) (q r : List ℕ) → IsUpTo (x ∷ q) (x ∷ r) → IsUpTo q r
-upto_tail x q r (inl l) = absurd (omega arith)
-upto_tail x q r (inr h) = h.1
+limit_tail : (x : ℕ) (q r : List ℕ) → IsUpTo (x ∷ q) (x ∷ r) → IsUpTo q r
+limit_tail x q r (inl l) = absurd (omega arith)
+limit_tail x q r (inr h) = h.1
 
-upto_head : (x y : ℕ) (q r : List ℕ) → IsUpTo (x ∷ q) (y ∷ r) → x ≤ y
-upto_head x y q r (inl l) = omega arith
-upto_head x y q r (inr h) = omega (arith, h.0)
+limit_head : (x y : ℕ) (q r : List ℕ) → IsUpTo (x ∷ q) (y ∷ r) → x ≤ y
+limit_head x y q r (inl l) = omega arith
+limit_head x y q r (inr h) = omega (arith, h.0)
 
 -- the span of a run, one byte further on
 run_span : (texts : List Text) (d from to at x : ℕ) (s : Span) → IsSpan texts d s → s.from ≤ from → from ≤ to → to ≤ s.to →
@@ -116,7 +113,7 @@ run_span texts d from to at x s h a b c run long l e = record {
   to = omega (arith, h.to);
   deep = λ n w. omega (arith, long from e a l, w from e (omega arith) (omega (arith, h.to)));
   ordered = λ i j f g p q r.
-      upto_tail x _ _
+      limit_tail x _ _
       (subst (λ y. IsUpTo y (x ∷ drop (d + 1) (slice_index_or texts j g).bytes.items)) (drop_some (slice_index_or texts i f).bytes.items d x (run i f p (omega arith)))
       (subst (λ y. IsUpTo (drop d (slice_index_or texts i f).bytes.items) y) (drop_some (slice_index_or texts j g).bytes.items d x (run j g (omega arith) r))
       (h.ordered i j f g (omega arith) q (omega arith))));
@@ -158,7 +155,7 @@ pub above_more : (texts : List Text) (d from to x : ℕ) (s : Span) (bs : List �
 above_more texts d from to x s bs h a b c run stop above y e n =
     let at = drop_some (slice_index_or texts from e).bytes.items d x (run from e (omega arith) b) in
     let next = drop_some (slice_index_or texts to e).bytes.items d y n in
-    let up = upto_head x y _ _
+    let up = limit_head x y _ _
     (subst (λ q. IsUpTo q (y ∷ drop (d + 1) (slice_index_or texts to e).bytes.items)) at
     (subst (λ q. IsUpTo (drop d (slice_index_or texts from e).bytes.items) q) next (h.ordered from to e e a (omega arith) c))) in
     let higher : x < y = ⊎_elim (λ (l : x < y). l) (λ (g : y ≤ x). absurd (stop e (n ∙ ap Some (same y x g up)))) (cases_lt x y) in
@@ -188,10 +185,10 @@ run_moves texts d from to r x e a b stop n =
     (λ (g : r ≤ from). let same : from ≡ r = omega arith in absurd (stop (omega arith) e (subst (λ k. next_of d (slice_index_or texts k e) ≡ Some x) same n)))
     (cases_lt from r)
 
-upto_some : (q r : List ℕ) → IsUpTo q r → 0 < length q → 0 < length r
-upto_some [] r h l = absurd (omega arith)
-upto_some (x ∷ q) [] h l = absurd h
-upto_some (x ∷ q) (y ∷ r) h l = omega arith
+limit_some : (q r : List ℕ) → IsUpTo q r → 0 < length q → 0 < length r
+limit_some [] r h l = absurd (omega arith)
+limit_some (x ∷ q) [] h l = absurd h
+limit_some (x ∷ q) (y ∷ r) h l = omega arith
 
 -- after those that end, each text goes on
 pub long_rest : (texts : List Text) (d own : ℕ) (s : Span) → IsSpan texts d s → s.from ≤ own →
@@ -201,7 +198,7 @@ long_rest texts d own s h a stop k e b c =
     let here = (slice_index_or texts k e).bytes.items in
     let longer : d < length first =
     ⊎_elim (λ (l : d < length first). l) (λ (g : length first ≤ d). absurd (stop (omega arith) e (get_none first d g))) (cases_lt d (length first)) in
-    let some = upto_some (drop d first) (drop d here) (h.ordered own k e e a b c) (omega (arith, length-drop d first)) in
+    let some = limit_some (drop d first) (drop d here) (h.ordered own k e e a b c) (omega (arith, length-drop d first)) in
     omega (arith, some, length-drop d here)
 
 -- those that end do not count under a longer text

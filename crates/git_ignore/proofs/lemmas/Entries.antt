@@ -4,9 +4,9 @@ use Rattle.std.specs.Prelude.{◌&&◌, ◌||◌, not, OnOk, Result, Ok, Err, Op
 use Rattle.std.specs.List.{range_with_len}
 use Rattle.std.specs.Option.{option_map_or}
 use Rattle.std.proofs.lemmas.List.Elements.{All-append}
-use Rattle.globset.specs.Means.{GlobValue, glob_means}
-use Rattle.globset.specs.Silent.{silent, is_listed}
-use Rattle.globset.specs.Answer.{answer}
+use Rattle.globset.specs.GlobMatches.{GlobValue, glob_matches}
+use Rattle.globset.specs.Excluded.{excluded, is_reported}
+use Rattle.globset.specs.Answer.{matching_indexes}
 use Rattle.globset.specs.Indexes.{passes_at, passing_indexes}
 use Rattle.ignore_pattern.specs.Patterns.{Pattern, pattern_matches, pattern_of_line}
 use Rattle.ignore_pattern.specs.Meaning.{HasMeaningOf, MatchesNothing}
@@ -57,25 +57,25 @@ last_rule_more path f (q ∷ rules) r =
     ∙ or_later (applies path f r) (applies path f q) r q (last_rule path f rules)
 
 pub last_entry_more : (path : List ℕ) (is_folder : Bool) (gs : List GlobValue) (g : GlobValue) (es : List RuleEntry) (e : RuleEntry) → length es ≡ length gs
-    → last_entry path is_folder (gs ++ g ∷ []) (es ++ e ∷ []) ≡ (if is_for is_folder e && is_listed g path then Some e else last_entry path is_folder gs es)
+    → last_entry path is_folder (gs ++ g ∷ []) (es ++ e ∷ []) ≡ (if is_for is_folder e && is_reported g path then Some e else last_entry path is_folder gs es)
 last_entry_more path f [] g [] e h = refl
 last_entry_more path f [] g (d ∷ es) e h = absurd (omega (arith, h))
 last_entry_more path f (k ∷ gs) g [] e h = absurd (omega (arith, h))
 last_entry_more path f (k ∷ gs) g (d ∷ es) e h =
-    ap (λ (o : Option RuleEntry). elim o as (λ _. Option RuleEntry) [ Some last ↦ Some last | None ↦ if is_for f d && is_listed k path then Some d else None ]) (last_entry_more path f gs g es e (omega (arith, h)))
-    ∙ or_later (is_for f e && is_listed g path) (is_for f d && is_listed k path) e d (last_entry path f gs es)
+    ap (λ (o : Option RuleEntry). elim o as (λ _. Option RuleEntry) [ Some last ↦ Some last | None ↦ if is_for f d && is_reported k path then Some d else None ]) (last_entry_more path f gs g es e (omega (arith, h)))
+    ∙ or_later (is_for f e && is_reported g path) (is_for f d && is_reported k path) e d (last_entry path f gs es)
 
 -- a glob that has the meaning of a pattern is found where the pattern matches
-found_if_matched : (p : Pattern) (g : GlobValue) (path : List ℕ) → HasMeaningOf p g → is_listed g path ≡ pattern_matches p path
-unfolding silent
-found_if_matched p g path h = ap (λ (b : Bool). not b && glob_means g path) h.listed ∙ h.means path
+found_if_matched : (p : Pattern) (g : GlobValue) (path : List ℕ) → HasMeaningOf p g → is_reported g path ≡ pattern_matches p path
+unfolding excluded
+found_if_matched p g path h = ap (λ (b : Bool). not b && glob_matches g path) h.listed ∙ h.tokens_match path
 
 entry_of_if : (b : Bool) (r : Rule) (o : Option Rule) → (if b then Some (entry_of r) else entry_of_rule o) ≡ entry_of_rule (if b then Some r else o)
 entry_of_if true r o = refl
 entry_of_if false r o = refl
 
-one_listed : (p : Pattern) (g : GlobValue) → HasMeaningOf p g → All (λ (x : GlobValue). silent x ≡ false) (g ∷ [])
-unfolding silent
+one_listed : (p : Pattern) (g : GlobValue) → HasMeaningOf p g → All (λ (x : GlobValue). excluded x ≡ false) (g ∷ [])
+unfolding excluded
 one_listed p g m zero d within = m.listed
 one_listed p g m (suc k) d within = absurd (omega (arith, within))
 
@@ -85,7 +85,7 @@ rule_added done gs es n p g m h =
     let r : Rule = record { line = n; pattern = p } in
     record {
       count = simp length-append (omega (arith, h.count));
-      listed = All-append (λ (x : GlobValue). silent x ≡ false) gs (g ∷ []) h.listed (one_listed p g m);
+      listed = All-append (λ (x : GlobValue). excluded x ≡ false) gs (g ∷ []) h.listed (one_listed p g m);
       last = λ path f.
           last_entry_more path f gs g es (entry_of r) h.count
           ∙ (λ i. if (is_for f (entry_of r) && found_if_matched p g path m i) then Some (entry_of r) else h.last path f i)
@@ -175,16 +175,16 @@ chosen_step entries f a later e last at rest false before = rest before ∙ pass
 
 chosen_from : (path : List ℕ) (is_folder : Bool) (globs : List GlobValue) (entries : List RuleEntry) (gs : List GlobValue) (es : List RuleEntry) (a : ℕ) (before : Option RuleEntry)
     → IsFrom a globs gs → IsFrom a entries es → length es ≡ length gs
-    → last_chosen entries is_folder before (filter (passes_at (λ g. is_listed g path) globs) (range_with_len a (length gs))) ≡ or_before before (last_entry path is_folder gs es)
+    → last_chosen entries is_folder before (filter (passes_at (λ g. is_reported g path) globs) (range_with_len a (length gs))) ≡ or_before before (last_entry path is_folder gs es)
 chosen_from path f globs entries [] es a before hg he n = refl
 chosen_from path f globs entries (g ∷ gs) [] a before hg he n = absurd (omega (arith, n))
 chosen_from path f globs entries (g ∷ gs) (e ∷ es) a before hg he n =
-    let later : List ℕ = filter (passes_at (λ g. is_listed g path) globs) (range_with_len (a + 1) (length gs)) in
-    let here : passes_at (λ g. is_listed g path) globs a ≡ is_listed g path = ap (λ (o : Option GlobValue). option_map_or (λ g. is_listed g path) o false) (first_from a globs g gs hg) in
+    let later : List ℕ = filter (passes_at (λ g. is_reported g path) globs) (range_with_len (a + 1) (length gs)) in
+    let here : passes_at (λ g. is_reported g path) globs a ≡ is_reported g path = ap (λ (o : Option GlobValue). option_map_or (λ g. is_reported g path) o false) (first_from a globs g gs hg) in
     let same : length es ≡ length gs = omega (arith, n) in
     ap (λ (b : Bool). last_chosen entries f before (cond b (a ∷ later) later)) here
     ∙ chosen_step entries f a later e (last_entry path f gs es) (first_from a entries e es he)
-    (λ b. chosen_from path f globs entries gs es (a + 1) b (next_from a globs g gs hg) (next_from a entries e es he) same) (is_listed g path) before
+    (λ b. chosen_from path f globs entries gs es (a + 1) b (next_from a globs g gs hg) (next_from a entries e es he) same) (is_reported g path) before
 
 or_before_none : (o : Option RuleEntry) → or_before None o ≡ o
 or_before_none None = refl
@@ -192,18 +192,18 @@ or_before_none (Some e) = refl
 
 -- the last one of the indexes that a set returns which is for paths of this kind
 pub chosen_is_last : (rules : List Rule) (globs : List GlobValue) (entries : List RuleEntry) (path : List ℕ) (is_folder : Bool) → AreEntriesOf rules globs entries
-    → last_chosen entries is_folder None (answer globs path) ≡ entry_of_rule (last_rule path is_folder rules)
-unfolding answer
+    → last_chosen entries is_folder None (matching_indexes globs path) ≡ entry_of_rule (last_rule path is_folder rules)
+unfolding matching_indexes
 chosen_is_last rules globs entries path f h =
     chosen_from path f globs entries globs entries 0 None (λ k. let e : 0 + k ≡ k = omega arith in ap (slice_get globs) e) (λ k. let e : 0 + k ≡ k = omega arith in ap (slice_get entries) e) h.count
     ∙ or_before_none (last_entry path f globs entries) ∙ h.last path f
 
 -- the same by the values that a program has
 pub found_entry : (rules : List Rule) (globs : List GlobValue) (entries es : List RuleEntry) (path shown : List ℕ) (found indexes : List ℕ) (is_folder : Bool) (r : Option RuleEntry)
-    → AreEntriesOf rules globs entries → es ≡ entries → indexes ≡ found → found ≡ answer globs shown → shown ≡ path
+    → AreEntriesOf rules globs entries → es ≡ entries → indexes ≡ found → found ≡ matching_indexes globs shown → shown ≡ path
     → r ≡ last_chosen es is_folder None indexes → r ≡ entry_of_rule (last_rule path is_folder rules)
 found_entry rules globs entries es path shown found indexes f r h e i a s is =
-    is ∙ (λ k. last_chosen (e k) f None (i k)) ∙ ap (last_chosen entries f None) (a ∙ ap (answer globs) s) ∙ chosen_is_last rules globs entries path f h
+    is ∙ (λ k. last_chosen (e k) f None (i k)) ∙ ap (last_chosen entries f None) (a ∙ ap (matching_indexes globs) s) ∙ chosen_is_last rules globs entries path f h
 
 -- the next of the entries at some indexes
 pub chosen_next : (entries : List RuleEntry) (is_folder : Bool) (before after : Option RuleEntry) (indexes : List ℕ) (i : ℕ) (all : Option RuleEntry) → i < length indexes

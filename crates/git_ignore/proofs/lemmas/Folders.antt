@@ -6,11 +6,11 @@ use Rattle.std.specs.Option.{option_map_or}
 use Rattle.std.specs.Str.{bytes_eq}
 use Rattle.std.proofs.lemmas.Bool.{cases_lt, cases_eq, eqb-true}
 use Rattle.std.proofs.lemmas.List.{take_more, take-take, take_all, length-take, length-take-le, drop-append-le, drop_all, drop_more, get_or_default, get_or_past, get_or-set_same, get_or-set_other}
-use Rattle.globset.specs.Means.{GlobValue, glob_means}
-use Rattle.globset.specs.Silent.{silent, is_listed}
-use Rattle.globset.specs.Answer.{answer}
+use Rattle.globset.specs.GlobMatches.{GlobValue, glob_matches}
+use Rattle.globset.specs.Excluded.{excluded, is_reported}
+use Rattle.globset.specs.Answer.{matching_indexes}
 use Rattle.globset.specs.Indexes.{passes_at, passing_indexes}
-use Rattle.glob_prefixes.specs.Prefixes.{matching_indexes}
+use Rattle.glob_prefixes.specs.Prefixes.{all_matching_indexes}
 use Rattle.git_ignore.specs.Folders.{IgnoreFile, is_in, file_decision, files_decision, ignores, or_else}
 use Rattle.git_ignore.specs.Rules.{Rule, decision, last_rule, rules_of}
 use Rattle.git_ignore.specs.declared.decision.Decision.{Decision}
@@ -24,27 +24,27 @@ use Rattle.git_ignore.specs.inner.Stacks.{file_of, files_of}
 use Rattle.git_ignore.proofs.lemmas.Entries.{chosen_is_last, decided}
 use Rattle.git_ignore.proofs.lemmas.Stacks.{not_in, or_else_decided, or_else_nothing}
 
--- ---- no glob is silent, so a set leaves none out
+-- ---- no glob is excluded, so a set leaves none out
 
 same_tests : {X : Type 0} (p q : X → Bool) (xs ys : List X) → ((k : ℕ) → passes_at p xs k ≡ passes_at q ys k) → (is : List ℕ) → filter (passes_at p xs) is ≡ filter (passes_at q ys) is
 same_tests p q xs ys h [] = refl
 same_tests p q xs ys h (i ∷ is) = λ k. if h i k then i ∷ same_tests p q xs ys h is k else same_tests p q xs ys h is k
 
-passes_alike : (globs : List GlobValue) (path : List ℕ) → All (λ (g : GlobValue). silent g ≡ false) globs → (k : ℕ)
-    → passes_at (λ g. glob_means g path) globs k ≡ passes_at (λ g. is_listed g path) globs k
+passes_alike : (globs : List GlobValue) (path : List ℕ) → All (λ (g : GlobValue). excluded g ≡ false) globs → (k : ℕ)
+    → passes_at (λ g. glob_matches g path) globs k ≡ passes_at (λ g. is_reported g path) globs k
 passes_alike [] path h k = refl
-passes_alike (g ∷ gs) path h zero = ap (λ (b : Bool). not b && glob_means g path) (sym (h 0 g (omega arith)))
+passes_alike (g ∷ gs) path h zero = ap (λ (b : Bool). not b && glob_matches g path) (sym (h 0 g (omega arith)))
 passes_alike (g ∷ gs) path h (suc k) = passes_alike gs path (λ j d within. h (suc j) d (omega (arith, within))) k
 
-none_left_out : (globs : List GlobValue) (path : List ℕ) → All (λ (g : GlobValue). silent g ≡ false) globs → matching_indexes globs path ≡ answer globs path
-unfolding answer
-none_left_out globs path h = same_tests (λ g. glob_means g path) (λ g. is_listed g path) globs globs (passes_alike globs path h) (range_with_len 0 (length globs))
+none_left_out : (globs : List GlobValue) (path : List ℕ) → All (λ (g : GlobValue). excluded g ≡ false) globs → all_matching_indexes globs path ≡ matching_indexes globs path
+unfolding matching_indexes
+none_left_out globs path h = same_tests (λ g. glob_matches g path) (λ g. is_reported g path) globs globs (passes_alike globs path h) (range_with_len 0 (length globs))
 
 -- what entries say of a folder is what the file says of it
 said_rightly : (file : List ℕ) (globs : List GlobValue) (entries : List RuleEntry) (folder : List ℕ) → AreEntriesOf (rules_of file) globs entries
     → said_of_folder globs entries folder ≡ decision file folder true
 said_rightly file globs entries folder h =
-    decided file folder true (last_chosen entries true None (matching_indexes globs folder))
+    decided file folder true (last_chosen entries true None (all_matching_indexes globs folder))
     (ap (last_chosen entries true None) (none_left_out globs folder h.listed) ∙ chosen_is_last (rules_of file) globs entries folder true h)
 
 pub put_rightly : (file : List ℕ) (globs : List GlobValue) (entries : List RuleEntry) (path : List ℕ) (start : ℕ) (old new : List Decision) → AreEntriesOf (rules_of file) globs entries

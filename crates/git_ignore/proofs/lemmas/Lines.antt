@@ -5,7 +5,7 @@ use Rattle.memchr.specs.Find.{IsFirstByte, Nowhere, Passes, is_byte}
 use Rattle.ignore_pattern.specs.Lines.{lines_of, onto_first}
 use Rattle.ignore_pattern.specs.Patterns.{Pattern, pattern_of_line}
 use Rattle.git_ignore.specs.Rules.{Rule, rules_from}
-use Rattle.globset.specs.Means.{GlobValue}
+use Rattle.globset.specs.GlobMatches.{GlobValue}
 use Rattle.git_ignore.specs.declared.entry.RuleEntry.{RuleEntry}
 use Rattle.git_ignore.specs.inner.Entries.{AreEntriesOf, AreReadUpTo, rule_at}
 

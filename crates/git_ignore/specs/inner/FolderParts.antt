@@ -1,7 +1,7 @@
 -- Decisions about all folders above a path, as they are put. No contract of the crate's public calls cites this.
 use Rattle.std.specs.Prelude.{◌≡◌, ◌≤◌, ◌<◌, ◌==◌, ℕ, true, List, None, length, take, drop, get_or, if◌then◌else◌}
-use Rattle.globset.specs.Means.{GlobValue}
-use Rattle.glob_prefixes.specs.Prefixes.{matching_indexes}
+use Rattle.globset.specs.GlobMatches.{GlobValue}
+use Rattle.glob_prefixes.specs.Prefixes.{all_matching_indexes}
 use Rattle.git_ignore.specs.Folders.{IgnoreFile, file_decision, files_decision, or_else}
 use Rattle.git_ignore.specs.declared.decision.Decision.{Decision}
 use Rattle.git_ignore.specs.declared.decision.Decision.TheVariants.{Undecided}
@@ -10,7 +10,7 @@ use Rattle.git_ignore.specs.inner.Entries.{decision_of, last_chosen}
 
 -- what entries say of a folder, by the globs that match its path
 abbrev pub said_of_folder : List GlobValue → List RuleEntry → List ℕ → Decision
-said_of_folder globs entries folder = decision_of (last_chosen entries true None (matching_indexes globs folder))
+said_of_folder globs entries folder = decision_of (last_chosen entries true None (all_matching_indexes globs folder))
 
 -- the decision at a byte after what is said of the folder before it was put there: nothing is put unless the byte is `/`
 abbrev pub put_at : ℕ → Decision → Decision → Decision

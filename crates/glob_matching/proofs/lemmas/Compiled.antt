@@ -2,12 +2,12 @@
 use Rattle.std.proofs.Common.{ℕ, ◌<◌, ◌⊎◌, inl, inr, List, [], ◌∷◌, ◌++◌, refl, slice_index}
 use Rattle.std.specs.Prelude.{◌↔◌}
 use Rattle.std.proofs.Math.Logic.{⊎_elim}
-use Rattle.byte_automaton.specs.Live.{MatchesAfter}
-use Rattle.byte_automaton.specs.Steps.{Machine, IsReached}
-use Rattle.byte_automaton.specs.Texts.{AllBytes}
-use Rattle.glob_automaton.specs.After.{SomeMeanAfter}
-use Rattle.glob_automaton.specs.IndexedTokens.{IndexedTokens, SomeMatches, IsFor}
-use Rattle.glob_automaton.proofs.lemmas.IndexedTokens.{all_bytes, reached_matches}
+use Rattle.byte_nfa.specs.Live.{MatchesAfter}
+use Rattle.byte_nfa.specs.Steps.{Machine, IsReached}
+use Rattle.byte_nfa.specs.Texts.{AllBytes}
+use Rattle.glob_nfa.specs.After.{SomeMeanAfter}
+use Rattle.glob_nfa.specs.IndexedTokens.{IndexedTokens, SomeMatches, IsFor}
+use Rattle.glob_nfa.proofs.lemmas.IndexedTokens.{all_bytes, reached_matches}
 
 -- beside what was found before
 pub finds_matches : {Now Before : Type 0} (m : Machine) (xs : List IndexedTokens) (path : List ℕ) (k : ℕ) → ((i : ℕ) → slice_index path i < 256)

@@ -5,8 +5,8 @@ use Rattle.std.proofs.lemmas.Bool.{cases_lt}
 use Rattle.std.proofs.lemmas.Nat.{mul-le}
 use Rattle.std.proofs.Math.Logic.{⊎_elim}
 use Rattle.bit_sets.specs.Indexes.{has_index}
-use Rattle.byte_automaton.specs.Runs.{size}
-use Rattle.byte_automaton.specs.Steps.{Machine, Accepts}
+use Rattle.byte_nfa.specs.Runs.{size}
+use Rattle.byte_nfa.specs.Steps.{Machine, Accepts}
 use Rattle.bit_sets.specs.declared.index_set.IndexSet.{IndexSet}
 use Rattle.byte_filter.specs.Starts.{IsReachedMarked}
 use Rattle.glob_matching.specs.inner.Filtered.{low_of, AreApart, IsReachedBefore}
@@ -38,7 +38,7 @@ module _ (m : Machine) (apart : AreApart m) where
       let all = low_within (length m.starts) (omega arith) in omega (arith, some, all)
 
   -- the visits of one more run
-  pub visits_more : (p from i before now : ℕ) → from ≤ i → i < length m.starts → before ≤ now + p * low_of m.starts from → (after : ℕ)
+  visits_more : (p from i before now : ℕ) → from ≤ i → i < length m.starts → before ≤ now + p * low_of m.starts from → (after : ℕ)
       → ((width : ℕ) → slice_index m.starts i < low_of m.starts i + width → after ≤ before + p * width) → after ≤ now + p * low_of m.starts (i + 1)
   visits_more p from i before now le lt so_far after this =
       let low = low_of m.starts i in
@@ -53,8 +53,14 @@ module _ (m : Machine) (apart : AreApart m) where
       let next : suc i ≡ i + 1 = omega arith in
       subst (λ n. after ≤ now + p * low_of m.starts n) next (omega (arith, so_far, run, first, both, same))
 
-  pub visits_all : (p from before now : ℕ) → from ≤ length m.starts → before ≤ now + p * low_of m.starts from → before ≤ now + p * size m
-  visits_all p from before now le so_far =
+  -- the same, with two visits before the run, which read its span
+  pub run_more : (p from i before now read : ℕ) → from ≤ i → i < length m.starts → before ≤ now + p * low_of m.starts from + 2 * from → read ≤ before + 2 → (after : ℕ)
+      → ((width : ℕ) → slice_index m.starts i < low_of m.starts i + width → after ≤ read + p * width) → after ≤ now + p * low_of m.starts (i + 1) + 2 * (i + 1)
+  run_more p from i before now read le lt so_far span after this =
+      let more = visits_more p from i read (now + 2 * (i + 1)) le lt (omega (arith, so_far, span)) after this in omega (arith, more)
+
+  pub runs_all : (p from before now : ℕ) → from ≤ length m.starts → before ≤ now + p * low_of m.starts from + 2 * from → before ≤ now + p * size m + 2 * length m.starts
+  runs_all p from before now le so_far =
       let all = mul-le p (low_of m.starts from) p (size m) (omega arith) (low_within from le) in omega (arith, so_far, all)
 
 module _ (m : Machine) (marks : IndexSet) (y : List ℕ) (k : ℕ) where

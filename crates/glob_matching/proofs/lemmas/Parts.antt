@@ -7,10 +7,10 @@ use Rattle.std.proofs.lemmas.Nat.{mul-le}
 use Rattle.std.proofs.Math.ListN.{get_or-map}
 use Rattle.std.proofs.Math.Logic.{⊎_elim}
 use Rattle.bit_sets.specs.Numbers.{AreBelow}
-use Rattle.byte_automaton.specs.Live.{MatchesAfter}
-use Rattle.byte_automaton.specs.Parts.{IsReachedBetween, IsPart}
-use Rattle.byte_automaton.specs.Runs.{size}
-use Rattle.byte_automaton.specs.Steps.{Machine, IsIn, IsReached}
+use Rattle.byte_nfa.specs.Live.{MatchesAfter}
+use Rattle.byte_nfa.specs.Parts.{IsReachedBetween, IsPart}
+use Rattle.byte_nfa.specs.Runs.{size}
+use Rattle.byte_nfa.specs.Steps.{Machine, IsIn, IsReached}
 use Rattle.byte_dfa.specs.DfaValue.{DfaValue}
 use Rattle.glob_matching.specs.inner.Parts.{sources, SomeReached, SomeMatchesAfter, total, AreCounted, ArePartsBelow}
 
@@ -91,19 +91,28 @@ module _ (ms : List Machine) (i : ℕ) (m : Machine) (lt : i < length ms) (is : 
   pub total_more : total (take (i + 1) ms) ≡ total (take i ms) + size m
   total_more = ap total taken ∙ total_push (take i ms) m
 
-  pub total_upto : total (take i ms) + size m ≤ total ms
-  total_upto = let some = total_take ms (i + 1) in omega (arith, total_more)
+  pub total_limit : total (take i ms) + size m ≤ total ms
+  total_limit = let some = total_take ms (i + 1) in omega (arith, total_more)
 
 pub all_taken : (ms : List Machine) (i : ℕ) → length ms ≤ i → take i ms ≡ ms
 all_taken ms i past = take_all i ms past
 
 -- visits of runs
 
-pub visits_upto : (n a b v w : ℕ) → a ≤ b → v ≤ w + n * a → v ≤ w + n * b
-visits_upto n a b v w le h = let more = mul-le n a n b (omega arith) le in omega arith
+pub visits_limit : (n a b v w : ℕ) → a ≤ b → v ≤ w + n * a → v ≤ w + n * b
+visits_limit n a b v w le h = let more = mul-le n a n b (omega arith) le in omega arith
 
 pub visits_more : (n a b v u w : ℕ) → u ≤ v + n * b → v ≤ w + n * a → u ≤ w + n * (a + b)
 visits_more n a b v u w this before = let sum : n * (a + b) ≡ n * a + n * b = omega arith in omega arith
+
+-- of t deterministic automata, each with a visit beside those of its positions, and of others that have a states
+pub visits_of_parts : (n t a s b v u w : ℕ) → t + a ≤ s → t ≤ b → u ≤ w + (n + 2) * t → v ≤ u + (n + 1) * a → v ≤ w + (n + 1) * (s + 3 * b)
+visits_of_parts n t a s b v u w few starts first then =
+    let more = mul-le (n + 1) (t + a + t) (n + 1) (s + 3 * b) (omega arith) (omega arith) in
+    let looks = mul-le 1 t (n + 1) t (omega arith) (omega arith) in
+    let once : (n + 2) * t ≡ (n + 1) * t + t = omega arith in
+    let sum : (n + 1) * (t + a + t) ≡ (n + 1) * t + (n + 1) * a + (n + 1) * t = omega arith in
+    omega arith
 
 -- ---- parts
 

@@ -2,10 +2,10 @@
 use Rattle.std.specs.Prelude.{◌≡◌, ℕ, ◌+◌, ◌≤◌, ◌⊎◌, ◌↔◌, List, [], ◌∷◌, ◌++◌, length, map}
 use Rattle.std.specs.List.{All}
 use Rattle.bit_sets.specs.Numbers.{AreBelow}
-use Rattle.byte_automaton.specs.Parts.{IsReachedBetween}
-use Rattle.byte_automaton.specs.Runs.{size}
-use Rattle.byte_automaton.specs.Steps.{Machine, IsReached}
-use Rattle.byte_automaton.specs.Texts.{AllBytes}
+use Rattle.byte_nfa.specs.Parts.{IsReachedBetween}
+use Rattle.byte_nfa.specs.Runs.{size}
+use Rattle.byte_nfa.specs.Steps.{Machine, IsReached}
+use Rattle.byte_nfa.specs.Texts.{AllBytes}
 use Rattle.byte_dfa.specs.DfaValue.{DfaValue}
 
 -- the automata that deterministic ones were made from
@@ -38,8 +38,9 @@ pub record ArePartsBelow (m : Machine) (high : ℕ) (tables : List DfaValue) (au
   pub tables_counted : AreCounted m.index_count (sources tables)
   pub automata_counted : AreCounted m.index_count automata
 
--- they lead where m does
+-- they lead where m does, and there are at most as many deterministic ones as m has starts
 pub record ArePartsOf (m : Machine) (states : ℕ) (tables : List DfaValue) (automata : List Machine) : Type 0 where
   pub parts : ArePartsBelow m (size m) tables automata
   pub begun : AreBelow (size m) m.starts
+  pub tables_few : length tables ≤ length m.starts
   pub count : states ≡ size m

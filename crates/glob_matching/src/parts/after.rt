@@ -1,15 +1,15 @@
 //! Whether a text can go on to what some part finds.
 
 ghost use Rattle.std.specs.Prelude.{◌≡◌, ◌+◌, ◌*◌, ◌≤◌, ◌↔◌, ◌++◌, ◌∷◌, [], ℕ, length, IsTrue, IsOk, IfOk};
-ghost use Rattle.byte_automaton.specs.Live.{MatchesAfter};
-ghost use Rattle.byte_automaton.specs.Runs.{size};
-ghost use Rattle.byte_automaton.specs.Sets.{sets_room};
+ghost use Rattle.byte_nfa.specs.Live.{MatchesAfter};
+ghost use Rattle.byte_nfa.specs.Runs.{size};
+ghost use Rattle.byte_nfa.specs.Sets.{sets_capacity};
 ghost use Rattle.glob_matching.specs.inner.Parts.{sources, total, SomeMatchesAfter};
 
 use crate::parts::Parts;
 use crate::simulation;
-use byte_automaton::{Automaton, StateSets};
 use byte_dfa::Dfa;
+use byte_nfa::{Nfa, StateSets};
 use std::alloc::AllocError;
 use visits::Visits;
 
@@ -26,8 +26,8 @@ impl Parts {
         visits: &mut Visits,
     ) -> Result<bool, AllocError>
         ensures some { IfOk result (λ yes. IsTrue yes ↔ MatchesAfter self.now (text.now ++ byte ∷ [])) }
-        ensures kept { sets_room sets.old ≤ sets_room sets.new }
-        ensures memory { size self.now ≤ sets_room sets.old → IsOk result }
+        ensures kept { sets_capacity sets.old ≤ sets_capacity sets.new }
+        ensures memory { size self.now ≤ sets_capacity sets.old → IsOk result }
         ensures visits { visits.new ≤ visits.old + (length text.now + 2) * size self.now }
         ensures counted { visits.old ≤ visits.new }
     {
@@ -55,15 +55,15 @@ fn can_match_by_tables(tables: &[Dfa], text: &[u8], byte: u8, visits: &mut Visit
 /// Returns whether some text that begins with `text` and then `byte` leads to some end in some automaton. The runs use the same
 /// sets of states, one after another.
 fn can_match_by_simulation(
-    automata: &[Automaton],
+    automata: &[Nfa],
     text: &[u8],
     byte: u8,
     sets: &mut StateSets,
     visits: &mut Visits,
 ) -> Result<bool, AllocError>
     ensures some { IfOk result (λ yes. IsTrue yes ↔ SomeMatchesAfter automata.now (text.now ++ byte ∷ [])) }
-    ensures kept { sets_room sets.old ≤ sets_room sets.new }
-    ensures memory { total automata.now ≤ sets_room sets.old → IsOk result }
+    ensures kept { sets_capacity sets.old ≤ sets_capacity sets.new }
+    ensures memory { total automata.now ≤ sets_capacity sets.old → IsOk result }
     ensures visits { visits.new ≤ visits.old + (length text.now + 2) * total automata.now }
     ensures counted { visits.old ≤ visits.new }
 {

@@ -1,22 +1,23 @@
 -- Globs in an automaton, and what a run over it finds.
 use Rattle.std.proofs.Common.{◌≡◌, ℕ, zero, suc, ◌+◌, ◌<◌, ◌≤◌, ◌⊎◌, inl, inr, Bool, false, true≢false, List, [], ◌∷◌, ◌++◌, append-nil, append_assoc, length, length-append, IsTrue, refl, ap, sym, subst, ◌∙◌, arith}
-use Rattle.std.specs.Prelude.{◌↔◌, OnErr, Result, Ok, Err, filter}
+use Rattle.std.specs.Prelude.{◌↔◌, ◌^◌, filter}
 use Rattle.std.specs.List.{range_with_len}
 use Rattle.std.proofs.Math.Logic.{⊎_elim}
-use Rattle.byte_automaton.specs.Runs.{AcceptsFrom}
-use Rattle.byte_automaton.specs.Sets.{has_state}
-use Rattle.byte_automaton.specs.Steps.{Machine, IsReached}
-use Rattle.byte_automaton.specs.Texts.{AllBytes}
-use Rattle.byte_automaton.specs.declared.state_set.StateSet.{StateSet}
-use Rattle.glob_automaton.specs.IndexedTokens.{IndexedTokens, indexed, IsFor, SomeMatches}
-use Rattle.glob_automaton.specs.TokenMeans.{means}
-use Rattle.glob_automaton.proofs.lemmas.Booleans.{same_truth}
+use Rattle.byte_nfa.specs.Runs.{AcceptsFrom}
+use Rattle.byte_nfa.specs.Sets.{has_state}
+use Rattle.byte_nfa.specs.Steps.{Machine, IsReached}
+use Rattle.byte_nfa.specs.Texts.{AllBytes}
+use Rattle.byte_nfa.specs.declared.state_set.StateSet.{StateSet}
+use Rattle.glob_nfa.specs.IndexedTokens.{IndexedTokens, indexed, IsFor, SomeMatches}
+use Rattle.glob_nfa.specs.TokensMatch.{tokens_match}
+use Rattle.glob_nfa.proofs.lemmas.Booleans.{same_truth}
 use Rattle.glob_syntax.specs.declared.options.Options.{Options}
 use Rattle.glob_syntax.specs.Token.{Tokens}
-use Rattle.globset_glob.specs.Means.{GlobValue, tokens_of_glob, glob_means}
-use Rattle.group_matching.specs.Indexes.{passes_at}
-use Rattle.group_matching.proofs.lemmas.Indexes.{filter_between, filter_same}
-use Rattle.glob_prefixes.specs.Prefixes.{AreAdded, IsAfter, IsPrefixMatcherOf, indexed_globs, matching_indexes}
+use Rattle.globset_glob.specs.GlobMatches.{GlobValue, tokens_of_glob, glob_matches}
+use Rattle.set_matcher.specs.Indexes.{passes_at}
+use Rattle.set_matcher.proofs.lemmas.Indexes.{filter_between, filter_same}
+use Rattle.glob_prefixes.specs.Prefixes.{IsAfter, PrefixMatcherValue, all_matching_indexes}
+use Rattle.glob_prefixes.specs.inner.Added.{AreAdded, IsPrefixMatcherOf, indexed_globs}
 use Rattle.glob_prefixes.specs.declared.states.PrefixStates.{PrefixStates}
 
 -- ---- one glob more
@@ -32,7 +33,7 @@ indexed_more j (h ∷ gs) g =
 pub glob_added : (globs : List GlobValue) (g : GlobValue) (o : Options) (ts : Tokens) (n : ℕ) (old new : Machine)
     → o ≡ g.options → tokens_of_glob g ≡ ts → n < old.index_count → new.index_count ≡ old.index_count
     → ((xs : List IndexedTokens) → IsFor old xs → IsFor new (xs ++ indexed o ts n ∷ []))
-    → AreAdded globs (record { machine = old; added = n }) → AreAdded (globs ++ g ∷ []) (record { machine = new; added = n + 1 })
+    → AreAdded globs old n → AreAdded (globs ++ g ∷ []) new (n + 1)
 glob_added globs g o ts n old new options tokens room same adds h =
     let e : 0 + length globs ≡ n = let count = h.count in omega (arith, count) in
     let more : length (globs ++ g ∷ []) ≡ n + 1 = length-append globs (g ∷ []) ∙ (let count = h.count in omega (arith, count)) in
@@ -44,22 +45,20 @@ glob_added globs g o ts n old new options tokens room same adds h =
         count = omega (arith, more, room, same);
       };
       count = sym more;
+      few = subst (λ (k : ℕ). k < 2 ^ 64) (sym same) h.few;
     }
 
 -- nothing was added, although there may be more states
 pub globs_kept : (globs : List GlobValue) (n : ℕ) (old new : Machine) → new.index_count ≡ old.index_count → ((xs : List IndexedTokens) → IsFor old xs → IsFor new xs)
-    → AreAdded globs (record { machine = old; added = n }) → AreAdded globs (record { machine = new; added = n })
+    → AreAdded globs old n → AreAdded globs new n
 globs_kept globs n old new same keeps h = record {
   are = record {
     tokens = keeps (indexed_globs 0 globs) h.are.tokens;
     count = let count = h.are.count in omega (arith, count, same);
   };
   count = h.count;
+  few = subst (λ (k : ℕ). k < 2 ^ 64) (sym same) h.few;
 }
-
-pub on_err : {X E P : Type 0} (r : Result X E) → P → OnErr r P
-on_err (Ok x) p = tt
-on_err (Err e) p = p
 
 -- ---- the globs that match a text
 
@@ -69,11 +68,11 @@ no_index_below text j n (g ∷ gs) lt h =
     ⊎_elim {C = ⊥} (λ this. let e = this.0 in omega (arith, e, lt)) (λ rest. no_index_below text (j + 1) n gs (omega (arith, lt)) rest) h
 
 -- the tokens of an index match a text exactly if the glob at it does
-matches_at : (text : List ℕ) (j : ℕ) (gs : List GlobValue) (k : ℕ) → SomeMatches (indexed_globs j gs) text (j + k) ↔ IsTrue (passes_at (λ g. glob_means g text) gs k)
-unfolding glob_means
+matches_at : (text : List ℕ) (j : ℕ) (gs : List GlobValue) (k : ℕ) → SomeMatches (indexed_globs j gs) text (j + k) ↔ IsTrue (passes_at (λ g. glob_matches g text) gs k)
+unfolding glob_matches
 matches_at text j [] k = (λ no. absurd no, λ yes. absurd (true≢false (sym yes)))
 matches_at text j (g ∷ gs) zero =
-    let here = IsTrue (means g.options (tokens_of_glob g) text) in
+    let here = IsTrue (tokens_match g.options (tokens_of_glob g) text) in
     let e : j ≡ j + 0 = omega arith in (
       λ h. ⊎_elim {C = here} (λ this. this.1) (λ rest. absurd (no_index_below text (j + 1) (j + 0) gs (omega arith) rest)) h,
       λ yes. inl (e, yes),
@@ -82,7 +81,7 @@ matches_at text j (g ∷ gs) (suc k) =
     let later = matches_at text (j + 1) gs k in
     let e : j + 1 + k ≡ j + suc k = omega arith in
     let some = λ (n : ℕ). SomeMatches (indexed_globs (j + 1) gs) text n in (
-      λ h. ⊎_elim {C = IsTrue (passes_at (λ g. glob_means g text) gs k)} (λ this. absurd (let same = this.0 in omega (arith, same))) (λ rest. later.0 (subst some (sym e) rest)) h,
+      λ h. ⊎_elim {C = IsTrue (passes_at (λ g. glob_matches g text) gs k)} (λ this. absurd (let same = this.0 in omega (arith, same))) (λ rest. later.0 (subst some (sym e) rest)) h,
       λ yes. inr (subst some e (later.1 yes)),
     )
 
@@ -93,7 +92,7 @@ none_past test (x ∷ xs) (suc k) h = none_past test xs k (omega (arith, h))
 
 -- an index is reached exactly if the glob at it matches
 reached_at : (globs : List GlobValue) (m : Machine) (text : List ℕ) (k : ℕ) → IsPrefixMatcherOf globs m → AllBytes text
-    → IsReached m text k ↔ IsTrue (passes_at (λ g. glob_means g text) globs k)
+    → IsReached m text k ↔ IsTrue (passes_at (λ g. glob_matches g text) globs k)
 reached_at globs m text k is bytes =
     let runs = is.tokens m.states (λ s low high. refl) text k bytes in
     let z : 0 + k ≡ k = omega arith in
@@ -105,12 +104,12 @@ reached_at globs m text k is bytes =
 
 -- the indexes that are reached, ascending
 pub reached_are : (globs : List GlobValue) (m : Machine) (text : List ℕ) (has : ℕ → Bool) (found : List ℕ) → IsPrefixMatcherOf globs m → AllBytes text
-    → ((k : ℕ) → IsTrue (has k) ↔ IsReached m text k) → found ≡ filter has (range_with_len 0 m.index_count) → found ≡ matching_indexes globs text
+    → ((k : ℕ) → IsTrue (has k) ↔ IsReached m text k) → found ≡ filter has (range_with_len 0 m.index_count) → found ≡ all_matching_indexes globs text
 reached_are globs m text has found is bytes marked e =
-    let test = passes_at (λ (g : GlobValue). glob_means g text) globs in
+    let test = passes_at (λ (g : GlobValue). glob_matches g text) globs in
     let same : (k : ℕ) → has k ≡ test k = λ k. let here = reached_at globs m text k is bytes in same_truth (has k) (test k) (λ y. here.0 ((marked k).0 y), λ y. (marked k).1 (here.1 y)) in
     e ∙ filter_same has test m.index_count same
-    ∙ sym (filter_between test (length globs) m.index_count is.count (λ k low high. none_past (λ (g : GlobValue). glob_means g text) globs k low))
+    ∙ sym (filter_between test (length globs) m.index_count is.count (λ k low high. none_past (λ (g : GlobValue). glob_matches g text) globs k low))
 
 -- ---- steps
 
@@ -119,34 +118,34 @@ bytes_more [] c l b = (l, tt)
 bytes_more (d ∷ ds) c l b = (b.0, bytes_more ds c l b.1)
 
 -- one byte more was read
-pub byte_read : (m : Machine) (old new : PrefixStates) (stepped : StateSet) (text : List ℕ) (byte : ℕ) → byte < 256
-    → ((y : List ℕ) (k : ℕ) → AcceptsFrom m old.current (byte ∷ y) k ↔ AcceptsFrom m stepped y k) → new.current ≡ stepped
+pub byte_read : (m : PrefixMatcherValue) (old new : PrefixStates) (stepped : StateSet) (text : List ℕ) (byte : ℕ) → byte < 256
+    → ((y : List ℕ) (k : ℕ) → AcceptsFrom m.machine old.current (byte ∷ y) k ↔ AcceptsFrom m.machine stepped y k) → new.current ≡ stepped
     → IsAfter m old text → IsAfter m new (text ++ byte ∷ [])
 byte_read m old new stepped text byte lt steps same h = record {
   bytes = bytes_more text byte lt h.bytes;
   leads = λ y k.
       let e : text ++ byte ∷ y ≡ (text ++ byte ∷ []) ++ y = sym (append_assoc text (byte ∷ []) y) in
-      subst (λ (set : StateSet). AcceptsFrom m set y k ↔ IsReached m ((text ++ byte ∷ []) ++ y) k) (sym same) (
-        λ a. subst (λ (t : List ℕ). IsReached m t k) e ((h.leads (byte ∷ y) k).0 ((steps y k).1 a)),
-        λ r. (steps y k).0 ((h.leads (byte ∷ y) k).1 (subst (λ (t : List ℕ). IsReached m t k) (sym e) r)),
+      subst (λ (set : StateSet). AcceptsFrom m.machine set y k ↔ IsReached m.machine ((text ++ byte ∷ []) ++ y) k) (sym same) (
+        λ a. subst (λ (t : List ℕ). IsReached m.machine t k) e ((h.leads (byte ∷ y) k).0 ((steps y k).1 a)),
+        λ r. (steps y k).0 ((h.leads (byte ∷ y) k).1 (subst (λ (t : List ℕ). IsReached m.machine t k) (sym e) r)),
       );
 }
 
 -- the ends that what was read leads to, by a copy of the states
-pub ends_reached : (m : Machine) (states : PrefixStates) (asked : StateSet) (text : List ℕ) (k : ℕ) (found before : Bool)
+pub ends_reached : (m : PrefixMatcherValue) (states : PrefixStates) (asked : StateSet) (text : List ℕ) (k : ℕ) (found before : Bool)
     → ((s : ℕ) → has_state asked s ≡ has_state states.current s) → before ≡ false
-    → IsTrue found ↔ (AcceptsFrom m asked [] k ⊎ IsTrue before) → IsAfter m states text → IsTrue found ↔ IsReached m text k
+    → IsTrue found ↔ (AcceptsFrom m.machine asked [] k ⊎ IsTrue before) → IsAfter m states text → IsTrue found ↔ IsReached m.machine text k
 ends_reached m states asked text k found before same none ends after =
     let lead = after.leads [] k in
     let all : text ++ [] ≡ text = append-nil text in (
-      λ yes. subst (λ (t : List ℕ). IsReached m t k) all (lead.0
-          (⊎_elim {C = AcceptsFrom m states.current [] k} (λ (t, within, at, accepts). (t, within, sym (same t) ∙ at, accepts)) (λ b. absurd (true≢false (sym b ∙ none))) (ends.0 yes))),
-      λ r. let (t, within, at, accepts) = lead.1 (subst (λ (t : List ℕ). IsReached m t k) (sym all) r) in ends.1 (inl (t, within, same t ∙ at, accepts)),
+      λ yes. subst (λ (t : List ℕ). IsReached m.machine t k) all (lead.0
+          (⊎_elim {C = AcceptsFrom m.machine states.current [] k} (λ (t, within, at, accepts). (t, within, sym (same t) ∙ at, accepts)) (λ b. absurd (true≢false (sym b ∙ none))) (ends.0 yes))),
+      λ r. let (t, within, at, accepts) = lead.1 (subst (λ (t : List ℕ). IsReached m.machine t k) (sym all) r) in ends.1 (inl (t, within, same t ∙ at, accepts)),
     )
 
 -- states are after a text by their current set alone
-pub same_current : (m : Machine) (old new : PrefixStates) (text : List ℕ) → new.current ≡ old.current → IsAfter m old text → IsAfter m new text
+pub same_current : (m : PrefixMatcherValue) (old new : PrefixStates) (text : List ℕ) → new.current ≡ old.current → IsAfter m old text → IsAfter m new text
 same_current m old new text e h = record {
   bytes = h.bytes;
-  leads = λ y k. subst (λ (set : StateSet). AcceptsFrom m set y k ↔ IsReached m (text ++ y) k) (sym e) (h.leads y k);
+  leads = λ y k. subst (λ (set : StateSet). AcceptsFrom m.machine set y k ↔ IsReached m.machine (text ++ y) k) (sym e) (h.leads y k);
 }

@@ -1,7 +1,7 @@
 -- Examples of the first error of a text, and of texts that are read under an option and are errors under the default ones.
 -- Each example is computed.
 use Rattle.std.specs.Prelude.{◌≡◌, [], ◌∷◌, ◌++◌, false, Ok, Err, codes, refl}
-use Rattle.glob_syntax.specs.declared.fault.Fault.TheVariants.{UnclosedClass, InvalidRange, UnopenedAlternates, UnclosedAlternates, DanglingEscape}
+use Rattle.glob_syntax.specs.declared.parse_error_kind.ParseErrorKind.TheVariants.{UnclosedClass, InvalidRange, UnopenedAlternates, UnclosedAlternates, DanglingEscape}
 use Rattle.glob_syntax.specs.declared.options.TheConstants.Options.{DEFAULT}
 use Rattle.glob_syntax.specs.Token.{Any, ZeroOrMore, Class}
 use Rattle.glob_syntax.specs.Reading.{reading}

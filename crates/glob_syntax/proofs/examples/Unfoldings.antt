@@ -2,11 +2,11 @@
 use Rattle.std.specs.Char.{encode_utf8}
 use Rattle.std.specs.Str.{chars}
 use Rattle.glob_syntax.specs.Ranges.{ranges, bad_range}
-use Rattle.glob_syntax.specs.Marks.{marks, mark_at}
+use Rattle.glob_syntax.specs.Lexemes.{lexemes, lexeme_at}
 use Rattle.glob_syntax.specs.Nesting.{nested}
 use Rattle.glob_syntax.specs.Stars.{piece}
 use Rattle.glob_syntax.specs.Reading.{reading, whole, levels}
 
 unfoldable pub reading_on_literals : Unit {0}
-unfolding chars encode_utf8 ranges bad_range marks mark_at nested piece reading whole levels
+unfolding chars encode_utf8 ranges bad_range lexemes lexeme_at nested piece reading whole levels
 reading_on_literals = tt

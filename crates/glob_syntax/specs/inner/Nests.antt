@@ -1,22 +1,22 @@
--- Marks that have no error, from which tokens are made.
+-- Lexemes that have no error, from which tokens are made.
 use Rattle.std.specs.Prelude.{◌≡◌, ℕ, List, Bool, true, false, Ok}
-use Rattle.glob_syntax.specs.Marks.{Mark, Open, Comma, Close, Bad}
+use Rattle.glob_syntax.specs.Lexemes.{Lexeme, Open, Comma, Close, Bad}
 use Rattle.glob_syntax.specs.Nesting.{nested}
 
--- inside so many open groups, these marks have no error, and close all of the groups
-pub record Nests (depth : ℕ) (ms : List Mark) : Type 0 where
+-- inside so many open groups, these lexemes have no error, and close all of the groups
+pub record Nests (depth : ℕ) (ms : List Lexeme) : Type 0 where
   pub is : nested depth ms ≡ Ok ms
 
--- a mark inside a branch: no brace, comma or error
-abbrev pub is_inner : Mark → Bool
+-- a lexeme inside a branch: no brace, comma or error
+abbrev pub is_inner : Lexeme → Bool
 is_inner Open = false
 is_inner Comma = false
 is_inner Close = false
 is_inner (Bad f) = false
 is_inner m = true
 
--- a branch starts after the mark
-abbrev pub starts_branch : Mark → Bool
+-- a branch starts after the lexeme
+abbrev pub starts_branch : Lexeme → Bool
 starts_branch Open = true
 starts_branch Comma = true
 starts_branch m = false

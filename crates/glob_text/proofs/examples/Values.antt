@@ -2,10 +2,10 @@
 use Rattle.std.specs.Prelude.{◌≡◌, true, false, Ok, Err, codes, refl}
 use Rattle.std.specs.Fmt.{digits}
 use Rattle.serde_json.specs.Data.{null, boolean, number, unsigned, string, array, object, no_items, item, no_members, member}
-use Rattle.glob_syntax.specs.declared.fault.Fault.TheVariants.{UnclosedClass}
+use Rattle.glob_syntax.specs.declared.parse_error_kind.ParseErrorKind.TheVariants.{UnclosedClass}
 use Rattle.glob_text.specs.declared.json.error.ValueErrorKind.TheVariants.{Glob}
-use Rattle.glob_text.specs.Errors.{refusal}
-use Rattle.glob_text.specs.Means.{default_glob, default_options}
+use Rattle.glob_text.specs.Errors.{parse_error}
+use Rattle.glob_text.specs.GlobMatches.{default_glob, default_options}
 use Rattle.glob_text.specs.Values.{of_kind, not_text, unknown_key, not_bool, not_array, at_index, of_element, value_out_of_memory, glob_of_value, value_of_glob, value_error_text}
 use Rattle.glob_text.proofs.examples.Unfoldings.{glob_on_literals}
 
@@ -13,7 +13,7 @@ text_with_a_reading : glob_of_value (string (codes "src/**/*.rs")) ≡ Ok (defau
 unfolding glob_on_literals
 text_with_a_reading = refl
 
-text_with_a_fault : glob_of_value (string (codes "[")) ≡ Err (of_kind (Glob (refusal (codes "[") UnclosedClass)))
+text_with_a_fault : glob_of_value (string (codes "[")) ≡ Err (of_kind (Glob (parse_error (codes "[") UnclosedClass)))
 unfolding glob_on_literals
 text_with_a_fault = refl
 
@@ -61,7 +61,7 @@ unknown_key_before_a_fault = refl
 no_bool_before_a_fault : glob_of_value (object (member (codes "glob") (string (codes "[")) (member (codes "literal_separator") (number (unsigned 0)) no_members))) ≡ Err not_bool
 no_bool_before_a_fault = refl
 
-object_with_a_fault : glob_of_value (object (member (codes "glob") (string (codes "[")) no_members)) ≡ Err (of_kind (Glob (refusal (codes "[") UnclosedClass)))
+object_with_a_fault : glob_of_value (object (member (codes "glob") (string (codes "[")) no_members)) ≡ Err (of_kind (Glob (parse_error (codes "[") UnclosedClass)))
 unfolding glob_on_literals
 object_with_a_fault = refl
 
@@ -97,6 +97,6 @@ text_at_an_index : value_error_text (at_index 10 not_text) ≡ codes "element 10
 unfolding digits
 text_at_an_index = refl
 
-text_of_a_fault : value_error_text (at_index 1 (of_kind (Glob (refusal (codes "[") UnclosedClass)))) ≡ codes "element 1: error parsing glob '[': unclosed character class; missing ']'"
+text_of_a_fault : value_error_text (at_index 1 (of_kind (Glob (parse_error (codes "[") UnclosedClass)))) ≡ codes "element 1: error parsing glob '[': unclosed character class; missing ']'"
 unfolding digits
 text_of_a_fault = refl

@@ -207,6 +207,6 @@ star_then_question_whole_not : matches_no_bytes whole "*?" (0xE2 ∷ 0x98 ∷ 0x
 unfolding glob_on_literals
 star_then_question_whole_not = refl
 
-class_takes_bytes : matches_none whole "[!a]" ("☃" ∷ []) ≡ true
+class_matches_bytes : matches_none whole "[!a]" ("☃" ∷ []) ≡ true
 unfolding glob_on_literals
-class_takes_bytes = refl
+class_matches_bytes = refl

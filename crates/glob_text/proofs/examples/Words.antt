@@ -4,10 +4,10 @@ use Rattle.std.specs.List.{list_all}
 use Rattle.std.specs.Str.{chars}
 use Prim.Native.String.{String}
 use Rattle.glob_syntax.specs.declared.options.Options.{Options}
-use Rattle.glob_syntax.specs.declared.fault.Fault.{Fault}
+use Rattle.glob_syntax.specs.declared.parse_error_kind.ParseErrorKind.{ParseErrorKind}
 use Rattle.glob_syntax.specs.Reading.{reading}
-use Rattle.glob_syntax.specs.inner.MarkViews.{map_ok}
-use Rattle.glob_text.specs.Means.{GlobValue, glob_means}
+use Rattle.glob_syntax.specs.inner.LexemeViews.{map_ok}
+use Rattle.glob_text.specs.GlobMatches.{GlobValue, glob_matches}
 use Rattle.glob_text.specs.RegexText.{regex_text}
 
 -- ---- matching
@@ -26,11 +26,11 @@ is_glob o glob = is_ok (reading o (chars (utf8 glob)))
 
 -- the text is a glob, and the glob matches this path, given as bytes
 abbrev pub matches_bytes : Options → String → List ℕ → Bool
-matches_bytes o glob path = is_glob o glob && glob_means (glob_of o glob) path
+matches_bytes o glob path = is_glob o glob && glob_matches (glob_of o glob) path
 
 -- the text is a glob, and the glob does not match this path, given as bytes
 abbrev pub matches_no_bytes : Options → String → List ℕ → Bool
-matches_no_bytes o glob path = is_glob o glob && not (glob_means (glob_of o glob) path)
+matches_no_bytes o glob path = is_glob o glob && not (glob_matches (glob_of o glob) path)
 
 -- the text is a glob, and the glob matches each of these paths
 abbrev pub matches_each : Options → String → List String → Bool
@@ -43,5 +43,5 @@ matches_none o glob paths = list_all (λ path. matches_no_bytes o glob (utf8 pat
 -- ---- texts of regular expressions
 
 -- the text of the glob as a regular expression, or the first fault of its own text
-abbrev pub regex_of : Options → String → Result (List ℕ) Fault
+abbrev pub regex_of : Options → String → Result (List ℕ) ParseErrorKind
 regex_of o glob = map_ok (regex_text o) (reading o (codes glob))

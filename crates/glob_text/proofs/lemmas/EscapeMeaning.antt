@@ -10,15 +10,15 @@ use Rattle.std.proofs.lemmas.Slice.Eq.{bytes_eq-Decides}
 use Rattle.std.proofs.lemmas.Str.{chars-encodes, encodes-chars, scalars-chars}
 use Rattle.glob_syntax.specs.declared.options.Options.{Options}
 use Rattle.glob_syntax.specs.ClassBytes.{ranges_have, class_has}
-use Rattle.glob_automaton.specs.Takes.{is_empty, is_one_byte, takes, takes_all, compared}
+use Rattle.glob_nfa.specs.TokenMatches.{is_empty, is_one_byte, token_matches, tokens_match_each, compared}
 use Rattle.glob_syntax.specs.Token.{Literal}
 use Rattle.glob_syntax.specs.Token as token
 use Rattle.glob_syntax.specs.Reading.{reading}
-use Rattle.glob_text.specs.Means.{default_glob, default_options, glob_means}
-use Rattle.glob_automaton.specs.TokenMeans.{is_prefix, is_prefix_alone}
+use Rattle.glob_text.specs.GlobMatches.{default_glob, default_options, glob_matches}
+use Rattle.glob_nfa.specs.TokensMatch.{is_prefix, is_prefix_alone}
 use Rattle.glob_text.specs.Escape.{is_special, escaped_chars, escaped, has_no_backslash, plain_options, MeansOnly}
-use Rattle.glob_automaton.proofs.lemmas.Booleans.{and_both, and_first, and_second, and_none}
-use Rattle.glob_automaton.proofs.lemmas.Cuts.{cut_of, some_cut-append, empty_is}
+use Rattle.glob_nfa.proofs.lemmas.Booleans.{and_both, and_first, and_second, and_none}
+use Rattle.glob_nfa.proofs.lemmas.Cuts.{cut_of, some_cut-append, empty_is}
 use Rattle.glob_text.proofs.lemmas.Globs.{means_is}
 use Rattle.glob_text.proofs.lemmas.EscapeReading.{by_special, NoEscape, token_as, token_for, tokens_for, escaped_reads}
 
@@ -32,15 +32,15 @@ and_all false = refl
 
 -- ---- one token
 
-literal_takes : (o : Options) (c : ℕ) (b : List ℕ) → o.case_insensitive ≡ false → IsTrue (takes o (Literal c) b) ↔ (b ≡ encode_utf8 c)
-literal_takes o c b i =
-    rw (i, takes, compared) (bytes_eq-Decides b (encode_utf8 c))
+literal_matches : (o : Options) (c : ℕ) (b : List ℕ) → o.case_insensitive ≡ false → IsTrue (token_matches o (Literal c) b) ↔ (b ≡ encode_utf8 c)
+literal_matches o c b i =
+    rw (i, token_matches, compared) (bytes_eq-Decides b (encode_utf8 c))
 
 -- a class of one ASCII character, of which `alone` are the bytes
-one_byte_takes : (k : ℕ) (test : ℕ → Bool) (b : List ℕ) → ((byte : ℕ) → test byte ≡ (byte == k)) → IsTrue (is_one_byte test b) ↔ (b ≡ k ∷ [])
-one_byte_takes k test [] same = ((λ h. absurd (true≢false (sym h))), (λ e. absurd (cc)))
-one_byte_takes k test (c ∷ []) same = ((λ h. ap (λ x. x ∷ []) (eqb-true c k (sym (same c) ∙ h))), (λ e. same c ∙ (Decides-eqb c k).1 (cc)))
-one_byte_takes k test (c ∷ d ∷ rest) same = ((λ h. absurd (true≢false (sym h))), (λ e. absurd (cc)))
+one_byte_matches : (k : ℕ) (test : ℕ → Bool) (b : List ℕ) → ((byte : ℕ) → test byte ≡ (byte == k)) → IsTrue (is_one_byte test b) ↔ (b ≡ k ∷ [])
+one_byte_matches k test [] same = ((λ h. absurd (true≢false (sym h))), (λ e. absurd (cc)))
+one_byte_matches k test (c ∷ []) same = ((λ h. ap (λ x. x ∷ []) (eqb-true c k (sym (same c) ∙ h))), (λ e. same c ∙ (Decides-eqb c k).1 (cc)))
+one_byte_matches k test (c ∷ d ∷ rest) same = ((λ h. absurd (true≢false (sym h))), (λ e. absurd (cc)))
 
 one_byte : (c : ℕ) → is_special c ≡ true → encode_utf8 c ≡ c ∷ []
 unfolding encode_utf8
@@ -56,26 +56,26 @@ ranges_are c byte s =
 class_is : (o : Options) (c : ℕ) (byte : ℕ) → o.case_insensitive ≡ false → is_special c ≡ true → class_has o false ((c, c) ∷ []) byte ≡ (byte == c)
 class_is o c byte i s = rw i (or_none _ ∙ ranges_are c byte s)
 
-special_takes : (o : Options) (c : ℕ) (b : List ℕ) → o.case_insensitive ≡ false → is_special c ≡ true → IsTrue (takes o (token.Class false ((c, c) ∷ [])) b) ↔ (b ≡ encode_utf8 c)
-special_takes o c b i s = rw (one_byte c s) (one_byte_takes c (class_has o false ((c, c) ∷ [])) b (λ byte. class_is o c byte i s))
+special_matches : (o : Options) (c : ℕ) (b : List ℕ) → o.case_insensitive ≡ false → is_special c ≡ true → IsTrue (token_matches o (token.Class false ((c, c) ∷ [])) b) ↔ (b ≡ encode_utf8 c)
+special_matches o c b i s = rw (one_byte c s) (one_byte_matches c (class_has o false ((c, c) ∷ [])) b (λ byte. class_is o c byte i s))
 
-takes_as : (o : Options) (c : ℕ) (b : List ℕ) (t : Bool) → o.case_insensitive ≡ false → t ≡ is_special c → IsTrue (takes o (token_as t c) b) ↔ (b ≡ encode_utf8 c)
-takes_as o c b true i e = special_takes o c b i (sym e)
-takes_as o c b false i e = literal_takes o c b i
+matches_as : (o : Options) (c : ℕ) (b : List ℕ) (t : Bool) → o.case_insensitive ≡ false → t ≡ is_special c → IsTrue (token_matches o (token_as t c) b) ↔ (b ≡ encode_utf8 c)
+matches_as o c b true i e = special_matches o c b i (sym e)
+matches_as o c b false i e = literal_matches o c b i
 
 -- ---- all tokens
 
-all_take : (o : Options) (cs b : List ℕ) → o.case_insensitive ≡ false → IsTrue (takes_all o (tokens_for cs) b) ↔ (b ≡ encode_utf8_all cs)
+all_take : (o : Options) (cs b : List ℕ) → o.case_insensitive ≡ false → IsTrue (tokens_match_each o (tokens_for cs) b) ↔ (b ≡ encode_utf8_all cs)
 all_take o [] b i = (empty_is b, λ e. subst (λ x. IsTrue (is_empty x)) (sym e) refl)
 all_take o (c ∷ cs) b i =
-    let test : List ℕ → List ℕ → Bool = λ x y. takes o (token_for c) x && takes_all o (tokens_for cs) y in (
+    let test : List ℕ → List ℕ → Bool = λ x y. token_matches o (token_for c) x && tokens_match_each o (tokens_for cs) y in (
       λ h. let r = cut_of test b h in
           r.2
-          ∙ ap (λ x. x ++ r.1) ((takes_as o c r.0 (is_special c) i refl).0 (and_first _ _ r.3))
+          ∙ ap (λ x. x ++ r.1) ((matches_as o c r.0 (is_special c) i refl).0 (and_first _ _ r.3))
           ∙ ap (λ y. encode_utf8 c ++ y) ((all_take o cs r.1 i).0 (and_second _ _ r.3)),
-      λ e. subst (λ x. IsTrue (takes_all o (tokens_for (c ∷ cs)) x)) (sym e)
+      λ e. subst (λ x. IsTrue (tokens_match_each o (tokens_for (c ∷ cs)) x)) (sym e)
           (some_cut-append test (encode_utf8 c) (encode_utf8_all cs)
-          (and_both _ _ ((takes_as o c _ (is_special c) i refl).1 refl) ((all_take o cs _ i).1 refl))),
+          (and_both _ _ ((matches_as o c _ (is_special c) i refl).1 refl) ((all_take o cs _ i).1 refl))),
     )
 
 no_prefix_as : (t : Bool) (c : ℕ) → is_prefix (token_as t c) ≡ false
@@ -103,8 +103,8 @@ means_only o text s utf8 i n e =
     let cs = chars text in
     let spelled : chars s ≡ escaped_chars cs = ap chars e ∙ chars-encodes (escaped_chars cs) (scalars_escaped cs (scalars-chars text utf8)) in
     let read : reading o (chars s) ≡ Ok (tokens_for cs) = ap (reading o) spelled ∙ escaped_reads o cs n in
-    let meaning : (b : List ℕ) → glob_means (record { text = s; options = o }) b ≡ takes_all o (tokens_for cs) b = λ b.
-    sym (means_is (record { text = s; options = o }) (tokens_for cs) b read) ∙ ap (λ p. p || takes_all o (tokens_for cs) b) (no_prefix cs) in
+    let meaning : (b : List ℕ) → glob_matches (record { text = s; options = o }) b ≡ tokens_match_each o (tokens_for cs) b = λ b.
+    sym (means_is (record { text = s; options = o }) (tokens_for cs) b read) ∙ ap (λ p. p || tokens_match_each o (tokens_for cs) b) (no_prefix cs) in
     let same = encodes-chars text utf8 in
     (ap is_ok read, λ b. (λ h. (all_take o cs b i).0 (sym (meaning b) ∙ h) ∙ same, λ e. meaning b ∙ (all_take o cs b i).1 (e ∙ sym same)))
 

@@ -7,14 +7,14 @@ use Rattle.std.proofs.lemmas.Bool.{eqb-true}
 use Rattle.std.proofs.lemmas.Iterator.Adapters.{position_from-zero}
 use Rattle.glob_syntax.specs.declared.options.Options.{Options}
 use Rattle.glob_syntax.specs.Ranges.{ranges, bad_range}
-use Rattle.glob_syntax.specs.Marks.{Mark, Char, Class, Comma, marks, mark_at, members, class_at, is_negated}
-use Rattle.glob_syntax.specs.Nesting.{nested, with_mark}
+use Rattle.glob_syntax.specs.Lexemes.{Lexeme, Char, Class, Comma, lexemes, lexeme_at, members, class_at, is_negated}
+use Rattle.glob_syntax.specs.Nesting.{nested, with_lexeme}
 use Rattle.glob_syntax.specs.Stars.{is_run, pairs, last_run, slash_piece, piece}
 use Rattle.glob_syntax.specs.Token.{Token, Literal, Tokens, end, before, branch, none}
 use Rattle.glob_syntax.specs.Token as token
-use Rattle.glob_syntax.specs.Reading.{in_level, levels, is_whole_run, whole, reading, whole_or_fault}
+use Rattle.glob_syntax.specs.Reading.{in_level, levels, is_whole_run, whole, reading, whole_or_parse_error}
 use Rattle.glob_text.specs.Escape.{is_special, escaped_chars}
-use Rattle.glob_automaton.proofs.lemmas.Booleans.{or_either, and_first, and_second}
+use Rattle.glob_nfa.proofs.lemmas.Booleans.{or_either, and_first, and_second}
 
 -- ---- one character in brackets
 
@@ -25,13 +25,13 @@ one_class : (o : Options) (c : ℕ) (rest : List ℕ) → class_at o 0 false (c 
 unfolding ranges bad_range
 one_class o c rest = rw (closes_next rest, members, class_at) refl
 
-one_member : (o : Options) (c : ℕ) (rest : List ℕ) → is_negated (c ∷ 93 ∷ rest) ≡ false → mark_at o 91 (c ∷ 93 ∷ rest) ≡ (Class false ((c, c) ∷ []), 2)
-unfolding mark_at
+one_member : (o : Options) (c : ℕ) (rest : List ℕ) → is_negated (c ∷ 93 ∷ rest) ≡ false → lexeme_at o 91 (c ∷ 93 ∷ rest) ≡ (Class false ((c, c) ∷ []), 2)
+unfolding lexeme_at
 one_member o c rest h = rw h (one_class o c rest)
 
-bracketed : (o : Options) (c : ℕ) (rest : List ℕ) → is_negated (c ∷ 93 ∷ rest) ≡ false → marks o zero (91 ∷ c ∷ 93 ∷ rest) ≡ Class false ((c, c) ∷ []) ∷ marks o zero rest
-unfolding marks
-bracketed o c rest h = ap (λ (p : Mark × ℕ). p.0 ∷ marks o p.1 (c ∷ 93 ∷ rest)) (one_member o c rest h)
+bracketed : (o : Options) (c : ℕ) (rest : List ℕ) → is_negated (c ∷ 93 ∷ rest) ≡ false → lexemes o zero (91 ∷ c ∷ 93 ∷ rest) ≡ Class false ((c, c) ∷ []) ∷ lexemes o zero rest
+unfolding lexemes
+bracketed o c rest h = ap (λ (p : Lexeme × ℕ). p.0 ∷ lexemes o p.1 (c ∷ 93 ∷ rest)) (one_member o c rest h)
 
 -- ---- special characters, and others
 
@@ -57,21 +57,21 @@ neither true y h = absurd (cc)
 -- ---- marks
 
 -- the mark of an escaped character
-abbrev pub kept_as : Bool → ℕ → Mark
+abbrev pub kept_as : Bool → ℕ → Lexeme
 kept_as true c = Class false ((c, c) ∷ [])
 kept_as false c = Char false c
 
-abbrev pub kept : ℕ → Mark
+abbrev pub kept : ℕ → Lexeme
 kept c = kept_as (is_special c) c
 
 -- outside of groups `,` is a plain character
-abbrev comma_as : Bool → ℕ → Mark × ℕ
+abbrev comma_as : Bool → ℕ → Lexeme × ℕ
 comma_as t c = if t then (Comma, 0) else (Char false c, 0)
 
-plain_mark : (o : Options) (c : ℕ) (cs : List ℕ) → is_special c ≡ false → (c == 92 && o.backslash_escape) ≡ false
-    → mark_at o c cs ≡ comma_as (c == 44) c
-unfolding mark_at
-plain_mark o c cs s b =
+plain_lexeme : (o : Options) (c : ℕ) (cs : List ℕ) → is_special c ≡ false → (c == 92 && o.backslash_escape) ≡ false
+    → lexeme_at o c cs ≡ comma_as (c == 44) c
+unfolding lexeme_at
+plain_lexeme o c cs s b =
     let t63 = neither (c == 63) _ s in
     let t42 = neither (c == 42) _ t63.1 in
     let t91 = neither (c == 91) _ t42.1 in
@@ -80,16 +80,16 @@ plain_mark o c cs s b =
     rw (t63.0, t42.0, t91.0, t123.0, t123.1, b) refl
 
 comma_or_not : (o : Options) (c : ℕ) (cs : List ℕ) (t : Bool) → t ≡ (c == 44)
-    → nested zero ((comma_as t c).0 ∷ marks o (comma_as t c).1 cs) ≡ with_mark (Char false c) (nested zero (marks o zero cs))
+    → nested zero ((comma_as t c).0 ∷ lexemes o (comma_as t c).1 cs) ≡ with_lexeme (Char false c) (nested zero (lexemes o zero cs))
 unfolding nested
-comma_or_not o c cs true e = ap (λ k. with_mark (Char false k) (nested zero (marks o zero cs))) (sym (eqb-true c 44 (sym e)))
+comma_or_not o c cs true e = ap (λ k. with_lexeme (Char false k) (nested zero (lexemes o zero cs))) (sym (eqb-true c 44 (sym e)))
 comma_or_not o c cs false e = refl
 
 one_kept_as : (o : Options) (c : ℕ) (cs : List ℕ) (t : Bool) → t ≡ is_special c → (c == 92 && o.backslash_escape) ≡ false
-    → nested zero (marks o zero ((if t then 91 ∷ c ∷ 93 ∷ [] else c ∷ []) ++ cs)) ≡ with_mark (kept_as t c) (nested zero (marks o zero cs))
-unfolding marks nested
+    → nested zero (lexemes o zero ((if t then 91 ∷ c ∷ 93 ∷ [] else c ∷ []) ++ cs)) ≡ with_lexeme (kept_as t c) (nested zero (lexemes o zero cs))
+unfolding lexemes nested
 one_kept_as o c cs true e b = ap (nested zero) (bracketed o c cs (not_negating c (93 ∷ cs) (sym e)))
-one_kept_as o c cs false e b = ap (λ (p : Mark × ℕ). nested zero (p.0 ∷ marks o p.1 cs)) (plain_mark o c cs (sym e) b) ∙ comma_or_not o c cs (c == 44) refl
+one_kept_as o c cs false e b = ap (λ (p : Lexeme × ℕ). nested zero (p.0 ∷ lexemes o p.1 cs)) (plain_lexeme o c cs (sym e) b) ∙ comma_or_not o c cs (c == 44) refl
 
 -- no character of these is a `\` that escapes
 abbrev pub NoEscape : Options → List ℕ → Type 0
@@ -99,11 +99,11 @@ not_true : (x : Bool) → not x ≡ true → x ≡ false
 not_true false h = refl
 not_true true h = absurd (cc)
 
-marks_kept : (o : Options) (cs : List ℕ) → NoEscape o cs → nested zero (marks o zero (escaped_chars cs)) ≡ Ok (map kept cs)
-unfolding marks nested
-marks_kept o [] h = refl
-marks_kept o (c ∷ cs) h =
-    one_kept_as o c (escaped_chars cs) (is_special c) refl (not_true _ (and_first _ _ h)) ∙ ap (with_mark (kept c)) (marks_kept o cs (and_second _ _ h))
+lexemes_kept : (o : Options) (cs : List ℕ) → NoEscape o cs → nested zero (lexemes o zero (escaped_chars cs)) ≡ Ok (map kept cs)
+unfolding lexemes nested
+lexemes_kept o [] h = refl
+lexemes_kept o (c ∷ cs) h =
+    one_kept_as o c (escaped_chars cs) (is_special c) refl (not_true _ (and_first _ _ h)) ∙ ap (with_lexeme (kept c)) (lexemes_kept o cs (and_second _ _ h))
 
 -- ---- tokens
 
@@ -160,4 +160,4 @@ whole_kept cs = rw (not_whole_run cs, whole) (rw (levels_kept cs true) refl)
 -- an escaped text has one token for each character of the text
 pub escaped_reads : (o : Options) (cs : List ℕ) → NoEscape o cs → reading o (escaped_chars cs) ≡ Ok (tokens_for cs)
 unfolding reading
-escaped_reads o cs h = ap whole_or_fault (marks_kept o cs h) ∙ ap (λ ts. Ok ts) (whole_kept cs)
+escaped_reads o cs h = ap whole_or_parse_error (lexemes_kept o cs h) ∙ ap (λ ts. Ok ts) (whole_kept cs)

@@ -6,21 +6,21 @@ use Rattle.std.specs.List.{list_all}
 use Rattle.std.proofs.lemmas.List.{append-nil, append_assoc}
 use Rattle.std.proofs.Math.Logic.{⊎_elim}
 use Rattle.glob_syntax.specs.Token.{Token, Literal, Any, ZeroOrMore, RecursivePrefix, RecursiveSuffix, RecursiveZeroOrMore, Class, Group, Tokens, end, and_then, Branches, none, branch}
-use Rattle.glob_automaton.specs.Blank.{is_kept, any_kept}
+use Rattle.glob_nfa.specs.Blank.{is_kept, any_kept}
 use Rattle.glob_syntax.specs.ClassBytes.{ranges_have, class_has}
-use Rattle.glob_automaton.specs.Takes.{some_takes, takes_all, compared, is_wild, is_wild_character, is_one_byte, is_empty, slash}
-use Rattle.glob_automaton.specs.Characters.{is_between}
-use Rattle.glob_automaton.specs.TokenMeans.{means, is_prefix_alone}
-use Rattle.glob_automaton.specs.inner.TokenStates.{passes, continues, is_ascii_wild}
-use Rattle.glob_automaton.proofs.lemmas.Characters.{some_row}
+use Rattle.glob_nfa.specs.TokenMatches.{some_branch_matches, tokens_match_each, compared, is_wild, is_wild_character, is_one_byte, is_empty, slash}
+use Rattle.glob_nfa.specs.Characters.{is_between}
+use Rattle.glob_nfa.specs.TokensMatch.{tokens_match, is_prefix_alone}
+use Rattle.glob_nfa.specs.inner.TokenStates.{passes, continues, is_ascii_wild}
+use Rattle.glob_nfa.proofs.lemmas.Characters.{some_row}
 use Rattle.glob_text.specs.SmallRegex.{Entry, single, span, Atom, any_byte, byte, class_of, group_of, Item, once, repeated, optional, Row, no_item, item, Rows, no_row, row, expression, SpellsByte, SpellsEntries, SpellsAtom, SpellsItem, SpellsRow, SpellsOthers, entries_have, folded_entries_have, class_of_has, Repeats, no_piece, one_more, DenotesAtom, DenotesItem, DenotesRow, DenotesSome}
 use Rattle.glob_text.specs.RegexText.{byte_text, bytes_text, ranges_text, class_text, others_text, group_text, with_text, ascii_text, longer_texts, token_text, tokens_text, kept_texts, body_text, regex_text}
 use Rattle.glob_text.specs.RegexDenotes.{HasExpression}
 use Rattle.glob_syntax.specs.declared.options.Options.{Options}
-use Rattle.glob_automaton.proofs.lemmas.Booleans.{and_both, and_first, and_second, or_first, or_second, or_either}
+use Rattle.glob_nfa.proofs.lemmas.Booleans.{and_both, and_first, and_second, or_first, or_second, or_either}
 use Rattle.glob_syntax.specs.inner.WellFormed.{AreScalars, IsWellFormed, AreWellFormed, AllWellFormed}
-use Rattle.glob_automaton.proofs.lemmas.Takes.{some_any, OneByte, one_byte}
-use Rattle.glob_automaton.proofs.lemmas.TakesByParts.{Takes, TakesAll, Then, empty_same, equal_bytes, prefix_takes, suffix_takes, between_takes, then_takes}
+use Rattle.glob_nfa.proofs.lemmas.TokenMatches.{some_any, OneByte, one_byte}
+use Rattle.glob_nfa.proofs.lemmas.MatchesByParts.{TokenMatches, AllMatch, Then, empty_same, equal_bytes, prefix_matches, suffix_matches, between_matches, then_matches}
 use Rattle.glob_text.proofs.lemmas.ByteTexts.{Below, IsSpelled, spells_byte, encode_below, slash_byte, byte_slash, slash_alone, spelled_more, spelled_none, spelled_one}
 use Rattle.glob_text.proofs.lemmas.CharacterTexts.{spells_digits, same_byte, same_span, same_ascii, same_ascii_apart, regex_rows, regex_rows_are}
 use Rattle.glob_text.proofs.lemmas.ClassTexts.{has_ranges}
@@ -171,13 +171,13 @@ module _ (o : Options) where
       (λ b. iff_trans (wild_is q e b) (one_byte (is_wild o) b))
       (has_item (once (wild q)) (if q then codes "[^/]" else codes ".") (spells_wild q))
 
-  repeats_there : (q : Bool) → o.literal_separator ≡ q → (b : List ℕ) → Repeats (DenotesAtom o.case_insensitive (wild q)) b → Takes o ZeroOrMore b
+  repeats_there : (q : Bool) → o.literal_separator ≡ q → (b : List ℕ) → Repeats (DenotesAtom o.case_insensitive (wild q)) b → TokenMatches o ZeroOrMore b
   repeats_there q e b no_piece = refl
   repeats_there q e b (one_more x y b' cut p rest) =
       let (c, is, h) = (wild_is q e x).0 p in
-      subst (Takes o ZeroOrMore) (sym (cut ∙ ap (λ l. l ++ y) is)) (and_both (is_wild o c) (list_all (is_wild o) y) h (repeats_there q e y rest))
+      subst (TokenMatches o ZeroOrMore) (sym (cut ∙ ap (λ l. l ++ y) is)) (and_both (is_wild o c) (list_all (is_wild o) y) h (repeats_there q e y rest))
 
-  repeats_back : (q : Bool) → o.literal_separator ≡ q → (b : List ℕ) → Takes o ZeroOrMore b → Repeats (DenotesAtom o.case_insensitive (wild q)) b
+  repeats_back : (q : Bool) → o.literal_separator ≡ q → (b : List ℕ) → TokenMatches o ZeroOrMore b → Repeats (DenotesAtom o.case_insensitive (wild q)) b
   repeats_back q e [] h = no_piece
   repeats_back q e (c ∷ cs) h = one_more (c ∷ []) cs (c ∷ cs) refl ((wild_is q e (c ∷ [])).1 (c, refl, and_first (is_wild o c) (list_all (is_wild o) cs) h))
       (repeats_back q e cs (and_second (is_wild o c) (list_all (is_wild o) cs) h))
@@ -186,8 +186,8 @@ module _ (o : Options) where
   spells_repeated true = (codes "[^/]", refl, spells_wild true)
   spells_repeated false = (codes ".", refl, spells_wild false)
 
-  has_star : (q : Bool) → o.literal_separator ≡ q → HasRow (if q then codes "[^/]*" else codes ".*") (Takes o ZeroOrMore)
-  has_star q e = has_same (if q then codes "[^/]*" else codes ".*") (DenotesItem o.case_insensitive (repeated (wild q))) (Takes o ZeroOrMore)
+  has_star : (q : Bool) → o.literal_separator ≡ q → HasRow (if q then codes "[^/]*" else codes ".*") (TokenMatches o ZeroOrMore)
+  has_star q e = has_same (if q then codes "[^/]*" else codes ".*") (DenotesItem o.case_insensitive (repeated (wild q))) (TokenMatches o ZeroOrMore)
       (λ b. (repeats_there q e b, repeats_back q e b))
       (has_item (repeated (wild q)) (if q then codes "[^/]*" else codes ".*") (spells_repeated q))
 
@@ -332,9 +332,9 @@ module _ (o : Options) where
       has_no_row))))))))))
 
   has_any : (q : Bool) → o.whole_character ≡ q
-      → HasRow (if q then group_text (ascii_text o ∷ longer_texts) else (if o.literal_separator then codes "[^/]" else codes ".")) (Takes o Any)
-  has_any true e = has_same (group_text (ascii_text o ∷ longer_texts)) (λ b. IsTrue (is_wild_character o b)) (Takes o Any) (λ b. rw e (λ h. h, λ h. h)) has_character
-  has_any false e = has_same (if o.literal_separator then codes "[^/]" else codes ".") (λ b. IsTrue (is_one_byte (is_wild o) b)) (Takes o Any) (λ b. rw e (λ h. h, λ h. h))
+      → HasRow (if q then group_text (ascii_text o ∷ longer_texts) else (if o.literal_separator then codes "[^/]" else codes ".")) (TokenMatches o Any)
+  has_any true e = has_same (group_text (ascii_text o ∷ longer_texts)) (λ b. IsTrue (is_wild_character o b)) (TokenMatches o Any) (λ b. rw e (λ h. h, λ h. h)) has_character
+  has_any false e = has_same (if o.literal_separator then codes "[^/]" else codes ".") (λ b. IsTrue (is_one_byte (is_wild o) b)) (TokenMatches o Any) (λ b. rw e (λ h. h, λ h. h))
       (has_one o.literal_separator refl)
 
   -- ---- recursive stars
@@ -345,9 +345,9 @@ module _ (o : Options) where
   has_to_slash : HasRow (codes ".*/") (Then Everything IsSlash)
   has_to_slash = has_then (codes ".*") (codes "/") Everything IsSlash has_everything has_slash
 
-  has_suffix : HasRow (codes "/.*") (Takes o RecursiveSuffix)
-  has_suffix = has_same (codes "/.*") (Then IsSlash Everything) (Takes o RecursiveSuffix)
-      (λ b. iff_trans (λ (x, y, cut, is, h). (y, cut ∙ ap (λ l. l ++ y) is), λ (x, e). (slash ∷ [], x, e, refl, tt)) (suffix_takes o b))
+  has_suffix : HasRow (codes "/.*") (TokenMatches o RecursiveSuffix)
+  has_suffix = has_same (codes "/.*") (Then IsSlash Everything) (TokenMatches o RecursiveSuffix)
+      (λ b. iff_trans (λ (x, y, cut, is, h). (y, cut ∙ ap (λ l. l ++ y) is), λ (x, e). (slash ∷ [], x, e, refl, tt)) (suffix_matches o b))
       (has_then (codes "/") (codes ".*") IsSlash Everything has_slash has_everything)
 
   abbrev MaybeSlash : List ℕ → Type 0
@@ -373,8 +373,8 @@ module _ (o : Options) where
       back (inl nil) = inl (inl nil)
       back (inr (x, e)) = inr (inl (x, slash ∷ [], e, tt, refl))
 
-  has_prefix : HasRow (codes "(?:/?|.*/)") (Takes o RecursivePrefix)
-  has_prefix = has_same (codes "(?:/?|.*/)") InPrefix (Takes o RecursivePrefix) (λ b. iff_trans (in_prefix b) (prefix_takes o b))
+  has_prefix : HasRow (codes "(?:/?|.*/)") (TokenMatches o RecursivePrefix)
+  has_prefix = has_same (codes "(?:/?|.*/)") InPrefix (TokenMatches o RecursivePrefix) (λ b. iff_trans (in_prefix b) (prefix_matches o b))
       (has_group (codes "/?") (codes ".*/" ∷ []) InPrefix
       (has_more (codes "/?") (codes ".*/" ∷ []) MaybeSlash (λ b. Then Everything IsSlash b ⊎ ⊥) has_maybe_slash
       (has_more (codes ".*/") [] (Then Everything IsSlash) (λ b. ⊥) has_to_slash has_no_more)))
@@ -395,8 +395,8 @@ module _ (o : Options) where
       back (inl e) = inl e
       back (inr (x, e)) = inr (inl (slash ∷ [], x ++ slash ∷ [], e, refl, (x, slash ∷ [], refl, tt, refl)))
 
-  has_between : HasRow (codes "(?:/|/.*/)") (Takes o RecursiveZeroOrMore)
-  has_between = has_same (codes "(?:/|/.*/)") InBetween (Takes o RecursiveZeroOrMore) (λ b. iff_trans (in_between b) (between_takes o b))
+  has_between : HasRow (codes "(?:/|/.*/)") (TokenMatches o RecursiveZeroOrMore)
+  has_between = has_same (codes "(?:/|/.*/)") InBetween (TokenMatches o RecursiveZeroOrMore) (λ b. iff_trans (in_between b) (between_matches o b))
       (has_group (codes "/") (codes "/.*/" ∷ []) InBetween
       (has_more (codes "/") (codes "/.*/" ∷ []) IsSlash (λ b. Then IsSlash (Then Everything IsSlash) b ⊎ ⊥) has_slash
       (has_more (codes "/.*/") [] (Then IsSlash (Then Everything IsSlash)) (λ b. ⊥)
@@ -409,10 +409,10 @@ module _ (o : Options) where
       → (c : ℕ) → class_of_has o.case_insensitive negated es c ≡ class_has o negated rs c
   class_same negated es rs same c = rw (same c, same (to_ascii_lowercase c), same (to_ascii_uppercase c)) refl
 
-  has_class : (negated : Bool) (rs : List (ℕ × ℕ)) → AreScalars rs → 1 ≤ length rs → HasRow (class_text negated rs) (Takes o (Class negated rs))
+  has_class : (negated : Bool) (rs : List (ℕ × ℕ)) → AreScalars rs → 1 ≤ length rs → HasRow (class_text negated rs) (TokenMatches o (Class negated rs))
   has_class negated rs scalars some =
       let (es, spelled, same, long) = has_ranges rs scalars in
-      has_same (class_text negated rs) (DenotesItem o.case_insensitive (once (class_of negated es))) (Takes o (Class negated rs))
+      has_same (class_text negated rs) (DenotesItem o.case_insensitive (once (class_of negated es))) (TokenMatches o (Class negated rs))
       (λ b. iff_trans
       (λ (c, is, h). (c, is, sym (class_same negated es rs same c) ∙ h), λ (c, is, h). (c, is, class_same negated es rs same c ∙ h))
       (one_byte (class_has o negated rs) b))
@@ -420,8 +420,8 @@ module _ (o : Options) where
 
   -- ---- branches
 
-  abbrev TakesSome : Branches → List ℕ → Type 0
-  TakesSome bs b = IsTrue (some_takes o bs b)
+  abbrev SomeMatch : Branches → List ℕ → Type 0
+  SomeMatch bs b = IsTrue (some_branch_matches o bs b)
 
   abbrev some_text : List (List ℕ) → Bool
   some_text [] = false
@@ -437,69 +437,69 @@ module _ (o : Options) where
   kept_is (branch ts bs) = ap (λ k. is_kept o ts || k) (kept_is bs) ∙ some_text_with (is_kept o ts) (tokens_text o ts) (kept_texts o bs)
 
   -- a group's text, by the texts of its kept branches
-  group_has : (bs : Branches) (texts : List (List ℕ)) → kept_texts o bs ≡ texts → HasSome texts (TakesSome bs) → HasRow (group_text texts) (Takes o (Group bs))
+  group_has : (bs : Branches) (texts : List (List ℕ)) → kept_texts o bs ≡ texts → HasSome texts (SomeMatch bs) → HasRow (group_text texts) (TokenMatches o (Group bs))
   group_has bs [] e h =
       let dropped : any_kept o bs ≡ false = kept_is bs ∙ ap some_text e in
-      has_same [] (λ b. b ≡ []) (Takes o (Group bs))
+      has_same [] (λ b. b ≡ []) (TokenMatches o (Group bs))
       (λ b. (
-        λ nil. or_second (some_takes o bs b) (not (any_kept o bs) && is_empty b) (rw dropped (ap is_empty nil)),
+        λ nil. or_second (some_branch_matches o bs b) (not (any_kept o bs) && is_empty b) (rw dropped (ap is_empty nil)),
         λ taken. ⊎_elim {C = b ≡ []}
             (λ some. absurd (true≢false (sym (some_any o bs b some) ∙ dropped)))
             (λ empty. (empty_same b).1 (and_second (not (any_kept o bs)) (is_empty b) empty))
-            (or_either (some_takes o bs b) (not (any_kept o bs) && is_empty b) taken),
+            (or_either (some_branch_matches o bs b) (not (any_kept o bs) && is_empty b) taken),
       ))
       has_none
   group_has bs (t ∷ ts) e h =
       let any : any_kept o bs ≡ true = kept_is bs ∙ ap some_text e in
-      has_same (group_text (t ∷ ts)) (TakesSome bs) (Takes o (Group bs))
+      has_same (group_text (t ∷ ts)) (SomeMatch bs) (TokenMatches o (Group bs))
       (λ b. (
-        λ some. or_first (some_takes o bs b) (not (any_kept o bs) && is_empty b) some,
-        λ taken. ⊎_elim {C = TakesSome bs b}
+        λ some. or_first (some_branch_matches o bs b) (not (any_kept o bs) && is_empty b) some,
+        λ taken. ⊎_elim {C = SomeMatch bs b}
             (λ some. some)
             (λ empty. absurd (true≢false (sym (and_first (not (any_kept o bs)) (is_empty b) empty) ∙ ap not any)))
-            (or_either (some_takes o bs b) (not (any_kept o bs) && is_empty b) taken),
+            (or_either (some_branch_matches o bs b) (not (any_kept o bs) && is_empty b) taken),
       ))
-      (has_group t ts (TakesSome bs) h)
+      (has_group t ts (SomeMatch bs) h)
 
   -- one branch more, kept or not
-  branch_has : (ts : Tokens) (bs : Branches) (kept : Bool) → is_kept o ts ≡ kept → HasRow (tokens_text o ts) (TakesAll o ts) → HasSome (kept_texts o bs) (TakesSome bs)
-      → HasSome (with_text kept (tokens_text o ts) (kept_texts o bs)) (TakesSome (branch ts bs))
-  branch_has ts bs true e first others = some_same (tokens_text o ts ∷ kept_texts o bs) (λ b. TakesAll o ts b ⊎ TakesSome bs b) (TakesSome (branch ts bs))
+  branch_has : (ts : Tokens) (bs : Branches) (kept : Bool) → is_kept o ts ≡ kept → HasRow (tokens_text o ts) (AllMatch o ts) → HasSome (kept_texts o bs) (SomeMatch bs)
+      → HasSome (with_text kept (tokens_text o ts) (kept_texts o bs)) (SomeMatch (branch ts bs))
+  branch_has ts bs true e first others = some_same (tokens_text o ts ∷ kept_texts o bs) (λ b. AllMatch o ts b ⊎ SomeMatch bs b) (SomeMatch (branch ts bs))
       (λ b. (
-        λ h. ⊎_elim {C = TakesSome (branch ts bs) b}
-            (λ this. or_first (is_kept o ts && takes_all o ts b) (some_takes o bs b) (and_both (is_kept o ts) (takes_all o ts b) e this))
-            (λ other. or_second (is_kept o ts && takes_all o ts b) (some_takes o bs b) other)
+        λ h. ⊎_elim {C = SomeMatch (branch ts bs) b}
+            (λ this. or_first (is_kept o ts && tokens_match_each o ts b) (some_branch_matches o bs b) (and_both (is_kept o ts) (tokens_match_each o ts b) e this))
+            (λ other. or_second (is_kept o ts && tokens_match_each o ts b) (some_branch_matches o bs b) other)
             h,
-        λ h. ⊎_elim {C = TakesAll o ts b ⊎ TakesSome bs b}
-            (λ this. inl (and_second (is_kept o ts) (takes_all o ts b) this))
+        λ h. ⊎_elim {C = AllMatch o ts b ⊎ SomeMatch bs b}
+            (λ this. inl (and_second (is_kept o ts) (tokens_match_each o ts b) this))
             (λ other. inr other)
-            (or_either (is_kept o ts && takes_all o ts b) (some_takes o bs b) h),
+            (or_either (is_kept o ts && tokens_match_each o ts b) (some_branch_matches o bs b) h),
       ))
-      (has_more (tokens_text o ts) (kept_texts o bs) (TakesAll o ts) (TakesSome bs) first others)
-  branch_has ts bs false e first others = some_same (kept_texts o bs) (TakesSome bs) (TakesSome (branch ts bs))
+      (has_more (tokens_text o ts) (kept_texts o bs) (AllMatch o ts) (SomeMatch bs) first others)
+  branch_has ts bs false e first others = some_same (kept_texts o bs) (SomeMatch bs) (SomeMatch (branch ts bs))
       (λ b. (
-        λ other. or_second (is_kept o ts && takes_all o ts b) (some_takes o bs b) other,
-        λ h. ⊎_elim {C = TakesSome bs b}
-            (λ this. absurd (true≢false (sym (and_first (is_kept o ts) (takes_all o ts b) this) ∙ e)))
+        λ other. or_second (is_kept o ts && tokens_match_each o ts b) (some_branch_matches o bs b) other,
+        λ h. ⊎_elim {C = SomeMatch bs b}
+            (λ this. absurd (true≢false (sym (and_first (is_kept o ts) (tokens_match_each o ts b) this) ∙ e)))
             (λ other. other)
-            (or_either (is_kept o ts && takes_all o ts b) (some_takes o bs b) h),
+            (or_either (is_kept o ts && tokens_match_each o ts b) (some_branch_matches o bs b) h),
       ))
       others
 
   -- no branches
-  no_branch_has : HasSome [] (TakesSome none)
-  no_branch_has = some_same [] (λ b. ⊥) (TakesSome none) (λ b. (λ h. absurd h, λ h. true≢false (sym h))) has_no_more
+  no_branch_has : HasSome [] (SomeMatch none)
+  no_branch_has = some_same [] (λ b. ⊥) (SomeMatch none) (λ b. (λ h. absurd h, λ h. true≢false (sym h))) has_no_more
 
   -- ---- all tokens
 
   mutual
-    tokens_have : (ts : Tokens) → AreWellFormed ts → HasRow (tokens_text o ts) (TakesAll o ts)
-    tokens_have end w = has_same [] (λ b. b ≡ []) (TakesAll o end) empty_same has_none
-    tokens_have (and_then t ts) (first, rest) = has_same (token_text o t ++ tokens_text o ts) (Then (Takes o t) (TakesAll o ts)) (TakesAll o (and_then t ts)) (then_takes o t ts)
-        (has_then (token_text o t) (tokens_text o ts) (Takes o t) (TakesAll o ts) (token_has t first) (tokens_have ts rest))
+    tokens_have : (ts : Tokens) → AreWellFormed ts → HasRow (tokens_text o ts) (AllMatch o ts)
+    tokens_have end w = has_same [] (λ b. b ≡ []) (AllMatch o end) empty_same has_none
+    tokens_have (and_then t ts) (first, rest) = has_same (token_text o t ++ tokens_text o ts) (Then (TokenMatches o t) (AllMatch o ts)) (AllMatch o (and_then t ts)) (then_matches o t ts)
+        (has_then (token_text o t) (tokens_text o ts) (TokenMatches o t) (AllMatch o ts) (token_has t first) (tokens_have ts rest))
 
-    token_has : (t : Token) → IsWellFormed t → HasRow (token_text o t) (Takes o t)
-    token_has (Literal c) w = has_same (bytes_text (encode_utf8 c)) (IsSpelled o (encode_utf8 c)) (Takes o (Literal c))
+    token_has : (t : Token) → IsWellFormed t → HasRow (token_text o t) (TokenMatches o t)
+    token_has (Literal c) w = has_same (bytes_text (encode_utf8 c)) (IsSpelled o (encode_utf8 c)) (TokenMatches o (Literal c))
         (λ b. equal_bytes (compared o b) (compared o (encode_utf8 c)))
         (spelled_has (encode_utf8 c) (encode_below c w))
     token_has Any w = has_any o.whole_character refl
@@ -510,27 +510,27 @@ module _ (o : Options) where
     token_has (Class negated rs) (scalars, some) = has_class negated rs scalars some
     token_has (Group bs) w = group_has bs (kept_texts o bs) refl (branches_have bs w)
 
-    branches_have : (bs : Branches) → AllWellFormed bs → HasSome (kept_texts o bs) (TakesSome bs)
+    branches_have : (bs : Branches) → AllWellFormed bs → HasSome (kept_texts o bs) (SomeMatch bs)
     branches_have none w = no_branch_has
     branches_have (branch ts bs) (first, rest) = branch_has ts bs (is_kept o ts) refl (tokens_have ts first) (branches_have bs rest)
 
   -- ---- the whole glob
 
-  abbrev Means : Tokens → List ℕ → Type 0
-  Means ts b = IsTrue (means o ts b)
+  abbrev GlobMatches : Tokens → List ℕ → Type 0
+  GlobMatches ts b = IsTrue (tokens_match o ts b)
 
   -- the body denotes what the tokens match
-  body_has : (ts : Tokens) → AreWellFormed ts → (alone : Bool) → is_prefix_alone ts ≡ alone → HasRow (if alone then codes ".*" else tokens_text o ts) (Means ts)
-  body_has ts w true e = has_same (codes ".*") Everything (Means ts) (λ b. (λ h. or_first (is_prefix_alone ts) (takes_all o ts b) e, λ h. tt)) has_everything
-  body_has ts w false e = has_same (tokens_text o ts) (TakesAll o ts) (Means ts)
+  body_has : (ts : Tokens) → AreWellFormed ts → (alone : Bool) → is_prefix_alone ts ≡ alone → HasRow (if alone then codes ".*" else tokens_text o ts) (GlobMatches ts)
+  body_has ts w true e = has_same (codes ".*") Everything (GlobMatches ts) (λ b. (λ h. or_first (is_prefix_alone ts) (tokens_match_each o ts b) e, λ h. tt)) has_everything
+  body_has ts w false e = has_same (tokens_text o ts) (AllMatch o ts) (GlobMatches ts)
       (λ b. (
-        λ taken. or_second (is_prefix_alone ts) (takes_all o ts b) taken,
-        λ h. ⊎_elim {C = TakesAll o ts b} (λ alone. absurd (true≢false (sym alone ∙ e))) (λ taken. taken) (or_either (is_prefix_alone ts) (takes_all o ts b) h),
+        λ taken. or_second (is_prefix_alone ts) (tokens_match_each o ts b) taken,
+        λ h. ⊎_elim {C = AllMatch o ts b} (λ alone. absurd (true≢false (sym alone ∙ e))) (λ taken. taken) (or_either (is_prefix_alone ts) (tokens_match_each o ts b) h),
       ))
       (tokens_have ts w)
 
   -- the text of well-formed tokens denotes what they match
-  pub regex_has : (ts : Tokens) → AreWellFormed ts → HasExpression (means o ts) (regex_text o ts)
+  pub regex_has : (ts : Tokens) → AreWellFormed ts → HasExpression (tokens_match o ts) (regex_text o ts)
   regex_has ts w = let (r, spelled, same) = body_has ts w (is_prefix_alone ts) refl in (
     expression o.case_insensitive r,
     (body_text o ts, refl, spelled),

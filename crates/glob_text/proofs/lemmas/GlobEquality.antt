@@ -5,7 +5,7 @@ use Rattle.std.specs.Cmp.{booleans_Decides}
 use Rattle.std.proofs.lemmas.Bool.Decides.{Decides-and}
 use Rattle.std.proofs.lemmas.Slice.Eq.{bytes_eq-Decides}
 use Rattle.glob_syntax.specs.declared.options.Options.{Options}
-use Rattle.glob_text.specs.Means.{GlobValue}
+use Rattle.glob_text.specs.GlobMatches.{GlobValue}
 use Rattle.glob_text.specs.inner.Equality.{same_options, same_glob}
 
 pub same_options_decides : (o p : Options) → Decides (same_options o p) (o ≡ p)

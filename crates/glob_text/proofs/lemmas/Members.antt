@@ -1,5 +1,5 @@
 -- What an object has after options were added to it.
-use Rattle.std.proofs.Common.{◌≡◌, ℕ, List, [], ◌∷◌, Bool, true, false, not, ◌||◌, Option, Some, Ordering, Less, Equal, Greater, ap, sym, refl, ◌∙◌, true≢false, if◌then◌else◌, String, Global, string_bytes}
+use Rattle.std.proofs.Common.{◌≡◌, ℕ, zero, suc, ◌<◌, List, [], ◌∷◌, map, length, take, get_or, Bor, arith, Bool, true, false, not, ◌||◌, Option, Some, Ordering, Less, Equal, Greater, ap, sym, refl, ◌∙◌, true≢false, if◌then◌else◌, String, Global, string_bytes}
 use Rattle.std.proofs.lemmas.Bool.{and_parts}
 use Rattle.std.proofs.lemmas.Slice.Eq.{bytes_eq-Decides}
 use Rattle.std.specs.Bool.{beq}
@@ -45,6 +45,26 @@ found_in_options key [] entries = refl
 found_in_options key (option ∷ options) entries =
     found_in_options key options (with_option option entries)
     ∙ ap (found_after_all key options) (found_in_option key option.key option.value entries (beq option.value option.default) (bytes_eq key option.key) refl)
+
+-- ---- options that are added one after another
+
+-- the options before one, and then that one: `rows` has the key and the value of each option, and `defaults` its default
+pub with_next : (rows defaults : List (Bor (List ℕ) × Bool)) (options : List KeyedOption)
+    → map (λ row. row.0.now) rows ≡ map (λ option. option.key) options → map (λ row. row.1) rows ≡ map (λ option. option.value) options
+    → map (λ row. row.1) defaults ≡ map (λ option. option.default) options
+    → (i : ℕ) → i < length options → (r s : Bor (List ℕ) × Bool) (entries : Members)
+    → with_options (take (suc i) options) entries
+    ≡ with_option (record { key = (get_or rows i r).0.now; value = (get_or rows i r).1; default = (get_or defaults i s).1 }) (with_options (take i options) entries)
+with_next rows defaults [] keys values same i within r s entries = absurd (omega arith)
+with_next [] defaults (option ∷ options) keys values same i within r s entries = absurd (cc)
+with_next (row ∷ rows) [] (option ∷ options) keys values same i within r s entries = absurd (cc)
+with_next (row ∷ rows) (default ∷ defaults) (option ∷ options) keys values same zero within r s entries =
+    let key : option.key ≡ row.0.now = cc in
+    let value : option.value ≡ row.1 = cc in
+    let usual : option.default ≡ default.1 = cc in
+    (λ j. with_option (record { key = key j; value = value j; default = usual j }) entries)
+with_next (row ∷ rows) (default ∷ defaults) (option ∷ options) keys values same (suc i) within r s entries =
+    with_next rows defaults options (cc) (cc) (cc) i (omega arith) r s (with_option option entries)
 
 -- ---- keys that are not known
 

@@ -5,10 +5,10 @@ use Rattle.std.specs.Prelude.{IsOk, codes}
 use Rattle.std.specs.Str.{chars}
 use Rattle.serde_json.specs.Data.{Data, string, object, Members, no_members, member}
 use Rattle.serde_json.specs.Find.{get_member, as_bool, as_str}
-use Rattle.glob_syntax.specs.declared.fault.Fault.{Fault}
+use Rattle.glob_syntax.specs.declared.parse_error_kind.ParseErrorKind.{ParseErrorKind}
 use Rattle.glob_syntax.specs.declared.options.Options.{Options}
-use Rattle.glob_text.specs.Errors.{refusal, glob_or_refusal}
-use Rattle.glob_text.specs.Means.{GlobValue, IsRead, default_options}
+use Rattle.glob_text.specs.Errors.{parse_error, glob_or_parse_error}
+use Rattle.glob_text.specs.GlobMatches.{GlobValue, IsRead, default_options}
 use Rattle.glob_syntax.specs.Reading.{reading}
 use Rattle.glob_syntax.specs.Token.{Tokens}
 use Rattle.glob_text.specs.inner.Equality.{same_options}
@@ -36,15 +36,15 @@ object_of_others g same = ap (λ b. if b then string g.text else object (with_op
 -- ---- a text
 
 -- a text that has a reading is a glob
-of_read : (g : GlobValue) (r : Result Tokens Fault) → IsOk r → of_text (elim r [ Ok ts ↦ Ok g | Err f ↦ Err (refusal g.text f) ]) ≡ Ok g
+of_read : (g : GlobValue) (r : Result Tokens ParseErrorKind) → IsOk r → of_text (elim r [ Ok ts ↦ Ok g | Err f ↦ Err (parse_error g.text f) ]) ≡ Ok g
 of_read g (Ok ts) is = refl
 of_read g (Err f) is = absurd (true≢false (sym is))
 
-of_glob : (g : GlobValue) → IsRead g → of_text (glob_or_refusal g) ≡ Ok g
+of_glob : (g : GlobValue) → IsRead g → of_text (glob_or_parse_error g) ≡ Ok g
 of_glob g read = of_read g (reading g.options (chars g.text)) read
 
 text_read_back : (g : GlobValue) → IsRead g → g.options ≡ default_options → glob_of_value (string g.text) ≡ Ok g
-text_read_back g read default = ap (λ (o : Options). of_text (glob_or_refusal (record { text = g.text; options = o }))) (sym default) ∙ of_glob g read
+text_read_back g read default = ap (λ (o : Options). of_text (glob_or_parse_error (record { text = g.text; options = o }))) (sym default) ∙ of_glob g read
 
 -- ---- an object
 

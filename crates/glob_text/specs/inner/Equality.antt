@@ -14,7 +14,7 @@ use Rattle.glob_text.specs.declared.error.kind.ErrorKind.{ErrorKind}
 use Rattle.glob_text.specs.declared.error.kind.ErrorKind.TheVariants as kinds
 use Rattle.glob_text.specs.declared.json.error.ValueErrorKind.{ValueErrorKind}
 use Rattle.glob_text.specs.declared.json.error.ValueErrorKind.TheVariants as causes
-use Rattle.glob_text.specs.Means.{GlobValue}
+use Rattle.glob_text.specs.GlobMatches.{GlobValue}
 use Rattle.glob_text.specs.Errors.{ErrorValue}
 use Rattle.glob_text.specs.Values.{ValueErrorValue}
 

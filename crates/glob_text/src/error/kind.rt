@@ -7,7 +7,7 @@ ghost use Rattle.glob_text.specs.Equality.{SameKind};
 ghost use Rattle.glob_text.specs.inner.Equality.{same_kind, same_kind_laws};
 
 use crate::error::Error;
-use glob_syntax::Fault;
+use glob_syntax::ParseErrorKind;
 use std::alloc::AllocError;
 use std::fmt;
 
@@ -52,15 +52,15 @@ impl ErrorKind {
     ghost use Rattle.glob_text.specs.Errors.{kind_of};
 
     /// Returns the kind of the error of a text with this fault.
-    pub(crate) fn of(fault: Fault) -> ErrorKind
-        ensures { result ≡ kind_of fault }
+    pub(crate) fn of(parse_error_kind: ParseErrorKind) -> ErrorKind
+        ensures { result ≡ kind_of parse_error_kind }
     {
-        match fault {
-            Fault::UnclosedClass => ErrorKind::UnclosedClass,
-            Fault::InvalidRange(start, end) => ErrorKind::InvalidRange(start, end),
-            Fault::UnopenedAlternates => ErrorKind::UnopenedAlternates,
-            Fault::UnclosedAlternates => ErrorKind::UnclosedAlternates,
-            Fault::DanglingEscape => ErrorKind::DanglingEscape,
+        match parse_error_kind {
+            ParseErrorKind::UnclosedClass => ErrorKind::UnclosedClass,
+            ParseErrorKind::InvalidRange(start, end) => ErrorKind::InvalidRange(start, end),
+            ParseErrorKind::UnopenedAlternates => ErrorKind::UnopenedAlternates,
+            ParseErrorKind::UnclosedAlternates => ErrorKind::UnclosedAlternates,
+            ParseErrorKind::DanglingEscape => ErrorKind::DanglingEscape,
         }
     }
 

@@ -1,11 +1,11 @@
 //! Globs with options as JSON objects.
 
-ghost use Rattle.std.specs.Prelude.{◌≡◌, false, true, option_map, Err, IfOk, MatchOption, MatchResult, OnOk};
+ghost use Rattle.std.specs.Prelude.{◌≡◌, false, true, map, option_map, Err, IfOk, MatchOption, MatchResult, OnOk};
 ghost use Rattle.serde_json.specs.Find.{get_member};
 ghost use Rattle.serde_json.specs.View.{members_view, view};
-ghost use Rattle.glob_text.specs.Errors.{glob_or_refusal};
+ghost use Rattle.glob_text.specs.Errors.{glob_or_parse_error};
 ghost use Rattle.glob_text.specs.Values.{glob_of_object, has_non_boolean, has_unknown_key, of_kind, of_text};
-ghost use Rattle.glob_text.specs.Values.{is_known_key, is_non_boolean, keyed_options, option_in, options_in};
+ghost use Rattle.glob_text.specs.Values.{is_known_key, is_non_boolean, keyed_options, option_in, option_keys, options_in};
 ghost use Rattle.glob_text.specs.Values.{value_of_glob, with_option, with_options};
 
 use super::error::ValueErrorKind;
@@ -18,7 +18,7 @@ pub fn members_text_and_options(
     members: &Map<String, Value>,
 ) -> Result<(&str, Options), ValueErrorKind>
     ensures { MatchResult result
-        (λ (text, options). glob_of_object (members_view members.now.entries) ≡ of_text (glob_or_refusal (record { text = text.now; options = options })))
+        (λ (text, options). glob_of_object (members_view members.now.entries) ≡ of_text (glob_or_parse_error (record { text = text.now; options = options })))
         (λ kind. glob_of_object (members_view members.now.entries) ≡ Err (of_kind kind)) }
 {
     let Some(Value::String(text)) = member(members, "glob") else {
@@ -123,49 +123,13 @@ fn put_options(
 ) -> Result<(), AllocError>
     ensures { OnOk result (members_view members.new.entries ≡ with_options (keyed_options options) (members_view members.old.entries)) }
 {
-    let default = Options::DEFAULT;
-    put_option(
-        members,
-        alloc,
-        "case_insensitive",
-        options.case_insensitive,
-        default.case_insensitive,
-    )?;
-    put_option(
-        members,
-        alloc,
-        "literal_separator",
-        options.literal_separator,
-        default.literal_separator,
-    )?;
-    put_option(
-        members,
-        alloc,
-        "backslash_escape",
-        options.backslash_escape,
-        default.backslash_escape,
-    )?;
-    put_option(
-        members,
-        alloc,
-        "empty_alternates",
-        options.empty_alternates,
-        default.empty_alternates,
-    )?;
-    put_option(
-        members,
-        alloc,
-        "allow_unclosed_class",
-        options.allow_unclosed_class,
-        default.allow_unclosed_class,
-    )?;
-    put_option(
-        members,
-        alloc,
-        "whole_character",
-        options.whole_character,
-        default.whole_character,
-    )
+    let options = keyed(options);
+    let defaults = keyed(Options::DEFAULT);
+    for i in 0..options.len() {
+        let (key, value) = options[i];
+        put_option(members, alloc, key, value, defaults[i].1)?;
+    }
+    Ok(())
 }
 
 /// Adds an option, unless it has its default.
@@ -183,4 +147,19 @@ fn put_option(
         return Ok(());
     }
     put(members, alloc, key, Value::Bool(value))
+}
+
+/// Returns the options, each with its key.
+fn keyed(options: Options) -> [(&'static str, bool); 6]
+    ensures keys { map (λ row. row.0.now) result ≡ option_keys }
+    ensures values { map (λ row. row.1) result ≡ map (λ option. option.value) (keyed_options options) }
+{
+    [
+        ("case_insensitive", options.case_insensitive),
+        ("literal_separator", options.literal_separator),
+        ("backslash_escape", options.backslash_escape),
+        ("empty_alternates", options.empty_alternates),
+        ("allow_unclosed_class", options.allow_unclosed_class),
+        ("whole_character", options.whole_character),
+    ]
 }

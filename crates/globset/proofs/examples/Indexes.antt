@@ -1,6 +1,6 @@
 -- Examples of the indexes that a set returns for a path. Each row computes.
 use Rattle.std.specs.Prelude.{◌≡◌, [], ◌∷◌, true, false, Some, refl}
-use Rattle.globset.specs.Work.{most_set_visits}
+use Rattle.globset.specs.Work.{max_set_visits}
 use Rattle.globset.proofs.examples.Words.{globs_on_literals, utf8, glob, insensitive, separated, globs, indexes, all_listed}
 
 extension_and_recursive : indexes (globs ("*.rs" ∷ "src/lib.rs" ∷ "src/**/foo.rs" ∷ [])) "src/bar/baz/foo.rs" ≡ Some (0 ∷ 2 ∷ [])
@@ -45,35 +45,35 @@ empty_set_has_all : all_listed [] "a" ≡ Some true
 unfolding globs_on_literals
 empty_set_has_all = refl
 
--- ---- silent globs
+-- ---- excluded globs
 
-silent : indexes (globs ("**/.." ∷ [])) "parent/.." ≡ Some ([])
+excluded : indexes (globs ("**/.." ∷ [])) "parent/.." ≡ Some ([])
 unfolding globs_on_literals
-silent = refl
+excluded = refl
 
-silent_is_not_all : all_listed (globs ("**/.." ∷ [])) "parent/.." ≡ Some false
+excluded_is_not_all : all_listed (globs ("**/.." ∷ [])) "parent/.." ≡ Some false
 unfolding globs_on_literals
-silent_is_not_all = refl
+excluded_is_not_all = refl
 
-silent_after_two_prefixes : indexes (globs ("**/**/.." ∷ [])) "parent/.." ≡ Some ([])
+excluded_after_two_prefixes : indexes (globs ("**/**/.." ∷ [])) "parent/.." ≡ Some ([])
 unfolding globs_on_literals
-silent_after_two_prefixes = refl
+excluded_after_two_prefixes = refl
 
-silent_with_an_escape : indexes (globs ("**/\\.." ∷ [])) "parent/.." ≡ Some ([])
+excluded_with_an_escape : indexes (globs ("**/\\.." ∷ [])) "parent/.." ≡ Some ([])
 unfolding globs_on_literals
-silent_with_an_escape = refl
+excluded_with_an_escape = refl
 
-insensitive_is_not_silent : indexes (insensitive "**/.." ∷ []) "parent/.." ≡ Some (0 ∷ [])
+insensitive_is_not_excluded : indexes (insensitive "**/.." ∷ []) "parent/.." ≡ Some (0 ∷ [])
 unfolding globs_on_literals
-insensitive_is_not_silent = refl
+insensitive_is_not_excluded = refl
 
-classes_are_not_silent : indexes (globs ("**/[.][.]" ∷ [])) "parent/.." ≡ Some (0 ∷ [])
+classes_are_not_excluded : indexes (globs ("**/[.][.]" ∷ [])) "parent/.." ≡ Some (0 ∷ [])
 unfolding globs_on_literals
-classes_are_not_silent = refl
+classes_are_not_excluded = refl
 
-letter_is_not_silent : indexes (globs ("**/a/.." ∷ [])) "x/a/.." ≡ Some (0 ∷ [])
+letter_is_not_excluded : indexes (globs ("**/a/.." ∷ [])) "x/a/.." ≡ Some (0 ∷ [])
 unfolding globs_on_literals
-letter_is_not_silent = refl
+letter_is_not_excluded = refl
 
 -- ---- last components that are `..`
 
@@ -163,34 +163,34 @@ equal_globs_on_another_path = refl
 
 -- ---- visits
 
-nine_stars_on_nine_letters : most_set_visits (globs ("a*a*a*a*a*a*a*a*a" ∷ [])) (utf8 "aaaaaaaaa") ≡ 744
+nine_stars_on_nine_letters : max_set_visits (globs ("a*a*a*a*a*a*a*a*a" ∷ [])) (utf8 "aaaaaaaaa") ≡ 744
 unfolding globs_on_literals
 nine_stars_on_nine_letters = refl
 
-literal_globs : most_set_visits (globs ("abcdefgh" ∷ "ijklmnop" ∷ "qrstuvwx" ∷ [])) (utf8 "abcdefgx") ≡ 22
+literal_globs : max_set_visits (globs ("abcdefgh" ∷ "ijklmnop" ∷ "qrstuvwx" ∷ [])) (utf8 "abcdefgx") ≡ 22
 unfolding globs_on_literals
 literal_globs = refl
 
-direct_globs : most_set_visits (globs ("*.rs" ∷ "a*" ∷ "**/x/y" ∷ [])) (utf8 "b/x/y") ≡ 16
+direct_globs : max_set_visits (globs ("*.rs" ∷ "a*" ∷ "**/x/y" ∷ [])) (utf8 "b/x/y") ≡ 16
 unfolding globs_on_literals
 direct_globs = refl
 
-direct_globs_and_another : most_set_visits (globs ("*.rs" ∷ "a*" ∷ "**/x/y" ∷ "a?c" ∷ [])) (utf8 "b/x/y") ≡ 112
+direct_globs_and_another : max_set_visits (globs ("*.rs" ∷ "a*" ∷ "**/x/y" ∷ "a?c" ∷ [])) (utf8 "b/x/y") ≡ 112
 unfolding globs_on_literals
 direct_globs_and_another = refl
 
-absent_ending : most_set_visits (globs ("a/*.rs" ∷ [])) (utf8 "a/b.c") ≡ 16
+absent_ending : max_set_visits (globs ("a/*.rs" ∷ [])) (utf8 "a/b.c") ≡ 16
 unfolding globs_on_literals
 absent_ending = refl
 
-ending : most_set_visits (globs ("a/*.rs" ∷ [])) (utf8 "a/b.rs") ≡ 214
+ending : max_set_visits (globs ("a/*.rs" ∷ [])) (utf8 "a/b.rs") ≡ 214
 unfolding globs_on_literals
 ending = refl
 
-globs_for_every_path : most_set_visits (globs ("**" ∷ "*" ∷ "**/*" ∷ [])) (utf8 "") ≡ 6
+globs_for_every_path : max_set_visits (globs ("**" ∷ "*" ∷ "**/*" ∷ [])) (utf8 "") ≡ 6
 unfolding globs_on_literals
 globs_for_every_path = refl
 
-insensitive_glob : most_set_visits (insensitive "a" ∷ []) (utf8 "a") ≡ 24
+insensitive_glob : max_set_visits (insensitive "a" ∷ []) (utf8 "a") ≡ 24
 unfolding globs_on_literals
 insensitive_glob = refl

@@ -1,9 +1,9 @@
 -- Examples of sets from JSON values. Each row computes.
 use Rattle.std.specs.Prelude.{◌≡◌, [], ◌∷◌, true, Ok, Err, codes, refl}
 use Rattle.serde_json.specs.Data.{boolean, number, unsigned, string, array, object, no_items, item, no_members, member}
-use Rattle.glob_syntax.specs.declared.fault.Fault.TheVariants.{UnclosedClass}
+use Rattle.glob_syntax.specs.declared.parse_error_kind.ParseErrorKind.TheVariants.{UnclosedClass}
 use Rattle.glob_text.specs.declared.json.error.ValueErrorKind.TheVariants.{Glob}
-use Rattle.globset_glob.specs.Errors.{refusal}
+use Rattle.globset_glob.specs.Errors.{parse_error}
 use Rattle.globset_glob.specs.Values.{of_kind, not_text, unknown_key, not_array, at_index}
 use Rattle.globset.specs.SetFromValue.{globs_of_value}
 use Rattle.globset.proofs.examples.Words.{globs_on_literals, glob, insensitive, globs}
@@ -27,7 +27,7 @@ number_at_index_one : globs_of_value (array (item (string (codes "*.rs")) (item 
 unfolding globs_on_literals
 number_at_index_one = refl
 
-fault_at_index_one : globs_of_value (array (item (string (codes "a")) (item (string (codes "[")) no_items))) ≡ Err (at_index 1 (of_kind (Glob (refusal (codes "[") UnclosedClass))))
+fault_at_index_one : globs_of_value (array (item (string (codes "a")) (item (string (codes "[")) no_items))) ≡ Err (at_index 1 (of_kind (Glob (parse_error (codes "[") UnclosedClass))))
 unfolding globs_on_literals
 fault_at_index_one = refl
 

@@ -5,18 +5,18 @@ use Rattle.std.specs.List.{list_all}
 use Rattle.std.specs.Str.{chars}
 use Prim.Native.String.{String}
 use Rattle.globset_glob.specs.Ranges.{ranges, bad_range}
-use Rattle.globset_glob.specs.Marks.{marks, mark_at}
+use Rattle.globset_glob.specs.Lexemes.{lexemes, lexeme_at}
 use Rattle.globset_glob.specs.Nesting.{nested}
 use Rattle.globset_glob.specs.Stars.{piece}
 use Rattle.globset_glob.specs.Reading.{reading, whole, levels}
-use Rattle.globset_glob.specs.Means.{GlobValue, default_options, default_glob, tokens_of_glob, glob_means}
-use Rattle.globset.specs.Answer.{answer}
-use Rattle.glob_groups.specs.Direct.{is_direct, needs_automaton}
-use Rattle.globset.specs.Silent.{silent}
+use Rattle.globset_glob.specs.GlobMatches.{GlobValue, default_options, default_glob, tokens_of_glob, glob_matches}
+use Rattle.globset.specs.Answer.{matching_indexes}
+use Rattle.glob_strategy.specs.Direct.{is_direct, needs_automaton}
+use Rattle.globset.specs.Excluded.{excluded}
 
--- What a proof unfolds to compute `silent` and `answer` of globs that are written out.
+-- What a proof unfolds to compute `excluded` and `matching_indexes` of globs that are written out.
 unfoldable pub globs_on_literals : Unit {0}
-unfolding chars encode_utf8 ranges bad_range marks mark_at nested piece reading whole levels tokens_of_glob glob_means silent answer is_direct needs_automaton
+unfolding chars encode_utf8 ranges bad_range lexemes lexeme_at nested piece reading whole levels tokens_of_glob glob_matches excluded matching_indexes is_direct needs_automaton
 globs_on_literals = tt
 
 -- ---- globs
@@ -50,8 +50,8 @@ is_read g = is_ok (reading g.options (chars g.text))
 
 -- the indexes that the set of these globs returns for the path, or `None` if one of the texts is not a glob
 abbrev pub indexes : List GlobValue → String → Option (List ℕ)
-indexes gs path = if list_all is_read gs then Some (answer gs (utf8 path)) else None
+indexes gs path = if list_all is_read gs then Some (matching_indexes gs (utf8 path)) else None
 
 -- whether the set's indexes for the path are all indexes below the number of globs, or `None` if a text is not a glob
 abbrev pub all_listed : List GlobValue → String → Option Bool
-all_listed gs path = if list_all is_read gs then Some (length (answer gs (utf8 path)) == length gs) else None
+all_listed gs path = if list_all is_read gs then Some (length (matching_indexes gs (utf8 path)) == length gs) else None

@@ -7,29 +7,29 @@ use Rattle.std.proofs.lemmas.List.Sums.{sum_by-append}
 use Rattle.std.proofs.Math.Nat.{mul-le-mul_left}
 use Rattle.glob_syntax.specs.StatesPerByte.{states_per_byte}
 use Rattle.glob_syntax.specs.inner.Weight.{weight}
-use Rattle.glob_groups.specs.Direct.{is_direct, needs_automaton}
+use Rattle.glob_strategy.specs.Direct.{is_direct, needs_automaton}
 use Rattle.glob_path.specs.Below.{path_below}
 use Rattle.std.proofs.lemmas.List.Elements.{All-append, All-cons, All-nil}
-use Rattle.globset_glob.specs.Means.{GlobValue, IsRead, tokens_of_glob, glob_means}
+use Rattle.globset_glob.specs.GlobMatches.{GlobValue, IsRead, tokens_of_glob, glob_matches}
 use Rattle.globset_glob.specs.Cost.{cost}
-use Rattle.group_matching.specs.Globs.{TokenGlob, reads, listed, most_visits}
-use Rattle.group_matching.specs.Below as below
-use Rattle.group_matching.specs.Globs as tokens
-use Rattle.group_matching.specs.Indexes.{passes_at}
-use Rattle.globset.specs.Silent.{silent, is_listed}
-use Rattle.globset.specs.Answer.{answer}
+use Rattle.set_matcher.specs.Globs.{TokenGlob, reads, reported_indexes, max_visits}
+use Rattle.set_matcher.specs.Below as below
+use Rattle.set_matcher.specs.Globs as tokens
+use Rattle.set_matcher.specs.Indexes.{passes_at}
+use Rattle.globset.specs.Excluded.{excluded, is_reported}
+use Rattle.globset.specs.Answer.{matching_indexes}
 use Rattle.globset.specs.Below.{MatchesBelow}
-use Rattle.globset.specs.Work.{load, load_below, most_set_visits, most_set_visits_below}
-use Rattle.group_matching.specs.declared.matching_sets.MatchingSets.{MatchingSets}
-use Rattle.group_matching.specs.inner.Groups.{AreGroupsOf, GroupParts, group_count, group_states}
-use Rattle.group_matching.specs.inner.Room.{HasRoom}
+use Rattle.globset.specs.Work.{load, load_below, max_set_visits, max_set_visits_below}
+use Rattle.set_matcher.specs.declared.matching_sets.MatchingSets.{MatchingSets}
+use Rattle.set_matcher.specs.SetMatcherValue.{SetMatcherValue, matcher_globs}
+use Rattle.set_matcher.specs.inner.Capacity.{HasCapacity}
 use Rattle.globset.specs.SetValue.{SetValue, set_globs, set_states}
-use Rattle.globset.specs.inner.StoredGlobs.{AddedParts, AreAdded, AreStored, by_tokens, set_value}
+use Rattle.globset.specs.inner.StoredGlobs.{AreAdded, AreStored, by_tokens, set_value}
 
 -- ---- globs by their tokens
 
-same_listed : (g : GlobValue) (path : List ℕ) → tokens.is_listed (by_tokens g) path ≡ is_listed g path
-unfolding silent glob_means
+same_listed : (g : GlobValue) (path : List ℕ) → tokens.is_reported (by_tokens g) path ≡ is_reported g path
+unfolding excluded glob_matches
 same_listed g path = refl
 
 passes_of : {X Y : Type 0} (f : X → Y) (p : Y → Bool) (q : X → Bool) → ((x : X) → p (f x) ≡ q x) → (xs : List X) (i : ℕ) → passes_at p (map f xs) i ≡ passes_at q xs i
@@ -38,19 +38,19 @@ passes_of f p q same (x ∷ xs) zero = same x
 passes_of f p q same (x ∷ xs) (suc i) = passes_of f p q same xs i
 
 -- the indexes that are found by tokens are those of the answer
-pub listed_answer : (globs : List GlobValue) (path : List ℕ) → listed (map by_tokens globs) path ≡ answer globs path
-unfolding answer
+pub listed_answer : (globs : List GlobValue) (path : List ℕ) → reported_indexes (map by_tokens globs) path ≡ matching_indexes globs path
+unfolding matching_indexes
 listed_answer globs path =
-    let at = passes_of by_tokens (λ g. tokens.is_listed g path) (λ g. is_listed g path) (λ g. same_listed g path) globs in
+    let at = passes_of by_tokens (λ g. tokens.is_reported g path) (λ g. is_reported g path) (λ g. same_listed g path) globs in
     (λ i. filter (λ k. at k i) (range_with_len 0 (length-map globs by_tokens i)))
 
 -- ---- no globs
 
-pub answer_of_none : (globs : List GlobValue) (path : List ℕ) → globs ≡ [] → [] ≡ answer globs path
-unfolding answer
+pub answer_of_none : (globs : List GlobValue) (path : List ℕ) → globs ≡ [] → [] ≡ matching_indexes globs path
+unfolding matching_indexes
 answer_of_none globs path e = rw e refl
 
-pub none_of_none : (globs : List GlobValue) (path : List ℕ) → globs ≡ [] → IsTrue false ↔ (answer globs path ≢ [])
+pub none_of_none : (globs : List GlobValue) (path : List ℕ) → globs ≡ [] → IsTrue false ↔ (matching_indexes globs path ≢ [])
 none_of_none globs path e = (λ y. absurd (cc), λ n. absurd (n (sym (answer_of_none globs path e))))
 
 -- ---- one glob more
@@ -87,23 +87,32 @@ size_below_push globs g few before =
     let more = of_direct (is_direct g.options (tokens_of_glob g)) (weight g.options (tokens_of_glob g) + 4) (cost g) (omega (arith, few)) in
     omega (arith, one, two, more, before)
 
--- the groups of the globs, and one glob more
-pub added_push : (before after : AddedParts) (g : GlobValue) → AreAdded before → IsRead g → after.given ≡ before.given ++ g ∷ [] → AreGroupsOf (map by_tokens before.given ++ by_tokens g ∷ []) after.parts
-    → weight g.options (tokens_of_glob g) ≤ states_per_byte g.options * length g.text → AreAdded after
-added_push before after g are read is groups few = record {
-  read = rw is (All-append IsRead before.given (g ∷ []) are.read (All-cons IsRead g [] read (All-nil IsRead)));
-  groups = rw is (rw (map_push before.given g) groups);
-  size = λ path. rw is (size_push before.given g path few (are.size path));
-  size_below = rw is (size_below_push before.given g few are.size_below);
+-- the matcher of the globs, and one glob more
+pub added_push : (before after : List GlobValue) (old new : SetMatcherValue) (g : GlobValue) → AreAdded before old → IsRead g → after ≡ before ++ g ∷ [] → matcher_globs new ≡ matcher_globs old ++ by_tokens g ∷ []
+    → weight g.options (tokens_of_glob g) ≤ states_per_byte g.options * length g.text → AreAdded after new
+added_push before after old new g are read is matcher few = record {
+  read = rw is (All-append IsRead before (g ∷ []) are.read (All-cons IsRead g [] read (All-nil IsRead)));
+  matcher = matcher ∙ ap (λ gs. gs ++ by_tokens g ∷ []) are.matcher ∙ sym (map_push before g) ∙ ap (map by_tokens) (sym is);
+  size = λ path. rw is (size_push before g path few (are.size path));
+  size_below = rw is (size_below_push before g few are.size_below);
 }
 
--- the visits of groups, within those of the set
-pub visits_within : (globs : List GlobValue) (path : List ℕ) → tokens.load (map by_tokens globs) path ≤ load globs path → most_visits (map by_tokens globs) path ≤ most_set_visits globs path
-visits_within globs path size = let most = mul-le-mul_left (length path + 1) size in omega (arith, most)
+-- no globs
+pub none_added : (globs : List GlobValue) (matcher : SetMatcherValue) → globs ≡ [] → matcher_globs matcher ≡ [] → AreAdded globs matcher
+none_added globs matcher none empty = record {
+  read = rw none (All-nil IsRead);
+  matcher = rw none empty;
+  size = λ path. rw none (omega arith);
+  size_below = rw none (omega arith);
+}
+
+-- the visits of a matcher, within those of the set
+pub visits_within : (globs : List GlobValue) (path : List ℕ) → tokens.load (map by_tokens globs) path ≤ load globs path → max_visits (map by_tokens globs) path ≤ max_set_visits globs path
+visits_within globs path size = let maximum = mul-le-mul_left (length path + 1) size in omega (arith, maximum)
 
 -- ---- below a folder
 
-pub below_answer : (globs : List GlobValue) (folder : List ℕ) (found : Bool) → IsTrue found ↔ below.SomeListedBelow (map by_tokens globs) folder → IsTrue found ↔ MatchesBelow globs folder
+pub below_answer : (globs : List GlobValue) (folder : List ℕ) (found : Bool) → IsTrue found ↔ below.SomeReportedBelow (map by_tokens globs) folder → IsTrue found ↔ MatchesBelow globs folder
 below_answer globs folder found h = (
   λ yes. let (rest, bytes, some) = h.0 yes in (rest, bytes, λ none. some (listed_answer globs (path_below folder rest) ∙ none)),
   λ (rest, bytes, some). h.1 (rest, bytes, λ none. some (sym (listed_answer globs (path_below folder rest)) ∙ none)),
@@ -112,30 +121,39 @@ below_answer globs folder found h = (
 pub none_below : (globs : List GlobValue) (folder : List ℕ) → globs ≡ [] → IsTrue false ↔ MatchesBelow globs folder
 none_below globs folder e = (λ y. absurd (cc), λ (rest, bytes, some). absurd (some (sym (answer_of_none globs (path_below folder rest) e))))
 
--- the visits of groups, within those of the set
-pub visits_stored_below : (globs : List GlobValue) (g : GroupParts) (set : SetValue) (folder : List ℕ) (old new : ℕ) → AreStored globs g → globs ≡ set_globs set
-    → new ≤ old + below.most_visits_below (map by_tokens globs) folder → new ≤ old + most_set_visits_below (set_globs set) folder
+-- the visits of a matcher, within those of the set
+pub visits_stored_below : (globs : List GlobValue) (g : SetMatcherValue) (set : SetValue) (folder : List ℕ) (old new : ℕ) → AreStored globs g → globs ≡ set_globs set
+    → new ≤ old + below.max_visits_below (matcher_globs g) folder → new ≤ old + max_set_visits_below (set_globs set) folder
 visits_stored_below globs g set folder old new are is few =
-    let most = mul-le-mul_left (length folder + 2) are.size_below in let same = ap (λ (gs : List GlobValue). most_set_visits_below gs folder) is in omega (arith, most, few, same)
+    let maximum = mul-le-mul_left (length folder + 2) are.added.size_below in
+    let stored = ap (λ gs. below.max_visits_below gs folder) are.added.matcher in
+    let same = ap (λ (gs : List GlobValue). max_set_visits_below gs folder) is in omega (arith, maximum, few, stored, same)
 
 -- each glob is direct
-pub no_load_below : (globs : List GlobValue) (g : GroupParts) (set : SetValue) → AreStored globs g → globs ≡ set_globs set → load_below (set_globs set) ≡ 0 → below.load_below (map by_tokens globs) ≡ 0
-no_load_below globs g set are is none = let same = ap (λ (gs : List GlobValue). load_below gs) is in omega (arith, are.size_below, same, none)
+pub no_load_below : (globs : List GlobValue) (g : SetMatcherValue) (set : SetValue) → AreStored globs g → globs ≡ set_globs set → load_below (set_globs set) ≡ 0 → below.load_below (matcher_globs g) ≡ 0
+no_load_below globs g set are is none =
+    let stored = ap below.load_below are.added.matcher in let same = ap (λ (gs : List GlobValue). load_below gs) is in omega (arith, are.added.size_below, stored, same, none)
 
 -- ---- what is stored
 
--- the visits of groups, within those of the set
-pub visits_stored : (globs : List GlobValue) (g : GroupParts) (set : SetValue) (path : List ℕ) (old new : ℕ) → AreStored globs g → globs ≡ set_globs set → new ≤ old + most_visits (map by_tokens globs) path
-    → new ≤ old + most_set_visits (set_globs set) path
-visits_stored globs g set path old new are is few = let within = visits_within globs path (are.size path) in let same = ap (λ (gs : List GlobValue). most_set_visits gs path) is in omega (arith, within, few, same)
+-- the visits of a matcher, within those of the set
+pub visits_stored : (globs : List GlobValue) (g : SetMatcherValue) (set : SetValue) (path : List ℕ) (old new : ℕ) → AreStored globs g → globs ≡ set_globs set → new ≤ old + max_visits (matcher_globs g) path
+    → new ≤ old + max_set_visits (set_globs set) path
+visits_stored globs g set path old new are is few =
+    let within = visits_within globs path (are.added.size path) in
+    let stored = ap (λ gs. max_visits gs path) are.added.matcher in
+    let same = ap (λ (gs : List GlobValue). max_set_visits gs path) is in omega (arith, within, few, stored, same)
 
 -- no glob needs an automaton
-pub no_load : (globs : List GlobValue) (g : GroupParts) (set : SetValue) (path : List ℕ) → AreStored globs g → globs ≡ set_globs set → load (set_globs set) path ≡ 0 → tokens.load (map by_tokens globs) path ≡ 0
-no_load globs g set path are is none = let few = are.size path in let same = ap (λ (gs : List GlobValue). load gs path) is in omega (arith, few, same, none)
+pub no_load : (globs : List GlobValue) (g : SetMatcherValue) (set : SetValue) (path : List ℕ) → AreStored globs g → globs ≡ set_globs set → load (set_globs set) path ≡ 0 → tokens.load (matcher_globs g) path ≡ 0
+no_load globs g set path are is none =
+    let few = are.added.size path in
+    let stored = ap (λ gs. tokens.load gs path) are.added.matcher in
+    let same = ap (λ (gs : List GlobValue). load gs path) is in omega (arith, few, stored, same, none)
 
--- room for the set is room for the groups
-pub room_stored : (globs : List GlobValue) (g : GroupParts) (set : SetValue) (sets : MatchingSets) → AreStored globs g → set_value globs (group_states g) ≡ set → HasRoom sets (set_states set) (length (set_globs set)) → HasRoom sets (group_states g) (group_count g)
-room_stored globs g set sets are is room =
+-- room for the set is room for the matcher
+pub capacity_stored : (globs : List GlobValue) (g : SetMatcherValue) (set : SetValue) (sets : MatchingSets) → AreStored globs g → set_value globs g.states ≡ set → HasCapacity sets (set_states set) (length (set_globs set)) → HasCapacity sets g.states g.index_count
+capacity_stored globs g set sets are is room =
     let of_states = ap set_states is in
     let of_globs = ap (λ (s : SetValue). length (set_globs s)) is in record {
       for_states = omega (arith, room.for_states, of_states);

@@ -1,16 +1,16 @@
 -- Room for a set in a scratch that fits it.
-use Rattle.std.proofs.Common.{◌≡◌, ℕ, ◌≤◌, length, ap, arith}
-use Rattle.group_matching.specs.declared.matching_sets.MatchingSets.{MatchingSets}
-use Rattle.group_matching.specs.inner.Room.{HasRoom, KeepsRoom}
+use Rattle.std.proofs.Common.{◌≡◌, ℕ, length, ap, arith}
+use Rattle.set_matcher.specs.declared.matching_sets.MatchingSets.{MatchingSets}
+use Rattle.set_matcher.specs.inner.Capacity.{HasCapacity, KeepsCapacity}
 use Rattle.globset.specs.SetValue.{Fits, ScratchValue, SetValue, set_globs, set_states}
 
 abbrev pub scratch_value : ℕ → ℕ → ScratchValue
 scratch_value states indexes = record { states = states; indexes = indexes }
 
 -- the sets of the scratch have room for what is stored in the set
-pub has_room : (sets : MatchingSets) (states indexes : ℕ) (scratch : ScratchValue) (set stored : SetValue) → HasRoom sets states indexes → scratch_value states indexes ≡ scratch → stored ≡ set → Fits scratch set
-    → HasRoom sets (set_states stored) (length (set_globs stored))
-has_room sets states indexes scratch set stored room is same fits =
+pub has_capacity : (sets : MatchingSets) (states indexes : ℕ) (scratch : ScratchValue) (set stored : SetValue) → HasCapacity sets states indexes → scratch_value states indexes ≡ scratch → stored ≡ set → Fits scratch set
+    → HasCapacity sets (set_states stored) (length (set_globs stored))
+has_capacity sets states indexes scratch set stored room is same fits =
     let of_states = ap (λ (s : ScratchValue). s.states) is in
     let of_indexes = ap (λ (s : ScratchValue). s.indexes) is in
     let few_states = ap set_states same in
@@ -20,8 +20,8 @@ has_room sets states indexes scratch set stored room is same fits =
     }
 
 -- a call leaves them as much room
-pub keeps_room : (old new : MatchingSets) (states indexes : ℕ) → KeepsRoom old new → HasRoom old states indexes → HasRoom new states indexes
-keeps_room old new states indexes kept room = record {
+pub keeps_capacity : (old new : MatchingSets) (states indexes : ℕ) → KeepsCapacity old new → HasCapacity old states indexes → HasCapacity new states indexes
+keeps_capacity old new states indexes kept room = record {
   for_states = omega (arith, kept.states, room.for_states);
   for_indexes = omega (arith, kept.indexes, room.for_indexes);
 }

@@ -7,11 +7,11 @@ use Rattle.serde_json.specs.Data.{Data, null, boolean, number, string, array, ob
 use Rattle.serde_json.specs.Find.{get_member, as_str}
 use Rattle.serde_json.specs.View.{view, items_view}
 use Rattle.serde_json.specs.declared.value.Value.{Value}
-use Rattle.glob_syntax.specs.declared.fault.Fault.{Fault}
-use Rattle.glob_syntax.specs.declared.fault.Fault.TheVariants as faults
+use Rattle.glob_syntax.specs.declared.parse_error_kind.ParseErrorKind.{ParseErrorKind}
+use Rattle.glob_syntax.specs.declared.parse_error_kind.ParseErrorKind.TheVariants as faults
 use Rattle.glob_text.specs.declared.json.error.ValueErrorKind.TheVariants.{Glob}
-use Rattle.globset_glob.specs.Errors.{refusal, glob_or_refusal}
-use Rattle.globset_glob.specs.Means.{GlobValue, default_glob, default_options}
+use Rattle.globset_glob.specs.Errors.{parse_error, glob_or_parse_error}
+use Rattle.globset_glob.specs.GlobMatches.{GlobValue, default_glob, default_options}
 use Rattle.globset_glob.specs.Reading.{reading}
 use Rattle.globset_glob.specs.Token.{Tokens}
 use Rattle.globset_glob.specs.Values.{ValueErrorValue, IsValueErrorOf, of_kind, of_text, of_element, at_index, not_text, unknown_key, not_bool, glob_key, has_unknown_key, has_non_boolean, options_in, glob_of_members, glob_of_value}
@@ -38,20 +38,20 @@ onto-more (h ∷ globs) g r = ap (ahead_of h) (onto-more globs g r)
 
 -- ---- no error of a value is that of memory
 
-known_fault : (i : ℕ) (text : List ℕ) (f : Fault) → of_element i (of_kind (Glob (refusal text f))) ≡ at_index i (of_kind (Glob (refusal text f)))
+known_fault : (i : ℕ) (text : List ℕ) (f : ParseErrorKind) → of_element i (of_kind (Glob (parse_error text f))) ≡ at_index i (of_kind (Glob (parse_error text f)))
 known_fault i text faults.UnclosedClass = refl
 known_fault i text (faults.InvalidRange start end) = refl
 known_fault i text faults.UnopenedAlternates = refl
 known_fault i text faults.UnclosedAlternates = refl
 known_fault i text faults.DanglingEscape = refl
 
-known_text : (i : ℕ) (g : GlobValue) (r : Result Tokens Fault) →
-    IfErr (of_text (elim r [ Ok ts ↦ Ok g | Err f ↦ Err (refusal g.text f) ])) (λ e. of_element i e ≡ at_index i e)
+known_text : (i : ℕ) (g : GlobValue) (r : Result Tokens ParseErrorKind) →
+    IfErr (of_text (elim r [ Ok ts ↦ Ok g | Err f ↦ Err (parse_error g.text f) ])) (λ e. of_element i e ≡ at_index i e)
 known_text i g (Ok ts) = tt
 known_text i g (Err f) = known_fault i g.text f
 
 known_choice : (i : ℕ) (has_unknown has_other : Bool) (g : GlobValue) →
-    IfErr (if has_unknown then Err unknown_key else (if has_other then Err not_bool else of_text (glob_or_refusal g))) (λ e. of_element i e ≡ at_index i e)
+    IfErr (if has_unknown then Err unknown_key else (if has_other then Err not_bool else of_text (glob_or_parse_error g))) (λ e. of_element i e ≡ at_index i e)
 known_choice i true has_other g = refl
 known_choice i false true g = refl
 known_choice i false false g = known_text i g (reading g.options (chars g.text))

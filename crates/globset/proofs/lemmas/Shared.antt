@@ -3,7 +3,7 @@ use denote.Param.Send.{IsSend, IsSync, sendable}
 use Rattle.std.proofs.Crossing.{crosses}
 use Rattle.globset_glob.specs.contracts.glob.Glob as Glob
 use Rattle.globset_glob.specs.contracts.matcher.GlobMatcher as GlobMatcher
-use Rattle.group_matching.proofs.lemmas.Shared.{compiled-send, compiled-sync, groups-send, groups-sync}
+use Rattle.set_matcher.proofs.lemmas.Shared.{compiled-send, compiled-sync, matcher-send, matcher-sync}
 use Rattle.globset.specs.contracts.set.stored.Stored as Stored
 use Rattle.globset.specs.contracts.set.GlobSet as GlobSet
 
@@ -13,17 +13,17 @@ glob-send = search (sendable, crosses) depth 40 fits 20000
 glob-sync : IsSync Glob.the_field.row
 glob-sync = search (sendable, crosses) depth 40 fits 20000
 
-pub matcher-send : IsSend GlobMatcher.the_row
-matcher-send = search (sendable, crosses, glob-send, compiled-send) depth 40 fits 20000
+pub glob_matcher-send : IsSend GlobMatcher.the_row
+glob_matcher-send = search (sendable, crosses, glob-send, compiled-send) depth 40 fits 20000
 
-pub matcher-sync : IsSync GlobMatcher.the_row
-matcher-sync = search (sendable, crosses, glob-sync, compiled-sync) depth 40 fits 20000
+pub glob_matcher-sync : IsSync GlobMatcher.the_row
+glob_matcher-sync = search (sendable, crosses, glob-sync, compiled-sync) depth 40 fits 20000
 
 stored-send : IsSend Stored.the_field.row
-stored-send = search (sendable, crosses, groups-send) depth 20
+stored-send = search (sendable, crosses, matcher-send) depth 20
 
 stored-sync : IsSync Stored.the_field.row
-stored-sync = search (sendable, crosses, groups-sync) depth 20
+stored-sync = search (sendable, crosses, matcher-sync) depth 20
 
 pub set-send : IsSend GlobSet.the_row
 set-send = search (sendable, stored-send) depth 20

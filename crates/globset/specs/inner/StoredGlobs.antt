@@ -1,12 +1,12 @@
 -- The value of a set, by what the set stores. No contract cites this.
 use Rattle.std.specs.Prelude.{◌≡◌, ◌≤◌, ℕ, All, List, [], Option, None, Some, length, map}
-use Rattle.globset_glob.specs.Means.{GlobValue, IsRead, tokens_of_glob}
-use Rattle.group_matching.specs.Below as below
-use Rattle.group_matching.specs.Globs as tokens
-use Rattle.group_matching.specs.Globs.{TokenGlob, token_glob}
+use Rattle.globset_glob.specs.GlobMatches.{GlobValue, IsRead, tokens_of_glob}
+use Rattle.set_matcher.specs.Below as below
+use Rattle.set_matcher.specs.Globs as tokens
+use Rattle.set_matcher.specs.Globs.{TokenGlob, token_glob}
 use Rattle.globset.specs.SetValue.{SetValue}
 use Rattle.globset.specs.Work.{load, load_below}
-use Rattle.group_matching.specs.inner.Groups.{GroupParts, AreGroupsOf, group_count}
+use Rattle.set_matcher.specs.SetMatcherValue.{SetMatcherValue, matcher_globs}
 
 abbrev pub set_value : List GlobValue → ℕ → SetValue
 set_value globs states = record { globs = globs; states = states }
@@ -20,22 +20,19 @@ stored_set (Some set) = set
 abbrev pub by_tokens : GlobValue → TokenGlob
 by_tokens g = token_glob g.options (tokens_of_glob g)
 
--- The globs were read, and the groups are those of the globs, of which no more states are run than their costs allow.
-pub record AreStored (globs : List GlobValue) (g : GroupParts) : Type 0 where
+-- The globs were read, and the matcher is one of the globs, of which no more states are run than their costs allow.
+pub record AreAdded (globs : List GlobValue) (g : SetMatcherValue) : Type 0 where
   pub read : All IsRead globs
-  pub groups : AreGroupsOf (map by_tokens globs) g
-  pub count : group_count g ≡ length globs
+  pub matcher : matcher_globs g ≡ map by_tokens globs
   pub size : (path : List ℕ) → tokens.load (map by_tokens globs) path ≤ load globs path
   pub size_below : below.load_below (map by_tokens globs) ≤ load_below globs
 
--- what a set is made of: the globs that were added so far, and their groups
-pub record AddedParts : Type 0 where
-  pub given : List GlobValue
-  pub parts : GroupParts
+-- The same, and no more globs may be added.
+pub record AreStored (globs : List GlobValue) (g : SetMatcherValue) : Type 0 where
+  pub added : AreAdded globs g
+  pub count : g.index_count ≡ length globs
 
--- The same of what a set is made of. More globs may be added.
-pub record AreAdded (a : AddedParts) : Type 0 where
-  pub read : All IsRead a.given
-  pub groups : AreGroupsOf (map by_tokens a.given) a.parts
-  pub size : (path : List ℕ) → tokens.load (map by_tokens a.given) path ≤ load a.given path
-  pub size_below : below.load_below (map by_tokens a.given) ≤ load_below a.given
+-- what is seen of a set while it is made: the globs that were added so far, and how many there will be
+pub record AddedGlobs : Type 0 where
+  pub given : List GlobValue
+  pub count : ℕ

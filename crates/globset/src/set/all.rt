@@ -2,40 +2,40 @@
 
 ghost use Rattle.std.specs.Prelude.{◌≡◌, ◌+◌, ◌≤◌, ◌↔◌, [], IfOk, IfErr, IsOk, IsTrue, length};
 ghost use Rattle.globset_glob.specs.Errors.{out_of_memory};
-ghost use Rattle.globset.specs.Answer.{answer};
-ghost use Rattle.group_matching.specs.Indexes.{ContainsAllBelow};
+ghost use Rattle.globset.specs.Answer.{matching_indexes};
+ghost use Rattle.set_matcher.specs.Indexes.{ContainsAllBelow};
 ghost use Rattle.globset.specs.SetValue.{set_globs};
-ghost use Rattle.globset.specs.Work.{load, most_set_visits};
+ghost use Rattle.globset.specs.Work.{load, max_set_visits};
 
 use crate::set::GlobSet;
 use globset_glob::{AsPath, Candidate, Error, Visits};
 
 impl GlobSet {
-    /// Returns whether every glob matches the path and none is silent: whether [`GlobSet::matches`] would return every
+    /// Returns whether every glob matches the path and none is excluded: whether [`GlobSet::matches`] would return every
     /// index below [`GlobSet::len`]. It is true if the set has no globs.
     ///
     /// Returns an error if memory runs out, and no other. It needs no memory if no glob needs an automaton for
     /// the path: if each of them is direct, or requires an extension that the path lacks.
     pub fn matches_all<P: AsPath>(&self, path: P) -> Result<bool, Error>
         ensures ok { IfOk result (λ yes. IsTrue yes
-            ↔ ContainsAllBelow (answer (set_globs self.now) (P.text path)) (length (set_globs self.now))) }
+            ↔ ContainsAllBelow (matching_indexes (set_globs self.now) (P.text path)) (length (set_globs self.now))) }
         ensures err { IfErr result (λ e. e ≡ out_of_memory) }
-        ensures empty { set_globs self.now ≡ [] → IsOk result }
-        ensures memory { load (set_globs self.now) (P.text path) ≡ 0 → IsOk result }
+        ensures succeeds_if_empty { set_globs self.now ≡ [] → IsOk result }
+        ensures succeeds_without_automata { load (set_globs self.now) (P.text path) ≡ 0 → IsOk result }
     {
         self.matches_all_candidate(&Candidate::new(path.path_text()))
     }
 
-    /// Returns whether every glob matches the candidate's path and none is silent, as [`GlobSet::matches_all`] does.
+    /// Returns whether every glob matches the candidate's path and none is excluded, as [`GlobSet::matches_all`] does.
     ///
     /// Returns an error if memory runs out, and no other. It needs no memory if no glob needs an automaton for
     /// the path: if each of them is direct, or requires an extension that the path lacks.
     pub fn matches_all_candidate(&self, path: &Candidate<'_>) -> Result<bool, Error>
         ensures ok { IfOk result (λ yes. IsTrue yes
-            ↔ ContainsAllBelow (answer (set_globs self.now) path.now) (length (set_globs self.now))) }
+            ↔ ContainsAllBelow (matching_indexes (set_globs self.now) path.now) (length (set_globs self.now))) }
         ensures err { IfErr result (λ e. e ≡ out_of_memory) }
-        ensures empty { set_globs self.now ≡ [] → IsOk result }
-        ensures memory { load (set_globs self.now) path.now ≡ 0 → IsOk result }
+        ensures succeeds_if_empty { set_globs self.now ≡ [] → IsOk result }
+        ensures succeeds_without_automata { load (set_globs self.now) path.now ≡ 0 → IsOk result }
     {
         let mut visits = Visits::new();
         self.matches_all_visits(path, &mut visits)
@@ -57,12 +57,13 @@ impl GlobSet {
         visits: &mut Visits,
     ) -> Result<bool, Error>
         ensures ok { IfOk result (λ yes. IsTrue yes
-            ↔ ContainsAllBelow (answer (set_globs self.now) path.now) (length (set_globs self.now))) }
+            ↔ ContainsAllBelow (matching_indexes (set_globs self.now) path.now) (length (set_globs self.now))) }
         ensures err { IfErr result (λ e. e ≡ out_of_memory) }
-        ensures empty { set_globs self.now ≡ [] → IsOk result }
-        ensures memory { load (set_globs self.now) path.now ≡ 0 → IsOk result }
-        ensures visits { visits.new ≤ visits.old + most_set_visits (set_globs self.now) path.now }
-        ensures none { set_globs self.now ≡ [] → visits.new ≡ visits.old }
+        ensures succeeds_if_empty { set_globs self.now ≡ [] → IsOk result }
+        ensures succeeds_without_automata { load (set_globs self.now) path.now ≡ 0 → IsOk result }
+        ensures visits { visits.new ≤ visits.old + max_set_visits (set_globs self.now) path.now }
+        ensures counted { visits.old ≤ visits.new }
+        ensures no_visits_if_empty { set_globs self.now ≡ [] → visits.new ≡ visits.old }
     {
         if self.is_empty() {
             return Ok(true);

@@ -2,15 +2,15 @@
 
 ghost use Rattle.std.specs.Prelude.{◌≡◌, ◌≢◌, ◌+◌, ◌≤◌, ◌↔◌, [], IfOk, IfErr, IsOk, IsTrue};
 ghost use Rattle.globset_glob.specs.Errors.{out_of_memory};
-ghost use Rattle.globset.specs.Answer.{answer};
+ghost use Rattle.globset.specs.Answer.{matching_indexes};
 ghost use Rattle.globset.specs.SetValue.{set_globs};
-ghost use Rattle.globset.specs.Work.{load, most_set_visits};
+ghost use Rattle.globset.specs.Work.{load, max_set_visits};
 
 use crate::set::GlobSet;
 use globset_glob::{AsPath, Candidate, Error, Visits};
 
 impl GlobSet {
-    /// Returns whether some glob that is not silent matches the path: whether [`GlobSet::matches`] would return an
+    /// Returns whether some glob that is not excluded matches the path: whether [`GlobSet::matches`] would return an
     /// index.
     ///
     /// To match several sets against one path, or against bytes that are not UTF-8, create a [`Candidate`] and call
@@ -19,23 +19,23 @@ impl GlobSet {
     /// Returns an error if memory runs out, and no other. It needs no memory if no glob needs an automaton for
     /// the path: if each of them is direct, or requires an extension that the path lacks.
     pub fn is_match<P: AsPath>(&self, path: P) -> Result<bool, Error>
-        ensures ok { IfOk result (λ yes. IsTrue yes ↔ (answer (set_globs self.now) (P.text path) ≢ [])) }
+        ensures ok { IfOk result (λ yes. IsTrue yes ↔ (matching_indexes (set_globs self.now) (P.text path) ≢ [])) }
         ensures err { IfErr result (λ e. e ≡ out_of_memory) }
-        ensures empty { set_globs self.now ≡ [] → IsOk result }
-        ensures memory { load (set_globs self.now) (P.text path) ≡ 0 → IsOk result }
+        ensures succeeds_if_empty { set_globs self.now ≡ [] → IsOk result }
+        ensures succeeds_without_automata { load (set_globs self.now) (P.text path) ≡ 0 → IsOk result }
     {
         self.is_match_candidate(&Candidate::new(path.path_text()))
     }
 
-    /// Returns whether some glob that is not silent matches the candidate's path, as [`GlobSet::is_match`] does.
+    /// Returns whether some glob that is not excluded matches the candidate's path, as [`GlobSet::is_match`] does.
     ///
     /// Returns an error if memory runs out, and no other. It needs no memory if no glob needs an automaton for
     /// the path: if each of them is direct, or requires an extension that the path lacks.
     pub fn is_match_candidate(&self, path: &Candidate<'_>) -> Result<bool, Error>
-        ensures ok { IfOk result (λ yes. IsTrue yes ↔ (answer (set_globs self.now) path.now ≢ [])) }
+        ensures ok { IfOk result (λ yes. IsTrue yes ↔ (matching_indexes (set_globs self.now) path.now ≢ [])) }
         ensures err { IfErr result (λ e. e ≡ out_of_memory) }
-        ensures empty { set_globs self.now ≡ [] → IsOk result }
-        ensures memory { load (set_globs self.now) path.now ≡ 0 → IsOk result }
+        ensures succeeds_if_empty { set_globs self.now ≡ [] → IsOk result }
+        ensures succeeds_without_automata { load (set_globs self.now) path.now ≡ 0 → IsOk result }
     {
         let mut visits = Visits::new();
         self.is_match_visits(path, &mut visits)
@@ -51,12 +51,13 @@ impl GlobSet {
     /// Returns an error if memory runs out, and no other. It needs no memory if no glob needs an automaton for the path: if
     /// each of them is direct, or requires an extension that the path lacks.
     pub fn is_match_visits(&self, path: &Candidate<'_>, visits: &mut Visits) -> Result<bool, Error>
-        ensures ok { IfOk result (λ yes. IsTrue yes ↔ (answer (set_globs self.now) path.now ≢ [])) }
+        ensures ok { IfOk result (λ yes. IsTrue yes ↔ (matching_indexes (set_globs self.now) path.now ≢ [])) }
         ensures err { IfErr result (λ e. e ≡ out_of_memory) }
-        ensures empty { set_globs self.now ≡ [] → IsOk result }
-        ensures memory { load (set_globs self.now) path.now ≡ 0 → IsOk result }
-        ensures visits { visits.new ≤ visits.old + most_set_visits (set_globs self.now) path.now }
-        ensures none { set_globs self.now ≡ [] → visits.new ≡ visits.old }
+        ensures succeeds_if_empty { set_globs self.now ≡ [] → IsOk result }
+        ensures succeeds_without_automata { load (set_globs self.now) path.now ≡ 0 → IsOk result }
+        ensures visits { visits.new ≤ visits.old + max_set_visits (set_globs self.now) path.now }
+        ensures counted { visits.old ≤ visits.new }
+        ensures no_visits_if_empty { set_globs self.now ≡ [] → visits.new ≡ visits.old }
     {
         if self.is_empty() {
             return Ok(false);

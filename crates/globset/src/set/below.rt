@@ -4,13 +4,13 @@ ghost use Rattle.std.specs.Prelude.{◌≡◌, ◌+◌, ◌≤◌, ◌↔◌, []
 ghost use Rattle.globset_glob.specs.Errors.{out_of_memory};
 ghost use Rattle.globset.specs.Below.{MatchesBelow};
 ghost use Rattle.globset.specs.SetValue.{Fits, set_globs};
-ghost use Rattle.globset.specs.Work.{load_below, most_set_visits_below};
+ghost use Rattle.globset.specs.Work.{load_below, max_set_visits_below};
 
 use crate::set::{GlobSet, Scratch};
 use globset_glob::{AsPath, Candidate, Error, Visits};
 
 impl GlobSet {
-    /// Returns whether some glob that is not silent matches some path below a folder. A program that walks over a tree of folders
+    /// Returns whether some glob that is not excluded matches some path below a folder. A program that walks over a tree of folders
     /// need not open a folder for which this returns false, nor one below it.
     ///
     /// A path below a folder is the folder, a `/`, and any bytes, perhaps none. So `a/**` and `a/` match a path below `a`, and `a`
@@ -33,21 +33,21 @@ impl GlobSet {
     pub fn can_match_below<P: AsPath>(&self, folder: P) -> Result<bool, Error>
         ensures ok { IfOk result (λ yes. IsTrue yes ↔ MatchesBelow (set_globs self.now) (P.text folder)) }
         ensures err { IfErr result (λ e. e ≡ out_of_memory) }
-        ensures empty { set_globs self.now ≡ [] → IsOk result }
-        ensures memory { load_below (set_globs self.now) ≡ 0 → IsOk result }
+        ensures succeeds_if_empty { set_globs self.now ≡ [] → IsOk result }
+        ensures succeeds_without_automata { load_below (set_globs self.now) ≡ 0 → IsOk result }
     {
         self.can_match_below_candidate(&Candidate::new(folder.path_text()))
     }
 
-    /// Returns whether some glob that is not silent matches some path below the candidate's path, as
+    /// Returns whether some glob that is not excluded matches some path below the candidate's path, as
     /// [`GlobSet::can_match_below`] does.
     ///
     /// Returns an error if memory runs out, and no other. It needs no memory if each glob is direct.
     pub fn can_match_below_candidate(&self, folder: &Candidate<'_>) -> Result<bool, Error>
         ensures ok { IfOk result (λ yes. IsTrue yes ↔ MatchesBelow (set_globs self.now) folder.now) }
         ensures err { IfErr result (λ e. e ≡ out_of_memory) }
-        ensures empty { set_globs self.now ≡ [] → IsOk result }
-        ensures memory { load_below (set_globs self.now) ≡ 0 → IsOk result }
+        ensures succeeds_if_empty { set_globs self.now ≡ [] → IsOk result }
+        ensures succeeds_without_automata { load_below (set_globs self.now) ≡ 0 → IsOk result }
     {
         let mut visits = Visits::new();
         self.can_match_below_visits(folder, &mut visits)
@@ -67,10 +67,11 @@ impl GlobSet {
     ) -> Result<bool, Error>
         ensures ok { IfOk result (λ yes. IsTrue yes ↔ MatchesBelow (set_globs self.now) folder.now) }
         ensures err { IfErr result (λ e. e ≡ out_of_memory) }
-        ensures empty { set_globs self.now ≡ [] → IsOk result }
-        ensures memory { load_below (set_globs self.now) ≡ 0 → IsOk result }
-        ensures visits { visits.new ≤ visits.old + most_set_visits_below (set_globs self.now) folder.now }
-        ensures none { set_globs self.now ≡ [] → visits.new ≡ visits.old }
+        ensures succeeds_if_empty { set_globs self.now ≡ [] → IsOk result }
+        ensures succeeds_without_automata { load_below (set_globs self.now) ≡ 0 → IsOk result }
+        ensures visits { visits.new ≤ visits.old + max_set_visits_below (set_globs self.now) folder.now }
+        ensures counted { visits.old ≤ visits.new }
+        ensures no_visits_if_empty { set_globs self.now ≡ [] → visits.new ≡ visits.old }
     {
         if self.is_empty() {
             return Ok(false);
@@ -106,8 +107,9 @@ impl GlobSet {
         requires { Fits scratch.old self.now }
         ensures some { IsTrue result ↔ MatchesBelow (set_globs self.now) folder.now }
         ensures kept { scratch.new ≡ scratch.old }
-        ensures visits { visits.new ≤ visits.old + most_set_visits_below (set_globs self.now) folder.now }
-        ensures none { set_globs self.now ≡ [] → visits.new ≡ visits.old }
+        ensures visits { visits.new ≤ visits.old + max_set_visits_below (set_globs self.now) folder.now }
+        ensures counted { visits.old ≤ visits.new }
+        ensures no_visits_if_empty { set_globs self.now ≡ [] → visits.new ≡ visits.old }
     {
         if self.is_empty() {
             return false;

@@ -1,15 +1,11 @@
 //! Sets as they are made, glob by glob.
 
-ghost use Rattle.std.specs.Prelude.{◌≡◌, ◌<◌, ◌++◌, ◌∷◌, [], List, IfOk, OnOk, length};
-ghost use Rattle.globset_glob.specs.Means.{GlobValue};
+ghost use Rattle.std.specs.Prelude.{◌≡◌, ◌<◌, ◌++◌, ◌∷◌, [], IfOk, OnOk, OnErr, length};
 ghost use Rattle.globset.specs.SetValue.{set_globs};
-ghost use Rattle.globset.specs.inner.StoredGlobs.{AreAdded};
-ghost use Rattle.group_matching.specs.inner.Groups.{group_count};
 
-use crate::set::given::GivenGlobs;
 use crate::set::stored::Stored;
-use globset_glob::{Glob, options_of, tokens_of};
-use group_matching::GroupsBuilder;
+use globset_glob::{GivenGlobs, Glob, options_of, tokens_of};
+use set_matcher::SetMatcherBuilder;
 use std::alloc::{AllocError, Global};
 use std::marker::Model;
 
@@ -17,7 +13,7 @@ use std::marker::Model;
 pub struct StoredBuilder {
     alloc: Global,
     globs: GivenGlobs,
-    groups: GroupsBuilder,
+    matcher: SetMatcherBuilder,
 }
 
 impl Drop for StoredBuilder {
@@ -26,47 +22,50 @@ impl Drop for StoredBuilder {
         let StoredBuilder {
             alloc: _,
             globs: _,
-            groups: _,
+            matcher: _,
         } = self;
     }
 }
 
 impl Model for StoredBuilder {
-    ghost use Rattle.globset.specs.inner.StoredGlobs.{AddedParts};
+    ghost use Rattle.globset.specs.inner.StoredGlobs.{AddedGlobs, AreAdded};
 
-    ghost Value = { AddedParts };
+    ghost Value = { AddedGlobs };
 
     ghost view = { λ b. record {
       given = b.globs;
-      parts = b.groups;
+      count = b.matcher.index_count;
     } };
+
+    ghost invariant = { λ b. AreAdded b.globs b.matcher };
 }
 
 impl StoredBuilder {
     /// Returns a builder that no globs were added to. So many of them have to be. It allocates nothing.
     pub fn new(alloc: Global, count: usize) -> StoredBuilder
         ensures none { result.given ≡ [] }
-        ensures added { AreAdded result }
-        ensures count { group_count result.parts ≡ count }
+        ensures count { result.count ≡ count }
     {
         StoredBuilder {
             alloc,
             globs: GivenGlobs::new(),
-            groups: GroupsBuilder::new(alloc, count),
+            matcher: SetMatcherBuilder::new(alloc, count),
         }
     }
 
-    /// Adds a glob after those that were added, and its index, which is the number of globs before it. It takes time and memory
-    /// linear in the glob's tokens. Returns an error if memory runs out.
-    pub fn add(&mut self, glob: &Glob, index: usize) -> Result<(), AllocError>
-        requires index { index ≡ length self.old.given }
-        requires count { index < group_count self.old.parts }
+    /// Adds a glob after those that were added. It takes time and memory linear in the glob's tokens. Returns an error if memory
+    /// runs out; the builder then has no globs.
+    pub fn add(&mut self, glob: &Glob) -> Result<(), AllocError>
+        requires { length self.old.given < self.old.count }
         ensures glob { OnOk result (self.new.given ≡ self.old.given ++ glob.now ∷ []) }
-        ensures added { OnOk result (AreAdded self.old → AreAdded self.new) }
-        ensures count { OnOk result (group_count self.new.parts ≡ group_count self.old.parts) }
+        ensures none { OnErr result (self.new.given ≡ []) }
+        ensures count { self.new.count ≡ self.old.count }
     {
         let (options, tokens) = (options_of(glob), tokens_of(glob));
-        self.groups.add(self.alloc, options, tokens, index)?;
+        if let Err(error) = self.matcher.add(self.alloc, options, tokens) {
+            self.globs = GivenGlobs::new();
+            return Err(error);
+        }
         self.globs = self.globs.copy().and(glob);
         Ok(())
     }
@@ -74,16 +73,15 @@ impl StoredBuilder {
     /// Returns what a set of the globs that were added stores. The tables of deterministic automata take at most `dfa_size_limit`
     /// bytes. Returns an error if memory runs out.
     pub fn finish(self, dfa_size_limit: usize) -> Result<Stored, AllocError>
-        requires added { AreAdded self }
-        requires count { group_count self.parts ≡ length self.given }
+        requires { length self.given ≡ self.count }
         ensures { IfOk result (λ s. set_globs s ≡ self.given) }
     {
         let StoredBuilder {
             alloc,
             globs,
-            groups,
+            matcher,
         } = self;
-        let groups = groups.finish(alloc, dfa_size_limit)?;
-        Ok(Stored::of_groups(alloc, globs, groups))
+        let matcher = matcher.finish(alloc, dfa_size_limit)?;
+        Ok(Stored::of_matcher(alloc, globs, matcher))
     }
 }

@@ -2,27 +2,27 @@
 
 ghost use Rattle.std.specs.Prelude.{◌≡◌, ◌+◌, ◌≤◌, [], IfOk, IfErr, IsOk, OnOk, OnErr};
 ghost use Rattle.globset_glob.specs.Errors.{out_of_memory};
-ghost use Rattle.globset.specs.Answer.{answer};
+ghost use Rattle.globset.specs.Answer.{matching_indexes};
 ghost use Rattle.globset.specs.SetValue.{set_globs};
-ghost use Rattle.globset.specs.Work.{most_set_visits};
+ghost use Rattle.globset.specs.Work.{max_set_visits};
 
 use crate::set::GlobSet;
 use globset_glob::{AsPath, Candidate, Error, Visits};
 use std::alloc::Global;
 
 impl GlobSet {
-    /// Returns the indexes, ascending, of the globs that match the path. Silent globs are left out.
+    /// Returns the indexes, ascending, of the globs that match the path. Excluded globs are left out.
     ///
     /// Returns an error if memory runs out, and no other. It needs no memory if the set has no globs.
     pub fn matches<P: AsPath>(&self, alloc: Global, path: P) -> Result<Vec<usize>, Error>
-        ensures ok { IfOk result (λ v. v.items ≡ answer (set_globs self.now) (P.text path)) }
+        ensures ok { IfOk result (λ v. v.items ≡ matching_indexes (set_globs self.now) (P.text path)) }
         ensures err { IfErr result (λ e. e ≡ out_of_memory) }
-        ensures empty { set_globs self.now ≡ [] → IsOk result }
+        ensures succeeds_if_empty { set_globs self.now ≡ [] → IsOk result }
     {
         self.matches_candidate(alloc, &Candidate::new(path.path_text()))
     }
 
-    /// Returns the indexes, ascending, of the globs that match the candidate's path. Silent globs are left out.
+    /// Returns the indexes, ascending, of the globs that match the candidate's path. Excluded globs are left out.
     ///
     /// Returns an error if memory runs out, and no other. It needs no memory if the set has no globs.
     pub fn matches_candidate(
@@ -30,9 +30,9 @@ impl GlobSet {
         alloc: Global,
         path: &Candidate<'_>,
     ) -> Result<Vec<usize>, Error>
-        ensures ok { IfOk result (λ v. v.items ≡ answer (set_globs self.now) path.now) }
+        ensures ok { IfOk result (λ v. v.items ≡ matching_indexes (set_globs self.now) path.now) }
         ensures err { IfErr result (λ e. e ≡ out_of_memory) }
-        ensures empty { set_globs self.now ≡ [] → IsOk result }
+        ensures succeeds_if_empty { set_globs self.now ≡ [] → IsOk result }
     {
         let mut indexes = Vec::new(alloc);
         self.matches_candidate_into(path, &mut indexes)?;
@@ -54,9 +54,9 @@ impl GlobSet {
     ///
     /// Returns an error if memory runs out, and no other; the vector is then empty. It needs no memory if the set has no globs.
     pub fn matches_into<P: AsPath>(&self, path: P, into: &mut Vec<usize>) -> Result<(), Error>
-        ensures ok { OnOk result (into.new.items ≡ answer (set_globs self.now) (P.text path)) }
+        ensures ok { OnOk result (into.new.items ≡ matching_indexes (set_globs self.now) (P.text path)) }
         ensures err { IfErr result (λ e. e ≡ out_of_memory) }
-        ensures empty { set_globs self.now ≡ [] → IsOk result }
+        ensures succeeds_if_empty { set_globs self.now ≡ [] → IsOk result }
         ensures cleared { OnErr result (into.new.items ≡ []) }
     {
         self.matches_candidate_into(&Candidate::new(path.path_text()), into)
@@ -71,9 +71,9 @@ impl GlobSet {
         path: &Candidate<'_>,
         into: &mut Vec<usize>,
     ) -> Result<(), Error>
-        ensures ok { OnOk result (into.new.items ≡ answer (set_globs self.now) path.now) }
+        ensures ok { OnOk result (into.new.items ≡ matching_indexes (set_globs self.now) path.now) }
         ensures err { IfErr result (λ e. e ≡ out_of_memory) }
-        ensures empty { set_globs self.now ≡ [] → IsOk result }
+        ensures succeeds_if_empty { set_globs self.now ≡ [] → IsOk result }
         ensures cleared { OnErr result (into.new.items ≡ []) }
     {
         let mut visits = Visits::new();
@@ -95,12 +95,13 @@ impl GlobSet {
         into: &mut Vec<usize>,
         visits: &mut Visits,
     ) -> Result<(), Error>
-        ensures ok { OnOk result (into.new.items ≡ answer (set_globs self.now) path.now) }
+        ensures ok { OnOk result (into.new.items ≡ matching_indexes (set_globs self.now) path.now) }
         ensures err { IfErr result (λ e. e ≡ out_of_memory) }
-        ensures empty { set_globs self.now ≡ [] → IsOk result }
+        ensures succeeds_if_empty { set_globs self.now ≡ [] → IsOk result }
         ensures cleared { OnErr result (into.new.items ≡ []) }
-        ensures visits { visits.new ≤ visits.old + most_set_visits (set_globs self.now) path.now }
-        ensures none { set_globs self.now ≡ [] → visits.new ≡ visits.old }
+        ensures visits { visits.new ≤ visits.old + max_set_visits (set_globs self.now) path.now }
+        ensures counted { visits.old ≤ visits.new }
+        ensures no_visits_if_empty { set_globs self.now ≡ [] → visits.new ≡ visits.old }
     {
         into.clear();
         if self.is_empty() {

@@ -7,8 +7,8 @@ ghost use Rattle.globset.specs.SetValue.{Fits, FitsAsBefore, FitsMatcher, raised
 
 use crate::set::GlobSet;
 use glob_matching::Compiled;
-use globset_glob::{Error, GlobMatcher, MatcherScratch, Visits, most_states_of};
-use group_matching::MatchingSets;
+use globset_glob::{Error, GlobMatcher, MatcherScratch, Visits, max_states_of};
+use set_matcher::MatchingSets;
 use std::alloc::{AllocError, Global};
 use std::marker::Model;
 
@@ -59,7 +59,7 @@ impl Drop for Scratch {
 
 impl Model for Scratch {
     ghost use Rattle.globset.specs.SetValue.{ScratchValue};
-    ghost use Rattle.group_matching.specs.inner.Room.{HasRoom};
+    ghost use Rattle.set_matcher.specs.inner.Capacity.{HasCapacity};
 
     ghost Value = { ScratchValue };
 
@@ -68,7 +68,7 @@ impl Model for Scratch {
       indexes = s.indexes;
     } };
 
-    ghost invariant = { λ s. HasRoom s.sets s.states s.indexes };
+    ghost invariant = { λ s. HasCapacity s.sets s.states s.indexes };
 }
 
 impl Scratch {
@@ -82,7 +82,7 @@ impl Scratch {
         ensures fits { IfOk result (λ scratch. Fits scratch set.now) }
         ensures err { IfErr result (λ e. e ≡ out_of_memory) }
     {
-        Ok(Scratch::with_room(alloc, set.most_states(), set.len())?)
+        Ok(Scratch::with_capacity_for(alloc, set.max_states(), set.len())?)
     }
 
     /// Returns a scratch that fits the matcher. It takes a byte of memory for each byte of the glob's text and one more, or
@@ -95,8 +95,8 @@ impl Scratch {
         ensures fits { IfOk result (λ scratch. FitsMatcher scratch matcher.now) }
         ensures err { IfErr result (λ e. e ≡ out_of_memory) }
     {
-        let states = most_states_of(matcher).ok_or(AllocError)?;
-        Ok(Scratch::with_room(alloc, states, 0)?)
+        let states = max_states_of(matcher).ok_or(AllocError)?;
+        Ok(Scratch::with_capacity_for(alloc, states, 0)?)
     }
 
     /// Makes the scratch fit one more set. It takes memory for what the scratch has too little of: two bits for each state of
@@ -122,10 +122,10 @@ impl Scratch {
         ensures fits { OnOk result (Fits self.new set.now) }
         ensures kept { OnErr result (self.new ≡ self.old) }
         ensures others { FitsAsBefore self.old self.new }
-        ensures memory { Fits self.old set.now → IsOk result }
+        ensures succeeds_if_fits { Fits self.old set.now → IsOk result }
         ensures err { IfErr result (λ e. e ≡ out_of_memory) }
     {
-        Ok(self.raise(set.most_states(), set.len())?)
+        Ok(self.raise(set.max_states(), set.len())?)
     }
 
     /// Makes the scratch fit one more matcher. It takes memory for what the scratch has too little of: at most a byte for each
@@ -152,13 +152,13 @@ impl Scratch {
         ensures fits { OnOk result (FitsMatcher self.new matcher.now) }
         ensures kept { OnErr result (self.new ≡ self.old) }
         ensures others { FitsAsBefore self.old self.new }
-        ensures memory { FitsMatcher self.old matcher.now → IsOk result }
+        ensures succeeds_if_fits { FitsMatcher self.old matcher.now → IsOk result }
         ensures err { IfErr result (λ e. e ≡ out_of_memory) }
     {
         if self.fits_matcher(matcher) {
             return Ok(());
         }
-        let states = most_states_of(matcher).ok_or(AllocError)?;
+        let states = max_states_of(matcher).ok_or(AllocError)?;
         Ok(self.raise(states, 0)?)
     }
 
@@ -179,7 +179,7 @@ impl Scratch {
     pub fn fits(&self, set: &GlobSet) -> bool
         ensures { IsTrue result ↔ Fits self.now set.now }
     {
-        set.most_states() <= self.states && set.len() <= self.indexes
+        set.max_states() <= self.states && set.len() <= self.indexes
     }
 
     /// Returns whether the scratch fits the matcher: whether its number of states is not below the most that the matcher's
@@ -188,18 +188,22 @@ impl Scratch {
         ensures { IsTrue result ↔ FitsMatcher self.now matcher.now }
     {
         let room = self.states;
-        match most_states_of(matcher) {
+        match max_states_of(matcher) {
             Some(states) => states <= room,
             None => false,
         }
     }
 
     /// Returns a scratch with room for automata of so many states and for so many indexes. Returns an error if memory runs out.
-    fn with_room(alloc: Global, states: usize, indexes: usize) -> Result<Scratch, AllocError>
+    fn with_capacity_for(
+        alloc: Global,
+        states: usize,
+        indexes: usize,
+    ) -> Result<Scratch, AllocError>
         ensures states { IfOk result (λ scratch. scratch.states ≡ states) }
         ensures indexes { IfOk result (λ scratch. scratch.indexes ≡ indexes) }
     {
-        let sets = MatchingSets::with_room(alloc, states, indexes)?;
+        let sets = MatchingSets::with_capacity_for(alloc, states, indexes)?;
         Ok(Scratch {
             states,
             indexes,
@@ -213,7 +217,7 @@ impl Scratch {
         ensures raised { OnOk result (self.new ≡ raised self.old states indexes) }
         ensures kept { OnErr result (self.new ≡ self.old) }
         ensures others { FitsAsBefore self.old self.new }
-        ensures memory { states ≤ self.old.states → indexes ≤ self.old.indexes → IsOk result }
+        ensures succeeds_if_enough { states ≤ self.old.states → indexes ≤ self.old.indexes → IsOk result }
     {
         let states = self.states.max(states);
         let indexes = self.indexes.max(indexes);

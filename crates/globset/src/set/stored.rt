@@ -2,29 +2,28 @@
 
 ghost use Rattle.std.specs.Prelude.{◌≡◌, ◌≢◌, ◌↔◌, [], ℕ, ◌+◌, ◌≤◌, All, IfOk, IfErr, IsOk, OnOk, OnErr, IsTrue, length, map, vec_capacity};
 ghost use Rattle.globset_glob.specs.Errors.{out_of_memory};
-ghost use Rattle.globset_glob.specs.Means.{IsRead};
-ghost use Rattle.globset.specs.Answer.{answer};
+ghost use Rattle.globset_glob.specs.GlobMatches.{IsRead};
+ghost use Rattle.globset.specs.Answer.{matching_indexes};
 ghost use Rattle.globset.specs.SetValue.{set_globs, set_states};
 ghost use Rattle.globset.specs.Below.{MatchesBelow};
-ghost use Rattle.globset.specs.Work.{load, load_below, most_set_visits, most_set_visits_below};
+ghost use Rattle.globset.specs.Work.{load, load_below, max_set_visits, max_set_visits_below};
 ghost use Rattle.globset.specs.inner.StoredGlobs.{AreStored};
-ghost use Rattle.group_matching.specs.Indexes.{ContainsAllBelow};
-ghost use Rattle.group_matching.specs.inner.Room.{HasRoom, KeepsRoom};
+ghost use Rattle.set_matcher.specs.Indexes.{ContainsAllBelow};
+ghost use Rattle.set_matcher.specs.inner.Capacity.{HasCapacity, KeepsCapacity};
 
 use crate::set::building::StoredBuilder;
-use crate::set::given::GivenGlobs;
-use globset_glob::{Candidate, DEFAULT_DFA_SIZE_LIMIT, Error, Glob, Visits};
-use group_matching::{Groups, MatchingSets};
+use globset_glob::{Candidate, DEFAULT_DFA_SIZE_LIMIT, Error, GivenGlobs, Glob, Visits};
+use set_matcher::{MatchingSets, SetMatcher};
 use std::alloc::Global;
 use std::fmt;
 use std::marker::Model;
 
-/// What a set needs to match: groups that decide which of its globs match a path. The index of a glob is its position. Of the
+/// What a set needs to match: a matcher that decides which of its globs match a path. The index of a glob is its position. Of the
 /// globs themselves nothing is kept but what contracts see, which takes no memory.
 pub struct Stored {
     alloc: Global,
     globs: GivenGlobs,
-    groups: Groups,
+    matcher: SetMatcher,
 }
 
 impl Drop for Stored {
@@ -33,7 +32,7 @@ impl Drop for Stored {
         let Stored {
             alloc: _,
             globs: _,
-            groups: _,
+            matcher: _,
         } = self;
     }
 }
@@ -41,52 +40,51 @@ impl Drop for Stored {
 impl Model for Stored {
     ghost use Rattle.globset.specs.SetValue.{SetValue};
     ghost use Rattle.globset.specs.inner.StoredGlobs.{AreStored};
-    ghost use Rattle.group_matching.specs.inner.Groups.{group_states};
 
     ghost Value = { SetValue };
 
     ghost view = { λ s. record {
       globs = s.globs;
-      states = group_states s.groups;
+      states = s.matcher.states;
     } };
 
-    ghost invariant = { λ s. AreStored s.globs s.groups };
+    ghost invariant = { λ s. AreStored s.globs s.matcher };
 }
 
 impl Stored {
-    /// Returns what a set stores, whose globs are in these groups.
-    pub fn of_groups(alloc: Global, globs: GivenGlobs, groups: Groups) -> Stored
-        requires { AreStored globs groups }
+    /// Returns what a set stores, whose globs are in this matcher.
+    pub fn of_matcher(alloc: Global, globs: GivenGlobs, matcher: SetMatcher) -> Stored
+        requires { AreStored globs matcher }
         ensures { set_globs result ≡ globs }
     {
         Stored {
             alloc,
             globs,
-            groups,
+            matcher,
         }
     }
 
-    /// Puts each of these globs into its group. They are not copied. The tables of deterministic automata take at most
+    /// Adds each of these globs to the matcher. They are not copied. The tables of deterministic automata take at most
     /// `dfa_size_limit` bytes. Returns an error if memory runs out, and no other.
     pub fn of_slice(alloc: Global, dfa_size_limit: usize, globs: &[Glob]) -> Result<Stored, Error>
         ensures ok { IfOk result (λ s. set_globs s ≡ globs.now) }
         ensures err { IfErr result (λ e. e ≡ out_of_memory) }
     {
         let mut builder = StoredBuilder::new(alloc, globs.len());
-        for (index, glob) in globs.iter().enumerate() {
-            builder.add(glob, index)?;
+        for glob in globs {
+            builder.add(glob)?;
         }
         Ok(builder.finish(dfa_size_limit)?)
     }
 
-    /// Puts each of these globs into its group, as [`Stored::of_slice`] does, with the default limit.
+    /// Adds each of these globs to the matcher, as [`Stored::of_slice`] does, with the default limit.
     pub fn of_references(alloc: Global, references: &[&Glob]) -> Result<Stored, Error>
         ensures ok { IfOk result (λ s. set_globs s ≡ map (λ g. g.now) references.now) }
         ensures err { IfErr result (λ e. e ≡ out_of_memory) }
     {
         let mut builder = StoredBuilder::new(alloc, references.len());
-        for (index, glob) in references.iter().enumerate() {
-            builder.add(glob, index)?;
+        for glob in references {
+            builder.add(glob)?;
         }
         Ok(builder.finish(DEFAULT_DFA_SIZE_LIMIT)?)
     }
@@ -96,19 +94,19 @@ impl Stored {
         ensures count { result ≡ length (set_globs self.now) }
         ensures read { All IsRead (set_globs self.now) }
     {
-        self.groups.len()
+        self.matcher.len()
     }
 
     /// Returns the number of states of the largest automaton.
-    pub fn most_states(&self) -> usize
+    pub fn max_states(&self) -> usize
         ensures { result ≡ set_states self.now }
     {
-        self.groups.most_states()
+        self.matcher.max_states()
     }
 
     /// Returns how many bytes the tables of deterministic automata take. It takes time linear in the number of these.
     pub fn table_bytes(&self) -> usize {
-        self.groups.table_bytes()
+        self.matcher.table_bytes()
     }
 
     /// Returns sets without room, to match with. It allocates nothing.
@@ -116,7 +114,7 @@ impl Stored {
         MatchingSets::new(self.alloc)
     }
 
-    /// Replaces the vector's items by the indexes, ascending, of the globs that are not silent and match the path.
+    /// Replaces the vector's items by the indexes, ascending, of the globs that are not excluded and match the path.
     ///
     /// Returns an error if memory runs out, and no other. The vector is then empty.
     pub fn find(
@@ -126,19 +124,20 @@ impl Stored {
         into: &mut Vec<usize>,
         visits: &mut Visits,
     ) -> Result<(), Error>
-        ensures ok { OnOk result (into.new.items ≡ answer (set_globs self.now) path.now) }
+        ensures ok { OnOk result (into.new.items ≡ matching_indexes (set_globs self.now) path.now) }
         ensures err { IfErr result (λ e. e ≡ out_of_memory) }
         ensures cleared { OnErr result (into.new.items ≡ []) }
-        ensures kept { KeepsRoom sets.old sets.new }
-        ensures room { HasRoom sets.old (set_states self.now) (length (set_globs self.now)) → length (set_globs self.now) ≤ vec_capacity into.old → IsOk result }
+        ensures kept { KeepsCapacity sets.old sets.new }
+        ensures room { HasCapacity sets.old (set_states self.now) (length (set_globs self.now)) → length (set_globs self.now) ≤ vec_capacity into.old → IsOk result }
         ensures capacity { vec_capacity into.old ≤ vec_capacity into.new }
-        ensures visits { visits.new ≤ visits.old + most_set_visits (set_globs self.now) path.now }
+        ensures visits { visits.new ≤ visits.old + max_set_visits (set_globs self.now) path.now }
+        ensures counted { visits.old ≤ visits.new }
     {
-        self.groups.find(path, sets, into, visits)?;
+        self.matcher.find(path, sets, into, visits)?;
         Ok(())
     }
 
-    /// Returns whether some glob that is not silent matches the path.
+    /// Returns whether some glob that is not excluded matches the path.
     ///
     /// Returns an error if memory runs out, and no other.
     pub fn is_match(
@@ -147,17 +146,18 @@ impl Stored {
         sets: &mut MatchingSets,
         visits: &mut Visits,
     ) -> Result<bool, Error>
-        ensures ok { IfOk result (λ yes. IsTrue yes ↔ (answer (set_globs self.now) path.now ≢ [])) }
+        ensures ok { IfOk result (λ yes. IsTrue yes ↔ (matching_indexes (set_globs self.now) path.now ≢ [])) }
         ensures err { IfErr result (λ e. e ≡ out_of_memory) }
-        ensures kept { KeepsRoom sets.old sets.new }
-        ensures room { HasRoom sets.old (set_states self.now) (length (set_globs self.now)) → IsOk result }
-        ensures memory { load (set_globs self.now) path.now ≡ 0 → IsOk result }
-        ensures visits { visits.new ≤ visits.old + most_set_visits (set_globs self.now) path.now }
+        ensures kept { KeepsCapacity sets.old sets.new }
+        ensures room { HasCapacity sets.old (set_states self.now) (length (set_globs self.now)) → IsOk result }
+        ensures succeeds_without_automata { load (set_globs self.now) path.now ≡ 0 → IsOk result }
+        ensures visits { visits.new ≤ visits.old + max_set_visits (set_globs self.now) path.now }
+        ensures counted { visits.old ≤ visits.new }
     {
-        Ok(self.groups.is_match(path, sets, visits)?)
+        Ok(self.matcher.is_match(path, sets, visits)?)
     }
 
-    /// Returns whether some glob that is not silent matches some path below a folder.
+    /// Returns whether some glob that is not excluded matches some path below a folder.
     ///
     /// Returns an error if memory runs out, and no other.
     pub fn can_match_below(
@@ -168,15 +168,16 @@ impl Stored {
     ) -> Result<bool, Error>
         ensures ok { IfOk result (λ yes. IsTrue yes ↔ MatchesBelow (set_globs self.now) folder.now) }
         ensures err { IfErr result (λ e. e ≡ out_of_memory) }
-        ensures kept { KeepsRoom sets.old sets.new }
-        ensures room { HasRoom sets.old (set_states self.now) (length (set_globs self.now)) → IsOk result }
-        ensures memory { load_below (set_globs self.now) ≡ 0 → IsOk result }
-        ensures visits { visits.new ≤ visits.old + most_set_visits_below (set_globs self.now) folder.now }
+        ensures kept { KeepsCapacity sets.old sets.new }
+        ensures room { HasCapacity sets.old (set_states self.now) (length (set_globs self.now)) → IsOk result }
+        ensures succeeds_without_automata { load_below (set_globs self.now) ≡ 0 → IsOk result }
+        ensures visits { visits.new ≤ visits.old + max_set_visits_below (set_globs self.now) folder.now }
+        ensures counted { visits.old ≤ visits.new }
     {
-        Ok(self.groups.can_match_below(folder.path(), sets, visits)?)
+        Ok(self.matcher.can_match_below(folder.path(), sets, visits)?)
     }
 
-    /// Returns whether every glob matches the path and none is silent.
+    /// Returns whether every glob matches the path and none is excluded.
     ///
     /// Returns an error if memory runs out, and no other.
     pub fn matches_all(
@@ -185,14 +186,15 @@ impl Stored {
         sets: &mut MatchingSets,
         visits: &mut Visits,
     ) -> Result<bool, Error>
-        ensures ok { IfOk result (λ yes. IsTrue yes ↔ ContainsAllBelow (answer (set_globs self.now) path.now) (length (set_globs self.now))) }
+        ensures ok { IfOk result (λ yes. IsTrue yes ↔ ContainsAllBelow (matching_indexes (set_globs self.now) path.now) (length (set_globs self.now))) }
         ensures err { IfErr result (λ e. e ≡ out_of_memory) }
-        ensures kept { KeepsRoom sets.old sets.new }
-        ensures room { HasRoom sets.old (set_states self.now) (length (set_globs self.now)) → IsOk result }
-        ensures memory { load (set_globs self.now) path.now ≡ 0 → IsOk result }
-        ensures visits { visits.new ≤ visits.old + most_set_visits (set_globs self.now) path.now }
+        ensures kept { KeepsCapacity sets.old sets.new }
+        ensures room { HasCapacity sets.old (set_states self.now) (length (set_globs self.now)) → IsOk result }
+        ensures succeeds_without_automata { load (set_globs self.now) path.now ≡ 0 → IsOk result }
+        ensures visits { visits.new ≤ visits.old + max_set_visits (set_globs self.now) path.now }
+        ensures counted { visits.old ≤ visits.new }
     {
-        Ok(self.groups.matches_all(path, sets, visits)?)
+        Ok(self.matcher.matches_all(path, sets, visits)?)
     }
 
     /// Returns an equal value, with memory of its own. Returns an error if memory runs out, and no other.
@@ -200,11 +202,11 @@ impl Stored {
         ensures ok { IfOk result (λ s. s ≡ self.now) }
         ensures err { IfErr result (λ e. e ≡ out_of_memory) }
     {
-        let groups = self.groups.clone()?;
+        let matcher = self.matcher.clone()?;
         Ok(Stored {
             alloc: self.alloc,
             globs: self.globs.copy(),
-            groups,
+            matcher,
         })
     }
 }
@@ -214,7 +216,7 @@ impl fmt::Debug for Stored {
     fn fmt<W: fmt::Write>(&self, f: &mut fmt::Formatter<W>) -> fmt::Result {
         f.debug_struct("GlobSet")
             .field("len", &self.len())
-            .field("most_states", &self.most_states())
+            .field("max_states", &self.max_states())
             .field("table_bytes", &self.table_bytes())
             .finish()
     }

@@ -53,7 +53,7 @@ fn read_globs(alloc: Global, values: &[Value]) -> Result<Stored, ValueError>
     let mut builder = StoredBuilder::new(alloc, values.len());
     for (index, value) in values.iter().enumerate() {
         match Glob::from_value(alloc, value) {
-            Ok(glob) => builder.add(&glob, index)?,
+            Ok(glob) => builder.add(&glob)?,
             Err(error) => return Err(error_of_element(index, error)),
         }
     }

@@ -2,10 +2,10 @@
 
 ghost use Rattle.std.specs.Prelude.{◌≡◌, ◌≢◌, ◌+◌, ◌≤◌, ◌↔◌, [], IfErr, IsOk, OnOk, OnErr, IsTrue, length, vec_capacity};
 ghost use Rattle.globset_glob.specs.Errors.{out_of_memory};
-ghost use Rattle.globset.specs.Answer.{answer};
-ghost use Rattle.group_matching.specs.Indexes.{ContainsAllBelow};
+ghost use Rattle.globset.specs.Answer.{matching_indexes};
+ghost use Rattle.set_matcher.specs.Indexes.{ContainsAllBelow};
 ghost use Rattle.globset.specs.SetValue.{Fits, set_globs};
-ghost use Rattle.globset.specs.Work.{most_set_visits};
+ghost use Rattle.globset.specs.Work.{max_set_visits};
 
 use crate::set::{GlobSet, Scratch};
 use globset_glob::{Candidate, Error, Visits};
@@ -22,10 +22,11 @@ impl GlobSet {
         visits: &mut Visits,
     ) -> bool
         requires { Fits scratch.old self.now }
-        ensures some { IsTrue result ↔ (answer (set_globs self.now) path.now ≢ []) }
+        ensures some { IsTrue result ↔ (matching_indexes (set_globs self.now) path.now ≢ []) }
         ensures kept { scratch.new ≡ scratch.old }
-        ensures visits { visits.new ≤ visits.old + most_set_visits (set_globs self.now) path.now }
-        ensures none { set_globs self.now ≡ [] → visits.new ≡ visits.old }
+        ensures visits { visits.new ≤ visits.old + max_set_visits (set_globs self.now) path.now }
+        ensures counted { visits.old ≤ visits.new }
+        ensures no_visits_if_empty { set_globs self.now ≡ [] → visits.new ≡ visits.old }
     {
         if self.is_empty() {
             return false;
@@ -48,10 +49,11 @@ impl GlobSet {
     ) -> bool
         requires { Fits scratch.old self.now }
         ensures all { IsTrue result
-            ↔ ContainsAllBelow (answer (set_globs self.now) path.now) (length (set_globs self.now)) }
+            ↔ ContainsAllBelow (matching_indexes (set_globs self.now) path.now) (length (set_globs self.now)) }
         ensures kept { scratch.new ≡ scratch.old }
-        ensures visits { visits.new ≤ visits.old + most_set_visits (set_globs self.now) path.now }
-        ensures none { set_globs self.now ≡ [] → visits.new ≡ visits.old }
+        ensures visits { visits.new ≤ visits.old + max_set_visits (set_globs self.now) path.now }
+        ensures counted { visits.old ≤ visits.new }
+        ensures no_visits_if_empty { set_globs self.now ≡ [] → visits.new ≡ visits.old }
     {
         if self.is_empty() {
             return true;
@@ -77,14 +79,15 @@ impl GlobSet {
         visits: &mut Visits,
     ) -> Result<(), Error>
         requires { Fits scratch.old self.now }
-        ensures ok { OnOk result (into.new.items ≡ answer (set_globs self.now) path.now) }
+        ensures ok { OnOk result (into.new.items ≡ matching_indexes (set_globs self.now) path.now) }
         ensures err { IfErr result (λ e. e ≡ out_of_memory) }
-        ensures memory { length (set_globs self.now) ≤ vec_capacity into.old → IsOk result }
+        ensures succeeds_with_capacity { length (set_globs self.now) ≤ vec_capacity into.old → IsOk result }
         ensures capacity { vec_capacity into.old ≤ vec_capacity into.new }
         ensures cleared { OnErr result (into.new.items ≡ []) }
         ensures kept { scratch.new ≡ scratch.old }
-        ensures visits { visits.new ≤ visits.old + most_set_visits (set_globs self.now) path.now }
-        ensures none { set_globs self.now ≡ [] → visits.new ≡ visits.old }
+        ensures visits { visits.new ≤ visits.old + max_set_visits (set_globs self.now) path.now }
+        ensures counted { visits.old ≤ visits.new }
+        ensures no_visits_if_empty { set_globs self.now ≡ [] → visits.new ≡ visits.old }
     {
         into.clear();
         if self.is_empty() {

@@ -2,20 +2,20 @@
 -- each position of the path. Each row computes.
 use Rattle.std.specs.Prelude.{◌≡◌, ◌+◌, ◌*◌, [], ◌∷◌, refl}
 use Rattle.glob_syntax.specs.declared.options.TheConstants.Options.{DEFAULT}
-use Rattle.globset_glob.specs.Cost.{cost, most_visits}
+use Rattle.globset_glob.specs.Cost.{cost, max_visits}
 use Rattle.glob_text.proofs.examples.Unfoldings.{glob_on_literals}
 use Rattle.glob_syntax.proofs.examples.Words.{whole}
 use Rattle.glob_text.proofs.examples.Words.{utf8, glob_of}
 
-visits_of_eight_stars : most_visits (glob_of DEFAULT "a*a*a*a*a*a*a*a*a") (utf8 "aaaaaaaaa") ≡ 720
+visits_of_eight_stars : max_visits (glob_of DEFAULT "a*a*a*a*a*a*a*a*a") (utf8 "aaaaaaaaa") ≡ 720
 unfolding glob_on_literals
 visits_of_eight_stars = refl
 
-visits_count_bytes : most_visits (glob_of DEFAULT "é") (utf8 "☃") ≡ 48
+visits_count_bytes : max_visits (glob_of DEFAULT "é") (utf8 "☃") ≡ 48
 unfolding glob_on_literals
 visits_count_bytes = refl
 
-visits_of_empty_texts : most_visits (glob_of DEFAULT "") (utf8 "") ≡ 4
+visits_of_empty_texts : max_visits (glob_of DEFAULT "") (utf8 "") ≡ 4
 unfolding glob_on_literals
 visits_of_empty_texts = refl
 
@@ -23,6 +23,6 @@ visits_of_many_stars : (1000 + 1) * cost (glob_of DEFAULT "*a*a*a*a*a*a*a*b") �
 unfolding glob_on_literals
 visits_of_many_stars = refl
 
-visits_of_a_whole_character : most_visits (glob_of whole "?") (0xF4 ∷ 0x8F ∷ 0xBF ∷ 0xBF ∷ []) ≡ 100
+visits_of_a_whole_character : max_visits (glob_of whole "?") (0xF4 ∷ 0x8F ∷ 0xBF ∷ 0xBF ∷ []) ≡ 100
 unfolding glob_on_literals
 visits_of_a_whole_character = refl

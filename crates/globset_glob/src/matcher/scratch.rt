@@ -1,8 +1,8 @@
 //! Memory that is handed to a matcher to match with.
 
 ghost use Rattle.std.specs.Prelude.{◌≡◌, ◌+◌, ◌*◌, ◌≤◌, ◌↔◌, ℕ, List, IsTrue, length};
-ghost use Rattle.byte_automaton.specs.Runs.{size, most_reads};
-ghost use Rattle.glob_automaton.specs.IndexedTokens.{IndexedTokens, IsFor, SomeMatches};
+ghost use Rattle.byte_nfa.specs.Runs.{size, max_reads};
+ghost use Rattle.glob_nfa.specs.IndexedTokens.{IndexedTokens, IsFor, SomeMatches};
 
 use glob_matching::Compiled;
 use visits::Visits;
@@ -20,6 +20,6 @@ pub trait MatcherScratch {
         requires { size automaton.now ≤ states self.old }
         ensures some { (xs : List IndexedTokens) → IsFor automaton.now xs → IsTrue result ↔ ((k : ℕ) × SomeMatches xs text.now k) }
         ensures kept { self.new ≡ self.old }
-        ensures visits { visits.new ≤ visits.old + (length text.now + 1) * most_reads automaton.now }
+        ensures visits { visits.new ≤ visits.old + (length text.now + 1) * max_reads automaton.now }
         ensures counted { visits.old ≤ visits.new };
 }

@@ -6,8 +6,8 @@ use Rattle.std.specs.Str.{all_scalars}
 use Rattle.std.specs.Char.{IsScalar}
 use Rattle.std.proofs.lemmas.Bool.{eqb-true, not-true, and_from}
 use Rattle.glob_syntax.specs.Ranges.{chain, ranges, bad_chain, bad_range}
-use Rattle.glob_syntax.specs.declared.fault.Fault.{Fault}
-use Rattle.glob_syntax.specs.declared.fault.Fault.TheVariants.{InvalidRange}
+use Rattle.glob_syntax.specs.declared.parse_error_kind.ParseErrorKind.{ParseErrorKind}
+use Rattle.glob_syntax.specs.declared.parse_error_kind.ParseErrorKind.TheVariants.{InvalidRange}
 use Rattle.glob_syntax.specs.ClassBytes.{range_has, ranges_have}
 use Rattle.ignore_pattern.proofs.lemmas.Booleans.{or_assoc}
 
@@ -96,7 +96,7 @@ spelled_ranges x y body h = chain_fresh x y body h
 
 spelled_bad : (x y : ℕ) (body : List ℕ) → is_fresh body ≡ true → x ≤ y → bad_range (x ∷ 45 ∷ y ∷ body) ≡ bad_range body
 unfolding bad_range
-spelled_bad x y body h le = let e : nat_lt y x ≡ false = le-ltb y x le in ap (λ q. elim q as (λ _. Option Fault) [ true ↦ Some (InvalidRange x y) | false ↦ bad_chain x body ]) e ∙ bad_fresh x body h
+spelled_bad x y body h le = let e : nat_lt y x ≡ false = le-ltb y x le in ap (λ q. elim q as (λ _. Option ParseErrorKind) [ true ↦ Some (InvalidRange x y) | false ↦ bad_chain x body ]) e ∙ bad_fresh x body h
 
 pub body_spelled : (x y : ℕ) (body : List ℕ) (rs : List (ℕ × ℕ)) → IsPlain x → IsPlain y → x ≤ y → IsBody body rs → IsBody (x ∷ 45 ∷ y ∷ body) ((x, y) ∷ rs)
 body_spelled x y body rs p q le b = record {
@@ -112,11 +112,6 @@ body_spelled x y body rs p q le b = record {
 -- a character as a range
 abbrev pub alone : ℕ → ℕ × ℕ
 alone c = (c, c)
-
--- a character that is written or not, as text and as a range
-pub body_perhaps : (q : Bool) (c : ℕ) (body : List ℕ) (rs : List (ℕ × ℕ)) → IsPlain c → IsBody body rs → IsBody (cond q (c ∷ []) [] ++ body) (cond q ((c, c) ∷ []) [] ++ rs)
-body_perhaps true c body rs p b = body_single c body rs p b
-body_perhaps false c body rs p b = b
 
 -- those of n numbers from a on that pass the test, one after another
 abbrev pub alone_filtered : (ℕ → Bool) → ℕ → ℕ → List (ℕ × ℕ)

@@ -6,11 +6,11 @@ use Rattle.std.specs.Str.{all_scalars}
 use Rattle.std.proofs.lemmas.Bool.{cases_lt, cases_eq, ne_eqb, and_parts, not-true, or_parts, or_from, cond-true}
 use Rattle.std.proofs.lemmas.Bool.Decides.{nat_tests}
 use lib.Utf8.{encode}
-use Rattle.glob_syntax.specs.Marks.{is_negated}
+use Rattle.glob_syntax.specs.Lexemes.{is_negated}
 use Rattle.glob_syntax.specs.Ranges.{ranges, bad_range}
 use Rattle.glob_syntax.specs.ClassBytes.{is_one_of, range_has, ranges_have, class_has}
 use Rattle.ignore_pattern.specs.declared.item.Item.{Item}
-use Rattle.ignore_pattern.specs.Classes.{item_has, class_takes}
+use Rattle.ignore_pattern.specs.Classes.{item_has, class_matches}
 use Rattle.ignore_pattern.specs.Translation.{glob_options, is_written, has_place, beyond_ascii, ascii, body_start, body_end}
 use Rattle.ignore_pattern.proofs.lemmas.Booleans.{or_none, and_true, and_none}
 use Rattle.ignore_pattern.proofs.lemmas.Bodies.{IsBody, IsPlain, is_no_closer, single_ranges, single_bad, body_none, body_hyphen, body_single, alone_filtered, body_filtered, have_append}
@@ -107,31 +107,31 @@ tests_high w byte beyond high =
 abbrev pub class_ranges : Bool → List Item → List (ℕ × ℕ)
 class_ranges negated items = ranges_below (is_written negated items) 128 (flat_map beyond_ranges items)
 
-takes_low : (negated : Bool) (items : List Item) (byte : ℕ) → (if negated then not (is_written negated items byte) else is_written negated items byte) ≡ class_takes negated items byte
-unfolding class_takes
-takes_low true items byte = by_case (byte == 47) (list_any (item_has byte) items)
+matches_low : (negated : Bool) (items : List Item) (byte : ℕ) → (if negated then not (is_written negated items byte) else is_written negated items byte) ≡ class_matches negated items byte
+unfolding class_matches
+matches_low true items byte = by_case (byte == 47) (list_any (item_has byte) items)
   where
     by_case : (q t : Bool) → not (cond q true t) ≡ (not q && not t)
     by_case true t = refl
     by_case false t = refl
-takes_low false items byte = by_case (byte == 47) (list_any (item_has byte) items)
+matches_low false items byte = by_case (byte == 47) (list_any (item_has byte) items)
   where
     by_case : (q t : Bool) → cond q false t ≡ (not q && t)
     by_case true t = refl
     by_case false t = refl
 
-takes_high : (negated : Bool) (items : List Item) (byte : ℕ) → 128 ≤ byte → (if negated then not (list_any (item_has byte) items) else list_any (item_has byte) items) ≡ class_takes negated items byte
-unfolding class_takes
-takes_high negated items byte high =
+matches_high : (negated : Bool) (items : List Item) (byte : ℕ) → 128 ≤ byte → (if negated then not (list_any (item_has byte) items) else list_any (item_has byte) items) ≡ class_matches negated items byte
+unfolding class_matches
+matches_high negated items byte high =
     let e = ne_eqb byte 47 (λ e. omega arith) in
     rw e refl
 
-pub class_same : (negated : Bool) (items : List Item) (byte : ℕ) → Linked None items → class_has glob_options negated (class_ranges negated items) byte ≡ class_takes negated items byte
+pub class_same : (negated : Bool) (items : List Item) (byte : ℕ) → Linked None items → class_has glob_options negated (class_ranges negated items) byte ≡ class_matches negated items byte
 class_same negated items byte linked =
     ap (λ t. if negated then not t else t) (or_none (ranges_have (class_ranges negated items) byte) ∙ tests_are (is_written negated items) 128 (flat_map beyond_ranges items) byte (omega arith))
-    ∙ ⊎_elim {C = (if negated then not (tests_below (is_written negated items) 128 (ranges_have (flat_map beyond_ranges items) byte) byte) else tests_below (is_written negated items) 128 (ranges_have (flat_map beyond_ranges items) byte) byte) ≡ class_takes negated items byte}
-    (λ low. ap (λ t. if negated then not t else t) (ap (λ b. tests_below (is_written negated items) 128 b byte) (items_low byte None items low linked) ∙ tests_low (is_written negated items) byte low) ∙ takes_low negated items byte)
-    (λ high. ap (λ t. if negated then not t else t) (tests_high (is_written negated items) byte (ranges_have (flat_map beyond_ranges items) byte) high ∙ sym (items_beyond byte items high linked)) ∙ takes_high negated items byte high)
+    ∙ ⊎_elim {C = (if negated then not (tests_below (is_written negated items) 128 (ranges_have (flat_map beyond_ranges items) byte) byte) else tests_below (is_written negated items) 128 (ranges_have (flat_map beyond_ranges items) byte) byte) ≡ class_matches negated items byte}
+    (λ low. ap (λ t. if negated then not t else t) (ap (λ b. tests_below (is_written negated items) 128 b byte) (items_low byte None items low linked) ∙ tests_low (is_written negated items) byte low) ∙ matches_low negated items byte)
+    (λ high. ap (λ t. if negated then not t else t) (tests_high (is_written negated items) byte (ranges_have (flat_map beyond_ranges items) byte) high ∙ sym (items_beyond byte items high linked)) ∙ matches_high negated items byte high)
     (cases_lt byte 128)
 
 -- ---- the body
@@ -266,7 +266,7 @@ end_has w byte = by_case (w 33) (w 94) (w 45)
     by_case false false true = or_none ((byte == 45) || false)
     by_case false false false = refl
 
-pub choice_has : (items : List Item) (byte : ℕ) → Linked None items → body_start false items ≡ [] → class_takes false items byte ≡ is_one_of byte (body_end false items)
+pub choice_has : (items : List Item) (byte : ℕ) → Linked None items → body_start false items ≡ [] → class_matches false items byte ≡ is_one_of byte (body_end false items)
 unfolding end_ranges
 choice_has items byte linked none =
     let b = class_body false items linked in

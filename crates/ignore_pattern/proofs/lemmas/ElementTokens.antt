@@ -5,25 +5,25 @@ use Rattle.std.specs.List.{list_all, flat_map}
 use Rattle.std.specs.Str.{all_scalars, bytes_eq}
 use Rattle.std.specs.Char.{IsScalar}
 use Rattle.std.proofs.lemmas.Bool.{and_parts, and_from, or_parts}
-use Rattle.glob_syntax.specs.Marks.{Mark, marks}
-use Rattle.glob_syntax.specs.Marks as mark
+use Rattle.glob_syntax.specs.Lexemes.{Lexeme, lexemes}
+use Rattle.glob_syntax.specs.Lexemes as lexeme
 use Rattle.glob_syntax.specs.Nesting.{nested}
 use Rattle.glob_syntax.specs.Ranges.{ranges}
 use Rattle.glob_syntax.specs.ClassBytes.{is_one_of, class_has}
 use Rattle.glob_syntax.specs.Token.{Token, ZeroOrMore, RecursivePrefix, RecursiveSuffix, Group, Tokens, end, and_then, Branches, none, branch, before}
 use Rattle.glob_syntax.specs.Token as token
 use Rattle.glob_syntax.specs.Reading.{in_level, levels}
-use Rattle.glob_automaton.specs.Takes.{is_empty, is_one_byte, begins_with_slash, ends_with_slash, some_cut, takes, some_takes, takes_all}
-use Rattle.glob_automaton.proofs.lemmas.Booleans.{and_both, and_second, same_truth}
-use Rattle.glob_automaton.proofs.lemmas.Cuts.{cut_of, some_cut-append}
+use Rattle.glob_nfa.specs.TokenMatches.{is_empty, is_one_byte, begins_with_slash, ends_with_slash, some_cut, token_matches, some_branch_matches, tokens_match_each}
+use Rattle.glob_nfa.proofs.lemmas.Booleans.{and_both, and_second, same_truth}
+use Rattle.glob_nfa.proofs.lemmas.Cuts.{cut_of, some_cut-append}
 use Rattle.ignore_pattern.specs.declared.item.Item.{Item}
-use Rattle.ignore_pattern.specs.Classes.{class_takes}
-use Rattle.ignore_pattern.specs.Elements.{Element, Literal, Any, Star, Folders, Everything, Class, is_inner, element_takes, elements_take}
+use Rattle.ignore_pattern.specs.Classes.{class_matches}
+use Rattle.ignore_pattern.specs.Elements.{Element, Literal, Any, Star, Folders, Everything, Class, is_inner, element_matches, elements_take}
 use Rattle.ignore_pattern.specs.Translation.{glob_options, is_written, is_special, literal_text, body_start, body_end, choice, other_choices, positive, class_text, element_text, joined, elements_text}
 use Rattle.ignore_pattern.proofs.lemmas.Booleans.{or_none, and_true, and_none}
 use Rattle.ignore_pattern.proofs.lemmas.Items.{Linked, ascii_is}
 use Rattle.ignore_pattern.proofs.lemmas.ClassBodies.{IsClass, class_ranges, class_body, class_same, start_is, end_is, choice_has, negated_first}
-use Rattle.ignore_pattern.proofs.lemmas.ElementMarks.{begins_star, starts_run, Reads, NoSlashes, choices, in_level_twice, reads_literal, reads_any, reads_star, reads_folders, reads_everything, reads_positive, reads_negated, reads_choice}
+use Rattle.ignore_pattern.proofs.lemmas.ElementLexemes.{begins_star, starts_run, Reads, NoSlashes, choices, in_level_twice, reads_literal, reads_any, reads_star, reads_folders, reads_everything, reads_positive, reads_negated, reads_choice}
 
 -- ---- tokens
 
@@ -82,8 +82,8 @@ are_apart (e ∷ es) = not (is_star e && begin_star es) && are_apart es
 -- ---- reading of one element
 
 pub record ElementReads (e : Element) (text : List ℕ) : Type 0 where
-  pub is_marks : List Mark
-  pub reads : Reads (is_star e) text is_marks (element_tokens e)
+  pub are_lexemes : List Lexeme
+  pub reads : Reads (is_star e) text are_lexemes (element_tokens e)
   pub first : starts_star e ≡ false → (rest : List ℕ) → begins_star (text ++ rest) ≡ false
 
 literal_first : (q : Bool) (c : ℕ) (rest : List ℕ) → is_special c ≡ q → begins_star (cond q (92 ∷ c ∷ []) (c ∷ []) ++ rest) ≡ false
@@ -94,19 +94,19 @@ literal_first false c rest e =
 
 -- a class that is not negated is read, by the parts of its body
 pub record PositiveReads (start last text : List ℕ) : Type 0 where
-  pub is_marks : List Mark
-  pub reads : Reads false text is_marks (positive_token start last ∷ [])
+  pub are_lexemes : List Lexeme
+  pub reads : Reads false text are_lexemes (positive_token start last ∷ [])
   pub first : (rest : List ℕ) → begins_star (text ++ rest) ≡ false
 
-positive_reads : (start last text : List ℕ) (rs : List (ℕ × ℕ)) → IsClass (start ++ last) rs → mark.is_negated start ≡ false → NoSlashes last → all_scalars last ≡ true
+positive_reads : (start last text : List ℕ) (rs : List (ℕ × ℕ)) → IsClass (start ++ last) rs → lexeme.is_negated start ≡ false → NoSlashes last → all_scalars last ≡ true
     → positive start last ≡ Some text → PositiveReads start last text
 positive_reads [] [] text rs b n h s e = absurd cc
 positive_reads [] (c ∷ cs) text rs b n h s e =
     let is : 123 ∷ 92 ∷ c ∷ other_choices cs ≡ text = cc in
-    subst (PositiveReads [] (c ∷ cs)) is (record { is_marks = _; reads = reads_choice c cs h s; first = λ rest. refl })
+    subst (PositiveReads [] (c ∷ cs)) is (record { are_lexemes = _; reads = reads_choice c cs h s; first = λ rest. refl })
 positive_reads (c ∷ cs) last text rs b n h s e =
     let same : 91 ∷ c ∷ ((cs ++ last) ++ 93 ∷ []) ≡ text = cc in
-    subst (PositiveReads (c ∷ cs) last) same (record { is_marks = _; reads = reads_positive c (cs ++ last) n b.no_closer b.good b.scalars; first = λ rest. refl })
+    subst (PositiveReads (c ∷ cs) last) same (record { are_lexemes = _; reads = reads_positive c (cs ++ last) n b.no_closer b.good b.scalars; first = λ rest. refl })
 
 end_no_slash : (items : List Item) → NoSlashes (body_end false items)
 end_no_slash items = by_case (is_written false items 33) (is_written false items 94) (is_written false items 45)
@@ -128,7 +128,7 @@ unfolding class_text
 class_reads false items text linked e =
     let r = positive_reads (body_start false items) (body_end false items) text (class_ranges false items) (class_body false items linked) (start_is false items linked)
     (end_no_slash items) (end_is (is_written false items)).scalars e in
-    record { is_marks = r.is_marks; reads = r.reads; first = λ _ rest. r.first rest }
+    record { are_lexemes = r.are_lexemes; reads = r.reads; first = λ _ rest. r.first rest }
 class_reads true items text linked e =
     let b = class_body true items linked in
     let f = negated_first items linked in
@@ -136,25 +136,25 @@ class_reads true items text linked e =
     let c = subst (λ l. IsClass l (class_ranges true items)) f.is b in
     let r = reads_negated f.first f.others c.no_closer c.good c.scalars in
     subst (ElementReads (Class true items)) same
-    (record { is_marks = _; reads = subst (λ l. Reads false (91 ∷ 33 ∷ (l ++ 93 ∷ [])) (mark.Class true (ranges l) ∷ []) (token.Class true (ranges l) ∷ [])) (sym f.is) r; first = λ _ rest. refl })
+    (record { are_lexemes = _; reads = subst (λ l. Reads false (91 ∷ 33 ∷ (l ++ 93 ∷ [])) (lexeme.Class true (ranges l) ∷ []) (token.Class true (ranges l) ∷ [])) (sym f.is) r; first = λ _ rest. refl })
 
 pub element_reads : (e : Element) (text : List ℕ) → Sound e → element_text e ≡ Some text → ElementReads e text
 unfolding element_text
 element_reads (Literal c) text s h =
     let is : literal_text c ≡ text = cc in
-    subst (ElementReads (Literal c)) is (record { is_marks = _; reads = reads_literal c s; first = λ _ rest. literal_first (is_special c) c rest refl })
+    subst (ElementReads (Literal c)) is (record { are_lexemes = _; reads = reads_literal c s; first = λ _ rest. literal_first (is_special c) c rest refl })
 element_reads Any text s h =
     let is : codes "?" ≡ text = cc in
-    subst (ElementReads Any) is (record { is_marks = _; reads = reads_any; first = λ _ rest. refl })
+    subst (ElementReads Any) is (record { are_lexemes = _; reads = reads_any; first = λ _ rest. refl })
 element_reads Star text s h =
     let is : codes "*" ≡ text = cc in
-    subst (ElementReads Star) is (record { is_marks = _; reads = reads_star; first = λ never rest. absurd (true≢false never) })
+    subst (ElementReads Star) is (record { are_lexemes = _; reads = reads_star; first = λ never rest. absurd (true≢false never) })
 element_reads Folders text s h =
     let is : codes "{**/}" ≡ text = cc in
-    subst (ElementReads Folders) is (record { is_marks = _; reads = reads_folders; first = λ _ rest. refl })
+    subst (ElementReads Folders) is (record { are_lexemes = _; reads = reads_folders; first = λ _ rest. refl })
 element_reads Everything text s h =
     let is : codes "*{,/**}" ≡ text = cc in
-    subst (ElementReads Everything) is (record { is_marks = _; reads = reads_everything; first = λ never rest. absurd (true≢false never) })
+    subst (ElementReads Everything) is (record { are_lexemes = _; reads = reads_everything; first = λ never rest. absurd (true≢false never) })
 element_reads (Class negated items) text s h = class_reads negated items text s h
 
 -- ---- reading of elements
@@ -164,11 +164,11 @@ abbrev pub all_tokens : List Element → List Token
 all_tokens es = flat_map element_tokens es
 
 pub record AreRead (es : List Element) (text : List ℕ) : Type 0 where
-  pub is_marks : List Mark
-  pub marked : marks glob_options zero text ≡ is_marks
-  pub nests : nested zero is_marks ≡ Ok is_marks
-  pub leveled : (start : Bool) → levels zero start is_marks ≡ (branch (before (all_tokens es) end) none, [])
-  pub calm : starts_run is_marks ≡ false
+  pub are_lexemes : List Lexeme
+  pub marked : lexemes glob_options zero text ≡ are_lexemes
+  pub nests : nested zero are_lexemes ≡ Ok are_lexemes
+  pub leveled : (start : Bool) → levels zero start are_lexemes ≡ (branch (before (all_tokens es) end) none, [])
+  pub calm : starts_run are_lexemes ≡ false
   pub first : begin_star es ≡ false → begins_star text ≡ false
   pub scalars : all_scalars text ≡ true
 
@@ -189,8 +189,8 @@ scalars_append [] b p q = q
 scalars_append (c ∷ cs) b p q = let r = and_parts _ _ p in and_from _ _ r.0 (scalars_append cs b r.1 q)
 
 none_left : AreRead [] []
-unfolding marks nested levels
-none_left = record { is_marks = []; marked = refl; nests = refl; leveled = λ start. refl; calm = refl; first = λ _. refl; scalars = refl }
+unfolding lexemes nested levels
+none_left = record { are_lexemes = []; marked = refl; nests = refl; leveled = λ start. refl; calm = refl; first = λ _. refl; scalars = refl }
 
 not_both : (p q : Bool) → not (p && q) ≡ true → p ≡ true → q ≡ false
 not_both true true h e = absurd cc
@@ -206,12 +206,12 @@ elements_read (e ∷ es) text s a h =
     let r = element_reads e j.front s.0 j.front_is in
     let more = elements_read es j.back s.1 apart.1 j.back_is in
     subst (AreRead (e ∷ es)) j.is (record {
-      is_marks = r.is_marks ++ more.is_marks;
-      marked = r.reads.marked j.back (λ alone. more.first (not_both (is_star e) (begin_star es) apart.0 alone)) ∙ ap (λ l. r.is_marks ++ l) more.marked;
-      nests = r.reads.nests more.is_marks more.nests;
-      leveled = λ start. r.reads.leveled start more.is_marks more.calm ∙ ap (in_level (element_tokens e)) (more.leveled false)
+      are_lexemes = r.are_lexemes ++ more.are_lexemes;
+      marked = r.reads.marked j.back (λ alone. more.first (not_both (is_star e) (begin_star es) apart.0 alone)) ∙ ap (λ l. r.are_lexemes ++ l) more.marked;
+      nests = r.reads.nests more.are_lexemes more.nests;
+      leveled = λ start. r.reads.leveled start more.are_lexemes more.calm ∙ ap (in_level (element_tokens e)) (more.leveled false)
           ∙ in_level_twice (element_tokens e) (all_tokens es) (branch end none, []);
-      calm = r.reads.calm more.is_marks;
+      calm = r.reads.calm more.are_lexemes;
       first = λ none_first. r.first none_first j.back;
       scalars = scalars_append j.front j.back r.reads.scalars more.scalars;
     })
@@ -227,8 +227,8 @@ whole_cut : (test : List ℕ → Bool) (b : List ℕ) → some_cut (λ x y. test
 whole_cut test [] = and_true (test [])
 whole_cut test (c ∷ cs) = (λ i. and_none (test []) i || whole_cut (λ x. test (c ∷ x)) cs i)
 
-one_token : (t : Token) (b : List ℕ) → takes_all glob_options (and_then t end) b ≡ takes glob_options t b
-one_token t b = whole_cut (takes glob_options t) b
+one_token : (t : Token) (b : List ℕ) → tokens_match_each glob_options (and_then t end) b ≡ token_matches glob_options t b
+one_token t b = whole_cut (token_matches glob_options t) b
 
 -- ---- choices
 
@@ -247,13 +247,13 @@ no_choice [] = refl
 no_choice (c ∷ []) = refl
 no_choice (c ∷ d ∷ ds) = refl
 
-choices_take : (cs b : List ℕ) → AreLow cs → some_takes glob_options (choices cs) b ≡ is_one_byte (λ byte. is_one_of byte cs) b
+choices_take : (cs b : List ℕ) → AreLow cs → some_branch_matches glob_options (choices cs) b ≡ is_one_byte (λ byte. is_one_of byte cs) b
 choices_take [] b low = no_choice b
 choices_take (c ∷ cs) b low =
     (λ i. (one_token (token.Literal c) b ∙ ap (bytes_eq b) (ascii_is c low.0)) i || choices_take cs b low.1 i) ∙ one_choice c cs b
 
-group_takes : (c : ℕ) (cs b : List ℕ) → AreLow (c ∷ cs) → takes glob_options (Group (choices (c ∷ cs))) b ≡ is_one_byte (λ byte. is_one_of byte (c ∷ cs)) b
-group_takes c cs b low = or_none (some_takes glob_options (choices (c ∷ cs)) b) ∙ choices_take (c ∷ cs) b low
+group_matches : (c : ℕ) (cs b : List ℕ) → AreLow (c ∷ cs) → token_matches glob_options (Group (choices (c ∷ cs))) b ≡ is_one_byte (λ byte. is_one_of byte (c ∷ cs)) b
+group_matches c cs b low = or_none (some_branch_matches glob_options (choices (c ∷ cs)) b) ∙ choices_take (c ∷ cs) b low
 
 end_low : (items : List Item) → AreLow (body_end false items)
 end_low items = by_case (is_written false items 33) (is_written false items 94) (is_written false items 45)
@@ -273,36 +273,36 @@ end_low items = by_case (is_written false items 33) (is_written false items 94) 
 -- ---- classes
 
 -- the token of a class that is not negated matches what its body has
-positive_takes : (start last text : List ℕ) (rs : List (ℕ × ℕ)) (test : ℕ → Bool) (b : List ℕ) → IsClass (start ++ last) rs → AreLow last
+positive_matches : (start last text : List ℕ) (rs : List (ℕ × ℕ)) (test : ℕ → Bool) (b : List ℕ) → IsClass (start ++ last) rs → AreLow last
     → ((byte : ℕ) → class_has glob_options false rs byte ≡ test byte) → ((byte : ℕ) → start ≡ [] → test byte ≡ is_one_of byte last)
-    → positive start last ≡ Some text → takes glob_options (positive_token start last) b ≡ is_one_byte test b
-positive_takes [] [] text rs test b k low has choice h = absurd cc
-positive_takes [] (c ∷ cs) text rs test b k low has choice h = group_takes c cs b low ∙ (λ i. is_one_byte (λ byte. sym (choice byte refl) i) b)
-positive_takes (c ∷ cs) last text rs test b k low has choice h =
+    → positive start last ≡ Some text → token_matches glob_options (positive_token start last) b ≡ is_one_byte test b
+positive_matches [] [] text rs test b k low has choice h = absurd cc
+positive_matches [] (c ∷ cs) text rs test b k low has choice h = group_matches c cs b low ∙ (λ i. is_one_byte (λ byte. sym (choice byte refl) i) b)
+positive_matches (c ∷ cs) last text rs test b k low has choice h =
     (λ i. is_one_byte (class_has glob_options false (k.is i)) b) ∙ (λ i. is_one_byte (λ byte. has byte i) b)
 
-class_takes_as : (negated : Bool) (items : List Item) (text b : List ℕ) → Linked None items → class_text negated items ≡ Some text
-    → takes glob_options (class_token negated items) b ≡ is_one_byte (class_takes negated items) b
+class_matches_as : (negated : Bool) (items : List Item) (text b : List ℕ) → Linked None items → class_text negated items ≡ Some text
+    → token_matches glob_options (class_token negated items) b ≡ is_one_byte (class_matches negated items) b
 unfolding class_text
-class_takes_as false items text b linked h =
-    positive_takes (body_start false items) (body_end false items) text (class_ranges false items) (class_takes false items) b (class_body false items linked) (end_low items)
+class_matches_as false items text b linked h =
+    positive_matches (body_start false items) (body_end false items) text (class_ranges false items) (class_matches false items) b (class_body false items linked) (end_low items)
     (λ byte. class_same false items byte linked) (λ byte none. choice_has items byte linked none) h
-class_takes_as true items text b linked h =
+class_matches_as true items text b linked h =
     (λ i. is_one_byte (class_has glob_options true ((class_body true items linked).is i)) b) ∙ (λ i. is_one_byte (λ byte. class_same true items byte linked i) b)
 
 -- ---- folders and everything
 
-folders_take : (b : List ℕ) → takes glob_options (Group (branch (and_then RecursivePrefix end) none)) b ≡ (is_empty b || ends_with_slash b)
-folders_take b = or_none ((takes_all glob_options (and_then RecursivePrefix end) b) || false) ∙ or_none (takes_all glob_options (and_then RecursivePrefix end) b) ∙ one_token RecursivePrefix b
+folders_take : (b : List ℕ) → token_matches glob_options (Group (branch (and_then RecursivePrefix end) none)) b ≡ (is_empty b || ends_with_slash b)
+folders_take b = or_none ((tokens_match_each glob_options (and_then RecursivePrefix end) b) || false) ∙ or_none (tokens_match_each glob_options (and_then RecursivePrefix end) b) ∙ one_token RecursivePrefix b
 
 -- nothing, or bytes that begin with `/`
 abbrev is_rest : List ℕ → Bool
 is_rest b = is_empty b || begins_with_slash b
 
-rest_takes : (b : List ℕ) → takes glob_options (Group (branch end (branch (and_then RecursiveSuffix end) none))) b ≡ is_rest b
-rest_takes b =
-    or_none (is_empty b || (takes_all glob_options (and_then RecursiveSuffix end) b || false))
-    ∙ ap (λ t. is_empty b || t) (or_none (takes_all glob_options (and_then RecursiveSuffix end) b) ∙ one_token RecursiveSuffix b)
+rest_matches : (b : List ℕ) → token_matches glob_options (Group (branch end (branch (and_then RecursiveSuffix end) none))) b ≡ is_rest b
+rest_matches b =
+    or_none (is_empty b || (tokens_match_each glob_options (and_then RecursiveSuffix end) b || false))
+    ∙ ap (λ t. is_empty b || t) (or_none (tokens_match_each glob_options (and_then RecursiveSuffix end) b) ∙ one_token RecursiveSuffix b)
 
 -- any bytes are some without `/`, and then nothing or some that begin with one
 pub record IsHalved (b : List ℕ) : Type 0 where
@@ -320,9 +320,9 @@ halved (c ∷ cs) = by_case (c == 47) refl (halved cs)
     by_case true e more = record { front = []; back = c ∷ cs; cut = refl; inner = refl; rest = e }
     by_case false e more = record { front = c ∷ more.front; back = more.back; cut = ap (λ l. c ∷ l) more.cut; inner = and_from _ _ (ap not e) more.inner; rest = more.rest }
 
-everything_takes : (test : List ℕ → Bool) (b : List ℕ)
+everything_matches : (test : List ℕ → Bool) (b : List ℕ)
     → some_cut (λ x y. list_all is_inner x && some_cut (λ u v. is_rest u && test v) y) b ≡ some_cut (λ x y. test y) b
-everything_takes test b = same_truth _ _ (there, back)
+everything_matches test b = same_truth _ _ (there, back)
   where
     there : IsTrue (some_cut (λ x y. list_all is_inner x && some_cut (λ u v. is_rest u && test v) y) b) → IsTrue (some_cut (λ x y. test y) b)
     there h =
@@ -343,33 +343,33 @@ everything_takes test b = same_truth _ _ (there, back)
 -- ---- what the tokens of elements match
 
 -- one token that matches what the element matches
-as_one : (t : Token) (e : Element) (ts : Tokens) (b : List ℕ) → ((x : List ℕ) → takes glob_options t x ≡ element_takes e x)
-    → takes_all glob_options (and_then t ts) b ≡ some_cut (λ x y. element_takes e x && takes_all glob_options ts y) b
-as_one t e ts b h = λ i. some_cut (λ x y. h x i && takes_all glob_options ts y) b
+as_one : (t : Token) (e : Element) (ts : Tokens) (b : List ℕ) → ((x : List ℕ) → token_matches glob_options t x ≡ element_matches e x)
+    → tokens_match_each glob_options (and_then t ts) b ≡ some_cut (λ x y. element_matches e x && tokens_match_each glob_options ts y) b
+as_one t e ts b h = λ i. some_cut (λ x y. h x i && tokens_match_each glob_options ts y) b
 
-element_takes_as : (e : Element) (text : List ℕ) (ts : Tokens) (b : List ℕ) → Sound e → element_text e ≡ Some text
-    → takes_all glob_options (before (element_tokens e) ts) b ≡ some_cut (λ x y. element_takes e x && takes_all glob_options ts y) b
+element_matches_as : (e : Element) (text : List ℕ) (ts : Tokens) (b : List ℕ) → Sound e → element_text e ≡ Some text
+    → tokens_match_each glob_options (before (element_tokens e) ts) b ≡ some_cut (λ x y. element_matches e x && tokens_match_each glob_options ts y) b
 unfolding element_text
-element_takes_as (Literal c) text ts b s h = as_one (token.Literal c) (Literal c) ts b (λ x. refl)
-element_takes_as Any text ts b s h = as_one token.Any Any ts b (λ x. refl)
-element_takes_as Star text ts b s h = as_one ZeroOrMore Star ts b (λ x. refl)
-element_takes_as Folders text ts b s h = as_one (Group (branch (and_then RecursivePrefix end) none)) Folders ts b folders_take
-element_takes_as Everything text ts b s h =
-    (λ i. some_cut (λ x y. list_all is_inner x && some_cut (λ u v. rest_takes u i && takes_all glob_options ts v) y) b) ∙ everything_takes (takes_all glob_options ts) b
-element_takes_as (Class negated items) text ts b s h = as_one (class_token negated items) (Class negated items) ts b (λ x. class_takes_as negated items text x s h)
+element_matches_as (Literal c) text ts b s h = as_one (token.Literal c) (Literal c) ts b (λ x. refl)
+element_matches_as Any text ts b s h = as_one token.Any Any ts b (λ x. refl)
+element_matches_as Star text ts b s h = as_one ZeroOrMore Star ts b (λ x. refl)
+element_matches_as Folders text ts b s h = as_one (Group (branch (and_then RecursivePrefix end) none)) Folders ts b folders_take
+element_matches_as Everything text ts b s h =
+    (λ i. some_cut (λ x y. list_all is_inner x && some_cut (λ u v. rest_matches u i && tokens_match_each glob_options ts v) y) b) ∙ everything_matches (tokens_match_each glob_options ts) b
+element_matches_as (Class negated items) text ts b s h = as_one (class_token negated items) (Class negated items) ts b (λ x. class_matches_as negated items text x s h)
 
 before_append : (front back : List Token) (ts : Tokens) → before (front ++ back) ts ≡ before front (before back ts)
 before_append [] back ts = refl
 before_append (t ∷ front) back ts = ap (and_then t) (before_append front back ts)
 
-pub elements_take_as : (es : List Element) (text b : List ℕ) → AreSound es → elements_text es ≡ Some text → takes_all glob_options (before (all_tokens es) end) b ≡ elements_take es b
+pub elements_take_as : (es : List Element) (text b : List ℕ) → AreSound es → elements_text es ≡ Some text → tokens_match_each glob_options (before (all_tokens es) end) b ≡ elements_take es b
 unfolding elements_text elements_take
 elements_take_as [] text b s h = refl
 elements_take_as (e ∷ es) text b s h =
     let j = joined_parts (element_text e) (elements_text es) text h in
-    ap (λ ts. takes_all glob_options ts b) (before_append (element_tokens e) (all_tokens es) end)
-    ∙ element_takes_as e j.front (before (all_tokens es) end) b s.0 j.front_is
-    ∙ (λ i. some_cut (λ x y. element_takes e x && elements_take_as es j.back y s.1 j.back_is i) b)
+    ap (λ ts. tokens_match_each glob_options ts b) (before_append (element_tokens e) (all_tokens es) end)
+    ∙ element_matches_as e j.front (before (all_tokens es) end) b s.0 j.front_is
+    ∙ (λ i. some_cut (λ x y. element_matches e x && elements_take_as es j.back y s.1 j.back_is i) b)
 
 -- ---- elements without a text
 
@@ -378,7 +378,7 @@ positive_none [] [] h = (refl, refl)
 positive_none [] (c ∷ cs) h = absurd cc
 positive_none (c ∷ cs) last h = absurd cc
 
-element_none : (e : Element) (b : List ℕ) → Sound e → element_text e ≡ None → element_takes e b ≡ false
+element_none : (e : Element) (b : List ℕ) → Sound e → element_text e ≡ None → element_matches e b ≡ false
 unfolding element_text class_text
 element_none (Class false items) b s h =
     let p = positive_none (body_start false items) (body_end false items) h in
@@ -391,8 +391,8 @@ elements_none [] b s h = absurd cc
 elements_none (e ∷ es) b s h = by_case (element_text e) (elements_text es) refl refl h (λ x. element_none e x s.0) (λ y. elements_none es y s.1)
   where
     by_case : (p q : Option (List ℕ)) → element_text e ≡ p → elements_text es ≡ q → joined p q ≡ None
-        → ((x : List ℕ) → element_text e ≡ None → element_takes e x ≡ false) → ((y : List ℕ) → elements_text es ≡ None → elements_take es y ≡ false)
-        → some_cut (λ x y. element_takes e x && elements_take es y) b ≡ false
+        → ((x : List ℕ) → element_text e ≡ None → element_matches e x ≡ false) → ((y : List ℕ) → elements_text es ≡ None → elements_take es y ≡ false)
+        → some_cut (λ x y. element_matches e x && elements_take es y) b ≡ false
     by_case None q k l j first more = no_cut _ (λ x y. ap (λ t. t && elements_take es y) (first x k)) b
-    by_case (Some front) None k l j first more = no_cut _ (λ x y. ap (λ t. element_takes e x && t) (more y l) ∙ and_none (element_takes e x)) b
+    by_case (Some front) None k l j first more = no_cut _ (λ x y. ap (λ t. element_matches e x && t) (more y l) ∙ and_none (element_matches e x)) b
     by_case (Some front) (Some back) k l j first more = absurd cc

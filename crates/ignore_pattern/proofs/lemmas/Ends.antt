@@ -1,5 +1,5 @@
 -- Lists by their last element.
-use Rattle.std.proofs.Common.{◌≡◌, ℕ, ◌-◌, ◌<◌, ◌≤◌, suc, true, false, List, [], ◌∷◌, length, get_or, take, refl, sym, ◌∙◌, ap, arith}
+use Rattle.std.proofs.Common.{◌≡◌, ℕ, ◌-◌, ◌≤◌, suc, true, false, List, [], ◌∷◌, length, get_or, take, refl, sym, ◌∙◌, ap, arith}
 use Rattle.std.proofs.lemmas.Bool.{eq-eqb, ne_eqb}
 use Rattle.ignore_pattern.specs.Ends.{ends_with, without_last}
 
@@ -28,8 +28,3 @@ last_is_not c (d ∷ []) some e = (ne_eqb c d e, rw (ne_eqb c d e) refl)
 last_is_not c (d ∷ x ∷ xs) some e =
     let r = last_is_not c (x ∷ xs) (omega arith) (λ h. e (h ∙ sym (last_next d x xs))) in
     (r.0, ap (λ (l : List ℕ). d ∷ l) r.1)
-
--- there is none
-pub no_last : (c : ℕ) (xs : List ℕ) → length xs < 1 → (ends_with c xs ≡ false) × (without_last c xs ≡ xs)
-no_last c [] none = (refl, refl)
-no_last c (x ∷ xs) none = absurd (omega arith)

@@ -9,64 +9,64 @@ use Rattle.std.proofs.lemmas.Str.{chars-encodes}
 use Rattle.std.proofs.lemmas.List.Elements.{All-head, All-tail}
 use Rattle.std.proofs.lemmas.Slice.Eq.{bytes_eq-Decides}
 use Rattle.glob_path.specs.PathParts.{is_separator, last_component}
-use Rattle.glob_syntax.specs.declared.fault.Fault.{Fault}
-use Rattle.glob_syntax.specs.Marks.{Mark, Char, Stars, marks, mark_at}
-use Rattle.glob_syntax.specs.Nesting.{nested, with_mark}
+use Rattle.glob_syntax.specs.declared.parse_error_kind.ParseErrorKind.{ParseErrorKind}
+use Rattle.glob_syntax.specs.Lexemes.{Lexeme, Char, Stars, lexemes, lexeme_at}
+use Rattle.glob_syntax.specs.Nesting.{nested, with_lexeme}
 use Rattle.glob_syntax.specs.Stars.{pairs, last_run, run_cut, piece}
 use Rattle.glob_syntax.specs.Token.{Token, RecursivePrefix, Tokens, end, and_then, branch, none, before}
 use Rattle.glob_syntax.specs.Token as token
-use Rattle.glob_syntax.specs.Reading.{in_level, levels, Levels, first_branch, is_whole_run, whole, whole_or_fault, reading}
-use Rattle.glob_automaton.specs.Takes.{is_empty, is_one_byte, ends_with_slash, some_cut, takes_all}
-use Rattle.glob_automaton.specs.TokenMeans.{is_prefix, is_prefix_alone, means}
-use Rattle.glob_automaton.proofs.lemmas.Booleans.{and_both, and_first, and_second, or_first, or_second, or_either, same_truth}
-use Rattle.glob_automaton.proofs.lemmas.Cuts.{empty_is, cut_of, some_cut-append}
-use Rattle.glob_automaton.proofs.lemmas.Takes.{ends_push, ends_at}
-use Rattle.glob_groups.specs.Silent.{is_dot, is_prefix_dot_dot, are_silent}
-use Rattle.glob_groups.proofs.lemmas.Components.{Lacks, lacks_append, lacks_cons, encode_lacks, EndsComponent, last_component_at, split}
-use Rattle.globset_glob.specs.Means.{IsRead, tokens_of_glob, glob_means}
+use Rattle.glob_syntax.specs.Reading.{in_level, levels, Levels, first_branch, is_whole_run, whole, whole_or_parse_error, reading}
+use Rattle.glob_nfa.specs.TokenMatches.{is_empty, is_one_byte, ends_with_slash, some_cut, tokens_match_each}
+use Rattle.glob_nfa.specs.TokensMatch.{is_prefix, is_prefix_alone, tokens_match}
+use Rattle.glob_nfa.proofs.lemmas.Booleans.{and_both, and_first, and_second, or_first, or_second, or_either, same_truth}
+use Rattle.glob_nfa.proofs.lemmas.Cuts.{empty_is, cut_of, some_cut-append}
+use Rattle.glob_nfa.proofs.lemmas.TokenMatches.{ends_push, ends_at}
+use Rattle.glob_strategy.specs.Excluded.{is_dot, is_prefix_dot_dot, are_excluded}
+use Rattle.glob_strategy.proofs.lemmas.Components.{Lacks, lacks_append, lacks_cons, encode_lacks, EndsComponent, last_component_at, split}
+use Rattle.globset_glob.specs.GlobMatches.{IsRead, tokens_of_glob, glob_matches}
 use Rattle.ignore_pattern.specs.declared.item.Item.{Item}
 use Rattle.ignore_pattern.specs.declared.place.Place.TheVariants.{Start}
 use Rattle.ignore_pattern.specs.Lines.{line_text}
 use Rattle.ignore_pattern.specs.Ends.{begins_with, without_first, ends_with, without_last}
-use Rattle.ignore_pattern.specs.Classes.{class_takes}
-use Rattle.ignore_pattern.specs.Elements.{Element, Literal, Any, Star, Folders, Everything, Class, is_inner, element_takes, elements_take, elements}
+use Rattle.ignore_pattern.specs.Classes.{class_matches}
+use Rattle.ignore_pattern.specs.Elements.{Element, Literal, Any, Star, Folders, Everything, Class, is_inner, element_matches, elements_take, elements}
 use Rattle.ignore_pattern.specs.Patterns.{Pattern, has_slash, pattern_with, pattern_between, pattern_of_chars, pattern_of_line, pattern_matches}
 use Rattle.ignore_pattern.specs.Translation.{glob_options, body_start, body_end, element_text, joined, elements_text, needs_braces, after_folders, whole_text, pattern_text}
 use Rattle.ignore_pattern.specs.Globs.{translated}
 use Rattle.ignore_pattern.specs.Meaning.{HasMeaning, TranslationIsExact}
-use Rattle.ignore_pattern.proofs.lemmas.ElementMarks.{starts_run}
+use Rattle.ignore_pattern.proofs.lemmas.ElementLexemes.{starts_run}
 use Rattle.ignore_pattern.proofs.lemmas.ElementTokens.{class_token, positive_token, all_tokens, AreSound, are_apart, elements_read, elements_take_as, elements_none}
-use Rattle.ignore_pattern.proofs.lemmas.SoundElements.{takes_no_slash, AreWell, elements_well}
+use Rattle.ignore_pattern.proofs.lemmas.SoundElements.{matches_no_slash, AreWell, elements_well}
 
 -- ---- from tokens to meaning
 
--- the glob of this text is read, is not silent, and matches these paths; without a text there are none
+-- the glob of this text is read, is not excluded, and matches these paths; without a text there are none
 abbrev IsExact : (List ℕ → Bool) → Option (List ℕ) → Type 0
 IsExact matches None = (path : List ℕ) → matches path ≡ false
-IsExact matches (Some text) = IsRead (translated text) × (are_silent glob_options (tokens_of_glob (translated text)) ≡ false) × ((path : List ℕ) → glob_means (translated text) path ≡ matches path)
+IsExact matches (Some text) = IsRead (translated text) × (are_excluded glob_options (tokens_of_glob (translated text)) ≡ false) × ((path : List ℕ) → glob_matches (translated text) path ≡ matches path)
 
 of_tokens : (text : List ℕ) (ts : Tokens) (matches : List ℕ → Bool) → all_scalars text ≡ true → reading glob_options text ≡ Ok ts → is_prefix_alone ts ≡ false → is_prefix_dot_dot ts ≡ false
-    → ((path : List ℕ) → takes_all glob_options ts path ≡ matches path) → IsExact matches (Some text)
-unfolding glob_means tokens_of_glob
+    → ((path : List ℕ) → tokens_match_each glob_options ts path ≡ matches path) → IsExact matches (Some text)
+unfolding glob_matches tokens_of_glob
 of_tokens text ts matches s r alone dots same =
     let read : reading glob_options (chars (encode_utf8_all text)) ≡ Ok ts = ap (reading glob_options) (chars-encodes text s) ∙ r in
-    let tokens : tokens_of_glob (translated text) ≡ ts = ap (λ (q : Result Tokens Fault). elim q as (λ _. Tokens) [ Ok us ↦ us | Err f ↦ end ]) read in (
+    let tokens : tokens_of_glob (translated text) ≡ ts = ap (λ (q : Result Tokens ParseErrorKind). elim q as (λ _. Tokens) [ Ok us ↦ us | Err f ↦ end ]) read in (
       ap is_ok read,
-      ap (are_silent glob_options) tokens ∙ dots,
-      λ path. ap (λ us. means glob_options us path) tokens ∙ ap (λ b. b || takes_all glob_options ts path) alone ∙ same path,
+      ap (are_excluded glob_options) tokens ∙ dots,
+      λ path. ap (λ us. tokens_match glob_options us path) tokens ∙ ap (λ b. b || tokens_match_each glob_options ts path) alone ∙ same path,
     )
 
-not_whole_run : (ms : List Mark) → starts_run ms ≡ false → is_whole_run ms ≡ false
+not_whole_run : (ms : List Lexeme) → starts_run ms ≡ false → is_whole_run ms ≡ false
 not_whole_run [] h = refl
 not_whole_run (m ∷ []) h = h
 not_whole_run (m ∷ n ∷ ms) h = refl
 
--- the reading of a text, by its marks
-reads_as : (text : List ℕ) (ms : List Mark) (ts : Tokens) → marks glob_options zero text ≡ ms → nested zero ms ≡ Ok ms → is_whole_run ms ≡ false → levels zero true ms ≡ (branch ts none, [])
+-- the reading of a text, by its lexemes
+reads_as : (text : List ℕ) (ms : List Lexeme) (ts : Tokens) → lexemes glob_options zero text ≡ ms → nested zero ms ≡ Ok ms → is_whole_run ms ≡ false → levels zero true ms ≡ (branch ts none, [])
     → reading glob_options text ≡ Ok ts
 unfolding reading whole
 reads_as text ms ts m n w l =
-    ap (λ ns. whole_or_fault (nested zero ns)) m ∙ ap whole_or_fault n
+    ap (λ ns. whole_or_parse_error (nested zero ns)) m ∙ ap whole_or_parse_error n
     ∙ ap (λ (b : Bool). Ok (elim b as (λ _. Tokens) [ true ↦ and_then RecursivePrefix end | false ↦ first_branch (levels zero true ms).0 ])) w
     ∙ ap (λ (k : Levels). Ok (first_branch k.0)) l
 
@@ -120,7 +120,7 @@ elements_exact e es s a None h = λ path. elements_none (e ∷ es) path s h
 elements_exact e es s a (Some text) h =
     let k = elements_read (e ∷ es) text s a h in
     let n = no_prefix e es in
-    of_tokens text (before (all_tokens (e ∷ es)) end) (elements_take (e ∷ es)) k.scalars (reads_as text k.is_marks _ k.marked k.nests (not_whole_run k.is_marks k.calm) (k.leveled true)) n.alone n.silence
+    of_tokens text (before (all_tokens (e ∷ es)) end) (elements_take (e ∷ es)) k.scalars (reads_as text k.are_lexemes _ k.marked k.nests (not_whole_run k.are_lexemes k.calm) (k.leveled true)) n.alone n.silence
     (λ path. elements_take_as (e ∷ es) text path s h)
 
 -- ---- `**/` before elements
@@ -160,21 +160,21 @@ everything_token = token.Group (branch end (branch (and_then token.RecursiveSuff
 abbrev tokens_of : List Element → Tokens
 tokens_of es = before (all_tokens es) end
 
-prefix_not_silent : (es : List Element) → needs_braces es ≡ false → is_prefix_dot_dot (prefixed es) ≡ false
-prefix_not_silent [] h = absurd (true≢false h)
-prefix_not_silent (Literal c ∷ []) h = refl
-prefix_not_silent (Literal c ∷ Literal d ∷ []) h = h
-prefix_not_silent (Literal c ∷ Literal d ∷ e ∷ es) h = dot_and_more c d e es
-prefix_not_silent (Literal c ∷ Any ∷ es) h = no_dot_second (token.Literal c) token.Any (tokens_of es) refl
-prefix_not_silent (Literal c ∷ Star ∷ es) h = no_dot_second (token.Literal c) token.ZeroOrMore (tokens_of es) refl
-prefix_not_silent (Literal c ∷ Folders ∷ es) h = no_dot_second (token.Literal c) folders_token (tokens_of es) refl
-prefix_not_silent (Literal c ∷ Everything ∷ es) h = no_dot_second (token.Literal c) token.ZeroOrMore (and_then everything_token (tokens_of es)) refl
-prefix_not_silent (Literal c ∷ Class negated items ∷ es) h = no_dot_second (token.Literal c) (class_token negated items) (tokens_of es) (class_no_dot negated items)
-prefix_not_silent (Any ∷ es) h = no_dot_first token.Any (tokens_of es) refl
-prefix_not_silent (Star ∷ es) h = no_dot_first token.ZeroOrMore (tokens_of es) refl
-prefix_not_silent (Folders ∷ es) h = no_dot_first folders_token (tokens_of es) refl
-prefix_not_silent (Everything ∷ es) h = no_dot_first token.ZeroOrMore (and_then everything_token (tokens_of es)) refl
-prefix_not_silent (Class negated items ∷ es) h = no_dot_first (class_token negated items) (tokens_of es) (class_no_dot negated items)
+prefix_not_excluded : (es : List Element) → needs_braces es ≡ false → is_prefix_dot_dot (prefixed es) ≡ false
+prefix_not_excluded [] h = absurd (true≢false h)
+prefix_not_excluded (Literal c ∷ []) h = refl
+prefix_not_excluded (Literal c ∷ Literal d ∷ []) h = h
+prefix_not_excluded (Literal c ∷ Literal d ∷ e ∷ es) h = dot_and_more c d e es
+prefix_not_excluded (Literal c ∷ Any ∷ es) h = no_dot_second (token.Literal c) token.Any (tokens_of es) refl
+prefix_not_excluded (Literal c ∷ Star ∷ es) h = no_dot_second (token.Literal c) token.ZeroOrMore (tokens_of es) refl
+prefix_not_excluded (Literal c ∷ Folders ∷ es) h = no_dot_second (token.Literal c) folders_token (tokens_of es) refl
+prefix_not_excluded (Literal c ∷ Everything ∷ es) h = no_dot_second (token.Literal c) token.ZeroOrMore (and_then everything_token (tokens_of es)) refl
+prefix_not_excluded (Literal c ∷ Class negated items ∷ es) h = no_dot_second (token.Literal c) (class_token negated items) (tokens_of es) (class_no_dot negated items)
+prefix_not_excluded (Any ∷ es) h = no_dot_first token.Any (tokens_of es) refl
+prefix_not_excluded (Star ∷ es) h = no_dot_first token.ZeroOrMore (tokens_of es) refl
+prefix_not_excluded (Folders ∷ es) h = no_dot_first folders_token (tokens_of es) refl
+prefix_not_excluded (Everything ∷ es) h = no_dot_first token.ZeroOrMore (and_then everything_token (tokens_of es)) refl
+prefix_not_excluded (Class negated items ∷ es) h = no_dot_first (class_token negated items) (tokens_of es) (class_no_dot negated items)
 
 prefix_not_alone : (es : List Element) → needs_braces es ≡ false → is_prefix_alone (prefixed es) ≡ false
 prefix_not_alone [] h = absurd (true≢false h)
@@ -185,24 +185,24 @@ prefix_not_alone (Folders ∷ es) h = refl
 prefix_not_alone (Everything ∷ es) h = refl
 prefix_not_alone (Class negated items ∷ es) h = refl
 
-prefix_marked : (text : List ℕ) → marks glob_options zero (codes "**/" ++ text) ≡ Stars 2 ∷ Char false 47 ∷ marks glob_options zero text
-unfolding marks mark_at
+prefix_marked : (text : List ℕ) → lexemes glob_options zero (codes "**/" ++ text) ≡ Stars 2 ∷ Char false 47 ∷ lexemes glob_options zero text
+unfolding lexemes lexeme_at
 prefix_marked text = refl
 
-prefix_nests : (ms : List Mark) → nested zero ms ≡ Ok ms → nested zero (Stars 2 ∷ Char false 47 ∷ ms) ≡ Ok (Stars 2 ∷ Char false 47 ∷ ms)
+prefix_nests : (ms : List Lexeme) → nested zero ms ≡ Ok ms → nested zero (Stars 2 ∷ Char false 47 ∷ ms) ≡ Ok (Stars 2 ∷ Char false 47 ∷ ms)
 unfolding nested
-prefix_nests ms h = ap (λ r. with_mark (Stars 2) (with_mark (Char false 47) r)) h
+prefix_nests ms h = ap (λ r. with_lexeme (Stars 2) (with_lexeme (Char false 47) r)) h
 
-no_pairs : (ms : List Mark) → starts_run ms ≡ false → pairs ms ≡ 0
+no_pairs : (ms : List Lexeme) → starts_run ms ≡ false → pairs ms ≡ 0
 no_pairs [] h = refl
 no_pairs (m ∷ []) h = refl
 no_pairs (m ∷ n ∷ ms) h = rw (h, pairs) refl
 
-no_last_run : (ms : List Mark) → starts_run ms ≡ false → last_run ms ≡ false
+no_last_run : (ms : List Lexeme) → starts_run ms ≡ false → last_run ms ≡ false
 no_last_run [] h = refl
 no_last_run (m ∷ ms) h = rw h refl
 
-prefix_leveled : (ms : List Mark) (ts : Tokens) → starts_run ms ≡ false → levels zero false ms ≡ (branch ts none, []) → levels zero true (Stars 2 ∷ Char false 47 ∷ ms) ≡ (branch (and_then RecursivePrefix ts) none, [])
+prefix_leveled : (ms : List Lexeme) (ts : Tokens) → starts_run ms ≡ false → levels zero false ms ≡ (branch ts none, []) → levels zero true (Stars 2 ∷ Char false 47 ∷ ms) ≡ (branch (and_then RecursivePrefix ts) none, [])
 unfolding levels piece
 prefix_leveled ms ts calm l =
     (λ i. let p : List Token × ℕ = run_cut (nat_lt 0 (suc (suc (no_pairs ms calm i)))) (last_run (drop (no_pairs ms calm i) ms)) 2 (suc (suc (no_pairs ms calm i))) in in_level p.0 (levels p.1 false (Char false 47 ∷ ms)))
@@ -210,9 +210,9 @@ prefix_leveled ms ts calm l =
     ∙ ap (in_level (RecursivePrefix ∷ [])) l
 
 -- the tokens of `**/` before elements match what `**/` before the elements matches
-prefix_takes : (es : List Element) (text path : List ℕ) → AreSound es → elements_text es ≡ Some text → takes_all glob_options (prefixed es) path ≡ elements_take (Folders ∷ es) path
+prefix_matches : (es : List Element) (text path : List ℕ) → AreSound es → elements_text es ≡ Some text → tokens_match_each glob_options (prefixed es) path ≡ elements_take (Folders ∷ es) path
 unfolding elements_take
-prefix_takes es text path s h = λ i. some_cut (λ x y. (is_empty x || ends_with_slash x) && elements_take_as es text y s h i) path
+prefix_matches es text path s h = λ i. some_cut (λ x y. (is_empty x || ends_with_slash x) && elements_take_as es text y s h i) path
 
 -- the text of elements after any folders
 plain_exact : (es : List Element) → AreSound es → are_apart es ≡ true → needs_braces es ≡ false → (r : Option (List ℕ)) → elements_text es ≡ r
@@ -222,9 +222,9 @@ plain_exact es s a n None h = λ path. elements_none (Folders ∷ es) path (tt, 
 plain_exact es s a n (Some text) h =
     let k = elements_read es text s a h in
     of_tokens (codes "**/" ++ text) (prefixed es) (elements_take (Folders ∷ es)) k.scalars
-    (reads_as (codes "**/" ++ text) (Stars 2 ∷ Char false 47 ∷ k.is_marks) (prefixed es) (prefix_marked text ∙ ap (λ ms. Stars 2 ∷ Char false 47 ∷ ms) k.marked)
-    (prefix_nests k.is_marks k.nests) refl (prefix_leveled k.is_marks (tokens_of es) k.calm (k.leveled false)))
-    (prefix_not_alone es n) (prefix_not_silent es n) (λ path. prefix_takes es text path s h)
+    (reads_as (codes "**/" ++ text) (Stars 2 ∷ Char false 47 ∷ k.are_lexemes) (prefixed es) (prefix_marked text ∙ ap (λ ms. Stars 2 ∷ Char false 47 ∷ ms) k.marked)
+    (prefix_nests k.are_lexemes k.nests) refl (prefix_leveled k.are_lexemes (tokens_of es) k.calm (k.leveled false)))
+    (prefix_not_alone es n) (prefix_not_excluded es n) (λ path. prefix_matches es text path s h)
 
 after_exact : (es : List Element) → AreSound es → are_apart es ≡ true → IsExact (elements_take (Folders ∷ es)) (after_folders es)
 unfolding elements_text element_text
@@ -245,26 +245,26 @@ inner_lacks : (b : List ℕ) → list_all is_inner b ≡ true → Lacks is_separ
 inner_lacks [] h = refl
 inner_lacks (c ∷ cs) h = let p = and_parts (is_inner c) (list_all is_inner cs) h in lacks_cons is_separator c cs (not-true (c == 47) p.0) (inner_lacks cs p.1)
 
-class_lacks : (negated : Bool) (items : List Item) (byte : ℕ) → class_takes negated items byte ≡ true → (byte == 47) ≡ false
-unfolding class_takes
+class_lacks : (negated : Bool) (items : List Item) (byte : ℕ) → class_matches negated items byte ≡ true → (byte == 47) ≡ false
+unfolding class_matches
 class_lacks negated items byte h = not-true (byte == 47) (and_first (not (byte == 47)) _ h)
 
-element_lacks : (e : Element) (b : List ℕ) → takes_no_slash e ≡ true → element_takes e b ≡ true → Lacks is_separator b
+element_lacks : (e : Element) (b : List ℕ) → matches_no_slash e ≡ true → element_matches e b ≡ true → Lacks is_separator b
 element_lacks (Literal c) b n h = subst (Lacks is_separator) (sym ((bytes_eq-Decides b (encode_utf8 c)).0 h)) (encode_lacks 47 c (omega arith) (not-true (c == 47) n))
 element_lacks Any b n h = one_lacks is_inner b h (λ byte t. not-true (byte == 47) t)
 element_lacks Star b n h = inner_lacks b h
 element_lacks Folders b n h = absurd (true≢false (sym n))
 element_lacks Everything b n h = absurd (true≢false (sym n))
-element_lacks (Class negated items) b n h = one_lacks (class_takes negated items) b h (class_lacks negated items)
+element_lacks (Class negated items) b n h = one_lacks (class_matches negated items) b h (class_lacks negated items)
 
-elements_lack : (es : List Element) (b : List ℕ) → list_all takes_no_slash es ≡ true → elements_take es b ≡ true → Lacks is_separator b
+elements_lack : (es : List Element) (b : List ℕ) → list_all matches_no_slash es ≡ true → elements_take es b ≡ true → Lacks is_separator b
 unfolding elements_take
 elements_lack [] b n h = subst (Lacks is_separator) (sym (empty_is b h)) refl
 elements_lack (e ∷ es) b n h =
-    let p = and_parts (takes_no_slash e) (list_all takes_no_slash es) n in
-    let c = cut_of (λ x y. element_takes e x && elements_take es y) b h in
+    let p = and_parts (matches_no_slash e) (list_all matches_no_slash es) n in
+    let c = cut_of (λ x y. element_matches e x && elements_take es y) b h in
     subst (Lacks is_separator) (sym c.2)
-    (lacks_append is_separator c.0 c.1 (element_lacks e c.0 p.0 (and_first (element_takes e c.0) (elements_take es c.1) c.3)) (elements_lack es c.1 p.1 (and_second (element_takes e c.0) (elements_take es c.1) c.3)))
+    (lacks_append is_separator c.0 c.1 (element_lacks e c.0 p.0 (and_first (element_matches e c.0) (elements_take es c.1) c.3)) (elements_lack es c.1 p.1 (and_second (element_matches e c.0) (elements_take es c.1) c.3)))
 
 folders_end : (x : List ℕ) → IsTrue (is_empty x || ends_with_slash x) → EndsComponent x
 folders_end x h = ⊎_elim {C = EndsComponent x} (λ e. inl (empty_is x e)) (λ e. inr (ends_at x e)) (or_either (is_empty x) (ends_with_slash x) h)
@@ -274,7 +274,7 @@ end_folders x h = ⊎_elim {C = IsTrue (is_empty x || ends_with_slash x)}
     (λ e. or_first (is_empty x) (ends_with_slash x) (ap is_empty e))
     (λ (z, e). or_second (is_empty x) (ends_with_slash x) (subst (λ l. IsTrue (ends_with_slash l)) (sym e) (ends_push z))) h
 
-last_is : (es : List Element) (path : List ℕ) → list_all takes_no_slash es ≡ true → elements_take (Folders ∷ es) path ≡ elements_take es (last_component path)
+last_is : (es : List Element) (path : List ℕ) → list_all matches_no_slash es ≡ true → elements_take (Folders ∷ es) path ≡ elements_take es (last_component path)
 unfolding elements_take
 last_is es path n = same_truth _ _ (there, back)
   where
@@ -327,7 +327,7 @@ pattern_exact p f =
 
 has_meaning : (p : Pattern) (r : Option (List ℕ)) → IsExact (pattern_matches p) r → HasMeaning p r
 has_meaning p None h = h
-has_meaning p (Some text) h = record { read = h.0; listed = h.1; means = h.2 }
+has_meaning p (Some text) h = record { read = h.0; listed = h.1; tokens_match = h.2 }
 
 -- ---- characters
 

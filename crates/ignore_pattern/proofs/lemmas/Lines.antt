@@ -1,7 +1,6 @@
 -- The spaces at the end of a line, as a loop finds them.
 use Rattle.std.proofs.Common.{◌≡◌, ℕ, ◌-◌, ◌<◌, ◌≤◌, suc, zero, ◌==◌, if◌then◌else◌, List, [], ◌∷◌, ◌++◌, length, take, drop, inl, inr, refl, sym, ◌∙◌, ap, subst, arith, append_assoc}
 use Rattle.std.proofs.lemmas.Bool.{eq-eqb, ne_eqb, cases_eq}
-use Rattle.std.proofs.lemmas.List.{nil_from_length}
 use Rattle.ignore_pattern.specs.Lines.{before_kept, without_spaces}
 
 -- What is kept of a line: `kept` bytes if nothing is kept after `at` of them, and else these and what is kept after them.
@@ -61,9 +60,6 @@ starts line =
     }
 
 module _ (line : List ℕ) (kept : ℕ) (rest total : List ℕ) (s : Stands line kept rest total) where
-  pub ends : length rest ≡ 0 → take kept line ≡ total
-  ends nil = ap (λ (l : List ℕ). kept_with line kept (length line - length rest) (without_spaces l)) (sym (nil_from_length rest nil)) ∙ s.so_far
-
   module _ (c : ℕ) (cs : List ℕ) (cell : rest ≡ c ∷ cs) where
     next_at : length line - length cs ≡ suc (length line - length rest)
     next_at = let h = s.fits in omega (arith, ap length cell)

@@ -8,7 +8,7 @@ use Rattle.std.proofs.lemmas.Str.{IsUtf8-from_is_utf8, is_utf8-from_IsUtf8}
 use Rattle.ignore_pattern.specs.declared.place.Place.{Place}
 use Rattle.ignore_pattern.specs.declared.place.Place.TheVariants.{Start, AfterSlash, Elsewhere}
 use Rattle.ignore_pattern.specs.declared.pattern.IgnorePattern.{IgnorePattern}
-use Rattle.globset_glob.specs.Means.{GlobValue}
+use Rattle.globset_glob.specs.GlobMatches.{GlobValue}
 use Rattle.ignore_pattern.specs.Classes.{ClassAt, class_items, is_negated}
 use Rattle.ignore_pattern.specs.Elements.{Element, Literal, Any, Star, Folders, Everything, Class, ElementAt, at, run_at, class_after, class_at, escaped_at, element_at, with_element, elements}
 use Rattle.ignore_pattern.specs.Patterns.{pattern_with, pattern_of_chars, pattern_of_line}

@@ -1,8 +1,8 @@
 -- What is returned for a line.
 use Rattle.std.proofs.Common.{◌≡◌, ℕ, true, false, List, Some, None, inl, inr, sym, subst, string_bytes}
 use Rattle.std.specs.Prelude.{IsOk}
-use Rattle.globset_glob.specs.Means.{GlobValue, IsRead}
-use Rattle.globset_glob.specs.Errors.{ErrorValue, IsRefusalOf, out_of_memory}
+use Rattle.globset_glob.specs.GlobMatches.{GlobValue, IsRead}
+use Rattle.globset_glob.specs.Errors.{ErrorValue, IsParseErrorOf, out_of_memory}
 use Rattle.ignore_pattern.specs.declared.reading.PatternText.{PatternText}
 use Rattle.ignore_pattern.specs.Answer.{IsPatternOf}
 use Rattle.ignore_pattern.specs.Globs.{glob_of_line}
@@ -23,10 +23,10 @@ returned line p g e h =
     subst P (sym h) (returned_text line p e)
 
 -- The text of the glob can be read, so the only error is that memory ran out.
-pub only_memory : (line : List ℕ) (p : PatternText) (e : ErrorValue) → Some (with_glob p) ≡ glob_of_line line → IsRefusalOf glob_options (string_bytes p.text) e → e ≡ out_of_memory
+pub only_memory : (line : List ℕ) (p : PatternText) (e : ErrorValue) → Some (with_glob p) ≡ glob_of_line line → IsParseErrorOf glob_options (string_bytes p.text) e → e ≡ out_of_memory
 only_memory line p e is (inl memory) = memory
-only_memory line p e is (inr fault) =
+only_memory line p e is (inr parse_error_kind) =
     let r = returned_text line p is in
     let read : IsRead (with_glob p).glob = r.2.meaning.read in
-    let never : false ≡ true = subst IsOk fault.1 read in
+    let never : false ≡ true = subst IsOk parse_error_kind.1 read in
     cc

@@ -148,18 +148,18 @@ class_linked zero first last (c ∷ cs) s a class h =
 -- ---- elements
 
 -- the element matches no `/`
-abbrev pub takes_no_slash : Element → Bool
-takes_no_slash (Literal c) = not (c == 47)
-takes_no_slash Any = true
-takes_no_slash Star = true
-takes_no_slash Folders = false
-takes_no_slash Everything = false
-takes_no_slash (Class negated items) = true
+abbrev pub matches_no_slash : Element → Bool
+matches_no_slash (Literal c) = not (c == 47)
+matches_no_slash Any = true
+matches_no_slash Star = true
+matches_no_slash Folders = false
+matches_no_slash Everything = false
+matches_no_slash (Class negated items) = true
 
 -- what holds of the element that begins with `c`, followed by `cs`
 record ElementFacts (whole : Bool) (c : ℕ) (cs : List ℕ) (e : ElementAt) : Type 0 where
   sound : Sound e.element
-  inner : whole ≡ false → has_slash (c ∷ cs) ≡ false → takes_no_slash e.element ≡ true
+  inner : whole ≡ false → has_slash (c ∷ cs) ≡ false → matches_no_slash e.element ≡ true
   starred : starts_star e.element ≡ true → (c == 42) ≡ true
   run : is_star e.element ≡ true → e.more ≡ prefix_len (λ d. d == 42) cs
 
@@ -274,7 +274,7 @@ after_run whole place (c ∷ cs) es s h = cond_both (c == 42) (1 + prefix_len (�
 pub record AreWell (whole : Bool) (es : List Element) : Type 0 where
   pub sound : AreSound es
   pub apart : are_apart es ≡ true
-  pub inner : whole ≡ false → list_all takes_no_slash es ≡ true
+  pub inner : whole ≡ false → list_all matches_no_slash es ≡ true
 
 apart_from : (b : Bool) (e : Element) (es : List Element) → (is_star e ≡ true → begin_star es ≡ false) → is_star e ≡ b → not (is_star e && begin_star es) ≡ true
 apart_from true e es h is = rw (is, h is) refl

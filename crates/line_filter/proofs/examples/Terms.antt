@@ -4,13 +4,13 @@ use Rattle.std.specs.Char.{encode_utf8}
 use Rattle.std.specs.Fmt.{digits}
 use Rattle.std.specs.Str.{chars}
 use Prim.Native.String.{String}
-use Rattle.globset.specs.Answer.{answer}
-use Rattle.globset.specs.Marks.{marks, mark_at}
-use Rattle.globset.specs.Means.{GlobValue, tokens_of_glob, glob_means}
+use Rattle.globset.specs.Answer.{matching_indexes}
+use Rattle.globset.specs.Lexemes.{lexemes, lexeme_at}
+use Rattle.globset.specs.GlobMatches.{GlobValue, tokens_of_glob, glob_matches}
 use Rattle.globset.specs.Nesting.{nested}
 use Rattle.globset.specs.Ranges.{ranges, bad_range}
 use Rattle.globset.specs.Reading.{reading, whole, levels}
-use Rattle.globset.specs.Silent.{silent}
+use Rattle.globset.specs.Excluded.{excluded}
 use Rattle.globset.specs.Stars.{piece}
 use Rattle.line_filter.specs.Command.{CommandValue, FaultValue, command_of}
 use Rattle.line_filter.specs.Output.{sifted, has_match, line_output}
@@ -18,7 +18,7 @@ use Rattle.line_filter.specs.Texts.{command_fault_text}
 
 -- what a proof unfolds to compute with globs that are written out
 unfoldable pub globs_on_literals : Unit {0}
-unfolding chars encode_utf8 digits ranges bad_range marks mark_at nested piece reading whole levels tokens_of_glob glob_means silent answer line_output sifted has_match
+unfolding chars encode_utf8 digits ranges bad_range lexemes lexeme_at nested piece reading whole levels tokens_of_glob glob_matches excluded matching_indexes line_output sifted has_match
 globs_on_literals = tt
 
 -- ---- globs, by the options that are not the default ones

@@ -8,7 +8,7 @@ use Rattle.std.proofs.lemmas.Bool.{true≢false, eqb-true}
 use Rattle.memchr.specs.Find.{IsFirstByte, is_byte}
 use Rattle.std.proofs.lemmas.List.Folds.{list_any-append}
 use Rattle.line_filter.specs.Lines.{is_lf}
-use Rattle.globset.specs.Means.{GlobValue}
+use Rattle.globset.specs.GlobMatches.{GlobValue}
 use Rattle.line_filter.specs.Output.{is_matched, line_output, sifted, has_match}
 use Rattle.line_filter.specs.inner.Sifting.{FailsMidway, WritesAllBut, Handles}
 use Rattle.line_filter.specs.declared.sifting.fault.SiftFault.{SiftFault}

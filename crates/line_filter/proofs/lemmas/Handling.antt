@@ -7,7 +7,7 @@ use Rattle.std.proofs.KnownBytes.{Appends-nil, Appends-trans}
 use Rattle.std.proofs.lemmas.List.{take_rest}
 use Rattle.memchr.specs.Find.{IsFirstByte, is_byte}
 use Rattle.line_filter.specs.Lines.{is_lf, through_last_lf}
-use Rattle.globset.specs.Means.{GlobValue}
+use Rattle.globset.specs.GlobMatches.{GlobValue}
 use Rattle.line_filter.specs.Output.{is_matched, line_output, sifted, has_match}
 use Rattle.line_filter.specs.inner.Sifting.{FailsMidway, WritesAllBut, Handles}
 use Rattle.line_filter.specs.declared.sifting.fault.SiftFault.{SiftFault}

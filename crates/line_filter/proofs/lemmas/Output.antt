@@ -6,8 +6,8 @@ use Rattle.std.specs.List.{list_any, flat_map}
 use Rattle.std.proofs.lemmas.List.Concat.{flat_map-append}
 use Rattle.std.proofs.lemmas.List.Folds.{list_any-append}
 use Rattle.line_filter.specs.Lines.{lines, is_lf}
-use Rattle.globset.specs.Answer.{answer}
-use Rattle.globset.specs.Means.{GlobValue}
+use Rattle.globset.specs.Answer.{matching_indexes}
+use Rattle.globset.specs.GlobMatches.{GlobValue}
 use Rattle.line_filter.specs.Output.{is_matched, index_column, line_output, sifted, has_match}
 use Rattle.line_filter.specs.inner.Sifting.{IsWholeLines}
 use Rattle.line_filter.proofs.lemmas.Lines.{lines_line, lines_rest}
@@ -55,12 +55,12 @@ has_match-rest globs x xs e = ap (list_any (is_matched globs)) (lines_rest x xs 
 -- a line that is not matched
 pub line_output-none : (globs : List GlobValue) (numbered : Bool) (line : List ℕ) → is_matched globs line ≡ false → line_output globs numbered line ≡ []
 unfolding line_output
-line_output-none globs numbered line e = ap (λ b. cond b (index_column numbered (answer globs line) ++ line ++ 10 ∷ []) []) e
+line_output-none globs numbered line e = ap (λ b. cond b (index_column numbered (matching_indexes globs line) ++ line ++ 10 ∷ []) []) e
 
 -- a line that is matched
-pub line_output-some : (globs : List GlobValue) (numbered : Bool) (line : List ℕ) → is_matched globs line ≡ true → line_output globs numbered line ≡ index_column numbered (answer globs line) ++ line ++ 10 ∷ []
+pub line_output-some : (globs : List GlobValue) (numbered : Bool) (line : List ℕ) → is_matched globs line ≡ true → line_output globs numbered line ≡ index_column numbered (matching_indexes globs line) ++ line ++ 10 ∷ []
 unfolding line_output
-line_output-some globs numbered line e = ap (λ b. cond b (index_column numbered (answer globs line) ++ line ++ 10 ∷ []) []) e
+line_output-some globs numbered line e = ap (λ b. cond b (index_column numbered (matching_indexes globs line) ++ line ++ 10 ∷ []) []) e
 
 -- nothing was appended for a line that is not matched
 pub line_skipped : (globs : List GlobValue) (numbered : Bool) (line pending pending' : List ℕ) (o o' b : Bool) → b ≡ is_matched globs line → o' ≡ o → pending' ≡ pending → b ≡ false →
@@ -71,10 +71,10 @@ line_skipped globs numbered line pending pending' o o' b is p e f = (
 )
 
 -- a line that is matched was appended after its index column, with LF
-pub line_pushed : (globs : List GlobValue) (numbered : Bool) (line pending h1 h2 h3 : List ℕ) (o b : Bool) → b ≡ is_matched globs line → h1 ≡ pending ++ index_column numbered (answer globs line) → b ≡ true →
+pub line_pushed : (globs : List GlobValue) (numbered : Bool) (line pending h1 h2 h3 : List ℕ) (o b : Bool) → b ≡ is_matched globs line → h1 ≡ pending ++ index_column numbered (matching_indexes globs line) → b ≡ true →
     h2 ≡ h1 ++ line → h3 ≡ h2 ++ 10 ∷ [] → (h3 ≡ pending ++ line_output globs numbered line) × (true ≡ (o || is_matched globs line))
 line_pushed globs numbered line pending h1 h2 h3 o b is e f p q = (
-  q ∙ ap (λ l. l ++ 10 ∷ []) (p ∙ ap (λ l. l ++ line) e ∙ append_assoc pending (index_column numbered (answer globs line)) line)
-      ∙ append_assoc pending (index_column numbered (answer globs line) ++ line) (10 ∷ []) ∙ ap (λ l. pending ++ l) (sym (line_output-some globs numbered line (sym is ∙ f))),
+  q ∙ ap (λ l. l ++ 10 ∷ []) (p ∙ ap (λ l. l ++ line) e ∙ append_assoc pending (index_column numbered (matching_indexes globs line)) line)
+      ∙ append_assoc pending (index_column numbered (matching_indexes globs line) ++ line) (10 ∷ []) ∙ ap (λ l. pending ++ l) (sym (line_output-some globs numbered line (sym is ∙ f))),
   sym (or_right o (is_matched globs line) (sym is ∙ f)),
 )

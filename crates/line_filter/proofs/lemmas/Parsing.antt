@@ -2,7 +2,7 @@
 use Rattle.std.proofs.Common.{◌≡◌, ℕ, List, [], ◌∷◌, ◌++◌, Bool, ◌||◌, ap, sym, ◌∙◌, refl, append_assoc, append-nil, cond, Result, Ok, Err, codes, inl, inr}
 use Rattle.std.specs.List.{list_any}
 use Rattle.std.specs.Str.{bytes_eq}
-use Rattle.globset.specs.Means.{GlobValue}
+use Rattle.globset.specs.GlobMatches.{GlobValue}
 use Rattle.line_filter.specs.Command.{CommandValue, FaultValue, IsFaultOf, is_double_dash, is_in_force, is_numbered, parse_arguments, parse_argument, collect_globs, with_some_glob, command_of_globs}
 use Rattle.line_filter.specs.inner.Parsing.{no_flags, parse_globs, parse_all_with_flags, collect_onto}
 use Rattle.line_filter.specs.declared.arguments.flags.Flags.{Flags}

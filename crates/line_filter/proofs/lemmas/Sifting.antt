@@ -3,8 +3,8 @@ use Rattle.std.proofs.Common.{◌≡◌, ℕ, take, List, [], ◌++◌, length, 
 use Rattle.std.specs.Io.KnownBytes.{Appends, Consumes, IsAtEnd}
 use Rattle.std.proofs.KnownBytes.{Appends-trans, Consumes-nil, Consumes-trans}
 use Rattle.std.proofs.lemmas.List.{take_at}
-use Rattle.globset.specs.Means.{GlobValue}
-use Rattle.line_filter.specs.Output.{sifted, has_match, Sifts, Stops}
+use Rattle.globset.specs.GlobMatches.{GlobValue}
+use Rattle.line_filter.specs.Output.{sifted, has_match, SiftSucceeds, SiftFails}
 use Rattle.line_filter.specs.inner.Sifting.{FailsMidway, Handles}
 use Rattle.line_filter.specs.declared.sifting.fault.SiftFault.{SiftFault}
 use Rattle.line_filter.specs.declared.sifting.fault.SiftFault.TheVariants.{Read, Write, OutOfMemory}
@@ -13,19 +13,19 @@ use Rattle.line_filter.proofs.lemmas.Written.{FailsMidway-memory}
 use Rattle.line_filter.proofs.lemmas.Handling.{Handles-rest_is, Handles-rest_fails}
 
 -- an error of a step is an error of the whole call
-pub Stops-fails : (globs : List GlobValue) (numbered : Bool) (bytes : List ℕ) (r r' w w' : Option (List ℕ)) (f : SiftFault) → Consumes r r' bytes → FailsMidway w w' (sifted globs numbered bytes) f → Stops globs numbered r r' w w' f
-Stops-fails globs numbered bytes r r' w w' Read p h = absurd h
-Stops-fails globs numbered bytes r r' w w' Write p h = (bytes, p, h)
-Stops-fails globs numbered bytes r r' w w' OutOfMemory p h = (bytes, p, h)
+pub SiftFails-fails : (globs : List GlobValue) (numbered : Bool) (bytes : List ℕ) (r r' w w' : Option (List ℕ)) (f : SiftFault) → Consumes r r' bytes → FailsMidway w w' (sifted globs numbered bytes) f → SiftFails globs numbered r r' w w' f
+SiftFails-fails globs numbered bytes r r' w w' Read p h = absurd h
+SiftFails-fails globs numbered bytes r r' w w' Write p h = (bytes, p, h)
+SiftFails-fails globs numbered bytes r r' w w' OutOfMemory p h = (bytes, p, h)
 
 -- memory ran out before anything was read
-pub Stops-start : (globs : List GlobValue) (numbered : Bool) (r w : Option (List ℕ)) (f : SiftFault) → f ≡ OutOfMemory → Stops globs numbered r r w w f
-Stops-start globs numbered r w f e = Stops-fails globs numbered [] r r w w f (Consumes-nil r) (FailsMidway-memory w (sifted globs numbered []) f e)
+pub SiftFails-start : (globs : List GlobValue) (numbered : Bool) (r w : Option (List ℕ)) (f : SiftFault) → f ≡ OutOfMemory → SiftFails globs numbered r r w w f
+SiftFails-start globs numbered r w f e = SiftFails-fails globs numbered [] r r w w f (Consumes-nil r) (FailsMidway-memory w (sifted globs numbered []) f e)
 
 -- the rest after the last LF was handled, and all is written
-pub Sifts-end : (globs : List GlobValue) (numbered : Bool) (bytes front rest : List ℕ) (r r1 r2 w w1 w2 : Option (List ℕ)) (h1 : List ℕ) (o1 b : Bool) → Consumes r r1 bytes → Consumes r1 r2 front →
-    front ≡ [] → IsAtEnd r2 → Handles globs numbered bytes rest w w1 [] h1 false o1 → Appends w1 w2 (h1 ++ sifted globs numbered rest) → b ≡ (o1 || has_match globs rest) → Sifts globs numbered r r2 w w2 b
-Sifts-end globs numbered bytes front rest r r1 r2 w w1 w2 h1 o1 b p q none end m a is = (
+pub SiftSucceeds-end : (globs : List GlobValue) (numbered : Bool) (bytes front rest : List ℕ) (r r1 r2 w w1 w2 : Option (List ℕ)) (h1 : List ℕ) (o1 b : Bool) → Consumes r r1 bytes → Consumes r1 r2 front →
+    front ≡ [] → IsAtEnd r2 → Handles globs numbered bytes rest w w1 [] h1 false o1 → Appends w1 w2 (h1 ++ sifted globs numbered rest) → b ≡ (o1 || has_match globs rest) → SiftSucceeds globs numbered r r2 w w2 b
+SiftSucceeds-end globs numbered bytes front rest r r1 r2 w w1 w2 h1 o1 b p q none end m a is = (
   bytes,
   subst (λ (l : List ℕ). Consumes r r2 l) (ap (λ (l : List ℕ). bytes ++ l) none ∙ append-nil bytes) (Consumes-trans r r1 r2 bytes front p q),
   end,
@@ -43,11 +43,11 @@ Consumes-is a b xs ys e p = subst (λ (l : List ℕ). Consumes a b l) (sym e) p
 pub end_result : (globs : List GlobValue) (numbered : Bool) (bytes front rest rest' : List ℕ) (r r1 r2 w w1 w2 : Option (List ℕ)) (h1 : List ℕ) (o1 : Bool) (result : Result Bool SiftFault) →
     Consumes r r1 bytes → Consumes r1 r2 front → front ≡ [] → IsAtEnd r2 → Handles globs numbered bytes rest w w1 [] h1 false o1 → rest' ≡ rest →
     MatchResult result (λ b. Appends w1 w2 (h1 ++ sifted globs numbered rest') × (b ≡ (o1 || has_match globs rest'))) (FailsMidway w1 w2 (h1 ++ sifted globs numbered rest')) →
-    MatchResult result (Sifts globs numbered r r2 w w2) (Stops globs numbered r r2 w w2)
+    MatchResult result (SiftSucceeds globs numbered r r2 w w2) (SiftFails globs numbered r r2 w w2)
 end_result globs numbered bytes front rest rest' r r1 r2 w w1 w2 h1 o1 (Ok b) p q none end m is a =
-    Sifts-end globs numbered bytes front rest' r r1 r2 w w1 w2 h1 o1 b p q none end (Handles-rest_is globs numbered bytes rest rest' w w1 [] h1 false o1 is m) a.0 a.1
+    SiftSucceeds-end globs numbered bytes front rest' r r1 r2 w w1 w2 h1 o1 b p q none end (Handles-rest_is globs numbered bytes rest rest' w w1 [] h1 false o1 is m) a.0 a.1
 end_result globs numbered bytes front rest rest' r r1 r2 w w1 w2 h1 o1 (Err f) p q none end m is a =
-    Stops-fails globs numbered bytes r r2 w w2 f
+    SiftFails-fails globs numbered bytes r r2 w w2 f
     (Consumes-is r r2 bytes (bytes ++ front) (sym (ap (λ (l : List ℕ). bytes ++ l) none ∙ append-nil bytes)) (Consumes-trans r r1 r2 bytes front p q))
     (Handles-rest_fails globs numbered bytes rest' w w1 w2 [] h1 false o1 f (Handles-rest_is globs numbered bytes rest rest' w w1 [] h1 false o1 is m) a)
 

@@ -3,5 +3,5 @@ use Rattle.std.specs.Prelude.{◌≡◌}
 use Rattle.line_filter.specs.declared.sifting.output.Output.{Output}
 
 -- both are made with the same set, and in the same form
-abbrev pub AreAlike : Output → Output → Type 0
-AreAlike old new = (new.set.now ≡ old.set.now) × (new.numbered ≡ old.numbered)
+abbrev pub AreEquivalent : Output → Output → Type 0
+AreEquivalent old new = (new.set.now ≡ old.set.now) × (new.numbered ≡ old.numbered)

@@ -3,7 +3,7 @@
 use Rattle.std.specs.Prelude.{◌≡◌, ℕ, List, ◌++◌, Bool, true, false, ◌||◌, Option}
 use Rattle.std.specs.List.{list_any}
 use Rattle.std.specs.Io.KnownBytes.{Appends}
-use Rattle.globset.specs.Means.{GlobValue}
+use Rattle.globset.specs.GlobMatches.{GlobValue}
 use Rattle.line_filter.specs.Lines.{lines, is_lf, through_last_lf}
 use Rattle.line_filter.specs.Output.{sifted, has_match, AppendsPrefix}
 use Rattle.line_filter.specs.declared.sifting.fault.SiftFault.{SiftFault}

@@ -1,7 +1,7 @@
 //! The output for lines, collected in a buffer.
 
 ghost use Rattle.std.specs.Prelude.{◌≡◌, [], ◌++◌, ◌||◌, true, false, MatchResult, IfOk, OnOk};
-ghost use Rattle.globset.specs.Answer.{answer};
+ghost use Rattle.globset.specs.Answer.{matching_indexes};
 ghost use Rattle.globset.specs.SetValue.{Fits, set_globs};
 ghost use Rattle.line_filter.specs.Output.{index_column, is_matched, line_output, sifted};
 ghost use Rattle.line_filter.specs.inner.Sifting.{FailsMidway, Handles, WritesAllBut};
@@ -54,7 +54,7 @@ impl Drop for Output<'_> {
 }
 
 impl<'s> Output<'s> {
-    ghost use Rattle.line_filter.specs.inner.Outputs.{AreAlike};
+    ghost use Rattle.line_filter.specs.inner.Outputs.{AreEquivalent};
 
     /// Returns an output with nothing pending, for this set and this form.
     pub fn new(alloc: Global, set: &'s GlobSet, numbered: bool) -> Result<Output<'s>, AllocError>
@@ -78,9 +78,9 @@ impl<'s> Output<'s> {
         ensures done { IfOk result (λ yes. (yes ≡ is_matched (set_globs self.old.set.now) line.now)
             × (self.new.any_written ≡ self.old.any_written)
             × (yes ≡ true → self.new.pending.items
-            ≡ self.old.pending.items ++ index_column self.old.numbered (answer (set_globs self.old.set.now) line.now))
+            ≡ self.old.pending.items ++ index_column self.old.numbered (matching_indexes (set_globs self.old.set.now) line.now))
             × (yes ≡ false → self.new.pending.items ≡ self.old.pending.items)) }
-        ensures alike { AreAlike self.old self.new }
+        ensures equivalent { AreEquivalent self.old self.new }
     {
         let path = Candidate::from_bytes(line);
         if !self.numbered {
@@ -98,7 +98,7 @@ impl<'s> Output<'s> {
     fn push_line_output(&mut self, line: &[u8]) -> Result<(), AllocError>
         ensures done { OnOk result ((self.new.pending.items ≡ self.old.pending.items ++ line_output (set_globs self.old.set.now) self.old.numbered line.now)
             × (self.new.any_written ≡ (self.old.any_written || is_matched (set_globs self.old.set.now) line.now))) }
-        ensures alike { AreAlike self.old self.new }
+        ensures equivalent { AreEquivalent self.old self.new }
     {
         if !self.push_index_column(line)? {
             return Ok(());
@@ -117,7 +117,7 @@ impl<'s> Output<'s> {
             × (self.new.any_written ≡ (self.old.any_written || is_matched (set_globs self.old.set.now) line.now)))
             (FailsMidway (W.contents writer.old) (W.contents writer.new)
             (self.old.pending.items ++ line_output (set_globs self.old.set.now) self.old.numbered line.now)) }
-        ensures alike { AreAlike self.old self.new }
+        ensures equivalent { AreEquivalent self.old self.new }
     {
         self.push_line_output(line)?;
         if self.pending.len() >= FULL {
@@ -138,7 +138,7 @@ impl<'s> Output<'s> {
             self.old.pending.items self.new.pending.items self.old.any_written self.new.any_written)
             (FailsMidway (W.contents writer.old) (W.contents writer.new)
             (self.old.pending.items ++ sifted (set_globs self.old.set.now) self.old.numbered bytes.now)) }
-        ensures alike { AreAlike self.old self.new }
+        ensures equivalent { AreEquivalent self.old self.new }
     {
         let mut rest = bytes;
         while let Some(i) = memchr(b'\n', rest) {
@@ -167,7 +167,7 @@ fn find(
     into: &mut Vec<usize>,
 ) -> Result<(), AllocError>
     requires { Fits scratch.old set.now }
-    ensures found { OnOk result (into.new.items ≡ answer (set_globs set.now) path.now) }
+    ensures found { OnOk result (into.new.items ≡ matching_indexes (set_globs set.now) path.now) }
     ensures fits { Fits scratch.new set.now }
 {
     let mut visits = Visits::new();

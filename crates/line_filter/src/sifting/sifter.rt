@@ -32,7 +32,7 @@ impl Drop for Sifter<'_> {
 }
 
 impl<'s> Sifter<'s> {
-    ghost use Rattle.line_filter.specs.inner.Outputs.{AreAlike};
+    ghost use Rattle.line_filter.specs.inner.Outputs.{AreEquivalent};
 
     /// Returns a sifter that was given no chunk yet, for this set and this form.
     pub fn new(alloc: Global, set: &'s GlobSet, numbered: bool) -> Result<Sifter<'s>, AllocError>
@@ -61,7 +61,7 @@ impl<'s> Sifter<'s> {
             self.old.output.pending.items self.new.output.pending.items self.old.output.any_written self.new.output.any_written)
             (FailsMidway (W.contents writer.old) (W.contents writer.new)
             (self.old.output.pending.items ++ sifted (set_globs self.old.output.set.now) self.old.output.numbered bytes.now)) }
-        ensures alike { AreAlike self.old.output self.new.output }
+        ensures equivalent { AreEquivalent self.old.output self.new.output }
     {
         let tail = self.output.handle_lines(bytes, writer)?;
         self.rest.extend_from_slice(tail)?;
@@ -77,7 +77,7 @@ impl<'s> Sifter<'s> {
             self.old.output.pending.items self.new.output.pending.items self.old.output.any_written self.new.output.any_written)
             (FailsMidway (W.contents writer.old) (W.contents writer.new)
             (self.old.output.pending.items ++ sifted (set_globs self.old.output.set.now) self.old.output.numbered (self.old.rest.items ++ chunk.now))) }
-        ensures alike { AreAlike self.old.output self.new.output }
+        ensures equivalent { AreEquivalent self.old.output self.new.output }
     {
         if self.rest.is_empty() {
             return self.handle_lines_and_keep_rest(chunk, writer);

@@ -1,6 +1,6 @@
 use Rattle.std.proofs.Common.{◌≡◌, ℕ, ◌+◌, ◌-◌, ◌<◌, ◌≤◌, ◌∷◌, [], ◌++◌, Bool, IsTrue, arith, sym, subst}
 use Rattle.bit_sets.specs.Indexes.{has_index}
-use Rattle.byte_dfa.proofs.lemmas.Lists.{IsListedTo, listed_none, listed_past, listed_more}
+use Rattle.byte_dfa.proofs.lemmas.Lists.{IsReportedTo, listed_none, listed_past, listed_more}
 use Rattle.byte_dfa.proofs.lists.indexes_from.Goals as goal
 
 pub loop-index-init : goal.loop-index-init
@@ -9,7 +9,7 @@ loop-index-init c =
     record {
       low = omega arith;
       high = omega arith;
-      listed = rw c.new-list.ensures.items (subst (λ j. IsListedTo (λ k. has_index c.args.set.now (c.args.from + k)) c.args.count j []) none (listed_none (λ k. has_index c.args.set.now (c.args.from + k)) c.args.count));
+      listed = rw c.new-list.ensures.items (subst (λ j. IsReportedTo (λ k. has_index c.args.set.now (c.args.from + k)) c.args.count j []) none (listed_none (λ k. has_index c.args.set.now (c.args.from + k)) c.args.count));
     }
 
 pub loop-index-preserved : goal.loop-index-preserved
@@ -27,7 +27,7 @@ loop-index-preserved c =
     record {
       low = omega arith;
       high = omega arith;
-      listed = rw c.in_ok-push.ensures.items (subst (λ n. IsListedTo test c.args.count n (c.loop-index.list.items ++ j ∷ [])) next more);
+      listed = rw c.in_ok-push.ensures.items (subst (λ n. IsReportedTo test c.args.count n (c.loop-index.list.items ++ j ∷ [])) next more);
     }
 
 pub returns-clause-has : goal.returns-clause-has

@@ -2,8 +2,8 @@ use Rattle.std.proofs.Common.{◌≡◌, ℕ, ◌+◌, ◌⊎◌, slice_index, t
 use Rattle.std.specs.Prelude.{◌==◌}
 use Rattle.std.proofs.Math.Logic.{⊎_elim}
 use Rattle.std.proofs.lemmas.List.{take_all}
-use Rattle.byte_automaton.proofs.lemmas.Pass.{or_first, or_second}
-use Rattle.bit_sets.specs.Indexes.{has_index, index_room}
+use Rattle.byte_nfa.proofs.lemmas.Pass.{or_first, or_second}
+use Rattle.bit_sets.specs.Indexes.{has_index, index_capacity}
 use Rattle.byte_filter.specs.Others.{HasEach, IsOther}
 use Rattle.byte_filter.proofs.lemmas.Others.{other_at, below_at, other_more}
 use Rattle.byte_filter.proofs.others.mark_others.Goals.{then-has_signs, else-has_signs}
@@ -17,7 +17,7 @@ loop-i-init c = record {
 }
 
 pub put-requires : goal.put-requires
-put-requires c = let below = below_at (index_room c.args.marks.now) c.args.others.now c.loop-i.i c.requires c.loop-i-test.true in omega (arith, below, c.loop-i.invariant.room)
+put-requires c = let below = below_at (index_capacity c.args.marks.now) c.args.others.now c.loop-i.i c.requires c.loop-i-test.true in omega (arith, below, c.loop-i.invariant.room)
 
 pub loop-i-preserved : goal.loop-i-preserved
 loop-i-preserved c =

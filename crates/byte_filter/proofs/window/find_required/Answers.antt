@@ -7,7 +7,7 @@ loop-above-preserved-then-next-least c =
     let inv = c.loop-above.invariant in
     let s = c.loop-above.above - 1 in
     record {
-      upto = omega (arith, inv.upto);
+      limit = omega (arith, inv.limit);
       least = omega (arith, inv.least, c.if-next-least.true);
       stands = stands_more c.args.automaton.now.states c.args.start s c.loop-above.above c.loop-above.least c.in-Some.next c.in-Some.next (omega arith) inv.stands
           c.least_next.ensures.below c.in-Some.ensures.least.0 c.in-Some.ensures.least.1 (omega (arith, c.if-next-least.true)) (omega arith);
@@ -20,7 +20,7 @@ loop-above-preserved c =
     let inv = c.loop-above.invariant in
     let s = c.loop-above.above - 1 in
     record {
-      upto = omega (arith, inv.upto);
+      limit = omega (arith, inv.limit);
       least = inv.least;
       stands = stands_more c.args.automaton.now.states c.args.start s c.loop-above.above c.loop-above.least c.in-Some.next c.loop-above.least (omega arith) inv.stands
           c.least_next.ensures.below c.in-Some.ensures.least.0 c.in-Some.ensures.least.1 (omega arith) (omega (arith, c.if-next-least.false));

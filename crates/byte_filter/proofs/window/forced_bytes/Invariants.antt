@@ -1,6 +1,6 @@
 use Rattle.std.proofs.Common.{◌≡◌, ℕ, ◌<◌, length, slice_index}
-use Rattle.byte_automaton.specs.Forcing.{Forces}
-use Rattle.byte_automaton.specs.Steps.{state}
+use Rattle.byte_nfa.specs.Forcing.{Forces}
+use Rattle.byte_nfa.specs.Steps.{state}
 use Rattle.byte_filter.proofs.window.forced_bytes.Given as goal
 
 abbrev pub invariant-loop-s : goal.invariant-loop-s

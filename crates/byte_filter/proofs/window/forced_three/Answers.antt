@@ -1,5 +1,5 @@
 use Rattle.std.proofs.Common.{◌-◌, slice_index, arith}
-use Rattle.byte_automaton.specs.Steps.{Machine}
+use Rattle.byte_nfa.specs.Steps.{Machine}
 use Rattle.byte_filter.specs.inner.Cuts.{AreForced}
 use Rattle.byte_filter.proofs.lemmas.Cuts.{three_forced}
 use Rattle.byte_filter.proofs.window.forced_three.Goals as goal

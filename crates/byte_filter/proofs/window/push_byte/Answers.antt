@@ -5,5 +5,5 @@ use Rattle.byte_filter.proofs.window.push_byte.Goals as goal
 pub returns-in_ok-push : goal.returns-in_ok-push
 returns-in_ok-push c = λ before.
     let m = c.args.automaton.now in
-    let required = byte_required m c.args.start c.args.least c.args.s c.args.byte c.requires.stands c.requires.upto c.requires.order (c.requires.forced c.if-byte-gt0.true) in
+    let required = byte_required m c.args.start c.args.least c.args.s c.args.byte c.requires.stands c.requires.limit c.requires.order (c.requires.forced c.if-byte-gt0.true) in
     rw c.in_ok-push.ensures.items (each_more (IsRequiredByte m c.args.start) c.args.byte c.args.bytes.now.items required before)

@@ -11,9 +11,9 @@ returns-in_ok-push-2 c = record {
       let key = c.in-Some.three in
       let fourth = slice_index c.args.bytes.now (c.args.s - 3) in
       let reads = c.in-Some.ensures.2 m c.requires.bytes in
-      let three : IsRequiredThree m c.args.start key = three_required m c.args.start c.args.least c.args.s key c.requires.stands c.requires.upto c.requires.order c.in-Some.ensures.0 reads in
+      let three : IsRequiredThree m c.args.start key = three_required m c.args.start c.args.least c.args.s key c.requires.stands c.requires.limit c.requires.order c.in-Some.ensures.0 reads in
       let four : IsRequired m c.args.start (key * 256 + fourth) =
-      four_required m c.args.start c.args.least c.args.s key c.requires.stands c.requires.upto c.requires.order fourth c.in-Some.ensures.0 reads
+      four_required m c.args.start c.args.least c.args.s key c.requires.stands c.requires.limit c.requires.order fourth c.in-Some.ensures.0 reads
       (c.requires.bytes.forced (c.args.s - 3) (omega (arith, c.requires.within)) c.if-fourth-gt0.true) in
       record {
         short_ones = rw c.in_ok-push.ensures.items (each_more (IsRequiredThree m c.args.start) key c.args.windows.now.short.items three before.short_ones);
@@ -27,7 +27,7 @@ returns-else-fourth-gt0 c = record {
   windows = λ before.
       let m = c.args.automaton.now in
       let key = c.in-Some.three in
-      let three : IsRequiredThree m c.args.start key = three_required m c.args.start c.args.least c.args.s key c.requires.stands c.requires.upto c.requires.order c.in-Some.ensures.0 (c.in-Some.ensures.2 m c.requires.bytes) in
+      let three : IsRequiredThree m c.args.start key = three_required m c.args.start c.args.least c.args.s key c.requires.stands c.requires.limit c.requires.order c.in-Some.ensures.0 (c.in-Some.ensures.2 m c.requires.bytes) in
       record {
         short_ones = rw c.in_ok-push.ensures.items (each_more (IsRequiredThree m c.args.start) key c.args.windows.now.short.items three before.short_ones);
         long_ones = before.long_ones;

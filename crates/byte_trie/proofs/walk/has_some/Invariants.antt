@@ -1,11 +1,11 @@
 use Rattle.std.proofs.Common.{◌≡◌, ◌+◌, ◌<◌, ◌≤◌, length, drop}
-use Rattle.byte_trie.specs.inner.Sides.{from_side}
+use Rattle.byte_trie.specs.inner.Anchors.{from_anchor}
 use Rattle.byte_trie.specs.inner.Nodes.{under, along, node_count}
 use Rattle.byte_trie.proofs.walk.has_some.Given as goal
 
 abbrev pub invariant-loop-at : goal.invariant-loop-at
 invariant-loop-at l = record {
-  found : (along (under l.tree l.node) (drop l.at (from_side l.side l.path)) ≡ along (under l.tree 0) (from_side l.side l.path));
+  found : (along (under l.tree l.node) (drop l.at (from_anchor l.anchor l.path)) ≡ along (under l.tree 0) (from_anchor l.anchor l.path));
   node : l.node < node_count l.tree;
   at : l.at ≤ length l.path;
   visits : l.visits ≤ l.initial.visits + l.at;

@@ -1,6 +1,5 @@
-use Rattle.std.proofs.Common.{◌≡◌, List, length, take, drop}
-use Rattle.globset.specs.Means.{GlobValue}
-use Rattle.glob_prefixes.specs.Prefixes.{FitsPrefixes, IsAfter, IsPrefixMatcherOf}
+use Rattle.std.proofs.Common.{take, drop}
+use Rattle.glob_prefixes.specs.Prefixes.{FitsPrefixes, IsAfter}
 use Rattle.git_ignore.specs.inner.FolderParts.{ArePutUpTo, said_of_folder}
 use Rattle.git_ignore.proofs.folders.put_decisions.Given as goal
 
@@ -8,5 +7,5 @@ abbrev pub invariant-loop-at : goal.invariant-loop-at
 invariant-loop-at l = record {
   fits : FitsPrefixes l.states l.prefixes;
   read : IsAfter l.prefixes l.states (drop l.start (take l.at l.path));
-  put : (globs : List GlobValue) → IsPrefixMatcherOf globs l.prefixes → ArePutUpTo (said_of_folder globs l.entries) l.path l.start l.at l.initial.decisions l.decisions;
+  put : ArePutUpTo (said_of_folder l.prefixes.globs l.entries) l.path l.start l.at l.initial.decisions l.decisions;
 }

@@ -1,10 +1,9 @@
 use Rattle.std.proofs.Common.{◌≡◌, length, take}
-use Rattle.glob_prefixes.specs.Prefixes.{AreAdded, most_globs}
+use Rattle.glob_prefixes.specs.Prefixes.{max_globs}
 use Rattle.git_ignore.proofs.reading.prefix_matcher.Given as goal
 
 abbrev pub invariant-loop-glob : goal.invariant-loop-glob
 invariant-loop-glob l = record {
-  added : AreAdded (take l.glob-index l.globs) l.builder;
-  number : l.builder.added ≡ l.glob-index;
-  most : most_globs l.builder ≡ length l.globs;
+  added : l.builder.globs ≡ take l.glob-index l.globs;
+  maximum : max_globs l.builder ≡ length l.globs;
 }

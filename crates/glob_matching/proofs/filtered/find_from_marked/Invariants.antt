@@ -1,18 +1,18 @@
 use Rattle.std.proofs.Common.{◌≡◌, ℕ, ◌+◌, ◌*◌, ◌-◌, ◌≤◌, ◌⊎◌, length, IsTrue}
 use Rattle.std.specs.Prelude.{◌↔◌}
-use Rattle.bit_sets.specs.Indexes.{has_index, index_room}
-use Rattle.byte_automaton.specs.Sets.{sets_room}
+use Rattle.bit_sets.specs.Indexes.{has_index, index_capacity}
+use Rattle.byte_nfa.specs.Sets.{sets_capacity}
 use Rattle.glob_matching.specs.inner.Filtered.{low_of, IsReachedBefore}
 use Rattle.glob_matching.proofs.filtered.find_from_marked.Given as goal
 
 abbrev pub invariant-loop-i : goal.invariant-loop-i
 invariant-loop-i l = record {
   within : l.from ≤ length l.automaton.starts;
-  room : sets_room l.sets ≡ sets_room l.fn.sets;
+  room : sets_capacity l.sets ≡ sets_capacity l.fn.sets;
   starts : l.sets.starts ≡ l.fn.sets.starts;
-  found_room : index_room l.found ≡ index_room l.fn.found;
+  found_capacity : index_capacity l.found ≡ index_capacity l.fn.found;
   found : (k : ℕ) → IsTrue (has_index l.found k) ↔ (IsReachedBefore l.automaton l.fn.sets.starts l.from l.text k ⊎ IsTrue (has_index l.fn.found k));
-  visits : l.visits ≤ l.fn.visits + (length l.text + 1) * low_of l.automaton.starts l.from;
+  visits : l.visits ≤ l.fn.visits + (length l.text + 1) * low_of l.automaton.starts l.from + 2 * l.from;
   counted : l.fn.visits ≤ l.visits;
 }
 

@@ -1,6 +1,6 @@
 use Rattle.std.proofs.Common.{◌+◌, ◌<◌, length, ap, arith, ◌∙◌}
 use Rattle.std.proofs.lemmas.List.{take_all}
-use Rattle.byte_automaton.specs.Steps.{Machine}
+use Rattle.byte_nfa.specs.Steps.{Machine}
 use Rattle.glob_matching.specs.inner.Parts.{sources}
 use Rattle.glob_matching.proofs.lemmas.Parts.{source_at, sources_length, found_more, visits_more}
 use Rattle.glob_matching.proofs.parts.find_by_tables.Goals as goal
@@ -23,7 +23,7 @@ loop-table-preserved c =
     record {
       room = c.find.ensures.room ∙ inv.room;
       found = λ k. found_more (sources tables) i c.table-item.result.source lt is c.args.text.now k (inv.found k) (c.find.ensures.found k);
-      visits = visits_more (length c.args.text.now + 1) i 1 c.loop-table.visits c.find.new.visits c.args.visits.now (omega arith) inv.visits;
+      visits = visits_more (length c.args.text.now + 2) i 1 c.loop-table.visits c.find.new.visits c.args.visits.now (omega arith) inv.visits;
       counted = omega arith;
     }
 

@@ -1,7 +1,7 @@
 use Rattle.std.proofs.Common.{◌+◌, length, take, arith, refl, sym, ◌∙◌, true≢false}
-use Rattle.byte_automaton.specs.Runs.{size}
+use Rattle.byte_nfa.specs.Runs.{size}
 use Rattle.glob_matching.specs.inner.Parts.{total}
-use Rattle.glob_matching.proofs.lemmas.Parts.{some_at, none_more, visits_more, visits_upto, total_more, total_upto}
+use Rattle.glob_matching.proofs.lemmas.Parts.{some_at, none_more, visits_more, visits_limit, total_more, total_limit}
 use Rattle.glob_matching.proofs.parts.is_match_by_simulation.Goals as goal
 
 pub returns-in_err-is_match-clause-visits : goal.returns-in_err-is_match-clause-visits
@@ -10,8 +10,8 @@ returns-in_err-is_match-clause-visits c =
     let i = c.loop-automaton.automaton-index in
     let m = c.automaton-item.result in
     let n = length c.args.text.now + 1 in
-    let upto = total_upto automata i m c.loop-automaton-test.true c.automaton-item.is in
-    visits_upto n (total (take i automata) + size m) (total automata) c.is_match.new.visits c.args.visits.now upto
+    let limit = total_limit automata i m c.loop-automaton-test.true c.automaton-item.is in
+    visits_limit n (total (take i automata) + size m) (total automata) c.is_match.new.visits c.args.visits.now limit
     (visits_more n (total (take i automata)) (size m) c.loop-automaton.visits c.is_match.new.visits c.args.visits.now c.is_match.ensures.visits c.loop-automaton.invariant.visits)
 
 pub returns-then-branch-clause-visits : goal.returns-then-branch-clause-visits
@@ -20,8 +20,8 @@ returns-then-branch-clause-visits c =
     let i = c.loop-automaton.automaton-index in
     let m = c.automaton-item.result in
     let n = length c.args.text.now + 1 in
-    let upto = total_upto automata i m c.loop-automaton-test.true c.automaton-item.is in
-    visits_upto n (total (take i automata) + size m) (total automata) c.is_match.new.visits c.args.visits.now upto
+    let limit = total_limit automata i m c.loop-automaton-test.true c.automaton-item.is in
+    visits_limit n (total (take i automata) + size m) (total automata) c.is_match.new.visits c.args.visits.now limit
     (visits_more n (total (take i automata)) (size m) c.loop-automaton.visits c.is_match.new.visits c.args.visits.now c.is_match.ensures.visits c.loop-automaton.invariant.visits)
 
 pub returns-then-branch-clause-some : goal.returns-then-branch-clause-some
@@ -49,5 +49,5 @@ loop-automaton-preserved c =
 
 pub returns-in_err-is_match-clause-memory : goal.returns-in_err-is_match-clause-memory
 returns-in_err-is_match-clause-memory c = λ enough.
-    let upto = total_upto c.args.automata.now c.loop-automaton.automaton-index c.automaton-item.result c.loop-automaton-test.true c.automaton-item.is in
-    absurd (true≢false (sym (c.in_err-is_match.ensures.memory (omega (arith, upto, enough, c.loop-automaton.invariant.kept)))))
+    let limit = total_limit c.args.automata.now c.loop-automaton.automaton-index c.automaton-item.result c.loop-automaton-test.true c.automaton-item.is in
+    absurd (true≢false (sym (c.in_err-is_match.ensures.memory (omega (arith, limit, enough, c.loop-automaton.invariant.kept)))))

@@ -22,6 +22,6 @@ loop-table-preserved c =
     record {
       none = none_more (sources tables) i c.table-item.result.source lt is c.args.text.now inv.none
           (λ k reached. true≢false (sym (c.is_match.ensures.some.1 (k, reached)) ∙ c.if-is_match.false));
-      visits = visits_more (length c.args.text.now + 1) i 1 c.loop-table.visits c.is_match.new.visits c.args.visits.now (omega arith) inv.visits;
+      visits = visits_more (length c.args.text.now + 2) i 1 c.loop-table.visits c.is_match.new.visits c.args.visits.now (omega arith) inv.visits;
       counted = omega arith;
     }

@@ -1,7 +1,7 @@
 use Rattle.std.proofs.Common.{length, ap, ◌∙◌, arith}
 use Rattle.std.proofs.lemmas.Result.{err_from_is_err_and}
 use Rattle.bit_sets.specs.Indexes.{has_index}
-use Rattle.group_matching.proofs.lemmas.Indexes.{few_kept, filter_between, next_pushed}
+use Rattle.set_matcher.proofs.lemmas.Indexes.{few_kept, filter_between, next_pushed}
 use Rattle.glob_prefixes.proofs.marks.push_marked.Goals as goal
 
 pub loop-index-preserved : goal.loop-index-preserved

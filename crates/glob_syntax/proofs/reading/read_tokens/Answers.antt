@@ -3,7 +3,7 @@ use Rattle.std.specs.Str.{chars}
 use Rattle.glob_syntax.specs.inner.Nests.{Nests}
 use Rattle.glob_syntax.specs.Reading.{reading}
 use Rattle.glob_syntax.specs.Views.{tokens_of}
-use Rattle.glob_syntax.specs.inner.MarkViews.{marks_of}
+use Rattle.glob_syntax.specs.inner.LexemeViews.{lexemes_of}
 use Rattle.glob_syntax.proofs.lemmas.Nesting.{nested_again}
 use Rattle.std.proofs.lemmas.Str.{scalars-chars}
 use Rattle.glob_syntax.proofs.lemmas.Weights.{text_weight}
@@ -11,7 +11,7 @@ use Rattle.glob_syntax.proofs.lemmas.WellFormed.{reads_well}
 use Rattle.glob_syntax.proofs.reading.read_tokens.Goals as goal
 
 pub tokens-requires : goal.tokens-requires
-tokens-requires c = subst (λ l. Nests zero (marks_of l)) (sym c.deref-2.ensures.value) (record { is = nested_again _ zero _ c.in_ok-marks.ensures })
+tokens-requires c = subst (λ l. Nests zero (lexemes_of l)) (sym c.deref-2.ensures.value) (record { is = nested_again _ zero _ c.in_ok-lexemes.ensures })
 
 pub returns-clause-weight : goal.returns-clause-weight
 unfolding reading

@@ -22,7 +22,7 @@ use Rattle.globset.proofs.lemmas.WalkResults.{and_tt, ok_of, err_of, cases}
 use types.Tokens.{lft_new, lft_end}
 use Rattle.std.specs.contracts.result.Result as result
 use Rattle.std.specs.Prelude.{Result, ◌++◌, IfOk, IfErr, ⊤}
-use Rattle.globset_glob.specs.Means.{GlobValue}
+use Rattle.globset_glob.specs.GlobMatches.{GlobValue}
 use Rattle.globset_glob.specs.Errors.{ErrorValue, out_of_memory}
 use Rattle.globset.specs.contracts.builder.GlobSetBuilder.{the_row as R}
 use Rattle.globset_glob.specs.contracts.glob.Glob.{the_row as GlobRow}

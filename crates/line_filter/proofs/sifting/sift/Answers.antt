@@ -2,19 +2,19 @@ use Rattle.std.proofs.Common.{[], ◌++◌, ◌≡◌, ◌<◌, ◌∙◌, refl,
 use Rattle.std.proofs.lemmas.Result.{err_from_is_err_and}
 use Rattle.std.proofs.KnownBytes.{Consumes-nil, Consumes-trans, Consumes-kept}
 use Rattle.globset.specs.SetValue.{set_globs}
-use Rattle.line_filter.proofs.lemmas.Sifting.{Stops-fails, Stops-start, end_result, Consumes-is, read_back}
+use Rattle.line_filter.proofs.lemmas.Sifting.{SiftFails-fails, SiftFails-start, end_result, Consumes-is, read_back}
 use Rattle.line_filter.proofs.lemmas.Handling.{Handles-pending_fails, Handles-drained, Handles-trans, Handles-fails, Handles-begin, Handles-written}
 use Rattle.line_filter.proofs.sifting.sift.Goals as goal
 
 pub returns-in_err-chunk : goal.returns-in_err-chunk
 returns-in_err-chunk g c =
     let p = err_from_is_err_and c.from_residual.result c.from_residual.ensures.1 in
-    rw p.1 (Stops-start (set_globs c.args.set.now) c.args.numbered (g.R.Read.remaining c.args.reader.now) (g.W.Write.contents c.args.writer.now) p.0 p.2)
+    rw p.1 (SiftFails-start (set_globs c.args.set.now) c.args.numbered (g.R.Read.remaining c.args.reader.now) (g.W.Write.contents c.args.writer.now) p.0 p.2)
 
 pub returns-in_err-sifter : goal.returns-in_err-sifter
 returns-in_err-sifter g c =
     let p = err_from_is_err_and c.from_residual-in_err-sifter.result c.from_residual-in_err-sifter.ensures.1 in
-    rw p.1 (Stops-start (set_globs c.args.set.now) c.args.numbered (g.R.Read.remaining c.args.reader.now) (g.W.Write.contents c.args.writer.now) p.0 p.2)
+    rw p.1 (SiftFails-start (set_globs c.args.set.now) c.args.numbered (g.R.Read.remaining c.args.reader.now) (g.W.Write.contents c.args.writer.now) p.0 p.2)
 
 pub loop-init : goal.loop-init
 loop-init g c = (
@@ -57,36 +57,36 @@ returns-in_err-handle_chunk g c =
     let i = c.loop.invariant in
     let back : c.deref.result.now ≡ c.read.new.buf = read_back c.loop.chunk.len c.read.new.buf (drop (length c.read.new.buf) c.loop.chunk.items) _ (omega (arith, c.read.auto.buf, c.as_mut_slice.ensures.len, c.loop.chunk.ok.0)) c.deref.ensures.value in
     let p = err_from_is_err_and c.from_residual-in_err-handle_chunk.result c.from_residual-in_err-handle_chunk.ensures.1 in
-    rw (p.1, p.2) (Stops-fails _ _ (i.0 ++ take c.in-Ok.n c.deref.result.now) _ _ _ _ c.in_err-handle_chunk.field-0.0
+    rw (p.1, p.2) (SiftFails-fails _ _ (i.0 ++ take c.in-Ok.n c.deref.result.now) _ _ _ _ c.in_err-handle_chunk.field-0.0
     (Consumes-trans _ _ _ _ _ i.1 (Consumes-is _ _ _ _ (ap (λ (l : List ℕ). take c.in-Ok.n l) back) c.in-Ok.ensures.bytes.0))
     (Handles-fails _ _ _ _ _ _ _ _ _ _ _ _ _ (Handles-written _ _ _ _ _ _ _ _ _ _ _ _ c.loop.invariant.2 c.in_ok-write_pending.ensures.0) (rw (i.4, i.5) at c.in_err-handle_chunk.ensures.done)))
 
 pub loop-preserved : goal.loop-preserved
 loop-preserved g c =
     let i = c.loop.invariant in
-    let alike = c.handle_chunk.ensures.alike in
+    let equivalent = c.handle_chunk.ensures.equivalent in
     let same : length c.read.new.buf ≡ c.loop.chunk.len = omega (arith, c.read.auto.buf, c.as_mut_slice.ensures.len, c.loop.chunk.ok.0) in
     let back : c.deref.result.now ≡ c.read.new.buf = read_back c.loop.chunk.len c.read.new.buf (drop (length c.read.new.buf) c.loop.chunk.items) _ same c.deref.ensures.value in (
       i.0 ++ take c.in-Ok.n c.deref.result.now,
       Consumes-trans _ _ _ _ _ i.1 (Consumes-is _ _ _ _ (ap (λ (l : List ℕ). take c.in-Ok.n l) back) c.in-Ok.ensures.bytes.0),
       Handles-trans _ _ _ _ _ _ _ _ _ _ _ _ _ _ _ (Handles-written _ _ _ _ _ _ _ _ _ _ _ _ c.loop.invariant.2 c.in_ok-write_pending.ensures.0) (rw (i.4, i.5) at c.in_ok-handle_chunk.ensures.done),
       subst (λ (k : ℕ). 0 < k) (sym (ap (λ (l : List ℕ). length l) (read_back c.loop.chunk.len c.read.new.buf (drop (length c.read.new.buf) c.loop.chunk.items) _ same refl) ∙ same ∙ c.loop.chunk.ok.0)) i.3,
-      alike.0 ∙ i.4,
-      alike.1 ∙ i.5,
+      equivalent.0 ∙ i.4,
+      equivalent.1 ∙ i.5,
     )
 
 pub returns-in_err-write_pending : goal.returns-in_err-write_pending
 returns-in_err-write_pending g c =
     let i = c.loop.invariant in
     let p = err_from_is_err_and c.from_residual-in_err-write_pending.result c.from_residual-in_err-write_pending.ensures.1 in
-    rw (p.1, p.2) (Stops-fails _ _ i.0 _ _ _ _ c.in_err-write_pending.field-0.0 i.1
+    rw (p.1, p.2) (SiftFails-fails _ _ i.0 _ _ _ _ c.in_err-write_pending.field-0.0 i.1
     (Handles-pending_fails _ _ _ _ _ _ _ _ _ _ _ _ i.2 c.in_err-write_pending.ensures))
 
 pub returns-in_err-write_pending-2 : goal.returns-in_err-write_pending-2
 returns-in_err-write_pending-2 g c =
     let i = c.loop.invariant in
     let p = err_from_is_err_and c.from_residual-in_err-write_pending-2.result c.from_residual-in_err-write_pending-2.ensures.1 in
-    rw (p.1, p.2) (Stops-fails _ _ i.0 _ _ _ _ c.in_err-write_pending-2.field-0.0 i.1
+    rw (p.1, p.2) (SiftFails-fails _ _ i.0 _ _ _ _ c.in_err-write_pending-2.field-0.0 i.1
     (Handles-pending_fails _ _ _ _ _ _ _ _ _ _ _ _ i.2 c.in_err-write_pending-2.ensures))
 
 pub returns : goal.returns

@@ -2,10 +2,10 @@ use Rattle.std.proofs.Common.{◌≡◌, ◌+◌, ◌<◌, ◌≤◌, ◌++◌, 
 use Rattle.std.proofs.lemmas.Bool.{cases_lt}
 use Rattle.std.proofs.lemmas.List.{take_more, take_all}
 use Rattle.std.proofs.Math.Logic.{⊎_elim}
-use Rattle.bit_sets.specs.Indexes.{index_room}
+use Rattle.bit_sets.specs.Indexes.{index_capacity}
 use Rattle.bit_sets.proofs.lemmas.IndexSets.{also_none, also_then, also_put, also_left}
 use Rattle.bit_sets.proofs.index_set.IndexSet.put_all.Goals as goal
-use Rattle.bit_sets.proofs.index_set.IndexSet.put_all.Goals.{then-has_room_for, else-has_room_for}
+use Rattle.bit_sets.proofs.index_set.IndexSet.put_all.Goals.{then-has_capacity_for, else-has_capacity_for}
 
 pub loop-index-init : goal.loop-index-init
 loop-index-init c = record { room = refl; has = also_none c.args.self.now c.args.self.now (λ k. refl) }
@@ -20,17 +20,17 @@ loop-index-preserved c =
     let lt : i < length xs = omega arith in
     let x = get_or xs i 0 in
     let more : take (i + 1) xs ≡ take i xs ++ x ∷ [] = take_more xs i 0 lt in
-    elim c.if-has_room_for.branch [
-      | then-has_room_for w ↦
-          let room = c.has_room_for.ensures.0 w.if-has_room_for.true in
+    elim c.if-has_capacity_for.branch [
+      | then-has_capacity_for w ↦
+          let room = c.has_capacity_for.ensures.0 w.if-has_capacity_for.true in
           record {
-            room = ap index_room w.self-is ∙ w.put.ensures.room ∙ inv.room;
+            room = ap index_capacity w.self-is ∙ w.put.ensures.room ∙ inv.room;
             has = rw (more, w.self-is) (also_then old before w.put.new.self (take i xs) (x ∷ []) inv.room inv.has (also_put before w.put.new.self x room w.put.ensures.has));
           }
-      | else-has_room_for w ↦
-          let past = ⊎_elim {C = index_room before ≤ x} (λ lt. absurd (true≢false (sym (c.has_room_for.ensures.1 lt) ∙ w.if-has_room_for.false))) (λ le. le) (cases_lt x (index_room before)) in
+      | else-has_capacity_for w ↦
+          let past = ⊎_elim {C = index_capacity before ≤ x} (λ lt. absurd (true≢false (sym (c.has_capacity_for.ensures.1 lt) ∙ w.if-has_capacity_for.false))) (λ le. le) (cases_lt x (index_capacity before)) in
           record {
-            room = ap index_room w.self-is ∙ inv.room;
+            room = ap index_capacity w.self-is ∙ inv.room;
             has = rw (more, w.self-is) (also_then old before before (take i xs) (x ∷ []) inv.room inv.has (also_left before x past));
           }
     ]

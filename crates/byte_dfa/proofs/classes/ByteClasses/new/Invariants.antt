@@ -5,8 +5,8 @@ use Rattle.byte_dfa.proofs.classes.ByteClasses.new.Given as goal
 abbrev pub invariant-loop-i : goal.invariant-loop-i
 invariant-loop-i l = record {
   classes_len : length l.class_of ≡ 256;
-  firsts_len : length l.firsts ≡ 256;
+  representatives_len : length l.representatives ≡ 256;
   few : l.last < l.i;
   last : slice_index l.class_of (l.i - 1) ≡ l.last;
-  divided : IsDivided l.automaton.states l.class_of l.firsts l.last l.i;
+  divided : IsDivided l.automaton.states l.class_of l.representatives l.last l.i;
 }

@@ -1,12 +1,12 @@
 use Rattle.std.proofs.Common.{◌≡◌, ℕ, ◌+◌, ◌/◌, ◌%◌, ◌<◌, ◌++◌, ◌∷◌, ◌-◌, [], drop, length, get_or, slice_index, false, IsTrue, arith, sym, ap, subst, ◌∙◌}
 use Rattle.std.proofs.lemmas.List.{drop_more, drop_all}
 use Rattle.std.specs.Prelude.{◌↔◌, slice_index_or}
-use Rattle.byte_automaton.specs.Live.{MatchesAfter}
-use Rattle.bit_sets.specs.Numbers.{is_listed}
-use Rattle.byte_automaton.proofs.lemmas.Deciding.{all_bytes}
-use Rattle.byte_automaton.proofs.lemmas.Pass.{or_first}
+use Rattle.byte_nfa.specs.Live.{MatchesAfter}
+use Rattle.bit_sets.specs.Numbers.{is_reported}
+use Rattle.byte_nfa.proofs.lemmas.Deciding.{all_bytes}
+use Rattle.byte_nfa.proofs.lemmas.Pass.{or_first}
 use Rattle.byte_dfa.specs.DfaValue.{DfaValue}
-use Rattle.byte_dfa.specs.inner.Tables.{table_of, entry, after, special, on_entry, later}
+use Rattle.byte_dfa.specs.inner.Tables.{table_of, transition, after, special, on_entry, later}
 use Rattle.byte_dfa.proofs.lemmas.Steps.{started_quiet, low_row, high_row, low_later, quiet_later, dead_later, told_later}
 use Rattle.byte_dfa.proofs.lemmas.After.{match_after_found, none_match_after, match_after_live, item_read}
 use Rattle.byte_dfa.proofs.dfa.Dfa.can_match_after.Goals as goal
@@ -22,7 +22,7 @@ returns-then-has_some-clause-some c =
     let (k, listed) = some c.if-has_some.true in
     let source = ap (λ (v : DfaValue). v.source) c.self.view_is in
     rw (sym source) (match_after_found t.source d c.self.invariant.finds text c.args.byte k bytes (omega arith)
-    (or_first (is_listed k (on_entry d d.start)) (later d d.start (text ++ c.args.byte ∷ []) k) listed))
+    (or_first (is_reported k (on_entry d d.start)) (later d d.start (text ++ c.args.byte ∷ []) k) listed))
 
 pub loop-read-init : goal.loop-read-init
 loop-read-init c =
@@ -52,7 +52,7 @@ returns-then-state-eq-DEAD-clause-some c =
     let small : byte < 256 = omega (arith, c.type_inv.text i) in
     let bytes = all_bytes text (λ j. omega (arith, c.type_inv.text j)) in
     let e : ℕ = c.next-state.result in
-    let is : e ≡ entry d l.state byte = c.next-state.ensures.value ∙ ap (λ n. slice_index n (l.state + slice_index t.class_of byte)) c.as_slice-table.ensures.value in
+    let is : e ≡ transition d l.state byte = c.next-state.ensures.value ∙ ap (λ n. slice_index n (l.state + slice_index t.class_of byte)) c.as_slice-table.ensures.value in
     let source = ap (λ (v : DfaValue). v.source) c.self.view_is in
     rw (sym source) (none_match_after t.source d c.self.invariant.finds text c.args.byte (i + 1) bytes (omega arith)
     (λ z k all. sym (rw more at l.invariant.same z k) ∙ dead_later d sound l.state byte l.invariant.row small e is (rest ++ z) k c.if-state-ge-SPECIAL.true c.next-state.ensures.small c.if-state-eq-DEAD.true all))
@@ -65,7 +65,7 @@ bounds-table-state-then-state-ge-SPECIAL c =
     let byte : ℕ = get_or c.args.text.now l.read-index 0 in
     let small : byte < 256 = omega (arith, c.type_inv.text l.read-index) in
     let e : ℕ = c.next-state.result in
-    let is : e ≡ entry d l.state byte = c.next-state.ensures.value ∙ ap (λ n. slice_index n (l.state + slice_index t.class_of byte)) c.as_slice-table.ensures.value in
+    let is : e ≡ transition d l.state byte = c.next-state.ensures.value ∙ ap (λ n. slice_index n (l.state + slice_index t.class_of byte)) c.as_slice-table.ensures.value in
     let (j, at, room) = high_row d c.self.invariant.sound l.state byte l.invariant.row small e is c.if-state-ge-SPECIAL.true c.next-state.ensures.small in
     let len = ap length c.as_slice-table.ensures.value in
     omega arith
@@ -78,7 +78,7 @@ has_some-requires-then-state-ge-SPECIAL c =
     let byte : ℕ = get_or c.args.text.now l.read-index 0 in
     let small : byte < 256 = omega (arith, c.type_inv.text l.read-index) in
     let e : ℕ = c.next-state.result in
-    let is : e ≡ entry d l.state byte = c.next-state.ensures.value ∙ ap (λ n. slice_index n (l.state + slice_index t.class_of byte)) c.as_slice-table.ensures.value in
+    let is : e ≡ transition d l.state byte = c.next-state.ensures.value ∙ ap (λ n. slice_index n (l.state + slice_index t.class_of byte)) c.as_slice-table.ensures.value in
     let row = high_row d c.self.invariant.sound l.state byte l.invariant.row small e is c.if-state-ge-SPECIAL.true c.next-state.ensures.small in
     rw (c.deref-then-state-ge-SPECIAL.ensures.value, c.as_slice-table.ensures.value) ((c.self.invariant.sound.entry_list (e - special) row).room)
 
@@ -97,7 +97,7 @@ returns-then-has_some-2-clause-some c =
     let small : byte < 256 = omega (arith, c.type_inv.text i) in
     let bytes = all_bytes text (λ j. omega (arith, c.type_inv.text j)) in
     let e : ℕ = c.next-state.result in
-    let is : e ≡ entry d l.state byte = c.next-state.ensures.value ∙ ap (λ n. slice_index n (l.state + slice_index t.class_of byte)) c.as_slice-table.ensures.value in
+    let is : e ≡ transition d l.state byte = c.next-state.ensures.value ∙ ap (λ n. slice_index n (l.state + slice_index t.class_of byte)) c.as_slice-table.ensures.value in
     let some = rw (c.deref-then-state-ge-SPECIAL.ensures.value, c.as_slice-table.ensures.value) at c.has_some-then-state-ge-SPECIAL.ensures.some in
     let (k, listed) = some c.if-has_some-2.true in
     let source = ap (λ (v : DfaValue). v.source) c.self.view_is in
@@ -119,7 +119,7 @@ loop-read-preserved c =
     let more : drop i text ≡ byte ∷ rest = drop_more text i 0 lt in
     let small : byte < 256 = omega (arith, c.type_inv.text i) in
     let e : ℕ = c.next-state.result in
-    let is : e ≡ entry d l.state byte = c.next-state.ensures.value ∙ ap (λ n. slice_index n (l.state + slice_index t.class_of byte)) c.as_slice-table.ensures.value in
+    let is : e ≡ transition d l.state byte = c.next-state.ensures.value ∙ ap (λ n. slice_index n (l.state + slice_index t.class_of byte)) c.as_slice-table.ensures.value in
     elim c.if-state-ge-SPECIAL.branch [
       | then-state-ge-SPECIAL+else-state-eq-DEAD+else-has_some-2 w ↦ rw w.state-is record {
         row = high_row d sound l.state byte inv.row small e is w.if-state-ge-SPECIAL.true c.next-state.ensures.small;
@@ -143,7 +143,7 @@ index-requires c =
     let d = table_of t.class_of t.width t.table.items t.start t.lists.items t.index_count in
     let l = c.loop-read in
     let small : c.args.byte < 256 = omega arith in
-    let is : c.next-last.result ≡ entry d l.state c.args.byte = c.next-last.ensures.value ∙ ap (λ n. slice_index n (l.state + slice_index t.class_of c.args.byte)) c.as_slice-table.ensures.value in
+    let is : c.next-last.result ≡ transition d l.state c.args.byte = c.next-last.ensures.value ∙ ap (λ n. slice_index n (l.state + slice_index t.class_of c.args.byte)) c.as_slice-table.ensures.value in
     let lt = (c.self.invariant.live_rows (after d l.state c.args.byte) (c.self.invariant.sound.goes l.state c.args.byte l.invariant.row small)).0 in
     let there : c.next-last.result % special / (t.width + 2) < length t.live.items = subst (λ x. x % special / (t.width + 2) < length t.live.items) (sym is) lt in
     subst (λ n. c.next-last.result % special / (t.width + 2) < n) (sym t.live.ok.0) there
@@ -157,7 +157,7 @@ returns-clause-some c =
     let small : c.args.byte < 256 = omega arith in
     let past : drop l.read-index text ≡ [] = drop_all l.read-index text (omega arith) in
     let bytes = all_bytes text (λ j. omega (arith, c.type_inv.text j)) in
-    let is : c.next-last.result ≡ entry d l.state c.args.byte = c.next-last.ensures.value ∙ ap (λ n. slice_index n (l.state + slice_index t.class_of c.args.byte)) c.as_slice-table.ensures.value in
+    let is : c.next-last.result ≡ transition d l.state c.args.byte = c.next-last.ensures.value ∙ ap (λ n. slice_index n (l.state + slice_index t.class_of c.args.byte)) c.as_slice-table.ensures.value in
     let lt = (c.self.invariant.live_rows (after d l.state c.args.byte) (c.self.invariant.sound.goes l.state c.args.byte l.invariant.row small)).0 in
     let place : ℕ = c.next-last.result % special / (t.width + 2) in
     let there : place < length t.live.items = subst (λ x. x % special / (t.width + 2) < length t.live.items) (sym is) lt in

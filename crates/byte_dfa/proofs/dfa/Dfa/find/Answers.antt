@@ -1,11 +1,11 @@
 use Rattle.std.proofs.Common.{◌≡◌, ℕ, ◌+◌, ◌<◌, ◌≤◌, ◌∷◌, ◌-◌, ◌||◌, inr, [], drop, length, get_or, slice_index, IsTrue, arith, sym, ap, subst, ◌∙◌}
 use Rattle.std.proofs.Math.Logic.{⊎_elim}
 use Rattle.std.proofs.lemmas.List.{drop_more, drop_all}
-use Rattle.bit_sets.specs.Indexes.{has_index, index_room}
-use Rattle.byte_automaton.proofs.lemmas.Deciding.{all_bytes}
-use Rattle.bit_sets.specs.Numbers.{is_listed}
+use Rattle.bit_sets.specs.Indexes.{has_index, index_capacity}
+use Rattle.byte_nfa.proofs.lemmas.Deciding.{all_bytes}
+use Rattle.bit_sets.specs.Numbers.{is_reported}
 use Rattle.byte_dfa.specs.DfaValue.{DfaValue}
-use Rattle.byte_dfa.specs.inner.Tables.{table_of, entry, special, on_entry, finds}
+use Rattle.byte_dfa.specs.inner.Tables.{table_of, transition, special, on_entry, finds}
 use Rattle.byte_dfa.proofs.lemmas.Lists.{list_wider}
 use Rattle.byte_dfa.proofs.lemmas.Steps.{drop_bytes, put_again, has_put, started, low_row, high_row, low_next, high_next, dead_next, found_is}
 use Rattle.byte_dfa.proofs.dfa.Dfa.find.Goals as goal
@@ -41,7 +41,7 @@ returns-then-state-eq-DEAD-clause-found c = λ k.
     let small : byte < 256 = omega (arith, c.type_inv.text i) in
     let bytes = all_bytes text (λ j. omega (arith, c.type_inv.text j)) in
     let e : ℕ = c.next-state.result in
-    let is : e ≡ entry d l.state byte = c.next-state.ensures.value ∙ ap (λ n. slice_index n (l.state + slice_index t.class_of byte)) c.as_slice-table.ensures.value in
+    let is : e ≡ transition d l.state byte = c.next-state.ensures.value ∙ ap (λ n. slice_index n (l.state + slice_index t.class_of byte)) c.as_slice-table.ensures.value in
     let same = dead_next d sound l.state byte l.invariant.row small e is rest k (has_index l.into k) (finds d text k || has_index c.args.into.now k)
     c.if-state-ge-SPECIAL.true c.next-state.ensures.small c.if-state-eq-DEAD.true (drop_bytes (i + 1) text bytes) (rw more at l.invariant.found k) in
     let source = ap (λ (v : DfaValue). v.source) c.self.view_is in
@@ -55,7 +55,7 @@ bounds-table-state-then-state-told c =
     let byte : ℕ = get_or c.args.text.now l.byte-index 0 in
     let small : byte < 256 = omega (arith, c.type_inv.text l.byte-index) in
     let e : ℕ = c.next-state.result in
-    let is : e ≡ entry d l.state byte = c.next-state.ensures.value ∙ ap (λ n. slice_index n (l.state + slice_index t.class_of byte)) c.as_slice-table.ensures.value in
+    let is : e ≡ transition d l.state byte = c.next-state.ensures.value ∙ ap (λ n. slice_index n (l.state + slice_index t.class_of byte)) c.as_slice-table.ensures.value in
     let (j, at, room) = high_row d c.self.invariant.sound l.state byte l.invariant.row small e is c.if-state-ge-SPECIAL.true c.next-state.ensures.small in
     let len = ap length c.as_slice-table.ensures.value in
     omega arith
@@ -68,12 +68,12 @@ put_listed-requires-then-state-told c =
     let byte : ℕ = get_or c.args.text.now l.byte-index 0 in
     let small : byte < 256 = omega (arith, c.type_inv.text l.byte-index) in
     let e : ℕ = c.next-state.result in
-    let is : e ≡ entry d l.state byte = c.next-state.ensures.value ∙ ap (λ n. slice_index n (l.state + slice_index t.class_of byte)) c.as_slice-table.ensures.value in
+    let is : e ≡ transition d l.state byte = c.next-state.ensures.value ∙ ap (λ n. slice_index n (l.state + slice_index t.class_of byte)) c.as_slice-table.ensures.value in
     let row = high_row d c.self.invariant.sound l.state byte l.invariant.row small e is c.if-state-ge-SPECIAL.true c.next-state.ensures.small in
     let count = ap (λ (v : DfaValue). v.source.index_count) c.self.view_is in
-    let wide : t.index_count ≤ index_room l.into = omega (arith, c.requires, l.invariant.room, c.self.invariant.count) in
+    let wide : t.index_count ≤ index_capacity l.into = omega (arith, c.requires, l.invariant.room, c.self.invariant.count) in
     rw (c.deref-then-state-told.ensures.value, c.as_slice-table.ensures.value)
-    (list_wider t.lists.items t.index_count (index_room l.into) (slice_index t.table.items (e - special + t.width)) wide (c.self.invariant.sound.entry_list (e - special) row))
+    (list_wider t.lists.items t.index_count (index_capacity l.into) (slice_index t.table.items (e - special + t.width)) wide (c.self.invariant.sound.entry_list (e - special) row))
 
 pub loop-byte-preserved : goal.loop-byte-preserved
 loop-byte-preserved c =
@@ -90,7 +90,7 @@ loop-byte-preserved c =
     let more : drop i text ≡ byte ∷ rest = drop_more text i 0 lt in
     let small : byte < 256 = omega (arith, c.type_inv.text i) in
     let e : ℕ = c.next-state.result in
-    let is : e ≡ entry d l.state byte = c.next-state.ensures.value ∙ ap (λ n. slice_index n (l.state + slice_index t.class_of byte)) c.as_slice-table.ensures.value in
+    let is : e ≡ transition d l.state byte = c.next-state.ensures.value ∙ ap (λ n. slice_index n (l.state + slice_index t.class_of byte)) c.as_slice-table.ensures.value in
     elim c.if-state-ge-SPECIAL.branch [
       | then-state-ge-SPECIAL+else-state-eq-DEAD+then-state-told w ↦ rw (w.state-is, w.into-is, w.told-is) record {
         row = high_row d sound l.state byte inv.row small e is w.if-state-ge-SPECIAL.true c.next-state.ensures.small;
@@ -99,7 +99,7 @@ loop-byte-preserved c =
             w.if-state-ge-SPECIAL.true c.next-state.ensures.small
             (rw (w.deref-then-state-told.ensures.value, c.as_slice-table.ensures.value) at w.put_listed-then-state-told.ensures.has k)
             (rw more at inv.found k);
-        told = λ k. has_put (is_listed k (on_entry d (e - special))) (has_index l.into k) (has_index w.put_listed-then-state-told.new.into k) (rw (w.deref-then-state-told.ensures.value, c.as_slice-table.ensures.value) at w.put_listed-then-state-told.ensures.has k);
+        told = λ k. has_put (is_reported k (on_entry d (e - special))) (has_index l.into k) (has_index w.put_listed-then-state-told.new.into k) (rw (w.deref-then-state-told.ensures.value, c.as_slice-table.ensures.value) at w.put_listed-then-state-told.ensures.has k);
         visits = omega (arith, inv.visits, c.next-state.ensures.visits);
         counted = omega arith;
       }
@@ -108,7 +108,7 @@ loop-byte-preserved c =
         room = inv.room;
         found = λ k. high_next d sound l.state byte inv.row small e is rest k (has_index l.into k) (has_index l.into k) (finds d text k || has_index c.args.into.now k)
             w.if-state-ge-SPECIAL.true c.next-state.ensures.small
-            (put_again (is_listed k (on_entry d (e - special))) (has_index l.into k) (λ h. inv.told k (subst (λ s. IsTrue (is_listed k (on_entry d s))) w.if-state-told.false h)))
+            (put_again (is_reported k (on_entry d (e - special))) (has_index l.into k) (λ h. inv.told k (subst (λ s. IsTrue (is_reported k (on_entry d s))) w.if-state-told.false h)))
             (rw more at inv.found k);
         told = inv.told;
         visits = omega (arith, inv.visits, c.next-state.ensures.visits);
@@ -137,5 +137,5 @@ returns-clause-found c = λ k.
     let source = ap (λ (v : DfaValue). v.source) c.self.view_is in
     rw (sym source) (found_is (has_index c.put_listed-2.new.into k) (has_index c.args.into.now k) (finds d text k) _ (c.self.invariant.finds text k bytes) (listed ∙ found))
 
-pub returns-then-is_excluded-clause-found : goal.returns-then-is_excluded-clause-found
-returns-then-is_excluded-clause-found c = λ k. (λ old. inr old, λ either. ⊎_elim {C = IsTrue (has_index c.args.into.now k)} (λ now. absurd (c.is_excluded.ensures c.if-is_excluded.true k now)) (λ old. old) either)
+pub returns-then-rejects_last_byte-clause-found : goal.returns-then-rejects_last_byte-clause-found
+returns-then-rejects_last_byte-clause-found c = λ k. (λ old. inr old, λ either. ⊎_elim {C = IsTrue (has_index c.args.into.now k)} (λ now. absurd (c.rejects_last_byte.ensures.rejected c.if-rejects_last_byte.true k now)) (λ old. old) either)

@@ -1,10 +1,10 @@
 use Rattle.std.proofs.Common.{◌≡◌, ℕ, ◌+◌, ◌<◌, ◌∷◌, ◌-◌, [], drop, length, get_or, slice_index, true≢false, arith, sym, ap, ◌∙◌}
 use Rattle.std.proofs.lemmas.List.{drop_more, drop_all}
-use Rattle.bit_sets.specs.Numbers.{is_listed}
-use Rattle.byte_automaton.proofs.lemmas.Deciding.{all_bytes}
-use Rattle.byte_automaton.proofs.lemmas.Pass.{or_first}
+use Rattle.bit_sets.specs.Numbers.{is_reported}
+use Rattle.byte_nfa.proofs.lemmas.Deciding.{all_bytes}
+use Rattle.byte_nfa.proofs.lemmas.Pass.{or_first}
 use Rattle.byte_dfa.specs.DfaValue.{DfaValue}
-use Rattle.byte_dfa.specs.inner.Tables.{table_of, entry, special, on_entry, at_end, later, finds}
+use Rattle.byte_dfa.specs.inner.Tables.{table_of, transition, special, on_entry, at_end, later, finds}
 use Rattle.byte_dfa.proofs.lemmas.Steps.{drop_bytes, started_quiet, low_row, high_row, low_later, quiet_later, dead_later, told_later, some_found, none_found, whether_found}
 use Rattle.byte_dfa.proofs.dfa.Dfa.is_match.Goals as goal
 use Rattle.byte_dfa.proofs.dfa.Dfa.is_match.Goals.{then-state-ge-SPECIAL+else-state-eq-DEAD+else-has_some-2, else-state-ge-SPECIAL}
@@ -18,7 +18,7 @@ returns-then-has_some-clause-some c =
     let some = rw (c.deref.ensures.value, c.as_slice-table.ensures.value) at c.has_some.ensures.some in
     let (k, listed) = some c.if-has_some.true in
     let source = ap (λ (v : DfaValue). v.source) c.self.view_is in
-    rw (sym source) (some_found (finds d text) _ k (λ j. c.self.invariant.finds text j bytes) (or_first (is_listed k (on_entry d d.start)) (later d d.start text k) listed))
+    rw (sym source) (some_found (finds d text) _ k (λ j. c.self.invariant.finds text j bytes) (or_first (is_reported k (on_entry d d.start)) (later d d.start text k) listed))
 
 pub loop-byte-init : goal.loop-byte-init
 loop-byte-init c =
@@ -48,7 +48,7 @@ returns-then-state-eq-DEAD-clause-some c =
     let small : byte < 256 = omega (arith, c.type_inv.text i) in
     let bytes = all_bytes text (λ j. omega (arith, c.type_inv.text j)) in
     let e : ℕ = c.next-state.result in
-    let is : e ≡ entry d l.state byte = c.next-state.ensures.value ∙ ap (λ n. slice_index n (l.state + slice_index t.class_of byte)) c.as_slice-table.ensures.value in
+    let is : e ≡ transition d l.state byte = c.next-state.ensures.value ∙ ap (λ n. slice_index n (l.state + slice_index t.class_of byte)) c.as_slice-table.ensures.value in
     let source = ap (λ (v : DfaValue). v.source) c.self.view_is in
     rw (sym source) (none_found (finds d text) _ (λ j. c.self.invariant.finds text j bytes)
     (λ k. sym (rw more at l.invariant.same k) ∙ dead_later d sound l.state byte l.invariant.row small e is rest k c.if-state-ge-SPECIAL.true c.next-state.ensures.small c.if-state-eq-DEAD.true (drop_bytes (i + 1) text bytes)))
@@ -61,7 +61,7 @@ bounds-table-state-then-state-ge-SPECIAL c =
     let byte : ℕ = get_or c.args.text.now l.byte-index 0 in
     let small : byte < 256 = omega (arith, c.type_inv.text l.byte-index) in
     let e : ℕ = c.next-state.result in
-    let is : e ≡ entry d l.state byte = c.next-state.ensures.value ∙ ap (λ n. slice_index n (l.state + slice_index t.class_of byte)) c.as_slice-table.ensures.value in
+    let is : e ≡ transition d l.state byte = c.next-state.ensures.value ∙ ap (λ n. slice_index n (l.state + slice_index t.class_of byte)) c.as_slice-table.ensures.value in
     let (j, at, room) = high_row d c.self.invariant.sound l.state byte l.invariant.row small e is c.if-state-ge-SPECIAL.true c.next-state.ensures.small in
     let len = ap length c.as_slice-table.ensures.value in
     omega arith
@@ -74,7 +74,7 @@ has_some-requires-then-state-ge-SPECIAL c =
     let byte : ℕ = get_or c.args.text.now l.byte-index 0 in
     let small : byte < 256 = omega (arith, c.type_inv.text l.byte-index) in
     let e : ℕ = c.next-state.result in
-    let is : e ≡ entry d l.state byte = c.next-state.ensures.value ∙ ap (λ n. slice_index n (l.state + slice_index t.class_of byte)) c.as_slice-table.ensures.value in
+    let is : e ≡ transition d l.state byte = c.next-state.ensures.value ∙ ap (λ n. slice_index n (l.state + slice_index t.class_of byte)) c.as_slice-table.ensures.value in
     let row = high_row d c.self.invariant.sound l.state byte l.invariant.row small e is c.if-state-ge-SPECIAL.true c.next-state.ensures.small in
     rw (c.deref-then-state-ge-SPECIAL.ensures.value, c.as_slice-table.ensures.value) ((c.self.invariant.sound.entry_list (e - special) row).room)
 
@@ -93,7 +93,7 @@ returns-then-has_some-2-clause-some c =
     let small : byte < 256 = omega (arith, c.type_inv.text i) in
     let bytes = all_bytes text (λ j. omega (arith, c.type_inv.text j)) in
     let e : ℕ = c.next-state.result in
-    let is : e ≡ entry d l.state byte = c.next-state.ensures.value ∙ ap (λ n. slice_index n (l.state + slice_index t.class_of byte)) c.as_slice-table.ensures.value in
+    let is : e ≡ transition d l.state byte = c.next-state.ensures.value ∙ ap (λ n. slice_index n (l.state + slice_index t.class_of byte)) c.as_slice-table.ensures.value in
     let some = rw (c.deref-then-state-ge-SPECIAL.ensures.value, c.as_slice-table.ensures.value) at c.has_some-then-state-ge-SPECIAL.ensures.some in
     let (k, listed) = some c.if-has_some-2.true in
     let source = ap (λ (v : DfaValue). v.source) c.self.view_is in
@@ -115,7 +115,7 @@ loop-byte-preserved c =
     let more : drop i text ≡ byte ∷ rest = drop_more text i 0 lt in
     let small : byte < 256 = omega (arith, c.type_inv.text i) in
     let e : ℕ = c.next-state.result in
-    let is : e ≡ entry d l.state byte = c.next-state.ensures.value ∙ ap (λ n. slice_index n (l.state + slice_index t.class_of byte)) c.as_slice-table.ensures.value in
+    let is : e ≡ transition d l.state byte = c.next-state.ensures.value ∙ ap (λ n. slice_index n (l.state + slice_index t.class_of byte)) c.as_slice-table.ensures.value in
     elim c.if-state-ge-SPECIAL.branch [
       | then-state-ge-SPECIAL+else-state-eq-DEAD+else-has_some-2 w ↦ rw w.state-is record {
         row = high_row d sound l.state byte inv.row small e is w.if-state-ge-SPECIAL.true c.next-state.ensures.small;
@@ -146,5 +146,5 @@ returns-clause-some c =
     let source = ap (λ (v : DfaValue). v.source) c.self.view_is in
     rw (sym source) (whether_found c.has_some-2.result (finds d text) _ (at_end d l.state) (λ j. c.self.invariant.finds text j bytes) (λ j. rw past at l.invariant.same j) some none)
 
-pub returns-then-is_excluded-clause-some : goal.returns-then-is_excluded-clause-some
-returns-then-is_excluded-clause-some c = (λ h. absurd (true≢false (sym h)), λ (k, reached). absurd (c.is_excluded.ensures c.if-is_excluded.true k reached))
+pub returns-then-rejects_last_byte-clause-some : goal.returns-then-rejects_last_byte-clause-some
+returns-then-rejects_last_byte-clause-some c = (λ h. absurd (true≢false (sym h)), λ (k, reached). absurd (c.rejects_last_byte.ensures.rejected c.if-rejects_last_byte.true k reached))

@@ -1,4 +1,4 @@
-use Rattle.std.proofs.Common.{◌≡◌, ℕ, ◌+◌, ◌≤◌, drop}
+use Rattle.std.proofs.Common.{◌≡◌, ℕ, ◌+◌, ◌<◌, ◌≤◌, drop}
 use Rattle.byte_dfa.specs.inner.Tables.{table_of, later, finds, IsRow}
 use Rattle.byte_dfa.proofs.dfa.Dfa.is_match.Given as goal
 
@@ -9,6 +9,6 @@ invariant-loop-byte l =
     record {
       row : IsRow d l.state;
       same : (k : ℕ) → later d l.state (drop l.byte-index l.text) k ≡ finds d l.text k;
-      visits : l.visits ≤ l.fn.visits + l.byte-index;
-      counted : l.fn.visits ≤ l.visits;
+      visits : l.visits ≤ l.fn.visits + l.byte-index + 1;
+      counted : l.fn.visits < l.visits;
     }

@@ -1,7 +1,7 @@
 use Rattle.std.proofs.Common.{◌≡◌, ℕ, ◌+◌, ◌-◌, ◌<◌, ◌⊎◌, ◌||◌, inl, inr, IsTrue, true≢false, length, arith, refl, ap, sym, subst, ◌∙◌}
 use Rattle.std.specs.Prelude.{◌↔◌, ◌==◌}
 use Rattle.std.proofs.Math.Logic.{⊎_elim}
-use Rattle.bit_sets.specs.Indexes.{has_index, index_room}
+use Rattle.bit_sets.specs.Indexes.{has_index, index_capacity}
 use Rattle.byte_filter.specs.Entries.{HasEntry, ArePartsBelow}
 use Rattle.byte_filter.specs.inner.Chains.{link_at, IsLast, HasEntryFrom}
 use Rattle.byte_filter.specs.Hashes.{place_of}
@@ -14,9 +14,9 @@ pub put-requires : goal.put-requires
 put-requires c =
     let links = c.self.inside.links.items in
     let i = c.loop-at.at - 1 in
-    let lt : i < length links = omega (arith, c.loop-at.invariant.upto) in
+    let lt : i < length links = omega (arith, c.loop-at.invariant.limit) in
     let link : c.index-link.result.now ≡ link_at links i = link_is links i c.index-link.result.now lt c.index-link.ensures in
-    let below = part_below (index_room c.args.marks.now) links i (subst (ArePartsBelow (index_room c.args.marks.now)) (sym c.self.view_is) c.requires.room) lt in
+    let below = part_below (index_capacity c.args.marks.now) links i (subst (ArePartsBelow (index_capacity c.args.marks.now)) (sym c.self.view_is) c.requires.room) lt in
     omega (arith, below, ap (λ (l : Link). l.part) link, c.loop-at.invariant.room)
 
 pub loop-at-preserved-then-is_named : goal.loop-at-preserved-then-is_named
@@ -27,7 +27,7 @@ loop-at-preserved-then-is_named c =
     let inv = c.loop-at.invariant in
     let i = c.loop-at.at - 1 in
     let at : i + 1 ≡ c.loop-at.at = omega arith in
-    let lt : i < length links = omega (arith, inv.upto) in
+    let lt : i < length links = omega (arith, inv.limit) in
     let link : c.index-link.result.now ≡ link_at links i = link_is links i c.index-link.result.now lt c.index-link.ensures in
     let next : c.index-link.result.now.next ≡ (link_at links i).next = ap (λ (l : Link). l.next) link in
     let last : IsLast links slots i (place_of slots (link_at links i).key) c.index-link.result.now.next = subst (IsLast links slots i (place_of slots (link_at links i).key)) (sym next) (c.self.invariant.chained.nexts_at i lt) in
@@ -37,7 +37,7 @@ loop-at-preserved-then-is_named c =
     record {
       of = c.is_named.ensures.of;
       room = c.put.ensures.room ∙ inv.room;
-      upto = omega (arith, last.within, inv.upto);
+      limit = omega (arith, last.within, inv.limit);
       slot = λ j e. last.slot j e ∙ same;
       marks = next_put links y slots c.args.key i c.index-link.result.now.next last same lt (has_index c.args.marks.now) (has_index c.loop-at.marks) (has_index c.put.new.self) marked
           (subst (λ (l : Link). (l.key ≡ c.args.key) × AreSigned y l.signs) link (c.is_named.ensures.named.0 c.if-is_named.true))
@@ -54,7 +54,7 @@ loop-at-preserved c =
     let inv = c.loop-at.invariant in
     let i = c.loop-at.at - 1 in
     let at : i + 1 ≡ c.loop-at.at = omega arith in
-    let lt : i < length links = omega (arith, inv.upto) in
+    let lt : i < length links = omega (arith, inv.limit) in
     let link : c.index-link.result.now ≡ link_at links i = link_is links i c.index-link.result.now lt c.index-link.ensures in
     let next : c.index-link.result.now.next ≡ (link_at links i).next = ap (λ (l : Link). l.next) link in
     let last : IsLast links slots i (place_of slots (link_at links i).key) c.index-link.result.now.next = subst (IsLast links slots i (place_of slots (link_at links i).key)) (sym next) (c.self.invariant.chained.nexts_at i lt) in
@@ -64,7 +64,7 @@ loop-at-preserved c =
     record {
       of = c.is_named.ensures.of;
       room = inv.room;
-      upto = omega (arith, last.within, inv.upto);
+      limit = omega (arith, last.within, inv.limit);
       slot = λ j e. last.slot j e ∙ same;
       marks = next_passed links y slots c.args.key i c.index-link.result.now.next last same lt (has_index c.args.marks.now) (has_index c.loop-at.marks) (has_index c.loop-at.marks) marked
           (λ e. true≢false (sym (c.is_named.ensures.named.1 (subst (λ (l : Link). (l.key ≡ c.args.key) × AreSigned y l.signs) (sym link) e)) ∙ c.if-is_named.false)) (λ k. refl);

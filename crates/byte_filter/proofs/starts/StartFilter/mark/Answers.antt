@@ -1,8 +1,8 @@
 use Rattle.std.proofs.Common.{◌+◌, ◌*◌, ◌≤◌, length, inl, inr, IsTrue, arith, ap, sym, subst, ◌∙◌}
 use Rattle.std.proofs.Math.Logic.{⊎_elim}
 use Rattle.std.proofs.lemmas.Nat.{mul-le}
-use Rattle.bit_sets.specs.Indexes.{has_index, index_room}
-use Rattle.byte_automaton.proofs.lemmas.Deciding.{all_bytes}
+use Rattle.bit_sets.specs.Indexes.{has_index, index_capacity}
+use Rattle.byte_nfa.proofs.lemmas.Deciding.{all_bytes}
 use Rattle.byte_filter.specs.Entries.{IsNamed}
 use Rattle.byte_filter.specs.Others.{IsOther}
 use Rattle.byte_filter.specs.Starts.{Guards}
@@ -12,7 +12,7 @@ use Rattle.byte_filter.proofs.starts.StartFilter.mark.Goals as goal
 
 pub mark-requires : goal.mark-requires
 mark-requires c =
-    below_more c.self.inside.count (index_room c.mark_others.new.marks) c.self.inside.filter
+    below_more c.self.inside.count (index_capacity c.mark_others.new.marks) c.self.inside.filter
     (omega (arith, c.requires, c.mark_others.ensures.room, ap (λ (g : Guards). g.count) c.self.view_is)) c.self.invariant.below
 
 pub returns-clause-marks : goal.returns-clause-marks
@@ -38,4 +38,4 @@ returns-clause-visits c =
 
 pub mark_others-requires : goal.mark_others-requires
 mark_others-requires c =
-    rw c.deref.ensures.value (others_below_more c.self.inside.count (index_room c.args.marks.now) c.self.inside.others.items (omega (arith, c.requires, ap (λ (g : Guards). g.count) c.self.view_is)) c.self.invariant.others_below)
+    rw c.deref.ensures.value (others_below_more c.self.inside.count (index_capacity c.args.marks.now) c.self.inside.others.items (omega (arith, c.requires, ap (λ (g : Guards). g.count) c.self.view_is)) c.self.invariant.others_below)

@@ -2,7 +2,7 @@ use Rattle.std.proofs.Common.{refl, subst, sym, ap, ◌∙◌}
 use Rattle.bit_sets.specs.Indexes.{HasAlso}
 use Rattle.bit_sets.proofs.lemmas.IndexSets.{also_none}
 use Rattle.byte_trie.specs.Texts.{found}
-use Rattle.byte_trie.proofs.lemmas.Sides.{found_along, found_nothing}
+use Rattle.byte_trie.proofs.lemmas.Anchors.{found_along, found_nothing}
 use Rattle.byte_trie.proofs.trie.Trie.find.Goals as goal
 
 pub returns-clause-found : goal.returns-clause-found

@@ -1,6 +1,6 @@
 use Rattle.std.proofs.Common.{true≢false, IsTrue, ◌↔◌, ◌≢◌, [], subst, sym, ap, ◌∙◌}
 use Rattle.byte_trie.specs.Texts.{found}
-use Rattle.byte_trie.proofs.lemmas.Sides.{found_along, found_nothing}
+use Rattle.byte_trie.proofs.lemmas.Anchors.{found_along, found_nothing}
 use Rattle.byte_trie.proofs.trie.Trie.is_match.Goals as goal
 
 pub returns-clause-some : goal.returns-clause-some

@@ -1,4 +1,5 @@
-use Rattle.std.proofs.Common.{◌≡◌, List, true, subst}
+use Rattle.std.proofs.Common.{List, true, subst}
+use Rattle.globset.specs.GlobMatches.{GlobValue}
 use Rattle.globset.specs.SetValue.{set_globs}
 use Rattle.git_ignore.specs.FolderDecisions.{ArePut}
 use Rattle.git_ignore.specs.Rules.{decision}
@@ -16,4 +17,4 @@ returns-clause-put c =
     subst (λ (v : RulesValue). ArePut (λ folder. decision v.file folder true) c.args.path.now c.args.start old new) c.self.view_is
     (put_rightly r.file.items (set_globs r.set) r.entries.items c.args.path.now c.args.start old new c.self.invariant.are
     (subst (λ (es : List RuleEntry). ArePut (said_of_folder (set_globs r.set) es) c.args.path.now c.args.start old new) c.deref.ensures.value
-    (c.in_ok-put_decisions.ensures.put (set_globs r.set) c.self.invariant.matched)))
+    (subst (λ (gs : List GlobValue). ArePut (said_of_folder gs c.deref.result.now) c.args.path.now c.args.start old new) c.self.invariant.matched c.in_ok-put_decisions.ensures.put)))

@@ -1,6 +1,6 @@
 use Rattle.std.proofs.Common.{◌≡◌, ap, subst, arith}
 use Rattle.std.specs.Prelude.{OnOk}
-use Rattle.globset.specs.Answer.{answer}
+use Rattle.globset.specs.Answer.{matching_indexes}
 use Rattle.globset.specs.SetValue.{ScratchValue, set_globs}
 use Rattle.git_ignore.specs.Rules.{last_rule, rules_of}
 use Rattle.git_ignore.specs.RulesValue.{RulesValue}
@@ -14,7 +14,7 @@ invariant_of-scratch c =
 
 pub returns-clause-entry : goal.returns-clause-entry
 returns-clause-entry c =
-    let found = subst (λ r. OnOk r (c.matches_into_with.new.into.items ≡ answer (set_globs c.self.inside.set) c.from_bytes-path.result)) c.unwrap.ensures c.matches_into_with.ensures.ok in
+    let found = subst (λ r. OnOk r (c.matches_into_with.new.into.items ≡ matching_indexes (set_globs c.self.inside.set) c.from_bytes-path.result)) c.unwrap.ensures c.matches_into_with.ensures.ok in
     subst (λ (v : RulesValue). c.last_entry_for.result ≡ entry_of_rule (last_rule c.args.path.now c.args.is_folder (rules_of v.file))) c.self.view_is
     (found_entry (rules_of c.self.inside.file.items) (set_globs c.self.inside.set) c.self.inside.entries.items c.deref.result.now c.args.path.now c.from_bytes-path.result
     c.matches_into_with.new.into.items c.deref-2.result.now c.args.is_folder c.last_entry_for.result c.self.invariant.are c.deref.ensures.value c.deref-2.ensures.value found c.from_bytes-path.ensures c.last_entry_for.ensures)

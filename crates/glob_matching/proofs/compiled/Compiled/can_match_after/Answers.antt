@@ -1,7 +1,7 @@
 use Rattle.std.proofs.Common.{◌≡◌, ◌∙◌, ◌++◌, ◌∷◌, [], IsTrue, ap, sym, subst, arith}
 use Rattle.std.specs.Prelude.{◌↔◌}
-use Rattle.byte_automaton.specs.Live.{MatchesAfter}
-use Rattle.byte_automaton.specs.Steps.{Machine}
+use Rattle.byte_nfa.specs.Live.{MatchesAfter}
+use Rattle.byte_nfa.specs.Steps.{Machine}
 use Rattle.glob_matching.specs.inner.Compiled.{machine_of}
 use Rattle.glob_matching.proofs.lemmas.Compiled.{after_matches}
 use Rattle.glob_matching.proofs.lemmas.Parts.{if_ok}
@@ -14,12 +14,12 @@ returns-in-Whole-clause-some c =
     let here = subst (λ (m : Machine). IsTrue yes ↔ MatchesAfter m (c.args.text.now ++ c.args.byte ∷ [])) same some in
     after_matches c.args.self.now xs c.args.text.now c.args.byte (λ i. omega (arith, c.type_inv.text i)) (omega arith) here is) c.can_match_after.ensures.some
 
-pub returns-in-Divided-clause-some : goal.returns-in-Divided-clause-some
-returns-in-Divided-clause-some c =
-    let same : c.in-Divided.parts ≡ c.args.self.now = sym (ap machine_of c.in-Divided.is) ∙ c.self.view_is in
-    if_ok c.can_match_after-in-Divided.result (λ yes some xs is.
+pub returns-in-Partitioned-clause-some : goal.returns-in-Partitioned-clause-some
+returns-in-Partitioned-clause-some c =
+    let same : c.in-Partitioned.parts ≡ c.args.self.now = sym (ap machine_of c.in-Partitioned.is) ∙ c.self.view_is in
+    if_ok c.can_match_after-in-Partitioned.result (λ yes some xs is.
     let here = subst (λ (m : Machine). IsTrue yes ↔ MatchesAfter m (c.args.text.now ++ c.args.byte ∷ [])) same some in
-    after_matches c.args.self.now xs c.args.text.now c.args.byte (λ i. omega (arith, c.type_inv.text i)) (omega arith) here is) c.can_match_after-in-Divided.ensures.some
+    after_matches c.args.self.now xs c.args.text.now c.args.byte (λ i. omega (arith, c.type_inv.text i)) (omega arith) here is) c.can_match_after-in-Partitioned.ensures.some
 
 pub returns-in-Filtered-clause-some : goal.returns-in-Filtered-clause-some
 returns-in-Filtered-clause-some c =

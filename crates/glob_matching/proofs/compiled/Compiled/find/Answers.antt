@@ -1,7 +1,7 @@
 use Rattle.std.proofs.Common.{◌≡◌, ◌∙◌, ◌⊎◌, IsTrue, ap, sym, subst, arith}
 use Rattle.std.specs.Prelude.{◌↔◌}
 use Rattle.bit_sets.specs.Indexes.{has_index}
-use Rattle.byte_automaton.specs.Steps.{IsReached, Machine}
+use Rattle.byte_nfa.specs.Steps.{IsReached, Machine}
 use Rattle.glob_matching.specs.inner.Compiled.{machine_of}
 use Rattle.glob_matching.proofs.lemmas.Compiled.{finds_matches}
 use Rattle.glob_matching.proofs.lemmas.Parts.{on_ok}
@@ -14,12 +14,12 @@ returns-in-Whole-clause-found c =
     let here = subst (λ (m : Machine). IsTrue (has_index c.find.new.found k) ↔ (IsReached m c.args.text.now k ⊎ IsTrue (has_index c.args.found.now k))) same (found k) in
     finds_matches c.args.self.now xs c.args.text.now k (λ i. omega (arith, c.type_inv.text i)) here is) c.find.ensures.found
 
-pub returns-in-Divided-clause-found : goal.returns-in-Divided-clause-found
-returns-in-Divided-clause-found c =
-    let same : c.in-Divided.parts ≡ c.args.self.now = sym (ap machine_of c.in-Divided.is) ∙ c.self.view_is in
-    on_ok c.find-in-Divided.result (λ found xs is k.
-    let here = subst (λ (m : Machine). IsTrue (has_index c.find-in-Divided.new.found k) ↔ (IsReached m c.args.text.now k ⊎ IsTrue (has_index c.args.found.now k))) same (found k) in
-    finds_matches c.args.self.now xs c.args.text.now k (λ i. omega (arith, c.type_inv.text i)) here is) c.find-in-Divided.ensures.found
+pub returns-in-Partitioned-clause-found : goal.returns-in-Partitioned-clause-found
+returns-in-Partitioned-clause-found c =
+    let same : c.in-Partitioned.parts ≡ c.args.self.now = sym (ap machine_of c.in-Partitioned.is) ∙ c.self.view_is in
+    on_ok c.find-in-Partitioned.result (λ found xs is k.
+    let here = subst (λ (m : Machine). IsTrue (has_index c.find-in-Partitioned.new.found k) ↔ (IsReached m c.args.text.now k ⊎ IsTrue (has_index c.args.found.now k))) same (found k) in
+    finds_matches c.args.self.now xs c.args.text.now k (λ i. omega (arith, c.type_inv.text i)) here is) c.find-in-Partitioned.ensures.found
 
 pub returns-in-Filtered-clause-found : goal.returns-in-Filtered-clause-found
 returns-in-Filtered-clause-found c =

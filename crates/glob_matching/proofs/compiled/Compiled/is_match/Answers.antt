@@ -1,6 +1,6 @@
 use Rattle.std.proofs.Common.{◌≡◌, ◌∙◌, ℕ, IsTrue, ap, sym, subst, arith}
 use Rattle.std.specs.Prelude.{◌↔◌}
-use Rattle.byte_automaton.specs.Steps.{IsReached, Machine}
+use Rattle.byte_nfa.specs.Steps.{IsReached, Machine}
 use Rattle.glob_matching.specs.inner.Compiled.{machine_of}
 use Rattle.glob_matching.proofs.lemmas.Compiled.{has_matches}
 use Rattle.glob_matching.proofs.lemmas.Parts.{if_ok}
@@ -13,12 +13,12 @@ returns-in-Whole-clause-some c =
     let here = subst (λ (m : Machine). IsTrue yes ↔ ((k : ℕ) × IsReached m c.args.text.now k)) same some in
     has_matches c.args.self.now xs c.args.text.now (λ i. omega (arith, c.type_inv.text i)) here is) c.is_match.ensures.some
 
-pub returns-in-Divided-clause-some : goal.returns-in-Divided-clause-some
-returns-in-Divided-clause-some c =
-    let same : c.in-Divided.parts ≡ c.args.self.now = sym (ap machine_of c.in-Divided.is) ∙ c.self.view_is in
-    if_ok c.is_match-in-Divided.result (λ yes some xs is.
+pub returns-in-Partitioned-clause-some : goal.returns-in-Partitioned-clause-some
+returns-in-Partitioned-clause-some c =
+    let same : c.in-Partitioned.parts ≡ c.args.self.now = sym (ap machine_of c.in-Partitioned.is) ∙ c.self.view_is in
+    if_ok c.is_match-in-Partitioned.result (λ yes some xs is.
     let here = subst (λ (m : Machine). IsTrue yes ↔ ((k : ℕ) × IsReached m c.args.text.now k)) same some in
-    has_matches c.args.self.now xs c.args.text.now (λ i. omega (arith, c.type_inv.text i)) here is) c.is_match-in-Divided.ensures.some
+    has_matches c.args.self.now xs c.args.text.now (λ i. omega (arith, c.type_inv.text i)) here is) c.is_match-in-Partitioned.ensures.some
 
 pub returns-in-Filtered-clause-some : goal.returns-in-Filtered-clause-some
 returns-in-Filtered-clause-some c =

@@ -1,7 +1,7 @@
 use Rattle.std.proofs.Common.{◌⊎◌, IsTrue, subst}
 use Rattle.std.specs.Prelude.{◌↔◌}
 use Rattle.bit_sets.specs.Indexes.{has_index}
-use Rattle.byte_automaton.specs.Steps.{IsReached, Machine}
+use Rattle.byte_nfa.specs.Steps.{IsReached, Machine}
 use Rattle.glob_matching.proofs.lemmas.Filtered.{beside}
 use Rattle.glob_matching.proofs.filtered.Filtered.find.Goals as goal
 

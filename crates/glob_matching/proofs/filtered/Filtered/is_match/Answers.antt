@@ -1,6 +1,6 @@
 use Rattle.std.proofs.Common.{ℕ, IsTrue, subst}
 use Rattle.std.specs.Prelude.{◌↔◌}
-use Rattle.byte_automaton.specs.Steps.{IsReached, Machine}
+use Rattle.byte_nfa.specs.Steps.{IsReached, Machine}
 use Rattle.glob_matching.proofs.lemmas.Filtered.{some_of}
 use Rattle.glob_matching.proofs.filtered.Filtered.is_match.Goals as goal
 

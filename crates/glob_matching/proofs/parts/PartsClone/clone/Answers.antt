@@ -1,6 +1,6 @@
 use Rattle.std.proofs.Common.{◌≡◌, List, sym, subst}
 use Rattle.std.specs.List.{each_same}
-use Rattle.byte_automaton.specs.Steps.{Machine}
+use Rattle.byte_nfa.specs.Steps.{Machine}
 use Rattle.byte_dfa.specs.DfaValue.{DfaValue}
 use Rattle.glob_matching.specs.inner.Parts.{ArePartsOf}
 use Rattle.glob_matching.proofs.parts.PartsClone.clone.Goals as goal

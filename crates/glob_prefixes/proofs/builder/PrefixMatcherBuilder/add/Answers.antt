@@ -1,16 +1,23 @@
-use Rattle.std.proofs.Common.{◌<◌, sym, subst}
+use Rattle.std.proofs.Common.{◌<◌, ◌+◌, List, [], ◌∷◌, ◌++◌, length, ap, sym, subst, ◌∙◌, arith}
 use Rattle.glob_syntax.specs.Views.{tokens_of}
-use Rattle.glob_prefixes.specs.Prefixes.{AreAdded, PrefixBuilderValue, most_globs}
-use Rattle.glob_prefixes.proofs.lemmas.Prefixes.{glob_added, globs_kept, on_err}
+use Rattle.globset_glob.specs.GlobMatches.{GlobValue}
+use Rattle.glob_prefixes.specs.Prefixes.{PrefixMatcherValue}
+use Rattle.glob_prefixes.specs.inner.Added.{AreAdded}
+use Rattle.glob_prefixes.proofs.lemmas.Prefixes.{glob_added, globs_kept}
 use Rattle.glob_prefixes.proofs.builder.PrefixMatcherBuilder.add.Goals as goal
 
-pub returns-in_err-add_tokens-clause-kept : goal.returns-in_err-add_tokens-clause-kept
-returns-in_err-add_tokens-clause-kept c = on_err c.from_residual.result (λ globs h.
-    globs_kept globs c.self.inside.added c.self.inside.automaton c.add_tokens.new.builder c.add_tokens.ensures.index_count c.in_err-add_tokens.ensures.kept
-    (subst (λ (b : PrefixBuilderValue). AreAdded globs b) (sym c.self.view_is) h))
+pub invariant_of-self : goal.invariant_of-self
+invariant_of-self c =
+    globs_kept c.self.inside.globs c.self.inside.added c.self.inside.automaton c.add_tokens.new.builder c.add_tokens.ensures.index_count c.in_err-add_tokens.ensures.kept c.self.invariant
 
-pub returns-clause-glob : goal.returns-clause-glob
-returns-clause-glob c = λ globs h.
-    glob_added globs c.args.glob.now c.options_of-options.result (tokens_of c.tokens_of-tokens.result.now) c.self.inside.added c.self.inside.automaton c.add_tokens.new.builder
-    c.options_of-options.ensures c.tokens_of-tokens.ensures.tokens (subst (λ (b : PrefixBuilderValue). b.added < most_globs b) (sym c.self.view_is) c.requires)
-    c.add_tokens.ensures.index_count c.in_ok-add_tokens.ensures.tokens (subst (λ (b : PrefixBuilderValue). AreAdded globs b) (sym c.self.view_is) h)
+pub invariant_of-self-2 : goal.invariant_of-self-2
+invariant_of-self-2 c =
+    let globs = c.self.inside.globs in
+    let g = c.args.glob.now in
+    let count = ap (λ (m : PrefixMatcherValue). length m.globs) c.self.view_is in
+    let maximum = ap (λ (m : PrefixMatcherValue). m.machine.index_count) c.self.view_is in
+    let room : c.self.inside.added < c.self.inside.automaton.index_count = omega (arith, count, maximum, c.self.invariant.count, c.requires) in
+    let all = c.and.ensures ∙ ap (λ (gs : List GlobValue). gs ++ g ∷ []) c.copy.ensures in
+    subst (λ (gs : List GlobValue). AreAdded gs c.add_tokens.new.builder (c.self.inside.added + 1)) (sym all)
+    (glob_added globs g c.options_of-options.result (tokens_of c.tokens_of-tokens.result.now) c.self.inside.added c.self.inside.automaton c.add_tokens.new.builder
+    c.options_of-options.ensures c.tokens_of-tokens.ensures.tokens room c.add_tokens.ensures.index_count c.in_ok-add_tokens.ensures.tokens c.self.invariant)

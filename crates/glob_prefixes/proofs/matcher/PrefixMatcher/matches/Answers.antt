@@ -1,17 +1,20 @@
-use Rattle.std.proofs.Common.{◌≡◌, ℕ, subst}
+use Rattle.std.proofs.Common.{◌≡◌, ℕ, ap, subst, ◌∙◌}
 use Rattle.std.specs.Prelude.{OnOk, filter}
 use Rattle.std.specs.List.{range_with_len}
 use Rattle.bit_sets.specs.Indexes.{has_index}
+use Rattle.glob_prefixes.specs.Prefixes.{PrefixMatcherValue}
+use Rattle.glob_prefixes.specs.inner.Added.{IsPrefixMatcherOf}
 use Rattle.glob_prefixes.proofs.lemmas.Prefixes.{reached_are, same_current}
 use Rattle.glob_prefixes.proofs.matcher.PrefixMatcher.matches.Goals as goal
 
 pub returns-clause-matching : goal.returns-clause-matching
-returns-clause-matching c = λ globs is text after.
+returns-clause-matching c = λ text after.
+    let is = subst (λ (m : PrefixMatcherValue). IsPrefixMatcherOf m.globs m.machine) c.self.view_is c.self.invariant in
     let has = has_index c.mark.new.states.marks in
     let indexes = c.push_marked.new.into.items in
-    let pushed = subst (λ r. OnOk r (indexes ≡ filter has (range_with_len 0 c.index_count.result))) c.unwrap.ensures c.push_marked.ensures.pushed in
-    reached_are globs c.args.self.now text has indexes is after.bytes (c.mark.ensures.marked text after)
-    (subst (λ (n : ℕ). indexes ≡ filter has (range_with_len 0 n)) c.index_count.ensures pushed)
+    let pushed = subst (λ r. OnOk r (indexes ≡ filter has (range_with_len 0 c.index_count-count.result))) c.unwrap.ensures c.push_marked.ensures.pushed in
+    reached_are c.args.self.now.globs c.args.self.now.machine text has indexes is after.bytes (c.mark.ensures.marked text after)
+    (subst (λ (n : ℕ). indexes ≡ filter has (range_with_len 0 n)) (c.index_count-count.ensures ∙ ap (λ (m : PrefixMatcherValue). m.machine.index_count) c.self.view_is) pushed)
 
 pub returns-clause-after : goal.returns-clause-after
 returns-clause-after c = λ text after.

@@ -40,5 +40,5 @@ pub returns-clause-visits : goal.returns-clause-visits
 returns-clause-visits c =
     let bytes = c.args.bytes.now in
     let le : c.loop-byte.byte-index ≤ length bytes = omega arith in
-    let most : c.loop-byte.byte-index * prefix_states c.args.self.now ≤ length bytes * prefix_states c.args.self.now = mul-le-mul_right (prefix_states c.args.self.now) le in
-    omega (arith, most, c.loop-byte.invariant.visits)
+    let maximum : c.loop-byte.byte-index * prefix_states c.args.self.now ≤ length bytes * prefix_states c.args.self.now = mul-le-mul_right (prefix_states c.args.self.now) le in
+    omega (arith, maximum, c.loop-byte.invariant.visits)

@@ -1,6 +1,6 @@
 use Rattle.std.proofs.Common.{◌≡◌, [], IfOk, IsTrue, ap, sym, subst, ◌∙◌}
 use Rattle.std.specs.Prelude.{◌≢◌, ◌↔◌}
-use Rattle.globset.specs.Answer.{answer}
+use Rattle.globset.specs.Answer.{matching_indexes}
 use Rattle.globset.specs.SetValue.{SetValue, set_globs}
 use Rattle.globset.specs.inner.StoredGlobs.{stored_set}
 use Rattle.globset.proofs.lemmas.Answer.{none_of_none}
@@ -12,4 +12,4 @@ returns-then-is_empty-clause-ok c = none_of_none (set_globs c.args.self.now) c.a
 pub returns-clause-ok : goal.returns-clause-ok
 returns-clause-ok c =
     let same : c.in-Some.stored ≡ c.args.self.now = sym (ap stored_set c.in-Some.is) ∙ c.self.view_is in
-    subst (λ (s : SetValue). IfOk c.is_match.result (λ yes. IsTrue yes ↔ (answer (set_globs s) c.args.path.now ≢ []))) same c.is_match.ensures.ok
+    subst (λ (s : SetValue). IfOk c.is_match.result (λ yes. IsTrue yes ↔ (matching_indexes (set_globs s) c.args.path.now ≢ []))) same c.is_match.ensures.ok

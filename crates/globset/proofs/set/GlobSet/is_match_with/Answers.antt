@@ -1,10 +1,10 @@
 use Rattle.std.proofs.Common.{◌≡◌, [], IfOk, IsTrue, ap, sym, subst, ◌∙◌}
 use Rattle.std.specs.Prelude.{◌≢◌, ◌↔◌}
-use Rattle.globset.specs.Answer.{answer}
+use Rattle.globset.specs.Answer.{matching_indexes}
 use Rattle.globset.specs.SetValue.{SetValue, set_globs}
 use Rattle.globset.specs.inner.StoredGlobs.{stored_set}
 use Rattle.globset.proofs.lemmas.Answer.{none_of_none}
-use Rattle.globset.proofs.lemmas.Scratches.{has_room, keeps_room}
+use Rattle.globset.proofs.lemmas.Scratches.{has_capacity, keeps_capacity}
 use Rattle.globset.proofs.set.GlobSet.is_match_with.Goals as goal
 
 pub returns-then-is_empty-clause-some : goal.returns-then-is_empty-clause-some
@@ -16,13 +16,13 @@ returns-in_default-clause-some c = none_of_none (set_globs c.args.self.now) c.ar
 pub unwrap-requires : goal.unwrap-requires
 unwrap-requires c =
     let same : c.in-Some.stored ≡ c.args.self.now = sym (ap stored_set c.in-Some.is) ∙ c.self.view_is in
-    c.is_match.ensures.room (has_room c.scratch.inside.sets c.scratch.inside.states c.scratch.inside.indexes c.args.scratch.now c.args.self.now c.in-Some.stored c.scratch.invariant c.scratch.view_is same c.requires)
+    c.is_match.ensures.room (has_capacity c.scratch.inside.sets c.scratch.inside.states c.scratch.inside.indexes c.args.scratch.now c.args.self.now c.in-Some.stored c.scratch.invariant c.scratch.view_is same c.requires)
 
 pub invariant_of-scratch : goal.invariant_of-scratch
-invariant_of-scratch c = keeps_room c.scratch.inside.sets c.is_match.new.sets c.scratch.inside.states c.scratch.inside.indexes c.is_match.ensures.kept c.scratch.invariant
+invariant_of-scratch c = keeps_capacity c.scratch.inside.sets c.is_match.new.sets c.scratch.inside.states c.scratch.inside.indexes c.is_match.ensures.kept c.scratch.invariant
 
 pub returns-clause-some : goal.returns-clause-some
 returns-clause-some c =
     let same : c.in-Some.stored ≡ c.args.self.now = sym (ap stored_set c.in-Some.is) ∙ c.self.view_is in
-    subst (λ (s : SetValue). IsTrue c.unwrap.result ↔ (answer (set_globs s) c.args.path.now ≢ [])) same
-    (subst (λ r. IfOk r (λ yes. IsTrue yes ↔ (answer (set_globs c.in-Some.stored) c.args.path.now ≢ []))) c.unwrap.ensures c.is_match.ensures.ok)
+    subst (λ (s : SetValue). IsTrue c.unwrap.result ↔ (matching_indexes (set_globs s) c.args.path.now ≢ [])) same
+    (subst (λ r. IfOk r (λ yes. IsTrue yes ↔ (matching_indexes (set_globs c.in-Some.stored) c.args.path.now ≢ []))) c.unwrap.ensures c.is_match.ensures.ok)

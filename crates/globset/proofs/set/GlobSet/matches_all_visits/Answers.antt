@@ -1,7 +1,7 @@
 use Rattle.std.proofs.Common.{◌≡◌, IfOk, IsTrue, length, ap, sym, subst, ◌∙◌}
 use Rattle.std.specs.Prelude.{◌↔◌}
-use Rattle.group_matching.specs.Indexes.{ContainsAllBelow}
-use Rattle.globset.specs.Answer.{answer}
+use Rattle.set_matcher.specs.Indexes.{ContainsAllBelow}
+use Rattle.globset.specs.Answer.{matching_indexes}
 use Rattle.globset.specs.SetValue.{SetValue, set_globs}
 use Rattle.globset.specs.inner.StoredGlobs.{stored_set}
 use Rattle.globset.proofs.set.GlobSet.matches_all_visits.Goals as goal
@@ -9,4 +9,4 @@ use Rattle.globset.proofs.set.GlobSet.matches_all_visits.Goals as goal
 pub returns-clause-ok : goal.returns-clause-ok
 returns-clause-ok c =
     let same : c.in-Some.stored ≡ c.args.self.now = sym (ap stored_set c.in-Some.is) ∙ c.self.view_is in
-    subst (λ (s : SetValue). IfOk c.matches_all.result (λ yes. IsTrue yes ↔ ContainsAllBelow (answer (set_globs s) c.args.path.now) (length (set_globs s)))) same c.matches_all.ensures.ok
+    subst (λ (s : SetValue). IfOk c.matches_all.result (λ yes. IsTrue yes ↔ ContainsAllBelow (matching_indexes (set_globs s) c.args.path.now) (length (set_globs s)))) same c.matches_all.ensures.ok

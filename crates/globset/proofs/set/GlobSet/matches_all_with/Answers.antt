@@ -1,22 +1,22 @@
 use Rattle.std.proofs.Common.{◌≡◌, IfOk, IsTrue, length, ap, sym, subst, ◌∙◌}
 use Rattle.std.specs.Prelude.{◌↔◌}
-use Rattle.group_matching.specs.Indexes.{ContainsAllBelow}
-use Rattle.globset.specs.Answer.{answer}
+use Rattle.set_matcher.specs.Indexes.{ContainsAllBelow}
+use Rattle.globset.specs.Answer.{matching_indexes}
 use Rattle.globset.specs.SetValue.{SetValue, set_globs}
 use Rattle.globset.specs.inner.StoredGlobs.{stored_set}
-use Rattle.globset.proofs.lemmas.Scratches.{has_room, keeps_room}
+use Rattle.globset.proofs.lemmas.Scratches.{has_capacity, keeps_capacity}
 use Rattle.globset.proofs.set.GlobSet.matches_all_with.Goals as goal
 
 pub unwrap-requires : goal.unwrap-requires
 unwrap-requires c =
     let same : c.in-Some.stored ≡ c.args.self.now = sym (ap stored_set c.in-Some.is) ∙ c.self.view_is in
-    c.matches_all.ensures.room (has_room c.scratch.inside.sets c.scratch.inside.states c.scratch.inside.indexes c.args.scratch.now c.args.self.now c.in-Some.stored c.scratch.invariant c.scratch.view_is same c.requires)
+    c.matches_all.ensures.room (has_capacity c.scratch.inside.sets c.scratch.inside.states c.scratch.inside.indexes c.args.scratch.now c.args.self.now c.in-Some.stored c.scratch.invariant c.scratch.view_is same c.requires)
 
 pub invariant_of-scratch : goal.invariant_of-scratch
-invariant_of-scratch c = keeps_room c.scratch.inside.sets c.matches_all.new.sets c.scratch.inside.states c.scratch.inside.indexes c.matches_all.ensures.kept c.scratch.invariant
+invariant_of-scratch c = keeps_capacity c.scratch.inside.sets c.matches_all.new.sets c.scratch.inside.states c.scratch.inside.indexes c.matches_all.ensures.kept c.scratch.invariant
 
 pub returns-clause-all : goal.returns-clause-all
 returns-clause-all c =
     let same : c.in-Some.stored ≡ c.args.self.now = sym (ap stored_set c.in-Some.is) ∙ c.self.view_is in
-    subst (λ (s : SetValue). IsTrue c.unwrap.result ↔ ContainsAllBelow (answer (set_globs s) c.args.path.now) (length (set_globs s))) same
-    (subst (λ r. IfOk r (λ yes. IsTrue yes ↔ ContainsAllBelow (answer (set_globs c.in-Some.stored) c.args.path.now) (length (set_globs c.in-Some.stored)))) c.unwrap.ensures c.matches_all.ensures.ok)
+    subst (λ (s : SetValue). IsTrue c.unwrap.result ↔ ContainsAllBelow (matching_indexes (set_globs s) c.args.path.now) (length (set_globs s))) same
+    (subst (λ r. IfOk r (λ yes. IsTrue yes ↔ ContainsAllBelow (matching_indexes (set_globs c.in-Some.stored) c.args.path.now) (length (set_globs c.in-Some.stored)))) c.unwrap.ensures c.matches_all.ensures.ok)

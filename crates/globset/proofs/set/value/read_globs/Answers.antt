@@ -16,8 +16,7 @@ loop-index-preserved c =
       read = one_glob c.args.values.now c.loop-index.index c.index-values-index.result given c.add.new.self.given c.in-Ok.glob c.in-Ok.glob
           (globs_from 0 (items_view c.args.values.now)) c.loop-index-test.true c.index-values-index.is c.loop-index.invariant.read c.in-Ok.ensures.ok refl more;
       so_far = omega (arith, ap length more, length-append given (c.in-Ok.glob ∷ []), c.loop-index.invariant.so_far);
-      added = c.in_ok-add-in-Ok.ensures.added c.loop-index.invariant.added;
-      count = c.in_ok-add-in-Ok.ensures.count ∙ c.loop-index.invariant.count;
+      count = c.add.ensures.count ∙ c.loop-index.invariant.count;
     }
 
 pub returns : goal.returns

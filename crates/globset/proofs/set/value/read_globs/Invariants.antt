@@ -1,8 +1,6 @@
 use Rattle.std.proofs.Common.{◌≡◌, length, drop}
 use Rattle.serde_json.specs.View.{items_view}
-use Rattle.group_matching.specs.inner.Groups.{group_count}
 use Rattle.globset.specs.SetFromValue.{globs_from}
-use Rattle.globset.specs.inner.StoredGlobs.{AreAdded}
 use Rattle.globset.proofs.lemmas.SetFromValue.{onto}
 use Rattle.globset.proofs.set.value.read_globs.Given as goal
 
@@ -10,6 +8,5 @@ abbrev pub invariant-loop-index : goal.invariant-loop-index
 invariant-loop-index l = record {
   read : globs_from 0 (items_view l.values) ≡ onto l.builder.given (globs_from l.index (items_view (drop l.index l.values)));
   so_far : length l.builder.given ≡ l.index;
-  added : AreAdded l.builder;
-  count : group_count l.builder.parts ≡ length l.values;
+  count : l.builder.count ≡ length l.values;
 }

@@ -2,8 +2,8 @@ use Rattle.std.proofs.Common.{◌≡◌, ℕ, List, Ok, ap, sym, ◌∙◌, subs
 use Rattle.std.specs.Str.{chars}
 use Rattle.glob_syntax.specs.Token.{Tokens}
 use Rattle.glob_syntax.specs.Reading.{reading}
-use Rattle.glob_text.specs.Means.{GlobValue, tokens_of_glob, glob_means}
-use Rattle.glob_automaton.specs.TokenMeans.{means}
+use Rattle.glob_text.specs.GlobMatches.{GlobValue, tokens_of_glob, glob_matches}
+use Rattle.glob_nfa.specs.TokensMatch.{tokens_match}
 use Rattle.glob_text.specs.RegexText.{regex_text}
 use Rattle.glob_text.specs.RegexDenotes.{HasExpression}
 use Rattle.glob_syntax.specs.Views.{tokens_of}
@@ -16,11 +16,11 @@ text_is : (g : GlobValue) (ts : Tokens) (text : List ℕ) → reading g.options 
 text_is g ts text read is = is ∙ ap (regex_text g.options) (sym (tokens_are g ts read))
 
 -- the text of a glob denotes what the glob matches
-has_expression : (g : GlobValue) (ts : Tokens) (text : List ℕ) → AreWellFormed ts → reading g.options (chars g.text) ≡ Ok ts → text ≡ regex_text g.options ts → HasExpression (glob_means g) text
-unfolding glob_means
+has_expression : (g : GlobValue) (ts : Tokens) (text : List ℕ) → AreWellFormed ts → reading g.options (chars g.text) ≡ Ok ts → text ≡ regex_text g.options ts → HasExpression (glob_matches g) text
+unfolding glob_matches
 has_expression g ts text formed read is =
-    subst (λ us. HasExpression (means g.options us) text) (sym (tokens_are g ts read))
-    (subst (HasExpression (means g.options ts)) (sym is) (regex_has g.options ts formed))
+    subst (λ us. HasExpression (tokens_match g.options us) text) (sym (tokens_are g ts read))
+    (subst (HasExpression (tokens_match g.options ts)) (sym is) (regex_has g.options ts formed))
 
 pub returns-clause-text : goal.returns-clause-text
 returns-clause-text c =

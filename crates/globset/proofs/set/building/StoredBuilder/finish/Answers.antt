@@ -1,15 +1,11 @@
 use Rattle.std.proofs.Common.{◌≡◌, length, sym, subst}
-use Rattle.group_matching.specs.inner.Groups.{GroupParts, group_count}
-use Rattle.globset.specs.inner.StoredGlobs.{AddedParts, AreAdded, AreStored}
+use Rattle.set_matcher.specs.SetMatcherValue.{SetMatcherValue}
+use Rattle.globset.specs.inner.StoredGlobs.{AddedGlobs, AreStored}
 use Rattle.globset.proofs.set.building.StoredBuilder.finish.Goals as goal
 
-pub of_groups-requires : goal.of_groups-requires
-of_groups-requires c =
-    let added = subst AreAdded (sym c.self.view_is) c.requires.added in
-    subst (λ (g : GroupParts). AreStored c.self.inside.globs g) (sym c.in_ok-groups.ensures) (record {
-      read = added.read;
-      groups = added.groups;
-      count = subst (λ (a : AddedParts). group_count a.parts ≡ length a.given) (sym c.self.view_is) c.requires.count;
-      size = added.size;
-      size_below = added.size_below;
+pub of_matcher-requires : goal.of_matcher-requires
+of_matcher-requires c =
+    subst (λ (g : SetMatcherValue). AreStored c.self.inside.globs g) (sym c.in_ok-matcher.ensures) (record {
+      added = c.self.invariant;
+      count = sym (subst (λ (a : AddedGlobs). length a.given ≡ a.count) (sym c.self.view_is) c.requires);
     })

@@ -1,11 +1,8 @@
 use Rattle.std.proofs.Common.{◌≡◌, length, map, take}
-use Rattle.group_matching.specs.inner.Groups.{group_count}
-use Rattle.globset.specs.inner.StoredGlobs.{AreAdded}
 use Rattle.globset.proofs.set.stored.Stored.of_references.Given as goal
 
-abbrev pub invariant-loop-index : goal.invariant-loop-index
-invariant-loop-index l = record {
-  given : l.builder.given ≡ map (λ g. g.now) (take l.index l.references);
-  added : AreAdded l.builder;
-  count : group_count l.builder.parts ≡ length l.references;
+abbrev pub invariant-loop-glob : goal.invariant-loop-glob
+invariant-loop-glob l = record {
+  given : l.builder.given ≡ map (λ g. g.now) (take l.glob-index l.references);
+  count : l.builder.count ≡ length l.references;
 }

@@ -10,9 +10,9 @@ pub loop-i-preserved : goal.loop-i-preserved
 loop-i-preserved g c =
     let i = c.loop-i.invariant in
     let put = rw (i.2.0, i.2.1) at c.in_ok-handle_line.ensures.done in
-    let alike = c.handle_line.ensures.alike in
+    let equivalent = c.handle_line.ensures.equivalent in
     let step = lines_step _ _ _ i.0 _ c.in-Some.i _ _ _ _ _ _ _ _ _ i.1 i.3 c.in-Some.ensures put.0 put.1 in
-    (step.0, step.1, (alike.0 ∙ i.2.0, alike.1 ∙ i.2.1), step.2)
+    (step.0, step.1, (equivalent.0 ∙ i.2.0, equivalent.1 ∙ i.2.1), step.2)
 
 pub returns-clause-done : goal.returns-clause-done
 returns-clause-done g c =

@@ -17,5 +17,5 @@ pub returns-clause-done : goal.returns-clause-done
 returns-clause-done g c =
     let line = ◌∙◌ {c = c.args.self.now.rest.items ++ take c.in-Some.i c.args.chunk.now} c.as_slice.ensures.value c.in_ok-extend_from_slice-2.ensures.items in
     let put = c.in_ok-handle_line.ensures.done in
-    let alike = c.handle_line.ensures.alike in
-    chunk_result _ _ c.args.self.now.rest.items c.args.chunk.now c.as_slice.result.now _ c.in-Some.i _ _ _ _ _ _ _ _ _ c.handle_lines_and_keep_rest-2.result c.requires c.in-Some.ensures line put.0 put.1 (rw (alike.0, alike.1) at c.handle_lines_and_keep_rest-2.ensures.done)
+    let equivalent = c.handle_line.ensures.equivalent in
+    chunk_result _ _ c.args.self.now.rest.items c.args.chunk.now c.as_slice.result.now _ c.in-Some.i _ _ _ _ _ _ _ _ _ c.handle_lines_and_keep_rest-2.result c.requires c.in-Some.ensures line put.0 put.1 (rw (equivalent.0, equivalent.1) at c.handle_lines_and_keep_rest-2.ensures.done)

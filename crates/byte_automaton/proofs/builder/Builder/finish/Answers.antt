@@ -1,7 +1,0 @@
-use Rattle.std.proofs.Common.{◌∙◌}
-use Rattle.byte_automaton.proofs.builder.Builder.finish.Goals as goal
-
-pub returns : goal.returns
-returns c =
-    c.from_parts.ensures
-    ∙ rw (c.shrink_to_fit.ensures.items, c.shrink_to_fit-2.ensures.items, c.shrink_to_fit-3.ensures.items, c.shrink_to_fit-4.ensures.items) c.self.view_is

@@ -1,8 +1,0 @@
-pub mod Bounds
-pub mod Views
-pub mod Pass
-pub mod Exits
-pub mod Lowering
-pub mod StepRoom
-pub mod WordSets
-pub mod Blocks

@@ -1,0 +1,558 @@
+//! How the table of a deterministic automaton is made: a row for each set of states that some text leads to.
+
+ghost use Rattle.std.specs.Prelude.{◌≡◌, ℕ, ◌+◌, ◌*◌, ◌<◌, ◌≤◌, ◌↔◌, ◌⊎◌, [], ◌∷◌, List, length, slice_get, slice_index, Some, false, IsTrue, OnOk, IfOk, IfSome};
+ghost use Rattle.byte_nfa.specs.Runs.{size, AcceptsFrom, AreAccepting};
+ghost use Rattle.byte_nfa.specs.ByteSteps.{step_capacity, LeadsAsEvery};
+ghost use Rattle.bit_sets.specs.Indexes.{has_index};
+ghost use Rattle.byte_nfa.specs.Sets.{has_state, state_capacity};
+ghost use Rattle.byte_dfa.specs.inner.Building.{AreFoundSets, AreAllAccepting, IsEntryTo, IsBase, IsCellOf, IsRowOf, IsSound, IsNumbered, KeepsFound, Grows, HasCapacityFor, BeginsAt, IsComplete, AreLiveSets, total};
+ghost use Rattle.byte_dfa.specs.inner.Tables.{special};
+
+use crate::classes::ByteClasses;
+use crate::lists::push_list;
+use bit_sets::IndexSet;
+use byte_nfa::{ByteSteps, Draft, StateSet};
+use std::alloc::{AllocError, Global};
+use std::collections::HashMap;
+use std::hash::{FoldHasher, Hasher};
+
+/// An entry from here on leads to a state that is dead, or where indexes are found on entry.
+pub const SPECIAL: usize = 1 << 31;
+
+/// The state that a run begins in, unless it leads to no end, and the one that it leads to by the first byte if that is another:
+/// the states of one of them are in most sets.
+const START: usize = 1;
+
+const AFTER_START: usize = 2;
+
+/// How many more states than starts may be found whose rows are not written yet, or one for every two starts if that is more.
+const WAITING: usize = 16;
+
+/// A set of states that some text leads to, which is one state of the table.
+#[derive(Drop)]
+struct Found {
+    states: StateSet,
+    /// The list of the indexes that are found where the state is entered.
+    on_entry: usize,
+    /// The list of the indexes that are found where the text ends.
+    at_end: usize,
+    /// The number of a state that may have some of these states. It is 0 if none is known.
+    below: usize,
+}
+
+/// A row that is written with the help of another.
+#[derive(Clone, Copy)]
+struct Row {
+    number: usize,
+    /// The row of a set that has none but states of this row's set. It is written already, or it is that of the dead state.
+    base: usize,
+    /// Whether every byte leads to some state from those that this row's set has beside.
+    every: bool,
+}
+
+/// The states of the table that were found so far, and the rows that are written.
+pub struct Determinizer {
+    found: Vec<Found>,
+    /// The number of a state by the hash of its set.
+    numbers: HashMap<u64, usize>,
+    /// The states that lead to some end without a byte.
+    accepting: StateSet,
+    /// How many numbers may be added.
+    room: usize,
+    lists: Vec<usize>,
+    rows: Vec<u32>,
+}
+
+impl Drop for Determinizer {
+    // One call wherever a value is dropped, which keeps proofs short.
+    fn drop(self) {
+        let Determinizer {
+            found: _,
+            numbers: _,
+            accepting: _,
+            room: _,
+            lists: _,
+            rows: _,
+        } = self;
+    }
+}
+
+impl Determinizer {
+    /// Returns a construction with all rows written, and the number of the state that a run begins in. `None` if there is no
+    /// room for so many numbers, or if too many states are found whose rows are not written yet.
+    pub fn complete(
+        alloc: Global,
+        automaton: &Draft,
+        classes: &ByteClasses,
+        room: usize,
+    ) -> Result<Option<(Determinizer, usize)>, AllocError>
+        requires room { room < special }
+        requires classes { classes.now.count ≤ 256 }
+        ensures { IfOk result (λ made. IfSome made (λ whole. IsComplete automaton.now classes.now room whole.0 whole.1)) }
+    {
+        let mut built = Determinizer::new(alloc, automaton, room)?;
+        let mut states = StateSet::new(alloc, automaton.state_count())?;
+        let start = built.begin(alloc, automaton, classes, &mut states)?;
+        let Some(start) = start else {
+            return Ok(None);
+        };
+        let fits = built.write_rows(alloc, automaton, classes, &mut states)?;
+        if !fits {
+            return Ok(None);
+        }
+        Ok(Some((built, start)))
+    }
+
+    /// Returns the table and the lists.
+    pub fn into_parts(self) -> (Vec<u32>, Vec<usize>)
+        ensures rows { result.0 ≡ self.rows }
+        ensures lists { result.1 ≡ self.lists }
+    {
+        let Determinizer {
+            found: _,
+            numbers: _,
+            accepting: _,
+            room: _,
+            lists,
+            rows,
+        } = self;
+        (rows, lists)
+    }
+
+    /// Adds the dead state and the state that a run begins in. Returns the number of the latter, and `None` if there is no room
+    /// for them. `states` has no state before.
+    fn begin(
+        &mut self,
+        alloc: Global,
+        automaton: &Draft,
+        classes: &ByteClasses,
+        states: &mut StateSet,
+    ) -> Result<Option<usize>, AllocError>
+        requires room { HasCapacityFor automaton.now states.old }
+        requires classes { classes.now.count ≤ 256 }
+        requires sound { IsSound automaton.now classes.now self.old }
+        requires none { self.old.found.items ≡ [] }
+        requires dead { (s : ℕ) → has_state states.old s ≡ false }
+        ensures room { state_capacity states.new ≡ state_capacity states.old }
+        ensures grows { IfOk result (λ made. IfSome made (λ start. Grows automaton.now classes.now self.old self.new)) }
+        ensures begins { IfOk result (λ made. IfSome made (λ start. BeginsAt automaton.now self.new.found.items start)) }
+    {
+        let dead = self.state_id(alloc, automaton, classes, states, 0)?;
+        let Some(_) = dead else {
+            return Ok(None);
+        };
+        automaton.start(states);
+        self.state_id(alloc, automaton, classes, states, 0)
+    }
+
+    /// Writes all rows. Returns whether there is room for them, and not too many states were found whose rows were not written
+    /// yet.
+    fn write_rows(
+        &mut self,
+        alloc: Global,
+        automaton: &Draft,
+        classes: &ByteClasses,
+        states: &mut StateSet,
+    ) -> Result<bool, AllocError>
+        requires room { HasCapacityFor automaton.now states.old }
+        requires classes { classes.now.count ≤ 256 }
+        requires sound { IsSound automaton.now classes.now self.old }
+        requires few { total classes.now self.old ≤ special }
+        requires none { self.old.rows.items ≡ [] }
+        ensures sound { IfOk result (λ fits. IsTrue fits → IsSound automaton.now classes.now self.new) }
+        ensures few { IfOk result (λ fits. IsTrue fits → total classes.now self.new ≤ total classes.now self.old) }
+        ensures keeps { IfOk result (λ fits. IsTrue fits → KeepsFound self.old.found.items self.new.found.items) }
+        ensures rows { IfOk result (λ fits. IsTrue fits → length self.new.rows.items ≡ length self.new.found.items * (classes.now.count + 2)) }
+    {
+        let mut steps = ByteSteps::new(alloc, automaton.state_count())?;
+        let maximum = max_waiting(automaton);
+        let mut row = 0;
+        while row < self.found.len() {
+            if self.found.len() - row > maximum {
+                return Ok(false);
+            }
+            let written = self.row_steps(automaton, row, &mut steps)?;
+            let fits = self.write_row(alloc, automaton, classes, written, &steps, states)?;
+            if !fits {
+                return Ok(false);
+            }
+            row += 1;
+        }
+        Ok(true)
+    }
+
+    /// Returns for each set that was found whether some bytes lead from it to an end. Returns an error if memory runs out.
+    pub fn live_rows(&self, alloc: Global, automaton: &Draft) -> Result<Vec<bool>, AllocError>
+        requires { AreFoundSets automaton.now self.now.found.items self.now.lists.items }
+        ensures { IfOk result (λ live. AreLiveSets automaton.now self.now.found.items live.items) }
+    {
+        let mut live = StateSet::new(alloc, automaton.state_count())?;
+        automaton.live(&mut live);
+        let mut rows = Vec::new(alloc);
+        for row in 0..self.found.len() {
+            let is_live = automaton.has_live(&self.found[row].states, &live);
+            rows.push(is_live)?;
+        }
+        Ok(rows)
+    }
+
+    /// Returns a construction of no states, with room for so many numbers.
+    fn new(alloc: Global, automaton: &Draft, room: usize) -> Result<Determinizer, AllocError>
+        ensures found { IfOk result (λ c. c.found.items ≡ []) }
+        ensures lists { IfOk result (λ c. c.lists.items ≡ 0 ∷ []) }
+        ensures rows { IfOk result (λ c. c.rows.items ≡ []) }
+        ensures accepting { IfOk result (λ c. AreAllAccepting automaton.now c.accepting) }
+        ensures room { IfOk result (λ c. c.room ≡ room) }
+    {
+        let mut lists = Vec::new(alloc);
+        lists.push(0)?;
+        let mut accepting = StateSet::new(alloc, automaton.state_count())?;
+        automaton.accepting(&mut accepting);
+        Ok(Determinizer {
+            found: Vec::new(alloc),
+            numbers: HashMap::new(alloc),
+            accepting,
+            room,
+            lists,
+            rows: Vec::new(alloc),
+        })
+    }
+
+    /// Returns the number of the state that a set stands for. A new one is added; `None` if there is no room for it.
+    fn state_id(
+        &mut self,
+        alloc: Global,
+        automaton: &Draft,
+        classes: &ByteClasses,
+        states: &StateSet,
+        below: usize,
+    ) -> Result<Option<usize>, AllocError>
+        requires room { HasCapacityFor automaton.now states.now }
+        requires classes { classes.now.count ≤ 256 }
+        requires sound { IsSound automaton.now classes.now self.old }
+        requires dead { length self.old.found.items ≡ 0 → (y : List ℕ) (k : ℕ) → AcceptsFrom automaton.now states.now y k → ⊥ }
+        ensures grows { IfOk result (λ made. IfSome made (λ j. Grows automaton.now classes.now self.old self.new)) }
+        ensures number { IfOk result (λ made. IfSome made (λ j. IsNumbered self.new.found.items j states.now)) }
+    {
+        let key = hash_of(states);
+        if let Some(number) = self.known(key, states) {
+            return Ok(Some(number));
+        }
+        let number = self.found.len();
+        let fits = self.add(alloc, automaton, classes, states, below)?;
+        if !fits {
+            return Ok(None);
+        }
+        self.numbers.insert(key, number)?;
+        Ok(Some(number))
+    }
+
+    /// Returns the number of the state that a set stands for, if it was found before. The key is the hash of the set.
+    fn known(&self, key: u64, states: &StateSet) -> Option<usize>
+        ensures { IfSome result (λ j. IsNumbered self.now.found.items j states.now) }
+    {
+        let number = *self.numbers.get(&key)?;
+        if number < self.found.len() && self.found[number].states == *states {
+            Some(number)
+        } else {
+            None
+        }
+    }
+
+    /// Returns the indexes of the ends that a set leads to without a byte.
+    fn ends_of(
+        &self,
+        alloc: Global,
+        automaton: &Draft,
+        states: &StateSet,
+    ) -> Result<IndexSet, AllocError>
+        requires room { HasCapacityFor automaton.now states.now }
+        requires accepting { AreAllAccepting automaton.now self.now.accepting }
+        ensures { IfOk result (λ set. (k : ℕ) → IsTrue (has_index set k) ↔ AcceptsFrom automaton.now states.now [] k) }
+    {
+        let mut set = IndexSet::new(alloc, automaton.index_count())?;
+        if states.is_disjoint(&self.accepting) {
+            return Ok(set);
+        }
+        // The others lead to no end without a byte.
+        let mut from = states.clone()?;
+        from.keep(&self.accepting);
+        automaton.ends(&mut from, &mut set);
+        Ok(set)
+    }
+
+    /// Adds a state of the table, with its lists. Returns whether there is room for it.
+    fn add(
+        &mut self,
+        alloc: Global,
+        automaton: &Draft,
+        classes: &ByteClasses,
+        states: &StateSet,
+        below: usize,
+    ) -> Result<bool, AllocError>
+        requires room { HasCapacityFor automaton.now states.now }
+        requires classes { classes.now.count ≤ 256 }
+        requires sound { IsSound automaton.now classes.now self.old }
+        requires dead { length self.old.found.items ≡ 0 → (y : List ℕ) (k : ℕ) → AcceptsFrom automaton.now states.now y k → ⊥ }
+        ensures grows { IfOk result (λ fits. IsTrue fits → Grows automaton.now classes.now self.old self.new) }
+        ensures number { IfOk result (λ fits. IsTrue fits → IsNumbered self.new.found.items (length self.old.found.items) states.now) }
+    {
+        let half = automaton.index_count() / 2;
+        let set = self.ends_of(alloc, automaton, states)?;
+        let before = self.lists.len();
+        let on_entry = push_list(alloc, &set, half, half, &mut self.lists)?;
+        let at_end = push_list(alloc, &set, 0, half, &mut self.lists)?;
+        let listed = self.lists.len() - before;
+        let row = classes.count + 2;
+        if self.room < row {
+            return Ok(false);
+        }
+        if self.room - row < listed {
+            return Ok(false);
+        }
+        self.room -= row + listed;
+        let states = states.clone()?;
+        self.found.push(Found {
+            states,
+            on_entry,
+            at_end,
+            below,
+        })?;
+        Ok(true)
+    }
+
+    /// Writes a row, from the steps from the states that its set has beside those of its base. Returns whether there is room for
+    /// the states that it leads to.
+    fn write_row(
+        &mut self,
+        alloc: Global,
+        automaton: &Draft,
+        classes: &ByteClasses,
+        row: Row,
+        steps: &ByteSteps,
+        to: &mut StateSet,
+    ) -> Result<bool, AllocError>
+        requires room { HasCapacityFor automaton.now to.old }
+        requires step_capacity { step_capacity steps.now ≡ state_capacity to.old }
+        requires sound { IsSound automaton.now classes.now self.old }
+        requires few { total classes.now self.old ≤ special }
+        requires classes { classes.now.count ≤ 256 }
+        requires row { IsRowOf automaton.now self.old.found.items row steps.now }
+        requires place { length self.old.rows.items ≡ row.number * (classes.now.count + 2) }
+        ensures room { state_capacity to.new ≡ state_capacity to.old }
+        ensures sound { IfOk result (λ fits. IsTrue fits → IsSound automaton.now classes.now self.new) }
+        ensures few { IfOk result (λ fits. IsTrue fits → total classes.now self.new ≤ total classes.now self.old) }
+        ensures keeps { IfOk result (λ fits. IsTrue fits → KeepsFound self.old.found.items self.new.found.items) }
+        ensures place { IfOk result (λ fits. IsTrue fits → length self.new.rows.items ≡ (row.number + 1) * (classes.now.count + 2)) }
+    {
+        let some = steps.some_bytes();
+        // A class that leads only where every byte does, once its entry is written: most classes of a row lead there.
+        let mut common = None;
+        for class in 0..classes.count {
+            let is_common = !some.has(classes.representatives[class]);
+            match self.shared_entry(automaton, classes, row, steps, is_common, common, class) {
+                Some(transition) => {
+                    self.rows.push(transition)?;
+                }
+                None => {
+                    let made = self.new_entry(alloc, automaton, classes, row, steps, to, class)?;
+                    let Some(transition) = made else {
+                        return Ok(false);
+                    };
+                    self.rows.push(transition)?;
+                }
+            }
+            if is_common {
+                common = Some(class);
+            }
+        }
+        self.rows.push(self.found[row.number].on_entry as u32)?;
+        self.rows.push(self.found[row.number].at_end as u32)?;
+        Ok(true)
+    }
+
+    /// Returns the entry of a class that leads only where every byte does, if an entry that is written leads there: that of the
+    /// base, or that of a class before.
+    fn shared_entry(
+        &self,
+        automaton: &Draft,
+        classes: &ByteClasses,
+        row: Row,
+        steps: &ByteSteps,
+        is_common: bool,
+        common: Option<usize>,
+        class: usize,
+    ) -> Option<u32>
+        requires sound { IsSound automaton.now classes.now self.now }
+        requires few { total classes.now self.now ≤ special }
+        requires classes { classes.now.count ≤ 256 }
+        requires row { IsRowOf automaton.now self.now.found.items row steps.now }
+        requires place { length self.now.rows.items ≡ row.number * (classes.now.count + 2) + class }
+        requires class { class < classes.now.count }
+        requires byte { slice_index classes.now.representatives class < 256 }
+        requires this { IsTrue is_common → LeadsAsEvery steps.now (slice_index classes.now.representatives class) }
+        requires common { (written : ℕ) → common ≡ Some written → (written < class) × (slice_index classes.now.representatives written < 256) × LeadsAsEvery steps.now (slice_index classes.now.representatives written) }
+        ensures { IfSome result (λ transition. IsCellOf automaton.now classes.now self.now row.number class transition) }
+    {
+        if !is_common {
+            return None;
+        }
+        let stride = classes.count + 2;
+        let under = self.entry_under(row, stride, class);
+        if !row.every {
+            return Some(under);
+        }
+        let Some(written) = common else {
+            return None;
+        };
+        if self.entry_under(row, stride, written) != under {
+            return None;
+        }
+        Some(self.rows[row.number * stride + written])
+    }
+
+    /// Returns the entry of a class, and adds the state that it leads to if that is a new one. `None` if there is no room for it.
+    fn new_entry(
+        &mut self,
+        alloc: Global,
+        automaton: &Draft,
+        classes: &ByteClasses,
+        row: Row,
+        steps: &ByteSteps,
+        to: &mut StateSet,
+        class: usize,
+    ) -> Result<Option<u32>, AllocError>
+        requires room { HasCapacityFor automaton.now to.old }
+        requires step_capacity { step_capacity steps.now ≡ state_capacity to.old }
+        requires sound { IsSound automaton.now classes.now self.old }
+        requires few { total classes.now self.old ≤ special }
+        requires classes { classes.now.count ≤ 256 }
+        requires row { IsRowOf automaton.now self.old.found.items row steps.now }
+        requires place { length self.old.rows.items ≡ row.number * (classes.now.count + 2) + class }
+        requires class { class < classes.now.count }
+        ensures room { state_capacity to.new ≡ state_capacity to.old }
+        ensures grows { IfOk result (λ made. IfSome made (λ transition. Grows automaton.now classes.now self.old self.new)) }
+        ensures cell { IfOk result (λ made. IfSome made (λ transition. IsCellOf automaton.now classes.now self.new row.number class transition)) }
+    {
+        let stride = classes.count + 2;
+        let below = target(self.entry_under(row, stride, class), stride);
+        to.copy_from(&self.found[below].states);
+        steps.add_to(classes.representatives[class], to);
+        let made = self.state_id(alloc, automaton, classes, to, below)?;
+        let Some(number) = made else {
+            return Ok(None);
+        };
+        Ok(Some(self.transition(number, stride)))
+    }
+
+    /// Returns the entry of a class in the row of a row's base.
+    fn entry_under(&self, row: Row, stride: usize, class: usize) -> u32
+        requires { 0 < row.base → row.base * stride + class < length self.now.rows.items }
+        ensures dead { row.base ≡ 0 → result ≡ special }
+        ensures written { 0 < row.base → result ≡ slice_index self.now.rows.items (row.base * stride + class) }
+    {
+        if row.base == 0 {
+            // The row of the dead state may not be written yet.
+            SPECIAL as u32
+        } else {
+            self.rows[row.base * stride + class]
+        }
+    }
+
+    /// Puts the steps by a byte from the states that the set of a row has beside those of its base into `into`. Returns the row.
+    fn row_steps(
+        &self,
+        automaton: &Draft,
+        number: usize,
+        into: &mut ByteSteps,
+    ) -> Result<Row, AllocError>
+        requires room { size automaton.now ≤ step_capacity into.old }
+        requires sound { AreFoundSets automaton.now self.now.found.items self.now.lists.items }
+        requires row { number < length self.now.found.items }
+        ensures step_capacity { step_capacity into.new ≡ step_capacity into.old }
+        ensures number { IfOk result (λ row. row.number ≡ number) }
+        ensures row { IfOk result (λ row. IsRowOf automaton.now self.now.found.items row into.new) }
+    {
+        let base = self.base_of(automaton, number);
+        let mut rest = self.found[number].states.clone()?;
+        rest.remove(&self.found[base].states);
+        automaton.byte_steps(&mut rest, into)?;
+        Ok(Row {
+            number,
+            base,
+            every: into.lead_by_every(),
+        })
+    }
+
+    /// Returns the base of a row.
+    fn base_of(&self, automaton: &Draft, number: usize) -> usize
+        requires sound { AreFoundSets automaton.now self.now.found.items self.now.lists.items }
+        requires row { number < length self.now.found.items }
+        ensures written { 0 < result → result < number }
+        ensures base { IsBase automaton.now self.now.found.items number result }
+    {
+        let below = self.found[number].below;
+        if self.is_base(automaton, number, below) {
+            return below;
+        }
+        if self.is_base(automaton, number, AFTER_START) {
+            return AFTER_START;
+        }
+        if self.is_base(automaton, number, START) {
+            return START;
+        }
+        0
+    }
+
+    /// Returns whether a row can be the base of another: it is written before it, and its set has none but states of the other set.
+    fn is_base(&self, automaton: &Draft, number: usize, base: usize) -> bool
+        requires sound { AreFoundSets automaton.now self.now.found.items self.now.lists.items }
+        requires row { number < length self.now.found.items }
+        ensures written { IsTrue result → base < number }
+        ensures base { IsTrue result → IsBase automaton.now self.now.found.items number base }
+    {
+        if base == 0 || base >= number {
+            return false;
+        }
+        self.found[base]
+            .states
+            .is_within(&self.found[number].states)
+    }
+
+    /// Returns the entry that leads to a state.
+    fn transition(&self, number: usize, stride: usize) -> u32
+        requires number { number < length self.now.found.items }
+        requires few { length self.now.found.items * stride ≤ special }
+        requires list { (g : Found) → slice_get self.now.found.items number ≡ Some g → g.on_entry < length self.now.lists.items }
+        ensures { (g : Found) → slice_get self.now.found.items number ≡ Some g → IsEntryTo self.now.lists.items stride number g result }
+    {
+        let place = number * stride;
+        if number == 0 || self.lists[self.found[number].on_entry] > 0 {
+            (SPECIAL + place) as u32
+        } else {
+            place as u32
+        }
+    }
+}
+
+/// Returns how many states may be found whose rows are not written yet. Most automata of which there are more at some time have
+/// very many more states than they have room for, and are given up sooner.
+fn max_waiting(automaton: &Draft) -> usize {
+    let starts = automaton.starts().len();
+    starts.saturating_add(WAITING.max(starts / 2))
+}
+
+/// Returns the number of the state that an entry leads to.
+fn target(transition: u32, stride: usize) -> usize
+    requires { 0 < stride }
+    ensures { (j : ℕ) → j * stride < special → ((transition ≡ j * stride) ⊎ (transition ≡ special + j * stride)) → result ≡ j }
+{
+    (transition as usize % SPECIAL) / stride
+}
+
+/// Returns the hash of a set of states.
+fn hash_of(states: &StateSet) -> u64 {
+    let mut hasher = FoldHasher::default();
+    states.hash_members(&mut hasher);
+    hasher.finish()
+}

@@ -1,0 +1,16 @@
+pub mod Pushing
+pub mod Pass
+pub mod Reading
+pub mod EarlyMatches
+pub mod Deciding
+pub mod Equivalent
+pub mod Parts
+pub mod StepLists
+pub mod Accepting
+pub mod Live
+pub mod LastBytes
+pub mod Spans
+pub mod WordPass
+pub mod Taking
+pub mod Blocks
+pub mod Loops

@@ -1,0 +1,67 @@
+use Rattle.std.proofs.Common.{◌≡◌, min, true≢false, sym, ℕ, ◌+◌, ◌<◌, ◌∷◌, [], length, get_or, drop, arith, ap, ◌∙◌}
+use Rattle.std.proofs.lemmas.List.{drop_more, drop_all}
+use Rattle.bit_sets.specs.Indexes.{index_capacity}
+use Rattle.byte_nfa.specs.Sets.{state_capacity}
+use Rattle.byte_nfa.specs.Runs.{size}
+use Rattle.byte_nfa.proofs.lemmas.Loops.{visits_within}
+use Rattle.byte_nfa.proofs.lemmas.Pass.{iff_trans}
+use Rattle.byte_nfa.proofs.nfa.Nfa.is_match.Goals as goal
+
+pub loop-byte-init : goal.loop-byte-init
+loop-byte-init c = record {
+  room = ap (λ n. min n (min (state_capacity c.args.sets.now.next) (index_capacity c.args.sets.now.starts))) c.start.ensures.room;
+  accepts = λ k. let start = c.start.ensures.starts c.args.text.now k in (start.1, start.0);
+  visits = omega arith;
+  counted = omega arith;
+}
+
+pub loop-byte-preserved : goal.loop-byte-preserved
+loop-byte-preserved c =
+    let inv = c.loop-byte.invariant in
+    let text = c.args.text.now in
+    let i = c.loop-byte.byte-index in
+    let lt : i < length text = omega arith in
+    let byte : ℕ = get_or text i 0 in
+    let rest = drop (i + 1) text in
+    let more : drop i text ≡ byte ∷ rest = drop_more text i 0 lt in
+    let took = c.step-some.ensures in
+    record {
+      room = omega (arith, inv.room, took.from_capacity, took.to_capacity, ap state_capacity c.swap.ensures.x_after, ap state_capacity c.swap.ensures.y_after);
+      accepts = λ k. rw c.swap.ensures.x_after (iff_trans (rw more at inv.accepts k) (took.steps rest k));
+      visits = omega (arith, took.visits, inv.visits);
+      counted = omega arith;
+    }
+
+pub returns-then-not-some-clause-some : goal.returns-then-not-some-clause-some
+returns-then-not-some-clause-some c =
+    let text = c.args.text.now in
+    let i = c.loop-byte.byte-index in
+    let lt : i < length text = omega arith in
+    let byte : ℕ = get_or text i 0 in
+    let rest = drop (i + 1) text in
+    let more : drop i text ≡ byte ∷ rest = drop_more text i 0 lt in
+    let took = c.step-some.ensures in (
+      λ h. absurd (true≢false (sym h)),
+      λ (k, r).
+          let accepts = rw more at c.loop-byte.invariant.accepts k in
+          let (t, within, at, h) = (took.steps rest k).0 (accepts.0 r) in
+          absurd (true≢false (sym (took.some.1 (t, within, at)) ∙ c.if-not-some.true)),
+    )
+
+pub returns-clause-some : goal.returns-clause-some
+returns-clause-some c =
+    let text = c.args.text.now in
+    let past : drop c.loop-byte.byte-index text ≡ [] = drop_all c.loop-byte.byte-index text (omega arith) in (
+      λ h. let (k, found) = c.has_end.ensures.some.0 h in (k, (rw past at c.loop-byte.invariant.accepts k).1 found),
+      λ (k, r). c.has_end.ensures.some.1 (k, (rw past at c.loop-byte.invariant.accepts k).0 r),
+    )
+
+pub returns-then-not-some-clause-visits : goal.returns-then-not-some-clause-visits
+returns-then-not-some-clause-visits c =
+    visits_within c.args.visits.now c.loop-byte.visits c.step-some.new.visits c.loop-byte.byte-index (length c.args.text.now) (size c.args.self.now)
+    (omega arith) c.loop-byte.invariant.visits c.step-some.ensures.visits
+
+pub returns-clause-visits : goal.returns-clause-visits
+returns-clause-visits c =
+    visits_within c.args.visits.now c.loop-byte.visits c.has_end.new.visits c.loop-byte.byte-index (length c.args.text.now) (size c.args.self.now)
+    c.loop-byte.auto.byte-index-end c.loop-byte.invariant.visits c.has_end.ensures.visits

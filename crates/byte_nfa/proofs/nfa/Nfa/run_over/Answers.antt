@@ -1,0 +1,83 @@
+use Rattle.std.proofs.Common.{◌≡◌, min, true≢false, sym, ℕ, ◌+◌, ◌<◌, ◌∷◌, [], length, get_or, drop, arith, ap, refl, ◌∙◌}
+use Rattle.std.proofs.lemmas.Nat.{mul-le}
+use Rattle.std.proofs.lemmas.List.{drop_more, drop_all}
+use Rattle.bit_sets.specs.Indexes.{index_capacity}
+use Rattle.byte_nfa.specs.Sets.{state_capacity, has_state}
+use Rattle.byte_nfa.proofs.lemmas.Pass.{iff_trans}
+use Rattle.byte_nfa.proofs.lemmas.Spans.{one_accepts, one_within, one_put, within_below}
+use Rattle.byte_nfa.proofs.nfa.Nfa.run_over.Goals as goal
+
+pub loop-byte-init : goal.loop-byte-init
+loop-byte-init c =
+    let start = c.args.span.start in
+    let is = one_put start (has_state c.clear.new.self) (has_state c.put.new.self) c.clear.ensures.none c.put.ensures.has in
+    record {
+      room = ap (λ n. min n (min (state_capacity c.args.sets.now.next) (index_capacity c.args.sets.now.starts))) (c.put.ensures.room ∙ c.clear.ensures.room);
+      starts = refl;
+      within = one_within c.args.span.low start c.put.new.self c.requires.span.order is;
+      accepts = λ k. one_accepts c.args.self.now start (has_state c.put.new.self) c.requires.span.exists is c.args.text.now k;
+      visits = λ width lt. omega arith;
+      counted = omega arith;
+    }
+
+pub loop-byte-preserved : goal.loop-byte-preserved
+loop-byte-preserved c =
+    let inv = c.loop-byte.invariant in
+    let text = c.args.text.now in
+    let i = c.loop-byte.byte-index in
+    let lt : i < length text = omega arith in
+    let byte : ℕ = get_or text i 0 in
+    let rest = drop (i + 1) text in
+    let more : drop i text ≡ byte ∷ rest = drop_more text i 0 lt in
+    let took = c.step_in-some.ensures in
+    let low = c.args.span.low in
+    let start = c.args.span.start in
+    record {
+      room = omega (arith, inv.room, took.from_capacity, took.to_capacity, ap state_capacity c.swap.ensures.x_after, ap state_capacity c.swap.ensures.y_after);
+      starts = inv.starts;
+      within = rw c.swap.ensures.x_after took.within;
+      accepts = λ k. rw c.swap.ensures.x_after (iff_trans (iff_trans (rw more at inv.accepts k)
+          (within_below c.args.self.now low (start + 1) c.loop-byte.sets.current (omega (arith, c.requires.span.exists)) inv.within (byte ∷ rest) k)) (took.steps rest k));
+      visits = λ width less. let before = inv.visits width less in omega (arith, before, took.visits);
+      counted = omega arith;
+    }
+
+pub returns-then-not-some-clause-none : goal.returns-then-not-some-clause-none
+returns-then-not-some-clause-none c = λ _ k h.
+    let inv = c.loop-byte.invariant in
+    let text = c.args.text.now in
+    let i = c.loop-byte.byte-index in
+    let lt : i < length text = omega arith in
+    let byte : ℕ = get_or text i 0 in
+    let rest = drop (i + 1) text in
+    let more : drop i text ≡ byte ∷ rest = drop_more text i 0 lt in
+    let took = c.step_in-some.ensures in
+    let low = c.args.span.low in
+    let start = c.args.span.start in
+    let accepts = iff_trans (rw more at inv.accepts k)
+    (within_below c.args.self.now low (start + 1) c.loop-byte.sets.current (omega (arith, c.requires.span.exists)) inv.within (byte ∷ rest) k) in
+    let (t, within, at, left) = (took.steps rest k).0 (accepts.0 h) in
+    true≢false (sym (took.some.1 (t, within, at)) ∙ c.if-not-some.true)
+
+pub returns-then-not-some-clause-visits : goal.returns-then-not-some-clause-visits
+returns-then-not-some-clause-visits c = λ width less.
+    let before = c.loop-byte.invariant.visits width less in
+    let i = c.loop-byte.byte-index in
+    let n = length c.args.text.now in
+    let lt : i < n = omega arith in
+    let le = mul-le (i + 1) width n width (omega arith) (omega arith) in
+    omega (arith, before, c.step_in-some.ensures.visits, le)
+
+pub returns-clause-visits : goal.returns-clause-visits
+returns-clause-visits c = λ width less.
+    let before = c.loop-byte.invariant.visits width less in
+    let i = c.loop-byte.byte-index in
+    let n = length c.args.text.now in
+    let le = mul-le i width n width (omega arith) (omega arith) in
+    omega (arith, before, le)
+
+pub returns-clause-some : goal.returns-clause-some
+returns-clause-some c = λ _ k.
+    let text = c.args.text.now in
+    let past : drop c.loop-byte.byte-index text ≡ [] = drop_all c.loop-byte.byte-index text (omega arith) in
+    rw past at c.loop-byte.invariant.accepts k

@@ -1,0 +1,13 @@
+pub mod Texts
+pub mod Sets
+pub mod Steps
+pub mod Building
+pub mod Runs
+pub mod Live
+pub mod Equivalent
+pub mod EarlyMatches
+pub mod Parts
+pub mod Spans
+pub mod Forcing
+pub mod inner
+pub mod ByteSteps

@@ -1,0 +1,8 @@
+pub mod Bounds
+pub mod Views
+pub mod Pass
+pub mod Exits
+pub mod Lowering
+pub mod StepCapacity
+pub mod WordSets
+pub mod Blocks

@@ -1,0 +1,65 @@
+-- The states as an automaton keeps them: sets of bytes lie in one list, and what a state goes on to without a byte in another.
+use Rattle.std.specs.Prelude.{ℕ, ◌+◌, ◌<◌, List, [], ◌∷◌, map, length, slice_index, slice_index_or, slice_range}
+use Rattle.byte_nfa.specs.Steps.{State, reads, skips, stays, final, state, Machine}
+use Rattle.bit_sets.specs.Bytes.{no_bytes}
+use Rattle.bit_sets.specs.Numbers.{AreBelow}
+use Rattle.bit_sets.specs.declared.byte_set.ByteSet.{ByteSet}
+use Rattle.byte_nfa.specs.declared.state.State as declared
+use Rattle.byte_nfa.specs.declared.state.State.TheVariants.{Bytes, Union, Loop, Match}
+
+-- the set with the number n; one past the last has no byte
+abbrev pub set_at : List ByteSet → ℕ → ByteSet
+set_at sets n = slice_index_or sets n no_bytes
+
+-- the states that stand in the list behind their count
+abbrev pub exits_at : List ℕ → ℕ → List ℕ
+exits_at targets at = slice_range targets (at + 1) (at + 1 + slice_index targets at)
+
+abbrev pub of_state : List ByteSet → List ℕ → declared.State → State
+of_state sets targets (Bytes n t) = reads (set_at sets n) t
+of_state sets targets (Union at) = skips (exits_at targets at)
+of_state sets targets (Loop n t) = stays (set_at sets n) (t ∷ [])
+of_state sets targets (Match k) = final k
+
+abbrev pub of_states : List ByteSet → List ℕ → List declared.State → List State
+of_states sets targets states = map (of_state sets targets) states
+
+-- the state's set is one of the sets, and the states that it goes on to lie in the list
+abbrev pub IsHeld : List ByteSet → List ℕ → declared.State → Type 0
+IsHeld sets targets (Bytes n t) = n < length sets
+IsHeld sets targets (Union at) = at + slice_index targets at < length targets
+IsHeld sets targets (Loop n t) = n < length sets
+IsHeld sets targets (Match k) = Unit {0}
+
+abbrev pub AreHeld : List ByteSet → List ℕ → List declared.State → Type 0
+AreHeld sets targets [] = Unit {0}
+AreHeld sets targets (x ∷ xs) = IsHeld sets targets x × AreHeld sets targets xs
+
+-- what the state goes on to has a lower number
+abbrev pub GoesBelow : ℕ → State → Type 0
+GoesBelow s (reads w t) = t < s
+GoesBelow s (skips us) = AreBelow s us
+GoesBelow s (stays w us) = AreBelow s us
+GoesBelow s (final k) = Unit {0}
+
+-- the index that the state names is below n
+abbrev pub NamesBelow : ℕ → State → Type 0
+NamesBelow n (reads w t) = Unit {0}
+NamesBelow n (skips us) = Unit {0}
+NamesBelow n (stays w us) = Unit {0}
+NamesBelow n (final k) = k < n
+
+-- what is true of the parts of each automaton
+pub record AreSound (sets : List ByteSet) (targets : List ℕ) (states : List declared.State) (starts : List ℕ) (n : ℕ) : Type 0 where
+  pub held : AreHeld sets targets states
+  pub down : (s : ℕ) → GoesBelow s (state (of_states sets targets states) s)
+  pub named : (s : ℕ) → NamesBelow n (state (of_states sets targets states) s)
+  pub begun : AreBelow (length states) starts
+
+-- the value of an automaton of these parts
+abbrev pub machine : List ByteSet → List ℕ → List declared.State → List ℕ → ℕ → Machine
+machine sets targets states starts n = record {
+  states = of_states sets targets states;
+  starts = starts;
+  index_count = n;
+}

@@ -1,0 +1,232 @@
+//! How an automaton is made.
+
+ghost use Rattle.std.specs.Prelude.{◌≡◌, ℕ, ◌<◌, ◌++◌, ◌∷◌, [], List, length, OnOk, OnErr, IfOk, IfSome};
+ghost use Rattle.byte_nfa.specs.Steps.{Machine, reads, skips, stays, final};
+ghost use Rattle.bit_sets.specs.Numbers.{AreBelow};
+ghost use Rattle.byte_nfa.specs.Building.{Pushes};
+ghost use Rattle.byte_nfa.specs.Runs.{size};
+ghost use Rattle.bit_sets.specs.declared.byte_set.ByteSet.{ByteSet};
+ghost use Rattle.byte_nfa.specs.inner.Views.{AreSound, machine, set_at};
+
+use crate::draft::Draft;
+use crate::state::State;
+use bit_sets::ByteSet;
+use std::alloc::{AllocError, Global};
+use std::marker::Model;
+
+/// Makes an automaton, state by state.
+///
+/// A state is numbered when it is pushed, from 0 on, and its steps lead to states that are there already. So an automaton
+/// is pushed from its ends to its starts, and numbers go down along its steps.
+///
+/// ```
+/// // The texts that end in `.c`, as index 0.
+/// let mut builder = Builder::new(alloc, 1);
+/// let end = builder.push_match(0)?;
+/// let letter = builder.push_bytes(ByteSet::only(b'c'), end)?;
+/// let dot = builder.push_bytes(ByteSet::only(b'.'), letter)?;
+/// let start = builder.push_loop(ByteSet::everything(), dot)?;
+/// builder.add_start(start)?;
+/// let automaton = builder.finish();
+/// ```
+///
+/// Each call that pushes returns an error if memory runs out, and then changes nothing. Sets of bytes are kept once each, as far
+/// as they are found again, and have numbers below `2^32`: if sets of 128 GiB use these up, that is the same error.
+pub struct Builder {
+    states: Vec<State>,
+    /// The sets of bytes of the states. A set can stand here more than once.
+    sets: Vec<ByteSet>,
+    /// What states go on to without a byte: for each that was pushed with a list, the length of the list and then the list.
+    targets: Vec<usize>,
+    starts: Vec<usize>,
+    index_count: usize,
+    /// For each place of a set, the number of the set of this place that was pushed last. It is empty as long as there are few
+    /// sets. Most sets that are pushed are found by it, and not pushed again.
+    recent: Vec<u32>,
+}
+
+impl Drop for Builder {
+    // One call wherever a value is dropped, which keeps proofs short.
+    fn drop(self) {
+        let Builder {
+            states: _,
+            sets: _,
+            targets: _,
+            starts: _,
+            index_count: _,
+            recent: _,
+        } = self;
+    }
+}
+
+impl Model for Builder {
+    ghost Value = { Machine };
+
+    ghost view = { λ b. machine b.sets.items b.targets.items b.states.items b.starts.items b.index_count };
+
+    ghost invariant = { λ b. AreSound b.sets.items b.targets.items b.states.items b.starts.items b.index_count };
+}
+
+impl Builder {
+    /// Returns a builder of an automaton with no states, whose ends will name indexes below a number.
+    pub fn new(alloc: Global, index_count: usize) -> Builder
+        ensures states { result.states ≡ [] }
+        ensures starts { result.starts ≡ [] }
+        ensures index_count { result.index_count ≡ index_count }
+    {
+        Builder {
+            states: Vec::new(alloc),
+            sets: Vec::new(alloc),
+            targets: Vec::new(alloc),
+            starts: Vec::new(alloc),
+            index_count,
+            recent: Vec::new(alloc),
+        }
+    }
+
+    /// Returns the number of states so far, which is the number of the next state.
+    pub fn state_count(&self) -> usize
+        ensures { result ≡ size self.now }
+    {
+        self.states.len()
+    }
+
+    /// Pushes a state that reads a byte of the set and goes on to a state. Returns its number.
+    pub fn push_bytes(&mut self, bytes: ByteSet, next: usize) -> Result<usize, AllocError>
+        requires { next < size self.old }
+        ensures pushed { IfOk result (λ s. Pushes self.old self.new s (reads bytes next)) }
+        ensures unchanged { OnErr result (self.new ≡ self.old) }
+    {
+        let at = self.states.len();
+        let set = hold_set(&mut self.sets, &mut self.recent, bytes)?;
+        self.states.push(State::Bytes(set, next))?;
+        Ok(at)
+    }
+
+    /// Pushes a state that goes on to each of some states without a byte. Returns its number.
+    pub fn push_union(&mut self, targets: &[usize]) -> Result<usize, AllocError>
+        requires { AreBelow (size self.old) targets.now }
+        ensures pushed { IfOk result (λ s. Pushes self.old self.new s (skips targets.now)) }
+        ensures unchanged { OnErr result (self.new ≡ self.old) }
+    {
+        let at = self.states.len();
+        let list = hold_list(&mut self.targets, targets)?;
+        self.states.push(State::Union(list))?;
+        Ok(at)
+    }
+
+    /// Pushes a state that stays on each byte of the set, and goes on to a state without a byte. Returns its number.
+    pub fn push_loop(&mut self, bytes: ByteSet, exit: usize) -> Result<usize, AllocError>
+        requires { exit < size self.old }
+        ensures pushed { IfOk result (λ s. Pushes self.old self.new s (stays bytes (exit ∷ []))) }
+        ensures unchanged { OnErr result (self.new ≡ self.old) }
+    {
+        let at = self.states.len();
+        let set = hold_set(&mut self.sets, &mut self.recent, bytes)?;
+        self.states.push(State::Loop(set, exit))?;
+        Ok(at)
+    }
+
+    /// Pushes an end, which names an index. Returns its number.
+    pub fn push_match(&mut self, index: usize) -> Result<usize, AllocError>
+        requires { index < self.old.index_count }
+        ensures pushed { IfOk result (λ s. Pushes self.old self.new s (final index)) }
+        ensures unchanged { OnErr result (self.new ≡ self.old) }
+    {
+        let at = self.states.len();
+        self.states.push(State::Match(index))?;
+        Ok(at)
+    }
+
+    /// Makes a state one of those that the automaton begins in.
+    pub fn add_start(&mut self, state: usize) -> Result<(), AllocError>
+        requires { state < size self.old }
+        ensures starts { OnOk result (self.new.starts ≡ self.old.starts ++ state ∷ []) }
+        ensures states { self.new.states ≡ self.old.states }
+        ensures index_count { self.new.index_count ≡ self.old.index_count }
+        ensures unchanged { OnErr result (self.new ≡ self.old) }
+    {
+        self.starts.push(state)?;
+        Ok(())
+    }
+
+    /// Returns the automaton, which is not run yet. It may take time linear in the states, to give back memory that they do not
+    /// need.
+    pub fn finish(self) -> Draft
+        ensures { result ≡ self }
+    {
+        let Builder {
+            mut states,
+            mut sets,
+            mut targets,
+            mut starts,
+            index_count: count,
+            recent: _,
+        } = self;
+        // Nothing is pushed any more. A set of globs can have many small automata.
+        states.shrink_to_fit();
+        sets.shrink_to_fit();
+        targets.shrink_to_fit();
+        starts.shrink_to_fit();
+        Draft::from_parts(states, sets, targets, starts, count)
+    }
+}
+
+/// Appends the length of a list, and the list. Returns the place of the length.
+fn hold_list(held: &mut Vec<usize>, list: &[usize]) -> Result<usize, AllocError>
+    ensures at { IfOk result (λ at. at ≡ length held.old.items) }
+    ensures items { OnOk result (held.new.items ≡ held.old.items ++ length list.now ∷ list.now) }
+    ensures more { (more : List ℕ) × (held.new.items ≡ held.old.items ++ more) }
+{
+    let at = held.len();
+    held.push(list.len())?;
+    held.extend_from_slice(list)?;
+    Ok(at)
+}
+
+/// With more sets than these, a set is looked for at its place alone.
+const FEW_SETS: usize = 24;
+
+/// Returns the number of a set, which is appended if it is not found.
+///
+/// Returns an error if memory runs out, or numbers do, which sets of 128 GiB use up.
+fn hold_set(
+    sets: &mut Vec<ByteSet>,
+    recent: &mut Vec<u32>,
+    bytes: ByteSet,
+) -> Result<u32, AllocError>
+    ensures held { IfOk result (λ n. (n < length sets.new.items) × (set_at sets.new.items n ≡ bytes)) }
+    ensures more { (more : List ByteSet) × (sets.new.items ≡ sets.old.items ++ more) }
+{
+    let place = bytes.place();
+    if let Some(number) = number_of(sets, recent, place, &bytes) {
+        return Ok(number);
+    }
+    let Ok(number) = u32::try_from(sets.len()) else {
+        return Err(AllocError);
+    };
+    if sets.len() == FEW_SETS {
+        recent.resize(256, 0)?;
+    }
+    sets.push(bytes)?;
+    if let Some(last) = recent.get_mut(place) {
+        *last = number;
+    }
+    Ok(number)
+}
+
+/// Returns a number of a set: the number at its place, if it is that of the set. If there are no places, all sets are read.
+fn number_of(sets: &[ByteSet], recent: &[u32], place: usize, bytes: &ByteSet) -> Option<u32>
+    ensures { IfSome result (λ n. (n < length sets.now) × (set_at sets.now n ≡ bytes.now)) }
+{
+    match recent.get(place) {
+        Some(number) => {
+            let set = sets.get(*number as usize)?;
+            if set.is(bytes) { Some(*number) } else { None }
+        }
+        None => {
+            let number = sets.iter().position(|set| set.is(bytes))?;
+            u32::try_from(number).ok()
+        }
+    }
+}

@@ -1,0 +1,63 @@
+//! States from which some bytes lead to an end.
+
+ghost use Rattle.std.specs.Prelude.{◌≡◌, ℕ, ◌<◌, ◌≤◌, ◌↔◌, List, IsTrue};
+ghost use Rattle.byte_nfa.specs.Live.{AreLive};
+ghost use Rattle.byte_nfa.specs.Runs.{size, AcceptsFrom};
+ghost use Rattle.byte_nfa.specs.Sets.{has_state, state_capacity};
+ghost use Rattle.byte_nfa.specs.Steps.{state};
+ghost use Rattle.byte_nfa.specs.Texts.{AllBytes};
+ghost use Rattle.byte_nfa.specs.inner.Pass.{LeadsBy};
+ghost use Rattle.byte_nfa.specs.inner.Views.{GoesBelow};
+
+use crate::draft::Draft;
+use crate::state_set::StateSet;
+use visits::Visits;
+
+impl Draft {
+    /// Puts the states from which some bytes lead to an end into a set. What the set held has no effect.
+    ///
+    /// It reads each state.
+    pub fn live(&self, into: &mut StateSet)
+        requires { size self.now ≤ state_capacity into.old }
+        ensures room { state_capacity into.new ≡ state_capacity into.old }
+        ensures live { AreLive self.now into.new }
+    {
+        into.clear();
+        for s in 0..self.state_count() {
+            if self.is_leading(s, into) {
+                into.put(s);
+            }
+        }
+    }
+
+    /// Returns whether some bytes lead from the states of a set to an end. `live` has the states from which some do. It reads
+    /// each state of the set at most once.
+    pub fn has_live(&self, from: &StateSet, live: &StateSet) -> bool
+        requires from_capacity { size self.now ≤ state_capacity from.now }
+        requires live_capacity { size self.now ≤ state_capacity live.now }
+        requires live { AreLive self.now live.now }
+        ensures { IsTrue result ↔ ((y : List ℕ) × (k : ℕ) × AllBytes y × AcceptsFrom self.now from.now y k) }
+    {
+        let mut limit = self.state_count();
+        while limit > 0 {
+            let seen = from.read_below(limit, &mut Visits::new());
+            let s = seen.at;
+            if seen.is_set && live.has(s) {
+                return true;
+            }
+            limit = s;
+        }
+        false
+    }
+
+    /// Returns whether a state is an end, or goes on to a state of a set without a byte, or by a byte to a lower state of the
+    /// set.
+    fn is_leading(&self, s: usize, live: &StateSet) -> bool
+        requires exists { s < size self.now }
+        requires room { size self.now ≤ state_capacity live.now }
+        ensures below { GoesBelow s (state self.now.states s) }
+        ensures leads { IsTrue result ↔ LeadsBy (state self.now.states s) s (has_state live.now) }
+    {
+        self.states[s].is_leading(s, &self.sets, &self.targets, live)
+    }
+}

@@ -1,0 +1,260 @@
+//! States, as an automaton keeps them.
+
+ghost use Rattle.std.specs.Prelude.{◌≡◌, ℕ, ◌+◌, ◌<◌, ◌≤◌, ◌||◌, ◌↔◌, List, length, slice_index, true, false, Some, None, IsTrue, IsFalse, OnOk, MatchOption};
+ghost use Rattle.bit_sets.specs.Bytes.{has_byte, differ};
+ghost use Rattle.byte_nfa.specs.Sets.{has_state, state_capacity};
+ghost use Rattle.bit_sets.specs.declared.byte_set.ByteSet.{ByteSet};
+ghost use Rattle.byte_nfa.specs.Steps.{final};
+ghost use Rattle.byte_nfa.specs.Equivalent.{reads_byte};
+ghost use Rattle.byte_nfa.specs.Forcing.{IsNoEnd};
+ghost use Rattle.bit_sets.specs.Numbers.{AreFrom};
+ghost use Rattle.byte_nfa.specs.Parts.{GoesFrom};
+ghost use Rattle.byte_nfa.specs.ByteSteps.{leads_to, step_capacity};
+ghost use Rattle.byte_nfa.specs.inner.Exits.{StaysBefore};
+ghost use Rattle.byte_nfa.specs.inner.Views.{set_at, exits_at, of_state, IsHeld, GoesBelow};
+ghost use Rattle.byte_nfa.specs.inner.Pass.{goes_now, goes_next, names, EndsBy, LeadsBy};
+
+mod in_word;
+
+use crate::byte_steps::ByteSteps;
+use crate::state_set::StateSet;
+use bit_sets::ByteSet;
+use std::alloc::AllocError;
+
+/// A state, in 16 bytes. Its set of bytes is kept as the number of one of the automaton's sets, and several states that it
+/// goes on to as the place in the automaton's list of next states at which their count stands, and then each.
+///
+/// States are numbered in the order in which they were pushed, and what a state goes on to was there before it. So numbers
+/// go down along each step.
+#[derive(Clone, Copy)]
+pub enum State {
+    /// Reads a byte of the set and goes on.
+    Bytes(u32, usize),
+    /// Goes on without a byte to each state of the list at this place.
+    Union(usize),
+    /// Stays on each byte of the set, and goes on without a byte.
+    Loop(u32, usize),
+    /// Is the end of an index.
+    Match(usize),
+}
+
+impl State {
+    /// Takes the steps of a state: puts into `from` what it goes on to without a byte, and into `to` what it goes on to by the
+    /// byte. Returns whether it put a state into `to`.
+    pub fn take_steps(
+        &self,
+        s: usize,
+        sets: &[ByteSet],
+        targets: &[usize],
+        byte: u8,
+        from: &mut StateSet,
+        to: &mut StateSet,
+    ) -> bool
+        requires held { IsHeld sets.now targets.now self.now }
+        requires below { GoesBelow s (of_state sets.now targets.now self.now) }
+        requires from_capacity { s < state_capacity from.old }
+        requires to_capacity { s < state_capacity to.old }
+        ensures from_capacity { state_capacity from.new ≡ state_capacity from.old }
+        ensures to_capacity { state_capacity to.new ≡ state_capacity to.old }
+        ensures from { (t : ℕ) → has_state from.new t ≡ (goes_now (of_state sets.now targets.now self.now) t || has_state from.old t) }
+        ensures to { (t : ℕ) → has_state to.new t ≡ (goes_next (of_state sets.now targets.now self.now) s (Some byte) t || has_state to.old t) }
+        ensures some { IsTrue result → (t : ℕ) × (t ≤ s) × IsTrue (goes_next (of_state sets.now targets.now self.now) s (Some byte) t) }
+        ensures none { IsFalse result → (t : ℕ) → goes_next (of_state sets.now targets.now self.now) s (Some byte) t ≡ false }
+    {
+        match self {
+            State::Bytes(set, next) => {
+                if set_of(sets, *set).has(byte) {
+                    to.put(*next);
+                    return true;
+                }
+                false
+            }
+            State::Union(at) => {
+                from.put_all(exits_of(targets, *at));
+                false
+            }
+            State::Loop(set, exit) => {
+                from.put(*exit);
+                if set_of(sets, *set).has(byte) {
+                    to.put(s);
+                    return true;
+                }
+                false
+            }
+            State::Match(_) => false,
+        }
+    }
+
+    /// Puts what a state goes on to without a byte into `from`, and its step by a byte into `into`. Returns an error if memory
+    /// runs out.
+    pub fn put_steps(
+        &self,
+        s: usize,
+        sets: &[ByteSet],
+        targets: &[usize],
+        from: &mut StateSet,
+        into: &mut ByteSteps,
+    ) -> Result<(), AllocError>
+        requires held { IsHeld sets.now targets.now self.now }
+        requires below { GoesBelow s (of_state sets.now targets.now self.now) }
+        requires from_capacity { s < state_capacity from.old }
+        requires into_capacity { s < step_capacity into.old }
+        ensures from_capacity { state_capacity from.new ≡ state_capacity from.old }
+        ensures into_capacity { step_capacity into.new ≡ step_capacity into.old }
+        ensures from { (t : ℕ) → has_state from.new t ≡ (goes_now (of_state sets.now targets.now self.now) t || has_state from.old t) }
+        ensures into { OnOk result ((b t : ℕ) → b < 256 → leads_to into.new b t ≡ (goes_next (of_state sets.now targets.now self.now) s (Some b) t || leads_to into.old b t)) }
+    {
+        match self {
+            State::Bytes(set, next) => into.put(set_of(sets, *set), *next),
+            State::Union(at) => {
+                from.put_all(exits_of(targets, *at));
+                Ok(())
+            }
+            State::Loop(set, exit) => {
+                from.put(*exit);
+                into.put(set_of(sets, *set), s)
+            }
+            State::Match(_) => Ok(()),
+        }
+    }
+
+    /// Takes the steps of a state at the end of the text: puts into `from` what it goes on to without a byte. Returns its index
+    /// if it is an end.
+    pub fn follow_epsilons(&self, s: usize, targets: &[usize], from: &mut StateSet) -> Option<usize>
+        requires below { (sets : List ByteSet) × IsHeld sets targets.now self.now × GoesBelow s (of_state sets targets.now self.now) }
+        requires room { s < state_capacity from.old }
+        ensures room { state_capacity from.new ≡ state_capacity from.old }
+        ensures from { (sets : List ByteSet) (t : ℕ) → has_state from.new t ≡ (goes_now (of_state sets targets.now self.now) t || has_state from.old t) }
+        ensures end { (sets : List ByteSet) → MatchOption result ((k : ℕ) → names (of_state sets targets.now self.now) None k ≡ false) (λ k. of_state sets targets.now self.now ≡ final k) }
+    {
+        match self {
+            State::Bytes(_, _) => None,
+            State::Union(at) => {
+                from.put_all(exits_of(targets, *at));
+                None
+            }
+            State::Loop(_, exit) => {
+                from.put(*exit);
+                None
+            }
+            State::Match(index) => Some(*index),
+        }
+    }
+
+    /// Returns whether a state is an end, or goes on to a state of a set without a byte.
+    pub fn is_accepting(&self, s: usize, targets: &[usize], accepting: &StateSet) -> bool
+        requires below { (sets : List ByteSet) × IsHeld sets targets.now self.now × GoesBelow s (of_state sets targets.now self.now) }
+        requires room { s < state_capacity accepting.now }
+        ensures { (sets : List ByteSet) → IsTrue result ↔ EndsBy (of_state sets targets.now self.now) (has_state accepting.now) }
+    {
+        match self {
+            State::Bytes(_, _) => false,
+            State::Union(at) => accepting.has_any(exits_of(targets, *at)),
+            State::Loop(_, exit) => accepting.has(*exit),
+            State::Match(_) => true,
+        }
+    }
+
+    /// Returns whether a state is an end, or goes on to a state of a set without a byte, or by a byte to a lower state of the
+    /// set.
+    pub fn is_leading(&self, s: usize, sets: &[ByteSet], targets: &[usize], live: &StateSet) -> bool
+        requires held { IsHeld sets.now targets.now self.now }
+        requires below { GoesBelow s (of_state sets.now targets.now self.now) }
+        requires room { s < state_capacity live.now }
+        ensures { IsTrue result ↔ LeadsBy (of_state sets.now targets.now self.now) s (has_state live.now) }
+    {
+        match self {
+            State::Bytes(set, next) => live.has(*next) && set_of(sets, *set).has_some(),
+            State::Union(at) => live.has_any(exits_of(targets, *at)),
+            State::Loop(_, exit) => live.has(*exit),
+            State::Match(_) => true,
+        }
+    }
+
+    /// Returns a set with each byte more by which a state goes on to a state of `accepting`.
+    pub fn add_last_bytes(
+        &self,
+        s: usize,
+        sets: &[ByteSet],
+        accepting: &StateSet,
+        bytes: ByteSet,
+    ) -> ByteSet
+        requires below { (targets : List ℕ) × IsHeld sets.now targets self.now × GoesBelow s (of_state sets.now targets self.now) }
+        requires room { s < state_capacity accepting.now }
+        ensures keeps { (c : ℕ) → IsTrue (has_byte bytes c) → IsTrue (has_byte result c) }
+        ensures last { (targets : List ℕ) (c t : ℕ) → IsTrue (goes_next (of_state sets.now targets self.now) s (Some c) t) → IsTrue (has_state accepting.now t) → IsTrue (has_byte result c) }
+    {
+        match self {
+            State::Bytes(set, next) if accepting.has(*next) => bytes.with_all(set_of(sets, *set)),
+            State::Loop(set, _) if accepting.has(s) => bytes.with_all(set_of(sets, *set)),
+            _ => bytes,
+        }
+    }
+
+    /// Returns a set with each byte `b` more for which a state reads or stays on one of `b` and `b + 1`, and not both.
+    pub fn add_boundaries(&self, sets: &[ByteSet], bytes: ByteSet) -> ByteSet
+        requires { (targets : List ℕ) × IsHeld sets.now targets self.now }
+        ensures { (targets : List ℕ) (b : ℕ) → b + 1 < 256 → has_byte result b ≡ (differ (reads_byte (of_state sets.now targets self.now) b) (reads_byte (of_state sets.now targets self.now) (b + 1)) || has_byte bytes b) }
+    {
+        match self {
+            State::Bytes(set, _) => bytes.with_boundaries(set_of(sets, *set)),
+            State::Union(_) => bytes,
+            State::Loop(set, _) => bytes.with_boundaries(set_of(sets, *set)),
+            State::Match(_) => bytes,
+        }
+    }
+
+    /// Returns the only state that a state goes on to, if it stays on every byte.
+    pub fn only_exit(&self, s: usize, sets: &[ByteSet]) -> Option<usize>
+        requires below { (targets : List ℕ) × IsHeld sets.now targets self.now × GoesBelow s (of_state sets.now targets self.now) }
+        ensures exit { (targets : List ℕ) → MatchOption result ((t : ℕ) → StaysBefore (of_state sets.now targets self.now) t → ⊥) (λ t. StaysBefore (of_state sets.now targets self.now) t × (t < s)) }
+    {
+        match self {
+            State::Loop(set, exit) if set_of(sets, *set).is_everything() => Some(*exit),
+            _ => None,
+        }
+    }
+
+    /// Returns a number that nothing that a state goes on to is below, or `None` if it is an end.
+    pub fn least_next(&self, s: usize, targets: &[usize]) -> Option<usize>
+        requires below { (sets : List ByteSet) × IsHeld sets targets.now self.now × GoesBelow s (of_state sets targets.now self.now) }
+        ensures { (sets : List ByteSet) → MatchOption result ((k : ℕ) × (of_state sets targets.now self.now ≡ final k)) (λ low. GoesFrom low (of_state sets targets.now self.now) × IsNoEnd (of_state sets targets.now self.now)) }
+    {
+        match self {
+            State::Bytes(_, next) => Some(*next),
+            State::Union(at) => Some(least_of(s, exits_of(targets, *at))),
+            State::Loop(_, exit) => Some(*exit),
+            State::Match(_) => None,
+        }
+    }
+}
+
+/// Returns the set with a number.
+pub fn set_of(sets: &[ByteSet], number: u32) -> &ByteSet
+    requires { number < length sets.now }
+    ensures { result.now ≡ set_at sets.now number }
+{
+    &sets[number as usize]
+}
+
+/// Returns the states that a list has at a place, after their count.
+pub fn exits_of(targets: &[usize], at: usize) -> &[usize]
+    requires { at + slice_index targets.now at < length targets.now }
+    ensures { result.now ≡ exits_at targets.now at }
+{
+    let count = targets[at];
+    &targets[at + 1..at + 1 + count]
+}
+
+/// Returns a number that none of some numbers is below, and that is not above `limit`.
+fn least_of(limit: usize, numbers: &[usize]) -> usize
+    ensures { AreFrom result numbers.now }
+{
+    let mut least = limit;
+    for number in numbers {
+        if *number < least {
+            least = *number;
+        }
+    }
+    least
+}

@@ -1,4 +1,0 @@
-pub mod Words
-pub mod SilentGlobs
-pub mod Strategies
-pub mod Direct

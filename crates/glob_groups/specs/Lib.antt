@@ -1,7 +1,0 @@
-pub mod Silent
-pub mod TokenTests
-pub mod Strategies
-pub mod Direct
-pub mod StrategyMeaning
-pub mod Below
-pub mod inner

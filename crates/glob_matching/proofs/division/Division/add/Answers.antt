@@ -1,7 +1,0 @@
-use Rattle.glob_matching.proofs.lemmas.Parts.{deterministic_more}
-use Rattle.glob_matching.proofs.division.Division.add.Goals as goal
-
-pub returns : goal.returns
-returns c = λ yes.
-    let parts = c.in_ok-simulate.ensures c.if-not-branch.false in
-    rw c.in_ok-push.ensures.items (deterministic_more c.args.automaton.now c.args.low c.args.high c.simulate.new.self.tables.items c.simulate.new.self.automata.items parts c.args.table c.requires.part c.requires.some)

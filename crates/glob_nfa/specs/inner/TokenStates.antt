@@ -1,0 +1,130 @@
+-- The states of tokens, in an automaton over bytes.
+use Rattle.std.specs.Prelude.{◌≡◌, ℕ, ◌<◌, Bool, true, false, not, ◌&&◌, ◌==◌, ◌⊎◌, List, [], ◌∷◌, ◌++◌, IsTrue, IsFalse, encode_utf8}
+use Rattle.glob_syntax.specs.declared.options.Options.{Options}
+use Rattle.glob_syntax.specs.Token.{Token, Literal, Any, ZeroOrMore, RecursivePrefix, RecursiveSuffix, RecursiveZeroOrMore, Class, Group, Tokens, end, and_then, Branches, none, branch}
+use Rattle.glob_syntax.specs.ClassBytes.{class_has}
+use Rattle.std.specs.Str.{bytes_eq}
+use Rattle.glob_nfa.specs.TokenMatches.{slash, is_wild, compared}
+use Rattle.glob_nfa.specs.Blank.{is_kept, any_kept}
+use Rattle.glob_nfa.specs.Characters.{is_between}
+use Rattle.bit_sets.specs.Bytes.{has_byte}
+use Rattle.byte_nfa.specs.Steps.{State, reads, skips, stays, state}
+use Rattle.bit_sets.specs.declared.byte_set.ByteSet.{ByteSet}
+
+-- ---- one state
+
+-- the set has the bytes that pass the test
+abbrev pub IsSetOf : (ℕ → Bool) → ByteSet → Type 0
+IsSetOf test w = (c : ℕ) → c < 256 → has_byte w c ≡ test c
+
+abbrev pub is_any_byte : ℕ → Bool
+is_any_byte c = true
+
+abbrev pub is_slash : ℕ → Bool
+is_slash c = c == slash
+
+-- the state s reads a byte that passes the test, and goes on to e
+abbrev pub Bytes : List State → ℕ → (ℕ → Bool) → ℕ → Type 0
+Bytes a s test e = (w : ByteSet) × (state a s ≡ reads w e) × IsSetOf test w
+
+-- the state s stays on bytes that pass the test, and goes on to e
+abbrev pub Loop : List State → ℕ → (ℕ → Bool) → ℕ → Type 0
+Loop a s test e = (w : ByteSet) × (state a s ≡ stays w (e ∷ [])) × IsSetOf test w
+
+-- ---- whole characters
+
+-- there are as many bytes as tests, and each byte passes its test
+abbrev pub passes : List (ℕ → Bool) → List ℕ → Bool
+passes [] [] = true
+passes [] (c ∷ cs) = false
+passes (test ∷ tests) [] = false
+passes (test ∷ tests) (c ∷ cs) = passes tests cs && test c
+
+-- the states from s on read bytes that pass these tests, one after another, and lead to e
+abbrev pub ReadsEach : List State → ℕ → List (ℕ → Bool) → ℕ → Type 0
+ReadsEach a s [] e = s ≡ e
+ReadsEach a s (test ∷ tests) e = (t : ℕ) × Bytes a s test t × ReadsEach a t tests e
+
+-- there are as many states as rows of tests, and the states from each on read what passes its row, and lead to e
+abbrev pub AreRead : List State → List ℕ → List (List (ℕ → Bool)) → ℕ → Type 0
+AreRead a [] [] e = Unit {0}
+AreRead a [] (row ∷ rows) e = ⊥
+AreRead a (s ∷ ss) [] e = ⊥
+AreRead a (s ∷ ss) (row ∷ rows) e = ReadsEach a s row e × AreRead a ss rows e
+
+-- the bytes after the first byte of a character, but for some second ones
+abbrev pub continues : ℕ → Bool
+continues = is_between (0x80, 0xBF)
+
+-- a character of one byte that `?` matches
+abbrev pub is_ascii_wild : Options → ℕ → Bool
+is_ascii_wild o c = is_between (0x00, 0x7F) c && is_wild o c
+
+-- the first byte of a character of three bytes, of which the second is any that continues one
+abbrev pub begins_three : ℕ → Bool
+begins_three c = not (c == 0xED) && is_between (0xE1, 0xEF) c
+
+abbrev pub three_byte_rows : List (List (ℕ → Bool))
+three_byte_rows =
+    (is_between (0xE0, 0xE0) ∷ is_between (0xA0, 0xBF) ∷ continues ∷ [])
+    ∷ (begins_three ∷ continues ∷ continues ∷ [])
+    ∷ (is_between (0xED, 0xED) ∷ is_between (0x80, 0x9F) ∷ continues ∷ [])
+    ∷ []
+
+abbrev pub four_byte_rows : List (List (ℕ → Bool))
+four_byte_rows =
+    (is_between (0xF0, 0xF0) ∷ is_between (0x90, 0xBF) ∷ continues ∷ continues ∷ [])
+    ∷ (is_between (0xF1, 0xF3) ∷ continues ∷ continues ∷ continues ∷ [])
+    ∷ (is_between (0xF4, 0xF4) ∷ is_between (0x80, 0x8F) ∷ continues ∷ continues ∷ [])
+    ∷ []
+
+-- What `?` matches under `whole_character`, row by row. Two rows of the Unicode Standard are one, which saves a state.
+abbrev pub wild_rows : Options → List (List (ℕ → Bool))
+wild_rows o = (is_ascii_wild o ∷ []) ∷ (is_between (0xC2, 0xDF) ∷ continues ∷ []) ∷ (three_byte_rows ++ four_byte_rows)
+
+-- the states of such a `?`: s skips to one for each row
+abbrev pub IsCharacter : Options → List State → ℕ → ℕ → Type 0
+IsCharacter o a s e = (ss : List ℕ) × (state a s ≡ skips ss) × AreRead a ss (wild_rows o) e
+
+-- ---- tokens
+
+-- what these bytes of a literal match
+abbrev pub spells : Options → List ℕ → List ℕ → Bool
+spells o bytes y = bytes_eq (compared o y) (compared o bytes)
+
+-- what one byte of a literal matches
+abbrev pub is_letter : Options → ℕ → ℕ → Bool
+is_letter o b c = spells o (b ∷ []) (c ∷ [])
+
+-- the states from s on are those of these bytes of a literal, and lead to e
+abbrev pub IsSpelled : Options → List State → ℕ → List ℕ → ℕ → Type 0
+IsSpelled o a s [] e = s ≡ e
+IsSpelled o a s (b ∷ bs) e = (t : ℕ) × Bytes a s (is_letter o b) t × IsSpelled o a t bs e
+
+-- nothing, or any bytes that end in `/`
+abbrev pub IsToSlash : List State → ℕ → ℕ → Type 0
+IsToSlash a s e = (t u : ℕ) × (state a s ≡ skips (e ∷ t ∷ [])) × Loop a t is_any_byte u × Bytes a u is_slash e
+
+-- the states from s on are those of the tokens, and lead to e
+abbrev mutual
+  pub IsBuilt : Options → List State → ℕ → Tokens → ℕ → Type 0
+  IsBuilt o a s end e = s ≡ e
+  IsBuilt o a s (and_then t ts) e = (u : ℕ) × IsBuiltToken o a s t u × IsBuilt o a u ts e
+
+  pub IsBuiltToken : Options → List State → ℕ → Token → ℕ → Type 0
+  IsBuiltToken o a s (Literal c) e = IsSpelled o a s (encode_utf8 c) e
+  IsBuiltToken o a s Any e = (IsTrue o.whole_character × IsCharacter o a s e) ⊎ (IsFalse o.whole_character × Bytes a s (is_wild o) e)
+  IsBuiltToken o a s ZeroOrMore e = Loop a s (is_wild o) e
+  IsBuiltToken o a s RecursivePrefix e = IsToSlash a s e
+  IsBuiltToken o a s RecursiveSuffix e = (t : ℕ) × Bytes a s is_slash t × Loop a t is_any_byte e
+  IsBuiltToken o a s RecursiveZeroOrMore e = (t : ℕ) × Bytes a s is_slash t × IsToSlash a t e
+  IsBuiltToken o a s (Class negated rs) e = Bytes a s (class_has o negated rs) e
+  -- it skips to its kept branches, or to e where none is kept
+  IsBuiltToken o a s (Group bs) e = (ss : List ℕ) × (state a s ≡ skips ss) × ((IsTrue (any_kept o bs) × AreBuilt o a ss bs e) ⊎ (IsFalse (any_kept o bs) × (ss ≡ e ∷ [])))
+
+  -- the kept branches begin at these states, and lead to e
+  pub AreBuilt : Options → List State → List ℕ → Branches → ℕ → Type 0
+  AreBuilt o a ss none e = ss ≡ []
+  AreBuilt o a ss (branch ts bs) e =
+      (IsTrue (is_kept o ts) × ((s : ℕ) × (us : List ℕ) × (ss ≡ s ∷ us) × IsBuilt o a s ts e × AreBuilt o a us bs e))
+      ⊎ (IsFalse (is_kept o ts) × AreBuilt o a ss bs e)

@@ -1,0 +1,4 @@
+pub mod Words
+pub mod ExcludedGlobs
+pub mod Strategies
+pub mod Direct

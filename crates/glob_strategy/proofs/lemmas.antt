@@ -1,0 +1,11 @@
+pub mod BeforeEnding
+pub mod Components
+pub mod Direct
+pub mod EndMeaning
+pub mod Endings
+pub mod FlatTests
+pub mod Strategies
+pub mod Keys
+pub mod Excluded
+pub mod TokenMeaning
+pub mod Below

@@ -1,0 +1,64 @@
+-- What the strategy for a glob says about a path.
+use Rattle.std.specs.Prelude.{◌≡◌, ◌↔◌, ℕ, Bool, true, false, List, ◌++◌, IsTrue}
+use Rattle.std.specs.Str.{bytes_eq}
+use Rattle.byte_nfa.specs.Texts.{AllBytes}
+use Rattle.glob_nfa.specs.TokensMatch.{tokens_match}
+use Rattle.glob_syntax.specs.declared.options.Options.{Options}
+use Rattle.glob_syntax.specs.Token.{Tokens}
+use Rattle.glob_path.specs.Key.{KeyMatches, key_seen}
+use Rattle.glob_path.specs.PathParts.{last_component, component_extension}
+use Rattle.glob_strategy.specs.declared.strategy.MatchStrategy.{MatchStrategy}
+use Rattle.glob_strategy.specs.declared.strategy.MatchStrategy.TheVariants as held
+use Rattle.glob_strategy.specs.Excluded.{are_reported}
+use Rattle.glob_strategy.specs.Below.{StrategyIsSoundBelow, HasBytes}
+use Rattle.glob_strategy.specs.Direct.{is_direct, needs_automaton}
+use Rattle.glob_strategy.specs.Strategies.{StrategyValue, Excluded, Key, RequiredExtension, Basename, Path, after_prefix, before_ending, strategy_of_tokens}
+
+-- a strategy of the program
+abbrev pub strategy_seen : MatchStrategy → StrategyValue
+strategy_seen held.Excluded = Excluded
+strategy_seen (held.Key key) = Key (key_seen key)
+strategy_seen (held.RequiredExtension extension) = RequiredExtension extension.items
+strategy_seen held.Basename = Basename
+strategy_seen held.Path = Path
+
+-- What the strategy says about whether a glob with these tokens is reported for the path.
+abbrev pub StrategyIsSound : StrategyValue → Options → Tokens → List ℕ → Type 0
+-- for no path
+StrategyIsSound Excluded o ts path = are_reported o ts path ≡ false
+-- for the paths that the key matches
+StrategyIsSound (Key key) o ts path = IsTrue (are_reported o ts path) ↔ KeyMatches key path
+-- only for paths whose last component has this extension; and for a path that ends with it, if the tokens before the ending match
+-- what is before the extension
+StrategyIsSound (RequiredExtension extension) o ts path =
+    (IsTrue (are_reported o ts path) → component_extension path ≡ extension) × ((front : List ℕ) → front ++ extension ≡ path → are_reported o ts path ≡ tokens_match o (before_ending ts) front)
+-- for the paths whose last component the tokens after RecursivePrefix match
+StrategyIsSound Basename o ts path = are_reported o ts path ≡ tokens_match o (after_prefix ts) (last_component path)
+-- for the paths that the tokens match
+StrategyIsSound Path o ts path = are_reported o ts path ≡ tokens_match o ts path
+
+-- An automaton has to be run to decide for the path whether the glob is reported.
+abbrev pub runs_automaton : StrategyValue → List ℕ → Bool
+runs_automaton Excluded path = false
+runs_automaton (Key key) path = false
+runs_automaton (RequiredExtension extension) path = bytes_eq extension (component_extension path)
+runs_automaton Basename path = true
+runs_automaton Path path = true
+
+-- the strategy has an automaton, which is run for some path
+abbrev pub has_automaton : StrategyValue → Bool
+has_automaton Excluded = false
+has_automaton (Key key) = false
+has_automaton (RequiredExtension extension) = true
+has_automaton Basename = true
+has_automaton Path = true
+
+-- The strategy is that of the table, and what it says of a glob with these tokens is so for every path and every folder. It has an
+-- automaton only if the glob is not direct, and has it run only where the glob needs one. Its key is bytes.
+pub record IsStrategyOf (o : Options) (ts : Tokens) (strategy : MatchStrategy) : Type 0 where
+  pub in_table : strategy_seen strategy ≡ strategy_of_tokens o ts
+  pub tells : (path : List ℕ) → StrategyIsSound (strategy_seen strategy) o ts path
+  pub automaton : (path : List ℕ) → runs_automaton (strategy_seen strategy) path ≡ true → needs_automaton o ts path ≡ true
+  pub indirect : has_automaton (strategy_seen strategy) ≡ true → is_direct o ts ≡ false
+  pub bytes : HasBytes (strategy_seen strategy)
+  pub below : (folder : List ℕ) → AllBytes folder → StrategyIsSoundBelow (strategy_seen strategy) o ts folder

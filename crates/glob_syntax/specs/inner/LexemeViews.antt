@@ -1,0 +1,35 @@
+-- Lexemes as contracts see them, whatever memory holds them.
+use Rattle.std.specs.Prelude.{◌≡◌, ℕ, ◌++◌, List, map, Result, Ok, Err}
+use Rattle.glob_syntax.specs.declared.lexemes.lexeme.Lexeme.{Lexeme}
+use Rattle.glob_syntax.specs.declared.lexemes.lexeme.Lexeme.TheVariants as held
+use Rattle.glob_syntax.specs.declared.token.Token as tokens
+use Rattle.glob_syntax.specs.Token.{Token}
+use Rattle.glob_syntax.specs.Lexemes as lexemes
+use Rattle.glob_syntax.specs.Ranges.{ranges}
+use Rattle.glob_syntax.specs.FlatTokens.{simple}
+use Rattle.glob_syntax.specs.Views.{flats}
+
+-- a lexeme; that of a class by the ranges of its body
+abbrev pub lexeme_of : Lexeme → lexemes.Lexeme
+lexeme_of (held.Char escaped c) = lexemes.Char escaped c
+lexeme_of held.One = lexemes.One
+lexeme_of (held.Stars n) = lexemes.Stars n
+lexeme_of (held.Class negated body) = lexemes.Class negated (ranges body.now)
+lexeme_of held.Open = lexemes.Open
+lexeme_of held.Comma = lexemes.Comma
+lexeme_of held.Close = lexemes.Close
+lexeme_of (held.Bad f) = lexemes.Bad f
+
+-- lexemes, one after another
+abbrev pub lexemes_of : List Lexeme → List lexemes.Lexeme
+lexemes_of ms = map lexeme_of ms
+
+-- the tokens of a piece were appended, and so many lexemes belong to it after its first one
+pub record Adds (old new : List tokens.Token) (p : List Token × ℕ) (more : ℕ) : Type 0 where
+  pub tokens : flats new ≡ flats old ++ map simple p.0
+  pub takes : more ≡ p.1
+
+-- a result with its value, if it has one, seen by a function
+abbrev pub map_ok : {X Y E : Type 0} → (X → Y) → Result X E → Result Y E
+map_ok f (Ok x) = Ok (f x)
+map_ok f (Err e) = Err e

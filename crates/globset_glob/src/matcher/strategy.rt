@@ -1,0 +1,143 @@
+//! By what a matcher decides.
+
+ghost use Rattle.std.specs.Prelude.{◌≡◌, ◌+◌, ◌≤◌, ◌↔◌, IfOk, IsTrue};
+ghost use Rattle.globset_glob.specs.Cost.{max_visits, max_visits_below};
+ghost use Rattle.globset_glob.specs.GlobBelow.{GlobMatchesBelow};
+ghost use Rattle.glob_text.specs.GlobMatches.{GlobValue, glob_matches};
+ghost use Rattle.globset_glob.specs.inner.GlobNfa.{IsAutomatonOf, IsStrategyOfMatcher, form_states};
+
+use crate::glob::Glob;
+use crate::matcher::scratch::MatcherScratch;
+use byte_nfa::StateSets;
+use glob_matching::{Budget, Compiled, DEFAULT_DFA_SIZE_LIMIT};
+use glob_nfa::{add_tokens, new_builder};
+use glob_path::{Candidate, Key};
+use glob_strategy::{MatchStrategy, strategy_of};
+use std::alloc::{AllocError, Global};
+use visits::Visits;
+
+/// By what a matcher decides whether its glob matches a path.
+#[derive(Drop)]
+pub enum Strategy {
+    /// A key, which is compared with the path or a part of it.
+    Key(Key),
+    /// An automaton, which is run over the path.
+    Nfa(Compiled),
+}
+
+impl Strategy {
+    /// Returns the key of a glob if one decides it, and otherwise an automaton, of which a table takes at most `dfa_size_limit`
+    /// bytes. Returns an error if memory runs out.
+    pub fn of(glob: &Glob, dfa_size_limit: usize) -> Result<Strategy, AllocError>
+        ensures { IfOk result (IsStrategyOfMatcher glob.now) }
+    {
+        if let MatchStrategy::Key(key) = strategy_of(
+            glob.allocator(),
+            glob.options(),
+            glob.tokens(),
+        )? {
+            return Ok(Strategy::Key(key));
+        }
+        Ok(Strategy::Nfa(automaton_of(glob, dfa_size_limit)?))
+    }
+
+    /// Returns how many bytes the table of a deterministic automaton takes, or 0 if there is none.
+    pub fn table_bytes(&self) -> usize {
+        match self {
+            Strategy::Key(_) => 0,
+            Strategy::Nfa(automaton) => automaton.table_bytes(),
+        }
+    }
+
+    /// Returns whether the glob matches a path. Returns an error if memory runs out, and none if a key decides.
+    pub fn is_match(
+        &self,
+        alloc: Global,
+        path: &Candidate<'_>,
+        visits: &mut Visits,
+    ) -> Result<bool, AllocError>
+        ensures some { IfOk result (λ yes. (g : GlobValue) → IsStrategyOfMatcher g self.now → yes ≡ glob_matches g path.now) }
+        ensures visits { (g : GlobValue) → IsStrategyOfMatcher g self.now → visits.new ≤ visits.old + max_visits g path.now }
+        ensures counted { visits.old ≤ visits.new }
+    {
+        match self {
+            Strategy::Key(key) => {
+                // As in a table, a look at a key is one visit.
+                visits.tick();
+                Ok(key.matches(path))
+            }
+            Strategy::Nfa(automaton) => {
+                let mut sets = StateSets::new(alloc);
+                automaton.is_match(path.path(), &mut sets, visits)
+            }
+        }
+    }
+
+    /// Returns whether the glob matches a path, with memory that is handed in. It takes none.
+    pub fn is_match_with<S: MatcherScratch>(
+        &self,
+        path: &Candidate<'_>,
+        scratch: &mut S,
+        visits: &mut Visits,
+    ) -> bool
+        requires { form_states self.now ≤ S.states scratch.old }
+        ensures some { (g : GlobValue) → IsStrategyOfMatcher g self.now → result ≡ glob_matches g path.now }
+        ensures kept { scratch.new ≡ scratch.old }
+        ensures visits { (g : GlobValue) → IsStrategyOfMatcher g self.now → visits.new ≤ visits.old + max_visits g path.now }
+        ensures counted { visits.old ≤ visits.new }
+    {
+        match self {
+            Strategy::Key(key) => {
+                visits.tick();
+                key.matches(path)
+            }
+            Strategy::Nfa(automaton) => scratch.run(automaton, path.path(), visits),
+        }
+    }
+
+    /// Returns whether the glob matches some path below a folder. Returns an error if memory runs out, and none if a key decides.
+    pub fn can_match_below(
+        &self,
+        alloc: Global,
+        folder: &Candidate<'_>,
+        visits: &mut Visits,
+    ) -> Result<bool, AllocError>
+        ensures some { IfOk result (λ yes. (g : GlobValue) → IsStrategyOfMatcher g self.now → IsTrue yes ↔ GlobMatchesBelow g folder.now) }
+        ensures visits { (g : GlobValue) → IsStrategyOfMatcher g self.now → visits.new ≤ visits.old + max_visits_below g folder.now }
+        ensures counted { visits.old ≤ visits.new }
+    {
+        match self {
+            Strategy::Key(key) => {
+                visits.tick();
+                Ok(key.can_match_below(folder.path()))
+            }
+            Strategy::Nfa(automaton) => {
+                let mut sets = StateSets::new(alloc);
+                automaton.can_match_after(folder.path(), b'/', &mut sets, visits)
+            }
+        }
+    }
+
+    /// Returns the form of an equal glob: a copy of the automaton, or the key once more. Returns an error if memory runs out.
+    pub fn copy_for(&self, glob: &Glob) -> Result<Strategy, AllocError>
+        requires { IsStrategyOfMatcher glob.now self.now }
+        ensures { IfOk result (IsStrategyOfMatcher glob.now) }
+    {
+        match self {
+            Strategy::Key(_) => Strategy::of(glob, DEFAULT_DFA_SIZE_LIMIT),
+            Strategy::Nfa(automaton) => Ok(Strategy::Nfa(automaton.clone()?)),
+        }
+    }
+}
+
+/// Returns the automaton of a glob, whose tokens have the index 0. A table of it takes at most `dfa_size_limit` bytes. Returns an
+/// error if memory runs out.
+fn automaton_of(glob: &Glob, dfa_size_limit: usize) -> Result<Compiled, AllocError>
+    ensures { IfOk result (λ a. IsAutomatonOf glob.now a) }
+{
+    let alloc = glob.allocator();
+    let mut builder = new_builder(alloc, 1);
+    add_tokens(alloc, &mut builder, glob.options(), glob.tokens(), 0)?;
+    let mut budget = Budget::new(dfa_size_limit);
+    Compiled::new(alloc, &mut budget, builder.finish())
+}

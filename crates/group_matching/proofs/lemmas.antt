@@ -1,9 +1,0 @@
-pub mod Automata
-pub mod Below
-pub mod Groups
-pub mod Indexes
-pub mod Matching
-pub mod Slots
-pub mod Tables
-pub mod Shared
-pub mod Visits

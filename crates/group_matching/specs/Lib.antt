@@ -1,5 +1,0 @@
-pub mod Indexes
-pub mod Visits
-pub mod Globs
-pub mod Below
-pub mod inner

@@ -1,3 +1,0 @@
-pub mod Automata
-pub mod Groups
-pub mod Room

@@ -1,0 +1,5 @@
+pub mod LiteralIndex
+pub mod Folders
+pub mod Below
+pub mod More
+pub mod Shared

@@ -1,0 +1,32 @@
+-- Tables, tries and keys can be sent to other threads, and shared between them.
+use denote.Param.Send.{IsSend, IsSync, sendable}
+use Rattle.std.proofs.Crossing.{crosses}
+use Rattle.std.proofs.MapsCrossing.{HashMap-send, HashMap-sync}
+use Rattle.byte_table.specs.contracts.table.Table as Table
+use Rattle.byte_trie.specs.contracts.trie.Trie as Trie
+use Rattle.literal_index.specs.contracts.folders.Folders as Folders
+use Rattle.literal_index.specs.contracts.keys.LiteralIndex as LiteralIndex
+
+pub table-send : IsSend Table.the_field.row
+table-send = search (sendable, crosses, HashMap-send) depth 20
+
+pub table-sync : IsSync Table.the_field.row
+table-sync = search (sendable, crosses, HashMap-sync) depth 20
+
+trie-send : IsSend Trie.the_field.row
+trie-send = search (sendable, crosses) depth 40 fits 20000
+
+trie-sync : IsSync Trie.the_field.row
+trie-sync = search (sendable, crosses) depth 40 fits 20000
+
+folders-send : IsSend Folders.the_field.row
+folders-send = search (sendable, crosses) depth 40 fits 20000
+
+folders-sync : IsSync Folders.the_field.row
+folders-sync = search (sendable, crosses) depth 40 fits 20000
+
+pub keys-send : IsSend LiteralIndex.the_field.row
+keys-send = search (sendable, table-send, trie-send, folders-send) depth 20
+
+pub keys-sync : IsSync LiteralIndex.the_field.row
+keys-sync = search (sendable, table-sync, trie-sync, folders-sync) depth 20

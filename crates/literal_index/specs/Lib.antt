@@ -1,0 +1,3 @@
+pub mod LiteralIndex
+pub mod Below
+pub mod inner

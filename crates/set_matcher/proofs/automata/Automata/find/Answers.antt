@@ -1,0 +1,113 @@
+use Rattle.std.proofs.Common.{◌≡◌, ◌+◌, ◌*◌, ◌≤◌, length, ap, sym, subst, true≢false, arith, ◌∙◌}
+use Rattle.glob_nfa.specs.IndexedTokens.{IsFor}
+use Rattle.glob_nfa.proofs.lemmas.IndexedTokens.{all_bytes}
+use Rattle.byte_nfa.specs.Runs.{size, max_reads}
+use Rattle.byte_nfa.specs.Steps.{Machine}
+use Rattle.std.proofs.Math.Logic.{⊎_elim}
+use Rattle.glob_path.specs.PathParts.{last_component, component_extension, last_position, is_separator}
+use Rattle.set_matcher.specs.inner.Automata.{AutomataParts, before_extension, machine_under, tokens_under}
+use Rattle.set_matcher.proofs.lemmas.Automata.{before_bytes, bytes_after, no_matches, three_runs}
+use Rattle.set_matcher.proofs.lemmas.Visits.{looked_runs}
+use Rattle.set_matcher.proofs.automata.Automata.find.Goals as goal
+
+pub returns-then-is_idle-clause-idle : goal.returns-then-is_idle-clause-idle
+returns-then-is_idle-clause-idle c = λ off.
+    let path = c.args.path.now in
+    let nil = c.is_idle.ensures.0 c.if-is_idle.true in
+    let same = ap (λ p. size (machine_under c.args.self.now.extensions (component_extension p))) c.from_bytes.ensures in
+    let last = ap size c.by_extension-by_extension.ensures.automaton in
+    let bytes = all_bytes path (λ i. omega (arith, c.type_inv.path i)) in record {
+      size = omega (arith, nil, last, same);
+      none = λ t are k found. ⊎_elim {C = ⊥} (λ by_path. no_matches c.args.self.now.by_path t.by_path path k (omega (arith, nil)) are.path bytes by_path)
+          (λ later. ⊎_elim {C = ⊥}
+          (λ by_component. no_matches c.args.self.now.by_component t.by_component (last_component path) k (omega (arith, nil)) are.component (bytes_after (last_position is_separator path) path bytes) by_component)
+          (λ by_slot. no_matches c.by_extension-by_extension.result.now (tokens_under t.by_slot c.args.self.now.extensions.matchers (component_extension path)) (before_extension path) k (omega (arith, nil))
+          (subst (λ p. IsFor c.by_extension-by_extension.result.now (tokens_under t.by_slot c.args.self.now.extensions.matchers (component_extension p))) c.from_bytes.ensures (c.by_extension-by_extension.ensures.tokens t.by_slot are.matchers))
+          (before_bytes path bytes) by_slot) later) found;
+    }
+
+pub returns-clause-found : goal.returns-clause-found
+returns-clause-found c = λ on. record {
+  size =
+      let same = ap (λ p. size (machine_under c.args.self.now.extensions (component_extension p))) c.from_bytes.ensures in
+      let last = ap size c.by_extension-by_extension.ensures.automaton in
+      let some : (size c.args.self.now.by_path + (size c.args.self.now.by_component + size c.by_extension-by_extension.result.now) ≡ 0) → ⊥ = (λ nil. true≢false (sym (c.is_idle.ensures.1 nil) ∙ c.if-is_idle.false)) in
+      omega (arith, last, same, some);
+  room = omega (arith, c.in_ok-clear_marks.ensures.room, c.index_count.ensures, c.in_ok-run_by_path.ensures.kept.indexes, c.in_ok-run_by_component.ensures.kept.indexes, c.in_ok-run_by_extension.ensures.kept.indexes);
+  same = λ t are k.
+      let extension_tokens = tokens_under t.by_slot c.args.self.now.extensions.matchers (component_extension c.args.path.now) in
+      let one = c.in_ok-run_by_path.ensures.found t.by_path (subst (λ (a : AutomataParts). IsFor a.by_path t.by_path) (sym c.self.view_is) are.path) k in
+      let two = c.in_ok-run_by_component.ensures.found t.by_component (subst (λ (a : AutomataParts). IsFor a.by_component t.by_component) (sym c.self.view_is) are.component) k in
+      let are_for = subst (λ p. IsFor c.by_extension-by_extension.result.now (tokens_under t.by_slot c.args.self.now.extensions.matchers (component_extension p))) c.from_bytes.ensures (c.by_extension-by_extension.ensures.tokens t.by_slot are.matchers) in
+      let three = c.in_ok-run_by_extension.ensures.found extension_tokens are_for k in
+      let empty = c.in_ok-clear_marks.ensures.none k in three_runs (λ h. true≢false (sym h ∙ empty)) one two three;
+}
+
+pub returns-in_err-run_by_path-clause-visits : goal.returns-in_err-run_by_path-clause-visits
+returns-in_err-run_by_path-clause-visits c =
+    let a = c.args.self.now in
+    let n = length c.args.path.now in
+    looked_runs n (max_reads a.by_path) (max_reads a.by_component) (max_reads (machine_under a.extensions (component_extension c.args.path.now))) c.args.visits.now c.by_extension-by_extension.new.visits
+    c.run_by_path.new.visits c.run_by_path.new.visits c.run_by_path.new.visits
+    c.by_extension-by_extension.ensures.visits
+    (subst (λ (p : AutomataParts). c.run_by_path.new.visits ≤ c.by_extension-by_extension.new.visits + (n + 1) * max_reads p.by_path) c.self.view_is c.run_by_path.ensures.visits)
+    (omega arith) (omega arith)
+
+pub returns-in_err-run_by_component-clause-visits : goal.returns-in_err-run_by_component-clause-visits
+returns-in_err-run_by_component-clause-visits c =
+    let a = c.args.self.now in
+    let n = length c.args.path.now in
+    looked_runs n (max_reads a.by_path) (max_reads a.by_component) (max_reads (machine_under a.extensions (component_extension c.args.path.now))) c.args.visits.now c.by_extension-by_extension.new.visits
+    c.run_by_path.new.visits c.run_by_component.new.visits c.run_by_component.new.visits
+    c.by_extension-by_extension.ensures.visits
+    (subst (λ (p : AutomataParts). c.run_by_path.new.visits ≤ c.by_extension-by_extension.new.visits + (n + 1) * max_reads p.by_path) c.self.view_is c.run_by_path.ensures.visits)
+    (subst (λ (p : AutomataParts). c.run_by_component.new.visits ≤ c.run_by_path.new.visits + (n + 1) * max_reads p.by_component) c.self.view_is c.run_by_component.ensures.visits)
+    (omega arith)
+
+pub returns-in_err-run_by_extension-clause-visits : goal.returns-in_err-run_by_extension-clause-visits
+returns-in_err-run_by_extension-clause-visits c =
+    let a = c.args.self.now in
+    let n = length c.args.path.now in
+    looked_runs n (max_reads a.by_path) (max_reads a.by_component) (max_reads (machine_under a.extensions (component_extension c.args.path.now))) c.args.visits.now c.by_extension-by_extension.new.visits
+    c.run_by_path.new.visits c.run_by_component.new.visits c.run_by_extension.new.visits
+    c.by_extension-by_extension.ensures.visits
+    (subst (λ (p : AutomataParts). c.run_by_path.new.visits ≤ c.by_extension-by_extension.new.visits + (n + 1) * max_reads p.by_path) c.self.view_is c.run_by_path.ensures.visits)
+    (subst (λ (p : AutomataParts). c.run_by_component.new.visits ≤ c.run_by_path.new.visits + (n + 1) * max_reads p.by_component) c.self.view_is c.run_by_component.ensures.visits)
+    (subst (λ (m : Machine). c.run_by_extension.new.visits ≤ c.run_by_component.new.visits + (n + 1) * max_reads m)
+    (c.by_extension-by_extension.ensures.automaton ∙ ap (λ p. machine_under a.extensions (component_extension p)) c.from_bytes.ensures) c.run_by_extension.ensures.visits)
+
+pub returns-clause-visits : goal.returns-clause-visits
+returns-clause-visits c =
+    let a = c.args.self.now in
+    let n = length c.args.path.now in
+    looked_runs n (max_reads a.by_path) (max_reads a.by_component) (max_reads (machine_under a.extensions (component_extension c.args.path.now))) c.args.visits.now c.by_extension-by_extension.new.visits
+    c.run_by_path.new.visits c.run_by_component.new.visits c.run_by_extension.new.visits
+    c.by_extension-by_extension.ensures.visits
+    (subst (λ (p : AutomataParts). c.run_by_path.new.visits ≤ c.by_extension-by_extension.new.visits + (n + 1) * max_reads p.by_path) c.self.view_is c.run_by_path.ensures.visits)
+    (subst (λ (p : AutomataParts). c.run_by_component.new.visits ≤ c.run_by_path.new.visits + (n + 1) * max_reads p.by_component) c.self.view_is c.run_by_component.ensures.visits)
+    (subst (λ (m : Machine). c.run_by_extension.new.visits ≤ c.run_by_component.new.visits + (n + 1) * max_reads m)
+    (c.by_extension-by_extension.ensures.automaton ∙ ap (λ p. machine_under a.extensions (component_extension p)) c.from_bytes.ensures) c.run_by_extension.ensures.visits)
+
+pub returns-in_err-clear_marks-clause-memory : goal.returns-in_err-clear_marks-clause-memory
+returns-in_err-clear_marks-clause-memory c = λ none.
+    let same = ap (λ p. size (machine_under c.args.self.now.extensions (component_extension p))) c.from_bytes.ensures in
+    let last = ap size c.by_extension-by_extension.ensures.automaton in
+    let on = c.is_idle.ensures.1 (omega (arith, none, last, same)) in absurd (true≢false (sym on ∙ c.if-is_idle.false))
+
+pub returns-in_err-run_by_path-clause-memory : goal.returns-in_err-run_by_path-clause-memory
+returns-in_err-run_by_path-clause-memory c = λ none.
+    let same = ap (λ p. size (machine_under c.args.self.now.extensions (component_extension p))) c.from_bytes.ensures in
+    let last = ap size c.by_extension-by_extension.ensures.automaton in
+    let on = c.is_idle.ensures.1 (omega (arith, none, last, same)) in absurd (true≢false (sym on ∙ c.if-is_idle.false))
+
+pub returns-in_err-run_by_component-clause-memory : goal.returns-in_err-run_by_component-clause-memory
+returns-in_err-run_by_component-clause-memory c = λ none.
+    let same = ap (λ p. size (machine_under c.args.self.now.extensions (component_extension p))) c.from_bytes.ensures in
+    let last = ap size c.by_extension-by_extension.ensures.automaton in
+    let on = c.is_idle.ensures.1 (omega (arith, none, last, same)) in absurd (true≢false (sym on ∙ c.if-is_idle.false))
+
+pub returns-in_err-run_by_extension-clause-memory : goal.returns-in_err-run_by_extension-clause-memory
+returns-in_err-run_by_extension-clause-memory c = λ none.
+    let same = ap (λ p. size (machine_under c.args.self.now.extensions (component_extension p))) c.from_bytes.ensures in
+    let last = ap size c.by_extension-by_extension.ensures.automaton in
+    let on = c.is_idle.ensures.1 (omega (arith, none, last, same)) in absurd (true≢false (sym on ∙ c.if-is_idle.false))

@@ -1,0 +1,25 @@
+use Rattle.std.proofs.Common.{◌≡◌, ℕ, List, IsTrue, subst, arith, true≢false, sym}
+use Rattle.std.specs.Prelude.{◌↔◌, IfOk}
+use Rattle.byte_nfa.specs.Runs.{size, max_reads}
+use Rattle.glob_nfa.specs.IndexedTokens.{IndexedTokens, SomeMatches, IsFor}
+use Rattle.glob_nfa.proofs.lemmas.IndexedTokens.{all_bytes}
+use Rattle.set_matcher.specs.inner.Automata.{before_extension}
+use Rattle.set_matcher.proofs.lemmas.Automata.{before_bytes, before_visits, no_matches}
+use Rattle.set_matcher.proofs.automata.is_match_by_extension.Goals as goal
+
+pub returns-then-state_count-eq0-clause-some : goal.returns-then-state_count-eq0-clause-some
+returns-then-state_count-eq0-clause-some c = λ xs is.
+    let none : size c.args.automaton.now ≡ 0 = omega (arith, c.state_count.ensures, c.if-state_count-eq0.true) in
+    let bytes = before_bytes c.args.path.now (all_bytes c.args.path.now (λ i. omega (arith, c.type_inv.path i))) in (
+      λ yes. absurd (true≢false (sym yes)),
+      λ some. absurd (no_matches c.args.automaton.now xs (before_extension c.args.path.now) some.0 none is bytes some.1),
+    )
+
+pub returns-clause-some : goal.returns-clause-some
+returns-clause-some c =
+    subst (λ text. IfOk c.is_match.result (λ yes. (xs : List IndexedTokens) → IsFor c.args.automaton.now xs → IsTrue yes ↔ ((k : ℕ) × SomeMatches xs text k)))
+    c.before_extension-text.ensures c.is_match.ensures.some
+
+pub returns-clause-visits : goal.returns-clause-visits
+returns-clause-visits c =
+    before_visits c.args.path.now c.before_extension-text.result.now (max_reads c.args.automaton.now) c.args.visits.now c.is_match.new.visits c.before_extension-text.ensures c.is_match.ensures.visits

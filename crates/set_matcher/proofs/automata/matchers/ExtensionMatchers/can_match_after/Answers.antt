@@ -1,0 +1,71 @@
+use Rattle.std.proofs.Common.{◌≡◌, ◌+◌, ◌<◌, ◌++◌, ◌∷◌, [], List, get_or, length, refl, ap, sym, subst, ◌∙◌, true≢false, arith}
+use Rattle.byte_nfa.specs.Steps.{Machine}
+use Rattle.set_matcher.specs.inner.Automata.{ExtensionParts}
+use Rattle.set_matcher.proofs.lemmas.ExtensionMatchers.{is_for, none_limit, size_within, visits_more, visits_limit}
+use Rattle.set_matcher.proofs.automata.matchers.ExtensionMatchers.can_match_after.Goals as goal
+
+pub loop-automaton-preserved : goal.loop-automaton-preserved
+loop-automaton-preserved c =
+    let inv = c.loop-automaton.invariant in
+    let machines = c.args.self.now.machines in
+    let i = c.loop-automaton.automaton-index in
+    let m = c.automaton-item.result in
+    let same : c.deref-automaton-items.result.now ≡ machines = c.deref-automaton-items.ensures.value ∙ ap (λ (e : ExtensionParts). e.machines) c.self.view_is in
+    let lt : i < length machines = omega (arith, c.loop-automaton-test.true, ap length same) in
+    let is = subst (λ (ms : List Machine). m ≡ get_or ms i m) same c.automaton-item.is in
+    record {
+      none = λ by_slot are. none_limit by_slot i (c.args.text.now ++ c.args.byte ∷ []) (inv.none by_slot are)
+          (λ some. true≢false (sym ((c.in_ok-can_match_after.ensures.some (by_slot i) (is_for machines i m lt is by_slot are)).1 some) ∙ c.if-branch.false));
+      kept = omega (arith, c.can_match_after.ensures.kept, inv.kept);
+      visits = visits_more machines i m lt is (length c.args.text.now + 2) c.args.visits.now c.loop-automaton.visits c.can_match_after.new.visits c.can_match_after.ensures.visits inv.visits;
+      counted = omega (arith, c.can_match_after.ensures.counted, inv.counted);
+    }
+
+pub returns-then-branch-clause-some : goal.returns-then-branch-clause-some
+returns-then-branch-clause-some c = λ by_slot are.
+    let machines = c.args.self.now.machines in
+    let i = c.loop-automaton.automaton-index in
+    let m = c.automaton-item.result in
+    let same : c.deref-automaton-items.result.now ≡ machines = c.deref-automaton-items.ensures.value ∙ ap (λ (e : ExtensionParts). e.machines) c.self.view_is in
+    let lt : i < length machines = omega (arith, c.loop-automaton-test.true, ap length same) in
+    let is = subst (λ (ms : List Machine). m ≡ get_or ms i m) same c.automaton-item.is in
+    (λ yes. (i, lt, (c.in_ok-can_match_after.ensures.some (by_slot i) (is_for machines i m lt is by_slot are)).0 c.if-branch.true), λ some. refl)
+
+pub returns-then-branch-clause-visits : goal.returns-then-branch-clause-visits
+returns-then-branch-clause-visits c =
+    let machines = c.args.self.now.machines in
+    let i = c.loop-automaton.automaton-index in
+    let m = c.automaton-item.result in
+    let same : c.deref-automaton-items.result.now ≡ machines = c.deref-automaton-items.ensures.value ∙ ap (λ (e : ExtensionParts). e.machines) c.self.view_is in
+    let lt : i < length machines = omega (arith, c.loop-automaton-test.true, ap length same) in
+    let is = subst (λ (ms : List Machine). m ≡ get_or ms i m) same c.automaton-item.is in
+    visits_limit machines i m lt is (length c.args.text.now + 2) c.args.visits.now c.loop-automaton.visits c.can_match_after.new.visits c.can_match_after.ensures.visits c.loop-automaton.invariant.visits
+
+pub returns-in_err-can_match_after-clause-visits : goal.returns-in_err-can_match_after-clause-visits
+returns-in_err-can_match_after-clause-visits c =
+    let machines = c.args.self.now.machines in
+    let i = c.loop-automaton.automaton-index in
+    let m = c.automaton-item.result in
+    let same : c.deref-automaton-items.result.now ≡ machines = c.deref-automaton-items.ensures.value ∙ ap (λ (e : ExtensionParts). e.machines) c.self.view_is in
+    let lt : i < length machines = omega (arith, c.loop-automaton-test.true, ap length same) in
+    let is = subst (λ (ms : List Machine). m ≡ get_or ms i m) same c.automaton-item.is in
+    visits_limit machines i m lt is (length c.args.text.now + 2) c.args.visits.now c.loop-automaton.visits c.can_match_after.new.visits c.can_match_after.ensures.visits c.loop-automaton.invariant.visits
+
+pub returns-in_err-can_match_after-clause-room : goal.returns-in_err-can_match_after-clause-room
+returns-in_err-can_match_after-clause-room c = λ enough.
+    let machines = c.args.self.now.machines in
+    let i = c.loop-automaton.automaton-index in
+    let m = c.automaton-item.result in
+    let same : c.deref-automaton-items.result.now ≡ machines = c.deref-automaton-items.ensures.value ∙ ap (λ (e : ExtensionParts). e.machines) c.self.view_is in
+    let lt : i < length machines = omega (arith, c.loop-automaton-test.true, ap length same) in
+    let is = subst (λ (ms : List Machine). m ≡ get_or ms i m) same c.automaton-item.is in
+    let size = size_within machines i m lt is in
+    absurd (true≢false (sym (c.in_err-can_match_after.ensures.memory (omega (arith, size, enough, c.loop-automaton.invariant.kept)))))
+
+pub returns-clause-some : goal.returns-clause-some
+returns-clause-some c = λ by_slot are.
+    let machines = c.args.self.now.machines in
+    let same : c.deref-automaton-items.result.now ≡ machines = c.deref-automaton-items.ensures.value ∙ ap (λ (e : ExtensionParts). e.machines) c.self.view_is in (
+      λ yes. absurd (true≢false (sym yes)),
+      λ (s, lt, some). absurd (c.loop-automaton.invariant.none by_slot are (s, omega (arith, lt, c.loop-automaton-test.false, ap length same), some)),
+    )

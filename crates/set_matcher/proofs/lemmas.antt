@@ -1,0 +1,10 @@
+pub mod Automata
+pub mod Below
+pub mod Given
+pub mod SetMatcher
+pub mod Indexes
+pub mod Matching
+pub mod ExtensionMatchers
+pub mod Tables
+pub mod Shared
+pub mod Visits

@@ -1,0 +1,65 @@
+-- What is found for a folder, by keys and by automata.
+use Rattle.std.proofs.Common.{◌≡◌, ℕ, ◌+◌, ◌*◌, ◌≤◌, ◌⊎◌, inl, inr, Bool, true, List, [], ◌∷◌, IsTrue, refl, arith}
+use Rattle.std.specs.Prelude.{◌↔◌}
+use Rattle.std.proofs.Math.Logic.{⊎_elim}
+use Rattle.std.proofs.lemmas.List.Sums.{sum_by-append}
+use Rattle.std.proofs.lemmas.Nat.{mul-le}
+use Rattle.byte_nfa.specs.Live.{MatchesAfter}
+use Rattle.byte_nfa.specs.Runs.{max_reads}
+use Rattle.byte_nfa.specs.Steps.{Machine}
+use Rattle.byte_nfa.specs.Texts.{AllBytes}
+use Rattle.glob_nfa.specs.After.{SomeMeanAfter}
+use Rattle.glob_nfa.specs.IndexedTokens.{IndexedTokens, IsFor}
+use Rattle.glob_nfa.proofs.lemmas.IndexedTokens.{reached_matches}
+use Rattle.glob_matching.proofs.lemmas.Compiled.{some_after, after_some}
+use Rattle.literal_index.specs.Below.{MatchesBelow}
+use Rattle.set_matcher.specs.Below.{SomeReportedBelow}
+use Rattle.set_matcher.specs.Globs.{TokenGlob}
+use Rattle.set_matcher.specs.Visits.{visits_below_for}
+use Rattle.set_matcher.specs.inner.Automata.{AreFoundBelow, max_size, total_reads}
+use Rattle.set_matcher.specs.inner.SetMatcher.{SetMatcherParts, IsSetMatcherOf}
+
+-- ---- automata
+
+-- some text leads to an end just if tokens match some text
+pub some_text : (m : Machine) (xs : List IndexedTokens) → IsFor m xs → MatchesAfter m [] ↔ SomeMeanAfter xs []
+some_text m xs is = (
+  λ (k, rest, bytes, reached). some_after xs [] rest k bytes ((reached_matches m xs rest k is bytes).0 reached),
+  λ h. let (k, rest, bytes, matched) = after_some xs [] h in (k, rest, bytes, (reached_matches m xs rest k is bytes).1 matched),
+)
+
+-- the last of three tells, if the others say no
+pub last_of_three : {Yes A B C : Type 0} → (A → ⊥) → (B → ⊥) → Yes ↔ C → Yes ↔ (A ⊎ (B ⊎ C))
+last_of_three {Yes} {A} {B} {C} no_a no_b last = (
+  λ yes. inr (inr (last.0 yes)),
+  λ h. ⊎_elim {C = Yes} (λ a. absurd (no_a a)) (λ later. ⊎_elim {C = Yes} (λ b. absurd (no_b b)) (λ c. last.1 c) later) h,
+)
+
+-- the largest automaton has at most the reads of all
+pub max_within : (ms : List Machine) → max_size ms ≤ total_reads ms
+max_within [] = omega arith
+max_within (m ∷ ms) = let rest = max_within ms in let sum = sum_by-append max_reads (m ∷ []) ms in omega (arith, rest, sum)
+
+-- visits of the first of two runs, and of both
+pub first_run : (n s a b now v : ℕ) → s ≤ a → v ≤ now + n * s → v ≤ now + n * (a + b)
+first_run n s a b now v le one = let more = mul-le n s n (a + b) (omega arith) (omega (arith, le)) in omega (arith, one, more)
+
+pub both_runs : (n s a b now v w : ℕ) → s ≤ a → v ≤ now + n * s → w ≤ v + n * b → w ≤ now + n * (a + b)
+both_runs n s a b now v w le one two =
+    let more = mul-le n s n a (omega arith) le in let sum : n * (a + b) ≡ n * a + n * b = omega arith in omega (arith, one, two, more, sum)
+
+-- ---- keys and automata
+
+pub below_by_key : (globs : List TokenGlob) (g : SetMatcherParts) (folder : List ℕ) → IsSetMatcherOf globs g → AllBytes folder → MatchesBelow g.keys folder → IsTrue true ↔ SomeReportedBelow globs folder
+below_by_key globs g folder are bytes key = (λ t. (are.below folder bytes).0 (inl key), λ h. refl)
+
+pub below_by_automata : (globs : List TokenGlob) (g : SetMatcherParts) (folder : List ℕ) (r : Bool) (are : IsSetMatcherOf globs g) → AllBytes folder → (MatchesBelow g.keys folder → ⊥)
+    → (IsTrue r ↔ AreFoundBelow g.automata.extensions are.tokens folder) → IsTrue r ↔ SomeReportedBelow globs folder
+below_by_automata globs g folder r are bytes off same = (
+  λ yes. (are.below folder bytes).0 (inr (same.0 yes)),
+  λ h. ⊎_elim {C = IsTrue r} (λ key. absurd (off key)) (λ found. same.1 found) ((are.below folder bytes).1 h),
+)
+
+-- their visits
+pub below_visits : (n reads load now v w : ℕ) → reads ≤ load → v ≤ now + (n + 2) → w ≤ v + (n + 2) * reads → w ≤ now + visits_below_for n load
+below_visits n reads load now v w le keys run = let more = mul-le (n + 2) reads (n + 2) load (omega arith) le in omega (arith, keys, run, more)

@@ -1,0 +1,365 @@
+-- The matcher of the globs of a list, glob by glob.
+use Rattle.std.proofs.Common.{◌≡◌, ℕ, zero, suc, ◌+◌, ◌≤◌, ◌⊎◌, inl, inr, Bool, true, false, cond, List, [], ◌∷◌, ◌++◌, Result, Ok, Err, length, get_or, IsTrue, refl, ap, sym, subst, ◌∙◌, arith}
+use Rattle.std.specs.Prelude.{◌↔◌, Contains, OnOk}
+use Rattle.std.specs.Option.{option_map_or}
+use Rattle.std.specs.Str.{bytes_eq}
+use Rattle.std.specs.Cmp.Lexicographic.{bytes_decides}
+use Rattle.std.proofs.Math.Logic.{⊎_elim}
+use Rattle.std.proofs.lemmas.Bool.{cases_Bool}
+use Rattle.std.proofs.lemmas.List.Sums.{sum_by-append}
+use Rattle.glob_syntax.specs.declared.options.Options.{Options}
+use Rattle.glob_syntax.specs.Token.{Tokens, end, and_then}
+use Rattle.glob_syntax.specs.inner.Weight.{weight}
+use Rattle.byte_nfa.specs.Runs.{max_reads}
+use Rattle.byte_nfa.specs.Texts.{AllBytes}
+use Rattle.glob_nfa.specs.After.{MeanAfter}
+use Rattle.glob_nfa.specs.TokensMatch.{tokens_match, is_prefix}
+use Rattle.glob_nfa.specs.IndexedTokens.{IndexedTokens, SomeMatches, IsFor, indexed}
+use Rattle.glob_nfa.proofs.lemmas.IndexedTokens.{some_push}
+use Rattle.glob_path.specs.Below.{folder_start, path_below}
+use Rattle.glob_path.specs.PathParts.{last_component, component_extension}
+use Rattle.glob_strategy.specs.Below.{AreReportedBelow}
+use Rattle.glob_strategy.specs.Direct.{is_direct, needs_automaton}
+use Rattle.glob_strategy.specs.Strategies.{after_prefix, before_ending}
+use Rattle.glob_strategy.proofs.lemmas.BeforeEnding.{weight_before}
+use Rattle.set_matcher.specs.Below.{SomeReportedBelow, load_below, reads_below}
+use Rattle.set_matcher.specs.Globs.{TokenGlob, is_reported, is_reported_at, reads, load}
+use Rattle.byte_table.specs.Entries.{indexes_under}
+use Rattle.literal_index.specs.Below.{MatchesBelow}
+use Rattle.literal_index.specs.LiteralIndex.{KeyParts, MoreIn, keys_found}
+use Rattle.set_matcher.specs.inner.Automata.{AutomataParts, ExtensionParts, TokenLists, AreForLists, AreFor, AreFound, AreFoundBelow, AddsTokens, before_extension, first, folder_reads, machine_under, reads_for, tokens_under, total_reads}
+use Rattle.set_matcher.specs.inner.SetMatcher.{SetMatcherParts, IsSetMatcherOf, set_matcher_parts, listed_count}
+use Rattle.set_matcher.proofs.lemmas.Automata.{extension_cut}
+use Rattle.set_matcher.proofs.lemmas.Matching.{some_listed}
+use Rattle.set_matcher.proofs.lemmas.ExtensionMatchers.{after_push}
+
+-- ---- one glob more
+
+-- the glob that was pushed has the last index
+listed_push : (globs : List TokenGlob) (g : TokenGlob) (path : List ℕ) (k : ℕ)
+    → IsTrue (is_reported_at (globs ++ g ∷ []) path k) ↔ (IsTrue (is_reported_at globs path k) ⊎ ((length globs ≡ k) × IsTrue (is_reported g path)))
+listed_push [] g path zero = (λ h. inr (refl, h), λ h. ⊎_elim {C = IsTrue (is_reported g path)} (λ none. absurd (cc)) (λ this. this.1) h)
+listed_push [] g path (suc k) = (λ none. absurd (cc), λ h. ⊎_elim {C = IsTrue false} (λ none. none) (λ this. let is = this.0 in absurd (omega (arith, is))) h)
+listed_push (x ∷ xs) g path zero = (λ h. inl h, λ h. ⊎_elim {C = IsTrue (is_reported x path)} (λ this. this) (λ last. let is = last.0 in absurd (omega (arith, is))) h)
+listed_push (x ∷ xs) g path (suc k) = (
+  λ h. ⊎_elim {C = IsTrue (is_reported_at xs path k) ⊎ ((suc (length xs) ≡ suc k) × IsTrue (is_reported g path))}
+      (λ earlier. inl earlier) (λ last. let is = last.0 in inr (omega (arith, is), last.1)) ((listed_push xs g path k).0 h),
+  λ h. (listed_push xs g path k).1 (⊎_elim {C = IsTrue (is_reported_at xs path k) ⊎ ((length xs ≡ k) × IsTrue (is_reported g path))}
+      (λ earlier. inl earlier) (λ last. let is = last.0 in inr (omega (arith, is), last.1)) h),
+)
+
+-- the glob of the index n is reported, and k is its index
+abbrev pub IsNew : ℕ → TokenGlob → List ℕ → ℕ → Type 0
+IsNew n g path k = (n ≡ k) × IsTrue (is_reported g path)
+
+new_listed : {F G : Type 0} (globs : List TokenGlob) (g : TokenGlob) (n : ℕ) (path : List ℕ) (k : ℕ) → n ≡ length globs
+    → F ↔ (G ⊎ IsNew n g path k) → G ↔ IsTrue (is_reported_at globs path k) → F ↔ IsTrue (is_reported_at (globs ++ g ∷ []) path k)
+new_listed {F} {G} globs g n path k at more before =
+    let push = listed_push globs g path k in (
+      λ f. push.1 (⊎_elim {C = IsTrue (is_reported_at globs path k) ⊎ IsNew (length globs) g path k} (λ old. inl (before.0 old)) (λ new. inr (sym at ∙ new.0, new.1)) (more.0 f)),
+      λ h. more.1 (⊎_elim {C = G ⊎ IsNew n g path k} (λ old. inl (before.1 old)) (λ new. inr (at ∙ new.0, new.1)) (push.0 h)),
+    )
+
+count_push : (globs : List TokenGlob) (g : TokenGlob) (path : List ℕ) → listed_count (globs ++ g ∷ []) path ≡ listed_count globs path + cond (is_reported g path) 1 0
+count_push globs g path = sum_by-append (λ x. cond (is_reported x path) 1 0) globs (g ∷ []) ∙ omega arith
+
+load_push : (globs : List TokenGlob) (g : TokenGlob) (path : List ℕ) → load (globs ++ g ∷ []) path ≡ load globs path + reads g path
+load_push globs g path = sum_by-append (λ x. reads x path) globs (g ∷ []) ∙ omega arith
+
+-- ---- one glob more, below a folder
+
+pub listed_below_push : (globs : List TokenGlob) (g : TokenGlob) (folder : List ℕ)
+    → SomeReportedBelow (globs ++ g ∷ []) folder ↔ (SomeReportedBelow globs folder ⊎ AreReportedBelow g.options g.tokens folder)
+listed_below_push globs g folder = (
+  λ (rest, bytes, some).
+      let path = path_below folder rest in
+      let (k, at) = (some_listed (globs ++ g ∷ []) path).0 some in
+      ⊎_elim {C = SomeReportedBelow globs folder ⊎ AreReportedBelow g.options g.tokens folder}
+      (λ old. inl (rest, bytes, (some_listed globs path).1 (k, old))) (λ new. inr (rest, bytes, new.1)) ((listed_push globs g path k).0 at),
+  λ h. ⊎_elim {C = SomeReportedBelow (globs ++ g ∷ []) folder}
+      (λ (rest, bytes, some).
+      let path = path_below folder rest in
+      let (k, at) = (some_listed globs path).0 some in (rest, bytes, (some_listed (globs ++ g ∷ []) path).1 (k, (listed_push globs g path k).1 (inl at))))
+      (λ (rest, bytes, this).
+      let path = path_below folder rest in
+      let k : ℕ = length globs in (rest, bytes, (some_listed (globs ++ g ∷ []) path).1 (k, (listed_push globs g path k).1 (inr (refl, this))))) h,
+)
+
+new_below : {F G : Type 0} (globs : List TokenGlob) (g : TokenGlob) (folder : List ℕ) → F ↔ (G ⊎ AreReportedBelow g.options g.tokens folder) → G ↔ SomeReportedBelow globs folder
+    → F ↔ SomeReportedBelow (globs ++ g ∷ []) folder
+new_below {F} {G} globs g folder more before =
+    let push = listed_below_push globs g folder in (
+      λ f. push.1 (⊎_elim {C = SomeReportedBelow globs folder ⊎ AreReportedBelow g.options g.tokens folder} (λ old. inl (before.0 old)) (λ new. inr new) (more.0 f)),
+      λ h. more.1 (⊎_elim {C = G ⊎ AreReportedBelow g.options g.tokens folder} (λ old. inl (before.1 old)) (λ new. inr new) (push.0 h)),
+    )
+
+load_below_push : (globs : List TokenGlob) (g : TokenGlob) → load_below (globs ++ g ∷ []) ≡ load_below globs + reads_below g
+load_below_push globs g = sum_by-append (λ x. reads_below x) globs (g ∷ []) ∙ omega arith
+
+-- what the strategy says of a folder, for what is found there beside what was
+pub as_listed : {A B X L : Type 0} → A ↔ (B ⊎ X) → L ↔ X → A ↔ (B ⊎ L)
+as_listed {A} {B} {X} {L} more tells = (
+  λ a. ⊎_elim {C = B ⊎ L} (λ b. inl b) (λ x. inr (tells.1 x)) (more.0 a),
+  λ h. more.1 (⊎_elim {C = B ⊎ X} (λ b. inl b) (λ l. inr (tells.0 l)) h),
+)
+
+-- what follows from both, if a call succeeds
+pub both_on_ok : {T E P Q R : Type 0} (r : Result T E) → (P → Q → R) → OnOk r P → OnOk r Q → OnOk r R
+both_on_ok (Ok x) both p q = both p q
+both_on_ok (Err e) both p q = p
+
+pub three_on_ok : {T E P Q S R : Type 0} (r : Result T E) → (P → Q → S → R) → OnOk r P → OnOk r Q → OnOk r S → OnOk r R
+three_on_ok (Ok x) all p q s = all p q s
+three_on_ok (Err e) all p q s = p
+
+-- ---- one alternative more
+
+left_more : {A B D X : Type 0} → D ↔ (A ⊎ X) → (D ⊎ B) ↔ ((A ⊎ B) ⊎ X)
+left_more {A} {B} {D} {X} more = (
+  λ h. ⊎_elim {C = (A ⊎ B) ⊎ X} (λ d. ⊎_elim {C = (A ⊎ B) ⊎ X} (λ a. inl (inl a)) (λ x. inr x) (more.0 d)) (λ b. inl (inr b)) h,
+  λ h. ⊎_elim {C = D ⊎ B} (λ ab. ⊎_elim {C = D ⊎ B} (λ a. inl (more.1 (inl a))) (λ b. inr b) ab) (λ x. inl (more.1 (inr x))) h,
+)
+
+right_more : {A B D X : Type 0} → D ↔ (B ⊎ X) → (A ⊎ D) ↔ ((A ⊎ B) ⊎ X)
+right_more {A} {B} {D} {X} more = (
+  λ h. ⊎_elim {C = (A ⊎ B) ⊎ X} (λ a. inl (inl a)) (λ d. ⊎_elim {C = (A ⊎ B) ⊎ X} (λ b. inl (inr b)) (λ x. inr x) (more.0 d)) h,
+  λ h. ⊎_elim {C = A ⊎ D} (λ ab. ⊎_elim {C = A ⊎ D} (λ a. inl a) (λ b. inr (more.1 (inl b))) ab) (λ x. inr (more.1 (inr x))) h,
+)
+
+-- ---- a key more
+
+pub keys_added : (globs : List TokenGlob) (g : TokenGlob) (n : ℕ) (old new : SetMatcherParts) → n ≡ length globs → new.automata ≡ old.automata
+    → ((path : List ℕ) → MoreIn (keys_found old.keys path) (keys_found new.keys path) n (is_reported g path))
+    → ((folder : List ℕ) → AllBytes folder → MatchesBelow new.keys folder ↔ (MatchesBelow old.keys folder ⊎ AreReportedBelow g.options g.tokens folder)) → IsSetMatcherOf globs old → IsSetMatcherOf (globs ++ g ∷ []) new
+keys_added globs g n old new at automata more below before = record {
+  tokens = before.tokens;
+  are_for = subst (λ a. AreForLists a before.tokens) (sym automata) before.are_for;
+  same = λ path k. new_listed globs g n path k at
+      (subst (λ (a : AutomataParts). (Contains (keys_found new.keys path) k ⊎ AreFound a.extensions.matchers before.tokens path k)
+      ↔ ((Contains (keys_found old.keys path) k ⊎ AreFound old.automata.extensions.matchers before.tokens path k) ⊎ IsNew n g path k)) (sym automata) (left_more ((more path).has k)))
+      (before.same path k);
+  once = λ path. omega (arith, (more path).count, before.once path, count_push globs g path);
+  reads = λ path. let same = ap (λ a. reads_for a path) automata in omega (arith, same, before.reads path, load_push globs g path);
+  below = λ folder bytes. new_below globs g folder
+      (subst (λ (a : AutomataParts). (MatchesBelow new.keys folder ⊎ AreFoundBelow a.extensions before.tokens folder)
+      ↔ ((MatchesBelow old.keys folder ⊎ AreFoundBelow old.automata.extensions before.tokens folder) ⊎ AreReportedBelow g.options g.tokens folder)) (sym automata) (left_more (below folder bytes)))
+      (before.below folder bytes);
+  few_below = let same = ap (λ a. folder_reads a) automata in omega (arith, same, before.few_below, load_below_push globs g);
+}
+
+pub key_added : (globs : List TokenGlob) (g : TokenGlob) (n : ℕ) (old new : KeyParts) (a : AutomataParts) → n ≡ length globs
+    → ((path : List ℕ) → MoreIn (keys_found old path) (keys_found new path) n (is_reported g path))
+    → ((folder : List ℕ) → AllBytes folder → MatchesBelow new folder ↔ (MatchesBelow old folder ⊎ AreReportedBelow g.options g.tokens folder)) → IsSetMatcherOf globs (set_matcher_parts old a) → IsSetMatcherOf (globs ++ g ∷ []) (set_matcher_parts new a)
+key_added globs g n old new a at more below before = keys_added globs g n (set_matcher_parts old a) (set_matcher_parts new a) at refl more below before
+
+none_more : (xs : List ℕ) (n : ℕ) (m : Bool) → m ≡ false → MoreIn xs xs n m
+none_more xs n m off = record {
+  has = λ k. (λ h. inl h, λ h. ⊎_elim {C = Contains xs k} (λ old. old) (λ new. let yes = new.1 in absurd (cc)) h);
+  count = omega arith;
+}
+
+pub excluded_added : (globs : List TokenGlob) (g : TokenGlob) (n : ℕ) (old : SetMatcherParts) → n ≡ length globs → ((path : List ℕ) → is_reported g path ≡ false)
+    → ((folder : List ℕ) → AllBytes folder → AreReportedBelow g.options g.tokens folder → ⊥) → IsSetMatcherOf globs old → IsSetMatcherOf (globs ++ g ∷ []) old
+excluded_added globs g n old at tells none before =
+    keys_added globs g n old old at refl (λ path. none_more (keys_found old.keys path) n (is_reported g path) (tells path))
+    (λ folder bytes. (λ h. inl h, λ h. ⊎_elim {C = MatchesBelow old.keys folder} (λ was. was) (λ new. absurd (none folder bytes new)) h)) before
+
+-- ---- tokens more
+
+pub tokens_added : (globs : List TokenGlob) (g : TokenGlob) (n : ℕ) (old new : SetMatcherParts) (before : IsSetMatcherOf globs old) (tokens : TokenLists) → n ≡ length globs → new.keys ≡ old.keys → AreForLists new.automata tokens
+    → ((path : List ℕ) (k : ℕ) → AreFound new.automata.extensions.matchers tokens path k ↔ (AreFound old.automata.extensions.matchers before.tokens path k ⊎ IsNew n g path k))
+    → ((path : List ℕ) → reads_for new.automata path ≤ reads_for old.automata path + reads g path)
+    → ((folder : List ℕ) → AllBytes folder → AreFoundBelow new.automata.extensions tokens folder ↔ (AreFoundBelow old.automata.extensions before.tokens folder ⊎ AreReportedBelow g.options g.tokens folder))
+    → folder_reads new.automata ≤ folder_reads old.automata + reads_below g → IsSetMatcherOf (globs ++ g ∷ []) new
+tokens_added globs g n old new before tokens at keys are more size below few = record {
+  tokens = tokens;
+  are_for = are;
+  same = λ path k. new_listed globs g n path k at
+      (subst (λ (t : KeyParts). (Contains (keys_found t path) k ⊎ AreFound new.automata.extensions.matchers tokens path k)
+      ↔ ((Contains (keys_found old.keys path) k ⊎ AreFound old.automata.extensions.matchers before.tokens path k) ⊎ IsNew n g path k)) (sym keys) (right_more (more path k)))
+      (before.same path k);
+  once = λ path. let same = ap (λ t. length (keys_found t path)) keys in omega (arith, same, before.once path, count_push globs g path);
+  reads = λ path. omega (arith, size path, before.reads path, load_push globs g path);
+  below = λ folder bytes. new_below globs g folder
+      (subst (λ (t : KeyParts). (MatchesBelow t folder ⊎ AreFoundBelow new.automata.extensions tokens folder)
+      ↔ ((MatchesBelow old.keys folder ⊎ AreFoundBelow old.automata.extensions before.tokens folder) ⊎ AreReportedBelow g.options g.tokens folder)) (sym keys) (right_more (below folder bytes)))
+      (before.below folder bytes);
+  few_below = omega (arith, few, before.few_below, load_below_push globs g);
+}
+
+true_as : (a b : Bool) → a ≡ b → IsTrue b ↔ IsTrue a
+true_as a b same = (λ h. same ∙ h, λ h. sym same ∙ h)
+
+-- tokens more, which match the part of the path just if the glob is reported
+some_added : (x : IndexedTokens) (xs : List IndexedTokens) (g : TokenGlob) (n : ℕ) (text path : List ℕ) (k : ℕ) → x.index ≡ n → is_reported g path ≡ tokens_match x.options x.tokens text
+    → SomeMatches (xs ++ x ∷ []) text k ↔ (SomeMatches xs text k ⊎ IsNew n g path k)
+some_added x xs g n text path k at tells =
+    let push = some_push x xs text k in (
+      λ h. ⊎_elim {C = SomeMatches xs text k ⊎ IsNew n g path k} (λ old. inl old) (λ new. inr (sym at ∙ new.0, tells ∙ new.1)) (push.0 h),
+      λ h. push.1 (⊎_elim {C = SomeMatches xs text k ⊎ ((x.index ≡ k) × IsTrue (tokens_match x.options x.tokens text))} (λ old. inl old) (λ new. inr (at ∙ new.0, sym tells ∙ new.1)) h),
+    )
+
+needed : (g : TokenGlob) (path : List ℕ) → needs_automaton g.options g.tokens path ≡ true → reads g path ≡ weight g.options g.tokens + 4
+needed g path on = ap (λ b. cond b (weight g.options g.tokens + 4) 0) on
+
+needed_below : (g : TokenGlob) → is_direct g.options g.tokens ≡ false → reads_below g ≡ weight g.options g.tokens + 4
+needed_below g off = ap (λ b. cond b 0 (weight g.options g.tokens + 4)) off
+
+pub weight_after : (o : Options) (ts : Tokens) → weight o (after_prefix ts) ≤ weight o ts
+weight_after o end = omega arith
+weight_after o (and_then t ts) = choice (is_prefix t)
+  where
+    choice : (b : Bool) → weight o (cond b ts (and_then t ts)) ≤ weight o (and_then t ts)
+    choice true = omega arith
+    choice false = omega arith
+
+pub by_path_added : (globs : List TokenGlob) (g : TokenGlob) (n : ℕ) (old new : SetMatcherParts) → n ≡ length globs → new.keys ≡ old.keys
+    → ((path : List ℕ) → is_reported g path ≡ tokens_match g.options g.tokens path) → ((path : List ℕ) → needs_automaton g.options g.tokens path ≡ true)
+    → ((xs : List IndexedTokens) → IsFor old.automata.by_path xs → IsFor new.automata.by_path (xs ++ indexed g.options g.tokens n ∷ [])) → max_reads new.automata.by_path ≤ max_reads old.automata.by_path + (weight g.options g.tokens + 4)
+    → new.automata.by_component ≡ old.automata.by_component → new.automata.extensions ≡ old.automata.extensions → is_direct g.options g.tokens ≡ false
+    → ((folder : List ℕ) → AllBytes folder → AreReportedBelow g.options g.tokens folder ↔ MeanAfter g.options g.tokens (folder_start folder)) → IsSetMatcherOf globs old → IsSetMatcherOf (globs ++ g ∷ []) new
+by_path_added globs g n old new at keys tells needs adds few component extensions indirect sound_below before =
+    tokens_added globs g n old new before tokens at keys
+    (record {
+      path = adds before.tokens.by_path before.are_for.path;
+      component = subst (λ m. IsFor m before.tokens.by_component) (sym component) before.are_for.component;
+      matchers = subst (λ (e : ExtensionParts). AreFor e.machines before.tokens.by_slot) (sym extensions) before.are_for.matchers;
+    })
+    (λ path k. subst (λ (e : ExtensionParts). AreFound e.matchers tokens path k ↔ (AreFound old.automata.extensions.matchers before.tokens path k ⊎ IsNew n g path k)) (sym extensions)
+    (left_more (some_added (indexed g.options g.tokens n) before.tokens.by_path g n path path k refl (tells path))))
+    (λ path. let one = ap max_reads component in let two = ap (λ (e : ExtensionParts). max_reads (machine_under e (component_extension path))) extensions in let maximum = needed g path (needs path) in omega (arith, few, one, two, maximum))
+    (λ folder bytes. subst (λ (e : ExtensionParts). AreFoundBelow e tokens folder ↔ (AreFoundBelow old.automata.extensions before.tokens folder ⊎ AreReportedBelow g.options g.tokens folder)) (sym extensions)
+    (right_more (left_more (as_listed (after_push before.tokens.by_path (indexed g.options g.tokens n) (folder_start folder)) (sound_below folder bytes)))))
+    (let all = ap (λ (e : ExtensionParts). total_reads e.machines) extensions in let maximum = needed_below g indirect in omega (arith, few, all, maximum))
+  where
+    tokens : TokenLists
+    tokens = record {
+      by_path = before.tokens.by_path ++ indexed g.options g.tokens n ∷ [];
+      by_component = before.tokens.by_component;
+      by_slot = before.tokens.by_slot;
+    }
+
+pub by_component_added : (globs : List TokenGlob) (g : TokenGlob) (n : ℕ) (ts : Tokens) (old new : SetMatcherParts) → n ≡ length globs → new.keys ≡ old.keys → ts ≡ after_prefix g.tokens
+    → ((path : List ℕ) → is_reported g path ≡ tokens_match g.options (after_prefix g.tokens) (last_component path)) → ((path : List ℕ) → needs_automaton g.options g.tokens path ≡ true)
+    → ((xs : List IndexedTokens) → IsFor old.automata.by_component xs → IsFor new.automata.by_component (xs ++ indexed g.options ts n ∷ [])) → max_reads new.automata.by_component ≤ max_reads old.automata.by_component + (weight g.options ts + 4)
+    → new.automata.by_path ≡ old.automata.by_path → new.automata.extensions ≡ old.automata.extensions
+    → ((folder : List ℕ) → AllBytes folder → AreReportedBelow g.options g.tokens folder ↔ MeanAfter g.options (after_prefix g.tokens) []) → IsSetMatcherOf globs old → IsSetMatcherOf (globs ++ g ∷ []) new
+by_component_added globs g n ts old new at keys rest tells needs adds few by_path extensions sound_below before =
+    tokens_added globs g n old new before tokens at keys
+    (record {
+      path = subst (λ m. IsFor m before.tokens.by_path) (sym by_path) before.are_for.path;
+      component = adds before.tokens.by_component before.are_for.component;
+      matchers = subst (λ (e : ExtensionParts). AreFor e.machines before.tokens.by_slot) (sym extensions) before.are_for.matchers;
+    })
+    (λ path k. subst (λ (e : ExtensionParts). AreFound e.matchers tokens path k ↔ (AreFound old.automata.extensions.matchers before.tokens path k ⊎ IsNew n g path k)) (sym extensions)
+    (right_more (left_more (some_added (indexed g.options ts n) before.tokens.by_component g n (last_component path) path k refl (tells path ∙ ap (λ us. tokens_match g.options us (last_component path)) (sym rest))))))
+    (λ path. let one = ap max_reads by_path in let two = ap (λ (e : ExtensionParts). max_reads (machine_under e (component_extension path))) extensions in let maximum = needed g path (needs path) in
+    let fewer = weight_after g.options g.tokens in let same = ap (weight g.options) rest in omega (arith, few, one, two, maximum, fewer, same))
+    (λ folder bytes. subst (λ (e : ExtensionParts). AreFoundBelow e tokens folder ↔ (AreFoundBelow old.automata.extensions before.tokens folder ⊎ AreReportedBelow g.options g.tokens folder)) (sym extensions)
+    (left_more (as_listed (after_push before.tokens.by_component (indexed g.options ts n) [])
+    (subst (λ us. AreReportedBelow g.options g.tokens folder ↔ MeanAfter g.options us []) (sym rest) (sound_below folder bytes)))))
+    (let one = ap max_reads by_path in let all = ap (λ (e : ExtensionParts). total_reads e.machines) extensions in omega (arith, one, all))
+  where
+    tokens : TokenLists
+    tokens = record {
+      by_path = before.tokens.by_path;
+      by_component = before.tokens.by_component ++ indexed g.options ts n ∷ [];
+      by_slot = before.tokens.by_slot;
+    }
+
+pub by_extension_added : (globs : List TokenGlob) (g : TokenGlob) (n : ℕ) (key : List ℕ) (ts : Tokens) (old new : SetMatcherParts) → n ≡ length globs → new.keys ≡ old.keys → ts ≡ before_ending g.tokens
+    → ((path : List ℕ) → (IsTrue (is_reported g path) → component_extension path ≡ key) × ((front : List ℕ) → front ++ key ≡ path → is_reported g path ≡ tokens_match g.options (before_ending g.tokens) front))
+    → ((path : List ℕ) → bytes_eq key (component_extension path) ≡ true → needs_automaton g.options g.tokens path ≡ true)
+    → ((before : ℕ → List IndexedTokens) → AreFor old.automata.extensions.machines before → AddsTokens old.automata.extensions before new.automata.extensions key (indexed g.options ts n))
+    → ((extension : List ℕ) → max_reads (machine_under new.automata.extensions extension) ≤ max_reads (machine_under old.automata.extensions extension) + cond (bytes_eq key extension) (weight g.options ts + 4) 0)
+    → total_reads new.automata.extensions.machines ≤ total_reads old.automata.extensions.machines + (weight g.options ts + 4)
+    → new.automata.by_path ≡ old.automata.by_path → new.automata.by_component ≡ old.automata.by_component → is_direct g.options g.tokens ≡ false
+    → ((folder : List ℕ) → AllBytes folder → AreReportedBelow g.options g.tokens folder ↔ MeanAfter g.options (before_ending g.tokens) (folder_start folder)) → IsSetMatcherOf globs old → IsSetMatcherOf (globs ++ g ∷ []) new
+by_extension_added globs g n key ts old new at keys rest tells needs adds few many by_path component indirect sound_below before =
+    tokens_added globs g n old new before tokens at keys
+    (record {
+      path = subst (λ m. IsFor m before.tokens.by_path) (sym by_path) before.are_for.path;
+      component = subst (λ m. IsFor m before.tokens.by_component) (sym component) before.are_for.component;
+      matchers = now.are_for;
+    })
+    (λ path k. right_more (right_more (by_key path k (cases_Bool (bytes_eq key (component_extension path))))))
+    (λ path. by_size path (cases_Bool (bytes_eq key (component_extension path))))
+    (λ folder bytes. right_more (right_more (as_listed (now.after (folder_start folder))
+    (subst (λ us. AreReportedBelow g.options g.tokens folder ↔ MeanAfter g.options us (folder_start folder)) (sym rest) (sound_below folder bytes)))))
+    (let one = ap max_reads by_path in let maximum = needed_below g indirect in
+    let fewer = weight_before g.options g.tokens in let same = ap (weight g.options) rest in omega (arith, many, one, maximum, fewer, same))
+  where
+    now : AddsTokens old.automata.extensions before.tokens.by_slot new.automata.extensions key (indexed g.options ts n)
+    now = adds before.tokens.by_slot before.are_for.matchers
+
+    tokens : TokenLists
+    tokens = record {
+      by_path = before.tokens.by_path;
+      by_component = before.tokens.by_component;
+      by_slot = now.tokens;
+    }
+
+    by_key : (path : List ℕ) (k : ℕ) → (bytes_eq key (component_extension path) ≡ true) ⊎ (bytes_eq key (component_extension path) ≡ false)
+        → SomeMatches (tokens_under now.tokens new.automata.extensions.matchers (component_extension path)) (before_extension path) k
+        ↔ (SomeMatches (tokens_under before.tokens.by_slot old.automata.extensions.matchers (component_extension path)) (before_extension path) k ⊎ IsNew n g path k)
+    by_key path k h =
+        let e = component_extension path in
+        let text : List ℕ = before_extension path in
+        let was = tokens_under before.tokens.by_slot old.automata.extensions.matchers e in
+        ⊎_elim {C = SomeMatches (tokens_under now.tokens new.automata.extensions.matchers e) text k ↔ (SomeMatches was text k ⊎ IsNew n g path k)}
+        (λ y.
+        let cut : text ++ key ≡ path = ap (λ l. text ++ l) ((bytes_decides key e).0 y) ∙ extension_cut path in
+        subst (λ xs. SomeMatches xs text k ↔ (SomeMatches was text k ⊎ IsNew n g path k)) (sym (now.added e (sym ((bytes_decides key e).0 y))))
+        (some_added (indexed g.options ts n) was g n text path k refl ((tells path).1 text cut ∙ ap (λ us. tokens_match g.options us text) (sym rest))))
+        (λ off. subst (λ xs. SomeMatches xs text k ↔ (SomeMatches was text k ⊎ IsNew n g path k)) (sym (now.others e (λ is. let y = (bytes_decides key e).1 (sym is) in absurd (cc)))) (
+          (λ some. inl some),
+          (λ either. ⊎_elim {C = SomeMatches was text k} (λ some. some) (λ new. let is = (tells path).0 new.1 in let y = (bytes_decides key e).1 (sym is) in absurd (cc)) either),
+        )) h
+
+    by_size : (path : List ℕ) → (bytes_eq key (component_extension path) ≡ true) ⊎ (bytes_eq key (component_extension path) ≡ false)
+        → reads_for new.automata path ≤ reads_for old.automata path + reads g path
+    by_size path h =
+        let e = component_extension path in
+        let one = ap max_reads by_path in let two = ap max_reads component in let maximum = few e in
+        let fewer = weight_before g.options g.tokens in let same = ap (weight g.options) rest in
+        ⊎_elim {C = reads_for new.automata path ≤ reads_for old.automata path + reads g path}
+        (λ y. let run = needed g path (needs path y) in let three = ap (λ b. cond b (weight g.options ts + 4) 0) y in omega (arith, one, two, maximum, run, three, fewer, same))
+        (λ off. let three = ap (λ b. cond b (weight g.options ts + 4) 0) off in omega (arith, one, two, maximum, three)) h
+
+-- ---- no globs
+
+not_in_none : (xs : List ℕ) (k : ℕ) → xs ≡ [] → Contains xs k → ⊥
+not_in_none xs k e (i, lt, is) = let n = ap length e in omega (arith, lt, n)
+
+none_listed : (path : List ℕ) (k : ℕ) → IsTrue (is_reported_at [] path k) → ⊥
+none_listed path zero h = absurd (cc)
+none_listed path (suc k) h = absurd (cc)
+
+none_below : (folder : List ℕ) → SomeReportedBelow [] folder → ⊥
+none_below folder (rest, bytes, some) = let (k, at) = (some_listed [] (path_below folder rest)).0 some in none_listed (path_below folder rest) k at
+
+pub no_globs : (keys : KeyParts) (a : AutomataParts) → ((path : List ℕ) → keys_found keys path ≡ []) → ((folder : List ℕ) → MatchesBelow keys folder → ⊥) → IsFor a.by_path [] → IsFor a.by_component [] → a.extensions.matchers ≡ [] → a.extensions.machines ≡ []
+    → max_reads a.by_path ≡ 0 → max_reads a.by_component ≡ 0 → max_reads a.extensions.none ≡ 0 → IsSetMatcherOf [] (set_matcher_parts keys a)
+no_globs keys a nil no_folder path component matchers machines path_reads component_reads none_reads = record {
+  tokens = record { by_path = []; by_component = []; by_slot = λ s. [] };
+  are_for = record {
+    path = path;
+    component = component;
+    matchers = subst (λ ms. AreFor ms (λ s. [])) (sym machines) (λ s d lt. absurd (omega (arith, lt)));
+  };
+  same = λ path k. (
+    λ h. absurd (⊎_elim {C = ⊥} (λ key. not_in_none (keys_found keys path) k (nil path) key)
+        (λ some. ⊎_elim {C = ⊥} (λ none. none) (λ later. ⊎_elim {C = ⊥} (λ none. none)
+        (λ under. subst (λ es. SomeMatches (tokens_under (λ s. []) es (component_extension path)) (before_extension path) k) matchers under) later) some) h),
+    λ h. absurd (none_listed path k h),
+  );
+  once = λ path. let none = ap length (nil path) in omega (arith, none);
+  reads = λ path. let e = ap (λ es. option_map_or (λ s. get_or a.extensions.machines s a.extensions.none) (first (indexes_under es (component_extension path))) a.extensions.none) matchers in
+      let last = ap max_reads e in omega (arith, path_reads, component_reads, none_reads, last);
+  below = λ folder bytes. (
+    λ h. absurd (⊎_elim {C = ⊥} (λ key. no_folder folder key)
+        (λ some. ⊎_elim {C = ⊥} (λ none. none) (λ later. ⊎_elim {C = ⊥} (λ none. none) (λ slot. slot.2) later) some) h),
+    λ h. absurd (none_below folder h),
+  );
+  few_below = let all = ap total_reads machines in omega (arith, path_reads, all);
+}

@@ -1,0 +1,14 @@
+-- Set matchers and their builders as contracts see them.
+use Rattle.std.specs.Prelude.{ℕ, List}
+use Rattle.set_matcher.specs.Globs.{FlatGlob, TokenGlob, token_globs}
+
+-- The globs, in the order in which they were added; the number that each index is below, which is how many globs may be added;
+-- and the number of states of the largest automaton.
+pub record SetMatcherValue : Type 0 where
+  pub given : List FlatGlob
+  pub index_count : ℕ
+  pub states : ℕ
+
+-- the globs by their tokens
+abbrev pub matcher_globs : SetMatcherValue → List TokenGlob
+matcher_globs g = token_globs g.given

@@ -1,0 +1,5 @@
+pub mod Automata
+pub mod GivenGlobs
+pub mod GivenTokens
+pub mod SetMatcher
+pub mod Capacity

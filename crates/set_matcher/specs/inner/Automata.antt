@@ -1,0 +1,154 @@
+-- Automata of tokens, for the globs that no key decides.
+use Rattle.std.specs.Prelude.{◌≡◌, ◌≢◌, ◌⊎◌, ◌↔◌, ℕ, ◌+◌, ◌-◌, ◌<◌, ◌≤◌, max, Bool, IsTrue, List, [], ◌∷◌, ◌++◌, Option, Some, length, get_or, slice_get, sum_by, take}
+use Rattle.std.specs.Option.{option_map_or}
+use Rattle.byte_nfa.specs.Live.{MatchesAfter}
+use Rattle.byte_nfa.specs.Steps.{IsIn, Machine}
+use Rattle.byte_nfa.specs.Runs.{size, max_reads}
+use Rattle.bit_sets.specs.Indexes.{has_index, index_capacity}
+use Rattle.bit_sets.specs.declared.index_set.IndexSet.{IndexSet}
+use Rattle.byte_table.specs.Entries.{Entry, indexes_under}
+use Rattle.glob_nfa.specs.After.{MeanAfter, SomeMeanAfter}
+use Rattle.glob_nfa.specs.IndexedTokens.{IndexedTokens, SomeMatches, IsFor}
+use Rattle.glob_path.specs.Below.{folder_start}
+use Rattle.glob_path.specs.PathParts.{last_component, component_extension}
+
+-- ---- automata for globs that match only paths with one extension
+
+-- the first of some indexes
+abbrev pub first : List ℕ → Option ℕ
+first indexes = slice_get indexes 0
+
+-- For each such extension its slot, which is the position of an automaton; and an automaton without states for the others.
+pub record ExtensionParts : Type 0 where
+  pub matchers : List Entry
+  pub machines : List Machine
+  pub none : Machine
+  pub index_count : ℕ
+
+-- the slot of an extension, if it has one
+abbrev pub slot_of : List Entry → List ℕ → Option ℕ
+slot_of matchers extension = first (indexes_under matchers extension)
+
+-- what is true of the parts of each such value
+pub record AreExtensionMatchers (matchers : List Entry) (machines : List Machine) (none : Machine) (n : ℕ) : Type 0 where
+  -- each slot is a position of an automaton
+  pub held : (extension : List ℕ) (s : ℕ) → IsIn s (indexes_under matchers extension) → s < length machines
+  -- no two extensions have the same slot
+  pub apart : (a b : List ℕ) (s : ℕ) → slot_of matchers a ≡ Some s → slot_of matchers b ≡ Some s → a ≡ b
+  -- each automaton names indexes below n
+  pub counted : (s : ℕ) (d : Machine) → s < length machines → (get_or machines s d).index_count ≡ n
+  pub none_counted : none.index_count ≡ n
+  -- the automaton for the others has no states
+  pub empty : max_reads none ≡ 0
+  pub for_none : IsFor none []
+
+-- each automaton is for the tokens of its slot
+abbrev pub AreFor : List Machine → (ℕ → List IndexedTokens) → Type 0
+AreFor machines tokens = (s : ℕ) (d : Machine) → s < length machines → IsFor (get_or machines s d) (tokens s)
+
+-- the tokens of an extension, or none if it has no slot
+abbrev pub tokens_under : (ℕ → List IndexedTokens) → List Entry → List ℕ → List IndexedTokens
+tokens_under tokens matchers extension = option_map_or tokens (slot_of matchers extension) []
+
+-- the automaton of an extension; one without states if it has no slot
+abbrev pub machine_under : ExtensionParts → List ℕ → Machine
+machine_under e extension = option_map_or (λ s. get_or e.machines s e.none) (slot_of e.matchers extension) e.none
+
+-- the tokens of one of the first n slots match some text that begins with y
+abbrev pub SomeExtensionAfter : ℕ → (ℕ → List IndexedTokens) → List ℕ → Type 0
+SomeExtensionAfter n tokens y = (s : ℕ) × (s < n) × SomeMeanAfter (tokens s) y
+
+-- the most reads of all automata at a position of a text
+abbrev pub total_reads : List Machine → ℕ
+total_reads machines = sum_by max_reads machines
+
+-- each extension has the tokens that it had, and no slot has others
+pub record KeepsTokens (old : ExtensionParts) (before : ℕ → List IndexedTokens) (new : ExtensionParts) : Type 0 where
+  pub tokens : ℕ → List IndexedTokens
+  pub are_for : AreFor new.machines tokens
+  pub same : (extension : List ℕ) → tokens_under tokens new.matchers extension ≡ tokens_under before old.matchers extension
+  pub after : (y : List ℕ) → SomeExtensionAfter (length new.machines) tokens y ↔ SomeExtensionAfter (length old.machines) before y
+
+-- one extension has these tokens in addition, and the others have those that they had; so it is with all slots together
+pub record AddsTokens (old : ExtensionParts) (before : ℕ → List IndexedTokens) (new : ExtensionParts) (key : List ℕ) (x : IndexedTokens) : Type 0 where
+  pub tokens : ℕ → List IndexedTokens
+  pub are_for : AreFor new.machines tokens
+  pub added : (extension : List ℕ) → (extension ≡ key) → tokens_under tokens new.matchers extension ≡ tokens_under before old.matchers extension ++ x ∷ []
+  pub others : (extension : List ℕ) → (extension ≢ key) → tokens_under tokens new.matchers extension ≡ tokens_under before old.matchers extension
+  pub after : (y : List ℕ) → SomeExtensionAfter (length new.machines) tokens y ↔ (SomeExtensionAfter (length old.machines) before y ⊎ MeanAfter x.options x.tokens y)
+
+-- ---- all of them
+
+-- automata that are run on the whole path, on its last component, and before its extension
+pub record AutomataParts : Type 0 where
+  pub by_path : Machine
+  pub by_component : Machine
+  pub extensions : ExtensionParts
+
+-- the number of states of the largest of some automata
+abbrev pub max_size : List Machine → ℕ
+max_size [] = 0
+max_size (m ∷ ms) = max (size m) (max_size ms)
+
+-- the number of states of the largest of all of them
+abbrev pub max_states : AutomataParts → ℕ
+max_states a = max (max (size a.by_path) (size a.by_component)) (max_size a.extensions.machines)
+
+-- the number that each index is below is the same for all of them
+pub record HaveOneCount (by_path by_component : Machine) (extensions : ExtensionParts) : Type 0 where
+  pub of_path : by_path.index_count ≡ extensions.index_count
+  pub of_component : by_component.index_count ≡ extensions.index_count
+
+-- and the largest of them has so many states, and whether some text leads to an end of the one for last components
+pub record AreMeasured (by_path by_component : Machine) (extensions : ExtensionParts) (maximum : ℕ) (has_component : Bool) : Type 0 where
+  pub counts : HaveOneCount by_path by_component extensions
+  pub largest : maximum ≡ max_states (record { by_path = by_path; by_component = by_component; extensions = extensions })
+  pub component : IsTrue has_component ↔ MatchesAfter by_component []
+
+-- the tokens that automata are for
+pub record TokenLists : Type 0 where
+  pub by_path : List IndexedTokens
+  pub by_component : List IndexedTokens
+  pub by_slot : ℕ → List IndexedTokens
+
+pub record AreForLists (a : AutomataParts) (t : TokenLists) : Type 0 where
+  pub path : IsFor a.by_path t.by_path
+  pub component : IsFor a.by_component t.by_component
+  pub matchers : AreFor a.extensions.machines t.by_slot
+
+-- the bytes of a path before the extension of its last component
+abbrev pub before_extension : List ℕ → List ℕ
+before_extension path = take (length path - length (component_extension path)) path
+
+-- tokens of the index k match the part of the path that they are run on
+abbrev pub AreFound : List Entry → TokenLists → List ℕ → ℕ → Type 0
+AreFound matchers t path k =
+    SomeMatches t.by_path path k ⊎ (SomeMatches t.by_component (last_component path) k ⊎ SomeMatches (tokens_under t.by_slot matchers (component_extension path)) (before_extension path) k)
+
+-- Tokens match the part that they are run on of some path below the folder: the last component may be any text, whatever the
+-- folder is, and so may the extension, before which the path still has the folder and its `/`.
+abbrev pub AreFoundBelow : ExtensionParts → TokenLists → List ℕ → Type 0
+AreFoundBelow e t folder = SomeMeanAfter t.by_component [] ⊎ (SomeMeanAfter t.by_path (folder_start folder) ⊎ SomeExtensionAfter (length e.machines) t.by_slot (folder_start folder))
+
+-- the states that are run for a path
+abbrev pub states_for : AutomataParts → List ℕ → ℕ
+states_for a path = size a.by_path + (size a.by_component + size (machine_under a.extensions (component_extension path)))
+
+-- the most reads at a position of a path
+abbrev pub reads_for : AutomataParts → List ℕ → ℕ
+reads_for a path = max_reads a.by_path + (max_reads a.by_component + max_reads (machine_under a.extensions (component_extension path)))
+
+-- the most reads at a position of a folder
+abbrev pub folder_reads : AutomataParts → ℕ
+folder_reads a = max_reads a.by_path + total_reads a.extensions.machines
+
+-- No state is run for a path, and nothing is found.
+pub record AreIdle (a : AutomataParts) (path : List ℕ) : Type 0 where
+  pub size : states_for a path ≡ 0
+  pub none : (t : TokenLists) → AreForLists a t → (k : ℕ) → AreFound a.extensions.matchers t path k → ⊥
+
+-- Some state is run for a path. The set has the indexes that are found, and room for every index.
+pub record IsFoundSet (a : AutomataParts) (path : List ℕ) (found : IndexSet) : Type 0 where
+  pub size : 1 ≤ states_for a path
+  pub room : a.extensions.index_count ≤ index_capacity found
+  pub same : (t : TokenLists) → AreForLists a t → (k : ℕ) → IsTrue (has_index found k) ↔ AreFound a.extensions.matchers t path k

@@ -1,0 +1,38 @@
+-- What is stored to tell which globs of a list match a path.
+use Rattle.std.specs.Prelude.{◌≡◌, ◌↔◌, ◌⊎◌, ℕ, ◌≤◌, List, Contains, cond, length, sum_by, IsTrue}
+use Rattle.set_matcher.specs.Globs.{FlatGlob, TokenGlob, is_reported, is_reported_at, load, token_globs}
+use Rattle.byte_nfa.specs.Texts.{AllBytes}
+use Rattle.set_matcher.specs.Below.{SomeReportedBelow, load_below}
+use Rattle.literal_index.specs.Below.{MatchesBelow}
+use Rattle.literal_index.specs.LiteralIndex.{KeyParts, keys_found}
+use Rattle.set_matcher.specs.inner.Automata.{AutomataParts, TokenLists, AreForLists, AreFound, AreFoundBelow, folder_reads, reads_for}
+
+-- the keys of globs, and automata for the globs without one
+pub record SetMatcherParts : Type 0 where
+  pub keys : KeyParts
+  pub automata : AutomataParts
+
+abbrev pub set_matcher_parts : KeyParts → AutomataParts → SetMatcherParts
+set_matcher_parts keys automata = record { keys = keys; automata = automata }
+
+-- how many globs are reported for a path
+abbrev pub listed_count : List TokenGlob → List ℕ → ℕ
+listed_count globs path = sum_by (λ g. cond (is_reported g path) 1 0) globs
+
+-- For each path the indexes that are found are those of the globs of the list that are not excluded and match the path. Keys
+-- find each index at most once. The reads are for globs that need an automaton. So it is with the paths below a folder.
+pub record IsSetMatcherOf (globs : List TokenGlob) (g : SetMatcherParts) : Type 0 where
+  pub tokens : TokenLists
+  pub are_for : AreForLists g.automata tokens
+  pub same : (path : List ℕ) (k : ℕ) → (Contains (keys_found g.keys path) k ⊎ AreFound g.automata.extensions.matchers tokens path k) ↔ IsTrue (is_reported_at globs path k)
+  pub once : (path : List ℕ) → length (keys_found g.keys path) ≤ listed_count globs path
+  pub reads : (path : List ℕ) → reads_for g.automata path ≤ load globs path
+  pub below : (folder : List ℕ) → AllBytes folder → (MatchesBelow g.keys folder ⊎ AreFoundBelow g.automata.extensions tokens folder) ↔ SomeReportedBelow globs folder
+  pub few_below : folder_reads g.automata ≤ load_below globs
+
+-- What is true of the parts of each such value: they are a matcher of the globs, of which there are so many, and automata have
+-- an index for each.
+pub record IsMatcherOf (given : List FlatGlob) (len : ℕ) (keys : KeyParts) (automata : AutomataParts) : Type 0 where
+  pub matcher : IsSetMatcherOf (token_globs given) (set_matcher_parts keys automata)
+  pub counted : len ≡ length given
+  pub indexed : len ≤ automata.extensions.index_count

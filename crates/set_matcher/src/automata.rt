@@ -1,0 +1,491 @@
+//! Globs that no text decides: automata of their tokens.
+
+ghost use Rattle.std.specs.Prelude.{◌≡◌, ◌+◌, ◌*◌, ◌<◌, ◌≤◌, ◌++◌, ◌∷◌, ◌↔◌, ◌⊎◌, [], ℕ, List, length, true, false, IsTrue, IsOk, OnOk, IfOk, cond};
+ghost use Rattle.std.specs.Str.{bytes_eq};
+ghost use Rattle.byte_nfa.specs.Runs.{size, max_reads};
+ghost use Rattle.bit_sets.specs.Indexes.{has_index, index_capacity};
+ghost use Rattle.byte_nfa.specs.Sets.{sets_capacity};
+ghost use Rattle.glob_nfa.specs.IndexedTokens.{IndexedTokens, IsFor, SomeMatches, indexed};
+ghost use Rattle.glob_path.specs.PathParts.{component_extension, last_component};
+ghost use Rattle.glob_syntax.specs.FlatTokens.{IsNested};
+ghost use Rattle.glob_syntax.specs.Views.{flats, tokens_of};
+ghost use Rattle.glob_syntax.specs.inner.Weight.{weight};
+ghost use Rattle.set_matcher.specs.inner.Capacity.{HasCapacity, KeepsCapacity};
+ghost use Rattle.set_matcher.specs.inner.Automata.{AddsTokens, AreFor, AreForLists, AreFound, AreIdle, IsFoundSet, TokenLists, before_extension, machine_under, max_size, max_states, reads_for, states_for, tokens_under, total_reads};
+
+mod below;
+mod matchers;
+
+use crate::matching_sets::MatchingSets;
+use below::has_text;
+use byte_nfa::{Builder, StateSets};
+use glob_matching::{Budget, Compiled};
+use glob_nfa::{add_tokens, new_builder};
+use glob_path::{Candidate, component_extension_of, last_component_of};
+use glob_syntax::{Options, Token};
+use matchers::{ExtensionMatchers, ExtensionMatchersBuilder};
+use std::alloc::{AllocError, Global};
+use std::marker::Model;
+use visits::Visits;
+
+/// Automata for globs, by the part of a path that they are run on: the whole path, its last component, or the whole path if its
+/// last component has some extension.
+pub struct Automata {
+    by_path: Compiled,
+    by_component: Compiled,
+    extensions: ExtensionMatchers,
+    /// The number of states of the largest of them.
+    max_states: usize,
+    /// Whether some text matches tokens of `by_component`.
+    has_component: bool,
+}
+
+impl Drop for Automata {
+    // One call wherever a value is dropped, which keeps proofs short.
+    fn drop(self) {
+        let Automata {
+            by_path: _,
+            by_component: _,
+            extensions: _,
+            max_states: _,
+            has_component: _,
+        } = self;
+    }
+}
+
+impl Model for Automata {
+    ghost use Rattle.set_matcher.specs.inner.Automata.{AutomataParts, AreMeasured};
+
+    ghost Value = { AutomataParts };
+
+    ghost view = { λ a. record {
+      by_path = a.by_path;
+      by_component = a.by_component;
+      extensions = a.extensions;
+    } };
+
+    ghost invariant = { λ a. AreMeasured a.by_path a.by_component a.extensions a.max_states a.has_component };
+}
+
+impl Clone for Automata {
+    ghost use Rattle.std.specs.Prelude.{◌≡◌};
+
+    ghost is_clone = { λ a b. b ≡ a };
+
+    /// Returns a copy. Returns an error if memory runs out.
+    fn clone(&self) -> Result<Automata, AllocError> {
+        Ok(Automata {
+            by_path: self.by_path.clone()?,
+            by_component: self.by_component.clone()?,
+            extensions: self.extensions.clone()?,
+            max_states: self.max_states,
+            has_component: self.has_component,
+        })
+    }
+}
+
+impl Automata {
+    /// Returns the number that each index is below.
+    pub fn index_count(&self) -> usize
+        ensures { result ≡ self.now.extensions.index_count }
+    {
+        self.extensions.index_count()
+    }
+
+    /// Returns the number of states of the largest automaton.
+    pub fn max_states(&self) -> usize
+        ensures { result ≡ max_states self.now }
+    {
+        self.max_states
+    }
+
+    /// Returns how many bytes the deterministic parts of automata take. It takes time linear in the number of these parts.
+    pub fn table_bytes(&self) -> usize {
+        self.by_path
+            .table_bytes()
+            .saturating_add(self.by_component.table_bytes())
+            .saturating_add(self.extensions.table_bytes())
+    }
+
+    /// Marks the indexes of the globs that match the path, and no others. Returns an error if memory runs out.
+    pub fn mark(
+        &self,
+        path: &[u8],
+        sets: &mut MatchingSets,
+        visits: &mut Visits,
+    ) -> Result<(), AllocError>
+        ensures room { OnOk result (self.now.extensions.index_count ≤ index_capacity sets.new.marks) }
+        ensures marked { OnOk result ((t : TokenLists) → AreForLists self.now t → (k : ℕ) → IsTrue (has_index sets.new.marks k) ↔ AreFound self.now.extensions.matchers t path.now k) }
+        ensures kept { KeepsCapacity sets.old sets.new }
+        ensures memory { HasCapacity sets.old (max_states self.now) self.now.extensions.index_count → IsOk result }
+        ensures visits { visits.new ≤ visits.old + (1 + (length path.now + 1) * reads_for self.now path.now) }
+        ensures counted { visits.old ≤ visits.new }
+    {
+        if self.find(path, sets, visits)? {
+            return Ok(());
+        }
+        sets.clear_marks(self.index_count())
+    }
+
+    /// Returns whether an automaton has to be run, and if so, marks the indexes of the globs that match the path, and no others. If
+    /// not, no glob matches, and the sets stay as they are.
+    ///
+    /// The sets get room for each index, and for each state of a part that is simulated. Returns an error if memory runs out.
+    pub fn find(
+        &self,
+        path: &[u8],
+        sets: &mut MatchingSets,
+        visits: &mut Visits,
+    ) -> Result<bool, AllocError>
+        ensures found { IfOk result (λ some. some ≡ true → IsFoundSet self.now path.now sets.new.marks) }
+        ensures idle { IfOk result (λ some. some ≡ false → AreIdle self.now path.now) }
+        ensures kept { KeepsCapacity sets.old sets.new }
+        ensures memory { states_for self.now path.now ≡ 0 → IsOk result }
+        ensures room { HasCapacity sets.old (max_states self.now) self.now.extensions.index_count → IsOk result }
+        ensures visits { visits.new ≤ visits.old + (1 + (length path.now + 1) * reads_for self.now path.now) }
+        ensures counted { visits.old ≤ visits.new }
+    {
+        let by_extension = self.by_extension(&Candidate::from_bytes(path), visits);
+        if self.is_idle(by_extension) {
+            return Ok(false);
+        }
+        sets.clear_marks(self.index_count())?;
+        run_by_path(&self.by_path, path, sets, visits)?;
+        run_by_component(&self.by_component, path, sets, visits)?;
+        run_by_extension(by_extension, path, sets, visits)?;
+        Ok(true)
+    }
+
+    /// Returns whether some glob matches the path.
+    ///
+    /// The sets get room for each state of a part that is simulated. Returns an error if memory runs out.
+    pub fn is_match(
+        &self,
+        path: &Candidate<'_>,
+        sets: &mut StateSets,
+        visits: &mut Visits,
+    ) -> Result<bool, AllocError>
+        ensures some { IfOk result (λ yes. (t : TokenLists) → AreForLists self.now t → IsTrue yes ↔ ((k : ℕ) × AreFound self.now.extensions.matchers t path.now k)) }
+        ensures kept { sets_capacity sets.old ≤ sets_capacity sets.new }
+        ensures memory { states_for self.now path.now ≡ 0 → IsOk result }
+        ensures room { max_states self.now ≤ sets_capacity sets.old → IsOk result }
+        ensures visits { visits.new ≤ visits.old + (1 + (length path.now + 1) * reads_for self.now path.now) }
+        ensures counted { visits.old ≤ visits.new }
+    {
+        if is_match_by_path(&self.by_path, path.path(), sets, visits)? {
+            return Ok(true);
+        }
+        if is_match_by_component(&self.by_component, path.path(), sets, visits)? {
+            return Ok(true);
+        }
+        let by_extension = self.by_extension(path, visits);
+        is_match_by_extension(by_extension, path.path(), sets, visits)
+    }
+
+    /// Returns the automaton of the extension of the path's last component, or one without states if it has none. The extension
+    /// is only searched for if some extension has an automaton.
+    fn by_extension(&self, path: &Candidate<'_>, visits: &mut Visits) -> &Compiled
+        ensures automaton { result.now ≡ machine_under self.now.extensions (component_extension path.now) }
+        ensures maximum { size result.now ≤ max_size self.now.extensions.machines }
+        ensures count { result.now.index_count ≡ self.now.extensions.index_count }
+        ensures tokens { (by_slot : ℕ → List IndexedTokens) → AreFor self.now.extensions.machines by_slot → IsFor result.now (tokens_under by_slot self.now.extensions.matchers (component_extension path.now)) }
+        ensures visits { visits.new ≤ visits.old + 1 }
+        ensures counted { visits.old ≤ visits.new }
+    {
+        if self.extensions.is_empty() {
+            return self.extensions.none();
+        }
+        self.extensions
+            .automaton_of(component_extension_of(path), visits)
+    }
+
+    /// Returns whether there are no states, in the automaton of an extension either.
+    fn is_idle(&self, by_extension: &Compiled) -> bool
+        ensures { IsTrue result ↔ (size self.now.by_path + (size self.now.by_component + size by_extension.now) ≡ 0) }
+    {
+        self.by_path.state_count() == 0
+            && self.by_component.state_count() == 0
+            && by_extension.state_count() == 0
+    }
+}
+
+/// Marks the indexes of the globs that the whole path matches, beside those that are marked.
+fn run_by_path(
+    automaton: &Compiled,
+    path: &[u8],
+    sets: &mut MatchingSets,
+    visits: &mut Visits,
+) -> Result<(), AllocError>
+    requires { automaton.now.index_count ≤ index_capacity sets.old.marks }
+    ensures found { OnOk result ((xs : List IndexedTokens) → IsFor automaton.now xs → (k : ℕ) → IsTrue (has_index sets.new.marks k) ↔ (SomeMatches xs path.now k ⊎ IsTrue (has_index sets.old.marks k))) }
+    ensures kept { KeepsCapacity sets.old sets.new }
+    ensures memory { size automaton.now ≤ sets_capacity sets.old.states → IsOk result }
+    ensures visits { visits.new ≤ visits.old + (length path.now + 1) * max_reads automaton.now }
+    ensures counted { visits.old ≤ visits.new }
+{
+    if automaton.state_count() == 0 {
+        return Ok(());
+    }
+    automaton.find(path, &mut sets.states, &mut sets.marks, visits)
+}
+
+/// Returns whether the whole path matches tokens.
+fn is_match_by_path(
+    automaton: &Compiled,
+    path: &[u8],
+    sets: &mut StateSets,
+    visits: &mut Visits,
+) -> Result<bool, AllocError>
+    ensures some { IfOk result (λ yes. (xs : List IndexedTokens) → IsFor automaton.now xs → IsTrue yes ↔ ((k : ℕ) × SomeMatches xs path.now k)) }
+    ensures kept { sets_capacity sets.old ≤ sets_capacity sets.new }
+    ensures memory { size automaton.now ≤ sets_capacity sets.old → IsOk result }
+    ensures visits { visits.new ≤ visits.old + (length path.now + 1) * max_reads automaton.now }
+    ensures counted { visits.old ≤ visits.new }
+{
+    if automaton.state_count() == 0 {
+        return Ok(false);
+    }
+    automaton.is_match(path, sets, visits)
+}
+
+/// Marks the indexes of the globs that the path's last component matches, beside those that are marked. The component is only
+/// searched for if there are states.
+fn run_by_component(
+    automaton: &Compiled,
+    path: &[u8],
+    sets: &mut MatchingSets,
+    visits: &mut Visits,
+) -> Result<(), AllocError>
+    requires { automaton.now.index_count ≤ index_capacity sets.old.marks }
+    ensures found { OnOk result ((xs : List IndexedTokens) → IsFor automaton.now xs → (k : ℕ) → IsTrue (has_index sets.new.marks k) ↔ (SomeMatches xs (last_component path.now) k ⊎ IsTrue (has_index sets.old.marks k))) }
+    ensures kept { KeepsCapacity sets.old sets.new }
+    ensures memory { size automaton.now ≤ sets_capacity sets.old.states → IsOk result }
+    ensures visits { visits.new ≤ visits.old + (length path.now + 1) * max_reads automaton.now }
+    ensures counted { visits.old ≤ visits.new }
+{
+    if automaton.state_count() == 0 {
+        return Ok(());
+    }
+    let component = last_component_of(&Candidate::from_bytes(path));
+    automaton.find(component, &mut sets.states, &mut sets.marks, visits)
+}
+
+/// Returns whether the path's last component matches tokens. It is only searched for if there are states.
+fn is_match_by_component(
+    automaton: &Compiled,
+    path: &[u8],
+    sets: &mut StateSets,
+    visits: &mut Visits,
+) -> Result<bool, AllocError>
+    ensures some { IfOk result (λ yes. (xs : List IndexedTokens) → IsFor automaton.now xs → IsTrue yes ↔ ((k : ℕ) × SomeMatches xs (last_component path.now) k)) }
+    ensures kept { sets_capacity sets.old ≤ sets_capacity sets.new }
+    ensures memory { size automaton.now ≤ sets_capacity sets.old → IsOk result }
+    ensures visits { visits.new ≤ visits.old + (length path.now + 1) * max_reads automaton.now }
+    ensures counted { visits.old ≤ visits.new }
+{
+    if automaton.state_count() == 0 {
+        return Ok(false);
+    }
+    let component = last_component_of(&Candidate::from_bytes(path));
+    automaton.is_match(component, sets, visits)
+}
+
+/// Marks the indexes of the globs whose tokens match the path before its extension, beside those that are marked. The extension
+/// is only searched for if there are states.
+fn run_by_extension(
+    automaton: &Compiled,
+    path: &[u8],
+    sets: &mut MatchingSets,
+    visits: &mut Visits,
+) -> Result<(), AllocError>
+    requires { automaton.now.index_count ≤ index_capacity sets.old.marks }
+    ensures found { OnOk result ((xs : List IndexedTokens) → IsFor automaton.now xs → (k : ℕ) → IsTrue (has_index sets.new.marks k) ↔ (SomeMatches xs (before_extension path.now) k ⊎ IsTrue (has_index sets.old.marks k))) }
+    ensures kept { KeepsCapacity sets.old sets.new }
+    ensures memory { size automaton.now ≤ sets_capacity sets.old.states → IsOk result }
+    ensures visits { visits.new ≤ visits.old + (length path.now + 1) * max_reads automaton.now }
+    ensures counted { visits.old ≤ visits.new }
+{
+    if automaton.state_count() == 0 {
+        return Ok(());
+    }
+    let text = before_extension(path);
+    automaton.find(text, &mut sets.states, &mut sets.marks, visits)
+}
+
+/// Returns whether the path before its extension matches tokens. The extension is only searched for if there are states.
+fn is_match_by_extension(
+    automaton: &Compiled,
+    path: &[u8],
+    sets: &mut StateSets,
+    visits: &mut Visits,
+) -> Result<bool, AllocError>
+    ensures some { IfOk result (λ yes. (xs : List IndexedTokens) → IsFor automaton.now xs → IsTrue yes ↔ ((k : ℕ) × SomeMatches xs (before_extension path.now) k)) }
+    ensures kept { sets_capacity sets.old ≤ sets_capacity sets.new }
+    ensures memory { size automaton.now ≤ sets_capacity sets.old → IsOk result }
+    ensures visits { visits.new ≤ visits.old + (length path.now + 1) * max_reads automaton.now }
+    ensures counted { visits.old ≤ visits.new }
+{
+    if automaton.state_count() == 0 {
+        return Ok(false);
+    }
+    let text = before_extension(path);
+    automaton.is_match(text, sets, visits)
+}
+
+/// Returns the bytes of a path before the extension of its last component.
+fn before_extension(path: &[u8]) -> &[u8]
+    ensures { result.now ≡ before_extension path.now }
+{
+    let extension = component_extension_of(&Candidate::from_bytes(path));
+    let end = path.len() - extension.len();
+    &path[..end]
+}
+
+/// Makes [`Automata`].
+pub struct AutomataBuilder {
+    by_path: Builder,
+    by_component: Builder,
+    extensions: ExtensionMatchersBuilder,
+}
+
+impl Drop for AutomataBuilder {
+    // One call wherever a value is dropped, which keeps proofs short.
+    fn drop(self) {
+        let AutomataBuilder {
+            by_path: _,
+            by_component: _,
+            extensions: _,
+        } = self;
+    }
+}
+
+impl Model for AutomataBuilder {
+    ghost use Rattle.set_matcher.specs.inner.Automata.{AutomataParts, HaveOneCount};
+
+    ghost Value = { AutomataParts };
+
+    ghost view = { λ a. record {
+      by_path = a.by_path;
+      by_component = a.by_component;
+      extensions = a.extensions;
+    } };
+
+    ghost invariant = { λ a. HaveOneCount a.by_path a.by_component a.extensions };
+}
+
+impl AutomataBuilder {
+    /// Returns a builder that nothing was added to. Indexes have to be below `index_count`. It allocates nothing.
+    pub fn new(alloc: Global, index_count: usize) -> AutomataBuilder
+        ensures path { IsFor result.by_path [] }
+        ensures component { IsFor result.by_component [] }
+        ensures matchers { result.extensions.matchers ≡ [] }
+        ensures machines { result.extensions.machines ≡ [] }
+        ensures none { max_reads result.extensions.none ≡ 0 }
+        ensures count { result.extensions.index_count ≡ index_count }
+        ensures path_reads { max_reads result.by_path ≡ 0 }
+        ensures component_reads { max_reads result.by_component ≡ 0 }
+    {
+        AutomataBuilder {
+            by_path: new_builder(alloc, index_count),
+            by_component: new_builder(alloc, index_count),
+            extensions: ExtensionMatchersBuilder::new(alloc, index_count),
+        }
+    }
+
+    /// Returns the number that each index is below.
+    pub fn index_count(&self) -> usize
+        ensures { result ≡ self.now.extensions.index_count }
+    {
+        self.extensions.index_count()
+    }
+
+    /// Adds tokens that the whole path has to match. It takes time and memory linear in the tokens. Returns an error if memory
+    /// runs out.
+    pub fn add_by_path(
+        &mut self,
+        alloc: Global,
+        options: Options,
+        tokens: &[Token],
+        index: usize,
+    ) -> Result<(), AllocError>
+        requires nested { IsNested (flats tokens.now) }
+        requires index { index < self.old.extensions.index_count }
+        ensures tokens { OnOk result ((xs : List IndexedTokens) → IsFor self.old.by_path xs → IsFor self.new.by_path (xs ++ indexed options (tokens_of tokens.now) index ∷ [])) }
+        ensures reads { OnOk result (max_reads self.new.by_path ≤ max_reads self.old.by_path + (weight options (tokens_of tokens.now) + 4)) }
+        ensures component { self.new.by_component ≡ self.old.by_component }
+        ensures extensions { self.new.extensions ≡ self.old.extensions }
+    {
+        add_tokens(alloc, &mut self.by_path, options, tokens, index)
+    }
+
+    /// Adds tokens that the last component of a path has to match. It takes time and memory linear in the tokens. Returns an
+    /// error if memory runs out.
+    pub fn add_by_component(
+        &mut self,
+        alloc: Global,
+        options: Options,
+        tokens: &[Token],
+        index: usize,
+    ) -> Result<(), AllocError>
+        requires nested { IsNested (flats tokens.now) }
+        requires index { index < self.old.extensions.index_count }
+        ensures tokens { OnOk result ((xs : List IndexedTokens) → IsFor self.old.by_component xs → IsFor self.new.by_component (xs ++ indexed options (tokens_of tokens.now) index ∷ [])) }
+        ensures reads { OnOk result (max_reads self.new.by_component ≤ max_reads self.old.by_component + (weight options (tokens_of tokens.now) + 4)) }
+        ensures path { self.new.by_path ≡ self.old.by_path }
+        ensures extensions { self.new.extensions ≡ self.old.extensions }
+    {
+        add_tokens(alloc, &mut self.by_component, options, tokens, index)
+    }
+
+    /// Adds tokens that a path has to match whose last component has an extension. It takes time and memory linear in the
+    /// tokens. Returns an error if memory runs out.
+    pub fn add_by_extension(
+        &mut self,
+        alloc: Global,
+        key: Vec<u8>,
+        options: Options,
+        tokens: &[Token],
+        index: usize,
+    ) -> Result<(), AllocError>
+        requires nested { IsNested (flats tokens.now) }
+        requires index { index < self.old.extensions.index_count }
+        ensures tokens { OnOk result ((before : ℕ → List IndexedTokens) → AreFor self.old.extensions.machines before → AddsTokens self.old.extensions before self.new.extensions key.items (indexed options (tokens_of tokens.now) index)) }
+        ensures reads { OnOk result ((extension : List ℕ) → max_reads (machine_under self.new.extensions extension) ≤ max_reads (machine_under self.old.extensions extension) + cond (bytes_eq key.items extension) (weight options (tokens_of tokens.now) + 4) 0) }
+        ensures total { OnOk result (total_reads self.new.extensions.machines ≤ total_reads self.old.extensions.machines + (weight options (tokens_of tokens.now) + 4)) }
+        ensures count { self.new.extensions.index_count ≡ self.old.extensions.index_count }
+        ensures path { self.new.by_path ≡ self.old.by_path }
+        ensures component { self.new.by_component ≡ self.old.by_component }
+    {
+        self.extensions
+            .add_tokens(alloc, key, options, tokens, index)
+    }
+
+    /// Returns what was added. The tables of deterministic automata take at most `dfa_size_limit` bytes. Returns an error if
+    /// memory runs out.
+    pub fn finish(self, alloc: Global, dfa_size_limit: usize) -> Result<Automata, AllocError>
+        ensures { IfOk result (λ automata. automata ≡ self) }
+    {
+        let AutomataBuilder {
+            by_path,
+            by_component,
+            extensions,
+        } = self;
+        let mut budget = Budget::new(dfa_size_limit);
+        let by_path = Compiled::new(alloc, &mut budget, by_path.finish())?;
+        let by_component = by_component.finish();
+        let has_component = has_text(alloc, &by_component)?;
+        let by_component = Compiled::new(alloc, &mut budget, by_component)?;
+        let extensions = extensions.finish(alloc, &mut budget)?;
+        let max_states = by_path
+            .state_count()
+            .max(by_component.state_count())
+            .max(extensions.max_states());
+        Ok(Automata {
+            by_path,
+            by_component,
+            extensions,
+            max_states,
+            has_component,
+        })
+    }
+}

@@ -1,0 +1,53 @@
+//! Whether tokens match a part of some path below a folder.
+
+ghost use Rattle.std.specs.Prelude.{◌≡◌, ◌+◌, ◌*◌, ◌≤◌, ◌↔◌, [], length, IfOk, IsOk, IsTrue};
+ghost use Rattle.byte_nfa.specs.Live.{MatchesAfter};
+ghost use Rattle.byte_nfa.specs.Sets.{sets_capacity};
+ghost use Rattle.set_matcher.specs.inner.Automata.{AreForLists, AreFoundBelow, TokenLists, folder_reads, max_states};
+
+use crate::automata::Automata;
+use byte_nfa::{Draft, StateSet, StateSets};
+use std::alloc::{AllocError, Global};
+use visits::Visits;
+
+impl Automata {
+    /// Returns whether tokens match the part that they are run on of some path below a folder.
+    ///
+    /// A path below the folder may have any last component, so no automaton is run for that. It may have any extension, so the
+    /// automata of all extensions are run over the folder. The sets get room for each state of a part that is simulated. Returns an
+    /// error if memory runs out.
+    pub fn can_match_below(
+        &self,
+        folder: &[u8],
+        sets: &mut StateSets,
+        visits: &mut Visits,
+    ) -> Result<bool, AllocError>
+        ensures some { IfOk result (λ yes. (t : TokenLists) → AreForLists self.now t → IsTrue yes ↔ AreFoundBelow self.now.extensions t folder.now) }
+        ensures kept { sets_capacity sets.old ≤ sets_capacity sets.new }
+        ensures memory { folder_reads self.now ≡ 0 → IsOk result }
+        ensures room { max_states self.now ≤ sets_capacity sets.old → IsOk result }
+        ensures visits { visits.new ≤ visits.old + (length folder.now + 2) * folder_reads self.now }
+        ensures counted { visits.old ≤ visits.new }
+    {
+        if self.has_component {
+            return Ok(true);
+        }
+        if self.by_path.can_match_after(folder, b'/', sets, visits)? {
+            return Ok(true);
+        }
+        self.extensions.can_match_after(folder, b'/', sets, visits)
+    }
+}
+
+/// Returns whether some text leads to an end of an automaton.
+///
+/// It reads each state, and takes two bits of memory for each of them until it returns. Returns an error if memory runs out.
+pub fn has_text(alloc: Global, automaton: &Draft) -> Result<bool, AllocError>
+    ensures { IfOk result (λ yes. IsTrue yes ↔ MatchesAfter automaton.now []) }
+{
+    let mut starts = StateSet::new(alloc, automaton.state_count())?;
+    let mut live = StateSet::new(alloc, automaton.state_count())?;
+    automaton.start(&mut starts);
+    automaton.live(&mut live);
+    Ok(automaton.has_live(&starts, &live))
+}

@@ -1,0 +1,319 @@
+//! Automata for globs that match only paths whose last component has one extension.
+
+ghost use Rattle.std.specs.Prelude.{◌≡◌, ◌+◌, ◌*◌, ◌<◌, ◌≤◌, ◌↔◌, ◌++◌, ◌∷◌, [], ℕ, List, length, IsTrue, IsOk, OnOk, IfOk, None, Some, cond};
+ghost use Rattle.byte_nfa.specs.Runs.{size, max_reads};
+ghost use Rattle.byte_nfa.specs.Sets.{sets_capacity};
+ghost use Rattle.std.specs.Str.{bytes_eq};
+ghost use Rattle.glob_nfa.specs.IndexedTokens.{IndexedTokens, IsFor, indexed};
+ghost use Rattle.glob_syntax.specs.FlatTokens.{IsNested};
+ghost use Rattle.glob_syntax.specs.Views.{flats, tokens_of};
+ghost use Rattle.glob_syntax.specs.inner.Weight.{weight};
+ghost use Rattle.set_matcher.specs.inner.Automata.{AddsTokens, AreFor, KeepsTokens, SomeExtensionAfter, machine_under, max_size, slot_of, tokens_under, total_reads};
+
+use byte_nfa::{Builder, StateSets};
+use byte_table::Table;
+use glob_matching::{Budget, Compiled};
+use glob_nfa::{add_tokens, new_builder};
+use glob_syntax::{Options, Token};
+use std::alloc::{AllocError, Global};
+use std::marker::Model;
+use visits::Visits;
+
+/// An automaton for each extension that some glob requires. The slot of an extension is the position of its automaton.
+pub struct ExtensionMatchers {
+    matchers: Table,
+    automata: Vec<Compiled>,
+    none: Compiled,
+    index_count: usize,
+}
+
+impl Drop for ExtensionMatchers {
+    // One call wherever a value is dropped, which keeps proofs short.
+    fn drop(self) {
+        let ExtensionMatchers {
+            matchers: _,
+            automata: _,
+            none: _,
+            index_count: _,
+        } = self;
+    }
+}
+
+impl Model for ExtensionMatchers {
+    ghost use Rattle.set_matcher.specs.inner.Automata.{ExtensionParts, AreExtensionMatchers};
+
+    ghost Value = { ExtensionParts };
+
+    ghost view = { λ e. record {
+      matchers = e.matchers;
+      machines = e.automata.items;
+      none = e.none;
+      index_count = e.index_count;
+    } };
+
+    ghost invariant = { λ e. AreExtensionMatchers e.matchers e.automata.items e.none e.index_count };
+}
+
+impl Clone for ExtensionMatchers {
+    ghost use Rattle.std.specs.Prelude.{◌≡◌};
+
+    ghost is_clone = { λ a b. b ≡ a };
+
+    /// Returns a copy. Returns an error if memory runs out.
+    fn clone(&self) -> Result<ExtensionMatchers, AllocError> {
+        let matchers = self.matchers.clone()?;
+        let automata = self.automata.clone()?;
+        let none = self.none.clone()?;
+        Ok(ExtensionMatchers {
+            matchers,
+            automata,
+            none,
+            index_count: self.index_count,
+        })
+    }
+}
+
+impl ExtensionMatchers {
+    /// Returns the number that each index is below.
+    pub fn index_count(&self) -> usize
+        ensures { result ≡ self.now.index_count }
+    {
+        self.index_count
+    }
+
+    /// Returns the number of states of the largest automaton. It takes time linear in the number of automata.
+    pub fn max_states(&self) -> usize
+        ensures { result ≡ max_size self.now.machines }
+    {
+        let mut maximum = 0;
+        for automaton in &self.automata {
+            maximum = automaton.state_count().max(maximum);
+        }
+        maximum
+    }
+
+    /// Returns how many bytes the deterministic parts of automata take. It takes time linear in the number of these parts.
+    pub fn table_bytes(&self) -> usize {
+        let mut bytes: usize = 0;
+        for automaton in &self.automata {
+            bytes = bytes.saturating_add(automaton.table_bytes());
+        }
+        bytes
+    }
+
+    /// Returns whether no extension has an automaton.
+    pub fn is_empty(&self) -> bool
+        ensures { IsTrue result ↔ (self.now.matchers ≡ []) }
+    {
+        self.matchers.is_empty()
+    }
+
+    /// Returns an automaton without states.
+    pub fn none(&self) -> &Compiled
+        ensures none { result.now ≡ self.now.none }
+        ensures size { size result.now ≡ 0 }
+        ensures count { result.now.index_count ≡ self.now.index_count }
+        ensures tokens { IsFor result.now [] }
+    {
+        &self.none
+    }
+
+    /// Returns the automaton of an extension, or one without states if it has none. It is one visit.
+    pub fn automaton_of(&self, extension: &[u8], visits: &mut Visits) -> &Compiled
+        ensures automaton { result.now ≡ machine_under self.now extension.now }
+        ensures maximum { size result.now ≤ max_size self.now.machines }
+        ensures count { result.now.index_count ≡ self.now.index_count }
+        ensures tokens { (by_slot : ℕ → List IndexedTokens) → AreFor self.now.machines by_slot → IsFor result.now (tokens_under by_slot self.now.matchers extension.now) }
+        ensures visits { visits.new ≡ visits.old + 1 }
+    {
+        match self.matchers.get(extension, visits) {
+            [slot, ..] => &self.automata[*slot],
+            [] => &self.none,
+        }
+    }
+}
+
+impl ExtensionMatchers {
+    /// Returns whether tokens of some extension match a text that begins with `text` and then `byte`.
+    ///
+    /// It is at most `text bytes + 2` times the states of all automata in visits. The runs use the same sets of states, one after
+    /// another. The sets get room for each state of a part that is
+    /// simulated. Returns an error if memory runs out.
+    pub fn can_match_after(
+        &self,
+        text: &[u8],
+        byte: u8,
+        sets: &mut StateSets,
+        visits: &mut Visits,
+    ) -> Result<bool, AllocError>
+        ensures some { IfOk result (λ yes. (by_slot : ℕ → List IndexedTokens) → AreFor self.now.machines by_slot → IsTrue yes ↔ SomeExtensionAfter (length self.now.machines) by_slot (text.now ++ byte ∷ [])) }
+        ensures kept { sets_capacity sets.old ≤ sets_capacity sets.new }
+        ensures room { max_size self.now.machines ≤ sets_capacity sets.old → IsOk result }
+        ensures visits { visits.new ≤ visits.old + (length text.now + 2) * total_reads self.now.machines }
+        ensures counted { visits.old ≤ visits.new }
+    {
+        for automaton in &self.automata {
+            if automaton.can_match_after(text, byte, sets, visits)? {
+                return Ok(true);
+            }
+        }
+        Ok(false)
+    }
+}
+
+/// Makes [`ExtensionMatchers`].
+pub struct ExtensionMatchersBuilder {
+    matchers: Table,
+    builders: Vec<Builder>,
+    none: Builder,
+    index_count: usize,
+}
+
+impl Drop for ExtensionMatchersBuilder {
+    // One call wherever a value is dropped, which keeps proofs short.
+    fn drop(self) {
+        let ExtensionMatchersBuilder {
+            matchers: _,
+            builders: _,
+            none: _,
+            index_count: _,
+        } = self;
+    }
+}
+
+impl Model for ExtensionMatchersBuilder {
+    ghost use Rattle.set_matcher.specs.inner.Automata.{ExtensionParts, AreExtensionMatchers};
+
+    ghost Value = { ExtensionParts };
+
+    ghost view = { λ e. record {
+      matchers = e.matchers;
+      machines = e.builders.items;
+      none = e.none;
+      index_count = e.index_count;
+    } };
+
+    ghost invariant = { λ e. AreExtensionMatchers e.matchers e.builders.items e.none e.index_count };
+}
+
+impl ExtensionMatchersBuilder {
+    /// Returns a builder that nothing was added to. Indexes have to be below `index_count`. It allocates nothing.
+    pub fn new(alloc: Global, index_count: usize) -> ExtensionMatchersBuilder
+        ensures matchers { result.matchers ≡ [] }
+        ensures machines { result.machines ≡ [] }
+        ensures count { result.index_count ≡ index_count }
+        ensures none { max_reads result.none ≡ 0 }
+    {
+        ExtensionMatchersBuilder {
+            matchers: Table::new(alloc),
+            builders: Vec::new(alloc),
+            none: new_builder(alloc, index_count),
+            index_count,
+        }
+    }
+
+    /// Returns the number that each index is below.
+    pub fn index_count(&self) -> usize
+        ensures { result ≡ self.now.index_count }
+    {
+        self.index_count
+    }
+
+    /// Adds the tokens of a glob that matches only paths with one extension. It takes time and memory linear in the tokens.
+    /// Returns an error if memory runs out.
+    pub fn add_tokens(
+        &mut self,
+        alloc: Global,
+        key: Vec<u8>,
+        options: Options,
+        tokens: &[Token],
+        index: usize,
+    ) -> Result<(), AllocError>
+        requires nested { IsNested (flats tokens.now) }
+        requires index { index < self.old.index_count }
+        ensures tokens { OnOk result ((before : ℕ → List IndexedTokens) → AreFor self.old.machines before → AddsTokens self.old before self.new key.items (indexed options (tokens_of tokens.now) index)) }
+        ensures reads { OnOk result ((extension : List ℕ) → max_reads (machine_under self.new extension) ≤ max_reads (machine_under self.old extension) + cond (bytes_eq key.items extension) (weight options (tokens_of tokens.now) + 4) 0) }
+        ensures total { OnOk result (total_reads self.new.machines ≤ total_reads self.old.machines + (weight options (tokens_of tokens.now) + 4)) }
+        ensures count { self.new.index_count ≡ self.old.index_count }
+    {
+        let slot = self.slot_of(alloc, key)?;
+        add_tokens(alloc, &mut self.builders[slot], options, tokens, index)
+    }
+
+    /// Returns the slot of an extension, which is a new one if it has none.
+    fn slot_of(&mut self, alloc: Global, key: Vec<u8>) -> Result<usize, AllocError>
+        ensures slot { IfOk result (λ slot. slot_of self.new.matchers key.items ≡ Some slot) }
+        ensures tokens { OnOk result ((before : ℕ → List IndexedTokens) → AreFor self.old.machines before → KeepsTokens self.old before self.new) }
+        ensures reads { OnOk result ((extension : List ℕ) → max_reads (machine_under self.new extension) ≡ max_reads (machine_under self.old extension)) }
+        ensures total { OnOk result (total_reads self.new.machines ≡ total_reads self.old.machines) }
+        ensures count { self.new.index_count ≡ self.old.index_count }
+    {
+        // These lookups are no part of matching a path, so nobody counts them.
+        let mut visits = Visits::new();
+        if let [slot, ..] = self.matchers.get(&key, &mut visits) {
+            return Ok(*slot);
+        }
+        self.add_slot(alloc, key)
+    }
+
+    /// Makes a slot for an extension that has none, and returns it.
+    fn add_slot(&mut self, alloc: Global, key: Vec<u8>) -> Result<usize, AllocError>
+        requires { slot_of self.old.matchers key.items ≡ None }
+        ensures slot { IfOk result (λ slot. slot_of self.new.matchers key.items ≡ Some slot) }
+        ensures tokens { OnOk result ((before : ℕ → List IndexedTokens) → AreFor self.old.machines before → KeepsTokens self.old before self.new) }
+        ensures reads { OnOk result ((extension : List ℕ) → max_reads (machine_under self.new extension) ≡ max_reads (machine_under self.old extension)) }
+        ensures total { OnOk result (total_reads self.new.machines ≡ total_reads self.old.machines) }
+        ensures count { self.new.index_count ≡ self.old.index_count }
+    {
+        let slot = self.builders.len();
+        self.builders.push(new_builder(alloc, self.index_count))?;
+        self.matchers.insert(key, slot)?;
+        Ok(slot)
+    }
+
+    /// Returns what was added. Returns an error if memory runs out.
+    pub fn finish(self, alloc: Global, budget: &mut Budget) -> Result<ExtensionMatchers, AllocError>
+        ensures { IfOk result (λ matchers. matchers ≡ self) }
+    {
+        let ExtensionMatchersBuilder {
+            matchers,
+            builders,
+            none,
+            index_count,
+        } = self;
+        Ok(ExtensionMatchers {
+            matchers,
+            automata: finished(alloc, budget, builders)?,
+            none: Compiled::simulated(none.finish().into_nfa()),
+            index_count,
+        })
+    }
+}
+
+/// Returns the automata of builders. Returns an error if memory runs out.
+fn finished(
+    alloc: Global,
+    budget: &mut Budget,
+    builders: Vec<Builder>,
+) -> Result<Vec<Compiled>, AllocError>
+    ensures { IfOk result (λ automata. automata.items ≡ builders.items) }
+{
+    let mut automata = Vec::with_capacity(alloc, builders.len())?;
+    for builder in builders {
+        push_finished(alloc, budget, builder, &mut automata)?;
+    }
+    Ok(automata)
+}
+
+/// Pushes the automaton of a builder. Returns an error if memory runs out.
+fn push_finished(
+    alloc: Global,
+    budget: &mut Budget,
+    builder: Builder,
+    automata: &mut Vec<Compiled>,
+) -> Result<(), AllocError>
+    ensures { OnOk result (automata.new.items ≡ automata.old.items ++ builder ∷ []) }
+{
+    automata.push(Compiled::new(alloc, budget, builder.finish())?)?;
+    Ok(())
+}

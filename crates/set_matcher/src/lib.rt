@@ -1,0 +1,17 @@
+//! Many globs at once: which of a list of globs match a path.
+//!
+//! [`SetMatcherBuilder`] takes the tokens of each glob with its options, and puts the glob where its strategy says. [`SetMatcher`] asks
+//! keys for the globs that a key decides, and runs automata for the others. They work with [`MatchingSets`], which a caller
+//! can use again. Nothing here knows the text of a glob.
+#![tactic(auto)]
+
+mod automata;
+mod below;
+mod given;
+mod marks;
+mod matcher;
+mod matching;
+mod matching_sets;
+
+pub use matcher::{SetMatcher, SetMatcherBuilder};
+pub use matching_sets::MatchingSets;

@@ -1,0 +1,131 @@
+//! Which globs of a list match a path.
+
+ghost use Rattle.std.specs.Prelude.{◌≡◌, ◌≢◌, ◌+◌, ◌≤◌, ◌↔◌, [], ℕ, IfOk, IsOk, OnOk, OnErr, IsTrue, length, vec_capacity};
+ghost use Rattle.bit_sets.specs.Indexes.{has_index};
+ghost use Rattle.set_matcher.specs.Globs.{is_reported_at, reported_indexes, load, max_visits};
+ghost use Rattle.set_matcher.specs.SetMatcherValue.{matcher_globs};
+ghost use Rattle.set_matcher.specs.Indexes.{ContainsAllBelow};
+ghost use Rattle.set_matcher.specs.inner.Capacity.{HasCapacity, KeepsCapacity};
+
+use crate::marks::{are_all_marked, push_marked};
+use crate::matcher::SetMatcher;
+use crate::matching_sets::MatchingSets;
+use glob_path::Candidate;
+use std::alloc::AllocError;
+use visits::Visits;
+
+impl SetMatcher {
+    /// Returns the number of globs, with those that are excluded.
+    pub fn len(&self) -> usize
+        ensures { result ≡ length (matcher_globs self.now) }
+    {
+        self.len
+    }
+
+    /// Returns the number of states of the largest automaton.
+    pub fn max_states(&self) -> usize
+        ensures { result ≡ self.now.states }
+    {
+        self.automata.max_states()
+    }
+
+    /// Returns how many bytes the tables of deterministic automata take. It takes time linear in the number of these.
+    pub fn table_bytes(&self) -> usize {
+        self.automata.table_bytes()
+    }
+
+    /// Replaces the vector's items by the indexes, ascending, of the globs that are not excluded and match the path.
+    ///
+    /// The sets get room for each index, and for each state of a part that is simulated; the vector grows for the indexes. Returns
+    /// an error if memory runs out, and so none if the sets have that room and the vector a capacity for all indexes. After an
+    /// error the vector is empty.
+    pub fn find(
+        &self,
+        path: &Candidate<'_>,
+        sets: &mut MatchingSets,
+        into: &mut Vec<usize>,
+        visits: &mut Visits,
+    ) -> Result<(), AllocError>
+        ensures ok { OnOk result (into.new.items ≡ reported_indexes (matcher_globs self.now) path.now) }
+        ensures cleared { OnErr result (into.new.items ≡ []) }
+        ensures kept { KeepsCapacity sets.old sets.new }
+        ensures room { HasCapacity sets.old self.now.states self.now.index_count → length (matcher_globs self.now) ≤ vec_capacity into.old → IsOk result }
+        ensures capacity { vec_capacity into.old ≤ vec_capacity into.new }
+        ensures visits { visits.new ≤ visits.old + max_visits (matcher_globs self.now) path.now }
+        ensures counted { visits.old ≤ visits.new }
+    {
+        into.clear();
+        self.mark(path, sets, visits)?;
+        if let Err(error) = push_marked(&sets.marks, self.len(), into) {
+            into.clear();
+            return Err(error);
+        }
+        Ok(())
+    }
+
+    /// Returns whether some glob that is not excluded matches the path.
+    ///
+    /// The sets get room for each state of a part that is simulated. Returns an error if memory runs out, and so none if they
+    /// have that room, or if no glob needs an automaton for the path.
+    pub fn is_match(
+        &self,
+        path: &Candidate<'_>,
+        sets: &mut MatchingSets,
+        visits: &mut Visits,
+    ) -> Result<bool, AllocError>
+        ensures some { IfOk result (λ yes. IsTrue yes ↔ (reported_indexes (matcher_globs self.now) path.now ≢ [])) }
+        ensures kept { KeepsCapacity sets.old sets.new }
+        ensures room { HasCapacity sets.old self.now.states self.now.index_count → IsOk result }
+        ensures memory { load (matcher_globs self.now) path.now ≡ 0 → IsOk result }
+        ensures visits { visits.new ≤ visits.old + max_visits (matcher_globs self.now) path.now }
+        ensures counted { visits.old ≤ visits.new }
+    {
+        if self.keys.is_match(path, visits) {
+            return Ok(true);
+        }
+        self.automata.is_match(path, &mut sets.states, visits)
+    }
+
+    /// Returns whether every glob matches the path and none is excluded.
+    ///
+    /// If an automaton has to be run, the sets get room for each index, and for each state of a part that is simulated. Returns
+    /// an error if memory runs out, and so none if they have that room, or if no glob needs an automaton for the path.
+    pub fn matches_all(
+        &self,
+        path: &Candidate<'_>,
+        sets: &mut MatchingSets,
+        visits: &mut Visits,
+    ) -> Result<bool, AllocError>
+        ensures all { IfOk result (λ yes. IsTrue yes ↔ ContainsAllBelow (reported_indexes (matcher_globs self.now) path.now) (length (matcher_globs self.now))) }
+        ensures kept { KeepsCapacity sets.old sets.new }
+        ensures room { HasCapacity sets.old self.now.states self.now.index_count → IsOk result }
+        ensures memory { load (matcher_globs self.now) path.now ≡ 0 → IsOk result }
+        ensures visits { visits.new ≤ visits.old + max_visits (matcher_globs self.now) path.now }
+        ensures counted { visits.old ≤ visits.new }
+    {
+        if self.automata.find(path.path(), sets, visits)? {
+            self.keys.find(path, &mut sets.marks, visits);
+            return Ok(are_all_marked(&sets.marks, self.len()));
+        }
+        Ok(self.keys.count_found(path, visits) == Some(self.len()))
+    }
+
+    /// Marks the indexes of the globs that are not excluded and match the path, and no others. Returns an error if memory runs
+    /// out.
+    fn mark(
+        &self,
+        path: &Candidate<'_>,
+        sets: &mut MatchingSets,
+        visits: &mut Visits,
+    ) -> Result<(), AllocError>
+        ensures marked { OnOk result ((k : ℕ) → IsTrue (has_index sets.new.marks k) ↔ IsTrue (is_reported_at (matcher_globs self.now) path.now k)) }
+        ensures kept { KeepsCapacity sets.old sets.new }
+        ensures room { HasCapacity sets.old self.now.states self.now.index_count → IsOk result }
+        ensures visits { visits.new ≤ visits.old + max_visits (matcher_globs self.now) path.now }
+        ensures counted { visits.old ≤ visits.new }
+    {
+        self.automata.mark(path.path(), sets, visits)?;
+        self.keys.find(path, &mut sets.marks, visits);
+        Ok(())
+    }
+}
