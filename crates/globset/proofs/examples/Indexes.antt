@@ -1,7 +1,7 @@
 -- Examples of the indexes that a set returns for a path. Each row computes.
 use Rattle.std.specs.Prelude.{◌≡◌, [], ◌∷◌, true, false, Some, refl}
 use Rattle.globset.specs.Work.{max_set_visits}
-use Rattle.globset.proofs.examples.Words.{globs_on_literals, utf8, glob, insensitive, separated, globs, indexes, all_listed}
+use Rattle.globset.proofs.examples.Words.{globs_on_literals, utf8, glob, insensitive, separated, globs, indexes, all_reported}
 
 extension_and_recursive : indexes (globs ("*.rs" ∷ "src/lib.rs" ∷ "src/**/foo.rs" ∷ [])) "src/bar/baz/foo.rs" ≡ Some (0 ∷ 2 ∷ [])
 unfolding globs_on_literals
@@ -41,7 +41,7 @@ empty_set_on_the_empty_path : indexes ([]) "" ≡ Some ([])
 unfolding globs_on_literals
 empty_set_on_the_empty_path = refl
 
-empty_set_has_all : all_listed [] "a" ≡ Some true
+empty_set_has_all : all_reported [] "a" ≡ Some true
 unfolding globs_on_literals
 empty_set_has_all = refl
 
@@ -51,7 +51,7 @@ excluded : indexes (globs ("**/.." ∷ [])) "parent/.." ≡ Some ([])
 unfolding globs_on_literals
 excluded = refl
 
-excluded_is_not_all : all_listed (globs ("**/.." ∷ [])) "parent/.." ≡ Some false
+excluded_is_not_all : all_reported (globs ("**/.." ∷ [])) "parent/.." ≡ Some false
 unfolding globs_on_literals
 excluded_is_not_all = refl
 
@@ -103,7 +103,7 @@ any_and_dots = refl
 
 -- ---- every glob
 
-all_of_one : all_listed (globs ("**/foo/bar" ∷ [])) "a/foo/bar" ≡ Some true
+all_of_one : all_reported (globs ("**/foo/bar" ∷ [])) "a/foo/bar" ≡ Some true
 unfolding globs_on_literals
 all_of_one = refl
 
@@ -115,19 +115,19 @@ not_a_part_of_a_component : indexes (globs ("**/foo/bar" ∷ [])) "foofoo/bar" �
 unfolding globs_on_literals
 not_a_part_of_a_component = refl
 
-all_of_two_not : all_listed (globs ("a/*.rs" ∷ "a/*.c" ∷ [])) "a/x.rs" ≡ Some false
+all_of_two_not : all_reported (globs ("a/*.rs" ∷ "a/*.c" ∷ [])) "a/x.rs" ≡ Some false
 unfolding globs_on_literals
 all_of_two_not = refl
 
-all_of_three : all_listed (globs ("*.rs" ∷ "**/m*.rs" ∷ "a/*.rs" ∷ [])) "a/main.rs" ≡ Some true
+all_of_three : all_reported (globs ("*.rs" ∷ "**/m*.rs" ∷ "a/*.rs" ∷ [])) "a/main.rs" ≡ Some true
 unfolding globs_on_literals
 all_of_three = refl
 
-all_of_three_not_without_folder : all_listed (globs ("*.rs" ∷ "**/m*.rs" ∷ "a/*.rs" ∷ [])) "main.rs" ≡ Some false
+all_of_three_not_without_folder : all_reported (globs ("*.rs" ∷ "**/m*.rs" ∷ "a/*.rs" ∷ [])) "main.rs" ≡ Some false
 unfolding globs_on_literals
 all_of_three_not_without_folder = refl
 
-all_of_three_not_of_another_name : all_listed (globs ("*.rs" ∷ "**/m*.rs" ∷ "a/*.rs" ∷ [])) "a/lib.rs" ≡ Some false
+all_of_three_not_of_another_name : all_reported (globs ("*.rs" ∷ "**/m*.rs" ∷ "a/*.rs" ∷ [])) "a/lib.rs" ≡ Some false
 unfolding globs_on_literals
 all_of_three_not_of_another_name = refl
 

@@ -53,5 +53,5 @@ abbrev pub indexes : List GlobValue → String → Option (List ℕ)
 indexes gs path = if list_all is_read gs then Some (matching_indexes gs (utf8 path)) else None
 
 -- whether the set's indexes for the path are all indexes below the number of globs, or `None` if a text is not a glob
-abbrev pub all_listed : List GlobValue → String → Option Bool
-all_listed gs path = if list_all is_read gs then Some (length (matching_indexes gs (utf8 path)) == length gs) else None
+abbrev pub all_reported : List GlobValue → String → Option Bool
+all_reported gs path = if list_all is_read gs then Some (length (matching_indexes gs (utf8 path)) == length gs) else None

@@ -28,9 +28,9 @@ use Rattle.globset.specs.inner.StoredGlobs.{AreAdded, AreStored, by_tokens, set_
 
 -- ---- globs by their tokens
 
-same_listed : (g : GlobValue) (path : List ℕ) → tokens.is_reported (by_tokens g) path ≡ is_reported g path
+same_reported : (g : GlobValue) (path : List ℕ) → tokens.is_reported (by_tokens g) path ≡ is_reported g path
 unfolding excluded glob_matches
-same_listed g path = refl
+same_reported g path = refl
 
 passes_of : {X Y : Type 0} (f : X → Y) (p : Y → Bool) (q : X → Bool) → ((x : X) → p (f x) ≡ q x) → (xs : List X) (i : ℕ) → passes_at p (map f xs) i ≡ passes_at q xs i
 passes_of f p q same [] i = refl
@@ -38,10 +38,10 @@ passes_of f p q same (x ∷ xs) zero = same x
 passes_of f p q same (x ∷ xs) (suc i) = passes_of f p q same xs i
 
 -- the indexes that are found by tokens are those of the answer
-pub listed_answer : (globs : List GlobValue) (path : List ℕ) → reported_indexes (map by_tokens globs) path ≡ matching_indexes globs path
+pub reported_are_matching : (globs : List GlobValue) (path : List ℕ) → reported_indexes (map by_tokens globs) path ≡ matching_indexes globs path
 unfolding matching_indexes
-listed_answer globs path =
-    let at = passes_of by_tokens (λ g. tokens.is_reported g path) (λ g. is_reported g path) (λ g. same_listed g path) globs in
+reported_are_matching globs path =
+    let at = passes_of by_tokens (λ g. tokens.is_reported g path) (λ g. is_reported g path) (λ g. same_reported g path) globs in
     (λ i. filter (λ k. at k i) (range_with_len 0 (length-map globs by_tokens i)))
 
 -- ---- no globs
@@ -114,8 +114,8 @@ visits_within globs path size = let maximum = mul-le-mul_left (length path + 1) 
 
 pub below_answer : (globs : List GlobValue) (folder : List ℕ) (found : Bool) → IsTrue found ↔ below.SomeReportedBelow (map by_tokens globs) folder → IsTrue found ↔ MatchesBelow globs folder
 below_answer globs folder found h = (
-  λ yes. let (rest, bytes, some) = h.0 yes in (rest, bytes, λ none. some (listed_answer globs (path_below folder rest) ∙ none)),
-  λ (rest, bytes, some). h.1 (rest, bytes, λ none. some (sym (listed_answer globs (path_below folder rest)) ∙ none)),
+  λ yes. let (rest, bytes, some) = h.0 yes in (rest, bytes, λ none. some (reported_are_matching globs (path_below folder rest) ∙ none)),
+  λ (rest, bytes, some). h.1 (rest, bytes, λ none. some (sym (reported_are_matching globs (path_below folder rest)) ∙ none)),
 )
 
 pub none_below : (globs : List GlobValue) (folder : List ℕ) → globs ≡ [] → IsTrue false ↔ MatchesBelow globs folder

@@ -16,16 +16,16 @@ use Rattle.set_matcher.proofs.lemmas.Indexes.{filter_more, passing_is_contained,
 abbrev is_reported_at : List GlobValue → List ℕ → ℕ → Bool
 is_reported_at globs path i = passes_at (λ g. is_reported g path) globs i
 
-listed_is_contained : (globs : List GlobValue) (path : List ℕ) (i : ℕ) → i < length globs → is_reported_at globs path i ≡ true → Contains (matching_indexes globs path) i
+reported_is_contained : (globs : List GlobValue) (path : List ℕ) (i : ℕ) → i < length globs → is_reported_at globs path i ≡ true → Contains (matching_indexes globs path) i
 unfolding matching_indexes
-listed_is_contained globs path i h p = passing_is_contained (λ g. is_reported g path) globs i h p
+reported_is_contained globs path i h p = passing_is_contained (λ g. is_reported g path) globs i h p
 
-contained_is_listed : (globs : List GlobValue) (path : List ℕ) (i : ℕ) → Contains (matching_indexes globs path) i → (i < length globs) × (is_reported_at globs path i ≡ true)
+contained_is_reported : (globs : List GlobValue) (path : List ℕ) (i : ℕ) → Contains (matching_indexes globs path) i → (i < length globs) × (is_reported_at globs path i ≡ true)
 unfolding matching_indexes
-contained_is_listed globs path i h = contained_passes (λ g. is_reported g path) globs i h
+contained_is_reported globs path i h = contained_passes (λ g. is_reported g path) globs i h
 
-listed_within : (globs : List GlobValue) (path : List ℕ) (i : ℕ) → is_reported_at globs path i ≡ true → i < length globs
-listed_within globs path i h = passes_within (λ g. is_reported g path) globs i h
+reported_within : (globs : List GlobValue) (path : List ℕ) (i : ℕ) → is_reported_at globs path i ≡ true → i < length globs
+reported_within globs path i h = passes_within (λ g. is_reported g path) globs i h
 
 -- ---- one more glob at the end
 
@@ -65,22 +65,22 @@ adding_keeps globs g path =
 pub order_only_renames : OrderRenames
 order_only_renames first second to path reordered j = (
   λ held.
-      let a = contained_is_listed second path j held in
+      let a = contained_is_reported second path j held in
       let from = reordered.onto j a.0 in
       let same : is_reported_at second path (to from.0) ≡ is_reported_at first path from.0 = ap (λ (o : Option GlobValue). option_map_or (λ x. is_reported x path) o false) (reordered.same_glob from.0 from.1) in
-      (from.0, listed_is_contained first path from.0 from.1 (sym same ∙ ap (is_reported_at second path) from.2 ∙ a.1), from.2),
+      (from.0, reported_is_contained first path from.0 from.1 (sym same ∙ ap (is_reported_at second path) from.2 ∙ a.1), from.2),
   λ from.
-      let a = contained_is_listed first path from.0 from.1 in
+      let a = contained_is_reported first path from.0 from.1 in
       let same : is_reported_at second path (to from.0) ≡ is_reported_at first path from.0 = ap (λ (o : Option GlobValue). option_map_or (λ x. is_reported x path) o false) (reordered.same_glob from.0 a.0) in
       let yes : is_reported_at second path j ≡ true = ap (is_reported_at second path) (sym from.2) ∙ same ∙ a.1 in
-      listed_is_contained second path j (listed_within second path j yes) yes,
+      reported_is_contained second path j (reported_within second path j yes) yes,
 )
 
 -- ---- one glob
 
-pub one_glob_is_listed : OneGlobSet
+pub one_glob_is_reported : OneGlobSet
 unfolding matching_indexes
-one_glob_is_listed g path h = rw h refl
+one_glob_is_reported g path h = rw h refl
 
 -- ---- below a folder
 

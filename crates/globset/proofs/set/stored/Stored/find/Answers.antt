@@ -6,14 +6,14 @@ use Rattle.set_matcher.specs.Globs.{TokenGlob, reported_indexes}
 use Rattle.globset.specs.Answer.{matching_indexes}
 use Rattle.globset.specs.SetValue.{SetValue, set_globs}
 use Rattle.globset.specs.inner.StoredGlobs.{by_tokens}
-use Rattle.globset.proofs.lemmas.Answer.{listed_answer, capacity_stored, visits_stored}
+use Rattle.globset.proofs.lemmas.Answer.{reported_are_matching, capacity_stored, visits_stored}
 use Rattle.globset.proofs.set.stored.Stored.find.Goals as goal
 
 pub returns-clause-ok : goal.returns-clause-ok
 returns-clause-ok c =
     let globs = c.self.inside.globs in
     subst (λ (gs : List GlobValue). c.find.new.into.items ≡ matching_indexes gs c.args.path.now) (ap set_globs c.self.view_is)
-    (c.in_ok-find.ensures.ok ∙ ap (λ (gs : List TokenGlob). reported_indexes gs c.args.path.now) c.self.invariant.added.matcher ∙ listed_answer globs c.args.path.now)
+    (c.in_ok-find.ensures.ok ∙ ap (λ (gs : List TokenGlob). reported_indexes gs c.args.path.now) c.self.invariant.added.matcher ∙ reported_are_matching globs c.args.path.now)
 
 pub returns-clause-visits : goal.returns-clause-visits
 returns-clause-visits c =

@@ -5,14 +5,14 @@ use Rattle.globset_glob.specs.GlobMatches.{GlobValue}
 use Rattle.set_matcher.specs.Globs.{TokenGlob, reported_indexes}
 use Rattle.globset.specs.Answer.{matching_indexes}
 use Rattle.globset.specs.SetValue.{set_globs}
-use Rattle.globset.proofs.lemmas.Answer.{listed_answer, no_load, capacity_stored, visits_stored}
+use Rattle.globset.proofs.lemmas.Answer.{reported_are_matching, no_load, capacity_stored, visits_stored}
 use Rattle.globset.proofs.set.stored.Stored.is_match.Goals as goal
 
 pub returns-clause-ok : goal.returns-clause-ok
 returns-clause-ok c =
     let globs = c.self.inside.globs in
     subst (λ (gs : List GlobValue). IsTrue c.in_ok-is_match.field-0 ↔ (matching_indexes gs c.args.path.now ≢ [])) (ap set_globs c.self.view_is)
-    (subst (λ (xs : List ℕ). IsTrue c.in_ok-is_match.field-0 ↔ (xs ≢ [])) (listed_answer globs c.args.path.now)
+    (subst (λ (xs : List ℕ). IsTrue c.in_ok-is_match.field-0 ↔ (xs ≢ [])) (reported_are_matching globs c.args.path.now)
     (subst (λ (gs : List TokenGlob). IsTrue c.in_ok-is_match.field-0 ↔ (reported_indexes gs c.args.path.now ≢ [])) c.self.invariant.added.matcher c.in_ok-is_match.ensures.some))
 
 pub returns-clause-visits : goal.returns-clause-visits

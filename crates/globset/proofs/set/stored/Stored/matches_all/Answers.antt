@@ -8,7 +8,7 @@ use Rattle.set_matcher.specs.Indexes.{ContainsAllBelow}
 use Rattle.globset.specs.Answer.{matching_indexes}
 use Rattle.globset.specs.SetValue.{set_globs}
 use Rattle.globset.specs.inner.StoredGlobs.{by_tokens}
-use Rattle.globset.proofs.lemmas.Answer.{listed_answer, no_load, capacity_stored, visits_stored}
+use Rattle.globset.proofs.lemmas.Answer.{reported_are_matching, no_load, capacity_stored, visits_stored}
 use Rattle.globset.proofs.set.stored.Stored.matches_all.Goals as goal
 
 pub returns-clause-ok : goal.returns-clause-ok
@@ -16,7 +16,7 @@ returns-clause-ok c =
     let globs = c.self.inside.globs in
     subst (λ (gs : List GlobValue). IsTrue c.in_ok-matches_all.field-0 ↔ ContainsAllBelow (matching_indexes gs c.args.path.now) (length gs)) (ap set_globs c.self.view_is)
     (subst (λ (n : ℕ). IsTrue c.in_ok-matches_all.field-0 ↔ ContainsAllBelow (matching_indexes globs c.args.path.now) n) (length-map globs by_tokens)
-    (subst (λ (xs : List ℕ). IsTrue c.in_ok-matches_all.field-0 ↔ ContainsAllBelow xs (length (map by_tokens globs))) (listed_answer globs c.args.path.now)
+    (subst (λ (xs : List ℕ). IsTrue c.in_ok-matches_all.field-0 ↔ ContainsAllBelow xs (length (map by_tokens globs))) (reported_are_matching globs c.args.path.now)
     (subst (λ (gs : List TokenGlob). IsTrue c.in_ok-matches_all.field-0 ↔ ContainsAllBelow (reported_indexes gs c.args.path.now) (length gs)) c.self.invariant.added.matcher c.in_ok-matches_all.ensures.all)))
 
 pub returns-clause-visits : goal.returns-clause-visits
