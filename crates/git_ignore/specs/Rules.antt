@@ -1,5 +1,5 @@
 -- The rules of an ignore file, and what they say of a path below the folder of the file.
-use Rattle.std.specs.Prelude.{ℕ, suc, Bool, true, false, not, ◌&&◌, ◌||◌, List, [], ◌∷◌, Option, Some, None, if◌then◌else◌}
+use Rattle.std.specs.Prelude.{ℕ, suc, Bool, not, ◌&&◌, ◌||◌, List, [], ◌∷◌, Option, Some, None, if◌then◌else◌}
 use Rattle.ignore_pattern.specs.Lines.{file_lines}
 use Rattle.ignore_pattern.specs.Patterns.{Pattern, pattern_of_line, pattern_matches}
 use Rattle.git_ignore.specs.declared.decision.Decision.{Decision}

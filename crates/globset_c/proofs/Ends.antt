@@ -1,5 +1,5 @@
 -- One more path of many.
-use Rattle.std.proofs.Common.{◌≡◌, ◌≤◌, ℕ, List, [], ◌∷◌, ◌++◌, refl, sym, ap, ◌∙◌, subst, append_assoc}
+use Rattle.std.proofs.Common.{◌≡◌, ◌≤◌, ℕ, List, [], ◌∷◌, ◌++◌, sym, ap, ◌∙◌, subst, append_assoc}
 use Rattle.std.specs.Prelude.{slice_range}
 use Rattle.globset_glob.specs.GlobMatches.{GlobValue}
 use Rattle.globset_c.specs.Paths.{AreEnds, answer_byte, answers_for}

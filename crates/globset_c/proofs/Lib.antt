@@ -2,5 +2,4 @@ pub mod EachIndex
 pub mod Ends
 pub mod AsBox
 pub mod Nil
-pub mod Lendable
 pub mod Owns

@@ -1,8 +1,8 @@
 -- What works fit, and how they change in calls.
-use Rattle.std.specs.Prelude.{◌≡◌, ◌≤◌, ◌⊎◌, Option, None, Some, length, vec_capacity}
+use Rattle.std.specs.Prelude.{◌≡◌, ◌≤◌, ◌⊎◌, Option, Some, length, vec_capacity}
 use Rattle.globset.specs.SetValue.{SetValue, Fits, FitsMatcher, FitsAsBefore, set_globs}
 use Rattle.globset_c.specs.declared.object.Object.{Object}
-use Rattle.globset_c.specs.declared.object.Object.TheVariants.{Glob, Matcher, Builder, Set, Work}
+use Rattle.globset_c.specs.declared.object.Object.TheVariants.{Matcher, Set, Work}
 use Rattle.globset_c.specs.declared.object.Work.{Work as WorkValue}
 use Rattle.globset_c.specs.Kinds.{IfWork}
 

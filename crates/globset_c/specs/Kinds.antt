@@ -1,7 +1,7 @@
 -- Facts of an object that is of one kind.
-use Rattle.std.specs.Prelude.{◌≡◌, ℕ, ◌≤◌, List, Option, None, Some, ⊤}
+use Rattle.std.specs.Prelude.{Option, Some, ⊤}
 use Rattle.globset_glob.specs.GlobMatches.{GlobValue}
-use Rattle.globset.specs.SetValue.{SetValue, BuilderValue, ScratchValue}
+use Rattle.globset.specs.SetValue.{SetValue, BuilderValue}
 use Rattle.globset_c.specs.declared.object.Object.{Object}
 use Rattle.globset_c.specs.declared.object.Object.TheVariants.{Glob, Matcher, Builder, Set, Work}
 use Rattle.globset_c.specs.declared.object.Work.{Work as WorkValue}

@@ -1,5 +1,5 @@
 -- Many paths as bytes and their ends.
-use Rattle.std.specs.Prelude.{ℕ, ◌≤◌, List, [], ◌∷◌, length, map, slice_range, ⊤}
+use Rattle.std.specs.Prelude.{ℕ, ◌≤◌, List, [], ◌∷◌, map, slice_range, ⊤}
 use Rattle.globset_glob.specs.GlobMatches.{GlobValue}
 use Rattle.globset.specs.Answer.{matching_indexes}
 

@@ -6,15 +6,12 @@ use Rattle.std.proofs.lemmas.List.{get_or_append_left}
 use Rattle.std.proofs.lemmas.Nat.{mul-le}
 use Rattle.std.proofs.Math.Logic.{⊎_elim}
 use Rattle.std.proofs.Math.Seq.{get_or-append_seam}
-use Rattle.byte_nfa.specs.ByteSteps.{AreStepsOf, LeadsAsEvery}
 use Rattle.byte_nfa.specs.Runs.{AcceptsFrom}
 use Rattle.byte_nfa.specs.Steps.{Machine}
-use Rattle.byte_nfa.specs.declared.byte_steps.ByteSteps.{ByteSteps}
-use Rattle.byte_nfa.specs.declared.state_set.StateSet.{StateSet}
 use Rattle.byte_dfa.specs.declared.determinizer.Found.{Found}
 use Rattle.byte_dfa.specs.inner.Building.{half, GoesTo, IsEntryTo, IsCell, AreCells, AreFoundSets, KeepsFound}
 use Rattle.byte_dfa.specs.inner.Lists.{KeepsLists}
-use Rattle.byte_dfa.proofs.lemmas.Found.{iff_trans, iff_sym}
+use Rattle.byte_dfa.proofs.lemmas.Found.{iff_trans}
 
 pub before_row : (i row w : ℕ) → i < row → i * (w + 2) + w + 2 ≤ row * (w + 2)
 before_row i row w lt = let h = mul-le (i + 1) (w + 2) row (w + 2) (omega arith) (omega arith) in omega (arith, h)
@@ -27,14 +24,6 @@ same_place i c row col w hc hcol e = ⊎_elim {C = (i ≡ row) × (c ≡ col)}
     (λ le. let is : i ≡ row = omega arith in (is, (let f = ap (λ x. x * (w + 2)) is in omega arith)))
     (cases_lt row i))
     (cases_lt i row)
-
--- bytes that lead only where every byte does lead to the same ends
-pub same_bytes : (m : Machine) (from : StateSet) (steps : ByteSteps) → AreStepsOf m from steps → (a b : ℕ) → a < 256 → b < 256 → LeadsAsEvery steps a → LeadsAsEvery steps b
-    → (y : List ℕ) (k : ℕ) → AcceptsFrom m from (a ∷ y) k ↔ AcceptsFrom m from (b ∷ y) k
-same_bytes m from steps are a b la lb every every' y k = iff_trans (are a la y k) (iff_trans (
-  λ (t, lt, at, h). (t, lt, every' t ∙ sym (every t) ∙ at, h),
-  λ (t, lt, at, h). (t, lt, every t ∙ sym (every' t) ∙ at, h),
-) (iff_sym (are b lb y k)))
 
 module _ (m : Machine) (representatives : List ℕ) (w : ℕ) where
   pub cells_kept : (found : List Found) (old new rows : List ℕ) → AreFoundSets m found old → KeepsLists old new → AreCells m representatives w found old rows → AreCells m representatives w found new rows

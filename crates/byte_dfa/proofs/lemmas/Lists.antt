@@ -97,9 +97,6 @@ list_kept old new n place P keeps is =
     let (list, same, count) = keeps.1 n place is.list in
     record { list = list; has = λ k. subst (λ l. IsTrue (is_reported k l) ↔ ((k < n) × P k)) (sym same) (is.has k) }
 
-pub none_kept : (old more : List ℕ) → HasNoneFirst old → HasNoneFirst (old ++ more)
-none_kept old more (some, zero_first) = (omega (arith, length-append old more), get_or_append_left old more 0 0 some ∙ zero_first)
-
 -- the empty list, and one that was appended
 
 pub empty_at : (numbers : List ℕ) → HasNoneFirst numbers → list_at numbers 0 ≡ []

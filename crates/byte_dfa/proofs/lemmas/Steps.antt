@@ -19,10 +19,6 @@ drop_bytes zero y h = h
 drop_bytes (suc i) [] h = tt
 drop_bytes (suc i) (c ∷ cs) h = drop_bytes i cs h.1
 
--- the entry of a byte lies in the table
-pub entry_within : (d : Table) (s b : ℕ) → IsTable d → IsRow d s → b < 256 → s + slice_index d.class_of b < length d.next
-entry_within d s b sound (i, is, room) byte = let class = sound.classes b byte in omega arith
-
 swapped : (p q r : Bool) → (q || (p || r)) ≡ ((p || q) || r)
 swapped true true r = refl
 swapped true false r = refl

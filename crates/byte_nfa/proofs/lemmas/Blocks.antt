@@ -161,11 +161,6 @@ block_put a old mid masks masks' more before own b are same room grown split pla
           (row, subst (λ ms'. AreMasks a b'.low b'.high ms' b'.place) (sym grown) more_are)
     ]
 
-pub no_blocks : (a : List State) (blocks : List (Option Block)) (masks : List ℕ) → blocks ≡ [] → AreBlocks a blocks masks
-no_blocks a blocks masks empty w b is =
-    let none : get_or blocks w None ≡ None = ap (λ xs. get_or xs w None) empty in
-    absurd cc
-
 -- a state more in masks
 
 below_same : (x t s : ℕ) → t + 1 ≡ s → (x == t) ≡ (x + 1 == s)

@@ -1,23 +1,13 @@
 -- Bytes that states read alike lead to the same ends.
-use Rattle.std.proofs.Common.{◌≡◌, ℕ, ◌+◌, ◌<◌, ◌≤◌, Bool, true, false, true≢false, ◌||◌, List, [], ◌∷◌, length, IsTrue, arith, refl, ap, sym, subst, ◌∙◌, below_more}
+use Rattle.std.proofs.Common.{◌≡◌, ℕ, ◌+◌, ◌<◌, Bool, true, false, true≢false, ◌||◌, List, ◌∷◌, IsTrue, arith, refl, ap, sym, subst, ◌∙◌, below_more}
 use Rattle.std.specs.Prelude.{◌↔◌, IsFalse}
-use Rattle.std.proofs.lemmas.Bool.{cases_lt}
-use Rattle.std.proofs.lemmas.List.{get_or_past}
-use Rattle.std.proofs.Math.Logic.{⊎_elim}
 use Rattle.bit_sets.specs.declared.byte_set.ByteSet.{ByteSet}
 use Rattle.byte_nfa.specs.declared.state_set.StateSet.{StateSet}
 use Rattle.bit_sets.specs.Bytes.{has_byte, differ}
-use Rattle.byte_nfa.specs.Steps.{State, reads, skips, stays, state, Machine, Accepts, ends, by_byte, by_skip, by_out, by_stay}
+use Rattle.byte_nfa.specs.Steps.{State, reads, stays, state, Machine, Accepts, ends, by_byte, by_skip, by_out, by_stay}
 use Rattle.byte_nfa.specs.Runs.{AcceptsFrom}
 use Rattle.byte_nfa.specs.Equivalent.{reads_byte, AreEquivalent}
 use Rattle.byte_nfa.proofs.lemmas.Pass.{or_none}
-
--- states past the last read nothing
-pub all_equivalent : (a : List State) (n b c : ℕ) → length a ≤ n → ((s : ℕ) → s < n → reads_byte (state a s) b ≡ reads_byte (state a s) c) → AreEquivalent a b c
-all_equivalent a n b c le each s = ⊎_elim {C = reads_byte (state a s) b ≡ reads_byte (state a s) c}
-    (λ low. each s low)
-    (λ past. let none : state a s ≡ skips [] = get_or_past a s (skips []) (omega arith) in ap (λ st. reads_byte st b) none ∙ sym (ap (λ st. reads_byte st c) none))
-    (cases_lt s n)
 
 -- one state more: those so far read both bytes or neither exactly if the test fails
 pub equivalent_more : (f g : ℕ → Bool) (i : ℕ) (old new : Bool) → new ≡ (differ (f i) (g i) || old) → IsFalse old ↔ ((s : ℕ) → s < i → f s ≡ g s)

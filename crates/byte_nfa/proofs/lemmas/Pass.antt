@@ -167,13 +167,6 @@ listed_below s t (u ∷ us) h e = ⊎_elim {C = t < s}
     (λ other. listed_below s t us (λ i lt. h (suc i) (omega arith)) other)
     (or_cases (t == u) (is_reported t us) e)
 
--- before the end of the text nothing is named
-pub quiet_inside : (st : State) (b k : ℕ) → names st (Some b) k ≡ false
-quiet_inside (reads w u) b k = refl
-quiet_inside (skips us) b k = refl
-quiet_inside (stays w us) b k = refl
-quiet_inside (final j) b k = refl
-
 pub quiet_step : (st : State) (b k : ℕ) → false ≡ (names st (Some b) k || false)
 quiet_step (reads w u) b k = refl
 quiet_step (skips us) b k = refl
@@ -272,11 +265,6 @@ some_end P Q (Some k) h e = (k, h)
 pub no_end : (P : Type 0) (Q : ℕ → Type 0) (o : Option ℕ) → MatchOption o P Q → is_some o ≡ false → P
 no_end P Q None h e = h
 no_end P Q (Some k) h e = absurd (true≢false e)
-
--- a number that is found is found
-pub some_there : (P : Type 0) (Q : ℕ → Type 0) (o : Option ℕ) → MatchOption o P Q → (P → ⊥) → is_some o ≡ true
-some_there P Q None h never = absurd (never h)
-some_there P Q (Some k) h never = refl
 
 -- a fact beside the others
 pub or_left : {P Q R S : Type 0} → P ↔ Q → R ↔ (Q ⊎ S) → R ↔ (P ⊎ S)

@@ -22,12 +22,6 @@ from_zero (skips us) = λ i lt. omega arith
 from_zero (stays w us) = λ i lt. omega arith
 from_zero (final k) = tt
 
-pub lower_from : (low least : ℕ) (st : State) → low ≤ least → GoesFrom least st → GoesFrom low st
-lower_from low least (reads w t) le h = omega (arith, le, h)
-lower_from low least (skips us) le h = λ i lt. let from = h i lt in omega arith
-lower_from low least (stays w us) le h = λ i lt. let from = h i lt in omega arith
-lower_from low least (final k) le h = tt
-
 listed_from : (low t : ℕ) (us : List ℕ) → AreFrom low us → is_reported t us ≡ true → low ≤ t
 listed_from low t [] h e = absurd (true≢false (sym e))
 listed_from low t (u ∷ us) h e = ⊎_elim {C = low ≤ t}
@@ -112,9 +106,3 @@ one_within low start set le is t at = ⊎_elim {C = (low ≤ t) × (t < start + 
     (λ same. let is_start : t ≡ start = eqb-true t start same in (omega arith, omega arith))
     (λ no. absurd (true≢false (sym no)))
     (or_cases (t == start) false (sym (is t) ∙ at))
-
-pub within_from : (low high : ℕ) (set : StateSet) → IsWithin low high set → (t : ℕ) → t < low → has_state set t ≡ false
-within_from low high set within t lt = ⊎_elim {C = has_state set t ≡ false}
-    (λ yes. let bounds = within t yes in absurd (omega (arith, bounds.0)))
-    (λ no. no)
-    (cases_Bool (has_state set t))

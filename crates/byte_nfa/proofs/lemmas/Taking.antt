@@ -84,17 +84,6 @@ takes_one a s limit c now next now' next' some below between marked order is_now
           (or_cases (goes_next st s (Some c) t) (next t) (sym (is_next t) ∙ at));
     }
 
-pub takes_none : (a : List State) (s limit c : ℕ) (now next : ℕ → Bool) → s < limit → ((t : ℕ) → s ≤ t → t < limit → now t ≡ false) → Takes a c limit now next now next s false
-takes_none a s limit c now next below none = record {
-  below = below;
-  holds = λ z k. none_between a s limit k (c ∷ z) now next (λ _. false) (omega arith) none;
-  from = λ t at. inl at;
-  to = λ t at. inl at;
-  kept = λ t at. at;
-  put = λ yes. absurd (true≢false (sym yes));
-  none = λ is_none t at. at;
-}
-
 -- the bound above which nothing is in the set is no bound of what is taken
 pub takes_more : (a : List State) (end limit c low : ℕ) (now next now' next' : ℕ → Bool) (some : Bool) → end ≤ limit → ((t : ℕ) → end ≤ t → t < limit → now t ≡ false)
     → Takes a c end now next now' next' low some → Takes a c limit now next now' next' low some

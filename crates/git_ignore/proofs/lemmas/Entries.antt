@@ -1,5 +1,5 @@
 -- What is stored of the rules of a file.
-use Rattle.std.proofs.Common.{◌≡◌, ℕ, zero, suc, ◌+◌, ◌<◌, ◌≤◌, List, [], ◌∷◌, ◌++◌, length, Bool, true, false, cond, refl, ap, sym, subst, ◌∙◌, arith, length-append, append-nil, drop, drop-cons, get_or}
+use Rattle.std.proofs.Common.{◌≡◌, ℕ, zero, suc, ◌+◌, ◌<◌, List, [], ◌∷◌, ◌++◌, length, Bool, true, false, cond, refl, ap, sym, ◌∙◌, arith, length-append, append-nil, drop, drop-cons, get_or}
 use Rattle.std.specs.Prelude.{◌&&◌, ◌||◌, not, OnOk, Result, Ok, Err, Option, Some, None, if◌then◌else◌, filter, slice_get, All}
 use Rattle.std.specs.List.{range_with_len}
 use Rattle.std.specs.Option.{option_map_or}
@@ -7,13 +7,12 @@ use Rattle.std.proofs.lemmas.List.Elements.{All-append}
 use Rattle.globset.specs.GlobMatches.{GlobValue, glob_matches}
 use Rattle.globset.specs.Excluded.{excluded, is_reported}
 use Rattle.globset.specs.Answer.{matching_indexes}
-use Rattle.globset.specs.Indexes.{passes_at, passing_indexes}
+use Rattle.globset.specs.Indexes.{passes_at}
 use Rattle.ignore_pattern.specs.Patterns.{Pattern, pattern_matches, pattern_of_line}
 use Rattle.ignore_pattern.specs.Meaning.{HasMeaningOf, MatchesNothing}
-use Rattle.ignore_pattern.specs.Answer.{IsFor, IsPatternOf}
+use Rattle.ignore_pattern.specs.Answer.{IsPatternOf}
 use Rattle.ignore_pattern.specs.declared.pattern.IgnorePattern.{IgnorePattern}
 use Rattle.git_ignore.specs.Rules.{Rule, applies, last_rule, said, line_of, decision, deciding_line, rules_of}
-use Rattle.git_ignore.specs.declared.decision.Decision.{Decision}
 use Rattle.git_ignore.specs.declared.entry.RuleEntry.{RuleEntry}
 use Rattle.git_ignore.specs.inner.Entries.{is_for, entry_of, entry_of_rule, decision_of, line_of_entry, last_entry, AreEntriesOf, rule_at, chosen, last_chosen}
 

@@ -1,7 +1,7 @@
 -- The lines of bytes, as a search for line feeds finds them.
-use Rattle.std.proofs.Common.{◌≡◌, ℕ, zero, suc, ◌+◌, ◌<◌, ◌≤◌, List, [], ◌∷◌, ◌++◌, length, take, drop, Bool, true, false, refl, ap, sym, ◌∙◌, arith, add-one, append-nil, append_assoc, subst}
-use Rattle.std.specs.Prelude.{◌==◌, Option, Some, None, if◌then◌else◌, slice_index}
-use Rattle.memchr.specs.Find.{IsFirstByte, Nowhere, Passes, is_byte}
+use Rattle.std.proofs.Common.{◌≡◌, ℕ, zero, suc, ◌+◌, List, [], ◌∷◌, ◌++◌, take, drop, Bool, true, false, refl, ap, sym, ◌∙◌, arith, append-nil, append_assoc, subst}
+use Rattle.std.specs.Prelude.{◌==◌, Option, Some, None, if◌then◌else◌}
+use Rattle.memchr.specs.Find.{IsFirstByte, is_byte}
 use Rattle.ignore_pattern.specs.Lines.{lines_of, onto_first}
 use Rattle.ignore_pattern.specs.Patterns.{Pattern, pattern_of_line}
 use Rattle.git_ignore.specs.Rules.{Rule, rules_from}

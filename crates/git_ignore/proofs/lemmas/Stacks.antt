@@ -1,6 +1,6 @@
 -- The folders above paths, and what the files of several folders say.
 use Rattle.std.proofs.Common.{◌≡◌, ℕ, zero, suc, ◌+◌, ◌-◌, ◌<◌, ◌≤◌, List, [], ◌∷◌, ◌++◌, length, take, drop, get_or, Bool, true, false, refl, ap, sym, subst, ◌∙◌, arith, length-append, append-nil, append_assoc}
-use Rattle.std.specs.Prelude.{◌==◌, ◌&&◌, ◌||◌, if◌then◌else◌, map, reverse, All}
+use Rattle.std.specs.Prelude.{◌==◌, ◌&&◌, ◌||◌, if◌then◌else◌, map, reverse}
 use Rattle.std.specs.List.{list_any}
 use Rattle.std.specs.Str.{bytes_eq}
 use Rattle.std.proofs.lemmas.Bool.{false_from_ne_true}
@@ -13,12 +13,12 @@ use Rattle.globset.specs.SetValue.{ScratchValue, FitsAsBefore}
 use Rattle.git_ignore.specs.Folders.{IgnoreFile, is_in, file_decision, or_else, files_decision, folders_above, ignores, is_below_ignored, decision_below}
 use Rattle.git_ignore.specs.Rules.{decision}
 use Rattle.git_ignore.specs.RulesValue.{FitsRules}
-use Rattle.git_ignore.specs.StackValue.{Level, StackValue, left}
+use Rattle.git_ignore.specs.StackValue.{StackValue, left}
 use Rattle.git_ignore.specs.declared.decision.Decision.{Decision}
 use Rattle.git_ignore.specs.declared.decision.Decision.TheVariants.{Ignored, Kept, Undecided}
 use Rattle.git_ignore.specs.declared.folder_rules.FolderRules.{FolderRules}
 use Rattle.git_ignore.specs.declared.stack.FolderLevel.{FolderLevel}
-use Rattle.git_ignore.specs.inner.Stacks.{file_of, files_of, FitAll, level_of, IsLevel, AreLevels}
+use Rattle.git_ignore.specs.inner.Stacks.{file_of, files_of, FitAll, level_of, AreLevels}
 use Rattle.git_ignore.specs.inner.StackParts.{IsStack, stack_value}
 
 -- ---- folders above a path
@@ -206,9 +206,6 @@ level_pushed folder more files l ls e n i h =
 
 pub fit_still : (old new : ScratchValue) (files : List FolderRules) → FitsAsBefore old new → FitAll old files → FitAll new files
 fit_still old new files h all k d within = h.sets (get_or files k d).rules.set (all k d within)
-
-pub fit_at : (scratch : ScratchValue) (files : List FolderRules) (i : ℕ) (f : FolderRules) → i < length files → f ≡ get_or files i f → FitAll scratch files → FitsRules scratch f.rules
-fit_at scratch files i f h e all = subst (λ (r : FolderRules). FitsRules scratch r.rules) (sym e) (all i f h)
 
 fit_one : (scratch : ScratchValue) (f : FolderRules) → FitsRules scratch f.rules → FitAll scratch (f ∷ [])
 fit_one scratch f h zero d within = h

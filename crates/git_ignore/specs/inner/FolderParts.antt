@@ -1,5 +1,5 @@
 -- Decisions about all folders above a path, as they are put. No contract of the crate's public calls cites this.
-use Rattle.std.specs.Prelude.{◌≡◌, ◌≤◌, ◌<◌, ◌==◌, ℕ, true, List, None, length, take, drop, get_or, if◌then◌else◌}
+use Rattle.std.specs.Prelude.{◌≡◌, ◌≤◌, ◌<◌, ◌==◌, ℕ, true, List, None, take, drop, get_or, if◌then◌else◌}
 use Rattle.globset.specs.GlobMatches.{GlobValue}
 use Rattle.glob_prefixes.specs.Prefixes.{all_matching_indexes}
 use Rattle.git_ignore.specs.Folders.{IgnoreFile, file_decision, files_decision, or_else}

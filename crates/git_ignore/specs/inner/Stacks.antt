@@ -1,5 +1,5 @@
 -- What is stored of a walk. No contract of the crate's public calls cites this.
-use Rattle.std.specs.Prelude.{◌≡◌, ◌≤◌, ℕ, List, [], ◌∷◌, map, reverse, length, take, All}
+use Rattle.std.specs.Prelude.{◌≡◌, ◌≤◌, ℕ, List, [], ◌∷◌, map, length, take, All}
 use Rattle.globset.specs.SetValue.{ScratchValue}
 use Rattle.git_ignore.specs.Folders.{IgnoreFile, is_below_ignored}
 use Rattle.git_ignore.specs.RulesValue.{FitsRules}

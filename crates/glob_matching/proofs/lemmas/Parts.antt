@@ -116,14 +116,6 @@ visits_of_parts n t a s b v u w few starts first then =
 
 -- ---- parts
 
-pub no_parts : (m : Machine) → ArePartsBelow m 0 [] []
-no_parts m = record {
-  reached = λ y k. (λ (s, begins, from, lt, h). absurd (omega arith), λ h. absurd (⊎_elim {C = ⊥} (λ no. no) (λ no. no) h));
-  few = omega arith;
-  tables_counted = λ i d lt. absurd (omega arith);
-  automata_counted = λ i d lt. absurd (omega arith);
-}
-
 -- a range in two
 between_more : (m : Machine) (low high : ℕ) (y : List ℕ) (k : ℕ) → low ≤ high → IsReachedBetween m 0 high y k ↔ (IsReachedBetween m 0 low y k ⊎ IsReachedBetween m low high y k)
 between_more m low high y k le = (

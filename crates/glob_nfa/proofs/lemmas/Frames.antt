@@ -6,7 +6,7 @@ use Rattle.std.proofs.lemmas.List.{reverse-append, length-map, length-reverse}
 use Rattle.glob_syntax.specs.declared.options.Options.{Options}
 use Rattle.glob_syntax.specs.declared.token.Token as held
 use Rattle.glob_syntax.specs.declared.token.Token.TheVariants as variants
-use Rattle.glob_syntax.specs.Token.{Token, Group, Tokens, end, Branches, none, branch}
+use Rattle.glob_syntax.specs.Token.{Token, Group, Tokens, Branches, none, branch}
 use Rattle.glob_syntax.specs.Reading.{Levels, in_level, open_level, next_branch, close_level, first_branch}
 use Rattle.glob_syntax.specs.FlatTokens.{all_levels, Flat, simple, opening, comma, closing, level}
 use Rattle.glob_syntax.specs.Views.{flat_of}
@@ -22,7 +22,7 @@ use Rattle.glob_nfa.specs.inner.Building.{Grows, Builds, BuildsToken}
 use Rattle.glob_nfa.specs.inner.Frames.{Frame, frame_of, frames_of, fresh, led, with_start, ended, targets_of, AreOpen, AreBlank, AreWithin, levels_weight, Stands, flat_weight, BuildsFlat, IsNotBlank}
 use Rattle.glob_nfa.specs.declared.groups.Frame as kept
 use Rattle.glob_nfa.proofs.lemmas.Booleans.{or_first}
-use Rattle.glob_nfa.proofs.lemmas.Building.{agrees_old, agrees_higher, grows_then, grows_none, grows_push}
+use Rattle.glob_nfa.proofs.lemmas.Building.{agrees_old, agrees_higher, grows_then, grows_push}
 
 -- ---- frames as the program keeps them
 
@@ -137,15 +137,6 @@ weight_group o f g fs (bs, none ∷ more) (blank, rest, outer) = absurd outer
 weight_group o f g fs (bs, branch ts us ∷ more) (blank, rest, outer) = omega arith
 
 -- ---- the steps
-
-pub stands_start : (o : Options) (old : Machine) (e : ℕ) → e < size old → Stands o old old (fresh e ∷ []) (branch end none ∷ []) e
-stands_start o old e lt = record {
-  grows = grows_none old;
-  count = omega arith;
-  within = (lt, lt, (λ i h. absurd (omega arith)), tt);
-  blank = (refl, refl, tt);
-  builds = λ a agrees. (refl, refl, refl, tt);
-}
 
 stands_token : (o : Options) (old mid new : Machine) (f : Frame) (fs : List Frame) (l : Levels) (t : Token) (s : ℕ) (b : Bool) (e : ℕ)
     → Stands o old mid (f ∷ fs) (all_levels l) e → b ≡ is_blank_token t → s < size new → size new ≤ size mid + token_weight o t

@@ -1,17 +1,11 @@
 -- The indexes that a set returns for a path.
-use Rattle.std.proofs.Common.{◌≡◌, ℕ, zero, suc, ◌+◌, ◌<◌, ◌≤◌, List, [], ◌∷◌, ◌++◌, Bool, true, cond, length, take, get_or, refl, ap, sym, ◌∙◌, arith}
-use Rattle.std.specs.Prelude.{◌*◌, ◌≢◌, ◌↔◌, map, IsTrue, filter, false}
+use Rattle.std.proofs.Common.{◌≡◌, ℕ, zero, suc, ◌+◌, ◌≤◌, List, [], ◌∷◌, ◌++◌, Bool, true, cond, length, refl, ap, sym, ◌∙◌, arith}
+use Rattle.std.specs.Prelude.{◌≢◌, ◌↔◌, map, IsTrue, filter, false}
 use Rattle.std.specs.List.{range_with_len}
-use Rattle.std.proofs.lemmas.List.{take_more, length-map}
-use Rattle.std.proofs.lemmas.List.Sums.{sum_by-append}
+use Rattle.std.proofs.lemmas.List.{length-map}
 use Rattle.std.proofs.Math.Nat.{mul-le-mul_left}
-use Rattle.glob_syntax.specs.StatesPerByte.{states_per_byte}
-use Rattle.glob_syntax.specs.inner.Weight.{weight}
-use Rattle.glob_strategy.specs.Direct.{is_direct, needs_automaton}
 use Rattle.glob_path.specs.Below.{path_below}
-use Rattle.std.proofs.lemmas.List.Elements.{All-append, All-cons, All-nil}
-use Rattle.globset_glob.specs.GlobMatches.{GlobValue, IsRead, tokens_of_glob, glob_matches}
-use Rattle.globset_glob.specs.Cost.{cost}
+use Rattle.globset_glob.specs.GlobMatches.{GlobValue, glob_matches}
 use Rattle.set_matcher.specs.Globs.{TokenGlob, reads, reported_indexes, max_visits}
 use Rattle.set_matcher.specs.Below as below
 use Rattle.set_matcher.specs.Globs as tokens
@@ -24,7 +18,7 @@ use Rattle.set_matcher.specs.declared.matching_sets.MatchingSets.{MatchingSets}
 use Rattle.set_matcher.specs.SetMatcherValue.{SetMatcherValue, matcher_globs}
 use Rattle.set_matcher.specs.inner.Capacity.{HasCapacity}
 use Rattle.globset.specs.SetValue.{SetValue, set_globs, set_states}
-use Rattle.globset.specs.inner.StoredGlobs.{AreAdded, AreStored, by_tokens, set_value}
+use Rattle.globset.specs.inner.StoredGlobs.{AreStored, by_tokens, set_value}
 
 -- ---- globs by their tokens
 
@@ -55,10 +49,6 @@ none_of_none globs path e = (λ y. absurd (cc), λ n. absurd (n (sym (answer_of_
 
 -- ---- one glob more
 
--- the first globs, and one more
-pub first_more : (globs : List GlobValue) (i : ℕ) (g : GlobValue) → i < length globs → g ≡ get_or globs i g → take (i + 1) globs ≡ take i globs ++ g ∷ []
-first_more globs i g h e = take_more globs i g h ∙ ap (λ (x : GlobValue). take i globs ++ x ∷ []) (sym e)
-
 pub map_push : (globs : List GlobValue) (g : GlobValue) → map by_tokens (globs ++ g ∷ []) ≡ map by_tokens globs ++ by_tokens g ∷ []
 map_push [] g = refl
 map_push (x ∷ xs) g = ap (λ (l : List TokenGlob). by_tokens x ∷ l) (map_push xs g)
@@ -66,45 +56,6 @@ map_push (x ∷ xs) g = ap (λ (l : List TokenGlob). by_tokens x ∷ l) (map_pus
 of_states : (b : Bool) (n m : ℕ) → n ≤ m → cond b n 0 ≤ cond b m 0
 of_states true n m le = le
 of_states false n m le = omega arith
-
-pub size_push : (globs : List GlobValue) (g : GlobValue) (path : List ℕ) → weight g.options (tokens_of_glob g) ≤ states_per_byte g.options * length g.text → tokens.load (map by_tokens globs) path ≤ load globs path
-    → tokens.load (map by_tokens (globs ++ g ∷ [])) path ≤ load (globs ++ g ∷ []) path
-size_push globs g path few before =
-    let one = sum_by-append (λ x. cond (needs_automaton x.options (tokens_of_glob x) path) (cost x) 0) globs (g ∷ []) in
-    let two = ap (λ xs. tokens.load xs path) (map_push globs g) ∙ sum_by-append (λ x. reads x path) (map by_tokens globs) (by_tokens g ∷ []) in
-    let more = of_states (needs_automaton g.options (tokens_of_glob g) path) (weight g.options (tokens_of_glob g) + 4) (cost g) (omega (arith, few)) in
-    omega (arith, one, two, more, before)
-
-of_direct : (b : Bool) (n m : ℕ) → n ≤ m → cond b 0 n ≤ cond b 0 m
-of_direct true n m le = omega arith
-of_direct false n m le = le
-
-size_below_push : (globs : List GlobValue) (g : GlobValue) → weight g.options (tokens_of_glob g) ≤ states_per_byte g.options * length g.text → below.load_below (map by_tokens globs) ≤ load_below globs
-    → below.load_below (map by_tokens (globs ++ g ∷ [])) ≤ load_below (globs ++ g ∷ [])
-size_below_push globs g few before =
-    let one = sum_by-append (λ x. cond (is_direct x.options (tokens_of_glob x)) 0 (cost x)) globs (g ∷ []) in
-    let two = ap below.load_below (map_push globs g) ∙ sum_by-append (λ x. below.reads_below x) (map by_tokens globs) (by_tokens g ∷ []) in
-    let more = of_direct (is_direct g.options (tokens_of_glob g)) (weight g.options (tokens_of_glob g) + 4) (cost g) (omega (arith, few)) in
-    omega (arith, one, two, more, before)
-
--- the matcher of the globs, and one glob more
-pub added_push : (before after : List GlobValue) (old new : SetMatcherValue) (g : GlobValue) → AreAdded before old → IsRead g → after ≡ before ++ g ∷ [] → matcher_globs new ≡ matcher_globs old ++ by_tokens g ∷ []
-    → weight g.options (tokens_of_glob g) ≤ states_per_byte g.options * length g.text → AreAdded after new
-added_push before after old new g are read is matcher few = record {
-  read = rw is (All-append IsRead before (g ∷ []) are.read (All-cons IsRead g [] read (All-nil IsRead)));
-  matcher = matcher ∙ ap (λ gs. gs ++ by_tokens g ∷ []) are.matcher ∙ sym (map_push before g) ∙ ap (map by_tokens) (sym is);
-  size = λ path. rw is (size_push before g path few (are.size path));
-  size_below = rw is (size_below_push before g few are.size_below);
-}
-
--- no globs
-pub none_added : (globs : List GlobValue) (matcher : SetMatcherValue) → globs ≡ [] → matcher_globs matcher ≡ [] → AreAdded globs matcher
-none_added globs matcher none empty = record {
-  read = rw none (All-nil IsRead);
-  matcher = rw none empty;
-  size = λ path. rw none (omega arith);
-  size_below = rw none (omega arith);
-}
 
 -- the visits of a matcher, within those of the set
 pub visits_within : (globs : List GlobValue) (path : List ℕ) → tokens.load (map by_tokens globs) path ≤ load globs path → max_visits (map by_tokens globs) path ≤ max_set_visits globs path

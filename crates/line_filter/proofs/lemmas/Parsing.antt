@@ -1,13 +1,12 @@
 -- Arguments parsed one after another.
-use Rattle.std.proofs.Common.{◌≡◌, ℕ, List, [], ◌∷◌, ◌++◌, Bool, ◌||◌, ap, sym, ◌∙◌, refl, append_assoc, append-nil, cond, Result, Ok, Err, codes, inl, inr}
+use Rattle.std.proofs.Common.{◌≡◌, ℕ, List, [], ◌∷◌, ◌++◌, ◌||◌, ap, sym, ◌∙◌, refl, append_assoc, append-nil, cond, Result, Ok, Err, codes, inl, inr}
 use Rattle.std.specs.List.{list_any}
 use Rattle.std.specs.Str.{bytes_eq}
 use Rattle.globset.specs.GlobMatches.{GlobValue}
-use Rattle.line_filter.specs.Command.{CommandValue, FaultValue, IsFaultOf, is_double_dash, is_in_force, is_numbered, parse_arguments, parse_argument, collect_globs, with_some_glob, command_of_globs}
+use Rattle.line_filter.specs.Command.{FaultValue, IsFaultOf, is_double_dash, is_in_force, is_numbered, parse_arguments, parse_argument, collect_globs}
 use Rattle.line_filter.specs.inner.Parsing.{no_flags, parse_globs, parse_all_with_flags, collect_onto}
 use Rattle.line_filter.specs.declared.arguments.flags.Flags.{Flags}
 use Rattle.line_filter.specs.declared.arguments.fault.CommandFault.{CommandFault}
-use Rattle.line_filter.specs.declared.arguments.fault.CommandFault.TheVariants.{NoGlob}
 
 -- the flags after these arguments, of which the nearest comes first
 abbrev flags_of : List (List ℕ) → Flags
@@ -56,30 +55,10 @@ collect_onto-arguments arguments flags globs e f =
     ∙ ap (λ (l : List GlobValue). collect_onto l (parse_all_with_flags no_flags arguments)) f
     ∙ ap (collect_onto []) (parse_all_with_flags-arguments [] arguments) ∙ collect_onto-is [] (parse_arguments [] arguments) ∙ onto_nothing (collect_globs (parse_arguments [] arguments))
 
--- the command of what was collected
-abbrev with_numbered : List (List ℕ) → Result (List GlobValue) FaultValue → Result CommandValue FaultValue
-with_numbered arguments r = elim r [ Ok globs ↦ with_some_glob (is_numbered arguments) globs | Err fault ↦ Err fault ]
-
 -- an error of an equal result
 pub same_fault : (r s : Result (List GlobValue) FaultValue) (fault : CommandFault) → r ≡ s → IsFaultOf r fault → IsFaultOf s fault
 same_fault r s fault e (inl memory) = inl memory
 same_fault r s fault e (inr is) = inr (sym e ∙ is)
-
--- no argument is a glob
-pub command_empty : (arguments : List (List ℕ)) (globs : List GlobValue) → collect_globs (parse_arguments [] arguments) ≡ Ok globs → globs ≡ [] → IsFaultOf (command_of_globs arguments) NoGlob
-command_empty arguments globs e none = inr (ap (with_numbered arguments) (e ∙ ap Ok none))
-
--- a command of some globs
-with_some_glob-some : (numbered : Bool) (globs : List GlobValue) → (globs ≡ [] → ⊥) → with_some_glob numbered globs ≡ Ok (record { globs = globs; numbered = numbered })
-with_some_glob-some numbered [] some = absurd (some refl)
-with_some_glob-some numbered (glob ∷ globs) some = refl
-
--- some arguments are globs
-pub command_given : (arguments : List (List ℕ)) (globs set : List GlobValue) (numbered : Bool) → collect_globs (parse_arguments [] arguments) ≡ Ok globs → set ≡ globs → (set ≡ [] → ⊥) →
-    numbered ≡ is_numbered arguments → command_of_globs arguments ≡ Ok (record { globs = set; numbered = numbered })
-command_given arguments globs set numbered e same some is =
-    ap (with_numbered arguments) (e ∙ ap Ok (sym same)) ∙ with_some_glob-some (is_numbered arguments) set some
-    ∙ ap (λ (b : Bool). Ok (record { globs = set; numbered = b })) (sym is)
 
 -- whether the output is numbered, after all arguments were parsed
 pub numbered-flags : (arguments : List (List ℕ)) (start middle last : Flags) → start ≡ no_flags → middle.numbered ≡ (start.numbered || is_numbered arguments) → last ≡ middle →

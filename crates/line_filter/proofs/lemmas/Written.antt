@@ -7,10 +7,6 @@ use Rattle.line_filter.specs.inner.Sifting.{FailsMidway, WritesAllBut}
 use Rattle.line_filter.specs.declared.sifting.fault.SiftFault.{SiftFault}
 use Rattle.line_filter.specs.declared.sifting.fault.SiftFault.TheVariants.{Read, Write, OutOfMemory}
 
--- nothing was written, and the same bytes are pending
-pub WritesAllBut-same : (w : Option (List ℕ)) (h : List ℕ) → WritesAllBut w w h h
-WritesAllBut-same w h = ([], Appends-nil w, refl)
-
 -- nothing was written
 pub AppendsPrefix-none : (w : Option (List ℕ)) (bytes : List ℕ) → AppendsPrefix w w bytes
 AppendsPrefix-none w bytes = ([], bytes, Appends-nil w, refl)

@@ -1,5 +1,5 @@
 -- What is found for a folder, by keys and by automata.
-use Rattle.std.proofs.Common.{◌≡◌, ℕ, ◌+◌, ◌*◌, ◌≤◌, ◌⊎◌, inl, inr, Bool, true, List, [], ◌∷◌, IsTrue, refl, arith}
+use Rattle.std.proofs.Common.{ℕ, ◌+◌, ◌*◌, ◌≤◌, ◌⊎◌, inl, inr, Bool, true, List, [], ◌∷◌, IsTrue, refl, arith}
 use Rattle.std.specs.Prelude.{◌↔◌}
 use Rattle.std.proofs.Math.Logic.{⊎_elim}
 use Rattle.std.proofs.lemmas.List.Sums.{sum_by-append}
@@ -39,14 +39,6 @@ last_of_three {Yes} {A} {B} {C} no_a no_b last = (
 pub max_within : (ms : List Machine) → max_size ms ≤ total_reads ms
 max_within [] = omega arith
 max_within (m ∷ ms) = let rest = max_within ms in let sum = sum_by-append max_reads (m ∷ []) ms in omega (arith, rest, sum)
-
--- visits of the first of two runs, and of both
-pub first_run : (n s a b now v : ℕ) → s ≤ a → v ≤ now + n * s → v ≤ now + n * (a + b)
-first_run n s a b now v le one = let more = mul-le n s n (a + b) (omega arith) (omega (arith, le)) in omega (arith, one, more)
-
-pub both_runs : (n s a b now v w : ℕ) → s ≤ a → v ≤ now + n * s → w ≤ v + n * b → w ≤ now + n * (a + b)
-both_runs n s a b now v w le one two =
-    let more = mul-le n s n a (omega arith) le in let sum : n * (a + b) ≡ n * a + n * b = omega arith in omega (arith, one, two, more, sum)
 
 -- ---- keys and automata
 

@@ -187,9 +187,6 @@ tokens_added globs g n old new before tokens at keys are more size below few = r
   few_below = omega (arith, few, before.few_below, load_below_push globs g);
 }
 
-true_as : (a b : Bool) → a ≡ b → IsTrue b ↔ IsTrue a
-true_as a b same = (λ h. same ∙ h, λ h. sym same ∙ h)
-
 -- tokens more, which match the part of the path just if the glob is reported
 some_added : (x : IndexedTokens) (xs : List IndexedTokens) (g : TokenGlob) (n : ℕ) (text path : List ℕ) (k : ℕ) → x.index ≡ n → is_reported g path ≡ tokens_match x.options x.tokens text
     → SomeMatches (xs ++ x ∷ []) text k ↔ (SomeMatches xs text k ⊎ IsNew n g path k)

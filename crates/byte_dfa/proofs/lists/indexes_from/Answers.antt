@@ -1,4 +1,4 @@
-use Rattle.std.proofs.Common.{◌≡◌, ℕ, ◌+◌, ◌-◌, ◌<◌, ◌≤◌, ◌∷◌, [], ◌++◌, Bool, IsTrue, arith, sym, subst}
+use Rattle.std.proofs.Common.{◌≡◌, ℕ, ◌+◌, ◌-◌, ◌∷◌, [], ◌++◌, Bool, IsTrue, arith, sym, subst}
 use Rattle.bit_sets.specs.Indexes.{has_index}
 use Rattle.byte_dfa.proofs.lemmas.Lists.{IsReportedTo, listed_none, listed_past, listed_more}
 use Rattle.byte_dfa.proofs.lists.indexes_from.Goals as goal

@@ -1,5 +1,5 @@
-use Rattle.std.proofs.Common.{sym, ◌∙◌, arith}
-use Rattle.git_ignore.proofs.lemmas.Stacks.{file_decides, file_undecided, fit_at}
+use Rattle.std.proofs.Common.{◌∙◌, arith}
+use Rattle.git_ignore.proofs.lemmas.Stacks.{file_decides, file_undecided}
 use Rattle.git_ignore.proofs.folder_rules.decide_alone.Goals as goal
 
 pub returns-then-not-is_undecided-clause-decision : goal.returns-then-not-is_undecided-clause-decision

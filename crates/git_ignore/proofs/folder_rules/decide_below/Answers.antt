@@ -1,4 +1,4 @@
-use Rattle.std.proofs.Common.{◌≡◌, sym, ◌∙◌}
+use Rattle.std.proofs.Common.{sym, ◌∙◌}
 use Rattle.git_ignore.specs.inner.Stacks.{files_of}
 use Rattle.git_ignore.proofs.lemmas.Stacks.{ignored_above, not_below_ignored}
 use Rattle.git_ignore.proofs.folder_rules.decide_below.Goals as goal

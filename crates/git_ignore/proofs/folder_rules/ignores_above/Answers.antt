@@ -1,4 +1,4 @@
-use Rattle.std.proofs.Common.{◌≡◌, List, ℕ, ap, sym, ◌∙◌}
+use Rattle.std.proofs.Common.{ap, sym, ◌∙◌}
 use Rattle.std.proofs.lemmas.List.{take-take}
 use Rattle.git_ignore.specs.Folders.{is_below_ignored}
 use Rattle.git_ignore.specs.inner.Stacks.{files_of}

@@ -1,7 +1,7 @@
-use Rattle.std.proofs.Common.{◌≡◌, List, Bool, true, false, get_or, length, take, ap, sym, subst, ◌∙◌}
+use Rattle.std.proofs.Common.{◌≡◌, List, get_or, take, ap, sym, ◌∙◌}
 use Rattle.std.specs.Prelude.{◌==◌, ◌&&◌}
 use Rattle.std.proofs.lemmas.List.{take_all}
-use Rattle.git_ignore.specs.Folders.{files_decision, ignores, is_below_ignored}
+use Rattle.git_ignore.specs.Folders.{ignores, is_below_ignored}
 use Rattle.git_ignore.specs.declared.decision.Decision.{Decision}
 use Rattle.git_ignore.specs.declared.decision.Decision.TheVariants.{Undecided}
 use Rattle.git_ignore.specs.inner.Stacks.{files_of}

@@ -1,4 +1,4 @@
-use Rattle.std.proofs.Common.{◌≡◌, ℕ, ◌+◌, ◌<◌, ◌≤◌, length, true, false, ap, arith, ◌∙◌}
+use Rattle.std.proofs.Common.{◌≡◌, ℕ, ◌+◌, ◌<◌, ◌≤◌, length, true, false, arith, ◌∙◌}
 use Rattle.bit_sets.specs.Indexes.{has_index}
 use Rattle.glob_matching.proofs.lemmas.Filtered.{found_all, found_more, run_more, runs_all}
 use Rattle.glob_matching.proofs.filtered.find_from_marked.Goals as goal

@@ -1,5 +1,4 @@
-use Rattle.std.proofs.Common.{◌≡◌, List, Option, Some, None, Result, subst}
-use Rattle.std.specs.Prelude.{OnOk}
+use Rattle.std.proofs.Common.{Option, subst}
 use Rattle.ignore_pattern.specs.Answer.{IsPatternOf}
 use Rattle.ignore_pattern.specs.declared.pattern.IgnorePattern.{IgnorePattern}
 use Rattle.git_ignore.proofs.lemmas.Entries.{line_added, line_left_out, on_ok, on_ok_both}

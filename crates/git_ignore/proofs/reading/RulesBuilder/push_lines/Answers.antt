@@ -1,4 +1,4 @@
-use Rattle.std.proofs.Common.{ℕ, length, take, drop, arith}
+use Rattle.std.proofs.Common.{ℕ, arith}
 use Rattle.std.proofs.lemmas.Grind.{common_steps}
 use Rattle.std.proofs.lemmas.List.{length-drop, length-take, take_all}
 use Rattle.std.proofs.lemmas.Result.{on_ok_weaker}

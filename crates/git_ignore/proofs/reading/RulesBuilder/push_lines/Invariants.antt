@@ -1,4 +1,4 @@
-use Rattle.std.proofs.Common.{◌≡◌, ◌≤◌, ◌+◌, length}
+use Rattle.std.proofs.Common.{◌≤◌, ◌+◌, length}
 use Rattle.ignore_pattern.specs.Lines.{lines_of}
 use Rattle.git_ignore.specs.Rules.{rules_from}
 use Rattle.git_ignore.specs.inner.Entries.{AreReadUpTo}

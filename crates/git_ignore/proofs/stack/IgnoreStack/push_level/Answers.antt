@@ -1,4 +1,4 @@
-use Rattle.std.proofs.Common.{◌≡◌, ◌++◌, Bool, true, subst, sym, refl, arith}
+use Rattle.std.proofs.Common.{◌≡◌, ◌++◌, true, subst, sym, refl, arith}
 use Rattle.git_ignore.specs.Folders.{decision_below, ignores}
 use Rattle.git_ignore.specs.StackValue.{StackValue}
 use Rattle.git_ignore.proofs.lemmas.Stacks.{folder_entered}

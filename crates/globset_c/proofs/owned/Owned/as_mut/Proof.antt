@@ -1,5 +1,5 @@
 -- `as_mut` lends the object, and the owner follows it.
-use mathlib.Core.Path.{◌≡◌, refl, sym}
+use mathlib.Core.Path.{◌≡◌, refl}
 use Prim.Native.Nat.{ℕ}
 use mathlib.Core.List.{List, [], ◌∷◌}
 use seplogic.Ra.Ura.{Ura}
@@ -7,14 +7,13 @@ use base.Fraction.{full_share}
 use mir.Syntax.{named}
 use mir.Val.{Val, vptr}
 use mir.Raw.{raw as bare}
-use base.Logic.{SProp, ent, sep, emp, via, id⊢}
-use base.Fml.{Lft, GName, Share, Fml, ftrue, flft, fsep, fobs, fauth, fbor}
+use base.Logic.{SProp, ent, sep, id⊢}
+use base.Fml.{Lft, GName, Share, Fml, ftrue, flft, fsep}
 use prog.Memory.{Memory}
 use prog.Routine.{Routine}
 use prog.Wp.{Env, Calls, Loops, WpFn, Tables}
 use types.Logic.{Logic, sem}
-use types.SemTy.{Body as Borrowed}
-use contract.Monad.{Fun, fact, fact_i}
+use contract.Monad.{Fun, fact}
 use contract.Running.{tables, tables_of}
 use sound.WpLaws.{WpFn-mono}
 use types.Kit.{‵, ◌⊛◌, some, at_ret, ◌$◌, ◌∵◌, !, qed, by, move, keep, use1, drop, split, join, pick, rewrite, fsplit, fsplit3, fjoin, suffices, frame, done, raw, later, await, group, fpack}
@@ -27,13 +26,13 @@ use denote.Memory.{part_at, mem, cell_at, part_of}
 use denote.RattleType.{RattleType, owns}
 use denote.RawPtr.{block_ptr}
 use denote.Ref.{MutRef, mut_vals, mut_Tells}
-use denote.Signature.{Slot, plain, mut_ref_to}
+use denote.Signature.{plain, mut_ref_to}
 use denote.Steps.{nothing, heard, opens}
 use denote.Triple.Entry.{on_entry}
-use denote.Triple.Spec.{Meets, triple_of}
+use denote.Triple.Spec.{triple_of}
 use denote.Triple.Table.{entered}
 use denote.Triple.Walked.{says, Stays, stay_dropped, walk_of, ends_at, walked, walk_Meets, Goes-spent_ref}
-use Rattle.std.specs.Prelude.{Option, Some, IsSome}
+use Rattle.std.specs.Prelude.{Option, IsSome}
 use Rattle.std.proofs.alloc.Calls.{token}
 use Rattle.std_alloc.proofs.BoxSteps.Form.{D, τ, word, handle}
 use Rattle.std_alloc.proofs.BoxSteps.Form as form

@@ -3,7 +3,7 @@ use mathlib.Core.Path.{refl, sym, subst}
 use mathlib.Core.List.{List, [], ◌∷◌, ◌++◌}
 use seplogic.Ra.Ura.{Ura}
 use mir.Val.{Val}
-use base.Logic.{SProp, ent, emp, id⊢}
+use base.Logic.{SProp, ent, id⊢}
 use base.Fml.{ftrue, fsep}
 use prog.Memory.{Memory}
 use prog.Routine.{Routine}
@@ -25,7 +25,7 @@ use denote.Triple.Walked.{says, Stays, stay_dropped, walk_of, ends_at, Goes-drop
 use contract.Monad.{fact}
 use denote.Steps.{heard}
 use types.Kit.{rewrite}
-use Rattle.std.specs.Prelude.{Option, Some, IsSome}
+use Rattle.std.specs.Prelude.{Option, IsSome}
 use Rattle.globset_c.proofs.Owns.{given}
 use Rattle.globset_c.specs.contracts.owned.Owned as Owned
 use Rattle.std_alloc.proofs.BoxSteps.Form.{D, B, word, box_typed}

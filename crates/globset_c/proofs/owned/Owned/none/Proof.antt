@@ -1,9 +1,8 @@
 -- `none` makes an owner of nothing: null beside the allocator.
 use mathlib.Core.Path.{refl, sym, subst}
 use mathlib.Core.List.{List, [], ◌∷◌, ◌++◌}
-use lib.Dec.{T}
 use seplogic.Ra.Ura.{Ura}
-use mir.Val.{Val, vnull, vstruct, vnil, vcons, has_ty, WT}
+use mir.Val.{Val, vnull, vstruct, vnil, vcons, has_ty}
 use base.Logic.{SProp, ent, emp, id⊢}
 use base.Fml.{ftrue, fsep}
 use prog.Memory.{Memory}
