@@ -22,3 +22,10 @@ invariant_of-self c =
 
 pub set_bit-requires-2 : goal.set_bit-requires-2
 set_bit-requires-2 c = omega (arith, c.args.self.now.summed.room, ap length c.deref_mut-2.ensures.value)
+
+pub returns-clause-has : goal.returns-clause-has
+returns-clause-has c =
+    let words = c.args.self.now.words in
+    let new = c.set_bit.new.words in
+    let whole : take words.len (new ++ drop (length new) words.items) ≡ new = search (rules, places) in
+    rw whole (λ k. rw c.deref_mut.ensures.value at c.set_bit.ensures k)
