@@ -14,3 +14,5 @@ pub mod WordPass
 pub mod Taking
 pub mod Blocks
 pub mod Loops
+pub mod Rooms
+pub mod Bounds

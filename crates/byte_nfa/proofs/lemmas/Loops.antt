@@ -12,6 +12,12 @@ visits_within old now new i n size le before step =
     let maximum : i * size ≤ n * size = mul-le-mul_right size le in
     omega (arith, maximum)
 
+-- and of two more passes
+pub visits_after : (old now new i n size : ℕ) → i ≤ n → now ≤ old + i * size → new ≤ now + (size + size) → new ≤ old + (n + 2) * size
+visits_after old now new i n size le before step =
+    let maximum : i * size ≤ n * size = mul-le-mul_right size le in
+    omega (arith, maximum)
+
 -- those of a run over all bytes, `mid` after these, and of a pass over the states from low to start
 pub visits_and_pass : (old mid new len width low start : ℕ) → start < low + width → mid ≤ old + len * width → new + low ≤ mid + (start + 1) → new ≤ old + (len + 1) * width
 visits_and_pass old mid new len width low start wide run pass = omega arith

@@ -1,4 +1,4 @@
-use Rattle.std.proofs.Common.{◌≡◌, ℕ, ◌+◌, ◌*◌, [], ◌∷◌, ◌++◌, length, arith, ap, sym, subst, ◌∙◌}
+use Rattle.std.proofs.Common.{◌≡◌, ℕ, ◌+◌, ◌*◌, ◌<◌, [], ◌∷◌, ◌++◌, length, arith, ap, sym, subst, ◌∙◌}
 use Rattle.std.proofs.lemmas.List.{length-map}
 use Rattle.byte_nfa.specs.Steps.{Machine, state}
 use Rattle.byte_nfa.specs.Runs.{size}
@@ -71,3 +71,16 @@ returns c =
 
 pub overflow_add-state : goal.overflow_add-state
 overflow_add-state c = omega (arith, c.in-Some.ensures.0, c.in-Some-early_match.ensures.1, ap (λ (m : Machine). m.index_count) c.self.view_is)
+
+pub early_match-requires : goal.early_match-requires
+early_match-requires c =
+    let inside = c.self.inside in
+    omega (arith, c.loop-s-test.true, c.len-s-end.ensures, inside.states.ok.0, ap size c.self.view_is, length-map inside.states.items (of_state inside.sets.items inside.targets.items))
+
+pub index-requires : goal.index-requires
+index-requires c = rw c.len-s-end.ensures at c.loop-s-test.true
+
+pub returns-in_default : goal.returns-in_default
+returns-in_default c =
+    let past : c.self.inside.index_count * 2 < 18446744073709551616 → ⊥ = c.in_default.ensures in
+    omega (arith, past, ap (λ (m : Machine). m.index_count) c.self.view_is)

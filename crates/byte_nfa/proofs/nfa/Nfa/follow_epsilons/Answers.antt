@@ -30,3 +30,6 @@ returns-clause-end c =
     follows_epsilons c.follow_epsilons.result m.index_count (state m.states c.args.s) (of_state sets targets c.index.result.now)
     (read_state m sets targets states inside.starts.items inside.index_count c.args.s c.index.result.now c.self.view_is lt c.index.ensures) named
     (rw c.deref.ensures.value at c.follow_epsilons.ensures.end sets)
+
+pub follow_epsilons-requires-clause-room : goal.follow_epsilons-requires-clause-room
+follow_epsilons-requires-clause-room c = omega (arith, c.requires.exists, c.requires.room)

@@ -1,10 +1,11 @@
-use Rattle.std.proofs.Common.{◌≡◌, min, true≢false, sym, ℕ, ◌+◌, ◌<◌, ◌∷◌, [], length, get_or, drop, arith, ap, ◌∙◌}
+use Rattle.std.proofs.Common.{◌≡◌, min, true≢false, sym, ℕ, ◌+◌, ◌<◌, ◌∷◌, [], length, get_or, drop, arith, ap, refl, ◌∙◌}
 use Rattle.std.proofs.lemmas.List.{drop_more, drop_all}
 use Rattle.bit_sets.specs.Indexes.{index_capacity}
-use Rattle.byte_nfa.specs.Sets.{state_capacity}
+use Rattle.byte_nfa.specs.Sets.{state_capacity, sets_capacity}
 use Rattle.byte_nfa.specs.Runs.{size}
 use Rattle.byte_nfa.proofs.lemmas.Loops.{visits_within}
 use Rattle.byte_nfa.proofs.lemmas.Pass.{iff_trans}
+use Rattle.byte_nfa.proofs.lemmas.Rooms.{room_current, room_kept, room_next, room_swapped}
 use Rattle.byte_nfa.proofs.nfa.Nfa.is_match.Goals as goal
 
 pub loop-byte-init : goal.loop-byte-init
@@ -26,7 +27,8 @@ loop-byte-preserved c =
     let more : drop i text ≡ byte ∷ rest = drop_more text i 0 lt in
     let took = c.step-some.ensures in
     record {
-      room = omega (arith, inv.room, took.from_capacity, took.to_capacity, ap state_capacity c.swap.ensures.x_after, ap state_capacity c.swap.ensures.y_after);
+      room = room_swapped (state_capacity c.swap.new.x) (state_capacity c.swap.new.y) (state_capacity c.loop-byte.sets.current) (state_capacity c.loop-byte.sets.next) (index_capacity c.loop-byte.sets.starts) (sets_capacity c.args.sets.now)
+          (ap state_capacity c.swap.ensures.x_after ∙ took.to_capacity) (ap state_capacity c.swap.ensures.y_after ∙ took.from_capacity) inv.room;
       accepts = λ k. rw c.swap.ensures.x_after (iff_trans (rw more at inv.accepts k) (took.steps rest k));
       visits = omega (arith, took.visits, inv.visits);
       counted = omega arith;
@@ -65,3 +67,22 @@ pub returns-clause-visits : goal.returns-clause-visits
 returns-clause-visits c =
     visits_within c.args.visits.now c.loop-byte.visits c.has_end.new.visits c.loop-byte.byte-index (length c.args.text.now) (size c.args.self.now)
     c.loop-byte.auto.byte-index-end c.loop-byte.invariant.visits c.has_end.ensures.visits
+
+pub step-some-requires-clause-from_capacity : goal.step-some-requires-clause-from_capacity
+step-some-requires-clause-from_capacity c = room_current (size c.args.self.now) c.loop-byte.sets c.args.sets.now c.requires.room c.loop-byte.invariant.room
+
+pub step-some-requires-clause-to_capacity : goal.step-some-requires-clause-to_capacity
+step-some-requires-clause-to_capacity c = room_next (size c.args.self.now) c.loop-byte.sets c.args.sets.now c.requires.room c.loop-byte.invariant.room
+
+pub returns-then-not-some-clause-room : goal.returns-then-not-some-clause-room
+returns-then-not-some-clause-room c =
+    room_kept (state_capacity c.step-some.new.from) (state_capacity c.step-some.new.to) (state_capacity c.loop-byte.sets.current) (state_capacity c.loop-byte.sets.next) (index_capacity c.loop-byte.sets.starts) (sets_capacity c.args.sets.now)
+    c.step-some.ensures.from_capacity c.step-some.ensures.to_capacity c.loop-byte.invariant.room
+
+pub returns-clause-room : goal.returns-clause-room
+returns-clause-room c =
+    room_kept (state_capacity c.has_end.new.from) (state_capacity c.loop-byte.sets.next) (state_capacity c.loop-byte.sets.current) (state_capacity c.loop-byte.sets.next) (index_capacity c.loop-byte.sets.starts) (sets_capacity c.args.sets.now)
+    c.has_end.ensures.room refl c.loop-byte.invariant.room
+
+pub has_end-requires : goal.has_end-requires
+has_end-requires c = room_current (size c.args.self.now) c.loop-byte.sets c.args.sets.now c.requires.room c.loop-byte.invariant.room

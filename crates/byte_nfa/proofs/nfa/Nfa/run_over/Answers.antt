@@ -2,9 +2,11 @@ use Rattle.std.proofs.Common.{◌≡◌, min, true≢false, sym, ℕ, ◌+◌, �
 use Rattle.std.proofs.lemmas.Nat.{mul-le}
 use Rattle.std.proofs.lemmas.List.{drop_more, drop_all}
 use Rattle.bit_sets.specs.Indexes.{index_capacity}
-use Rattle.byte_nfa.specs.Sets.{state_capacity, has_state}
+use Rattle.byte_nfa.specs.Sets.{state_capacity, has_state, sets_capacity}
+use Rattle.byte_nfa.specs.Runs.{size}
 use Rattle.byte_nfa.proofs.lemmas.Pass.{iff_trans}
 use Rattle.byte_nfa.proofs.lemmas.Spans.{one_accepts, one_within, one_put, within_below}
+use Rattle.byte_nfa.proofs.lemmas.Rooms.{room_current, room_next, room_swapped}
 use Rattle.byte_nfa.proofs.nfa.Nfa.run_over.Goals as goal
 
 pub loop-byte-init : goal.loop-byte-init
@@ -33,7 +35,8 @@ loop-byte-preserved c =
     let low = c.args.span.low in
     let start = c.args.span.start in
     record {
-      room = omega (arith, inv.room, took.from_capacity, took.to_capacity, ap state_capacity c.swap.ensures.x_after, ap state_capacity c.swap.ensures.y_after);
+      room = room_swapped (state_capacity c.swap.new.x) (state_capacity c.swap.new.y) (state_capacity c.loop-byte.sets.current) (state_capacity c.loop-byte.sets.next) (index_capacity c.loop-byte.sets.starts) (sets_capacity c.args.sets.now)
+          (ap state_capacity c.swap.ensures.x_after ∙ took.to_capacity) (ap state_capacity c.swap.ensures.y_after ∙ took.from_capacity) inv.room;
       starts = inv.starts;
       within = rw c.swap.ensures.x_after took.within;
       accepts = λ k. rw c.swap.ensures.x_after (iff_trans (iff_trans (rw more at inv.accepts k)
@@ -81,3 +84,9 @@ returns-clause-some c = λ _ k.
     let text = c.args.text.now in
     let past : drop c.loop-byte.byte-index text ≡ [] = drop_all c.loop-byte.byte-index text (omega arith) in
     rw past at c.loop-byte.invariant.accepts k
+
+pub step_in-some-requires-clause-from_capacity : goal.step_in-some-requires-clause-from_capacity
+step_in-some-requires-clause-from_capacity c = room_current (size c.args.self.now) c.loop-byte.sets c.args.sets.now c.requires.room c.loop-byte.invariant.room
+
+pub step_in-some-requires-clause-to_capacity : goal.step_in-some-requires-clause-to_capacity
+step_in-some-requires-clause-to_capacity c = room_next (size c.args.self.now) c.loop-byte.sets c.args.sets.now c.requires.room c.loop-byte.invariant.room

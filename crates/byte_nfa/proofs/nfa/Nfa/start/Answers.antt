@@ -1,4 +1,4 @@
-use Rattle.std.proofs.Common.{◌≡◌, length, ap, sym, ◌∙◌}
+use Rattle.std.proofs.Common.{◌≡◌, length, ap, sym, arith, ◌∙◌}
 use Rattle.std.proofs.lemmas.List.{length-map}
 use Rattle.byte_nfa.specs.Sets.{has_state}
 use Rattle.byte_nfa.specs.Steps.{Machine}
@@ -15,3 +15,9 @@ returns-clause-starts c =
     (ap (λ (m : Machine). m.starts) c.self.view_is) count c.self.invariant.begun
     (λ t lt. c.clear.ensures.none t)
     (λ t. let has = c.put_all.ensures.has t in rw c.deref.ensures.value at has)
+
+pub put_all-requires : goal.put_all-requires
+put_all-requires c =
+    let inside = c.self.inside in
+    let count : length inside.states.items ≡ size c.args.self.now = sym (length-map inside.states.items (of_state inside.sets.items inside.targets.items)) ∙ ap size c.self.view_is in
+    rw c.deref.ensures.value (λ i h. let lt = c.self.invariant.begun i h in omega (arith, lt, count, c.requires, c.clear.ensures.room))

@@ -1,11 +1,18 @@
-use Rattle.std.proofs.Common.{◌≡◌, rules}
+use Rattle.std.proofs.Common.{◌≡◌, ◌∙◌}
 use Rattle.byte_nfa.proofs.nfa.NfaClone.clone.Goals as goal
 
 pub invariant_of-result : goal.invariant_of-result
 invariant_of-result c =
-    let states : c.in_ok-from_slice.field-0.items ≡ c.self.inside.states.items = search rules in
-    let sets : c.in_ok-from_slice-2.field-0.items ≡ c.self.inside.sets.items = search rules in
-    let targets : c.in_ok-from_slice-3.field-0.items ≡ c.self.inside.targets.items = search rules in
-    let blocks : c.in_ok-clone.field-0.by_word.items ≡ c.self.inside.blocks.by_word.items = search rules in
-    let masks : c.in_ok-clone.field-0.masks.items ≡ c.self.inside.blocks.masks.items = search rules in
+    let states : c.in_ok-from_slice.field-0.items ≡ c.self.inside.states.items = c.in_ok-from_slice.ensures.items ∙ c.deref.ensures.value in
+    let sets : c.in_ok-from_slice-2.field-0.items ≡ c.self.inside.sets.items = c.in_ok-from_slice-2.ensures.items ∙ c.deref-2.ensures.value in
+    let targets : c.in_ok-from_slice-3.field-0.items ≡ c.self.inside.targets.items = c.in_ok-from_slice-3.ensures.items ∙ c.deref-3.ensures.value in
+    let (blocks, masks) = c.in_ok-clone.ensures.cases in
     rw (states, sets, targets, blocks, masks) (c.self.inside.blocks_are, tt)
+
+pub returns : goal.returns
+returns c =
+    let states : c.in_ok-from_slice.field-0.items ≡ c.self.inside.states.items = c.in_ok-from_slice.ensures.items ∙ c.deref.ensures.value in
+    let sets : c.in_ok-from_slice-2.field-0.items ≡ c.self.inside.sets.items = c.in_ok-from_slice-2.ensures.items ∙ c.deref-2.ensures.value in
+    let targets : c.in_ok-from_slice-3.field-0.items ≡ c.self.inside.targets.items = c.in_ok-from_slice-3.ensures.items ∙ c.deref-3.ensures.value in
+    let starts : c.in_ok-from_slice-4.field-0.items ≡ c.self.inside.starts.items = c.in_ok-from_slice-4.ensures.items ∙ c.deref-4.ensures.value in
+    record { cases = rw (states, sets, targets, starts) c.self.view_is }

@@ -1,4 +1,4 @@
-use Rattle.std.proofs.Common.{sym, ◌∙◌}
+use Rattle.std.proofs.Common.{sym, arith, ◌∙◌}
 use Rattle.byte_nfa.specs.Sets.{has_state}
 use Rattle.byte_nfa.specs.inner.Views.{set_at}
 use Rattle.byte_nfa.proofs.lemmas.Live.{reads_lead}
@@ -10,3 +10,11 @@ returns-then-has c =
     rw c.in-Bytes.is
     (reads_lead (set_at c.args.sets.now c.in-Bytes.set) c.in-Bytes.next c.args.s (has_state c.args.live.now) (sym c.has.ensures ∙ c.if-has.true) below
     (rw c.set_of.ensures at c.has_some.ensures))
+
+pub has_any-requires : goal.has_any-requires
+has_any-requires c =
+    let below = rw c.in-Union.is at c.requires.below in
+    rw c.exits_of.ensures (λ i h. let lt = below i h in omega (arith, lt))
+
+pub exits_of-requires : goal.exits_of-requires
+exits_of-requires c = rw c.in-Union.is at c.requires.held

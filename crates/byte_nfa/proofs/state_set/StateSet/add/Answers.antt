@@ -1,7 +1,8 @@
-use Rattle.std.proofs.Common.{◌≡◌, ℕ, ◌||◌, ◌++◌, ◌∙◌, ap, sym, length, drop, take, inl, inr, arith, rules}
-use Rattle.std.proofs.lemmas.Bool.{or_cases, cases_lt}
+use Rattle.std.proofs.Common.{◌≡◌, ℕ, ◌*◌, ◌<◌, ◌||◌, ◌++◌, ◌∙◌, ap, sym, subst, length, drop, take, inl, inr, arith, rules}
+use Rattle.std.proofs.lemmas.Bool.{or_cases}
 use Rattle.std.proofs.lemmas.List.{places}
 use Rattle.bit_sets.specs.Bits.{bit_of}
+use Rattle.byte_nfa.proofs.lemmas.Bounds.{min_first, min_second, max_first, max_second, last_within}
 use Rattle.byte_nfa.proofs.state_set.StateSet.add.Goals as goal
 
 pub invariant_of-self : goal.invariant_of-self
@@ -17,19 +18,16 @@ invariant_of-self c =
     rw whole record {
       bounds = record {
         low = λ k bit. elim (or_cases (bit_of more k) (bit_of old k) (sym (has k) ∙ bit)) [
-          | inl is ↦ (let le = beside.low k is in omega arith)
-          | inr was ↦ (let le = before.low k was in omega arith)
+          | inl is ↦ rw c.min-self.ensures (min_second c.args.self.now.first c.args.other.now.first k (beside.low k is))
+          | inr was ↦ rw c.min-self.ensures (min_first c.args.self.now.first c.args.other.now.first k (before.low k was))
         ];
         high = λ k bit. elim (or_cases (bit_of more k) (bit_of old k) (sym (has k) ∙ bit)) [
-          | inl is ↦ (let le = beside.high k is in omega arith)
-          | inr was ↦ (let le = before.high k was in omega arith)
+          | inl is ↦ rw c.max-self.ensures (max_second c.args.self.now.last c.args.other.now.last k (beside.high k is))
+          | inr was ↦ rw c.max-self.ensures (max_first c.args.self.now.last c.args.other.now.last k (before.high k was))
         ];
-        within = λ le.
-            let first = beside.within (omega arith) in
-            elim (cases_lt c.args.self.now.last c.args.self.now.first) [
-              | inl none ↦ (let zero = before.none none in omega (arith, count, c.requires))
-              | inr some ↦ (let second = before.within some in omega (arith, count, c.requires))
-            ];
+        within = λ _. rw c.max-self.ensures (last_within c.args.self.now.last c.args.other.now.last c.args.self.now.first (64 * length new)
+            (λ le. rw count (before.within le)) before.none
+            (subst (λ n. c.args.other.now.last < n) (c.requires ∙ ap (λ n. 64 * n) (sym count)) (beside.within c.if-other.false)));
         none = λ lt. absurd (omega arith);
       };
     }

@@ -1,9 +1,10 @@
-use Rattle.std.proofs.Common.{◌≡◌, ℕ, ◌+◌, ◌/◌, ◌%◌, ◌||◌, ◌++◌, eqb, length, drop, take, ap, sym, ◌∙◌, inl, inr, arith, rules}
-use Rattle.std.proofs.lemmas.Bool.{or_cases, eqb-true, cases_lt}
+use Rattle.std.proofs.Common.{◌≡◌, ℕ, ◌+◌, ◌-◌, ◌*◌, ◌/◌, ◌%◌, ◌||◌, ◌++◌, eqb, length, drop, take, ap, sym, ◌∙◌, inl, inr, arith, rules}
+use Rattle.std.proofs.lemmas.Bool.{or_cases, eqb-true}
 use Rattle.std.proofs.lemmas.List.{places}
 use Rattle.std.specs.Int.{bit_at}
 use Rattle.bit_sets.specs.Bits.{bit_of, is_in_word}
 use Rattle.byte_nfa.proofs.lemmas.Pass.{and_first}
+use Rattle.byte_nfa.proofs.lemmas.Bounds.{min_first, min_second, max_first, max_second, last_within, lowered_low, lowered_high, lowered_within}
 use Rattle.bit_sets.proofs.lemmas.Lowered.{some_bit}
 use Rattle.byte_nfa.proofs.state_set.StateSet.put_lowered.Goals as goal
 
@@ -21,17 +22,15 @@ invariant_of-self c =
     rw whole record {
       bounds = record {
         low = λ k bit. elim (or_cases (is_in_word at word (k + 1)) (bit_of old k) (sym (has k) ∙ bit)) [
-          | inl is ↦ (let row : (k + 1) / 64 ≡ at = eqb-true ((k + 1) / 64) at (and_first (eqb ((k + 1) / 64) at) (eqb (bit_at word ((k + 1) % 64)) 1) is) in omega arith)
-          | inr was ↦ (let le = before.low k was in omega arith)
+          | inl is ↦ (let row : (k + 1) / 64 ≡ at = eqb-true ((k + 1) / 64) at (and_first (eqb ((k + 1) / 64) at) (eqb (bit_at word ((k + 1) % 64)) 1) is) in rw (c.min-self.ensures, c.saturating_sub.ensures) (min_second c.args.self.now.first (at * 64 - 1) k (lowered_low at k row)))
+          | inr was ↦ rw (c.min-self.ensures, c.saturating_sub.ensures) (min_first c.args.self.now.first (at * 64 - 1) k (before.low k was))
         ];
         high = λ k bit. elim (or_cases (is_in_word at word (k + 1)) (bit_of old k) (sym (has k) ∙ bit)) [
-          | inl is ↦ (let row : (k + 1) / 64 ≡ at = eqb-true ((k + 1) / 64) at (and_first (eqb ((k + 1) / 64) at) (eqb (bit_at word ((k + 1) % 64)) 1) is) in omega arith)
-          | inr was ↦ (let le = before.high k was in omega arith)
+          | inl is ↦ (let row : (k + 1) / 64 ≡ at = eqb-true ((k + 1) / 64) at (and_first (eqb ((k + 1) / 64) at) (eqb (bit_at word ((k + 1) % 64)) 1) is) in rw c.max-self.ensures (max_second c.args.self.now.last (at * 64 + 62) k (lowered_high at k row)))
+          | inr was ↦ rw c.max-self.ensures (max_first c.args.self.now.last (at * 64 + 62) k (before.high k was))
         ];
-        within = λ le. elim (cases_lt c.args.self.now.last c.args.self.now.first) [
-          | inl none ↦ (let zero = before.none none in omega (arith, count))
-          | inr some ↦ (let lt = before.within some in omega (arith, count))
-        ];
+        within = λ _. rw c.max-self.ensures (last_within c.args.self.now.last (at * 64 + 62) c.args.self.now.first (64 * length new)
+            (λ le. rw count (before.within le)) before.none (rw count (lowered_within at (length old) within)));
         none = λ lt. absurd (omega arith);
       };
     }
