@@ -92,6 +92,36 @@ module _ (d : Table) (sound : IsTable d) where
     pub told_later : (y : List ℕ) (k : ℕ) → special ≤ e → e < 4294967296 → IsTrue (is_reported k (on_entry d (e - special))) → IsTrue (later d s (b ∷ y) k)
     told_later y k le lt here = ap (λ x. finds_from d x y k) (high_after le lt) ∙ or_first (is_reported k (on_entry d (e - special))) (later d (e - special) y k) here
 
+-- entries of a row are in the table
+module _ (d : Table) (table : List ℕ) (same : table ≡ d.next) (s : ℕ) (row : IsRow d s) where
+  pub entry_within : s + d.width < length table
+  entry_within = let (i, is, room) = row in let n = ap length same in omega (arith, room)
+
+  pub end_within : s + d.width + 1 < length table
+  end_within = let (i, is, room) = row in let n = ap length same in omega (arith, room)
+
+  pub cell_within : IsTable d → (b : ℕ) → b < 256 → s + slice_index d.class_of b < length table
+  cell_within sound b byte = let (i, is, room) = row in let n = ap length same in let low = sound.classes b byte in omega (arith, room)
+
+-- how many visits there are after one more
+pub next_visits : (first old new i : ℕ) → old ≤ first + i → new ≡ old + 1 → new ≤ first + (i + 1)
+next_visits first old new i le is = omega arith
+
+pub next_visits_after : (first old new i : ℕ) → old ≤ first + i + 1 → new ≡ old + 1 → new ≤ first + (i + 1) + 1
+next_visits_after first old new i le is = omega arith
+
+pub end_visits : (first old new i n : ℕ) → old ≤ first + i → new ≡ old + 1 → i ≤ n → new ≤ first + (n + 1)
+end_visits first old new i n le is within = omega arith
+
+pub end_visits_after : (first old new i n : ℕ) → old ≤ first + i + 1 → new ≡ old + 1 → i ≤ n → new ≤ first + (n + 2)
+end_visits_after first old new i n le is within = omega arith
+
+pub still_counted : (first old new : ℕ) → first < old → new ≡ old + 1 → first < new
+still_counted first old new lt is = omega arith
+
+pub still_at_least : (first old new : ℕ) → first ≤ old → new ≡ old + 1 → first ≤ new
+still_at_least first old new le is = omega arith
+
 -- what a run found, as contracts say it
 pub found_is : (has was finds : Bool) (P : Type 0) → IsTrue finds ↔ P → has ≡ (finds || was) → IsTrue has ↔ (P ⊎ IsTrue was)
 found_is has was finds P f is = (

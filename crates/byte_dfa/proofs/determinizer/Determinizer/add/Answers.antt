@@ -1,4 +1,5 @@
-use Rattle.std.proofs.Common.{◌≡◌, ℕ, ◌+◌, ◌*◌, ◌/◌, ◌∷◌, [], ◌++◌, IsTrue, length, refl, sym, ap, subst, ◌∙◌, arith, length-append}
+use Rattle.std.proofs.lemmas.Result.{IfOk-from_err}
+use Rattle.std.proofs.Common.{◌≡◌, ℕ, ◌+◌, ◌*◌, ◌/◌, ◌∷◌, [], ◌++◌, IsTrue, length, refl, sym, ap, subst, ◌∙◌, arith, length-append, true≢false}
 use Rattle.std.specs.Prelude.{◌↔◌}
 use Rattle.byte_nfa.specs.Runs.{AcceptsFrom}
 use Rattle.bit_sets.specs.Indexes.{has_index}
@@ -65,3 +66,45 @@ pub returns-clause-number : goal.returns-clause-number
 returns-clause-number c = λ _.
     let f : Found = record { states = c.in_ok-states.states; on_entry = c.in_ok-on_entry.on_entry; at_end = c.in_ok-at_end.at_end; below = c.args.below } in
     (f, rw c.in_ok-push.ensures.items (get_new c.args.self.now.found.items f), c.in_ok-states.ensures.cases.1)
+
+pub returns-in_err-set-clause-grows : goal.returns-in_err-set-clause-grows
+returns-in_err-set-clause-grows c = IfOk-from_err _ _ c.from_residual.ensures.0
+
+pub returns-in_err-set-clause-number : goal.returns-in_err-set-clause-number
+returns-in_err-set-clause-number c = IfOk-from_err _ _ c.from_residual.ensures.0
+
+pub returns-in_err-on_entry-clause-grows : goal.returns-in_err-on_entry-clause-grows
+returns-in_err-on_entry-clause-grows c = IfOk-from_err _ _ c.from_residual-in_err-on_entry.ensures.0
+
+pub returns-in_err-on_entry-clause-number : goal.returns-in_err-on_entry-clause-number
+returns-in_err-on_entry-clause-number c = IfOk-from_err _ _ c.from_residual-in_err-on_entry.ensures.0
+
+pub returns-in_err-at_end-clause-grows : goal.returns-in_err-at_end-clause-grows
+returns-in_err-at_end-clause-grows c = IfOk-from_err _ _ c.from_residual-in_err-at_end.ensures.0
+
+pub returns-in_err-at_end-clause-number : goal.returns-in_err-at_end-clause-number
+returns-in_err-at_end-clause-number c = IfOk-from_err _ _ c.from_residual-in_err-at_end.ensures.0
+
+pub returns-in_err-states-clause-grows : goal.returns-in_err-states-clause-grows
+returns-in_err-states-clause-grows c = IfOk-from_err _ _ c.from_residual-in_err-states.ensures.0
+
+pub returns-in_err-states-clause-number : goal.returns-in_err-states-clause-number
+returns-in_err-states-clause-number c = IfOk-from_err _ _ c.from_residual-in_err-states.ensures.0
+
+pub returns-in_err-push-clause-grows : goal.returns-in_err-push-clause-grows
+returns-in_err-push-clause-grows c = IfOk-from_err _ _ c.from_residual-in_err-push.ensures.0
+
+pub returns-in_err-push-clause-number : goal.returns-in_err-push-clause-number
+returns-in_err-push-clause-number c = IfOk-from_err _ _ c.from_residual-in_err-push.ensures.0
+
+pub returns-then-self-row-clause-grows : goal.returns-then-self-row-clause-grows
+returns-then-self-row-clause-grows c = λ yes. absurd (true≢false (sym yes))
+
+pub returns-then-self-row-clause-number : goal.returns-then-self-row-clause-number
+returns-then-self-row-clause-number c = λ yes. absurd (true≢false (sym yes))
+
+pub returns-then-self-row-2-clause-grows : goal.returns-then-self-row-2-clause-grows
+returns-then-self-row-2-clause-grows c = λ yes. absurd (true≢false (sym yes))
+
+pub returns-then-self-row-2-clause-number : goal.returns-then-self-row-2-clause-number
+returns-then-self-row-2-clause-number c = λ yes. absurd (true≢false (sym yes))

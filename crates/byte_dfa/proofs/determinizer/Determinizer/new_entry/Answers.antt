@@ -1,4 +1,5 @@
-use Rattle.std.proofs.Common.{◌≡◌, ℕ, ◌+◌, ◌*◌, ◌<◌, ◌≤◌, Some, ◌||◌, length, slice_index, refl, ap, ◌∙◌, subst, arith}
+use Rattle.std.proofs.lemmas.Result.{IfOk-from_err}
+use Rattle.std.proofs.Common.{◌≡◌, ℕ, ◌+◌, ◌*◌, ◌<◌, ◌≤◌, Some, ◌||◌, length, slice_index, refl, ap, ◌∙◌, subst, arith, sym}
 use Rattle.std.specs.Prelude.{slice_get}
 use Rattle.std.proofs.lemmas.Option.{slice_get_read, slice_get_within}
 use Rattle.byte_nfa.specs.ByteSteps.{leads_to}
@@ -6,7 +7,7 @@ use Rattle.byte_nfa.specs.Sets.{has_state}
 use Rattle.byte_dfa.specs.declared.determinizer.Found.{Found}
 use Rattle.byte_dfa.specs.inner.Building.{GoesTo}
 use Rattle.byte_dfa.specs.inner.Tables.{special}
-use Rattle.byte_dfa.proofs.lemmas.Bases.{base_within, goes_beside, target_under}
+use Rattle.byte_dfa.proofs.lemmas.Bases.{base_within, goes_beside, target_under, base_place}
 use Rattle.byte_dfa.proofs.lemmas.Cells.{cell_goes}
 use Rattle.byte_dfa.proofs.lemmas.Found.{iff_trans, iff_sym, accepts_same, get_at}
 use Rattle.byte_dfa.proofs.determinizer.Determinizer.new_entry.Goals as goal
@@ -99,3 +100,27 @@ returns-clause-cell c =
     let all : GoesTo m f.states b new.states = λ y k.
     iff_trans (goes_beside m f.states g.states steps (c.requires.row.beside f g here there) this.states to b byte goes' has y k) (iff_sym (accepts_same m new.states to y k same)) in
     cell_goes m representatives w c.state_id.new.self.found.items c.state_id.new.self.lists.items row.number c.args.class c.transition.result c.in-Some.number f new (grows.keeps.1 row.number f here) new_at c.requires.class all (c.transition.ensures new new_at)
+
+pub entry_under-requires : goal.entry_under-requires
+entry_under-requires c = base_place c.args.row c.args.classes.now.count c.args.class (length c.args.self.now.rows.items) c.requires.row.written (omega (arith, c.requires.place)) c.requires.class
+
+pub add_to-requires : goal.add_to-requires
+add_to-requires c = c.copy_from.ensures.room ∙ sym c.requires.step_capacity
+
+pub returns-in_err-made-clause-room : goal.returns-in_err-made-clause-room
+returns-in_err-made-clause-room c = c.add_to.ensures.room ∙ c.copy_from.ensures.room
+
+pub returns-in_default-clause-room : goal.returns-in_default-clause-room
+returns-in_default-clause-room c = c.add_to.ensures.room ∙ c.copy_from.ensures.room
+
+pub returns-clause-room : goal.returns-clause-room
+returns-clause-room c = c.add_to.ensures.room ∙ c.copy_from.ensures.room
+
+pub returns-in_err-made-clause-grows : goal.returns-in_err-made-clause-grows
+returns-in_err-made-clause-grows c = IfOk-from_err _ _ c.from_residual.ensures.0
+
+pub returns-in_err-made-clause-cell : goal.returns-in_err-made-clause-cell
+returns-in_err-made-clause-cell c = IfOk-from_err _ _ c.from_residual.ensures.0
+
+pub returns-clause-grows : goal.returns-clause-grows
+returns-clause-grows c = rw c.in-Some.is at c.in_ok-made.ensures.grows

@@ -1,4 +1,4 @@
-use Rattle.std.proofs.Common.{◌≡◌, ℕ, ◌+◌, ◌*◌, ◌<◌, ◌∷◌, [], ◌++◌, Some, length, slice_index, refl, ap, sym, ◌∙◌, subst, arith, length-append}
+use Rattle.std.proofs.Common.{◌≡◌, ℕ, ◌+◌, ◌*◌, ◌<◌, ◌∷◌, [], ◌++◌, Some, length, slice_index, refl, ap, sym, ◌∙◌, subst, arith, length-append, true≢false}
 use Rattle.std.specs.Prelude.{slice_get}
 use Rattle.std.proofs.lemmas.Bool.{not-true}
 use Rattle.std.proofs.lemmas.Option.{slice_get_read}
@@ -203,3 +203,57 @@ returns-clause-place c = λ _.
     let first = ap length c.in_ok-push.ensures.items in
     let second = ap length c.in_ok-push-2.ensures.items in
     omega (arith, c.loop-class.invariant.place, first, second, length-append rows (a ∷ []), length-append c.push-2.new.self.items (b ∷ []))
+
+pub returns-in_default-clause-sound : goal.returns-in_default-clause-sound
+returns-in_default-clause-sound c = λ yes. absurd (true≢false (sym yes))
+
+pub returns-in_default-clause-few : goal.returns-in_default-clause-few
+returns-in_default-clause-few c = λ yes. absurd (true≢false (sym yes))
+
+pub returns-in_default-clause-keeps : goal.returns-in_default-clause-keeps
+returns-in_default-clause-keeps c = λ yes. absurd (true≢false (sym yes))
+
+pub returns-in_default-clause-place : goal.returns-in_default-clause-place
+returns-in_default-clause-place c = λ yes. absurd (true≢false (sym yes))
+
+pub returns-in_err-push-in-None-clause-sound : goal.returns-in_err-push-in-None-clause-sound
+returns-in_err-push-in-None-clause-sound c = IfOk-from_err _ _ c.from_residual-in_err-push-in-None.ensures.0
+
+pub returns-in_err-push-in-None-clause-few : goal.returns-in_err-push-in-None-clause-few
+returns-in_err-push-in-None-clause-few c = IfOk-from_err _ _ c.from_residual-in_err-push-in-None.ensures.0
+
+pub returns-in_err-push-in-None-clause-keeps : goal.returns-in_err-push-in-None-clause-keeps
+returns-in_err-push-in-None-clause-keeps c = IfOk-from_err _ _ c.from_residual-in_err-push-in-None.ensures.0
+
+pub returns-in_err-push-in-None-clause-place : goal.returns-in_err-push-in-None-clause-place
+returns-in_err-push-in-None-clause-place c = IfOk-from_err _ _ c.from_residual-in_err-push-in-None.ensures.0
+
+pub returns-in_err-push-clause-sound : goal.returns-in_err-push-clause-sound
+returns-in_err-push-clause-sound c = IfOk-from_err _ _ c.from_residual-in_err-push.ensures.0
+
+pub returns-in_err-push-clause-few : goal.returns-in_err-push-clause-few
+returns-in_err-push-clause-few c = IfOk-from_err _ _ c.from_residual-in_err-push.ensures.0
+
+pub returns-in_err-push-clause-keeps : goal.returns-in_err-push-clause-keeps
+returns-in_err-push-clause-keeps c = IfOk-from_err _ _ c.from_residual-in_err-push.ensures.0
+
+pub returns-in_err-push-clause-place : goal.returns-in_err-push-clause-place
+returns-in_err-push-clause-place c = IfOk-from_err _ _ c.from_residual-in_err-push.ensures.0
+
+pub returns-in_err-push-in-Some-clause-room : goal.returns-in_err-push-in-Some-clause-room
+returns-in_err-push-in-Some-clause-room c = c.loop-class.invariant.room
+
+pub returns-in_err-push-clause-room : goal.returns-in_err-push-clause-room
+returns-in_err-push-clause-room c = c.loop-class.invariant.room
+
+pub returns-in_err-push-2-clause-room : goal.returns-in_err-push-2-clause-room
+returns-in_err-push-2-clause-room c = c.loop-class.invariant.room
+
+pub returns-in_err-made-in-None-clause-room : goal.returns-in_err-made-in-None-clause-room
+returns-in_err-made-in-None-clause-room c = c.new_entry.ensures.room ∙ c.loop-class.invariant.room
+
+pub returns-in_default-clause-room : goal.returns-in_default-clause-room
+returns-in_default-clause-room c = c.new_entry.ensures.room ∙ c.loop-class.invariant.room
+
+pub returns-in_err-push-in-None-clause-room : goal.returns-in_err-push-in-None-clause-room
+returns-in_err-push-in-None-clause-room c = c.new_entry.ensures.room ∙ c.loop-class.invariant.room

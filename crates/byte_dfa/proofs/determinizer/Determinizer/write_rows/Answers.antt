@@ -1,4 +1,5 @@
-use Rattle.std.proofs.Common.{◌≡◌, ◌+◌, ◌*◌, length, true, ap, sym, ◌∙◌, arith, le_trans}
+use Rattle.std.proofs.lemmas.Result.{IfOk-from_err}
+use Rattle.std.proofs.Common.{◌≡◌, ◌+◌, ◌*◌, length, true, ap, sym, ◌∙◌, arith, le_trans, true≢false}
 use Rattle.std.proofs.lemmas.Nat.{mul-le}
 use Rattle.byte_dfa.proofs.determinizer.Determinizer.write_rows.Goals as goal
 
@@ -70,3 +71,72 @@ loop-row-smaller c =
     let w = c.args.classes.now.count in
     let le = mul-le n 1 n (w + 2) (omega arith) (omega arith) in
     omega (arith, le, c.loop-row.invariant.few)
+
+pub returns-in_err-steps-clause-sound : goal.returns-in_err-steps-clause-sound
+returns-in_err-steps-clause-sound c = IfOk-from_err _ _ c.from_residual.ensures.0
+
+pub returns-in_err-steps-clause-few : goal.returns-in_err-steps-clause-few
+returns-in_err-steps-clause-few c = IfOk-from_err _ _ c.from_residual.ensures.0
+
+pub returns-in_err-steps-clause-keeps : goal.returns-in_err-steps-clause-keeps
+returns-in_err-steps-clause-keeps c = IfOk-from_err _ _ c.from_residual.ensures.0
+
+pub returns-in_err-steps-clause-rows : goal.returns-in_err-steps-clause-rows
+returns-in_err-steps-clause-rows c = IfOk-from_err _ _ c.from_residual.ensures.0
+
+pub returns-then-len-row-clause-sound : goal.returns-then-len-row-clause-sound
+returns-then-len-row-clause-sound c = λ yes. absurd (true≢false (sym yes))
+
+pub returns-then-len-row-clause-few : goal.returns-then-len-row-clause-few
+returns-then-len-row-clause-few c = λ yes. absurd (true≢false (sym yes))
+
+pub returns-then-len-row-clause-keeps : goal.returns-then-len-row-clause-keeps
+returns-then-len-row-clause-keeps c = λ yes. absurd (true≢false (sym yes))
+
+pub returns-then-len-row-clause-rows : goal.returns-then-len-row-clause-rows
+returns-then-len-row-clause-rows c = λ yes. absurd (true≢false (sym yes))
+
+pub returns-in_err-written-clause-sound : goal.returns-in_err-written-clause-sound
+returns-in_err-written-clause-sound c = IfOk-from_err _ _ c.from_residual-in_err-written.ensures.0
+
+pub returns-in_err-written-clause-few : goal.returns-in_err-written-clause-few
+returns-in_err-written-clause-few c = IfOk-from_err _ _ c.from_residual-in_err-written.ensures.0
+
+pub returns-in_err-written-clause-keeps : goal.returns-in_err-written-clause-keeps
+returns-in_err-written-clause-keeps c = IfOk-from_err _ _ c.from_residual-in_err-written.ensures.0
+
+pub returns-in_err-written-clause-rows : goal.returns-in_err-written-clause-rows
+returns-in_err-written-clause-rows c = IfOk-from_err _ _ c.from_residual-in_err-written.ensures.0
+
+pub returns-in_err-fits-clause-sound : goal.returns-in_err-fits-clause-sound
+returns-in_err-fits-clause-sound c = IfOk-from_err _ _ c.from_residual-in_err-fits.ensures.0
+
+pub returns-in_err-fits-clause-few : goal.returns-in_err-fits-clause-few
+returns-in_err-fits-clause-few c = IfOk-from_err _ _ c.from_residual-in_err-fits.ensures.0
+
+pub returns-in_err-fits-clause-keeps : goal.returns-in_err-fits-clause-keeps
+returns-in_err-fits-clause-keeps c = IfOk-from_err _ _ c.from_residual-in_err-fits.ensures.0
+
+pub returns-in_err-fits-clause-rows : goal.returns-in_err-fits-clause-rows
+returns-in_err-fits-clause-rows c = IfOk-from_err _ _ c.from_residual-in_err-fits.ensures.0
+
+pub returns-then-not-fits-clause-sound : goal.returns-then-not-fits-clause-sound
+returns-then-not-fits-clause-sound c = λ yes. absurd (true≢false (sym yes))
+
+pub returns-then-not-fits-clause-few : goal.returns-then-not-fits-clause-few
+returns-then-not-fits-clause-few c = λ yes. absurd (true≢false (sym yes))
+
+pub returns-then-not-fits-clause-keeps : goal.returns-then-not-fits-clause-keeps
+returns-then-not-fits-clause-keeps c = λ yes. absurd (true≢false (sym yes))
+
+pub returns-then-not-fits-clause-rows : goal.returns-then-not-fits-clause-rows
+returns-then-not-fits-clause-rows c = λ yes. absurd (true≢false (sym yes))
+
+pub returns-clause-sound : goal.returns-clause-sound
+returns-clause-sound c = λ _. c.loop-row.invariant.sound
+
+pub returns-clause-few : goal.returns-clause-few
+returns-clause-few c = λ _. c.loop-row.invariant.few
+
+pub returns-clause-keeps : goal.returns-clause-keeps
+returns-clause-keeps c = λ _. c.loop-row.invariant.keeps

@@ -1,3 +1,4 @@
+use Rattle.std.proofs.lemmas.Result.{IfOk-from_err}
 use Rattle.std.proofs.Common.{◌+◌, ◌*◌, ◌≤◌, length, refl, arith}
 use Rattle.byte_dfa.specs.inner.Tables.{special}
 use Rattle.std.proofs.lemmas.Option.{slice_get_within}
@@ -25,3 +26,30 @@ invariant_of-result c =
     rw (c.of.ensures, c.index_count.ensures, c.into_parts-table.ensures.rows, c.into_parts-table.ensures.lists)
     (table_is old m made classes c.new-classes.ensures.division built.found.items built.lists.items built.rows.items built.accepting whole.sound whole.rows few
     (c.in-Some-complete.start * (classes.count + 2)) c.in-Some-complete.start whole.begins.set c.in_ok-last_bytes.last_bytes c.in_ok-live.live.items whole.begins.at refl whole.begins.leads c.in_ok-last_bytes.ensures c.in_ok-live.ensures)
+
+pub returns-in_err-last_bytes-clause-source : goal.returns-in_err-last_bytes-clause-source
+returns-in_err-last_bytes-clause-source c = IfOk-from_err _ _ c.from_residual.ensures.0
+
+pub returns-in_err-last_bytes-clause-size : goal.returns-in_err-last_bytes-clause-size
+returns-in_err-last_bytes-clause-size c = IfOk-from_err _ _ c.from_residual.ensures.0
+
+pub returns-in_err-early_match-clause-source : goal.returns-in_err-early_match-clause-source
+returns-in_err-early_match-clause-source c = IfOk-from_err _ _ c.from_residual-in_err-early_match.ensures.0
+
+pub returns-in_err-early_match-clause-size : goal.returns-in_err-early_match-clause-size
+returns-in_err-early_match-clause-size c = IfOk-from_err _ _ c.from_residual-in_err-early_match.ensures.0
+
+pub returns-in_err-complete-clause-source : goal.returns-in_err-complete-clause-source
+returns-in_err-complete-clause-source c = IfOk-from_err _ _ c.from_residual-in_err-complete.ensures.0
+
+pub returns-in_err-complete-clause-size : goal.returns-in_err-complete-clause-size
+returns-in_err-complete-clause-size c = IfOk-from_err _ _ c.from_residual-in_err-complete.ensures.0
+
+pub returns-in_err-live-clause-source : goal.returns-in_err-live-clause-source
+returns-in_err-live-clause-source c = IfOk-from_err _ _ c.from_residual-in_err-live.ensures.0
+
+pub returns-in_err-live-clause-size : goal.returns-in_err-live-clause-size
+returns-in_err-live-clause-size c = IfOk-from_err _ _ c.from_residual-in_err-live.ensures.0
+
+pub returns-clause-source : goal.returns-clause-source
+returns-clause-source c = c.of.ensures
