@@ -3,6 +3,7 @@ pub mod Chains
 pub mod Windows
 pub mod Starts
 pub mod Hashes
+pub mod KeyBits
 pub mod Signatures
 pub mod Lists
 pub mod Others
