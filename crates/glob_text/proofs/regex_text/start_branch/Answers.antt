@@ -10,3 +10,6 @@ returns-clause-text c =
       | else-first w ↦ ap (λ s. s.now) w.push_str-is ∙ ap opener (sym w.if-first.false)
     ] in
     c.in_ok-push_str.ensures.bytes ∙ ap (λ l. string_bytes c.args.text.now ++ l) begun
+
+pub returns-clause-group : goal.returns-clause-group
+returns-clause-group c = rw c.len-len.ensures at c.in_ok-push.ensures.items
