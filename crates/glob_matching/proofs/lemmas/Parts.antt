@@ -105,6 +105,12 @@ visits_limit n a b v w le h = let more = mul-le n a n b (omega arith) le in omeg
 pub visits_more : (n a b v u w : ℕ) → u ≤ v + n * b → v ≤ w + n * a → u ≤ w + n * (a + b)
 visits_more n a b v u w this before = let sum : n * (a + b) ≡ n * a + n * b = omega arith in omega arith
 
+pub visits_one : (n i c v u w : ℕ) → i < c → u ≤ v + n → v ≤ w + n * i → u ≤ w + n * c
+visits_one n i c v u w lt this before = visits_limit n (i + 1) c u w (omega arith) (visits_more n i 1 v u w (omega arith) before)
+
+pub at_least_below : (a b c : ℕ) → a ≤ b → b < c → a ≤ c
+at_least_below a b c le more = omega arith
+
 -- of t deterministic automata, each with a visit beside those of its positions, and of others that have a states
 pub visits_of_parts : (n t a s b v u w : ℕ) → t + a ≤ s → t ≤ b → u ≤ w + (n + 2) * t → v ≤ u + (n + 1) * a → v ≤ w + (n + 1) * (s + 3 * b)
 visits_of_parts n t a s b v u w few starts first then =

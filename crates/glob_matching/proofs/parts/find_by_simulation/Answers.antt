@@ -1,4 +1,4 @@
-use Rattle.std.proofs.Common.{◌+◌, length, take, sym, arith, true≢false, ◌∙◌}
+use Rattle.std.proofs.Common.{◌+◌, length, take, sym, arith, true≢false, ◌∙◌, le_trans}
 use Rattle.std.proofs.lemmas.List.{take_all}
 use Rattle.byte_nfa.specs.Runs.{size}
 use Rattle.glob_matching.specs.inner.Parts.{total}
@@ -25,10 +25,10 @@ loop-automaton-preserved c =
     record {
       room = c.find.ensures.room ∙ inv.room;
       found = λ k. found_more automata i m c.loop-automaton-test.true c.automaton-item.is c.args.text.now k (inv.found k) (c.in_ok-find.ensures.found k);
-      kept = omega (arith, c.find.ensures.kept, inv.kept);
+      kept = le_trans inv.kept c.find.ensures.kept;
       visits = rw (total_more automata i m c.loop-automaton-test.true c.automaton-item.is)
           (visits_more n (total (take i automata)) (size m) c.loop-automaton.visits c.find.new.visits c.args.visits.now c.find.ensures.visits inv.visits);
-      counted = omega arith;
+      counted = le_trans inv.counted c.find.ensures.counted;
     }
 
 pub returns-in_err-find-clause-memory : goal.returns-in_err-find-clause-memory
@@ -45,3 +45,21 @@ pub returns-clause-visits : goal.returns-clause-visits
 returns-clause-visits c =
     let all = take_all c.loop-automaton.automaton-index c.args.automata.now c.loop-automaton-test.false in
     rw all at c.loop-automaton.invariant.visits
+
+pub returns-in_err-find-clause-kept : goal.returns-in_err-find-clause-kept
+returns-in_err-find-clause-kept c = le_trans c.loop-automaton.invariant.kept c.find.ensures.kept
+
+pub returns-in_err-find-clause-counted : goal.returns-in_err-find-clause-counted
+returns-in_err-find-clause-counted c = le_trans c.loop-automaton.invariant.counted c.find.ensures.counted
+
+pub returns-in_err-find-clause-room : goal.returns-in_err-find-clause-room
+returns-in_err-find-clause-room c = c.find.ensures.room ∙ c.loop-automaton.invariant.room
+
+pub returns-clause-room : goal.returns-clause-room
+returns-clause-room c = c.loop-automaton.invariant.room
+
+pub returns-clause-kept : goal.returns-clause-kept
+returns-clause-kept c = c.loop-automaton.invariant.kept
+
+pub returns-clause-counted : goal.returns-clause-counted
+returns-clause-counted c = c.loop-automaton.invariant.counted

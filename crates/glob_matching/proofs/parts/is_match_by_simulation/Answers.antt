@@ -1,5 +1,7 @@
-use Rattle.std.proofs.Common.{◌+◌, length, take, arith, refl, sym, ◌∙◌, true≢false}
+use Rattle.std.proofs.Common.{◌+◌, length, take, arith, refl, sym, ◌∙◌, true≢false, le_trans}
 use Rattle.byte_nfa.specs.Runs.{size}
+use Rattle.std.proofs.lemmas.Result.{IfOk-from_err}
+use Rattle.std.proofs.lemmas.List.{take_all}
 use Rattle.glob_matching.specs.inner.Parts.{total}
 use Rattle.glob_matching.proofs.lemmas.Parts.{some_at, none_more, visits_more, visits_limit, total_more, total_limit}
 use Rattle.glob_matching.proofs.parts.is_match_by_simulation.Goals as goal
@@ -41,13 +43,39 @@ loop-automaton-preserved c =
     record {
       none = none_more automata i m c.loop-automaton-test.true c.automaton-item.is c.args.text.now inv.none
           (λ k reached. true≢false (sym (c.in_ok-is_match.ensures.some.1 (k, reached)) ∙ c.if-branch.false));
-      kept = omega (arith, c.is_match.ensures.kept, inv.kept);
+      kept = le_trans inv.kept c.is_match.ensures.kept;
       visits = rw (total_more automata i m c.loop-automaton-test.true c.automaton-item.is)
           (visits_more n (total (take i automata)) (size m) c.loop-automaton.visits c.is_match.new.visits c.args.visits.now c.is_match.ensures.visits inv.visits);
-      counted = omega arith;
+      counted = le_trans inv.counted c.is_match.ensures.counted;
     }
 
 pub returns-in_err-is_match-clause-memory : goal.returns-in_err-is_match-clause-memory
 returns-in_err-is_match-clause-memory c = λ enough.
     let limit = total_limit c.args.automata.now c.loop-automaton.automaton-index c.automaton-item.result c.loop-automaton-test.true c.automaton-item.is in
     absurd (true≢false (sym (c.in_err-is_match.ensures.memory (omega (arith, limit, enough, c.loop-automaton.invariant.kept)))))
+
+pub returns-in_err-is_match-clause-kept : goal.returns-in_err-is_match-clause-kept
+returns-in_err-is_match-clause-kept c = le_trans c.loop-automaton.invariant.kept c.is_match.ensures.kept
+
+pub returns-in_err-is_match-clause-counted : goal.returns-in_err-is_match-clause-counted
+returns-in_err-is_match-clause-counted c = le_trans c.loop-automaton.invariant.counted c.is_match.ensures.counted
+
+pub returns-then-branch-clause-kept : goal.returns-then-branch-clause-kept
+returns-then-branch-clause-kept c = le_trans c.loop-automaton.invariant.kept c.is_match.ensures.kept
+
+pub returns-then-branch-clause-counted : goal.returns-then-branch-clause-counted
+returns-then-branch-clause-counted c = le_trans c.loop-automaton.invariant.counted c.is_match.ensures.counted
+
+pub returns-in_err-is_match-clause-some : goal.returns-in_err-is_match-clause-some
+returns-in_err-is_match-clause-some c = IfOk-from_err _ _ c.from_residual.ensures.0
+
+pub returns-clause-kept : goal.returns-clause-kept
+returns-clause-kept c = c.loop-automaton.invariant.kept
+
+pub returns-clause-counted : goal.returns-clause-counted
+returns-clause-counted c = c.loop-automaton.invariant.counted
+
+pub returns-clause-visits : goal.returns-clause-visits
+returns-clause-visits c =
+    let all = take_all c.loop-automaton.automaton-index c.args.automata.now c.loop-automaton-test.false in
+    rw all at c.loop-automaton.invariant.visits
