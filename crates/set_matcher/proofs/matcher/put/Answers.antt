@@ -1,4 +1,4 @@
-use Rattle.std.proofs.Common.{◌≡◌, ℕ, true, false, List, refl, subst}
+use Rattle.std.proofs.Common.{◌≡◌, ℕ, true, false, List, refl, ap, subst}
 use Rattle.byte_nfa.specs.Texts.{AllBytes}
 use Rattle.glob_syntax.specs.Views.{tokens_of}
 use Rattle.glob_strategy.specs.Below.{StrategyIsSoundBelow}
@@ -6,6 +6,7 @@ use Rattle.glob_strategy.specs.declared.strategy.MatchStrategy.{MatchStrategy}
 use Rattle.glob_strategy.specs.Direct.{is_direct, needs_automaton}
 use Rattle.glob_strategy.specs.StrategyMeaning.{StrategyIsSound, has_automaton, runs_automaton, strategy_seen}
 use Rattle.set_matcher.specs.Globs.{is_reported, token_glob}
+use Rattle.set_matcher.specs.inner.Automata.{ExtensionParts}
 use Rattle.set_matcher.specs.inner.SetMatcher.{set_matcher_parts}
 use Rattle.set_matcher.proofs.lemmas.SetMatcher.{as_listed, key_added, excluded_added, both_on_ok, three_on_ok, by_path_added, by_component_added, by_extension_added}
 use Rattle.set_matcher.proofs.matcher.put.Goals as goal
@@ -63,3 +64,36 @@ returns-in-Path-clause-matcher c =
     both_on_ok c.add_by_path.result
     (λ adds few globs at before. by_path_added globs g c.args.index old new at refl tells (λ path. needs path refl) adds few c.add_by_path.ensures.component c.add_by_path.ensures.extensions indirect sound_below before)
     c.add_by_path.ensures.tokens c.add_by_path.ensures.reads
+
+pub add_by_path-requires-clause-nested : goal.add_by_path-requires-clause-nested
+add_by_path-requires-clause-nested c = c.requires.nested
+
+pub add_by_path-requires-clause-index : goal.add_by_path-requires-clause-index
+add_by_path-requires-clause-index c = c.requires.index
+
+pub add_by_extension-requires-clause-nested : goal.add_by_extension-requires-clause-nested
+add_by_extension-requires-clause-nested c = c.tokens_before_ending-rest.ensures.nested
+
+pub add_by_component-requires-clause-nested : goal.add_by_component-requires-clause-nested
+add_by_component-requires-clause-nested c = c.tokens_after_prefix-rest.ensures.nested
+
+pub add_by_extension-requires-clause-index : goal.add_by_extension-requires-clause-index
+add_by_extension-requires-clause-index c = c.requires.index
+
+pub add_by_component-requires-clause-index : goal.add_by_component-requires-clause-index
+add_by_component-requires-clause-index c = c.requires.index
+
+pub returns-in-RequiredExtension-clause-count : goal.returns-in-RequiredExtension-clause-count
+returns-in-RequiredExtension-clause-count c = c.add_by_extension.ensures.count
+
+pub returns-in-Basename-clause-count : goal.returns-in-Basename-clause-count
+returns-in-Basename-clause-count c = ap (λ (e : ExtensionParts). e.index_count) c.add_by_component.ensures.extensions
+
+pub returns-in-Path-clause-count : goal.returns-in-Path-clause-count
+returns-in-Path-clause-count c = ap (λ (e : ExtensionParts). e.index_count) c.add_by_path.ensures.extensions
+
+pub returns-in-Key-clause-count : goal.returns-in-Key-clause-count
+returns-in-Key-clause-count c = refl
+
+pub returns-in-Excluded-clause-count : goal.returns-in-Excluded-clause-count
+returns-in-Excluded-clause-count c = refl

@@ -2,13 +2,22 @@ use Rattle.std.proofs.Common.{◌≡◌, ◌+◌, ◌*◌, ◌≤◌, length, ap
 use Rattle.glob_nfa.specs.IndexedTokens.{IsFor}
 use Rattle.glob_nfa.proofs.lemmas.IndexedTokens.{all_bytes}
 use Rattle.byte_nfa.specs.Runs.{size, max_reads}
+use Rattle.byte_nfa.specs.Sets.{sets_capacity}
 use Rattle.byte_nfa.specs.Steps.{Machine}
 use Rattle.std.proofs.Math.Logic.{⊎_elim}
 use Rattle.glob_path.specs.PathParts.{last_component, component_extension, last_position, is_separator}
-use Rattle.set_matcher.specs.inner.Automata.{AutomataParts, before_extension, machine_under, tokens_under}
+use Rattle.set_matcher.specs.inner.Automata.{AutomataParts, before_extension, machine_under, max_states, tokens_under}
 use Rattle.set_matcher.proofs.lemmas.Automata.{before_bytes, bytes_after, no_matches, three_runs}
 use Rattle.set_matcher.proofs.lemmas.Visits.{looked_runs}
+use Rattle.set_matcher.specs.inner.Capacity.{KeepsCapacity}
+use Rattle.set_matcher.specs.declared.matching_sets.MatchingSets.{MatchingSets}
 use Rattle.set_matcher.proofs.automata.Automata.find.Goals as goal
+
+kept_then : {old between new : MatchingSets} → KeepsCapacity old between → KeepsCapacity between new → KeepsCapacity old new
+kept_then p q = record {
+  states = omega (arith, p.states, q.states);
+  indexes = omega (arith, p.indexes, q.indexes);
+}
 
 pub returns-then-is_idle-clause-idle : goal.returns-then-is_idle-clause-idle
 returns-then-is_idle-clause-idle c = λ off.
@@ -111,3 +120,35 @@ returns-in_err-run_by_extension-clause-memory c = λ none.
     let same = ap (λ p. size (machine_under c.args.self.now.extensions (component_extension p))) c.from_bytes.ensures in
     let last = ap size c.by_extension-by_extension.ensures.automaton in
     let on = c.is_idle.ensures.1 (omega (arith, none, last, same)) in absurd (true≢false (sym on ∙ c.if-is_idle.false))
+
+pub returns-in_err-clear_marks-clause-room : goal.returns-in_err-clear_marks-clause-room
+returns-in_err-clear_marks-clause-room c = λ has.
+    absurd (true≢false (sym (c.in_err-clear_marks.ensures.memory (omega (arith, has.for_indexes, c.index_count.ensures)))))
+
+pub returns-in_err-run_by_path-clause-room : goal.returns-in_err-run_by_path-clause-room
+returns-in_err-run_by_path-clause-room c = λ has.
+    let states = subst (λ (p : AutomataParts). max_states p ≤ sets_capacity c.args.sets.now.states) (sym c.self.view_is) has.for_states in
+    absurd (true≢false (sym (c.in_err-run_by_path.ensures.memory (omega (arith, states, c.in_ok-clear_marks.ensures.kept.states)))))
+
+pub returns-in_err-run_by_component-clause-room : goal.returns-in_err-run_by_component-clause-room
+returns-in_err-run_by_component-clause-room c = λ has.
+    let states = subst (λ (p : AutomataParts). max_states p ≤ sets_capacity c.args.sets.now.states) (sym c.self.view_is) has.for_states in
+    absurd (true≢false (sym (c.in_err-run_by_component.ensures.memory (omega (arith, states, c.in_ok-clear_marks.ensures.kept.states, c.in_ok-run_by_path.ensures.kept.states)))))
+
+pub returns-in_err-run_by_extension-clause-room : goal.returns-in_err-run_by_extension-clause-room
+returns-in_err-run_by_extension-clause-room c = λ has.
+    absurd (true≢false (sym (c.in_err-run_by_extension.ensures.memory (omega (arith, has.for_states, c.by_extension-by_extension.ensures.maximum, c.in_ok-clear_marks.ensures.kept.states, c.in_ok-run_by_path.ensures.kept.states, c.in_ok-run_by_component.ensures.kept.states)))))
+
+pub returns-in_err-run_by_path-clause-kept : goal.returns-in_err-run_by_path-clause-kept
+returns-in_err-run_by_path-clause-kept c = kept_then c.in_ok-clear_marks.ensures.kept c.run_by_path.ensures.kept
+
+pub returns-in_err-run_by_component-clause-kept : goal.returns-in_err-run_by_component-clause-kept
+returns-in_err-run_by_component-clause-kept c = kept_then c.in_ok-clear_marks.ensures.kept (kept_then c.run_by_path.ensures.kept c.run_by_component.ensures.kept)
+
+pub returns-in_err-run_by_extension-clause-kept : goal.returns-in_err-run_by_extension-clause-kept
+returns-in_err-run_by_extension-clause-kept c =
+    kept_then c.in_ok-clear_marks.ensures.kept (kept_then c.run_by_path.ensures.kept (kept_then c.run_by_component.ensures.kept c.run_by_extension.ensures.kept))
+
+pub returns-clause-kept : goal.returns-clause-kept
+returns-clause-kept c =
+    kept_then c.in_ok-clear_marks.ensures.kept (kept_then c.run_by_path.ensures.kept (kept_then c.run_by_component.ensures.kept c.run_by_extension.ensures.kept))

@@ -1,6 +1,7 @@
-use Rattle.std.proofs.Common.{◌≡◌, ◌+◌, ◌<◌, ◌++◌, ◌∷◌, [], List, get_or, length, refl, ap, sym, subst, ◌∙◌, true≢false, arith}
+use Rattle.std.proofs.Common.{◌≡◌, ◌+◌, ◌*◌, ◌<◌, ◌≤◌, ◌++◌, ◌∷◌, [], List, get_or, length, refl, ap, sym, subst, ◌∙◌, true≢false, arith}
+use Rattle.std.proofs.lemmas.List.{take_all}
 use Rattle.byte_nfa.specs.Steps.{Machine}
-use Rattle.set_matcher.specs.inner.Automata.{ExtensionParts}
+use Rattle.set_matcher.specs.inner.Automata.{ExtensionParts, total_reads}
 use Rattle.set_matcher.proofs.lemmas.ExtensionMatchers.{is_for, none_limit, size_within, visits_more, visits_limit}
 use Rattle.set_matcher.proofs.automata.matchers.ExtensionMatchers.can_match_after.Goals as goal
 
@@ -69,3 +70,28 @@ returns-clause-some c = λ by_slot are.
       λ yes. absurd (true≢false (sym yes)),
       λ (s, lt, some). absurd (c.loop-automaton.invariant.none by_slot are (s, omega (arith, lt, c.loop-automaton-test.false, ap length same), some)),
     )
+
+pub returns-in_err-can_match_after-clause-kept : goal.returns-in_err-can_match_after-clause-kept
+returns-in_err-can_match_after-clause-kept c = omega (arith, c.can_match_after.ensures.kept, c.loop-automaton.invariant.kept)
+
+pub returns-in_err-can_match_after-clause-counted : goal.returns-in_err-can_match_after-clause-counted
+returns-in_err-can_match_after-clause-counted c = omega (arith, c.can_match_after.ensures.counted, c.loop-automaton.invariant.counted)
+
+pub returns-then-branch-clause-kept : goal.returns-then-branch-clause-kept
+returns-then-branch-clause-kept c = omega (arith, c.can_match_after.ensures.kept, c.loop-automaton.invariant.kept)
+
+pub returns-then-branch-clause-counted : goal.returns-then-branch-clause-counted
+returns-then-branch-clause-counted c = omega (arith, c.can_match_after.ensures.counted, c.loop-automaton.invariant.counted)
+
+pub returns-clause-kept : goal.returns-clause-kept
+returns-clause-kept c = c.loop-automaton.invariant.kept
+
+pub returns-clause-counted : goal.returns-clause-counted
+returns-clause-counted c = c.loop-automaton.invariant.counted
+
+pub returns-clause-visits : goal.returns-clause-visits
+returns-clause-visits c =
+    let machines = c.args.self.now.machines in
+    let same : c.deref-automaton-items.result.now ≡ machines = c.deref-automaton-items.ensures.value ∙ ap (λ (e : ExtensionParts). e.machines) c.self.view_is in
+    subst (λ (ms : List Machine). c.loop-automaton.visits ≤ c.args.visits.now + (length c.args.text.now + 2) * total_reads ms)
+    (take_all c.loop-automaton.automaton-index machines (omega (arith, c.loop-automaton-test.false, ap length same))) c.loop-automaton.invariant.visits

@@ -47,3 +47,16 @@ returns-clause-reads c =
 pub returns-clause-total : goal.returns-clause-total
 returns-clause-total c =
     ap total_reads c.in_ok-push.ensures.items ∙ total_push c.self.inside.builders.items c.new_builder.result c.new_builder.ensures.reads ∙ ap (λ (e : ExtensionParts). total_reads e.machines) c.self.view_is
+
+pub invariant_of-self : goal.invariant_of-self
+invariant_of-self c =
+    subst (λ ms. AreExtensionMatchers c.self.inside.matchers ms c.self.inside.none c.self.inside.index_count) (sym {A = List Machine} c.in_err-push.ensures.items) c.self.invariant
+
+pub returns-in_err-push-clause-count : goal.returns-in_err-push-clause-count
+returns-in_err-push-clause-count c = ap (λ (e : ExtensionParts). e.index_count) c.self.view_is
+
+pub returns-in_err-insert-clause-count : goal.returns-in_err-insert-clause-count
+returns-in_err-insert-clause-count c = ap (λ (e : ExtensionParts). e.index_count) c.self.view_is
+
+pub returns-clause-count : goal.returns-clause-count
+returns-clause-count c = ap (λ (e : ExtensionParts). e.index_count) c.self.view_is
