@@ -9,10 +9,5 @@ pub mod StepLists
 pub mod Accepting
 pub mod Live
 pub mod LastBytes
-pub mod Spans
-pub mod WordPass
-pub mod Taking
-pub mod Blocks
 pub mod Loops
-pub mod Rooms
 pub mod Bounds

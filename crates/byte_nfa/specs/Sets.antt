@@ -1,9 +1,9 @@
 -- Sets of states.
-use Rattle.std.specs.Prelude.{ℕ, ◌*◌, min, Bool, length}
+use Rattle.std.specs.Prelude.{ℕ, ◌*◌, Bool, length}
 use Rattle.bit_sets.specs.Bits.{bit_of}
-use Rattle.bit_sets.specs.Indexes.{index_capacity}
+use Rattle.bit_sets.specs.Seen.{IsLastBelow}
+use Rattle.bit_sets.specs.declared.words.Seen.{Seen}
 use Rattle.byte_nfa.specs.declared.state_set.StateSet.{StateSet}
-use Rattle.byte_nfa.specs.declared.state_sets.StateSets.{StateSets}
 
 -- the set has the state s
 abbrev pub has_state : StateSet → ℕ → Bool
@@ -13,6 +13,7 @@ has_state set s = bit_of set.words.items s
 abbrev pub state_capacity : StateSet → ℕ
 state_capacity set = 64 * length set.words.items
 
--- each of two sets of states, and the set of starts, has room for the numbers below this
-abbrev pub sets_capacity : StateSets → ℕ
-sets_capacity sets = min (state_capacity sets.current) (min (state_capacity sets.next) (index_capacity sets.starts))
+-- what a look at the states of a set below a bound finds: the highest of them that is in the set, or a lower state that is not, and
+-- no state between it and the bound is in the set
+abbrev pub IsHighestBelow : StateSet → ℕ → Seen → Type 0
+IsHighestBelow set limit seen = IsLastBelow set.words.items limit seen

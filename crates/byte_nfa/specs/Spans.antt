@@ -1,21 +1,13 @@
 -- States that follow each other, and that lead nowhere else.
-use Rattle.std.specs.Prelude.{◌≡◌, ℕ, ◌+◌, ◌<◌, ◌≤◌, false, IsTrue}
+use Rattle.std.specs.Prelude.{◌≡◌, ℕ, ◌<◌, ◌≤◌, false, IsTrue}
 use Rattle.byte_nfa.specs.Sets.{has_state}
 use Rattle.byte_nfa.specs.Steps.{Machine, state}
 use Rattle.byte_nfa.specs.Parts.{GoesFrom}
-use Rattle.byte_nfa.specs.Runs.{size}
 use Rattle.byte_nfa.specs.declared.state_set.StateSet.{StateSet}
-use Rattle.byte_nfa.specs.declared.run.Span.{Span}
 
 -- no state from low on and below high goes on to a state below low
 abbrev pub IsClosed : Machine → ℕ → ℕ → Type 0
 IsClosed m low high = (s : ℕ) → low ≤ s → s < high → GoesFrom low (state m.states s)
-
--- the states are there, and none of them goes on to a lower state
-pub record IsSpan (m : Machine) (span : Span) : Type 0 where
-  pub order : span.low ≤ span.start
-  pub exists : span.start < size m
-  pub closed : IsClosed m span.low (span.start + 1)
 
 -- no state below low is in the set
 abbrev pub IsFrom : ℕ → StateSet → Type 0

@@ -4,5 +4,3 @@ pub mod Pass
 pub mod Exits
 pub mod Lowering
 pub mod StepCapacity
-pub mod WordSets
-pub mod Blocks

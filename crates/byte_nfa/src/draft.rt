@@ -1,40 +1,37 @@
 //! An automaton before it is run.
 
-ghost use Rattle.std.specs.Prelude.{◌≡◌, ℕ, ◌+◌, ◌<◌, ◌≤◌, ◌||◌, ◌⊎◌, ◌↔◌, [], List, false, Some, None, IsTrue, IsFalse, OnOk, MatchOption};
+ghost use Rattle.std.specs.Prelude.{◌≡◌, ℕ, ◌+◌, ◌<◌, ◌≤◌, ◌||◌, ◌⊎◌, ◌↔◌, [], List, Some, IsTrue, IsFalse, OnOk};
 ghost use Rattle.bit_sets.specs.Bytes.{has_byte};
 ghost use Rattle.bit_sets.specs.Indexes.{has_index, index_capacity};
 ghost use Rattle.bit_sets.specs.Numbers.{AreBelow};
 ghost use Rattle.byte_nfa.specs.Sets.{has_state, state_capacity};
-ghost use Rattle.byte_nfa.specs.Steps.{Machine, IsReached, state, final};
+ghost use Rattle.byte_nfa.specs.Steps.{Machine, IsReached, state};
 ghost use Rattle.byte_nfa.specs.Equivalent.{AreEquivalent};
 ghost use Rattle.byte_nfa.specs.ByteSteps.{leads_to, step_capacity};
 ghost use Rattle.byte_nfa.specs.Runs.{size, AcceptsFrom};
 ghost use Rattle.byte_nfa.specs.inner.Views.{AreSound, GoesBelow, machine};
-ghost use Rattle.byte_nfa.specs.inner.Pass.{goes_now, goes_next, names};
+ghost use Rattle.byte_nfa.specs.inner.Pass.{goes_now, goes_next};
 
 mod accepting;
-mod blocks;
 mod early_matches;
 mod forcing;
 mod live;
 mod parts;
 mod spans;
+mod steps;
 
-use crate::blocks::Blocks;
 use crate::byte_steps::ByteSteps;
-use crate::nfa::Nfa;
 use crate::state::State;
 use crate::state_set::StateSet;
 use bit_sets::{ByteSet, IndexSet};
-use std::alloc::AllocError;
+use std::alloc::{AllocError, Global};
 use std::marker::Model;
 use visits::Visits;
 
 /// An automaton before it is run: states over bytes, and those of them that a run begins in.
 ///
 /// Its calls are for what is made from an automaton before it is run, such as a deterministic automaton or a filter. They read
-/// states, and do not count what they read. [`Draft::into_nfa`] makes it an automaton for runs, whose calls count each read of a
-/// state.
+/// states, and do not count what they read. An automaton for runs, whose calls count each read of a state, is made from it.
 pub struct Draft {
     states: Vec<State>,
     sets: Vec<ByteSet>,
@@ -64,6 +61,22 @@ impl Model for Draft {
     ghost invariant = { λ a. AreSound a.sets.items a.targets.items a.states.items a.starts.items a.index_count };
 }
 
+impl Clone for Draft {
+    ghost is_clone = { λ a b. b ≡ a };
+
+    /// Returns a copy. Returns an error if memory runs out.
+    fn clone(&self) -> Result<Draft, AllocError> {
+        let alloc = *self.states.allocator();
+        Ok(Draft {
+            states: Vec::from_slice(alloc, &self.states)?,
+            sets: Vec::from_slice(alloc, &self.sets)?,
+            targets: Vec::from_slice(alloc, &self.targets)?,
+            starts: Vec::from_slice(alloc, &self.starts)?,
+            index_count: self.index_count,
+        })
+    }
+}
+
 impl Draft {
     /// Returns an automaton of these parts.
     pub(crate) fn from_parts(
@@ -85,19 +98,9 @@ impl Draft {
         }
     }
 
-    /// Returns the automaton for runs, which take one state after another. It allocates nothing.
-    pub fn into_nfa(self) -> Nfa
-        ensures { result ≡ self }
-    {
-        let Draft {
-            states,
-            sets,
-            targets,
-            starts,
-            index_count,
-        } = self;
-        let blocks = Blocks::none(*states.allocator());
-        Nfa::from_parts(states, sets, targets, starts, index_count, blocks)
+    /// Returns where its memory is from.
+    pub fn allocator(&self) -> Global {
+        *self.states.allocator()
     }
 
     /// Returns the number of states. A set of states has room for each.
@@ -186,17 +189,5 @@ impl Draft {
         ensures into { OnOk result ((b t : ℕ) → b < 256 → leads_to into.new b t ≡ (goes_next (state self.now.states s) s (Some b) t || leads_to into.old b t)) }
     {
         self.states[s].put_steps(s, &self.sets, &self.targets, from, into)
-    }
-
-    /// Puts what a state of `from` goes on to without a byte into `from`. Returns its index if it is an end.
-    fn follow_epsilons(&self, s: usize, from: &mut StateSet) -> Option<usize>
-        requires exists { s < size self.now }
-        requires room { size self.now ≤ state_capacity from.old }
-        ensures room { state_capacity from.new ≡ state_capacity from.old }
-        ensures from { (t : ℕ) → has_state from.new t ≡ (goes_now (state self.now.states s) t || has_state from.old t) }
-        ensures below { GoesBelow s (state self.now.states s) }
-        ensures end { MatchOption result ((k : ℕ) → names (state self.now.states s) None k ≡ false) (λ k. (state self.now.states s ≡ final k) × (k < self.now.index_count)) }
-    {
-        self.states[s].follow_epsilons(s, &self.targets, from)
     }
 }

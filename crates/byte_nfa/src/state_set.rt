@@ -46,12 +46,11 @@ impl Clone for StateSet {
 
 impl StateSet {
     ghost use Rattle.std.specs.Prelude.{◌≡◌, ℕ, ◌+◌, ◌<◌, ◌≤◌, ◌&&◌, ◌||◌, ◌==◌, ◌↔◌, not, false, IsTrue, IfOk, OnOk, IsOk};
-    ghost use Rattle.byte_nfa.specs.Sets.{has_state, state_capacity};
+    ghost use Rattle.byte_nfa.specs.Sets.{has_state, state_capacity, IsHighestBelow};
     ghost use Rattle.bit_sets.specs.Numbers.{AreBelow, is_reported};
-    ghost use Rattle.bit_sets.specs.Seen.{IsLastBelow};
 
     /// Returns an empty set with room for no state. It allocates nothing.
-    pub(crate) fn empty(alloc: Global) -> StateSet
+    pub fn empty(alloc: Global) -> StateSet
         ensures room { state_capacity result ≡ 0 }
         ensures none { (s : ℕ) → has_state result s ≡ false }
     {
@@ -79,7 +78,7 @@ impl StateSet {
     }
 
     /// Makes room for so many states, if there is less. It takes a bit of memory for each. Returns an error if memory runs out.
-    pub(crate) fn reserve(&mut self, states: usize) -> Result<(), AllocError>
+    pub fn reserve(&mut self, states: usize) -> Result<(), AllocError>
         ensures ok { OnOk result (states ≤ state_capacity self.new) }
         ensures kept { state_capacity self.old ≤ state_capacity self.new }
         ensures memory { states ≤ state_capacity self.old → IsOk result }
@@ -88,7 +87,7 @@ impl StateSet {
     }
 
     /// Takes every state out.
-    pub(crate) fn clear(&mut self)
+    pub fn clear(&mut self)
         ensures room { state_capacity self.new ≡ state_capacity self.old }
         ensures none { (s : ℕ) → has_state self.new s ≡ false }
     {
@@ -150,7 +149,7 @@ impl StateSet {
     }
 
     /// Puts a state in.
-    pub(crate) fn put(&mut self, state: usize)
+    pub fn put(&mut self, state: usize)
         requires { state < state_capacity self.old }
         ensures room { state_capacity self.new ≡ state_capacity self.old }
         ensures has { (t : ℕ) → has_state self.new t ≡ ((t == state) || has_state self.old t) }
@@ -218,10 +217,10 @@ impl StateSet {
 
     /// Reads the next state below a bound. This is the highest one that is in the set; or if the word before the bound has
     /// none, a lower state that is not in the set, and no state between it and the bound is. It is one visit.
-    pub(crate) fn read_below(&self, limit: usize, visits: &mut Visits) -> Seen
+    pub fn read_below(&self, limit: usize, visits: &mut Visits) -> Seen
         requires some { 0 < limit }
         requires within { limit ≤ state_capacity self.now }
-        ensures seen { IsLastBelow self.now.words.items limit result }
+        ensures seen { IsHighestBelow self.now limit result }
         ensures visits { visits.new ≡ visits.old + 1 }
     {
         visits.tick();

@@ -3,7 +3,7 @@
 ghost use Rattle.std.specs.Prelude.{◌≡◌, ◌+◌, ◌*◌, ◌≤◌, ◌↔◌, ◌⊎◌, ◌++◌, ◌∷◌, [], ℕ, List, length, IsTrue, IsOk, OnOk, IfOk};
 ghost use Rattle.byte_nfa.specs.Runs.{size, max_reads};
 ghost use Rattle.bit_sets.specs.Indexes.{has_index, index_capacity};
-ghost use Rattle.byte_nfa.specs.Sets.{sets_capacity};
+ghost use Rattle.nfa_simulation.specs.Sets.{sets_capacity};
 ghost use Rattle.glob_nfa.specs.After.{SomeMeanAfter};
 ghost use Rattle.glob_nfa.specs.IndexedTokens.{IndexedTokens, IsFor, SomeMatches};
 
@@ -13,7 +13,8 @@ use crate::partition::{joint, partitioned};
 use crate::parts::Parts;
 use crate::simulation;
 use bit_sets::IndexSet;
-use byte_nfa::{Draft, Nfa, StateSets};
+use byte_nfa::Draft;
+use nfa_simulation::{Nfa, StateSets};
 use std::alloc::{AllocError, Global};
 use std::marker::Model;
 use visits::Visits;
@@ -91,7 +92,7 @@ impl Compiled {
             Some(filter) => Ok(Compiled {
                 strategy: Strategy::Filtered(Box::new(
                     alloc,
-                    Filtered::of(automaton.with_blocks()?, filter),
+                    Filtered::of(Nfa::with_blocks(automaton)?, filter),
                 )?),
             }),
             None => Compiled::partitioned(alloc, budget, automaton),
@@ -110,7 +111,7 @@ impl Compiled {
             Some(parts) => Ok(Compiled {
                 strategy: Strategy::Partitioned(parts),
             }),
-            None => Ok(Compiled::simulated(automaton.with_blocks()?)),
+            None => Ok(Compiled::simulated(Nfa::with_blocks(automaton)?)),
         }
     }
 

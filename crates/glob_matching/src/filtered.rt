@@ -4,7 +4,7 @@ ghost use Rattle.std.specs.Prelude.{◌≡◌, ◌+◌, ◌*◌, ◌<◌, ◌≤
 ghost use Rattle.byte_nfa.specs.Live.{MatchesAfter};
 ghost use Rattle.byte_nfa.specs.Runs.{size, max_reads};
 ghost use Rattle.bit_sets.specs.Indexes.{has_index, index_capacity};
-ghost use Rattle.byte_nfa.specs.Sets.{sets_capacity};
+ghost use Rattle.nfa_simulation.specs.Sets.{sets_capacity};
 ghost use Rattle.byte_nfa.specs.Steps.{IsReached};
 ghost use Rattle.byte_filter.specs.Starts.{IsFilterOf, IsReachedMarked};
 ghost use Rattle.glob_matching.specs.inner.Filtered.{AreApart, span_at};
@@ -12,7 +12,8 @@ ghost use Rattle.glob_matching.specs.inner.Filtered.{AreApart, span_at};
 use crate::simulation;
 use bit_sets::IndexSet;
 use byte_filter::StartFilter;
-use byte_nfa::{Draft, Nfa, Span, StateSets};
+use byte_nfa::Draft;
+use nfa_simulation::{Nfa, Span, StateSets};
 use std::alloc::{AllocError, Global};
 use std::marker::Model;
 use visits::Visits;

@@ -9,7 +9,8 @@ ghost use Rattle.glob_matching.specs.inner.Parts.{ArePartsBelow};
 use crate::budget::Budget;
 use crate::parts::Parts;
 use byte_dfa::Dfa;
-use byte_nfa::{Draft, Nfa};
+use byte_nfa::Draft;
+use nfa_simulation::Nfa;
 use std::alloc::{AllocError, Global};
 
 /// The most states of a part that is made deterministic.
@@ -264,7 +265,7 @@ impl Partition {
         let Some(part) = automaton.part(low, high)? else {
             return Ok(false);
         };
-        let part_with_blocks = part.with_blocks()?;
+        let part_with_blocks = Nfa::with_blocks(part)?;
         self.automata.push(part_with_blocks)?;
         Ok(true)
     }

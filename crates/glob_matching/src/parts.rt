@@ -3,7 +3,7 @@
 ghost use Rattle.std.specs.Prelude.{◌≡◌, ◌+◌, ◌*◌, ◌≤◌, ◌↔◌, ◌⊎◌, ℕ, length, IsTrue, IsOk, OnOk, IfOk};
 ghost use Rattle.byte_nfa.specs.Runs.{size, max_reads};
 ghost use Rattle.bit_sets.specs.Indexes.{has_index, index_capacity};
-ghost use Rattle.byte_nfa.specs.Sets.{sets_capacity};
+ghost use Rattle.nfa_simulation.specs.Sets.{sets_capacity};
 ghost use Rattle.byte_nfa.specs.Steps.{IsReached};
 ghost use Rattle.glob_matching.specs.inner.Parts.{sources, total, ArePartsOf, AreCounted, SomeReached};
 
@@ -12,7 +12,8 @@ mod after;
 use crate::simulation;
 use bit_sets::IndexSet;
 use byte_dfa::{Dfa, Source};
-use byte_nfa::{Draft, Nfa, StateSets};
+use byte_nfa::Draft;
+use nfa_simulation::{Nfa, StateSets};
 use std::alloc::AllocError;
 use std::marker::Model;
 use visits::Visits;

@@ -4,11 +4,11 @@ ghost use Rattle.std.specs.Prelude.{◌≡◌, ◌+◌, ◌*◌, ◌≤◌, ◌�
 ghost use Rattle.byte_nfa.specs.Live.{MatchesAfter};
 ghost use Rattle.byte_nfa.specs.Runs.{size};
 ghost use Rattle.bit_sets.specs.Indexes.{has_index, index_capacity};
-ghost use Rattle.byte_nfa.specs.Sets.{sets_capacity};
+ghost use Rattle.nfa_simulation.specs.Sets.{sets_capacity};
 ghost use Rattle.byte_nfa.specs.Steps.{IsReached};
 
 use bit_sets::IndexSet;
-use byte_nfa::{Nfa, StateSets};
+use nfa_simulation::{Nfa, StateSets};
 use std::alloc::AllocError;
 use visits::Visits;
 

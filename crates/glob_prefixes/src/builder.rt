@@ -8,6 +8,7 @@ use crate::matcher::PrefixMatcher;
 use byte_nfa::Builder;
 use glob_nfa::{add_tokens, new_builder};
 use globset_glob::{GivenGlobs, Glob, options_of, tokens_of};
+use nfa_simulation::Nfa;
 use std::alloc::{AllocError, Global};
 use std::marker::Model;
 
@@ -90,7 +91,7 @@ impl PrefixMatcherBuilder {
             automaton,
             added: _,
         } = self;
-        let automaton = automaton.finish().with_blocks()?;
+        let automaton = Nfa::with_blocks(automaton.finish())?;
         Ok(PrefixMatcher { globs, automaton })
     }
 }

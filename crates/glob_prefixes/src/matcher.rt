@@ -7,8 +7,8 @@ ghost use Rattle.glob_prefixes.specs.Prefixes.{FitAsBefore, FitsPrefixes, IsAfte
 
 use crate::marks::push_marked;
 use crate::states::PrefixStates;
-use byte_nfa::Nfa;
 use globset_glob::GivenGlobs;
+use nfa_simulation::Nfa;
 use std::marker::Model;
 use std::mem::swap;
 use visits::Visits;

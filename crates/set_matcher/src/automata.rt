@@ -4,7 +4,7 @@ ghost use Rattle.std.specs.Prelude.{◌≡◌, ◌+◌, ◌*◌, ◌<◌, ◌≤
 ghost use Rattle.std.specs.Str.{bytes_eq};
 ghost use Rattle.byte_nfa.specs.Runs.{size, max_reads};
 ghost use Rattle.bit_sets.specs.Indexes.{has_index, index_capacity};
-ghost use Rattle.byte_nfa.specs.Sets.{sets_capacity};
+ghost use Rattle.nfa_simulation.specs.Sets.{sets_capacity};
 ghost use Rattle.glob_nfa.specs.IndexedTokens.{IndexedTokens, IsFor, SomeMatches, indexed};
 ghost use Rattle.glob_path.specs.PathParts.{component_extension, last_component};
 ghost use Rattle.glob_syntax.specs.FlatTokens.{IsNested};
@@ -18,12 +18,13 @@ mod matchers;
 
 use crate::matching_sets::MatchingSets;
 use below::has_text;
-use byte_nfa::{Builder, StateSets};
+use byte_nfa::Builder;
 use glob_matching::{Budget, Compiled};
 use glob_nfa::{add_tokens, new_builder};
 use glob_path::{Candidate, component_extension_of, last_component_of};
 use glob_syntax::{Options, Token};
 use matchers::{ExtensionMatchers, ExtensionMatchersBuilder};
+use nfa_simulation::StateSets;
 use std::alloc::{AllocError, Global};
 use std::marker::Model;
 use visits::Visits;

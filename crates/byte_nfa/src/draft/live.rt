@@ -1,6 +1,6 @@
 //! States from which some bytes lead to an end.
 
-ghost use Rattle.std.specs.Prelude.{◌≡◌, ℕ, ◌<◌, ◌≤◌, ◌↔◌, List, IsTrue};
+ghost use Rattle.std.specs.Prelude.{◌≡◌, ℕ, ◌+◌, ◌<◌, ◌≤◌, ◌↔◌, List, IsTrue};
 ghost use Rattle.byte_nfa.specs.Live.{AreLive};
 ghost use Rattle.byte_nfa.specs.Runs.{size, AcceptsFrom};
 ghost use Rattle.byte_nfa.specs.Sets.{has_state, state_capacity};
@@ -46,6 +46,30 @@ impl Draft {
                 return true;
             }
             limit = s;
+        }
+        false
+    }
+
+    /// Returns whether some bytes lead from the states of a set to an end. It reads the states from the lowest on, until it
+    /// comes to such a state of the set, and puts those from which some bytes lead to an end into `live`. What `live` held has
+    /// no effect. It is at most one visit for each state.
+    pub fn any_live(&self, from: &StateSet, live: &mut StateSet, visits: &mut Visits) -> bool
+        requires from_capacity { size self.now ≤ state_capacity from.now }
+        requires live_capacity { size self.now ≤ state_capacity live.old }
+        ensures room { state_capacity live.new ≡ state_capacity live.old }
+        ensures some { IsTrue result ↔ ((y : List ℕ) × (k : ℕ) × AllBytes y × AcceptsFrom self.now from.now y k) }
+        ensures visits { visits.new ≤ visits.old + size self.now }
+        ensures counted { visits.old ≤ visits.new }
+    {
+        live.clear();
+        for s in 0..self.state_count() {
+            visits.tick();
+            if self.is_leading(s, live) {
+                if from.has(s) {
+                    return true;
+                }
+                live.put(s);
+            }
         }
         false
     }

@@ -7,10 +7,11 @@ ghost use Rattle.bit_sets.specs.Bits.{is_in_word};
 
 use crate::state_set::StateSet;
 use bit_sets::words::set_lowered;
+use visits::Visits;
 
 impl StateSet {
-    /// Returns a bound that is not above another. No state from it on and below the other is in the set.
-    pub(crate) fn end_below(&self, limit: usize) -> usize
+    /// Returns a bound that is not above another. No state from it on and below the other is in the set. It reads no state.
+    pub fn end_below(&self, limit: usize) -> usize
         requires { 0 < limit }
         ensures within { result ≤ limit }
         ensures none { (t : ℕ) → result ≤ t → t < limit → has_state self.now t ≡ false }
@@ -23,19 +24,21 @@ impl StateSet {
         if end <= self.first { 0 } else { end }
     }
 
-    /// Returns the word of the state below a bound, without the states from the bound on.
-    pub(crate) fn word_below(&self, limit: usize) -> u64
+    /// Reads the word of the state below a bound, without the states from the bound on. It is one visit.
+    pub fn read_word_below(&self, limit: usize, visits: &mut Visits) -> u64
         requires some { 0 < limit }
         requires within { limit ≤ state_capacity self.now }
         ensures below { (s : ℕ) → s / 64 ≡ (limit - 1) / 64 → s < limit → (bit_at result (s % 64) == 1) ≡ has_state self.now s }
         ensures above { (s : ℕ) → s / 64 ≡ (limit - 1) / 64 → limit ≤ s → (bit_at result (s % 64) == 1) ≡ false }
+        ensures visits { visits.new ≡ visits.old + 1 }
     {
+        visits.tick();
         let last = limit - 1;
         self.words[last / 64] & (u64::MAX >> (63 - last % 64))
     }
 
     /// Puts in the state below each state of a word that stands at a place. Returns whether there are any.
-    pub(crate) fn put_lowered(&mut self, at: usize, word: u64) -> bool
+    pub fn put_lowered(&mut self, at: usize, word: u64) -> bool
         requires within { at * 64 < state_capacity self.old }
         requires fits { at * 64 < 2 ^ 64 }
         requires before { bit_at word 0 ≡ 1 → 0 < at }

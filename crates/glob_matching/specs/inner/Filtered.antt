@@ -1,10 +1,10 @@
 -- Automata with many starts, of which those alone are run that a filter names.
 use Rattle.std.specs.Prelude.{ℕ, zero, suc, ◌+◌, ◌<◌, List, length, slice_index, IsTrue}
 use Rattle.bit_sets.specs.Indexes.{has_index}
-use Rattle.byte_nfa.specs.Spans.{IsSpan}
+use Rattle.nfa_simulation.specs.Spans.{IsSpan}
 use Rattle.byte_nfa.specs.Steps.{Accepts, Machine}
 use Rattle.bit_sets.specs.declared.index_set.IndexSet.{IndexSet}
-use Rattle.byte_nfa.specs.declared.run.Span.{Span}
+use Rattle.nfa_simulation.specs.declared.run.Span.{Span}
 
 -- the first state behind the start before that of the number i
 abbrev pub low_of : List ℕ → ℕ → ℕ

@@ -3,13 +3,13 @@
 ghost use Rattle.std.specs.Prelude.{◌≡◌, ◌+◌, ◌*◌, ◌≤◌, ◌↔◌, ◌++◌, ◌∷◌, [], ℕ, length, IsTrue, IsOk, IfOk};
 ghost use Rattle.byte_nfa.specs.Live.{MatchesAfter};
 ghost use Rattle.byte_nfa.specs.Runs.{size};
-ghost use Rattle.byte_nfa.specs.Sets.{sets_capacity};
+ghost use Rattle.nfa_simulation.specs.Sets.{sets_capacity};
 ghost use Rattle.glob_matching.specs.inner.Parts.{sources, total, SomeMatchesAfter};
 
 use crate::parts::Parts;
 use crate::simulation;
 use byte_dfa::Dfa;
-use byte_nfa::{Nfa, StateSets};
+use nfa_simulation::{Nfa, StateSets};
 use std::alloc::AllocError;
 use visits::Visits;
 

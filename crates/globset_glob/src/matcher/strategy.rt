@@ -8,11 +8,11 @@ ghost use Rattle.globset_glob.specs.inner.GlobNfa.{IsAutomatonOf, IsStrategyOfMa
 
 use crate::glob::Glob;
 use crate::matcher::scratch::MatcherScratch;
-use byte_nfa::StateSets;
 use glob_matching::{Budget, Compiled, DEFAULT_DFA_SIZE_LIMIT};
 use glob_nfa::{add_tokens, new_builder};
 use glob_path::{Candidate, Key};
 use glob_strategy::{MatchStrategy, strategy_of};
+use nfa_simulation::StateSets;
 use std::alloc::{AllocError, Global};
 use visits::Visits;
 

@@ -1,7 +1,7 @@
 -- How much room the sets have that matching works with.
 use Rattle.std.specs.Prelude.{ℕ, ◌≤◌}
 use Rattle.bit_sets.specs.Indexes.{index_capacity}
-use Rattle.byte_nfa.specs.Sets.{sets_capacity}
+use Rattle.nfa_simulation.specs.Sets.{sets_capacity}
 use Rattle.set_matcher.specs.declared.matching_sets.MatchingSets.{MatchingSets}
 
 -- room for automata of so many states, and for the indexes below a number

@@ -2,11 +2,12 @@
 
 ghost use Rattle.std.specs.Prelude.{◌≡◌, ◌+◌, ◌*◌, ◌≤◌, ◌↔◌, [], length, IfOk, IsOk, IsTrue};
 ghost use Rattle.byte_nfa.specs.Live.{MatchesAfter};
-ghost use Rattle.byte_nfa.specs.Sets.{sets_capacity};
+ghost use Rattle.nfa_simulation.specs.Sets.{sets_capacity};
 ghost use Rattle.set_matcher.specs.inner.Automata.{AreForLists, AreFoundBelow, TokenLists, folder_reads, max_states};
 
 use crate::automata::Automata;
-use byte_nfa::{Draft, StateSet, StateSets};
+use byte_nfa::{Draft, StateSet};
+use nfa_simulation::StateSets;
 use std::alloc::{AllocError, Global};
 use visits::Visits;
 

@@ -2,7 +2,7 @@
 
 ghost use Rattle.std.specs.Prelude.{◌≡◌, ◌+◌, ◌*◌, ◌<◌, ◌≤◌, ◌↔◌, ◌++◌, ◌∷◌, [], ℕ, List, length, IsTrue, IsOk, OnOk, IfOk, None, Some, cond};
 ghost use Rattle.byte_nfa.specs.Runs.{size, max_reads};
-ghost use Rattle.byte_nfa.specs.Sets.{sets_capacity};
+ghost use Rattle.nfa_simulation.specs.Sets.{sets_capacity};
 ghost use Rattle.std.specs.Str.{bytes_eq};
 ghost use Rattle.glob_nfa.specs.IndexedTokens.{IndexedTokens, IsFor, indexed};
 ghost use Rattle.glob_syntax.specs.FlatTokens.{IsNested};
@@ -10,11 +10,12 @@ ghost use Rattle.glob_syntax.specs.Views.{flats, tokens_of};
 ghost use Rattle.glob_syntax.specs.inner.Weight.{weight};
 ghost use Rattle.set_matcher.specs.inner.Automata.{AddsTokens, AreFor, KeepsTokens, SomeExtensionAfter, machine_under, max_size, slot_of, tokens_under, total_reads};
 
-use byte_nfa::{Builder, StateSets};
+use byte_nfa::Builder;
 use byte_table::Table;
 use glob_matching::{Budget, Compiled};
 use glob_nfa::{add_tokens, new_builder};
 use glob_syntax::{Options, Token};
+use nfa_simulation::{Nfa, StateSets};
 use std::alloc::{AllocError, Global};
 use std::marker::Model;
 use visits::Visits;
@@ -284,7 +285,7 @@ impl ExtensionMatchersBuilder {
         Ok(ExtensionMatchers {
             matchers,
             automata: finished(alloc, budget, builders)?,
-            none: Compiled::simulated(none.finish().into_nfa()),
+            none: Compiled::simulated(Nfa::new(none.finish())),
             index_count,
         })
     }

@@ -1,5 +1,5 @@
 use Rattle.std.proofs.Common.{ℕ, ◌<◌}
-use Rattle.byte_nfa.specs.Spans.{IsSpan}
+use Rattle.nfa_simulation.specs.Spans.{IsSpan}
 use Rattle.glob_matching.specs.inner.Filtered.{span_at}
 use Rattle.glob_matching.proofs.filtered.are_apart.Given as goal
 

@@ -1,7 +1,7 @@
 use Rattle.std.proofs.Common.{◌≡◌, ℕ, ◌+◌, ◌*◌, ◌-◌, ◌≤◌, ◌⊎◌, length, IsTrue}
 use Rattle.std.specs.Prelude.{◌↔◌}
 use Rattle.bit_sets.specs.Indexes.{has_index, index_capacity}
-use Rattle.byte_nfa.specs.Sets.{sets_capacity}
+use Rattle.nfa_simulation.specs.Sets.{sets_capacity}
 use Rattle.glob_matching.specs.inner.Filtered.{low_of, IsReachedBefore}
 use Rattle.glob_matching.proofs.filtered.find_from_marked.Given as goal
 

@@ -1,5 +1,5 @@
 use Rattle.std.proofs.Common.{◌≡◌, ℕ, ◌+◌, ◌*◌, ◌-◌, ◌≤◌, length}
-use Rattle.byte_nfa.specs.Sets.{sets_capacity}
+use Rattle.nfa_simulation.specs.Sets.{sets_capacity}
 use Rattle.glob_matching.specs.inner.Filtered.{low_of, IsReachedBefore}
 use Rattle.glob_matching.proofs.filtered.is_match_from_marked.Given as goal
 

@@ -1,7 +1,7 @@
 use Rattle.std.proofs.Common.{◌≡◌, ℕ, ◌+◌, ◌*◌, ◌≤◌, ◌⊎◌, IsTrue, length, take}
 use Rattle.std.specs.Prelude.{◌↔◌}
 use Rattle.bit_sets.specs.Indexes.{has_index, index_capacity}
-use Rattle.byte_nfa.specs.Sets.{sets_capacity}
+use Rattle.nfa_simulation.specs.Sets.{sets_capacity}
 use Rattle.glob_matching.specs.inner.Parts.{SomeReached, total}
 use Rattle.glob_matching.proofs.parts.find_by_simulation.Given as goal
 

@@ -1,5 +1,5 @@
 use Rattle.std.proofs.Common.{ℕ, ◌+◌, ◌*◌, ◌≤◌, length, take}
-use Rattle.byte_nfa.specs.Sets.{sets_capacity}
+use Rattle.nfa_simulation.specs.Sets.{sets_capacity}
 use Rattle.glob_matching.specs.inner.Parts.{SomeReached, total}
 use Rattle.glob_matching.proofs.parts.is_match_by_simulation.Given as goal
 

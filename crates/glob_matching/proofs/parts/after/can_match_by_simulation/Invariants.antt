@@ -1,5 +1,5 @@
 use Rattle.std.proofs.Common.{◌++◌, ◌∷◌, [], ◌+◌, ◌*◌, ◌≤◌, length, take}
-use Rattle.byte_nfa.specs.Sets.{sets_capacity}
+use Rattle.nfa_simulation.specs.Sets.{sets_capacity}
 use Rattle.glob_matching.specs.inner.Parts.{SomeMatchesAfter, total}
 use Rattle.glob_matching.proofs.parts.after.can_match_by_simulation.Given as goal
 

@@ -2,7 +2,7 @@ use Rattle.std.proofs.Common.{◌≡◌, ◌+◌, ◌*◌, ◌≤◌, length, ap
 use Rattle.glob_nfa.specs.IndexedTokens.{IsFor}
 use Rattle.glob_nfa.proofs.lemmas.IndexedTokens.{all_bytes}
 use Rattle.byte_nfa.specs.Runs.{size, max_reads}
-use Rattle.byte_nfa.specs.Sets.{sets_capacity}
+use Rattle.nfa_simulation.specs.Sets.{sets_capacity}
 use Rattle.byte_nfa.specs.Steps.{Machine}
 use Rattle.std.proofs.Math.Logic.{⊎_elim}
 use Rattle.glob_path.specs.PathParts.{last_component, component_extension, last_position, is_separator}

@@ -1,0 +1,6 @@
+pub mod Spans
+pub mod WordPass
+pub mod Taking
+pub mod Blocks
+pub mod Rooms
+pub mod Visits

@@ -1,0 +1,24 @@
+//! States from which some bytes lead to an end.
+
+ghost use Rattle.std.specs.Prelude.{◌≡◌, ℕ, ◌+◌, ◌≤◌, ◌↔◌, List, IsTrue};
+ghost use Rattle.byte_nfa.specs.Runs.{size, AcceptsFrom};
+ghost use Rattle.byte_nfa.specs.Sets.{state_capacity};
+ghost use Rattle.byte_nfa.specs.Texts.{AllBytes};
+
+use crate::nfa::Nfa;
+use byte_nfa::StateSet;
+use visits::Visits;
+
+impl Nfa {
+    /// Does what [`Draft::any_live`](byte_nfa::Draft::any_live) does.
+    pub(crate) fn any_live(&self, from: &StateSet, live: &mut StateSet, visits: &mut Visits) -> bool
+        requires from_capacity { size self.now ≤ state_capacity from.now }
+        requires live_capacity { size self.now ≤ state_capacity live.old }
+        ensures room { state_capacity live.new ≡ state_capacity live.old }
+        ensures some { IsTrue result ↔ ((y : List ℕ) × (k : ℕ) × AllBytes y × AcceptsFrom self.now from.now y k) }
+        ensures visits { visits.new ≤ visits.old + size self.now }
+        ensures counted { visits.old ≤ visits.new }
+    {
+        self.draft.any_live(from, live, visits)
+    }
+}
