@@ -1,4 +1,3 @@
-pub mod Origins
 pub mod Lists
 pub mod Classes
 pub mod Tables

@@ -10,12 +10,12 @@ ghost use Rattle.byte_dfa.specs.inner.Tables.{table_of, IsTableOf};
 use crate::classes::ByteClasses;
 use crate::determinizer::{Determinizer, SPECIAL};
 use crate::lists::{has_some, put_listed};
-use crate::source::Source;
 use bit_sets::{ByteSet, IndexSet};
 use byte_nfa::Draft;
 use std::alloc::{AllocError, Global};
 use std::marker::Model;
 use std::mem;
+use std::snapshot::Snapshot;
 use visits::Visits;
 
 /// A deterministic automaton: a table that says for each state and byte which state is next.
@@ -34,7 +34,7 @@ pub struct Dfa {
     last_bytes: ByteSet,
     /// For each row, whether some bytes lead from it to an end.
     live: Vec<bool>,
-    source: Source,
+    source: Snapshot<Draft>,
 }
 
 impl Drop for Dfa {
@@ -59,29 +59,9 @@ const DEAD: usize = 0;
 impl Model for Dfa {
     ghost Value = { DfaValue };
 
-    ghost view = { λ d. record { source = d.source; size = length d.table.items + length d.lists.items } };
+    ghost view = { λ d. record { source = d.source.value; size = length d.table.items + length d.lists.items } };
 
-    ghost invariant = { λ d. IsTableOf d.source (table_of d.class_of d.width d.table.items d.start d.lists.items d.index_count) d.last_bytes d.live.items };
-}
-
-impl Clone for Dfa {
-    ghost is_clone = { λ a b. b ≡ a };
-
-    /// Returns a copy. Returns an error if memory runs out.
-    fn clone(&self) -> Result<Dfa, AllocError> {
-        let alloc = *self.table.allocator();
-        Ok(Dfa {
-            class_of: self.class_of,
-            width: self.width,
-            table: Vec::from_slice(alloc, &self.table)?,
-            start: self.start,
-            lists: Vec::from_slice(alloc, &self.lists)?,
-            index_count: self.index_count,
-            last_bytes: self.last_bytes,
-            live: Vec::from_slice(alloc, &self.live)?,
-            source: self.source.copy(),
-        })
-    }
+    ghost invariant = { λ d. IsTableOf d.source.value (table_of d.class_of d.width d.table.items d.start d.lists.items d.index_count) d.last_bytes d.live.items };
 }
 
 impl Dfa {
@@ -116,7 +96,7 @@ impl Dfa {
             index_count: automaton.index_count(),
             last_bytes,
             live,
-            source: Source::of(automaton),
+            source: Snapshot::of(automaton),
         }))
     }
 

@@ -8,7 +8,5 @@ mod classes;
 mod determinizer;
 mod dfa;
 mod lists;
-mod source;
 
 pub use dfa::Dfa;
-pub use source::Source;

@@ -79,21 +79,6 @@ impl Model for Filter {
     ghost invariant = { λ f. IsSound f.keys f.heads.items f.links.items f.has_short };
 }
 
-impl Clone for Filter {
-    ghost is_clone = { λ a b. b ≡ a };
-
-    /// Returns a copy. Returns an error if memory runs out.
-    fn clone(&self) -> Result<Filter, AllocError> {
-        let alloc = *self.links.allocator();
-        Ok(Filter {
-            keys: self.keys.clone()?,
-            heads: Vec::from_slice(alloc, &self.heads)?,
-            links: Vec::from_slice(alloc, &self.links)?,
-            has_short: self.has_short,
-        })
-    }
-}
-
 impl Filter {
     /// Returns a filter of no entries, with memory for so many. With many more than these, looking for a key takes longer. Returns
     /// an error if memory runs out.

@@ -20,18 +20,6 @@ impl Drop for KeyBits {
     }
 }
 
-impl Clone for KeyBits {
-    ghost is_clone = { λ a b. b.words.items ≡ a.words.items };
-
-    /// Returns a copy. Returns an error if memory runs out.
-    fn clone(&self) -> Result<KeyBits, AllocError> {
-        let alloc = *self.words.allocator();
-        Ok(KeyBits {
-            words: Vec::from_slice(alloc, &self.words)?,
-        })
-    }
-}
-
 impl KeyBits {
     ghost use Rattle.std.specs.Prelude.{ℕ, IsTrue};
     ghost use Rattle.byte_filter.specs.inner.KeyBits.{has_key};

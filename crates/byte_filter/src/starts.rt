@@ -51,20 +51,6 @@ impl Model for StartFilter {
     ghost invariant = { λ f. AreSound f.filter f.others.items f.count };
 }
 
-impl Clone for StartFilter {
-    ghost is_clone = { λ a b. b ≡ a };
-
-    /// Returns a copy. Returns an error if memory runs out.
-    fn clone(&self) -> Result<StartFilter, AllocError> {
-        let alloc = *self.others.allocator();
-        Ok(StartFilter {
-            filter: self.filter.clone()?,
-            others: Vec::from_slice(alloc, &self.others)?,
-            count: self.count,
-        })
-    }
-}
-
 /// With fewer entries than this a pass might be more visits than [`StartFilter::mark`] promises.
 const FEWEST_ENTRIES: usize = 4;
 

@@ -61,22 +61,6 @@ impl Model for Draft {
     ghost invariant = { λ a. AreSound a.sets.items a.targets.items a.states.items a.starts.items a.index_count };
 }
 
-impl Clone for Draft {
-    ghost is_clone = { λ a b. b ≡ a };
-
-    /// Returns a copy. Returns an error if memory runs out.
-    fn clone(&self) -> Result<Draft, AllocError> {
-        let alloc = *self.states.allocator();
-        Ok(Draft {
-            states: Vec::from_slice(alloc, &self.states)?,
-            sets: Vec::from_slice(alloc, &self.sets)?,
-            targets: Vec::from_slice(alloc, &self.targets)?,
-            starts: Vec::from_slice(alloc, &self.starts)?,
-            index_count: self.index_count,
-        })
-    }
-}
-
 impl Draft {
     /// Returns an automaton of these parts.
     pub(crate) fn from_parts(

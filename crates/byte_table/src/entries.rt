@@ -1,6 +1,7 @@
 //! The entries of a table in the order in which they were added, which contracts speak of and which take no memory.
 
 use std::marker::Model;
+use std::mem;
 use std::snapshot::Snapshot;
 
 /// A list of entries, by snapshots. A snapshot has no bytes.
@@ -10,8 +11,6 @@ enum Added {
     Nothing,
     /// A list, and one more entry at the end: its key and its index.
     After(Snapshot<Added>, Snapshot<Vec<u8>>, usize),
-    /// An equal list, by a snapshot of its snapshot.
-    As(Snapshot<Snapshot<Added>>),
 }
 
 /// A list of keys with their indexes, which has no size in a running program.
@@ -44,21 +43,11 @@ impl Entries {
         }
     }
 
-    /// Returns an equal list.
-    pub fn copy(&self) -> Entries
-        ensures { result ≡ self.now }
+    /// Adds an entry at the end.
+    pub fn push(&mut self, key: Snapshot<Vec<u8>>, index: usize)
+        ensures { self.new ≡ self.old ++ entry key.value.items index ∷ [] }
     {
-        Entries {
-            added: Snapshot::of(&Added::As(Snapshot::of(&self.added))),
-        }
-    }
-
-    /// Returns this list with one more entry at the end.
-    pub fn and(self, key: &Vec<u8>, index: usize) -> Entries
-        ensures { result ≡ self ++ entry key.now.items index ∷ [] }
-    {
-        Entries {
-            added: Snapshot::of(&Added::After(self.added, Snapshot::of(key), index)),
-        }
+        let before = mem::replace(&mut self.added, Snapshot::of(&Added::Nothing));
+        self.added = Snapshot::of(&Added::After(before, key, index));
     }
 }

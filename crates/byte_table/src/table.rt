@@ -9,6 +9,7 @@ use crate::entries::Entries;
 use std::alloc::{AllocError, Global};
 use std::collections::HashMap;
 use std::marker::Model;
+use std::snapshot::Snapshot;
 use visits::Visits;
 
 /// Indexes under byte keys: under each key those that were added with it, in the order in which they were added.
@@ -42,19 +43,6 @@ impl Model for Table {
     ghost invariant = { λ t. PassInvariant t.lists t.count t.entries };
 }
 
-impl Clone for Table {
-    ghost is_clone = { λ a b. b ≡ a };
-
-    /// Returns a copy. Returns an error if memory runs out.
-    fn clone(&self) -> Result<Table, AllocError> {
-        Ok(Table {
-            lists: self.lists.clone()?,
-            count: self.count,
-            entries: self.entries.copy(),
-        })
-    }
-}
-
 impl Table {
     /// Returns a table of no entries, which takes no memory.
     #[tactic(auto, unfolding(crate::specs::inner::Lists::list_under))]
@@ -79,10 +67,10 @@ impl Table {
         let Some(count) = self.count.checked_add(1) else {
             return Err(AllocError);
         };
-        let entries = self.entries.copy().and(&key, index);
+        let kept = Snapshot::of(&key);
         add(&mut self.lists, key, index)?;
         self.count = count;
-        self.entries = entries;
+        self.entries.push(kept, index);
         Ok(())
     }
 

@@ -5,7 +5,6 @@ ghost use Rattle.byte_trie.specs.inner.Nodes.{child_at, held_at, node_count, IsT
 
 mod build;
 
-use std::alloc::AllocError;
 use visits::Visits;
 
 /// A node: the ranges of its edges and of its indexes.
@@ -44,20 +43,6 @@ pub struct Reading<'t> {
     pub indexes: &'t [usize],
     /// The node that the next byte leads to, if there is one.
     pub child: Option<usize>,
-}
-
-impl Clone for Tree {
-    ghost is_clone = { λ a b. (b.nodes.items ≡ a.nodes.items) × (b.bytes.items ≡ a.bytes.items) × (b.indexes.items ≡ a.indexes.items) };
-
-    /// Returns a copy. Returns an error if memory runs out.
-    fn clone(&self) -> Result<Tree, AllocError> {
-        let alloc = *self.nodes.allocator();
-        Ok(Tree {
-            nodes: Vec::from_slice(alloc, &self.nodes)?,
-            bytes: Vec::from_slice(alloc, &self.bytes)?,
-            indexes: Vec::from_slice(alloc, &self.indexes)?,
-        })
-    }
 }
 
 impl Tree {

@@ -15,6 +15,7 @@ use bit_sets::IndexSet;
 use byte_table::Entries;
 use std::alloc::{AllocError, Global};
 use std::marker::Model;
+use std::snapshot::Snapshot;
 use visits::Visits;
 
 /// Texts with indexes, which are looked for at one side of a path.
@@ -47,20 +48,6 @@ impl Model for Trie {
     ghost view = { λ t. record { anchor = t.anchor; entries = t.entries } };
 
     ghost invariant = { λ t. PassInvariant t.tree t.anchor t.count t.entries };
-}
-
-impl Clone for Trie {
-    ghost is_clone = { λ a b. b ≡ a };
-
-    /// Returns a copy. Returns an error if memory runs out.
-    fn clone(&self) -> Result<Trie, AllocError> {
-        Ok(Trie {
-            tree: self.tree.clone()?,
-            anchor: self.anchor,
-            count: self.count,
-            entries: self.entries.copy(),
-        })
-    }
 }
 
 impl Trie {
@@ -132,7 +119,7 @@ fn entries_of(texts: &[Text]) -> Entries
 {
     let mut entries = Entries::new();
     for text in texts {
-        entries = entries.and(&text.bytes, text.index);
+        entries.push(Snapshot::of(&text.bytes), text.index);
     }
     entries
 }

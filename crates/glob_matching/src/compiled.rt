@@ -50,20 +50,6 @@ impl Model for Compiled {
     ghost view = { λ c. machine_of c.strategy };
 }
 
-impl Clone for Compiled {
-    ghost is_clone = { λ a b. b ≡ a };
-
-    /// Returns a copy. Returns an error if memory runs out.
-    fn clone(&self) -> Result<Compiled, AllocError> {
-        let strategy = match &self.strategy {
-            Strategy::Whole(automaton) => Strategy::Whole(automaton.clone()?),
-            Strategy::Partitioned(parts) => Strategy::Partitioned(parts.clone()?),
-            Strategy::Filtered(filtered) => Strategy::Filtered(filtered.clone()?),
-        };
-        Ok(Compiled { strategy })
-    }
-}
-
 impl Compiled {
     /// Returns an automaton in parts, as far as the budget allows it deterministic ones. Returns an error if memory runs out.
     ///

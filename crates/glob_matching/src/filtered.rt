@@ -46,20 +46,6 @@ impl Model for Filtered {
     ghost invariant = { λ f. IsFilterOf f.automaton f.filter × AreApart f.automaton };
 }
 
-impl Clone for Filtered {
-    ghost use Rattle.std.specs.Prelude.{◌≡◌};
-
-    ghost is_clone = { λ a b. b ≡ a };
-
-    /// Returns a copy. Returns an error if memory runs out.
-    fn clone(&self) -> Result<Filtered, AllocError> {
-        Ok(Filtered {
-            automaton: self.automaton.clone()?,
-            filter: self.filter.clone()?,
-        })
-    }
-}
-
 impl Filtered {
     /// Returns an automaton with a filter for it.
     pub fn of(automaton: Nfa, filter: StartFilter) -> Filtered

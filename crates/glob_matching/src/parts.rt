@@ -11,11 +11,12 @@ mod after;
 
 use crate::simulation;
 use bit_sets::IndexSet;
-use byte_dfa::{Dfa, Source};
+use byte_dfa::Dfa;
 use byte_nfa::Draft;
 use nfa_simulation::{Nfa, StateSets};
 use std::alloc::AllocError;
 use std::marker::Model;
+use std::snapshot::Snapshot;
 use visits::Visits;
 
 /// The parts of an automaton. Each part that is not too large is deterministic; the others are simulated. Contracts see the
@@ -24,7 +25,7 @@ pub struct Parts {
     tables: Vec<Dfa>,
     automata: Vec<Nfa>,
     state_count: usize,
-    source: Source,
+    source: Snapshot<Draft>,
 }
 
 impl Drop for Parts {
@@ -45,27 +46,9 @@ impl Model for Parts {
 
     ghost Value = { Machine };
 
-    ghost view = { λ p. p.source };
+    ghost view = { λ p. p.source.value };
 
-    ghost invariant = { λ p. ArePartsOf p.source p.state_count p.tables.items p.automata.items };
-}
-
-impl Clone for Parts {
-    ghost use Rattle.std.specs.Prelude.{◌≡◌};
-
-    ghost is_clone = { λ a b. b ≡ a };
-
-    /// Returns a copy. Returns an error if memory runs out.
-    fn clone(&self) -> Result<Parts, AllocError> {
-        let tables = self.tables.clone()?;
-        let automata = self.automata.clone()?;
-        Ok(Parts {
-            tables,
-            automata,
-            state_count: self.state_count,
-            source: self.source.copy(),
-        })
-    }
+    ghost invariant = { λ p. ArePartsOf p.source.value p.state_count p.tables.items p.automata.items };
 }
 
 impl Parts {
@@ -78,7 +61,7 @@ impl Parts {
             tables,
             automata,
             state_count: automaton.state_count(),
-            source: Source::of(automaton),
+            source: Snapshot::of(automaton),
         }
     }
 

@@ -150,7 +150,8 @@ impl GlobSet {
         })
     }
 
-    /// Returns an equal set, with memory of its own. Returns an error if memory runs out, and no other.
+    /// Returns an equal set, which shares what it matches with. It takes no memory, and little time whatever the set's size. Returns an
+    /// error if the set has 2^63 clones, and no other.
     pub fn clone(&self) -> Result<GlobSet, Error>
         ensures ok { IfOk result (λ s. s ≡ self.now) }
         ensures err { IfErr result (λ e. e ≡ out_of_memory) }

@@ -117,8 +117,7 @@ impl GlobMatcher {
         Ok(self.strategy.is_match(self.glob.allocator(), path, visits)?)
     }
 
-    /// Does what [`is_match_visits`](GlobMatcher::is_match_visits) does, with memory that is handed in: it takes none, and
-    /// cannot fail.
+    /// Does what [`is_match_visits`](GlobMatcher::is_match_visits) does, in the caller's memory: it takes none, and cannot fail.
     ///
     /// The scratch has to fit the matcher, as `Scratch::fits_matcher` tells. It then fits what it fitted before. The call adds
     /// no more visits than `is_match_visits` may.
@@ -201,7 +200,7 @@ impl GlobMatcher {
         )
     }
 
-    /// Returns a matcher for an equal glob, or an error if memory runs out. It copies the automaton.
+    /// Returns a matcher for an equal glob, or an error if memory runs out. It copies the glob, and shares its automaton.
     pub fn clone(&self) -> Result<GlobMatcher, Error>
         ensures ok { IfOk result (λ m. m ≡ self.now) }
         ensures err { IfErr result (λ e. e ≡ out_of_memory) }

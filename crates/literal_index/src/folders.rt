@@ -36,19 +36,6 @@ impl Model for Folders {
     ghost invariant = { λ f. AreRising (bytes_of f.texts.items) };
 }
 
-impl Clone for Folders {
-    ghost use Rattle.std.specs.Prelude.{◌≡◌};
-
-    ghost is_clone = { λ a b. b ≡ a };
-
-    /// Returns a copy. Returns an error if memory runs out.
-    fn clone(&self) -> Result<Folders, AllocError> {
-        Ok(Folders {
-            texts: self.texts.clone()?,
-        })
-    }
-}
-
 impl Folders {
     /// Returns no folders. It allocates nothing.
     pub fn none(alloc: Global) -> Folders

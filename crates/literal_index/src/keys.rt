@@ -65,25 +65,6 @@ impl Model for LiteralIndex {
     ghost invariant = { λ k. AreParts k.paths k.components k.extensions k.prefixes k.ends k.has_others k.folders };
 }
 
-impl Clone for LiteralIndex {
-    ghost use Rattle.std.specs.Prelude.{◌≡◌};
-
-    ghost is_clone = { λ a b. b ≡ a };
-
-    /// Returns a copy. Returns an error if memory runs out.
-    fn clone(&self) -> Result<LiteralIndex, AllocError> {
-        Ok(LiteralIndex {
-            paths: self.paths.clone()?,
-            components: self.components.clone()?,
-            extensions: self.extensions.clone()?,
-            prefixes: self.prefixes.clone()?,
-            ends: self.ends.clone()?,
-            has_others: self.has_others,
-            folders: self.folders.clone()?,
-        })
-    }
-}
-
 impl LiteralIndex {
     /// Puts the indexes that the path finds into a set, beside what it holds: those under it, under its last component and under
     /// the extension of that, and those of the texts that it begins or ends with. An index that the set has no room for is left

@@ -38,19 +38,6 @@ impl Drop for Blocks {
     }
 }
 
-impl Clone for Blocks {
-    ghost is_clone = { λ a b. (b.by_word.items ≡ a.by_word.items) × (b.masks.items ≡ a.masks.items) };
-
-    /// Returns a copy. Returns an error if memory runs out.
-    fn clone(&self) -> Result<Blocks, AllocError> {
-        let alloc = *self.masks.allocator();
-        Ok(Blocks {
-            by_word: Vec::from_slice(alloc, &self.by_word)?,
-            masks: Vec::from_slice(alloc, &self.masks)?,
-        })
-    }
-}
-
 /// What was taken of a pass: the states from `limit` on and below an earlier bound.
 #[derive(Clone, Copy)]
 pub struct Taken {

@@ -48,18 +48,6 @@ impl Model for Nfa {
     ghost view = { λ a. a.draft };
 }
 
-impl Clone for Nfa {
-    ghost is_clone = { λ a b. b ≡ a };
-
-    /// Returns a copy. Returns an error if memory runs out.
-    fn clone(&self) -> Result<Nfa, AllocError> {
-        Ok(Nfa {
-            draft: self.draft.clone()?,
-            blocks: self.blocks.clone()?,
-        })
-    }
-}
-
 impl Nfa {
     /// Returns an automaton for runs that take one state after another. It allocates nothing.
     pub fn new(draft: Draft) -> Nfa

@@ -68,23 +68,6 @@ impl Model for Automata {
     ghost invariant = { λ a. AreMeasured a.by_path a.by_component a.extensions a.max_states a.has_component };
 }
 
-impl Clone for Automata {
-    ghost use Rattle.std.specs.Prelude.{◌≡◌};
-
-    ghost is_clone = { λ a b. b ≡ a };
-
-    /// Returns a copy. Returns an error if memory runs out.
-    fn clone(&self) -> Result<Automata, AllocError> {
-        Ok(Automata {
-            by_path: self.by_path.clone()?,
-            by_component: self.by_component.clone()?,
-            extensions: self.extensions.clone()?,
-            max_states: self.max_states,
-            has_component: self.has_component,
-        })
-    }
-}
-
 impl Automata {
     /// Returns the number that each index is below.
     pub fn index_count(&self) -> usize

@@ -4,6 +4,7 @@ mod tokens;
 
 use glob_syntax::{Options, Token};
 use std::marker::Model;
+use std::mem;
 use std::snapshot::Snapshot;
 use tokens::GivenTokens;
 
@@ -14,8 +15,6 @@ enum Given {
     Nothing,
     /// A list, and one more glob at the end: its options and its tokens.
     After(Snapshot<Given>, Options, GivenTokens),
-    /// An equal list, by a snapshot of its snapshot.
-    As(Snapshot<Snapshot<Given>>),
 }
 
 /// A list of globs, which has no size in a running program.
@@ -48,22 +47,12 @@ impl GivenGlobs {
         }
     }
 
-    /// Returns an equal list.
-    pub fn copy(&self) -> GivenGlobs
-        ensures { result ≡ self.now }
-    {
-        GivenGlobs {
-            given: Snapshot::of(&Given::As(Snapshot::of(&self.given))),
-        }
-    }
-
-    /// Returns this list with one more glob at the end. The tokens are not copied.
-    pub fn and(self, options: Options, tokens: &[Token]) -> GivenGlobs
-        ensures { result ≡ self ++ flat_glob options tokens.now ∷ [] }
+    /// Adds a glob at the end. The tokens are not copied.
+    pub fn push(&mut self, options: Options, tokens: &[Token])
+        ensures { self.new ≡ self.old ++ flat_glob options tokens.now ∷ [] }
     {
         let tokens = GivenTokens::of(tokens);
-        GivenGlobs {
-            given: Snapshot::of(&Given::After(self.given, options, tokens)),
-        }
+        let before = mem::replace(&mut self.given, Snapshot::of(&Given::Nothing));
+        self.given = Snapshot::of(&Given::After(before, options, tokens));
     }
 }

@@ -54,22 +54,6 @@ impl Model for SetMatcher {
     ghost invariant = { λ g. IsMatcherOf g.globs g.len g.keys g.automata };
 }
 
-impl Clone for SetMatcher {
-    ghost use Rattle.std.specs.Prelude.{◌≡◌};
-
-    ghost is_clone = { λ a b. b ≡ a };
-
-    /// Returns a copy. Returns an error if memory runs out.
-    fn clone(&self) -> Result<SetMatcher, AllocError> {
-        Ok(SetMatcher {
-            globs: self.globs.copy(),
-            len: self.len,
-            keys: self.keys.clone()?,
-            automata: self.automata.clone()?,
-        })
-    }
-}
-
 /// Makes [`SetMatcher`], glob by glob. Contracts see it as they see the matcher of the globs that were added.
 pub struct SetMatcherBuilder {
     globs: GivenGlobs,
@@ -155,7 +139,7 @@ impl SetMatcherBuilder {
             self.automata = AutomataBuilder::new(alloc, count);
             return Err(error);
         }
-        self.globs = self.globs.copy().and(options, tokens);
+        self.globs.push(options, tokens);
         self.len = index + 1;
         Ok(())
     }

@@ -73,40 +73,36 @@ pub none_below : (globs : List GlobValue) (folder : List ℕ) → globs ≡ [] �
 none_below globs folder e = (λ y. absurd (cc), λ (rest, bytes, some). absurd (some (sym (answer_of_none globs (path_below folder rest) e))))
 
 -- the visits of a matcher, within those of the set
-pub visits_stored_below : (globs : List GlobValue) (g : SetMatcherValue) (set : SetValue) (folder : List ℕ) (old new : ℕ) → AreStored globs g → globs ≡ set_globs set
+pub visits_stored_below : (set : SetValue) (g : SetMatcherValue) (folder : List ℕ) (old new : ℕ) → AreStored (set_globs set) g
     → new ≤ old + below.max_visits_below (matcher_globs g) folder → new ≤ old + max_set_visits_below (set_globs set) folder
-visits_stored_below globs g set folder old new are is few =
+visits_stored_below set g folder old new are few =
     let maximum = mul-le-mul_left (length folder + 2) are.added.size_below in
-    let stored = ap (λ gs. below.max_visits_below gs folder) are.added.matcher in
-    let same = ap (λ (gs : List GlobValue). max_set_visits_below gs folder) is in omega (arith, maximum, few, stored, same)
+    let stored = ap (λ gs. below.max_visits_below gs folder) are.added.matcher in omega (arith, maximum, few, stored)
 
 -- each glob is direct
-pub no_load_below : (globs : List GlobValue) (g : SetMatcherValue) (set : SetValue) → AreStored globs g → globs ≡ set_globs set → load_below (set_globs set) ≡ 0 → below.load_below (matcher_globs g) ≡ 0
-no_load_below globs g set are is none =
-    let stored = ap below.load_below are.added.matcher in let same = ap (λ (gs : List GlobValue). load_below gs) is in omega (arith, are.added.size_below, stored, same, none)
+pub no_load_below : (set : SetValue) (g : SetMatcherValue) → AreStored (set_globs set) g → load_below (set_globs set) ≡ 0 → below.load_below (matcher_globs g) ≡ 0
+no_load_below set g are none =
+    let stored = ap below.load_below are.added.matcher in omega (arith, are.added.size_below, stored, none)
 
 -- ---- what is stored
 
 -- the visits of a matcher, within those of the set
-pub visits_stored : (globs : List GlobValue) (g : SetMatcherValue) (set : SetValue) (path : List ℕ) (old new : ℕ) → AreStored globs g → globs ≡ set_globs set → new ≤ old + max_visits (matcher_globs g) path
+pub visits_stored : (set : SetValue) (g : SetMatcherValue) (path : List ℕ) (old new : ℕ) → AreStored (set_globs set) g → new ≤ old + max_visits (matcher_globs g) path
     → new ≤ old + max_set_visits (set_globs set) path
-visits_stored globs g set path old new are is few =
-    let within = visits_within globs path (are.added.size path) in
-    let stored = ap (λ gs. max_visits gs path) are.added.matcher in
-    let same = ap (λ (gs : List GlobValue). max_set_visits gs path) is in omega (arith, within, few, stored, same)
+visits_stored set g path old new are few =
+    let within = visits_within (set_globs set) path (are.added.size path) in
+    let stored = ap (λ gs. max_visits gs path) are.added.matcher in omega (arith, within, few, stored)
 
 -- no glob needs an automaton
-pub no_load : (globs : List GlobValue) (g : SetMatcherValue) (set : SetValue) (path : List ℕ) → AreStored globs g → globs ≡ set_globs set → load (set_globs set) path ≡ 0 → tokens.load (matcher_globs g) path ≡ 0
-no_load globs g set path are is none =
+pub no_load : (set : SetValue) (g : SetMatcherValue) (path : List ℕ) → AreStored (set_globs set) g → load (set_globs set) path ≡ 0 → tokens.load (matcher_globs g) path ≡ 0
+no_load set g path are none =
     let few = are.added.size path in
-    let stored = ap (λ gs. tokens.load gs path) are.added.matcher in
-    let same = ap (λ (gs : List GlobValue). load gs path) is in omega (arith, few, stored, same, none)
+    let stored = ap (λ gs. tokens.load gs path) are.added.matcher in omega (arith, few, stored, none)
 
 -- room for the set is room for the matcher
-pub capacity_stored : (globs : List GlobValue) (g : SetMatcherValue) (set : SetValue) (sets : MatchingSets) → AreStored globs g → set_value globs g.states ≡ set → HasCapacity sets (set_states set) (length (set_globs set)) → HasCapacity sets g.states g.index_count
-capacity_stored globs g set sets are is room =
-    let of_states = ap set_states is in
-    let of_globs = ap (λ (s : SetValue). length (set_globs s)) is in record {
-      for_states = omega (arith, room.for_states, of_states);
-      for_indexes = omega (arith, room.for_indexes, of_globs, are.count);
-    }
+pub capacity_stored : (set : SetValue) (g : SetMatcherValue) (sets : MatchingSets) → AreStored (set_globs set) g → g.states ≡ set_states set
+    → HasCapacity sets (set_states set) (length (set_globs set)) → HasCapacity sets g.states g.index_count
+capacity_stored set g sets are states room = record {
+  for_states = omega (arith, room.for_states, states);
+  for_indexes = omega (arith, room.for_indexes, are.count);
+}

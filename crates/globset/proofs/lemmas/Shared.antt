@@ -14,16 +14,16 @@ glob-sync : IsSync Glob.the_field.row
 glob-sync = search (sendable, crosses) depth 40 fits 20000
 
 pub glob_matcher-send : IsSend GlobMatcher.the_row
-glob_matcher-send = search (sendable, crosses, glob-send, compiled-send) depth 40 fits 20000
+glob_matcher-send = search (sendable, crosses, glob-send, compiled-send, compiled-sync) depth 40 fits 20000
 
 pub glob_matcher-sync : IsSync GlobMatcher.the_row
-glob_matcher-sync = search (sendable, crosses, glob-sync, compiled-sync) depth 40 fits 20000
+glob_matcher-sync = search (sendable, crosses, glob-sync, compiled-send, compiled-sync) depth 40 fits 20000
 
 stored-send : IsSend Stored.the_field.row
-stored-send = search (sendable, crosses, matcher-send) depth 20
+stored-send = search (sendable, crosses, matcher-send, matcher-sync) depth 20
 
 stored-sync : IsSync Stored.the_field.row
-stored-sync = search (sendable, crosses, matcher-sync) depth 20
+stored-sync = search (sendable, crosses, matcher-send, matcher-sync) depth 20
 
 pub set-send : IsSend GlobSet.the_row
 set-send = search (sendable, stored-send) depth 20

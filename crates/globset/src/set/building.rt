@@ -82,6 +82,6 @@ impl StoredBuilder {
             matcher,
         } = self;
         let matcher = matcher.finish(alloc, dfa_size_limit)?;
-        Ok(Stored::of_matcher(alloc, globs, matcher))
+        Stored::of_matcher(alloc, globs, matcher)
     }
 }

@@ -1,4 +1,4 @@
-//! Memory that is handed to a set to match with.
+//! Memory of the caller, in which a set matches.
 
 ghost use Rattle.std.specs.Prelude.{◌≡◌, ◌≤◌, ◌↔◌, ℕ, IfOk, IfErr, IsOk, OnOk, OnErr, IsTrue, length};
 ghost use Rattle.globset_glob.specs.Cost.{cost};

@@ -14,16 +14,17 @@ ghost use Rattle.set_matcher.specs.inner.Capacity.{HasCapacity, KeepsCapacity};
 use crate::set::building::StoredBuilder;
 use globset_glob::{Candidate, DEFAULT_DFA_SIZE_LIMIT, Error, GivenGlobs, Glob, Visits};
 use set_matcher::{MatchingSets, SetMatcher};
-use std::alloc::Global;
+use std::alloc::{AllocError, Global};
 use std::fmt;
 use std::marker::Model;
+use std::sync::Arc;
 
 /// What a set needs to match: a matcher that decides which of its globs match a path. The index of a glob is its position. Of the
 /// globs themselves nothing is kept but what contracts see, which takes no memory.
 pub struct Stored {
     alloc: Global,
     globs: GivenGlobs,
-    matcher: SetMatcher,
+    matcher: Arc<SetMatcher>,
 }
 
 impl Drop for Stored {
@@ -38,6 +39,7 @@ impl Drop for Stored {
 }
 
 impl Model for Stored {
+    ghost use Rattle.std.specs.Arc.{arc_value};
     ghost use Rattle.globset.specs.SetValue.{SetValue};
     ghost use Rattle.globset.specs.inner.StoredGlobs.{AreStored};
 
@@ -45,23 +47,28 @@ impl Model for Stored {
 
     ghost view = { λ s. record {
       globs = s.globs;
-      states = s.matcher.states;
+      states = (arc_value s.matcher).states;
     } };
 
-    ghost invariant = { λ s. AreStored s.globs s.matcher };
+    ghost invariant = { λ s. AreStored s.globs (arc_value s.matcher) };
 }
 
 impl Stored {
-    /// Returns what a set stores, whose globs are in this matcher.
-    pub fn of_matcher(alloc: Global, globs: GivenGlobs, matcher: SetMatcher) -> Stored
+    /// Returns what a set stores, whose globs are in this matcher. Returns an error if memory runs out.
+    pub fn of_matcher(
+        alloc: Global,
+        globs: GivenGlobs,
+        matcher: SetMatcher,
+    ) -> Result<Stored, AllocError>
         requires { AreStored globs matcher }
-        ensures { set_globs result ≡ globs }
+        ensures { IfOk result (λ s. set_globs s ≡ globs) }
     {
-        Stored {
+        let matcher = Arc::new(alloc, matcher)?;
+        Ok(Stored {
             alloc,
             globs,
             matcher,
-        }
+        })
     }
 
     /// Adds each of these globs to the matcher. They are not copied. The tables of deterministic automata take at most
@@ -89,24 +96,32 @@ impl Stored {
         Ok(builder.finish(DEFAULT_DFA_SIZE_LIMIT)?)
     }
 
+    /// Returns the matcher.
+    fn matcher(&self) -> &SetMatcher
+        ensures stored { AreStored (set_globs self.now) result.now }
+        ensures states { result.now.states ≡ set_states self.now }
+    {
+        &self.matcher
+    }
+
     /// Returns the number of globs, each of which was read.
     pub fn len(&self) -> usize
         ensures count { result ≡ length (set_globs self.now) }
         ensures read { All IsRead (set_globs self.now) }
     {
-        self.matcher.len()
+        self.matcher().len()
     }
 
     /// Returns the number of states of the largest automaton.
     pub fn max_states(&self) -> usize
         ensures { result ≡ set_states self.now }
     {
-        self.matcher.max_states()
+        self.matcher().max_states()
     }
 
     /// Returns how many bytes the tables of deterministic automata take. It takes time linear in the number of these.
     pub fn table_bytes(&self) -> usize {
-        self.matcher.table_bytes()
+        self.matcher().table_bytes()
     }
 
     /// Returns sets without room, to match with. It allocates nothing.
@@ -133,7 +148,7 @@ impl Stored {
         ensures visits { visits.new ≤ visits.old + max_set_visits (set_globs self.now) path.now }
         ensures counted { visits.old ≤ visits.new }
     {
-        self.matcher.find(path, sets, into, visits)?;
+        self.matcher().find(path, sets, into, visits)?;
         Ok(())
     }
 
@@ -154,7 +169,7 @@ impl Stored {
         ensures visits { visits.new ≤ visits.old + max_set_visits (set_globs self.now) path.now }
         ensures counted { visits.old ≤ visits.new }
     {
-        Ok(self.matcher.is_match(path, sets, visits)?)
+        Ok(self.matcher().is_match(path, sets, visits)?)
     }
 
     /// Returns whether some glob that is not excluded matches some path below a folder.
@@ -174,7 +189,7 @@ impl Stored {
         ensures visits { visits.new ≤ visits.old + max_set_visits_below (set_globs self.now) folder.now }
         ensures counted { visits.old ≤ visits.new }
     {
-        Ok(self.matcher.can_match_below(folder.path(), sets, visits)?)
+        Ok(self.matcher().can_match_below(folder.path(), sets, visits)?)
     }
 
     /// Returns whether every glob matches the path and none is excluded.
@@ -194,15 +209,15 @@ impl Stored {
         ensures visits { visits.new ≤ visits.old + max_set_visits (set_globs self.now) path.now }
         ensures counted { visits.old ≤ visits.new }
     {
-        Ok(self.matcher.matches_all(path, sets, visits)?)
+        Ok(self.matcher().matches_all(path, sets, visits)?)
     }
 
-    /// Returns an equal value, with memory of its own. Returns an error if memory runs out, and no other.
+    /// Returns an equal value, which shares the matcher. It takes no memory. Returns an error if there are 2^63 clones, and no other.
     pub fn clone(&self) -> Result<Stored, Error>
         ensures ok { IfOk result (λ s. s ≡ self.now) }
         ensures err { IfErr result (λ e. e ≡ out_of_memory) }
     {
-        let matcher = self.matcher.clone()?;
+        let matcher = Arc::try_clone(&self.matcher)?;
         Ok(Stored {
             alloc: self.alloc,
             globs: self.globs.copy(),

@@ -1,5 +1,6 @@
 -- By what a matcher decides: the key or the automaton of one glob.
 use Rattle.std.specs.Prelude.{◌≤◌, ℕ, [], ◌∷◌}
+use Rattle.std.specs.Arc.{arc_value}
 use Rattle.byte_nfa.specs.Steps.{Machine}
 use Rattle.byte_nfa.specs.Runs.{size, max_reads}
 use Rattle.glob_nfa.specs.IndexedTokens.{indexed, IsFor}
@@ -19,9 +20,9 @@ pub record IsAutomatonOf (g : GlobValue) (m : Machine) : Type 0 where
 -- A key decides which paths the glob matches. An automaton is that of the glob.
 abbrev pub IsStrategyOfMatcher : GlobValue → Strategy → Type 0
 IsStrategyOfMatcher g (Key key) = IsDecidedBy g.options (tokens_of_glob g) (key_seen key)
-IsStrategyOfMatcher g (Nfa m) = IsAutomatonOf g m
+IsStrategyOfMatcher g (Nfa m) = IsAutomatonOf g (arc_value m)
 
 -- the states of the automaton; a key has none
 abbrev pub form_states : Strategy → ℕ
 form_states (Key key) = 0
-form_states (Nfa m) = size m
+form_states (Nfa m) = size (arc_value m)

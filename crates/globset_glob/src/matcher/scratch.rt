@@ -1,4 +1,4 @@
-//! Memory that is handed to a matcher to match with.
+//! Memory of the caller, in which a matcher matches.
 
 ghost use Rattle.std.specs.Prelude.{◌≡◌, ◌+◌, ◌*◌, ◌≤◌, ◌↔◌, ℕ, List, IsTrue, length};
 ghost use Rattle.byte_nfa.specs.Runs.{size, max_reads};

@@ -14,6 +14,7 @@ use glob_path::{Candidate, Key};
 use glob_strategy::{MatchStrategy, strategy_of};
 use nfa_simulation::StateSets;
 use std::alloc::{AllocError, Global};
+use std::sync::Arc;
 use visits::Visits;
 
 /// By what a matcher decides whether its glob matches a path.
@@ -21,8 +22,8 @@ use visits::Visits;
 pub enum Strategy {
     /// A key, which is compared with the path or a part of it.
     Key(Key),
-    /// An automaton, which is run over the path.
-    Nfa(Compiled),
+    /// An automaton, which is run over the path. Clones of a matcher share it.
+    Nfa(Arc<Compiled>),
 }
 
 impl Strategy {
@@ -38,7 +39,8 @@ impl Strategy {
         )? {
             return Ok(Strategy::Key(key));
         }
-        Ok(Strategy::Nfa(automaton_of(glob, dfa_size_limit)?))
+        let automaton = automaton_of(glob, dfa_size_limit)?;
+        Ok(Strategy::Nfa(Arc::new(glob.allocator(), automaton)?))
     }
 
     /// Returns how many bytes the table of a deterministic automaton takes, or 0 if there is none.
@@ -73,7 +75,7 @@ impl Strategy {
         }
     }
 
-    /// Returns whether the glob matches a path, with memory that is handed in. It takes none.
+    /// Returns whether the glob matches a path, in the caller's memory. It takes none.
     pub fn is_match_with<S: MatcherScratch>(
         &self,
         path: &Candidate<'_>,
@@ -118,14 +120,15 @@ impl Strategy {
         }
     }
 
-    /// Returns the form of an equal glob: a copy of the automaton, or the key once more. Returns an error if memory runs out.
+    /// Returns the strategy of an equal glob: the same automaton, which is shared, or the key once more. Returns an error if memory runs
+    /// out.
     pub fn copy_for(&self, glob: &Glob) -> Result<Strategy, AllocError>
         requires { IsStrategyOfMatcher glob.now self.now }
         ensures { IfOk result (IsStrategyOfMatcher glob.now) }
     {
         match self {
             Strategy::Key(_) => Strategy::of(glob, DEFAULT_DFA_SIZE_LIMIT),
-            Strategy::Nfa(automaton) => Ok(Strategy::Nfa(automaton.clone()?)),
+            Strategy::Nfa(automaton) => Ok(Strategy::Nfa(Arc::try_clone(automaton)?)),
         }
     }
 }

@@ -55,25 +55,6 @@ impl Model for ExtensionMatchers {
     ghost invariant = { λ e. AreExtensionMatchers e.matchers e.automata.items e.none e.index_count };
 }
 
-impl Clone for ExtensionMatchers {
-    ghost use Rattle.std.specs.Prelude.{◌≡◌};
-
-    ghost is_clone = { λ a b. b ≡ a };
-
-    /// Returns a copy. Returns an error if memory runs out.
-    fn clone(&self) -> Result<ExtensionMatchers, AllocError> {
-        let matchers = self.matchers.clone()?;
-        let automata = self.automata.clone()?;
-        let none = self.none.clone()?;
-        Ok(ExtensionMatchers {
-            matchers,
-            automata,
-            none,
-            index_count: self.index_count,
-        })
-    }
-}
-
 impl ExtensionMatchers {
     /// Returns the number that each index is below.
     pub fn index_count(&self) -> usize

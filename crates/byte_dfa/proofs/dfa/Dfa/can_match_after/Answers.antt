@@ -21,7 +21,7 @@ returns-then-has_some-clause-some c =
     let some = rw (c.deref.ensures.value, c.as_slice-table.ensures.value) at c.has_some.ensures.some in
     let (k, listed) = some c.if-has_some.true in
     let source = ap (λ (v : DfaValue). v.source) c.self.view_is in
-    rw (sym source) (match_after_found t.source d c.self.invariant.finds text c.args.byte k bytes c.ranges.byte.fits
+    rw (sym source) (match_after_found t.source.value d c.self.invariant.finds text c.args.byte k bytes c.ranges.byte.fits
     (or_first (is_reported k (on_entry d d.start)) (later d d.start (text ++ c.args.byte ∷ []) k) listed))
 
 pub loop-read-init : goal.loop-read-init
@@ -54,7 +54,7 @@ returns-then-state-eq-DEAD-clause-some c =
     let e : ℕ = c.next-state.result in
     let is : e ≡ transition d l.state byte = c.next-state.ensures.value ∙ ap (λ n. slice_index n (l.state + slice_index t.class_of byte)) c.as_slice-table.ensures.value in
     let source = ap (λ (v : DfaValue). v.source) c.self.view_is in
-    rw (sym source) (none_match_after t.source d c.self.invariant.finds text c.args.byte (i + 1) bytes c.ranges.byte.fits
+    rw (sym source) (none_match_after t.source.value d c.self.invariant.finds text c.args.byte (i + 1) bytes c.ranges.byte.fits
     (λ z k all. sym (rw more at l.invariant.same z k) ∙ dead_later d sound l.state byte l.invariant.row small e is (rest ++ z) k c.if-state-ge-SPECIAL.true c.next-state.ensures.small c.if-state-eq-DEAD.true all))
 
 pub bounds-table-state-then-state-ge-SPECIAL : goal.bounds-table-state-then-state-ge-SPECIAL
@@ -99,7 +99,7 @@ returns-then-has_some-2-clause-some c =
     let some = rw (c.deref-then-state-ge-SPECIAL.ensures.value, c.as_slice-table.ensures.value) at c.has_some-then-state-ge-SPECIAL.ensures.some in
     let (k, listed) = some c.if-has_some-2.true in
     let source = ap (λ (v : DfaValue). v.source) c.self.view_is in
-    rw (sym source) (match_after_found t.source d c.self.invariant.finds text c.args.byte k bytes c.ranges.byte.fits
+    rw (sym source) (match_after_found t.source.value d c.self.invariant.finds text c.args.byte k bytes c.ranges.byte.fits
     (sym (rw more at l.invariant.same (c.args.byte ∷ []) k) ∙ told_later d sound l.state byte l.invariant.row small e is (rest ++ c.args.byte ∷ []) k c.if-state-ge-SPECIAL.true c.next-state.ensures.small listed))
 
 pub loop-read-preserved : goal.loop-read-preserved
@@ -161,9 +161,9 @@ returns-clause-some c =
     let there : place < length t.live.items = subst (λ x. x % special / (t.width + 2) < length t.live.items) (sym is) lt in
     let read = item_read t.live.items place c.index.result.now there c.index.ensures in
     let source = ap (λ (v : DfaValue). v.source) c.self.view_is in
-    rw (sym source) (subst (λ b. IsTrue b ↔ MatchesAfter t.source (text ++ c.args.byte ∷ [])) read
-    (subst (λ x. IsTrue (slice_index_or t.live.items (x % special / (t.width + 2)) false) ↔ MatchesAfter t.source (text ++ c.args.byte ∷ [])) (sym is)
-    (match_after_live t.source d c.self.invariant.finds text c.args.byte t.live.items l.state c.self.invariant.sound c.self.invariant.live_rows l.invariant.row bytes small
+    rw (sym source) (subst (λ b. IsTrue b ↔ MatchesAfter t.source.value (text ++ c.args.byte ∷ [])) read
+    (subst (λ x. IsTrue (slice_index_or t.live.items (x % special / (t.width + 2)) false) ↔ MatchesAfter t.source.value (text ++ c.args.byte ∷ [])) (sym is)
+    (match_after_live t.source.value d c.self.invariant.finds text c.args.byte t.live.items l.state c.self.invariant.sound c.self.invariant.live_rows l.invariant.row bytes small
     (λ z k. rw past at l.invariant.same z k))))
 
 pub bounds-table-state : goal.bounds-table-state

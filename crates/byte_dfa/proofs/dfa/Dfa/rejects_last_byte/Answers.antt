@@ -12,5 +12,5 @@ returns-in-Some-clause-rejected c = λ missing k reached.
     let source = ap (λ (v : DfaValue). v.source) c.self.view_is in
     let cut = c.in-Some.ensures.cases.0 in
     let reached' = subst (λ (m : Machine). IsReached m c.args.text.now k) (sym source) reached in
-    let last = c.self.invariant.last _ _ k (subst (λ y. IsReached c.self.inside.source y k) cut reached') in
+    let last = c.self.invariant.last _ _ k (subst (λ y. IsReached c.self.inside.source.value y k) cut reached') in
     not_both c.has.result missing (c.has.ensures ∙ last)

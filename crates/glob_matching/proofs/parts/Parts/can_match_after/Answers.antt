@@ -16,7 +16,7 @@ returns-clause-some c =
     let automata = rw c.deref-2.ensures.value at c.can_match_by_simulation.ensures.some in
     if_ok c.can_match_by_simulation.result (λ yes some.
     subst (λ (m : Machine). IsTrue yes ↔ MatchesAfter m begun) c.self.view_is
-    (after_all inside.source inside.tables.items inside.automata.items inv.begun inv.parts begun
+    (after_all inside.source.value inside.tables.items inside.automata.items inv.begun inv.parts begun
     (λ found. true≢false (sym (tables.1 found) ∙ c.if-can_match_by_tables.false)) some)) automata
 
 pub returns-then-can_match_by_tables-clause-some : goal.returns-then-can_match_by_tables-clause-some
@@ -26,7 +26,7 @@ returns-then-can_match_by_tables-clause-some c =
     let begun = c.args.text.now ++ c.args.byte ∷ [] in
     let (k, rest, bytes, found) = (rw c.deref.ensures.value at c.can_match_by_tables.ensures.some).0 c.if-can_match_by_tables.true in
     subst (λ (m : Machine). IsTrue true ↔ MatchesAfter m begun) c.self.view_is
-    (λ _. (k, rest, bytes, (whole_reached inside.source inside.tables.items inside.automata.items inv.begun inv.parts (begun ++ rest) k).1 (inl found)), λ _. refl)
+    (λ _. (k, rest, bytes, (whole_reached inside.source.value inside.tables.items inside.automata.items inv.begun inv.parts (begun ++ rest) k).1 (inl found)), λ _. refl)
 
 pub returns-clause-visits : goal.returns-clause-visits
 returns-clause-visits c =

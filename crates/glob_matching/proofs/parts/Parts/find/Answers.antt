@@ -16,7 +16,7 @@ returns-clause-found c =
     let automata = rw c.deref-2.ensures.value at c.find_by_simulation.ensures.found in
     on_ok c.find_by_simulation.result (λ found k.
     subst (λ (m : Machine). IsTrue (has_index c.find_by_simulation.new.found k) ↔ (IsReached m text k ⊎ IsTrue (has_index c.args.found.now k))) c.self.view_is
-    (found_all (whole_reached inside.source inside.tables.items inside.automata.items inv.begun inv.parts text k) (tables k) (found k))) automata
+    (found_all (whole_reached inside.source.value inside.tables.items inside.automata.items inv.begun inv.parts text k) (tables k) (found k))) automata
 
 pub returns-clause-visits : goal.returns-clause-visits
 returns-clause-visits c =

@@ -15,7 +15,7 @@ returns-clause-some c =
     let automata = rw c.deref-2.ensures.value at c.is_match_by_simulation.ensures.some in
     if_ok c.is_match_by_simulation.result (λ yes some.
     subst (λ (m : Machine). IsTrue yes ↔ ((k : ℕ) × IsReached m text k)) c.self.view_is
-    (some_all (λ k. whole_reached inside.source inside.tables.items inside.automata.items inv.begun inv.parts text k)
+    (some_all (λ k. whole_reached inside.source.value inside.tables.items inside.automata.items inv.begun inv.parts text k)
     (λ k reached. true≢false (sym (tables.1 (k, reached)) ∙ c.if-is_match_by_tables.false)) some)) automata
 
 pub returns-clause-visits : goal.returns-clause-visits

@@ -5,10 +5,10 @@ use Rattle.globset.proofs.set.stored.Stored.clone.Goals as goal
 
 pub invariant_of-result : goal.invariant_of-result
 invariant_of-result c =
-    subst (λ gs. AreStored gs c.in_ok-matcher.matcher) (sym c.copy.ensures)
-    (subst (λ (g : SetMatcherValue). AreStored c.self.inside.globs g) (sym c.in_ok-matcher.ensures.cases) c.self.invariant)
+    subst (λ gs. AreStored gs c.in_ok-matcher.matcher.value) (sym c.copy.ensures)
+    (subst (λ (g : SetMatcherValue). AreStored c.self.inside.globs g) (sym c.in_ok-matcher.ensures) c.self.invariant)
 
 pub returns-clause-ok : goal.returns-clause-ok
 returns-clause-ok c =
-    ap (λ gs. set_value gs c.in_ok-matcher.matcher.states) c.copy.ensures
-    ∙ ap (λ (g : SetMatcherValue). set_value c.self.inside.globs g.states) c.in_ok-matcher.ensures.cases ∙ c.self.view_is
+    ap (λ gs. set_value gs c.in_ok-matcher.matcher.value.states) c.copy.ensures
+    ∙ ap (λ (g : SetMatcherValue). set_value c.self.inside.globs g.states) c.in_ok-matcher.ensures ∙ c.self.view_is

@@ -1,4 +1,4 @@
-use Rattle.std.proofs.Common.{[], ◌∷◌, ◌≤◌, ◌+◌, ◌*◌, length, ap, subst, arith, IsTrue}
+use Rattle.std.proofs.Common.{[], ◌∷◌, ◌≤◌, ◌+◌, ◌*◌, length, ap, subst, sym, arith, IsTrue}
 use Rattle.std.specs.Prelude.{◌↔◌}
 use Rattle.std.proofs.Math.Nat.{mul-le-mul_left}
 use Rattle.std.proofs.lemmas.Result.{IfOk-weaker}
@@ -8,7 +8,7 @@ use Rattle.glob_text.specs.GlobMatches.{tokens_of_glob}
 use Rattle.globset_glob.specs.Cost.{cost}
 use Rattle.globset_glob.specs.GlobBelow.{GlobMatchesBelow}
 use Rattle.globset_glob.specs.declared.matcher.strategy.Strategy.{Strategy}
-use Rattle.globset_glob.specs.inner.GlobNfa.{IsStrategyOfMatcher}
+use Rattle.globset_glob.specs.inner.GlobNfa.{IsAutomatonOf, IsStrategyOfMatcher}
 use Rattle.globset_glob.proofs.lemmas.GlobNfa.{key_matches_below, one_matches_below, one_visit_below}
 use Rattle.globset_glob.proofs.matcher.strategy.Strategy.can_match_below.Goals as goal
 
@@ -24,13 +24,13 @@ returns-in-Key-clause-visits c = λ g is. omega (arith, c.tick.ensures, one_visi
 pub returns-in-Nfa-clause-some : goal.returns-in-Nfa-clause-some
 returns-in-Nfa-clause-some c =
     IfOk-weaker c.can_match_after.result _ _ (λ yes some g is.
-    let strategy = subst (λ (f : Strategy). IsStrategyOfMatcher g f) c.in-Nfa.is is in
+    let strategy = subst (λ m. IsAutomatonOf g m) (sym c.deref.ensures) (subst (λ (f : Strategy). IsStrategyOfMatcher g f) c.in-Nfa.is is) in
     subst (λ p. IsTrue yes ↔ GlobMatchesBelow g p) c.path-in-Nfa.ensures (one_matches_below g c.path-in-Nfa.result.now yes (some (indexed g.options (tokens_of_glob g) 0 ∷ []) strategy.tokens))) c.can_match_after.ensures.some
 
 pub returns-in-Nfa-clause-visits : goal.returns-in-Nfa-clause-visits
 returns-in-Nfa-clause-visits c = λ g is.
-    let strategy = subst (λ (f : Strategy). IsStrategyOfMatcher g f) c.in-Nfa.is is in
+    let strategy = subst (λ m. IsAutomatonOf g m) (sym c.deref.ensures) (subst (λ (f : Strategy). IsStrategyOfMatcher g f) c.in-Nfa.is is) in
     let positions = length c.path-in-Nfa.result.now + 2 in
-    let few : size c.in-Nfa.automaton ≤ cost g = omega (arith, strategy.reads) in
-    let all : positions * size c.in-Nfa.automaton ≤ positions * cost g = mul-le-mul_left positions few in
+    let few : size c.deref.result.now ≤ cost g = omega (arith, strategy.reads) in
+    let all : positions * size c.deref.result.now ≤ positions * cost g = mul-le-mul_left positions few in
     omega (arith, c.can_match_after.ensures.visits, all, ap (λ p. (length p + 2) * cost g) c.path-in-Nfa.ensures)

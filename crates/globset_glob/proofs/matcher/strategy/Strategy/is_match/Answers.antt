@@ -1,4 +1,4 @@
-use Rattle.std.proofs.Common.{[], ◌∷◌, ◌≤◌, ◌+◌, ◌*◌, length, ap, ◌∙◌, subst, arith}
+use Rattle.std.proofs.Common.{[], ◌∷◌, ◌≤◌, ◌+◌, ◌*◌, length, ap, ◌∙◌, subst, sym, arith}
 use Rattle.std.proofs.Math.Nat.{mul-le-mul_left}
 use Rattle.std.proofs.lemmas.Result.{IfOk-weaker}
 use Rattle.byte_nfa.specs.Runs.{max_reads}
@@ -6,7 +6,7 @@ use Rattle.glob_nfa.specs.IndexedTokens.{indexed}
 use Rattle.glob_text.specs.GlobMatches.{tokens_of_glob, glob_matches}
 use Rattle.globset_glob.specs.Cost.{cost}
 use Rattle.globset_glob.specs.declared.matcher.strategy.Strategy.{Strategy}
-use Rattle.globset_glob.specs.inner.GlobNfa.{IsStrategyOfMatcher}
+use Rattle.globset_glob.specs.inner.GlobNfa.{IsAutomatonOf, IsStrategyOfMatcher}
 use Rattle.globset_glob.proofs.lemmas.GlobNfa.{key_matches_glob, one_matches, one_visit}
 use Rattle.globset_glob.proofs.matcher.strategy.Strategy.is_match.Goals as goal
 
@@ -21,12 +21,12 @@ returns-in-Key-clause-visits c = λ g is. omega (arith, c.tick.ensures, one_visi
 pub returns-in-Nfa-clause-some : goal.returns-in-Nfa-clause-some
 returns-in-Nfa-clause-some c =
     IfOk-weaker c.is_match.result _ _ (λ yes some g is.
-    let strategy = subst (λ (f : Strategy). IsStrategyOfMatcher g f) c.in-Nfa.is is in
+    let strategy = subst (λ m. IsAutomatonOf g m) (sym c.deref.ensures) (subst (λ (f : Strategy). IsStrategyOfMatcher g f) c.in-Nfa.is is) in
     one_matches g c.path.result.now yes (some (indexed g.options (tokens_of_glob g) 0 ∷ []) strategy.tokens) ∙ ap (λ p. glob_matches g p) c.path.ensures) c.is_match.ensures.some
 
 pub returns-in-Nfa-clause-visits : goal.returns-in-Nfa-clause-visits
 returns-in-Nfa-clause-visits c = λ g is.
-    let strategy = subst (λ (f : Strategy). IsStrategyOfMatcher g f) c.in-Nfa.is is in
+    let strategy = subst (λ m. IsAutomatonOf g m) (sym c.deref.ensures) (subst (λ (f : Strategy). IsStrategyOfMatcher g f) c.in-Nfa.is is) in
     let positions = length c.path.result.now + 1 in
-    let all : positions * max_reads c.in-Nfa.automaton ≤ positions * cost g = mul-le-mul_left positions strategy.reads in
+    let all : positions * max_reads c.deref.result.now ≤ positions * cost g = mul-le-mul_left positions strategy.reads in
     omega (arith, c.is_match.ensures.visits, all, ap (λ p. (length p + 1) * cost g) c.path.ensures)

@@ -1,8 +1,8 @@
-use Rattle.std.proofs.Common.{[], ◌∷◌, ap, ◌∙◌, subst}
+use Rattle.std.proofs.Common.{[], ◌∷◌, ap, ◌∙◌, subst, sym}
 use Rattle.glob_nfa.specs.IndexedTokens.{indexed}
 use Rattle.glob_text.specs.GlobMatches.{tokens_of_glob, glob_matches}
 use Rattle.globset_glob.specs.declared.matcher.strategy.Strategy.{Strategy}
-use Rattle.globset_glob.specs.inner.GlobNfa.{IsStrategyOfMatcher}
+use Rattle.globset_glob.specs.inner.GlobNfa.{IsAutomatonOf, IsStrategyOfMatcher}
 use Rattle.globset_glob.proofs.lemmas.GlobNfa.{key_matches_glob, one_matches}
 use Rattle.globset_glob.proofs.matcher.strategy.Strategy.is_match_with.Goals as goal
 
@@ -13,5 +13,5 @@ returns-in-Key-clause-some g c = λ glob is.
 
 pub returns-in-Nfa-clause-some : goal.returns-in-Nfa-clause-some
 returns-in-Nfa-clause-some g c = λ glob is.
-    let strategy = subst (λ (f : Strategy). IsStrategyOfMatcher glob f) c.in-Nfa.is is in
+    let strategy = subst (λ m. IsAutomatonOf glob m) (sym c.deref.ensures) (subst (λ (f : Strategy). IsStrategyOfMatcher glob f) c.in-Nfa.is is) in
     one_matches glob c.path.result.now c.run.result (c.run.ensures.some (indexed glob.options (tokens_of_glob glob) 0 ∷ []) strategy.tokens) ∙ ap (λ p. glob_matches glob p) c.path.ensures
