@@ -43,7 +43,7 @@ impl Entries {
         }
     }
 
-    /// Adds an entry at the end.
+    /// Adds an entry at the end, by a snapshot of its key.
     pub fn push(&mut self, key: Snapshot<Vec<u8>>, index: usize)
         ensures { self.new ≡ self.old ++ entry key.value.items index ∷ [] }
     {

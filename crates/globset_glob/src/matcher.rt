@@ -200,7 +200,8 @@ impl GlobMatcher {
         )
     }
 
-    /// Returns a matcher for an equal glob, or an error if memory runs out. It copies the glob, and shares its automaton.
+    /// Returns a matcher for an equal glob. It copies the glob, and shares its automaton. Returns an error if memory runs out or if 2^63
+    /// matchers share the automaton, and no other.
     pub fn clone(&self) -> Result<GlobMatcher, Error>
         ensures ok { IfOk result (λ m. m ≡ self.now) }
         ensures err { IfErr result (λ e. e ≡ out_of_memory) }
@@ -211,7 +212,7 @@ impl GlobMatcher {
     }
 }
 
-/// A matcher for an equal glob. The error says that memory ran out.
+/// The same as the method [`GlobMatcher::clone`], for code that is generic over `Clone`.
 impl Clone for GlobMatcher {
     ghost is_clone = { λ m n. n ≡ m };
 

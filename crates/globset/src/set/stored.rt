@@ -212,7 +212,7 @@ impl Stored {
         Ok(self.matcher().matches_all(path, sets, visits)?)
     }
 
-    /// Returns an equal value, which shares the matcher. It takes no memory. Returns an error if there are 2^63 clones, and no other.
+    /// Returns an equal value, which shares the matcher. It takes no memory. Returns an error if 2^63 values share it, and no other.
     pub fn clone(&self) -> Result<Stored, Error>
         ensures ok { IfOk result (λ s. s ≡ self.now) }
         ensures err { IfErr result (λ e. e ≡ out_of_memory) }
