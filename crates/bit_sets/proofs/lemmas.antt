@@ -7,3 +7,5 @@ pub mod Changes
 pub mod Summaries
 pub mod IndexSets
 pub mod WordSets
+pub mod Bounds
+pub mod Filters

@@ -8,15 +8,6 @@ use crate::words::{
 use std::alloc::{AllocError, Global};
 
 /// A set of indexes, as a bit for each.
-///
-/// ```
-/// // The indexes below `count`, ascending.
-/// let mut from = 0;
-/// while let Some(index) = found.next_below(from, count) {
-///     list.push(index)?;
-///     from = index + 1;
-/// }
-/// ```
 pub struct IndexSet {
     words: Vec<u64>,
     /// A bit for each word, which is set if the word has a bit that is. So 64 words without one are passed over at once, and
@@ -36,7 +27,8 @@ impl Drop for IndexSet {
 }
 
 impl IndexSet {
-    ghost use Rattle.std.specs.Prelude.{◌≡◌, ℕ, ◌<◌, ◌≤◌, ◌||◌, ◌==◌, ◌↔◌, true, false, IfOk, OnOk, IsOk, IsTrue, MatchOption};
+    ghost use Rattle.std.specs.Prelude.{◌≡◌, ℕ, ◌<◌, ◌≤◌, ◌||◌, ◌==◌, ◌↔◌, [], true, false, IfOk, OnOk, IsOk, IsTrue, MatchOption, filter, vec_capacity};
+    ghost use Rattle.std.specs.List.{range_with_len};
     ghost use Rattle.bit_sets.specs.Indexes.{has_index, index_capacity, HasAlso};
 
     /// Returns an empty set with room for no index. It allocates nothing.
@@ -130,6 +122,34 @@ impl IndexSet {
     {
         let at = self.first_from(from)?;
         if at < end { Some(at) } else { None }
+    }
+
+    /// Pushes the indexes of the set that are below a number, ascending, onto an empty vector. Returns an error if memory runs out;
+    /// some of them are pushed then. It needs no memory if the vector has a capacity of `end`.
+    pub fn push_below(&self, end: usize, into: &mut Vec<usize>) -> Result<(), AllocError>
+        requires { into.old.items ≡ [] }
+        ensures pushed { OnOk result (into.new.items ≡ filter (has_index self.now) (range_with_len 0 end)) }
+        ensures memory { end ≤ vec_capacity into.old → IsOk result }
+        ensures capacity { vec_capacity into.old ≤ vec_capacity into.new }
+    {
+        let mut from = 0;
+        while let Some(index) = self.next_below(from, end) {
+            into.push(index)?;
+            from = index + 1;
+        }
+        Ok(())
+    }
+
+    /// Returns whether the set has each index below a number.
+    pub fn has_all_below(&self, end: usize) -> bool
+        ensures { IsTrue result ↔ ((k : ℕ) → k < end → IsTrue (has_index self.now k)) }
+    {
+        for index in 0..end {
+            if !self.has(index) {
+                return false;
+            }
+        }
+        true
     }
 
     /// Returns the lowest index of the set from a number on, or `None` if there is none.

@@ -7,9 +7,11 @@
 
 mod byte_set;
 mod index_set;
+mod state_set;
 mod word_set;
 pub mod words;
 
 pub use byte_set::ByteSet;
 pub use index_set::IndexSet;
+pub use state_set::StateSet;
 pub use word_set::WordSet;

@@ -4,14 +4,14 @@ ghost use Rattle.std.specs.Prelude.{◌≡◌, ℕ, ◌+◌, ◌*◌, ◌<◌, �
 ghost use Rattle.byte_nfa.specs.Runs.{size, AcceptsFrom, AreAccepting};
 ghost use Rattle.byte_nfa.specs.ByteSteps.{step_capacity, LeadsAsEvery};
 ghost use Rattle.bit_sets.specs.Indexes.{has_index};
-ghost use Rattle.byte_nfa.specs.Sets.{has_state, state_capacity};
+ghost use Rattle.bit_sets.specs.StateSets.{has_state, state_capacity};
 ghost use Rattle.byte_dfa.specs.inner.Building.{AreFoundSets, AreAllAccepting, IsEntryTo, IsBase, IsCellOf, IsRowOf, IsSound, IsNumbered, KeepsFound, Grows, HasCapacityFor, BeginsAt, IsComplete, AreLiveSets, total};
 ghost use Rattle.byte_dfa.specs.inner.Tables.{special};
 
 use crate::classes::ByteClasses;
 use crate::lists::push_list;
-use bit_sets::IndexSet;
-use byte_nfa::{ByteSteps, Draft, StateSet};
+use bit_sets::{IndexSet, StateSet};
+use byte_nfa::{ByteSteps, Draft};
 use std::alloc::{AllocError, Global};
 use std::collections::HashMap;
 use std::hash::{FoldHasher, Hasher};

@@ -10,4 +10,3 @@ pub mod Accepting
 pub mod Live
 pub mod LastBytes
 pub mod Loops
-pub mod Bounds

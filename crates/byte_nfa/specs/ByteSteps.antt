@@ -2,11 +2,11 @@
 use Rattle.std.specs.Prelude.{◌≡◌, ℕ, ◌<◌, ◌&&◌, ◌||◌, ◌==◌, ◌↔◌, Bool, false, List, [], ◌∷◌, IsTrue}
 use Rattle.byte_nfa.specs.Runs.{size, AcceptsFrom}
 use Rattle.bit_sets.specs.Bytes.{has_byte}
-use Rattle.byte_nfa.specs.Sets.{has_state, state_capacity}
+use Rattle.bit_sets.specs.StateSets.{has_state, state_capacity}
 use Rattle.byte_nfa.specs.Steps.{Accepts, Machine}
 use Rattle.byte_nfa.specs.declared.byte_steps.ByteSteps.{ByteSteps}
 use Rattle.byte_nfa.specs.declared.byte_steps.Step.{Step}
-use Rattle.byte_nfa.specs.declared.state_set.StateSet.{StateSet}
+use Rattle.bit_sets.specs.declared.state_set.StateSet.{StateSet}
 
 -- some step of the list is by the byte b, and to the state t
 abbrev pub is_step_to : List Step → ℕ → ℕ → Bool

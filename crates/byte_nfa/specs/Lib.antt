@@ -1,5 +1,4 @@
 pub mod Texts
-pub mod Sets
 pub mod Steps
 pub mod Building
 pub mod Runs

@@ -1,10 +1,10 @@
 -- States from which some bytes lead to an end, and the texts that lead to such states.
 use Rattle.std.specs.Prelude.{ℕ, ◌<◌, ◌↔◌, List, ◌++◌, IsTrue}
 use Rattle.byte_nfa.specs.Runs.{size}
-use Rattle.byte_nfa.specs.Sets.{has_state}
+use Rattle.bit_sets.specs.StateSets.{has_state}
 use Rattle.byte_nfa.specs.Steps.{State, Accepts, Machine, IsReached}
 use Rattle.byte_nfa.specs.Texts.{AllBytes}
-use Rattle.byte_nfa.specs.declared.state_set.StateSet.{StateSet}
+use Rattle.bit_sets.specs.declared.state_set.StateSet.{StateSet}
 
 -- from the state s some bytes, perhaps none, lead to an end
 abbrev pub IsLive : List State → ℕ → Type 0

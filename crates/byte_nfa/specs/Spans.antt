@@ -1,9 +1,9 @@
 -- States that follow each other, and that lead nowhere else.
 use Rattle.std.specs.Prelude.{◌≡◌, ℕ, ◌<◌, ◌≤◌, false, IsTrue}
-use Rattle.byte_nfa.specs.Sets.{has_state}
+use Rattle.bit_sets.specs.StateSets.{has_state}
 use Rattle.byte_nfa.specs.Steps.{Machine, state}
 use Rattle.byte_nfa.specs.Parts.{GoesFrom}
-use Rattle.byte_nfa.specs.declared.state_set.StateSet.{StateSet}
+use Rattle.bit_sets.specs.declared.state_set.StateSet.{StateSet}
 
 -- no state from low on and below high goes on to a state below low
 abbrev pub IsClosed : Machine → ℕ → ℕ → Type 0

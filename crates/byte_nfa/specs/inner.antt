@@ -1,4 +1,3 @@
-pub mod Bounds
 pub mod Views
 pub mod Pass
 pub mod Exits

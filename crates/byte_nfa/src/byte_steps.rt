@@ -1,11 +1,10 @@
 //! What each byte leads to from a set of states.
 
-ghost use Rattle.byte_nfa.specs.Sets.{state_capacity};
+ghost use Rattle.bit_sets.specs.StateSets.{state_capacity};
 ghost use Rattle.byte_nfa.specs.inner.StepCapacity.{AreWithin};
 
 use crate::draft::Draft;
-use crate::state_set::StateSet;
-use bit_sets::ByteSet;
+use bit_sets::{ByteSet, StateSet};
 use std::alloc::{AllocError, Global};
 use visits::Visits;
 
@@ -32,10 +31,10 @@ pub struct ByteSteps {
 impl ByteSteps {
     ghost use Rattle.std.specs.Prelude.{◌≡◌, ℕ, ◌+◌, ◌<◌, ◌≤◌, ◌&&◌, ◌||◌, ◌==◌, ◌↔◌, ◌∷◌, List, false, IsFalse, IfOk, OnOk};
     ghost use Rattle.bit_sets.specs.Bytes.{has_byte};
-    ghost use Rattle.byte_nfa.specs.Sets.{has_state};
+    ghost use Rattle.bit_sets.specs.StateSets.{has_state};
     ghost use Rattle.byte_nfa.specs.Steps.{Machine};
     ghost use Rattle.byte_nfa.specs.Runs.{AcceptsFrom};
-    ghost use Rattle.byte_nfa.specs.declared.state_set.StateSet.{StateSet};
+    ghost use Rattle.bit_sets.specs.declared.state_set.StateSet.{StateSet};
     ghost use Rattle.byte_nfa.specs.ByteSteps.{is_by_some, leads_to, step_capacity, AreStepsOf, LeadsAsEvery};
 
     /// Returns no steps, with room for so many states. It takes a bit of memory for each. Returns an error if memory runs

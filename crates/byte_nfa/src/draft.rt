@@ -4,7 +4,7 @@ ghost use Rattle.std.specs.Prelude.{◌≡◌, ℕ, ◌+◌, ◌<◌, ◌≤◌,
 ghost use Rattle.bit_sets.specs.Bytes.{has_byte};
 ghost use Rattle.bit_sets.specs.Indexes.{has_index, index_capacity};
 ghost use Rattle.bit_sets.specs.Numbers.{AreBelow};
-ghost use Rattle.byte_nfa.specs.Sets.{has_state, state_capacity};
+ghost use Rattle.bit_sets.specs.StateSets.{has_state, state_capacity};
 ghost use Rattle.byte_nfa.specs.Steps.{Machine, IsReached, state};
 ghost use Rattle.byte_nfa.specs.Equivalent.{AreEquivalent};
 ghost use Rattle.byte_nfa.specs.ByteSteps.{leads_to, step_capacity};
@@ -22,8 +22,7 @@ mod steps;
 
 use crate::byte_steps::ByteSteps;
 use crate::state::State;
-use crate::state_set::StateSet;
-use bit_sets::{ByteSet, IndexSet};
+use bit_sets::{ByteSet, IndexSet, StateSet};
 use std::alloc::{AllocError, Global};
 use std::marker::Model;
 use visits::Visits;

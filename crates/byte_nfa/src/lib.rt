@@ -10,9 +10,7 @@ mod builder;
 mod byte_steps;
 mod draft;
 mod state;
-mod state_set;
 
 pub use builder::Builder;
 pub use byte_steps::ByteSteps;
 pub use draft::Draft;
-pub use state_set::StateSet;

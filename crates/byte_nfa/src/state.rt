@@ -2,12 +2,12 @@
 
 ghost use Rattle.std.specs.Prelude.{◌≡◌, ℕ, ◌+◌, ◌<◌, ◌≤◌, ◌||◌, ◌↔◌, List, length, slice_index, true, false, Some, None, IsTrue, IsFalse, OnOk, MatchOption};
 ghost use Rattle.bit_sets.specs.Bytes.{has_byte, differ};
-ghost use Rattle.byte_nfa.specs.Sets.{has_state, state_capacity};
+ghost use Rattle.bit_sets.specs.StateSets.{has_state, state_capacity};
 ghost use Rattle.bit_sets.specs.declared.byte_set.ByteSet.{ByteSet};
 ghost use Rattle.byte_nfa.specs.Steps.{final};
 ghost use Rattle.byte_nfa.specs.Equivalent.{reads_byte};
 ghost use Rattle.byte_nfa.specs.Forcing.{IsNoEnd};
-ghost use Rattle.bit_sets.specs.Numbers.{AreFrom};
+ghost use Rattle.bit_sets.specs.Numbers.{AreBelow, AreFrom, is_reported};
 ghost use Rattle.byte_nfa.specs.Parts.{GoesFrom};
 ghost use Rattle.byte_nfa.specs.ByteSteps.{leads_to, step_capacity};
 ghost use Rattle.byte_nfa.specs.inner.Exits.{StaysBefore};
@@ -17,9 +17,9 @@ ghost use Rattle.byte_nfa.specs.inner.Pass.{goes_now, goes_next, names, EndsBy, 
 mod in_word;
 
 use crate::byte_steps::ByteSteps;
-use crate::state_set::StateSet;
-use bit_sets::ByteSet;
+use bit_sets::{ByteSet, StateSet};
 use std::alloc::AllocError;
+use visits::Visits;
 
 /// A state, in 16 bytes. Its set of bytes is kept as the number of one of the automaton's sets, and several states that it
 /// goes on to as the place in the automaton's list of next states at which their count stands, and then each.
@@ -149,8 +149,8 @@ impl State {
     {
         match self {
             State::Bytes(_, _) => false,
-            State::Union(at) => accepting.has_any(exits_of(targets, *at)),
-            State::Loop(_, exit) => accepting.has(*exit),
+            State::Union(at) => has_any(accepting, exits_of(targets, *at)),
+            State::Loop(_, exit) => is_in(accepting, *exit),
             State::Match(_) => true,
         }
     }
@@ -164,9 +164,9 @@ impl State {
         ensures { IsTrue result ↔ LeadsBy (of_state sets.now targets.now self.now) s (has_state live.now) }
     {
         match self {
-            State::Bytes(set, next) => live.has(*next) && set_of(sets, *set).has_some(),
-            State::Union(at) => live.has_any(exits_of(targets, *at)),
-            State::Loop(_, exit) => live.has(*exit),
+            State::Bytes(set, next) => is_in(live, *next) && set_of(sets, *set).has_some(),
+            State::Union(at) => has_any(live, exits_of(targets, *at)),
+            State::Loop(_, exit) => is_in(live, *exit),
             State::Match(_) => true,
         }
     }
@@ -185,8 +185,10 @@ impl State {
         ensures last { (targets : List ℕ) (c t : ℕ) → IsTrue (goes_next (of_state sets.now targets self.now) s (Some c) t) → IsTrue (has_state accepting.now t) → IsTrue (has_byte result c) }
     {
         match self {
-            State::Bytes(set, next) if accepting.has(*next) => bytes.with_all(set_of(sets, *set)),
-            State::Loop(set, _) if accepting.has(s) => bytes.with_all(set_of(sets, *set)),
+            State::Bytes(set, next) if is_in(accepting, *next) => bytes.with_all(set_of(
+                sets, *set,
+            )),
+            State::Loop(set, _) if is_in(accepting, s) => bytes.with_all(set_of(sets, *set)),
             _ => bytes,
         }
     }
@@ -244,6 +246,27 @@ pub fn exits_of(targets: &[usize], at: usize) -> &[usize]
 {
     let count = targets[at];
     &targets[at + 1..at + 1 + count]
+}
+
+/// Returns whether a state is in a set. What is made from an automaton before it is run counts no visits.
+pub fn is_in(set: &StateSet, state: usize) -> bool
+    requires { state < state_capacity set.now }
+    ensures { result ≡ has_state set.now state }
+{
+    set.has(state, &mut Visits::new())
+}
+
+/// Returns whether one of several states is in a set.
+fn has_any(set: &StateSet, states: &[usize]) -> bool
+    requires { AreBelow (state_capacity set.now) states.now }
+    ensures { IsTrue result ↔ ((t : ℕ) × IsTrue (is_reported t states.now) × IsTrue (has_state set.now t)) }
+{
+    for state in states {
+        if is_in(set, *state) {
+            return true;
+        }
+    }
+    false
 }
 
 /// Returns a number that none of some numbers is below, and that is not above `limit`.

@@ -2,7 +2,7 @@
 use Rattle.std.specs.Prelude.{◌≡◌, ◌≤◌, ◌↔◌, ℕ, List, ◌++◌, vec_capacity}
 use Rattle.bit_sets.specs.Indexes.{index_capacity}
 use Rattle.byte_nfa.specs.Runs.{size, AcceptsFrom}
-use Rattle.byte_nfa.specs.Sets.{state_capacity}
+use Rattle.bit_sets.specs.StateSets.{state_capacity}
 use Rattle.byte_nfa.specs.Steps.{Machine, IsReached}
 use Rattle.byte_nfa.specs.Texts.{AllBytes}
 use Rattle.globset_glob.specs.GlobMatches.{GlobValue, glob_matches}

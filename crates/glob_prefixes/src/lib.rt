@@ -42,7 +42,6 @@
 #![tactic(auto)]
 
 mod builder;
-mod marks;
 mod matcher;
 mod states;
 

@@ -5,7 +5,6 @@ ghost use Rattle.bit_sets.specs.Indexes.{has_index};
 ghost use Rattle.byte_nfa.specs.Steps.{IsReached};
 ghost use Rattle.glob_prefixes.specs.Prefixes.{FitAsBefore, FitsPrefixes, IsAfter, all_matching_indexes, matching_of, max_globs, prefix_states};
 
-use crate::marks::push_marked;
 use crate::states::PrefixStates;
 use globset_glob::GivenGlobs;
 use nfa_simulation::Nfa;
@@ -114,7 +113,10 @@ impl PrefixMatcher {
         self.mark(states, visits);
         states.matching.clear();
         let count = self.automaton.index_count();
-        push_marked(&states.marks, count, &mut states.matching).unwrap();
+        states
+            .marks
+            .push_below(count, &mut states.matching)
+            .unwrap();
     }
 
     /// Marks the indexes of the ends that what was read leads to, and no others.

@@ -4,8 +4,7 @@ ghost use Rattle.std.specs.Prelude.{◌≡◌, IfOk};
 ghost use Rattle.glob_prefixes.specs.Prefixes.{FitsPrefixes, matching_of};
 
 use crate::matcher::PrefixMatcher;
-use bit_sets::IndexSet;
-use byte_nfa::StateSet;
+use bit_sets::{IndexSet, StateSet};
 use std::alloc::{AllocError, Global};
 
 /// What a [`PrefixMatcher`] remembers of the bytes that it read, and all the memory that it takes for them.

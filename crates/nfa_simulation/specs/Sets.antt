@@ -1,7 +1,7 @@
 -- The sets of a run.
 use Rattle.std.specs.Prelude.{ℕ, min}
 use Rattle.bit_sets.specs.Indexes.{index_capacity}
-use Rattle.byte_nfa.specs.Sets.{state_capacity}
+use Rattle.bit_sets.specs.StateSets.{state_capacity}
 use Rattle.nfa_simulation.specs.declared.state_sets.StateSets.{StateSets}
 
 -- each of two sets of states, and the set of starts, has room for the numbers below this

@@ -1,13 +1,13 @@
 //! States that a run takes together, a word of a set of states at once.
 
 ghost use Rattle.std.specs.Prelude.{◌≡◌, ℕ, ◌+◌, ◌-◌, ◌/◌, ◌<◌, ◌≤◌, ◌++◌, [], List, Option, length, slice_index_or, MatchOption, IfOk, OnOk};
-ghost use Rattle.byte_nfa.specs.Sets.{has_state, state_capacity};
+ghost use Rattle.bit_sets.specs.StateSets.{has_state, state_capacity};
 ghost use Rattle.byte_nfa.specs.Steps.{State};
 ghost use Rattle.nfa_simulation.specs.inner.Blocks.{AreBlocks, AreMasks, Takes};
 
 mod making;
 
-use byte_nfa::StateSet;
+use bit_sets::StateSet;
 use std::alloc::{AllocError, Global};
 use visits::Visits;
 

@@ -2,7 +2,7 @@
 
 ghost use Rattle.std.specs.Prelude.{◌≡◌, ℕ, ◌+◌, ◌<◌, ◌≤◌, ◌||◌, ◌⊎◌, ◌↔◌, ◌∷◌, [], List, length, slice_index, false, Some, None, IsTrue, IsFalse, IfOk, MatchOption};
 ghost use Rattle.bit_sets.specs.Indexes.{has_index, index_capacity};
-ghost use Rattle.byte_nfa.specs.Sets.{has_state, state_capacity};
+ghost use Rattle.bit_sets.specs.StateSets.{has_state, state_capacity};
 ghost use Rattle.byte_nfa.specs.Steps.{Machine, IsReached, state, final};
 ghost use Rattle.byte_nfa.specs.Runs.{size, AcceptsFrom, HasSome};
 ghost use Rattle.nfa_simulation.specs.inner.Blocks.{AreBlocks};
@@ -15,8 +15,8 @@ mod passes;
 mod word_passes;
 
 use crate::blocks::Blocks;
-use bit_sets::IndexSet;
-use byte_nfa::{Draft, StateSet};
+use bit_sets::{IndexSet, StateSet};
+use byte_nfa::Draft;
 use std::alloc::AllocError;
 use std::marker::Model;
 use visits::Visits;

@@ -3,8 +3,7 @@
 ghost use Rattle.std.specs.Prelude.{◌≡◌, ◌≤◌, OnOk, IsOk};
 ghost use Rattle.nfa_simulation.specs.Sets.{sets_capacity};
 
-use bit_sets::IndexSet;
-use byte_nfa::StateSet;
+use bit_sets::{IndexSet, StateSet};
 use std::alloc::{AllocError, Global};
 
 /// The two sets of states that a run changes between: those that the text so far leads to, and those that one more byte leads to.

@@ -8,7 +8,6 @@
 mod automata;
 mod below;
 mod given;
-mod marks;
 mod matcher;
 mod matching;
 mod matching_sets;

@@ -7,7 +7,6 @@ ghost use Rattle.set_matcher.specs.SetMatcherValue.{matcher_globs};
 ghost use Rattle.set_matcher.specs.Indexes.{ContainsAllBelow};
 ghost use Rattle.set_matcher.specs.inner.Capacity.{HasCapacity, KeepsCapacity};
 
-use crate::marks::{are_all_marked, push_marked};
 use crate::matcher::SetMatcher;
 use crate::matching_sets::MatchingSets;
 use glob_path::Candidate;
@@ -56,7 +55,7 @@ impl SetMatcher {
     {
         into.clear();
         self.mark(path, sets, visits)?;
-        if let Err(error) = push_marked(&sets.marks, self.len(), into) {
+        if let Err(error) = sets.marks.push_below(self.len(), into) {
             into.clear();
             return Err(error);
         }
@@ -105,7 +104,7 @@ impl SetMatcher {
     {
         if self.automata.find(path.path(), sets, visits)? {
             self.keys.find(path, &mut sets.marks, visits);
-            return Ok(are_all_marked(&sets.marks, self.len()));
+            return Ok(sets.marks.has_all_below(self.len()));
         }
         Ok(self.keys.count_found(path, visits) == Some(self.len()))
     }

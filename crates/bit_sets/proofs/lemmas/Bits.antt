@@ -1,5 +1,5 @@
 -- Bits of machine words.
-use Rattle.std.proofs.Common.{zero, suc, max, min, ◌++◌, ◌+◌, ◌-◌, ◌≡◌, ◌≢◌, ℕ, ◌*◌, ◌/◌, ◌%◌, ◌^◌, ◌<◌, ◌≤◌, ◌⊎◌, Bool, true, false, true≢false, not, eqb, ltb, List, length, replicate, get_or, set, refl, sym, subst, ◌∙◌, ap, inl, inr, arith, get_or-set_same, get_or-set_other, eq-eqb, ne_eqb, w64, rules}
+use Rattle.std.proofs.Common.{zero, suc, max, min, ◌++◌, ◌+◌, ◌-◌, ◌≡◌, ◌≢◌, ℕ, ◌*◌, ◌/◌, ◌%◌, ◌^◌, ◌<◌, ◌≤◌, ◌⊎◌, [], ◌∷◌, Bool, true, false, true≢false, not, eqb, ltb, List, length, replicate, get_or, set, refl, sym, subst, ◌∙◌, ap, inl, inr, arith, get_or-set_same, get_or-set_other, eq-eqb, ne_eqb, w64, rules}
 use borrow.Rule.Slice.PartMut.{put_mid}
 use Rattle.std.proofs.lemmas.List.{places, get_or_append_left, get_or-replicate, get_or_past, length-replicate}
 use Rattle.std.proofs.lemmas.Bool.{cases_eq, cases_lt}
@@ -308,3 +308,9 @@ bit_grown words n k =
           ] in
           ap (λ x. eqb (bit_at x (k % 64)) 1) (there ∙ zero)
     ]
+
+-- a word that was read
+pub word_read : (xs : List ℕ) (i x d : ℕ) → i < length xs → x ≡ get_or xs i x → x ≡ get_or xs i d
+word_read [] i x d lt e = absurd (omega arith)
+word_read (y ∷ ys) zero x d lt e = e
+word_read (y ∷ ys) (suc i) x d lt e = word_read ys i x d (omega arith) e

@@ -3,7 +3,7 @@ use Rattle.std.proofs.Common.{ℕ, List, ◌∙◌, le_trans}
 use Rattle.std.specs.Prelude.{◌↔◌}
 use Rattle.byte_nfa.specs.Runs.{AcceptsFrom}
 use Rattle.byte_nfa.specs.Steps.{Machine, IsReached}
-use Rattle.byte_nfa.specs.declared.state_set.StateSet.{StateSet}
+use Rattle.bit_sets.specs.declared.state_set.StateSet.{StateSet}
 use Rattle.byte_dfa.specs.declared.classes.ByteClasses.{ByteClasses}
 use Rattle.byte_dfa.specs.declared.determinizer.Determinizer.{Determinizer}
 use Rattle.byte_dfa.specs.declared.determinizer.Found.{Found}

@@ -10,7 +10,7 @@ use Rattle.byte_nfa.specs.EarlyMatches.{IsAtEarlyMatch, EndsAtEarlyMatches}
 use Rattle.byte_nfa.specs.Runs.{AcceptsFrom, HasLastBytes}
 use Rattle.byte_nfa.specs.Steps.{state, final, Machine, IsReached, Accepts, ends, by_byte, by_skip, by_out, by_stay}
 use Rattle.bit_sets.specs.declared.byte_set.ByteSet.{ByteSet}
-use Rattle.byte_nfa.specs.declared.state_set.StateSet.{StateSet}
+use Rattle.bit_sets.specs.declared.state_set.StateSet.{StateSet}
 use Rattle.bit_sets.specs.Numbers.{is_reported}
 use Rattle.byte_nfa.specs.Texts.{AllBytes}
 use Rattle.byte_nfa.proofs.lemmas.Equivalent.{from_equivalent}

@@ -2,11 +2,11 @@
 use Rattle.std.specs.Prelude.{◌≡◌, ℕ, Bool, false, IsTrue, ◌+◌, ◌*◌, ◌/◌, ◌<◌, ◌≤◌, ◌↔◌, ◌⊎◌, List, [], ◌∷◌, length, slice_index, slice_index_or, slice_get, Some}
 use Rattle.byte_nfa.specs.Runs.{size, AcceptsFrom, AreAccepting}
 use Rattle.byte_nfa.specs.ByteSteps.{leads_to}
-use Rattle.byte_nfa.specs.Sets.{has_state, state_capacity}
+use Rattle.bit_sets.specs.StateSets.{has_state, state_capacity}
 use Rattle.byte_nfa.specs.Steps.{Accepts, Machine, IsReached}
 use Rattle.byte_nfa.specs.Texts.{AllBytes}
 use Rattle.byte_nfa.specs.declared.byte_steps.ByteSteps.{ByteSteps}
-use Rattle.byte_nfa.specs.declared.state_set.StateSet.{StateSet}
+use Rattle.bit_sets.specs.declared.state_set.StateSet.{StateSet}
 use Rattle.byte_dfa.specs.declared.classes.ByteClasses.{ByteClasses}
 use Rattle.byte_dfa.specs.declared.determinizer.Determinizer.{Determinizer}
 use Rattle.byte_dfa.specs.declared.determinizer.Found.{Found}

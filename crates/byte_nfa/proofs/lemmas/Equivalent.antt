@@ -2,7 +2,7 @@
 use Rattle.std.proofs.Common.{◌≡◌, ℕ, ◌+◌, ◌<◌, Bool, true, false, true≢false, ◌||◌, List, ◌∷◌, IsTrue, arith, refl, ap, sym, subst, ◌∙◌, below_more}
 use Rattle.std.specs.Prelude.{◌↔◌, IsFalse}
 use Rattle.bit_sets.specs.declared.byte_set.ByteSet.{ByteSet}
-use Rattle.byte_nfa.specs.declared.state_set.StateSet.{StateSet}
+use Rattle.bit_sets.specs.declared.state_set.StateSet.{StateSet}
 use Rattle.bit_sets.specs.Bytes.{has_byte, differ}
 use Rattle.byte_nfa.specs.Steps.{State, reads, stays, state, Machine, Accepts, ends, by_byte, by_skip, by_out, by_stay}
 use Rattle.byte_nfa.specs.Runs.{AcceptsFrom}

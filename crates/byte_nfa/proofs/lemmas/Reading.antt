@@ -80,9 +80,3 @@ pub follows_epsilons : (o : Option ℕ) (n : ℕ) (st st' : State) → st ≡ st
     → MatchOption o ((k : ℕ) → names st None k ≡ false) (λ k. (st ≡ final k) × (k < n))
 follows_epsilons (Some k) n st st' is named end = (is ∙ end, subst (NamesBelow n) (is ∙ end) named)
 follows_epsilons None n st st' is named none = λ k. ap (λ u. names u None k) is ∙ none k
-
--- a word that was read
-pub word_read : (xs : List ℕ) (i x d : ℕ) → i < length xs → x ≡ get_or xs i x → x ≡ get_or xs i d
-word_read [] i x d lt e = absurd (omega arith)
-word_read (y ∷ ys) zero x d lt e = e
-word_read (y ∷ ys) (suc i) x d lt e = word_read ys i x d (omega arith) e

@@ -3,14 +3,13 @@
 ghost use Rattle.std.specs.Prelude.{◌≡◌, ℕ, ◌<◌, ◌≤◌, ◌↔◌, Some, IsTrue, IfOk};
 ghost use Rattle.bit_sets.specs.Bytes.{has_byte};
 ghost use Rattle.byte_nfa.specs.Runs.{size, AreAccepting, HasLastBytes};
-ghost use Rattle.byte_nfa.specs.Sets.{has_state, state_capacity};
+ghost use Rattle.bit_sets.specs.StateSets.{has_state, state_capacity};
 ghost use Rattle.byte_nfa.specs.Steps.{state};
 ghost use Rattle.byte_nfa.specs.inner.Pass.{goes_next, EndsBy};
 ghost use Rattle.byte_nfa.specs.inner.Views.{GoesBelow};
 
 use crate::draft::Draft;
-use crate::state_set::StateSet;
-use bit_sets::ByteSet;
+use bit_sets::{ByteSet, StateSet};
 use std::alloc::AllocError;
 
 impl Draft {

@@ -3,14 +3,15 @@
 ghost use Rattle.std.specs.Prelude.{◌≡◌, ℕ, ◌+◌, ◌<◌, ◌≤◌, ◌↔◌, List, IsTrue};
 ghost use Rattle.byte_nfa.specs.Live.{AreLive};
 ghost use Rattle.byte_nfa.specs.Runs.{size, AcceptsFrom};
-ghost use Rattle.byte_nfa.specs.Sets.{has_state, state_capacity};
+ghost use Rattle.bit_sets.specs.StateSets.{has_state, state_capacity};
 ghost use Rattle.byte_nfa.specs.Steps.{state};
 ghost use Rattle.byte_nfa.specs.Texts.{AllBytes};
 ghost use Rattle.byte_nfa.specs.inner.Pass.{LeadsBy};
 ghost use Rattle.byte_nfa.specs.inner.Views.{GoesBelow};
 
 use crate::draft::Draft;
-use crate::state_set::StateSet;
+use crate::state::is_in;
+use bit_sets::StateSet;
 use visits::Visits;
 
 impl Draft {
@@ -42,7 +43,7 @@ impl Draft {
         while limit > 0 {
             let seen = from.read_below(limit, &mut Visits::new());
             let s = seen.at;
-            if seen.is_set && live.has(s) {
+            if seen.is_set && is_in(live, s) {
                 return true;
             }
             limit = s;
@@ -65,7 +66,7 @@ impl Draft {
         for s in 0..self.state_count() {
             visits.tick();
             if self.is_leading(s, live) {
-                if from.has(s) {
+                if is_in(from, s) {
                     return true;
                 }
                 live.put(s);

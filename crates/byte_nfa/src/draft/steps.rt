@@ -4,15 +4,14 @@ ghost use Rattle.std.specs.Prelude.{◌≡◌, ℕ, ◌+◌, ◌<◌, ◌≤◌,
 ghost use Rattle.bit_sets.specs.WordSets.{has_in_word};
 ghost use Rattle.byte_nfa.specs.Parts.{GoesFrom};
 ghost use Rattle.byte_nfa.specs.Runs.{size};
-ghost use Rattle.byte_nfa.specs.Sets.{has_state, state_capacity};
+ghost use Rattle.bit_sets.specs.StateSets.{has_state, state_capacity};
 ghost use Rattle.byte_nfa.specs.Steps.{reads, state, final};
 ghost use Rattle.byte_nfa.specs.inner.Views.{GoesBelow};
 ghost use Rattle.byte_nfa.specs.inner.Pass.{goes_now, goes_next, names};
 
 use crate::draft::Draft;
 use crate::state::{State, set_of};
-use crate::state_set::StateSet;
-use bit_sets::{ByteSet, WordSet};
+use bit_sets::{ByteSet, StateSet, WordSet};
 
 impl Draft {
     /// Takes the steps of a state of `from`: puts into `from` what it goes on to without a byte, and into `to` what it goes

@@ -4,10 +4,10 @@ use Rattle.std.specs.Prelude.{◌↔◌, ◌^◌, filter}
 use Rattle.std.specs.List.{range_with_len}
 use Rattle.std.proofs.Math.Logic.{⊎_elim}
 use Rattle.byte_nfa.specs.Runs.{AcceptsFrom}
-use Rattle.byte_nfa.specs.Sets.{has_state}
+use Rattle.bit_sets.specs.StateSets.{has_state}
 use Rattle.byte_nfa.specs.Steps.{Machine, IsReached}
 use Rattle.byte_nfa.specs.Texts.{AllBytes}
-use Rattle.byte_nfa.specs.declared.state_set.StateSet.{StateSet}
+use Rattle.bit_sets.specs.declared.state_set.StateSet.{StateSet}
 use Rattle.glob_nfa.specs.IndexedTokens.{IndexedTokens, indexed, IsFor, SomeMatches}
 use Rattle.glob_nfa.specs.TokensMatch.{tokens_match}
 use Rattle.glob_nfa.proofs.lemmas.Booleans.{same_truth}
@@ -15,7 +15,7 @@ use Rattle.glob_syntax.specs.declared.options.Options.{Options}
 use Rattle.glob_syntax.specs.Token.{Tokens}
 use Rattle.globset_glob.specs.GlobMatches.{GlobValue, tokens_of_glob, glob_matches}
 use Rattle.set_matcher.specs.Indexes.{passes_at}
-use Rattle.set_matcher.proofs.lemmas.Indexes.{filter_between, filter_same}
+use Rattle.bit_sets.proofs.lemmas.Filters.{filter_between, filter_same}
 use Rattle.glob_prefixes.specs.Prefixes.{IsAfter, PrefixMatcherValue, all_matching_indexes}
 use Rattle.glob_prefixes.specs.inner.Added.{AreAdded, IsPrefixMatcherOf, indexed_globs}
 use Rattle.glob_prefixes.specs.declared.states.PrefixStates.{PrefixStates}

@@ -1,6 +1,6 @@
 -- The room of the sets of a run, whose capacity is the least of three.
 use Rattle.std.proofs.Common.{◌≡◌, ℕ, ◌≤◌, min, arith}
-use Rattle.byte_nfa.specs.Sets.{state_capacity}
+use Rattle.bit_sets.specs.StateSets.{state_capacity}
 use Rattle.nfa_simulation.specs.Sets.{sets_capacity}
 use Rattle.nfa_simulation.specs.declared.state_sets.StateSets.{StateSets}
 

@@ -4,7 +4,7 @@ use Rattle.std.specs.Prelude.{◌↔◌, ◌==◌, ◌||◌}
 use Rattle.std.proofs.lemmas.Bool.{eqb-true, eq-eqb, or_cases, cases_Bool, cases_lt}
 use Rattle.std.proofs.Math.Logic.{⊎_elim}
 use Rattle.bit_sets.specs.Bytes.{has_byte}
-use Rattle.byte_nfa.specs.Sets.{has_state}
+use Rattle.bit_sets.specs.StateSets.{has_state}
 use Rattle.byte_nfa.specs.Steps.{State, reads, skips, stays, final, Machine, Accepts}
 use Rattle.bit_sets.specs.Numbers.{AreFrom, is_reported}
 use Rattle.byte_nfa.specs.Parts.{GoesFrom}
@@ -13,7 +13,7 @@ use Rattle.byte_nfa.specs.Spans.{IsFrom, IsWithin}
 use Rattle.byte_nfa.specs.inner.Views.{GoesBelow}
 use Rattle.byte_nfa.specs.inner.Pass.{goes_now, goes_next, AcceptsNow, PassInvariant}
 use Rattle.byte_nfa.proofs.lemmas.Pass.{and_second, or_first}
-use Rattle.byte_nfa.specs.declared.state_set.StateSet.{StateSet}
+use Rattle.bit_sets.specs.declared.state_set.StateSet.{StateSet}
 
 -- every state goes on to states from 0 on
 pub from_zero : (st : State) → GoesFrom 0 st

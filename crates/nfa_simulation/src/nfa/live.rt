@@ -2,11 +2,11 @@
 
 ghost use Rattle.std.specs.Prelude.{◌≡◌, ℕ, ◌+◌, ◌≤◌, ◌↔◌, List, IsTrue};
 ghost use Rattle.byte_nfa.specs.Runs.{size, AcceptsFrom};
-ghost use Rattle.byte_nfa.specs.Sets.{state_capacity};
+ghost use Rattle.bit_sets.specs.StateSets.{state_capacity};
 ghost use Rattle.byte_nfa.specs.Texts.{AllBytes};
 
 use crate::nfa::Nfa;
-use byte_nfa::StateSet;
+use bit_sets::StateSet;
 use visits::Visits;
 
 impl Nfa {

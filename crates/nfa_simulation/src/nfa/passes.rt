@@ -2,13 +2,12 @@
 
 ghost use Rattle.std.specs.Prelude.{◌≡◌, ℕ, ◌+◌, ◌<◌, ◌≤◌, ◌⊎◌, ◌↔◌, ◌∷◌, [], List, IsTrue};
 ghost use Rattle.bit_sets.specs.Indexes.{has_index, index_capacity};
-ghost use Rattle.byte_nfa.specs.Sets.{state_capacity};
+ghost use Rattle.bit_sets.specs.StateSets.{state_capacity};
 ghost use Rattle.byte_nfa.specs.Runs.{size, AcceptsBelow, AcceptsFrom, HasSome};
 ghost use Rattle.byte_nfa.specs.Spans.{IsClosed, IsFrom, IsWithin};
 
 use crate::nfa::Nfa;
-use bit_sets::IndexSet;
-use byte_nfa::StateSet;
+use bit_sets::{IndexSet, StateSet};
 use visits::Visits;
 
 impl Nfa {

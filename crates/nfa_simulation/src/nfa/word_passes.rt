@@ -1,14 +1,14 @@
 //! Passes that take the states of a block at once.
 
 ghost use Rattle.std.specs.Prelude.{◌≡◌, ℕ, ◌+◌, ◌<◌, ◌≤◌, ◌↔◌, ◌∷◌, List, IsTrue};
-ghost use Rattle.byte_nfa.specs.Sets.{has_state, state_capacity};
+ghost use Rattle.bit_sets.specs.StateSets.{has_state, state_capacity};
 ghost use Rattle.byte_nfa.specs.Spans.{IsClosed, IsFrom, IsWithin};
 ghost use Rattle.byte_nfa.specs.Runs.{size, AcceptsBelow, AcceptsFrom, HasSome};
 ghost use Rattle.nfa_simulation.specs.inner.Blocks.{Takes};
 
 use crate::blocks::Taken;
 use crate::nfa::Nfa;
-use byte_nfa::StateSet;
+use bit_sets::StateSet;
 use visits::Visits;
 
 impl Nfa {

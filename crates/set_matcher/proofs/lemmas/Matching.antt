@@ -12,7 +12,8 @@ use Rattle.set_matcher.specs.Indexes.{ContainsAllBelow}
 use Rattle.literal_index.specs.LiteralIndex.{keys_found}
 use Rattle.set_matcher.specs.inner.Automata.{AreFound, AreIdle}
 use Rattle.set_matcher.specs.inner.SetMatcher.{SetMatcherParts, IsSetMatcherOf, listed_count}
-use Rattle.set_matcher.proofs.lemmas.Indexes.{passing_is_contained, contained_passes, passes_within, all_pass, filter_same}
+use Rattle.set_matcher.proofs.lemmas.Indexes.{passing_is_contained, contained_passes, passes_within, all_pass}
+use Rattle.bit_sets.proofs.lemmas.Filters.{filter_same}
 
 -- a listed glob is in the list
 in_listed : (globs : List TokenGlob) (path : List ℕ) (k : ℕ) → IsTrue (is_reported_at globs path k) → Contains (reported_indexes globs path) k

@@ -6,7 +6,8 @@ ghost use Rattle.nfa_simulation.specs.Sets.{sets_capacity};
 ghost use Rattle.set_matcher.specs.inner.Automata.{AreForLists, AreFoundBelow, TokenLists, folder_reads, max_states};
 
 use crate::automata::Automata;
-use byte_nfa::{Draft, StateSet};
+use bit_sets::StateSet;
+use byte_nfa::Draft;
 use nfa_simulation::StateSets;
 use std::alloc::{AllocError, Global};
 use visits::Visits;

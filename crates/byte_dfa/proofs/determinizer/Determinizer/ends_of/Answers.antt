@@ -2,7 +2,7 @@ use Rattle.std.proofs.Common.{◌≡◌, Bool, true, false, true≢false, [], in
 use Rattle.std.specs.Prelude.{◌&&◌}
 use Rattle.std.proofs.Math.Logic.{⊎_elim}
 use Rattle.byte_nfa.specs.Runs.{AcceptsFrom}
-use Rattle.byte_nfa.specs.Sets.{has_state}
+use Rattle.bit_sets.specs.StateSets.{has_state}
 use Rattle.byte_dfa.proofs.determinizer.Determinizer.ends_of.Goals as goal
 
 second_of : (p q : Bool) → (p && q) ≡ true → q ≡ true

@@ -1,7 +1,7 @@
 use Rattle.std.proofs.Common.{◌≡◌, ◌<◌, Some, length, IsTrue, refl, subst, arith}
 use Rattle.std.specs.Prelude.{slice_get}
 use Rattle.std.proofs.lemmas.Option.{slice_get_read}
-use Rattle.byte_nfa.specs.Sets.{has_state}
+use Rattle.bit_sets.specs.StateSets.{has_state}
 use Rattle.byte_dfa.specs.declared.determinizer.Found.{Found}
 use Rattle.byte_dfa.proofs.determinizer.Determinizer.is_base.Goals as goal
 

@@ -1,5 +1,5 @@
 use Rattle.std.proofs.Common.{◌≡◌, ℕ, ◌+◌, ◌*◌, ◌<◌, ◌≤◌, Some, length, slice_index}
-use Rattle.byte_nfa.specs.Sets.{state_capacity}
+use Rattle.bit_sets.specs.StateSets.{state_capacity}
 use Rattle.byte_nfa.specs.ByteSteps.{LeadsAsEvery}
 use Rattle.byte_dfa.specs.inner.Building.{IsSound, KeepsFound, total}
 use Rattle.byte_dfa.proofs.determinizer.Determinizer.write_row.Given as goal

@@ -1,6 +1,6 @@
 use Rattle.std.proofs.Common.{◌≡◌, ◌+◌, ◌-◌, ◌*◌, ◌≤◌, length}
 use Rattle.byte_nfa.specs.ByteSteps.{step_capacity}
-use Rattle.byte_nfa.specs.Sets.{state_capacity}
+use Rattle.bit_sets.specs.StateSets.{state_capacity}
 use Rattle.byte_dfa.specs.inner.Building.{HasCapacityFor, IsSound, KeepsFound, total}
 use Rattle.byte_dfa.proofs.determinizer.Determinizer.write_rows.Given as goal
 

@@ -2,7 +2,7 @@ use Rattle.std.proofs.Common.{◌≡◌, ◌||◌, Bool, true, false, [], drop, 
 use Rattle.std.proofs.lemmas.List.{drop_all}
 use Rattle.std.proofs.lemmas.Option.{slice_get-get_or}
 use Rattle.byte_nfa.specs.ByteSteps.{is_step_to}
-use Rattle.byte_nfa.specs.Sets.{has_state}
+use Rattle.bit_sets.specs.StateSets.{has_state}
 use Rattle.byte_nfa.proofs.byte_steps.ByteSteps.add_to.Goals as goal
 
 grouped : (p q r : Bool) → (p || (q || r)) ≡ ((p || q) || r)

@@ -1,5 +1,5 @@
 use Rattle.std.proofs.Common.{◌≡◌, ℕ, ◌||◌, drop}
-use Rattle.byte_nfa.specs.Sets.{has_state, state_capacity}
+use Rattle.bit_sets.specs.StateSets.{has_state, state_capacity}
 use Rattle.byte_nfa.specs.ByteSteps.{is_step_to, leads_to}
 use Rattle.byte_nfa.proofs.byte_steps.ByteSteps.add_to.Given as goal
 

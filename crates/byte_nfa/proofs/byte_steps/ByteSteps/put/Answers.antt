@@ -1,5 +1,5 @@
 use Rattle.std.specs.Result.{is_ok}
-use Rattle.byte_nfa.specs.Sets.{has_state, state_capacity}
+use Rattle.bit_sets.specs.StateSets.{has_state, state_capacity}
 use Rattle.byte_nfa.specs.declared.byte_steps.Step.{Step}
 use Rattle.byte_nfa.proofs.lemmas.StepLists.{step_more, within_more}
 use Rattle.byte_nfa.proofs.byte_steps.ByteSteps.put.Goals as goal

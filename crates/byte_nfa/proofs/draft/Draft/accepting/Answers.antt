@@ -1,5 +1,5 @@
 use Rattle.std.proofs.Common.{◌∙◌, true≢false, sym}
-use Rattle.byte_nfa.specs.Sets.{has_state}
+use Rattle.bit_sets.specs.StateSets.{has_state}
 use Rattle.byte_nfa.proofs.lemmas.Accepting.{ending_put, ending_passed}
 use Rattle.byte_nfa.proofs.draft.Draft.accepting.Goals as goal
 use Rattle.byte_nfa.proofs.draft.Draft.accepting.Goals.{then-is_accepting, else-is_accepting}

@@ -1,5 +1,5 @@
 use Rattle.std.proofs.Common.{◌≡◌}
-use Rattle.byte_nfa.specs.Sets.{has_state, state_capacity}
+use Rattle.bit_sets.specs.StateSets.{has_state, state_capacity}
 use Rattle.byte_nfa.proofs.lemmas.Accepting.{AreAcceptingTo}
 use Rattle.byte_nfa.proofs.draft.Draft.accepting.Given as goal
 

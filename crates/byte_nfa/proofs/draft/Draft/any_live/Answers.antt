@@ -1,8 +1,8 @@
 use Rattle.std.proofs.Common.{◌∙◌, true≢false, refl, sym, arith}
-use Rattle.byte_nfa.specs.Sets.{has_state}
+use Rattle.bit_sets.specs.StateSets.{has_state}
 use Rattle.byte_nfa.proofs.lemmas.Live.{leads_by, live_put, live_passed, none_more}
 use Rattle.byte_nfa.proofs.draft.Draft.any_live.Goals as goal
-use Rattle.byte_nfa.proofs.draft.Draft.any_live.Goals.{then-is_leading+else-has, else-is_leading}
+use Rattle.byte_nfa.proofs.draft.Draft.any_live.Goals.{then-is_leading+else-is_in, else-is_leading}
 
 pub loop-s-preserved : goal.loop-s-preserved
 loop-s-preserved c =
@@ -12,10 +12,10 @@ loop-s-preserved c =
     let old = has_state c.loop-s.live in
     let test = c.is_leading.ensures in
     elim c.if-is_leading.branch [
-      | then-is_leading+else-has w ↦ rw w.live-is record {
+      | then-is_leading+else-is_in w ↦ rw w.live-is record {
         room = w.put.ensures.room ∙ inv.room;
         live = live_put a s old (has_state w.put.new.self) inv.live test.below (test.leads.0 w.if-is_leading.true) w.put.ensures.has;
-        none = none_more a s (has_state c.args.from.now) inv.none (λ at live. true≢false (sym at ∙ sym w.has.ensures ∙ w.if-has.false));
+        none = none_more a s (has_state c.args.from.now) inv.none (λ at live. true≢false (sym at ∙ sym w.is_in.ensures ∙ w.if-is_in.false));
         visits = omega (arith, inv.visits, c.tick.ensures);
         counted = omega arith;
       }
@@ -29,13 +29,13 @@ loop-s-preserved c =
       }
     ]
 
-pub returns-then-has-clause-some : goal.returns-then-has-clause-some
-returns-then-has-clause-some c =
+pub returns-then-is_in-clause-some : goal.returns-then-is_in-clause-some
+returns-then-is_in-clause-some c =
     let a = c.args.self.now.states in
     let s = c.loop-s.s in
     let test = c.is_leading.ensures in
     let (k, y, bytes, accepts) = (leads_by a s (has_state c.loop-s.live) test.below c.loop-s.invariant.live.low).0 (test.leads.0 c.if-is_leading.true) in
-    (λ yes. (y, k, bytes, (s, omega arith, sym c.has.ensures ∙ c.if-has.true, accepts)), λ some. refl)
+    (λ yes. (y, k, bytes, (s, omega arith, sym c.is_in.ensures ∙ c.if-is_in.true, accepts)), λ some. refl)
 
 pub returns-clause-some : goal.returns-clause-some
 returns-clause-some c = (

@@ -1,6 +1,6 @@
 use Rattle.std.proofs.Common.{◌≡◌, ℕ, ◌+◌, ◌<◌, ◌≤◌, IsTrue}
 use Rattle.byte_nfa.specs.Live.{IsLive}
-use Rattle.byte_nfa.specs.Sets.{has_state, state_capacity}
+use Rattle.bit_sets.specs.StateSets.{has_state, state_capacity}
 use Rattle.byte_nfa.proofs.lemmas.Live.{AreLiveTo}
 use Rattle.byte_nfa.proofs.draft.Draft.any_live.Given as goal
 

@@ -1,5 +1,5 @@
 use Rattle.std.proofs.Common.{◌≡◌, ◌∷◌, false, arith, sym, ◌∙◌, refl}
-use Rattle.byte_nfa.specs.Sets.{has_state}
+use Rattle.bit_sets.specs.StateSets.{has_state}
 use Rattle.byte_nfa.specs.ByteSteps.{leads_to}
 use Rattle.byte_nfa.specs.Steps.{state}
 use Rattle.byte_nfa.specs.Runs.{size}

@@ -1,6 +1,6 @@
 use Rattle.std.proofs.Common.{◌≡◌, [], false, arith, sym, ◌∙◌, refl}
 use Rattle.bit_sets.specs.Indexes.{has_index}
-use Rattle.byte_nfa.specs.Sets.{has_state}
+use Rattle.bit_sets.specs.StateSets.{has_state}
 use Rattle.byte_nfa.specs.Steps.{state}
 use Rattle.byte_nfa.specs.Runs.{size}
 use Rattle.byte_nfa.proofs.lemmas.Pass.{iff_trans, some_found, read_passed, read_taken, stays_at_end, names_it, names_none, last_position}

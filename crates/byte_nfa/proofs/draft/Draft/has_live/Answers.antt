@@ -2,9 +2,9 @@ use Rattle.std.proofs.Common.{◌≡◌, ℕ, ◌<◌, ◌≤◌, Bool, false, I
 use Rattle.std.proofs.Math.Logic.{⊎_elim}
 use Rattle.std.proofs.lemmas.Bool.{cases_lt}
 use Rattle.byte_nfa.specs.Runs.{size}
-use Rattle.byte_nfa.specs.Sets.{has_state}
+use Rattle.bit_sets.specs.StateSets.{has_state}
 use Rattle.byte_nfa.proofs.draft.Draft.has_live.Goals as goal
-use Rattle.byte_nfa.proofs.draft.Draft.has_live.Goals.{else-seen-via-then-seen+else-has, else-seen-via-else-seen}
+use Rattle.byte_nfa.proofs.draft.Draft.has_live.Goals.{else-seen-via-then-seen+else-is_in, else-seen-via-else-seen}
 
 -- a bound that is lowered to the last state that was seen, which is not in both sets
 none_lower : (n limit s : ℕ) (from live : ℕ → Bool) → ((t : ℕ) → s < t → t < limit → from t ≡ false) → (IsTrue (from s) → live s ≡ false)
@@ -26,7 +26,7 @@ loop-limit-preserved c =
     let from = has_state c.args.from.now in
     let live = has_state c.args.live.now in
     let here : IsTrue (from s) → live s ≡ false = elim c.else-seen.branch [
-      | else-seen-via-then-seen+else-has w ↦ λ _. sym w.has.ensures ∙ w.if-has.false
+      | else-seen-via-then-seen+else-is_in w ↦ λ _. sym w.is_in.ensures ∙ w.if-is_in.false
       | else-seen-via-else-seen w ↦ λ at. absurd (true≢false (sym at ∙ sym last.marked ∙ w.if-seen.false))
     ] in
     record {

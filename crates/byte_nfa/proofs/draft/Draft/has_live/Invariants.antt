@@ -1,5 +1,5 @@
 use Rattle.std.proofs.Common.{◌≡◌, ℕ, ◌<◌, ◌≤◌, false, IsTrue}
-use Rattle.byte_nfa.specs.Sets.{has_state}
+use Rattle.bit_sets.specs.StateSets.{has_state}
 use Rattle.byte_nfa.specs.Runs.{size}
 use Rattle.byte_nfa.proofs.draft.Draft.has_live.Given as goal
 

@@ -1,5 +1,5 @@
 use Rattle.std.proofs.Common.{refl, arith}
-use Rattle.byte_nfa.specs.Sets.{has_state}
+use Rattle.bit_sets.specs.StateSets.{has_state}
 use Rattle.byte_nfa.proofs.lemmas.LastBytes.{last_byte}
 use Rattle.byte_nfa.proofs.lemmas.Pass.{accepts_within}
 use Rattle.byte_nfa.proofs.draft.Draft.last_bytes.Goals as goal

@@ -1,6 +1,6 @@
 use Rattle.std.proofs.Common.{ℕ, ◌<◌, Some, IsTrue}
 use Rattle.bit_sets.specs.Bytes.{has_byte}
-use Rattle.byte_nfa.specs.Sets.{has_state}
+use Rattle.bit_sets.specs.StateSets.{has_state}
 use Rattle.byte_nfa.specs.Steps.{state}
 use Rattle.byte_nfa.specs.inner.Pass.{goes_next}
 use Rattle.byte_nfa.proofs.draft.Draft.last_bytes.Given as goal

@@ -1,5 +1,5 @@
 use Rattle.std.proofs.Common.{◌∙◌, true≢false, sym}
-use Rattle.byte_nfa.specs.Sets.{has_state}
+use Rattle.bit_sets.specs.StateSets.{has_state}
 use Rattle.byte_nfa.proofs.lemmas.Live.{live_put, live_passed}
 use Rattle.byte_nfa.proofs.draft.Draft.live.Goals as goal
 use Rattle.byte_nfa.proofs.draft.Draft.live.Goals.{then-is_leading, else-is_leading}

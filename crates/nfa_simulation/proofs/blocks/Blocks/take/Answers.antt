@@ -1,6 +1,6 @@
 use Rattle.std.proofs.Common.{◌≡◌, ◌+◌, ◌-◌, ◌/◌, get_or, sym, arith}
-use Rattle.byte_nfa.specs.Sets.{has_state}
-use Rattle.byte_nfa.proofs.lemmas.Reading.{word_read}
+use Rattle.bit_sets.specs.StateSets.{has_state}
+use Rattle.bit_sets.proofs.lemmas.Bits.{word_read}
 use Rattle.nfa_simulation.proofs.lemmas.Blocks.{not_first, block_takes}
 use Rattle.nfa_simulation.proofs.blocks.Blocks.take.Goals as goal
 

@@ -1,5 +1,5 @@
 use Rattle.std.proofs.Common.{◌≡◌, ℕ, ◌<◌, ◌≤◌, [], false, true, true≢false, arith, sym, ◌∙◌, refl, inl}
-use Rattle.byte_nfa.specs.Sets.{has_state}
+use Rattle.bit_sets.specs.StateSets.{has_state}
 use Rattle.byte_nfa.specs.Steps.{state, Accepts}
 use Rattle.byte_nfa.specs.inner.Pass.{AcceptsNow}
 use Rattle.byte_nfa.proofs.lemmas.Pass.{iff_trans, none_swept, read_passed, read_taken, stays_at_end, names_none, no_end, some_end, last_position}

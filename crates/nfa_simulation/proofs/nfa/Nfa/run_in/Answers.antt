@@ -2,7 +2,7 @@ use Rattle.std.proofs.Common.{◌≡◌, true≢false, sym, ℕ, ◌+◌, ◌<�
 use Rattle.std.proofs.lemmas.Nat.{mul-le}
 use Rattle.std.proofs.lemmas.List.{drop_more, drop_all}
 use Rattle.bit_sets.specs.Indexes.{index_capacity}
-use Rattle.byte_nfa.specs.Sets.{state_capacity}
+use Rattle.bit_sets.specs.StateSets.{state_capacity}
 use Rattle.nfa_simulation.specs.Sets.{sets_capacity}
 use Rattle.byte_nfa.specs.Runs.{size}
 use Rattle.byte_nfa.proofs.lemmas.Pass.{iff_trans}

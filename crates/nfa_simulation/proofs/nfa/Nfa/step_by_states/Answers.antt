@@ -1,5 +1,5 @@
 use Rattle.std.proofs.Common.{◌<◌, ◌≤◌, ◌∷◌, Some, false, true≢false, arith, sym, ◌∙◌, refl}
-use Rattle.byte_nfa.specs.Sets.{has_state}
+use Rattle.bit_sets.specs.StateSets.{has_state}
 use Rattle.byte_nfa.specs.Steps.{state}
 use Rattle.byte_nfa.specs.inner.Pass.{goes_next}
 use Rattle.byte_nfa.proofs.lemmas.Pass.{iff_trans, or_first, or_second, or_none, none_swept, read_passed, read_taken, quiet_step, next_position}

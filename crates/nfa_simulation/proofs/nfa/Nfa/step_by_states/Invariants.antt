@@ -1,6 +1,6 @@
 use Rattle.std.proofs.Common.{◌≡◌, ℕ, ◌+◌, ◌<◌, ◌≤◌, ◌∷◌, List, false, IsTrue, IsFalse}
 use Rattle.std.specs.Prelude.{◌↔◌}
-use Rattle.byte_nfa.specs.Sets.{has_state, state_capacity}
+use Rattle.bit_sets.specs.StateSets.{has_state, state_capacity}
 use Rattle.byte_nfa.specs.Spans.{IsWithin}
 use Rattle.byte_nfa.specs.inner.Pass.{AcceptsNow, PassInvariant}
 use Rattle.nfa_simulation.proofs.nfa.Nfa.step_by_states.Given as goal

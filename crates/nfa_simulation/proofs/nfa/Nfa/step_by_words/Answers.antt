@@ -1,5 +1,5 @@
 use Rattle.std.proofs.Common.{◌≤◌, ◌∷◌, false, true≢false, arith, ◌∙◌}
-use Rattle.byte_nfa.specs.Sets.{has_state}
+use Rattle.bit_sets.specs.StateSets.{has_state}
 use Rattle.byte_nfa.proofs.lemmas.Pass.{iff_trans, next_position}
 use Rattle.nfa_simulation.proofs.lemmas.Spans.{none_lower}
 use Rattle.nfa_simulation.proofs.lemmas.Taking.{takes_from, takes_within, takes_nothing}

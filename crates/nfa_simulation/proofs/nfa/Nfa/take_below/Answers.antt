@@ -1,8 +1,8 @@
 use Rattle.std.proofs.Common.{subst}
-use Rattle.byte_nfa.specs.Sets.{has_state}
+use Rattle.bit_sets.specs.StateSets.{has_state}
 use Rattle.byte_nfa.specs.Steps.{Machine}
 use Rattle.nfa_simulation.specs.inner.Blocks.{AreBlocks, Takes}
-use Rattle.byte_nfa.specs.declared.state_set.StateSet.{StateSet}
+use Rattle.bit_sets.specs.declared.state_set.StateSet.{StateSet}
 use Rattle.nfa_simulation.proofs.lemmas.Taking.{takes_more}
 use Rattle.nfa_simulation.proofs.nfa.Nfa.take_below.Goals as goal
 

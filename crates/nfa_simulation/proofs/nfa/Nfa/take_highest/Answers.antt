@@ -1,5 +1,5 @@
 use Rattle.std.proofs.Common.{◌≡◌, ◌∙◌, Bool, true, false, true≢false, not, sym, refl}
-use Rattle.byte_nfa.specs.Sets.{has_state}
+use Rattle.bit_sets.specs.StateSets.{has_state}
 use Rattle.nfa_simulation.proofs.lemmas.Taking.{takes_one}
 use Rattle.nfa_simulation.proofs.nfa.Nfa.take_highest.Goals as goal
 

@@ -1,0 +1,58 @@
+//! States of one word of a set, which are read and put together.
+
+ghost use Rattle.std.specs.Prelude.{◌≡◌, ℕ, ◌+◌, ◌-◌, ◌*◌, ◌/◌, ◌%◌, ◌^◌, ◌<◌, ◌≤◌, ◌||◌, ◌==◌, false, IsTrue, IsFalse};
+ghost use Rattle.std.specs.Int.{bit_at};
+ghost use Rattle.bit_sets.specs.StateSets.{has_state, state_capacity};
+ghost use Rattle.bit_sets.specs.Bits.{is_in_word};
+
+use crate::state_set::StateSet;
+use crate::words::set_lowered;
+use visits::Visits;
+
+impl StateSet {
+    /// Returns a bound that is not above another. No state from it on and below the other is in the set. It reads no state.
+    pub fn end_below(&self, limit: usize) -> usize
+        requires { 0 < limit }
+        ensures within { result ≤ limit }
+        ensures none { (t : ℕ) → result ≤ t → t < limit → has_state self.now t ≡ false }
+    {
+        let end = if self.last < limit - 1 {
+            self.last + 1
+        } else {
+            limit
+        };
+        if end <= self.first { 0 } else { end }
+    }
+
+    /// Reads the word of the state below a bound, without the states from the bound on. It is one visit.
+    pub fn read_word_below(&self, limit: usize, visits: &mut Visits) -> u64
+        requires some { 0 < limit }
+        requires within { limit ≤ state_capacity self.now }
+        ensures below { (s : ℕ) → s / 64 ≡ (limit - 1) / 64 → s < limit → (bit_at result (s % 64) == 1) ≡ has_state self.now s }
+        ensures above { (s : ℕ) → s / 64 ≡ (limit - 1) / 64 → limit ≤ s → (bit_at result (s % 64) == 1) ≡ false }
+        ensures visits { visits.new ≡ visits.old + 1 }
+    {
+        visits.tick();
+        let last = limit - 1;
+        self.words[last / 64] & (u64::MAX >> (63 - last % 64))
+    }
+
+    /// Puts in the state below each state of a word that stands at a place. Returns whether there are any.
+    pub fn put_lowered(&mut self, at: usize, word: u64) -> bool
+        requires within { at * 64 < state_capacity self.old }
+        requires fits { at * 64 < 2 ^ 64 }
+        requires before { bit_at word 0 ≡ 1 → 0 < at }
+        ensures room { state_capacity self.new ≡ state_capacity self.old }
+        ensures has { (t : ℕ) → has_state self.new t ≡ (is_in_word at word (t + 1) || has_state self.old t) }
+        ensures some { IsTrue result → (t : ℕ) × IsTrue (is_in_word at word (t + 1)) }
+        ensures none { IsFalse result → (s : ℕ) → is_in_word at word s ≡ false }
+    {
+        if word == 0 {
+            return false;
+        }
+        set_lowered(&mut self.words, at, word);
+        self.first = self.first.min((at * 64).saturating_sub(1));
+        self.last = self.last.max(at * 64 + 62);
+        true
+    }
+}

@@ -1,7 +1,0 @@
-use Rattle.std.proofs.Common.{ℕ, ◌<◌}
-use Rattle.std.specs.Prelude.{IsTrue}
-use Rattle.bit_sets.specs.Indexes.{has_index}
-use Rattle.set_matcher.proofs.marks.are_all_marked.Given as goal
-
-abbrev pub invariant-loop-index : goal.invariant-loop-index
-invariant-loop-index l = (k : ℕ) → k < l.index → IsTrue (has_index l.marks k)
