@@ -41,12 +41,14 @@ struct Found {
 }
 
 /// A row that is written with the help of another.
-#[derive(Clone, Copy)]
+#[derive(Drop)]
 struct Row {
     number: usize,
     /// The row of a set that has none but states of this row's set. It is written already, or it is that of the dead state.
     base: usize,
-    /// Whether every byte leads to some state from those that this row's set has beside.
+    /// The steps from the states that this row's set has beside those of its base.
+    steps: ByteSteps,
+    /// Whether every byte leads to some state by these steps.
     every: bool,
 }
 
@@ -92,11 +94,11 @@ impl Determinizer {
     {
         let mut built = Determinizer::new(alloc, automaton, room)?;
         let mut states = StateSet::new(alloc, automaton.state_count())?;
-        let start = built.begin(alloc, automaton, classes, &mut states)?;
+        let start = built.begin(automaton, classes, &mut states)?;
         let Some(start) = start else {
             return Ok(None);
         };
-        let fits = built.write_rows(alloc, automaton, classes, &mut states)?;
+        let fits = built.write_rows(automaton, classes, &mut states)?;
         if !fits {
             return Ok(None);
         }
@@ -123,7 +125,6 @@ impl Determinizer {
     /// for them. `states` has no state before.
     fn begin(
         &mut self,
-        alloc: Global,
         automaton: &Draft,
         classes: &ByteClasses,
         states: &mut StateSet,
@@ -137,19 +138,18 @@ impl Determinizer {
         ensures grows { IfOk result (λ made. IfSome made (λ start. Grows automaton.now classes.now self.old self.new)) }
         ensures begins { IfOk result (λ made. IfSome made (λ start. BeginsAt automaton.now self.new.found.items start)) }
     {
-        let dead = self.state_id(alloc, automaton, classes, states, 0)?;
+        let dead = self.state_id(automaton, classes, states, 0)?;
         let Some(_) = dead else {
             return Ok(None);
         };
         automaton.start(states);
-        self.state_id(alloc, automaton, classes, states, 0)
+        self.state_id(automaton, classes, states, 0)
     }
 
     /// Writes all rows. Returns whether there is room for them, and not too many states were found whose rows were not written
     /// yet.
     fn write_rows(
         &mut self,
-        alloc: Global,
         automaton: &Draft,
         classes: &ByteClasses,
         states: &mut StateSet,
@@ -164,15 +164,21 @@ impl Determinizer {
         ensures keeps { IfOk result (λ fits. IsTrue fits → KeepsFound self.old.found.items self.new.found.items) }
         ensures rows { IfOk result (λ fits. IsTrue fits → length self.new.rows.items ≡ length self.new.found.items * (classes.now.count + 2)) }
     {
-        let mut steps = ByteSteps::new(alloc, automaton.state_count())?;
+        let steps = ByteSteps::new(*self.lists.allocator(), automaton.state_count())?;
+        let mut current = Row {
+            number: 0,
+            base: 0,
+            steps,
+            every: false,
+        };
         let maximum = max_waiting(automaton);
         let mut row = 0;
         while row < self.found.len() {
             if self.found.len() - row > maximum {
                 return Ok(false);
             }
-            let written = self.row_steps(automaton, row, &mut steps)?;
-            let fits = self.write_row(alloc, automaton, classes, written, &steps, states)?;
+            self.read_row(automaton, row, &mut current)?;
+            let fits = self.write_row(automaton, classes, &current, states)?;
             if !fits {
                 return Ok(false);
             }
@@ -221,7 +227,6 @@ impl Determinizer {
     /// Returns the number of the state that a set stands for. A new one is added; `None` if there is no room for it.
     fn state_id(
         &mut self,
-        alloc: Global,
         automaton: &Draft,
         classes: &ByteClasses,
         states: &StateSet,
@@ -239,7 +244,7 @@ impl Determinizer {
             return Ok(Some(number));
         }
         let number = self.found.len();
-        let fits = self.add(alloc, automaton, classes, states, below)?;
+        let fits = self.add(automaton, classes, states, below)?;
         if !fits {
             return Ok(None);
         }
@@ -260,17 +265,12 @@ impl Determinizer {
     }
 
     /// Returns the indexes of the ends that a set leads to without a byte.
-    fn ends_of(
-        &self,
-        alloc: Global,
-        automaton: &Draft,
-        states: &StateSet,
-    ) -> Result<IndexSet, AllocError>
+    fn ends_of(&self, automaton: &Draft, states: &StateSet) -> Result<IndexSet, AllocError>
         requires room { HasCapacityFor automaton.now states.now }
         requires accepting { AreAllAccepting automaton.now self.now.accepting }
         ensures { IfOk result (λ set. (k : ℕ) → IsTrue (has_index set k) ↔ AcceptsFrom automaton.now states.now [] k) }
     {
-        let mut set = IndexSet::new(alloc, automaton.index_count())?;
+        let mut set = IndexSet::new(*self.lists.allocator(), automaton.index_count())?;
         if states.is_disjoint(&self.accepting) {
             return Ok(set);
         }
@@ -284,7 +284,6 @@ impl Determinizer {
     /// Adds a state of the table, with its lists. Returns whether there is room for it.
     fn add(
         &mut self,
-        alloc: Global,
         automaton: &Draft,
         classes: &ByteClasses,
         states: &StateSet,
@@ -297,8 +296,9 @@ impl Determinizer {
         ensures grows { IfOk result (λ fits. IsTrue fits → Grows automaton.now classes.now self.old self.new) }
         ensures number { IfOk result (λ fits. IsTrue fits → IsNumbered self.new.found.items (length self.old.found.items) states.now) }
     {
+        let alloc = *self.lists.allocator();
         let half = automaton.index_count() / 2;
-        let set = self.ends_of(alloc, automaton, states)?;
+        let set = self.ends_of(automaton, states)?;
         let before = self.lists.len();
         let on_entry = push_list(alloc, &set, half, half, &mut self.lists)?;
         let at_end = push_list(alloc, &set, 0, half, &mut self.lists)?;
@@ -321,41 +321,38 @@ impl Determinizer {
         Ok(true)
     }
 
-    /// Writes a row, from the steps from the states that its set has beside those of its base. Returns whether there is room for
-    /// the states that it leads to.
+    /// Writes a row. Returns whether there is room for the states that it leads to.
     fn write_row(
         &mut self,
-        alloc: Global,
         automaton: &Draft,
         classes: &ByteClasses,
-        row: Row,
-        steps: &ByteSteps,
+        row: &Row,
         to: &mut StateSet,
     ) -> Result<bool, AllocError>
         requires room { HasCapacityFor automaton.now to.old }
-        requires step_capacity { step_capacity steps.now ≡ state_capacity to.old }
+        requires step_capacity { step_capacity row.now.steps ≡ state_capacity to.old }
         requires sound { IsSound automaton.now classes.now self.old }
         requires few { total classes.now self.old ≤ special }
         requires classes { classes.now.count ≤ 256 }
-        requires row { IsRowOf automaton.now self.old.found.items row steps.now }
-        requires place { length self.old.rows.items ≡ row.number * (classes.now.count + 2) }
+        requires row { IsRowOf automaton.now self.old.found.items row.now }
+        requires place { length self.old.rows.items ≡ row.now.number * (classes.now.count + 2) }
         ensures room { state_capacity to.new ≡ state_capacity to.old }
         ensures sound { IfOk result (λ fits. IsTrue fits → IsSound automaton.now classes.now self.new) }
         ensures few { IfOk result (λ fits. IsTrue fits → total classes.now self.new ≤ total classes.now self.old) }
         ensures keeps { IfOk result (λ fits. IsTrue fits → KeepsFound self.old.found.items self.new.found.items) }
-        ensures place { IfOk result (λ fits. IsTrue fits → length self.new.rows.items ≡ (row.number + 1) * (classes.now.count + 2)) }
+        ensures place { IfOk result (λ fits. IsTrue fits → length self.new.rows.items ≡ (row.now.number + 1) * (classes.now.count + 2)) }
     {
-        let some = steps.some_bytes();
+        let some = row.steps.some_bytes();
         // A class that leads only where every byte does, once its entry is written: most classes of a row lead there.
         let mut common = None;
         for class in 0..classes.count {
             let is_common = !some.has(classes.representatives[class]);
-            match self.shared_entry(automaton, classes, row, steps, is_common, common, class) {
+            match self.shared_entry(automaton, classes, row, is_common, common, class) {
                 Some(transition) => {
                     self.rows.push(transition)?;
                 }
                 None => {
-                    let made = self.new_entry(alloc, automaton, classes, row, steps, to, class)?;
+                    let made = self.new_entry(automaton, classes, row, to, class)?;
                     let Some(transition) = made else {
                         return Ok(false);
                     };
@@ -377,8 +374,7 @@ impl Determinizer {
         &self,
         automaton: &Draft,
         classes: &ByteClasses,
-        row: Row,
-        steps: &ByteSteps,
+        row: &Row,
         is_common: bool,
         common: Option<usize>,
         class: usize,
@@ -386,26 +382,26 @@ impl Determinizer {
         requires sound { IsSound automaton.now classes.now self.now }
         requires few { total classes.now self.now ≤ special }
         requires classes { classes.now.count ≤ 256 }
-        requires row { IsRowOf automaton.now self.now.found.items row steps.now }
-        requires place { length self.now.rows.items ≡ row.number * (classes.now.count + 2) + class }
+        requires row { IsRowOf automaton.now self.now.found.items row.now }
+        requires place { length self.now.rows.items ≡ row.now.number * (classes.now.count + 2) + class }
         requires class { class < classes.now.count }
         requires byte { slice_index classes.now.representatives class < 256 }
-        requires this { IsTrue is_common → LeadsAsEvery steps.now (slice_index classes.now.representatives class) }
-        requires common { (written : ℕ) → common ≡ Some written → (written < class) × (slice_index classes.now.representatives written < 256) × LeadsAsEvery steps.now (slice_index classes.now.representatives written) }
-        ensures { IfSome result (λ transition. IsCellOf automaton.now classes.now self.now row.number class transition) }
+        requires this { IsTrue is_common → LeadsAsEvery row.now.steps (slice_index classes.now.representatives class) }
+        requires common { (written : ℕ) → common ≡ Some written → (written < class) × (slice_index classes.now.representatives written < 256) × LeadsAsEvery row.now.steps (slice_index classes.now.representatives written) }
+        ensures { IfSome result (λ transition. IsCellOf automaton.now classes.now self.now row.now.number class transition) }
     {
         if !is_common {
             return None;
         }
         let stride = classes.count + 2;
-        let under = self.entry_under(row, stride, class);
+        let under = self.entry_under(row.base, stride, class);
         if !row.every {
             return Some(under);
         }
         let Some(written) = common else {
             return None;
         };
-        if self.entry_under(row, stride, written) != under {
+        if self.entry_under(row.base, stride, written) != under {
             return None;
         }
         Some(self.rows[row.number * stride + written])
@@ -414,74 +410,66 @@ impl Determinizer {
     /// Returns the entry of a class, and adds the state that it leads to if that is a new one. `None` if there is no room for it.
     fn new_entry(
         &mut self,
-        alloc: Global,
         automaton: &Draft,
         classes: &ByteClasses,
-        row: Row,
-        steps: &ByteSteps,
+        row: &Row,
         to: &mut StateSet,
         class: usize,
     ) -> Result<Option<u32>, AllocError>
         requires room { HasCapacityFor automaton.now to.old }
-        requires step_capacity { step_capacity steps.now ≡ state_capacity to.old }
+        requires step_capacity { step_capacity row.now.steps ≡ state_capacity to.old }
         requires sound { IsSound automaton.now classes.now self.old }
         requires few { total classes.now self.old ≤ special }
         requires classes { classes.now.count ≤ 256 }
-        requires row { IsRowOf automaton.now self.old.found.items row steps.now }
-        requires place { length self.old.rows.items ≡ row.number * (classes.now.count + 2) + class }
+        requires row { IsRowOf automaton.now self.old.found.items row.now }
+        requires place { length self.old.rows.items ≡ row.now.number * (classes.now.count + 2) + class }
         requires class { class < classes.now.count }
         ensures room { state_capacity to.new ≡ state_capacity to.old }
         ensures grows { IfOk result (λ made. IfSome made (λ transition. Grows automaton.now classes.now self.old self.new)) }
-        ensures cell { IfOk result (λ made. IfSome made (λ transition. IsCellOf automaton.now classes.now self.new row.number class transition)) }
+        ensures cell { IfOk result (λ made. IfSome made (λ transition. IsCellOf automaton.now classes.now self.new row.now.number class transition)) }
     {
         let stride = classes.count + 2;
-        let below = target(self.entry_under(row, stride, class), stride);
+        let below = target(self.entry_under(row.base, stride, class), stride);
         to.copy_from(&self.found[below].states);
-        steps.add_to(classes.representatives[class], to);
-        let made = self.state_id(alloc, automaton, classes, to, below)?;
+        row.steps.add_to(classes.representatives[class], to);
+        let made = self.state_id(automaton, classes, to, below)?;
         let Some(number) = made else {
             return Ok(None);
         };
         Ok(Some(self.transition(number, stride)))
     }
 
-    /// Returns the entry of a class in the row of a row's base.
-    fn entry_under(&self, row: Row, stride: usize, class: usize) -> u32
-        requires { 0 < row.base → row.base * stride + class < length self.now.rows.items }
-        ensures dead { row.base ≡ 0 → result ≡ special }
-        ensures written { 0 < row.base → result ≡ slice_index self.now.rows.items (row.base * stride + class) }
+    /// Returns the entry of a class in the row of a base.
+    fn entry_under(&self, base: usize, stride: usize, class: usize) -> u32
+        requires { 0 < base → base * stride + class < length self.now.rows.items }
+        ensures dead { base ≡ 0 → result ≡ special }
+        ensures written { 0 < base → result ≡ slice_index self.now.rows.items (base * stride + class) }
     {
-        if row.base == 0 {
+        if base == 0 {
             // The row of the dead state may not be written yet.
             SPECIAL as u32
         } else {
-            self.rows[row.base * stride + class]
+            self.rows[base * stride + class]
         }
     }
 
-    /// Puts the steps by a byte from the states that the set of a row has beside those of its base into `into`. Returns the row.
-    fn row_steps(
-        &self,
-        automaton: &Draft,
-        number: usize,
-        into: &mut ByteSteps,
-    ) -> Result<Row, AllocError>
-        requires room { size automaton.now ≤ step_capacity into.old }
+    /// Makes `row` the one with this number, with its base and the steps from the states that its set has beside those of the base.
+    fn read_row(&self, automaton: &Draft, number: usize, row: &mut Row) -> Result<(), AllocError>
+        requires room { size automaton.now ≤ step_capacity row.old.steps }
         requires sound { AreFoundSets automaton.now self.now.found.items self.now.lists.items }
         requires row { number < length self.now.found.items }
-        ensures step_capacity { step_capacity into.new ≡ step_capacity into.old }
-        ensures number { IfOk result (λ row. row.number ≡ number) }
-        ensures row { IfOk result (λ row. IsRowOf automaton.now self.now.found.items row into.new) }
+        ensures step_capacity { step_capacity row.new.steps ≡ step_capacity row.old.steps }
+        ensures number { OnOk result (row.new.number ≡ number) }
+        ensures row { OnOk result (IsRowOf automaton.now self.now.found.items row.new) }
     {
         let base = self.base_of(automaton, number);
         let mut rest = self.found[number].states.clone()?;
         rest.remove(&self.found[base].states);
-        automaton.byte_steps(&mut rest, into)?;
-        Ok(Row {
-            number,
-            base,
-            every: into.lead_by_every(),
-        })
+        automaton.byte_steps(&mut rest, &mut row.steps)?;
+        row.number = number;
+        row.base = base;
+        row.every = row.steps.lead_by_every();
+        Ok(())
     }
 
     /// Returns the base of a row.

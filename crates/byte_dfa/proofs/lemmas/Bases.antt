@@ -34,8 +34,8 @@ abbrev pub IsUnder : Machine → List Found → List ℕ → ℕ → StateSet �
 IsUnder m found lists stride base b e = (j : ℕ) × (h : Found) × (slice_get found j ≡ Some h) × GoesTo m base b h.states × IsEntryTo lists stride j h e
 
 -- the row's base is one of the sets
-pub base_within : (m : Machine) (found : List Found) (row : Row) (steps : ByteSteps) → IsRowOf m found row steps → row.base < length found
-base_within m found row steps is = elim (cases_lt 0 row.base) [
+pub base_within : (m : Machine) (found : List Found) (row : Row) → IsRowOf m found row → row.base < length found
+base_within m found row is = elim (cases_lt 0 row.base) [
   | inl some ↦ (let lt = is.this in let le = is.written some in omega arith)
   | inr none ↦ (let lt = is.this in omega arith)
 ]
@@ -80,18 +80,18 @@ module _ (m : Machine) where
       λ (t, lt, at, h). (t, lt, every t ∙ sym (every' t) ∙ at, h),
     )) (iff_sym (beside b lb y k)))
 
-  pub row_kept : (old new : List Found) (row : Row) (steps : ByteSteps) → KeepsFound old new → IsRowOf m old row steps → IsRowOf m new row steps
-  row_kept old new row steps keeps is =
+  pub row_kept : (old new : List Found) (row : Row) → KeepsFound old new → IsRowOf m old row → IsRowOf m new row
+  row_kept old new row keeps is =
       let longer = keeps.0 in
       let (f, here) = get_at old row.number is.this in
-      let (g, there) = get_at old row.base (base_within m old row steps is) in
+      let (g, there) = get_at old row.base (base_within m old row is) in
       record {
         this = (let lt = is.this in omega arith);
         written = is.written;
         beside = λ f' g' h h'.
             let same : f ≡ f' = cc (keeps.1 row.number f here, h) in
             let same' : g ≡ g' = cc (keeps.1 row.base g there, h') in
-            subst (λ (x : Found). AreStepsBeside m x.states g'.states steps) same (subst (λ (x : Found). AreStepsBeside m f.states x.states steps) same' (is.beside f g here there));
+            subst (λ (x : Found). AreStepsBeside m x.states g'.states row.steps) same (subst (λ (x : Found). AreStepsBeside m f.states x.states row.steps) same' (is.beside f g here there));
         every = is.every;
       }
 
@@ -139,7 +139,7 @@ entry_cases lists stride j e h (inl (is, none)) = inl is
 entry_cases lists stride j e h (inr is) = inr is
 
 module _ (m : Machine) (representatives : List ℕ) (w : ℕ) (found : List Found) (lists rows : List ℕ) (sets : AreFoundSets m found lists) (cells : AreCells m representatives w found lists rows)
-    (row : Row) (steps : ByteSteps) (is : IsRowOf m found row steps) where
+    (row : Row) (is : IsRowOf m found row) where
   pub under_row : (col e : ℕ) (g : Found) → slice_get found row.base ≡ Some g → row.number * (w + 2) ≤ length rows → col < w
       → (row.base ≡ 0 → e ≡ special) → (0 < row.base → e ≡ slice_index rows (row.base * (w + 2) + col)) → IsUnder m found lists (w + 2) g.states (slice_index representatives col) e
   under_row col e g at place short dead written =

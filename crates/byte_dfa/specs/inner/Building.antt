@@ -125,12 +125,12 @@ LeadsBy m steps b y k = (t : ℕ) × (t < size m) × IsTrue (leads_to steps b t)
 abbrev pub AreStepsBeside : Machine → StateSet → StateSet → ByteSteps → Type 0
 AreStepsBeside m from base steps = (b : ℕ) → b < 256 → (y : List ℕ) (k : ℕ) → AcceptsFrom m from (b ∷ y) k ↔ (AcceptsFrom m base (b ∷ y) k ⊎ LeadsBy m steps b y k)
 
--- the steps are those from the states that the row's set has beside those of its base
-pub record IsRowOf (m : Machine) (found : List Found) (row : Row) (steps : ByteSteps) : Type 0 where
+-- the row's steps are those from the states that its set has beside those of its base
+pub record IsRowOf (m : Machine) (found : List Found) (row : Row) : Type 0 where
   pub this : row.number < length found
   pub written : 0 < row.base → row.base < row.number
-  pub beside : (f g : Found) → slice_get found row.number ≡ Some f → slice_get found row.base ≡ Some g → AreStepsBeside m f.states g.states steps
-  pub every : row.every ≡ false → (t : ℕ) → has_state steps.by_every t ≡ false
+  pub beside : (f g : Found) → slice_get found row.number ≡ Some f → slice_get found row.base ≡ Some g → AreStepsBeside m f.states g.states row.steps
+  pub every : row.every ≡ false → (t : ℕ) → has_state row.steps.by_every t ≡ false
 
 -- the number is right in a column of a row
 abbrev pub IsCellOf : Machine → ByteClasses → Determinizer → ℕ → ℕ → ℕ → Type 0

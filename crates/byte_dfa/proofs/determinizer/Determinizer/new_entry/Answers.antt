@@ -18,13 +18,13 @@ index-requires c =
     let w = c.args.classes.now.count in
     let found = c.args.self.now.found.items in
     let rows = c.args.self.now.rows.items in
-    let row = c.args.row in
+    let row = c.args.row.now in
     let sound = c.requires.sound in
     let u = c.entry_under in
-    let (g, there) = get_at found row.base (base_within m found row c.args.steps.now c.requires.row) in
+    let (g, there) = get_at found row.base (base_within m found row c.requires.row) in
     let place : row.number * (w + 2) ≤ length rows = omega (arith, c.requires.place) in
     let few : length found * (w + 2) ≤ special = omega (arith, c.requires.few) in
-    let (h, at, goes) = target_under m c.args.classes.now.representatives w found c.args.self.now.lists.items rows sound.sets sound.cells row c.args.steps.now c.requires.row c.args.class u.result c.target-below.result g there place c.requires.class few u.ensures.dead u.ensures.written c.target-below.ensures in
+    let (h, at, goes) = target_under m c.args.classes.now.representatives w found c.args.self.now.lists.items rows sound.sets sound.cells row c.requires.row c.args.class u.result c.target-below.result g there place c.requires.class few u.ensures.dead u.ensures.written c.target-below.ensures in
     let lt = slice_get_within found c.target-below.result h at in
     omega (arith, lt, c.args.self.now.found.ok.0)
 
@@ -34,14 +34,14 @@ copy_from-requires c =
     let w = c.args.classes.now.count in
     let found = c.args.self.now.found.items in
     let rows = c.args.self.now.rows.items in
-    let row = c.args.row in
+    let row = c.args.row.now in
     let sound = c.requires.sound in
     let u = c.entry_under in
     let this = c.index.result.now in
-    let (g, there) = get_at found row.base (base_within m found row c.args.steps.now c.requires.row) in
+    let (g, there) = get_at found row.base (base_within m found row c.requires.row) in
     let place : row.number * (w + 2) ≤ length rows = omega (arith, c.requires.place) in
     let few : length found * (w + 2) ≤ special = omega (arith, c.requires.few) in
-    let (h, at, goes) = target_under m c.args.classes.now.representatives w found c.args.self.now.lists.items rows sound.sets sound.cells row c.args.steps.now c.requires.row c.args.class u.result c.target-below.result g there place c.requires.class few u.ensures.dead u.ensures.written c.target-below.ensures in
+    let (h, at, goes) = target_under m c.args.classes.now.representatives w found c.args.self.now.lists.items rows sound.sets sound.cells row c.requires.row c.args.class u.result c.target-below.result g there place c.requires.class few u.ensures.dead u.ensures.written c.target-below.ensures in
     let lt = slice_get_within found c.target-below.result h at in
     let here : slice_get found c.target-below.result ≡ Some this = slice_get_read found (length found) c.target-below.result this refl lt c.index.ensures in
     let a = (sound.sets.each c.target-below.result this here).room in
@@ -77,8 +77,8 @@ returns-clause-cell c =
     let found = c.args.self.now.found.items in
     let lists = c.args.self.now.lists.items in
     let rows = c.args.self.now.rows.items in
-    let row = c.args.row in
-    let steps = c.args.steps.now in
+    let row = c.args.row.now in
+    let steps = c.args.row.now.steps in
     let sound = c.requires.sound in
     let u = c.entry_under in
     let this = c.index.result.now in
@@ -86,10 +86,10 @@ returns-clause-cell c =
     let b : ℕ = slice_index representatives c.args.class in
     let byte : b < 256 = omega arith in
     let (f, here) = get_at found row.number c.requires.row.this in
-    let (g, there) = get_at found row.base (base_within m found row steps c.requires.row) in
+    let (g, there) = get_at found row.base (base_within m found row c.requires.row) in
     let place : row.number * (w + 2) ≤ length rows = omega (arith, c.requires.place) in
     let few : length found * (w + 2) ≤ special = omega (arith, c.requires.few) in
-    let (h, at, goes) = target_under m representatives w found lists rows sound.sets sound.cells row steps c.requires.row c.args.class u.result c.target-below.result g there place c.requires.class few u.ensures.dead u.ensures.written c.target-below.ensures in
+    let (h, at, goes) = target_under m representatives w found lists rows sound.sets sound.cells row c.requires.row c.args.class u.result c.target-below.result g there place c.requires.class few u.ensures.dead u.ensures.written c.target-below.ensures in
     let lt = slice_get_within found c.target-below.result h at in
     let read : slice_get found c.target-below.result ≡ Some this = slice_get_read found (length found) c.target-below.result this refl lt c.index.ensures in
     let one : h ≡ this = cc (at, read) in
@@ -102,7 +102,7 @@ returns-clause-cell c =
     cell_goes m representatives w c.state_id.new.self.found.items c.state_id.new.self.lists.items row.number c.args.class c.transition.result c.in-Some.number f new (grows.keeps.1 row.number f here) new_at c.requires.class all (c.transition.ensures new new_at)
 
 pub entry_under-requires : goal.entry_under-requires
-entry_under-requires c = base_place c.args.row c.args.classes.now.count c.args.class (length c.args.self.now.rows.items) c.requires.row.written (omega (arith, c.requires.place)) c.requires.class
+entry_under-requires c = base_place c.args.row.now c.args.classes.now.count c.args.class (length c.args.self.now.rows.items) c.requires.row.written (omega (arith, c.requires.place)) c.requires.class
 
 pub add_to-requires : goal.add_to-requires
 add_to-requires c = c.copy_from.ensures.room ∙ sym c.requires.step_capacity

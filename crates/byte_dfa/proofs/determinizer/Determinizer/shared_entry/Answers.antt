@@ -1,4 +1,4 @@
-use Rattle.std.proofs.Common.{◌≡◌, ◌+◌, ◌*◌, ◌<◌, ◌≤◌, Bool, true, false, true≢false, not, length, slice_index, refl, sym, subst, arith}
+use Rattle.std.proofs.Common.{◌≡◌, ◌+◌, ◌*◌, ◌<◌, ◌≤◌, length, slice_index, refl, subst, arith}
 use Rattle.std.proofs.lemmas.Option.{get_or_from_slice_get, slice_get_read}
 use Rattle.byte_dfa.specs.declared.determinizer.Found.{Found}
 use Rattle.byte_dfa.specs.inner.Building.{GoesTo, IsCell, IsEntryTo}
@@ -8,15 +8,11 @@ use Rattle.byte_dfa.proofs.lemmas.Cells.{cell_goes, cell_same}
 use Rattle.byte_dfa.proofs.lemmas.Found.{get_at}
 use Rattle.byte_dfa.proofs.determinizer.Determinizer.shared_entry.Goals as goal
 
-is_false : (b : Bool) → not b ≡ true → b ≡ false
-is_false true h = absurd (true≢false (sym h))
-is_false false h = refl
-
 pub entry_under-requires : goal.entry_under-requires
 entry_under-requires c = λ some.
     let w = c.args.classes.now.count in
     let rows = c.args.self.now.rows.items in
-    let row = c.args.row in
+    let row = c.args.row.now in
     let (before, byte, every) = c.requires.common c.in-Some.written c.in-Some.is in
     base_place row w c.in-Some.written (length rows) c.requires.row.written (omega (arith, c.requires.place)) (omega (arith, before, c.requires.class)) some
 
@@ -38,17 +34,17 @@ returns-then-not-row c =
     let found = c.args.self.now.found.items in
     let lists = c.args.self.now.lists.items in
     let rows = c.args.self.now.rows.items in
-    let row = c.args.row in
-    let steps = c.args.steps.now in
+    let row = c.args.row.now in
+    let steps = c.args.row.now.steps in
     let col = c.args.class in
     let sound = c.requires.sound in
     let u = c.entry_under-under in
     let (f, here) = get_at found row.number c.requires.row.this in
-    let (g, there) = get_at found row.base (base_within m found row steps c.requires.row) in
+    let (g, there) = get_at found row.base (base_within m found row c.requires.row) in
     let place : row.number * (w + 2) ≤ length rows = omega (arith, c.requires.place) in
-    let (j, h, at, goes, leads) = under_row m representatives w found lists rows sound.sets sound.cells row steps c.requires.row col u.result g there place c.requires.class u.ensures.dead u.ensures.written in
+    let (j, h, at, goes, leads) = under_row m representatives w found lists rows sound.sets sound.cells row c.requires.row col u.result g there place c.requires.class u.ensures.dead u.ensures.written in
     cell_goes m representatives w found lists row.number col u.result j f h here at c.requires.class
-    (goes_same m f.states g.states steps (c.requires.row.beside f g here there) h.states (slice_index representatives col) c.requires.byte goes (c.requires.this c.if-not-is_common.false) (c.requires.row.every (is_false row.every c.if-not-row.true)))
+    (goes_same m f.states g.states steps (c.requires.row.beside f g here there) h.states (slice_index representatives col) c.requires.byte goes (c.requires.this c.if-not-is_common.false) (c.requires.row.every c.if-not-row.true))
     leads
 
 pub returns : goal.returns
@@ -59,8 +55,8 @@ returns c =
     let found = c.args.self.now.found.items in
     let lists = c.args.self.now.lists.items in
     let rows = c.args.self.now.rows.items in
-    let row = c.args.row in
-    let steps = c.args.steps.now in
+    let row = c.args.row.now in
+    let steps = c.args.row.now.steps in
     let col = c.args.class in
     let sound = c.requires.sound in
     let written = c.in-Some.written in
@@ -69,11 +65,11 @@ returns c =
     let u = c.entry_under-under in
     let v = c.entry_under in
     let (f, here) = get_at found row.number c.requires.row.this in
-    let (g, there) = get_at found row.base (base_within m found row steps c.requires.row) in
+    let (g, there) = get_at found row.base (base_within m found row c.requires.row) in
     let place : row.number * (w + 2) ≤ length rows = omega (arith, c.requires.place) in
     let few : length found * (w + 2) ≤ special = omega (arith, c.requires.few) in
-    let (j, h, at, goes, leads) = under_row m representatives w found lists rows sound.sets sound.cells row steps c.requires.row col u.result g there place c.requires.class u.ensures.dead u.ensures.written in
-    let (j', h', at', goes', leads') = under_row m representatives w found lists rows sound.sets sound.cells row steps c.requires.row written v.result g there place short v.ensures.dead v.ensures.written in
+    let (j, h, at, goes, leads) = under_row m representatives w found lists rows sound.sets sound.cells row c.requires.row col u.result g there place c.requires.class u.ensures.dead u.ensures.written in
+    let (j', h', at', goes', leads') = under_row m representatives w found lists rows sound.sets sound.cells row c.requires.row written v.result g there place short v.ensures.dead v.ensures.written in
     let same : v.result ≡ u.result = omega arith in
     let leads'' : IsEntryTo lists (w + 2) j' h' u.result = subst (IsEntryTo lists (w + 2) j' h') same leads' in
     let one : j ≡ j' = one_target lists w j j' h h' u.result (low_place found w j h at few) (low_place found w j' h' at' few) leads leads'' in

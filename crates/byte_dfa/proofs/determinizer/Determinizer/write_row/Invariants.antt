@@ -11,5 +11,5 @@ invariant-loop-class l = record {
   few : total l.classes l.self ≤ total l.classes l.fn.self;
   keeps : KeepsFound l.fn.self.found.items l.self.found.items;
   place : length l.self.rows.items ≡ l.row.number * (l.classes.count + 2) + l.class;
-  common : (written : ℕ) → l.common ≡ Some written → (written < l.class) × (slice_index l.classes.representatives written < 256) × LeadsAsEvery l.steps (slice_index l.classes.representatives written);
+  common : (written : ℕ) → l.common ≡ Some written → (written < l.class) × (slice_index l.classes.representatives written < 256) × LeadsAsEvery l.row.steps (slice_index l.classes.representatives written);
 }

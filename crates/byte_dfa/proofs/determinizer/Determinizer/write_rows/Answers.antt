@@ -29,12 +29,12 @@ loop-row-preserved c =
         room = omega (arith, inv.room.room, c.write_row.ensures.room);
         least = omega (arith, inv.room.least, c.write_row.ensures.room);
       };
-      step_capacity = c.row_steps.ensures.step_capacity ∙ inv.step_capacity ∙ sym c.write_row.ensures.room;
+      step_capacity = c.read_row.ensures.step_capacity ∙ inv.step_capacity ∙ sym c.write_row.ensures.room;
       sound = made.sound going;
       few = le_trans few inv.few;
       keeps = (le_trans inv.keeps.0 keeps.0, λ i f at. keeps.1 i f (inv.keeps.1 i f at));
       high = omega arith;
-      place = made.place going ∙ ap (λ r. (r + 1) * (c.args.classes.now.count + 2)) c.in_ok-written.ensures.number;
+      place = made.place going ∙ ap (λ r. (r + 1) * (c.args.classes.now.count + 2)) c.in_ok-read_row.ensures.number;
     }
 
 pub returns-clause-rows : goal.returns-clause-rows
@@ -43,8 +43,8 @@ returns-clause-rows c = λ _.
     let row : c.loop-row.row ≡ length c.loop-row.self.found.items = omega arith in
     inv.place ∙ ap (λ r. r * (c.args.classes.now.count + 2)) row
 
-pub row_steps-requires : goal.row_steps-requires
-row_steps-requires c =
+pub read_row-requires : goal.read_row-requires
+read_row-requires c =
     let inv = c.loop-row.invariant in
     record {
       room = omega (arith, inv.step_capacity, inv.room.room);
@@ -57,12 +57,12 @@ write_row-requires c =
     let inv = c.loop-row.invariant in
     record {
       room = inv.room;
-      step_capacity = c.row_steps.ensures.step_capacity ∙ inv.step_capacity;
+      step_capacity = c.read_row.ensures.step_capacity ∙ inv.step_capacity;
       sound = inv.sound;
       few = omega (arith, inv.few, c.requires.few);
       classes = c.requires.classes;
-      row = c.in_ok-written.ensures.row;
-      place = inv.place ∙ ap (λ r. r * (c.args.classes.now.count + 2)) (sym c.in_ok-written.ensures.number);
+      row = c.in_ok-read_row.ensures.row;
+      place = inv.place ∙ ap (λ r. r * (c.args.classes.now.count + 2)) (sym c.in_ok-read_row.ensures.number);
     }
 
 pub loop-row-smaller : goal.loop-row-smaller
@@ -96,17 +96,17 @@ returns-then-len-row-clause-keeps c = λ yes. absurd (true≢false (sym yes))
 pub returns-then-len-row-clause-rows : goal.returns-then-len-row-clause-rows
 returns-then-len-row-clause-rows c = λ yes. absurd (true≢false (sym yes))
 
-pub returns-in_err-written-clause-sound : goal.returns-in_err-written-clause-sound
-returns-in_err-written-clause-sound c = IfOk-from_err _ _ c.from_residual-in_err-written.ensures.0
+pub returns-in_err-read_row-clause-sound : goal.returns-in_err-read_row-clause-sound
+returns-in_err-read_row-clause-sound c = IfOk-from_err _ _ c.from_residual-in_err-read_row.ensures.0
 
-pub returns-in_err-written-clause-few : goal.returns-in_err-written-clause-few
-returns-in_err-written-clause-few c = IfOk-from_err _ _ c.from_residual-in_err-written.ensures.0
+pub returns-in_err-read_row-clause-few : goal.returns-in_err-read_row-clause-few
+returns-in_err-read_row-clause-few c = IfOk-from_err _ _ c.from_residual-in_err-read_row.ensures.0
 
-pub returns-in_err-written-clause-keeps : goal.returns-in_err-written-clause-keeps
-returns-in_err-written-clause-keeps c = IfOk-from_err _ _ c.from_residual-in_err-written.ensures.0
+pub returns-in_err-read_row-clause-keeps : goal.returns-in_err-read_row-clause-keeps
+returns-in_err-read_row-clause-keeps c = IfOk-from_err _ _ c.from_residual-in_err-read_row.ensures.0
 
-pub returns-in_err-written-clause-rows : goal.returns-in_err-written-clause-rows
-returns-in_err-written-clause-rows c = IfOk-from_err _ _ c.from_residual-in_err-written.ensures.0
+pub returns-in_err-read_row-clause-rows : goal.returns-in_err-read_row-clause-rows
+returns-in_err-read_row-clause-rows c = IfOk-from_err _ _ c.from_residual-in_err-read_row.ensures.0
 
 pub returns-in_err-fits-clause-sound : goal.returns-in_err-fits-clause-sound
 returns-in_err-fits-clause-sound c = IfOk-from_err _ _ c.from_residual-in_err-fits.ensures.0

@@ -7,7 +7,7 @@ use Rattle.byte_dfa.proofs.determinizer.Determinizer.write_rows.Given as goal
 abbrev pub invariant-loop-row : goal.invariant-loop-row
 invariant-loop-row l = record {
   room : HasCapacityFor l.automaton l.states;
-  step_capacity : step_capacity l.steps ≡ state_capacity l.states;
+  step_capacity : step_capacity l.current.steps ≡ state_capacity l.states;
   sound : IsSound l.automaton l.classes l.self;
   few : total l.classes l.self ≤ total l.classes l.fn.self;
   keeps : KeepsFound l.fn.self.found.items l.self.found.items;

@@ -5,7 +5,7 @@ use Rattle.std.proofs.lemmas.Option.{slice_get_read}
 use Rattle.bit_sets.specs.StateSets.{has_state}
 use Rattle.byte_dfa.specs.declared.determinizer.Found.{Found}
 use Rattle.byte_dfa.proofs.lemmas.Bases.{parted, beside_rest}
-use Rattle.byte_dfa.proofs.determinizer.Determinizer.row_steps.Goals as goal
+use Rattle.byte_dfa.proofs.determinizer.Determinizer.read_row.Goals as goal
 
 pub remove-requires : goal.remove-requires
 remove-requires c =
@@ -58,5 +58,5 @@ returns-clause-row c =
           subst (λ (x : Found). (s : ℕ) → has_state rest s ≡ (not (has_state g.states s) && has_state x.states s)) same
           (subst (λ (x : Found). (s : ℕ) → has_state rest s ≡ (not (has_state x.states s) && has_state this.states s)) same' is) in
           beside_rest m f.states g.states rest c.byte_steps.new.into (parted m f.states g.states rest is' (c.base_of-base.ensures.base f g at at')) c.in_ok-byte_steps.ensures.steps;
-      every = c.lead_by_every.ensures;
+      every = c.lead_by_every-row.ensures;
     }
