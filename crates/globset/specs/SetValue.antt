@@ -2,20 +2,7 @@
 use Rattle.std.specs.Prelude.{ℕ, ◌≤◌, max, List, length}
 use Rattle.globset_glob.specs.Cost.{cost}
 use Rattle.globset_glob.specs.GlobMatches.{GlobValue}
-
--- A set is seen as the list of its globs, each a text and options, and one number: the states of its largest automaton. The
--- first glob has index 0.
-pub record SetValue : Type 0 where
-  pub globs : List GlobValue
-  pub states : ℕ
-
--- the globs of a set, in order
-abbrev pub set_globs : SetValue → List GlobValue
-set_globs s = s.globs
-
--- the states of the largest automaton of a set
-abbrev pub set_states : SetValue → ℕ
-set_states s = s.states
+pub use Rattle.globset_set.specs.SetValue.{SetValue, set_globs, set_states}
 
 -- A builder is seen as the list of the globs that were added, the first first.
 abbrev pub BuilderValue : Type 0

@@ -1,1 +1,1 @@
-pub mod StoredGlobs
+pub mod StoredSet

@@ -10,20 +10,18 @@ ghost use Rattle.globset.specs.SetValue.{set_globs, set_states, builder_globs};
 mod all;
 mod any;
 mod below;
-mod building;
 mod matches;
 mod scratch;
-mod stored;
 mod value;
 mod with;
 
 use crate::builder::GlobSetBuilder;
 use globset_glob::{Error, Glob};
+use globset_set::Stored;
 pub use scratch::Scratch;
 use std::alloc::{AllocError, Global};
 use std::fmt;
 use std::marker::Model;
-use stored::Stored;
 
 /// Globs that are matched against a path together. Each has an index, from 0, in the order in which they were given.
 ///
@@ -66,7 +64,7 @@ impl Drop for GlobSet {
 
 impl Model for GlobSet {
     ghost use Rattle.globset.specs.SetValue.{SetValue};
-    ghost use Rattle.globset.specs.inner.StoredGlobs.{stored_set};
+    ghost use Rattle.globset.specs.inner.StoredSet.{stored_set};
 
     ghost Value = { SetValue };
 

@@ -3,8 +3,8 @@ use denote.Param.Send.{IsSend, IsSync, sendable}
 use Rattle.std.proofs.Crossing.{crosses}
 use Rattle.globset_glob.specs.contracts.glob.Glob as Glob
 use Rattle.globset_glob.specs.contracts.matcher.GlobMatcher as GlobMatcher
-use Rattle.set_matcher.proofs.lemmas.Shared.{compiled-send, compiled-sync, matcher-send, matcher-sync}
-use Rattle.globset.specs.contracts.set.stored.Stored as Stored
+use Rattle.set_matcher.proofs.lemmas.Shared.{compiled-send, compiled-sync}
+use Rattle.globset_set.proofs.lemmas.Shared.{stored-send, stored-sync}
 use Rattle.globset.specs.contracts.set.GlobSet as GlobSet
 
 glob-send : IsSend Glob.the_field.row
@@ -18,12 +18,6 @@ glob_matcher-send = search (sendable, crosses, glob-send, compiled-send, compile
 
 pub glob_matcher-sync : IsSync GlobMatcher.the_row
 glob_matcher-sync = search (sendable, crosses, glob-sync, compiled-send, compiled-sync) depth 40 fits 20000
-
-stored-send : IsSend Stored.the_field.row
-stored-send = search (sendable, crosses, matcher-send, matcher-sync) depth 20
-
-stored-sync : IsSync Stored.the_field.row
-stored-sync = search (sendable, crosses, matcher-send, matcher-sync) depth 20
 
 pub set-send : IsSend GlobSet.the_row
 set-send = search (sendable, stored-send) depth 20

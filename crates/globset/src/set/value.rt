@@ -7,10 +7,9 @@ ghost use Rattle.globset.specs.SetFromValue.{globs_from, globs_of_value};
 ghost use Rattle.globset.specs.SetValue.{set_globs};
 
 use crate::set::GlobSet;
-use crate::set::building::StoredBuilder;
-use crate::set::stored::Stored;
 use glob_text::error_of_element;
 use globset_glob::{DEFAULT_DFA_SIZE_LIMIT, Glob, ValueError, ValueErrorKind};
+use globset_set::{Stored, StoredBuilder};
 use serde_json::Value;
 use std::alloc::Global;
 

@@ -1,8 +1,8 @@
 use Rattle.std.proofs.Common.{◌≡◌, IfOk, IsTrue, ap, sym, subst, ◌∙◌}
 use Rattle.std.specs.Prelude.{◌↔◌}
-use Rattle.globset.specs.Below.{MatchesBelow}
+use Rattle.globset_set.specs.Below.{MatchesBelow}
 use Rattle.globset.specs.SetValue.{SetValue, set_globs}
-use Rattle.globset.specs.inner.StoredGlobs.{stored_set}
+use Rattle.globset.specs.inner.StoredSet.{stored_set}
 use Rattle.globset.proofs.lemmas.Answer.{none_below}
 use Rattle.globset.proofs.lemmas.Scratches.{has_capacity, keeps_capacity}
 use Rattle.globset.proofs.set.GlobSet.can_match_below_with.Goals as goal

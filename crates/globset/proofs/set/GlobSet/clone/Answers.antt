@@ -1,5 +1,5 @@
 use Rattle.std.proofs.Common.{ap, sym, ◌∙◌}
-use Rattle.globset.specs.inner.StoredGlobs.{stored_set}
+use Rattle.globset.specs.inner.StoredSet.{stored_set}
 use Rattle.globset.proofs.set.GlobSet.clone.Goals as goal
 
 pub returns-in_default-clause-ok : goal.returns-in_default-clause-ok

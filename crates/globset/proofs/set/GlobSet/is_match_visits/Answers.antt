@@ -1,8 +1,8 @@
 use Rattle.std.proofs.Common.{◌≡◌, [], IfOk, IsTrue, ap, sym, subst, ◌∙◌}
 use Rattle.std.specs.Prelude.{◌≢◌, ◌↔◌}
-use Rattle.globset.specs.Answer.{matching_indexes}
+use Rattle.globset_set.specs.Answer.{matching_indexes}
 use Rattle.globset.specs.SetValue.{SetValue, set_globs}
-use Rattle.globset.specs.inner.StoredGlobs.{stored_set}
+use Rattle.globset.specs.inner.StoredSet.{stored_set}
 use Rattle.globset.proofs.lemmas.Answer.{none_of_none}
 use Rattle.globset.proofs.set.GlobSet.is_match_visits.Goals as goal
 

@@ -1,9 +1,9 @@
 use Rattle.std.proofs.Common.{◌≡◌, IfOk, IsTrue, length, ap, sym, subst, ◌∙◌}
 use Rattle.std.specs.Prelude.{◌↔◌}
 use Rattle.set_matcher.specs.Indexes.{ContainsAllBelow}
-use Rattle.globset.specs.Answer.{matching_indexes}
+use Rattle.globset_set.specs.Answer.{matching_indexes}
 use Rattle.globset.specs.SetValue.{SetValue, set_globs}
-use Rattle.globset.specs.inner.StoredGlobs.{stored_set}
+use Rattle.globset.specs.inner.StoredSet.{stored_set}
 use Rattle.globset.proofs.set.GlobSet.matches_all_visits.Goals as goal
 
 pub returns-clause-ok : goal.returns-clause-ok

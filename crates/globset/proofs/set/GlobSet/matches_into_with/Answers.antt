@@ -1,6 +1,6 @@
 use Rattle.std.proofs.Common.{◌≡◌, length, ap, sym, arith, ◌∙◌}
 use Rattle.globset.specs.SetValue.{SetValue, set_globs}
-use Rattle.globset.specs.inner.StoredGlobs.{stored_set}
+use Rattle.globset.specs.inner.StoredSet.{stored_set}
 use Rattle.globset.proofs.lemmas.Answer.{answer_of_none}
 use Rattle.globset.proofs.lemmas.Scratches.{has_capacity, keeps_capacity}
 use Rattle.globset.proofs.set.GlobSet.matches_into_with.Goals as goal

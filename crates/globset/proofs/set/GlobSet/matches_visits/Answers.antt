@@ -1,6 +1,6 @@
 use Rattle.std.proofs.Common.{ap, sym, ◌∙◌}
 use Rattle.globset.specs.SetValue.{set_globs}
-use Rattle.globset.specs.inner.StoredGlobs.{stored_set}
+use Rattle.globset.specs.inner.StoredSet.{stored_set}
 use Rattle.globset.proofs.lemmas.Answer.{answer_of_none}
 use Rattle.globset.proofs.set.GlobSet.matches_visits.Goals as goal
 

@@ -1,0 +1,8 @@
+-- The value of a set, by what the set stores. No contract cites this.
+use Rattle.std.specs.Prelude.{[], Option, None, Some}
+use Rattle.globset_set.specs.SetValue.{SetValue}
+
+-- no globs and no states where nothing is stored, as in `GlobSet::empty`, and otherwise what is stored
+abbrev pub stored_set : Option SetValue → SetValue
+stored_set None = record { globs = []; states = 0 }
+stored_set (Some set) = set

@@ -1,0 +1,87 @@
+//! Sets as they are made, glob by glob.
+
+ghost use Rattle.std.specs.Prelude.{◌≡◌, ◌<◌, ◌++◌, ◌∷◌, [], IfOk, OnOk, OnErr, length};
+ghost use Rattle.globset_set.specs.SetValue.{set_globs};
+
+use crate::stored::Stored;
+use globset_glob::{GivenGlobs, Glob, options_of, tokens_of};
+use set_matcher::SetMatcherBuilder;
+use std::alloc::{AllocError, Global};
+use std::marker::Model;
+
+/// Makes what a set stores, glob by glob. A glob is not needed any more once it is added.
+pub struct StoredBuilder {
+    alloc: Global,
+    globs: GivenGlobs,
+    matcher: SetMatcherBuilder,
+}
+
+impl Drop for StoredBuilder {
+    // One call wherever a value is dropped, which keeps proofs short.
+    fn drop(self) {
+        let StoredBuilder {
+            alloc: _,
+            globs: _,
+            matcher: _,
+        } = self;
+    }
+}
+
+impl Model for StoredBuilder {
+    ghost use Rattle.globset_set.specs.inner.StoredGlobs.{AddedGlobs, AreAdded};
+
+    ghost Value = { AddedGlobs };
+
+    ghost view = { λ b. record {
+      given = b.globs;
+      count = b.matcher.index_count;
+    } };
+
+    ghost invariant = { λ b. AreAdded b.globs b.matcher };
+}
+
+impl StoredBuilder {
+    /// Returns a builder that no globs were added to. So many of them have to be. It allocates nothing.
+    pub fn new(alloc: Global, count: usize) -> StoredBuilder
+        ensures none { result.given ≡ [] }
+        ensures count { result.count ≡ count }
+    {
+        StoredBuilder {
+            alloc,
+            globs: GivenGlobs::new(),
+            matcher: SetMatcherBuilder::new(alloc, count),
+        }
+    }
+
+    /// Adds a glob after those that were added. It takes time and memory linear in the glob's tokens. Returns an error if memory
+    /// runs out; the builder then has no globs.
+    pub fn add(&mut self, glob: &Glob) -> Result<(), AllocError>
+        requires { length self.old.given < self.old.count }
+        ensures glob { OnOk result (self.new.given ≡ self.old.given ++ glob.now ∷ []) }
+        ensures none { OnErr result (self.new.given ≡ []) }
+        ensures count { self.new.count ≡ self.old.count }
+    {
+        let (options, tokens) = (options_of(glob), tokens_of(glob));
+        if let Err(error) = self.matcher.add(self.alloc, options, tokens) {
+            self.globs = GivenGlobs::new();
+            return Err(error);
+        }
+        self.globs = self.globs.copy().and(glob);
+        Ok(())
+    }
+
+    /// Returns what a set of the globs that were added stores. The tables of deterministic automata take at most `dfa_size_limit`
+    /// bytes. Returns an error if memory runs out.
+    pub fn finish(self, dfa_size_limit: usize) -> Result<Stored, AllocError>
+        requires { length self.given ≡ self.count }
+        ensures { IfOk result (λ s. set_globs s ≡ self.given) }
+    {
+        let StoredBuilder {
+            alloc,
+            globs,
+            matcher,
+        } = self;
+        let matcher = matcher.finish(alloc, dfa_size_limit)?;
+        Stored::of_matcher(alloc, globs, matcher)
+    }
+}

@@ -1,0 +1,238 @@
+//! What a set stores.
+
+ghost use Rattle.std.specs.Prelude.{◌≡◌, ◌≢◌, ◌↔◌, [], ℕ, ◌+◌, ◌≤◌, All, IfOk, IfErr, IsOk, OnOk, OnErr, IsTrue, length, map, vec_capacity};
+ghost use Rattle.globset_glob.specs.Errors.{out_of_memory};
+ghost use Rattle.globset_glob.specs.GlobMatches.{IsRead};
+ghost use Rattle.globset_set.specs.Answer.{matching_indexes};
+ghost use Rattle.globset_set.specs.SetValue.{set_globs, set_states};
+ghost use Rattle.globset_set.specs.Below.{MatchesBelow};
+ghost use Rattle.globset_set.specs.Work.{load, load_below, max_set_visits, max_set_visits_below};
+ghost use Rattle.globset_set.specs.inner.StoredGlobs.{AreStored};
+ghost use Rattle.set_matcher.specs.Indexes.{ContainsAllBelow};
+ghost use Rattle.set_matcher.specs.inner.Capacity.{HasCapacity, KeepsCapacity};
+
+use crate::building::StoredBuilder;
+use globset_glob::{Candidate, DEFAULT_DFA_SIZE_LIMIT, Error, GivenGlobs, Glob, Visits};
+use set_matcher::{MatchingSets, SetMatcher};
+use std::alloc::{AllocError, Global};
+use std::fmt;
+use std::marker::Model;
+use std::sync::Arc;
+
+/// What a set needs to match: a matcher that decides which of its globs match a path. The index of a glob is its position. Of the
+/// globs themselves nothing is kept but what contracts see, which takes no memory.
+pub struct Stored {
+    alloc: Global,
+    globs: GivenGlobs,
+    matcher: Arc<SetMatcher>,
+}
+
+impl Drop for Stored {
+    // One call wherever a value is dropped, which keeps proofs short.
+    fn drop(self) {
+        let Stored {
+            alloc: _,
+            globs: _,
+            matcher: _,
+        } = self;
+    }
+}
+
+impl Model for Stored {
+    ghost use Rattle.std.specs.Arc.{arc_value};
+    ghost use Rattle.globset_set.specs.SetValue.{SetValue};
+    ghost use Rattle.globset_set.specs.inner.StoredGlobs.{AreStored};
+
+    ghost Value = { SetValue };
+
+    ghost view = { λ s. record {
+      globs = s.globs;
+      states = (arc_value s.matcher).states;
+    } };
+
+    ghost invariant = { λ s. AreStored s.globs (arc_value s.matcher) };
+}
+
+impl Stored {
+    /// Returns what a set stores, whose globs are in this matcher. Returns an error if memory runs out.
+    pub(crate) fn of_matcher(
+        alloc: Global,
+        globs: GivenGlobs,
+        matcher: SetMatcher,
+    ) -> Result<Stored, AllocError>
+        requires { AreStored globs matcher }
+        ensures { IfOk result (λ s. set_globs s ≡ globs) }
+    {
+        let matcher = Arc::new(alloc, matcher)?;
+        Ok(Stored {
+            alloc,
+            globs,
+            matcher,
+        })
+    }
+
+    /// Adds each of these globs to the matcher. They are not copied. The tables of deterministic automata take at most
+    /// `dfa_size_limit` bytes. Returns an error if memory runs out, and no other.
+    pub fn of_slice(alloc: Global, dfa_size_limit: usize, globs: &[Glob]) -> Result<Stored, Error>
+        ensures ok { IfOk result (λ s. set_globs s ≡ globs.now) }
+        ensures err { IfErr result (λ e. e ≡ out_of_memory) }
+    {
+        let mut builder = StoredBuilder::new(alloc, globs.len());
+        for glob in globs {
+            builder.add(glob)?;
+        }
+        Ok(builder.finish(dfa_size_limit)?)
+    }
+
+    /// Adds each of these globs to the matcher, as [`Stored::of_slice`] does, with the default limit.
+    pub fn of_references(alloc: Global, references: &[&Glob]) -> Result<Stored, Error>
+        ensures ok { IfOk result (λ s. set_globs s ≡ map (λ g. g.now) references.now) }
+        ensures err { IfErr result (λ e. e ≡ out_of_memory) }
+    {
+        let mut builder = StoredBuilder::new(alloc, references.len());
+        for glob in references {
+            builder.add(glob)?;
+        }
+        Ok(builder.finish(DEFAULT_DFA_SIZE_LIMIT)?)
+    }
+
+    /// Returns the matcher.
+    fn matcher(&self) -> &SetMatcher
+        ensures stored { AreStored (set_globs self.now) result.now }
+        ensures states { result.now.states ≡ set_states self.now }
+    {
+        &self.matcher
+    }
+
+    /// Returns the number of globs, each of which was read.
+    pub fn len(&self) -> usize
+        ensures count { result ≡ length (set_globs self.now) }
+        ensures read { All IsRead (set_globs self.now) }
+    {
+        self.matcher().len()
+    }
+
+    /// Returns the number of states of the largest automaton.
+    pub fn max_states(&self) -> usize
+        ensures { result ≡ set_states self.now }
+    {
+        self.matcher().max_states()
+    }
+
+    /// Returns how many bytes the tables of deterministic automata take. It takes time linear in the number of these.
+    pub fn table_bytes(&self) -> usize {
+        self.matcher().table_bytes()
+    }
+
+    /// Returns sets without room, to match with. It allocates nothing.
+    pub fn new_sets(&self) -> MatchingSets {
+        MatchingSets::new(self.alloc)
+    }
+
+    /// Replaces the vector's items by the indexes, ascending, of the globs that are not excluded and match the path.
+    ///
+    /// Returns an error if memory runs out, and no other. The vector is then empty.
+    pub fn find(
+        &self,
+        path: &Candidate<'_>,
+        sets: &mut MatchingSets,
+        into: &mut Vec<usize>,
+        visits: &mut Visits,
+    ) -> Result<(), Error>
+        ensures ok { OnOk result (into.new.items ≡ matching_indexes (set_globs self.now) path.now) }
+        ensures err { IfErr result (λ e. e ≡ out_of_memory) }
+        ensures cleared { OnErr result (into.new.items ≡ []) }
+        ensures kept { KeepsCapacity sets.old sets.new }
+        ensures room { HasCapacity sets.old (set_states self.now) (length (set_globs self.now)) → length (set_globs self.now) ≤ vec_capacity into.old → IsOk result }
+        ensures capacity { vec_capacity into.old ≤ vec_capacity into.new }
+        ensures visits { visits.new ≤ visits.old + max_set_visits (set_globs self.now) path.now }
+        ensures counted { visits.old ≤ visits.new }
+    {
+        self.matcher().find(path, sets, into, visits)?;
+        Ok(())
+    }
+
+    /// Returns whether some glob that is not excluded matches the path.
+    ///
+    /// Returns an error if memory runs out, and no other.
+    pub fn is_match(
+        &self,
+        path: &Candidate<'_>,
+        sets: &mut MatchingSets,
+        visits: &mut Visits,
+    ) -> Result<bool, Error>
+        ensures ok { IfOk result (λ yes. IsTrue yes ↔ (matching_indexes (set_globs self.now) path.now ≢ [])) }
+        ensures err { IfErr result (λ e. e ≡ out_of_memory) }
+        ensures kept { KeepsCapacity sets.old sets.new }
+        ensures room { HasCapacity sets.old (set_states self.now) (length (set_globs self.now)) → IsOk result }
+        ensures succeeds_without_automata { load (set_globs self.now) path.now ≡ 0 → IsOk result }
+        ensures visits { visits.new ≤ visits.old + max_set_visits (set_globs self.now) path.now }
+        ensures counted { visits.old ≤ visits.new }
+    {
+        Ok(self.matcher().is_match(path, sets, visits)?)
+    }
+
+    /// Returns whether some glob that is not excluded matches some path below a folder.
+    ///
+    /// Returns an error if memory runs out, and no other.
+    pub fn can_match_below(
+        &self,
+        folder: &Candidate<'_>,
+        sets: &mut MatchingSets,
+        visits: &mut Visits,
+    ) -> Result<bool, Error>
+        ensures ok { IfOk result (λ yes. IsTrue yes ↔ MatchesBelow (set_globs self.now) folder.now) }
+        ensures err { IfErr result (λ e. e ≡ out_of_memory) }
+        ensures kept { KeepsCapacity sets.old sets.new }
+        ensures room { HasCapacity sets.old (set_states self.now) (length (set_globs self.now)) → IsOk result }
+        ensures succeeds_without_automata { load_below (set_globs self.now) ≡ 0 → IsOk result }
+        ensures visits { visits.new ≤ visits.old + max_set_visits_below (set_globs self.now) folder.now }
+        ensures counted { visits.old ≤ visits.new }
+    {
+        Ok(self.matcher().can_match_below(folder.path(), sets, visits)?)
+    }
+
+    /// Returns whether every glob matches the path and none is excluded.
+    ///
+    /// Returns an error if memory runs out, and no other.
+    pub fn matches_all(
+        &self,
+        path: &Candidate<'_>,
+        sets: &mut MatchingSets,
+        visits: &mut Visits,
+    ) -> Result<bool, Error>
+        ensures ok { IfOk result (λ yes. IsTrue yes ↔ ContainsAllBelow (matching_indexes (set_globs self.now) path.now) (length (set_globs self.now))) }
+        ensures err { IfErr result (λ e. e ≡ out_of_memory) }
+        ensures kept { KeepsCapacity sets.old sets.new }
+        ensures room { HasCapacity sets.old (set_states self.now) (length (set_globs self.now)) → IsOk result }
+        ensures succeeds_without_automata { load (set_globs self.now) path.now ≡ 0 → IsOk result }
+        ensures visits { visits.new ≤ visits.old + max_set_visits (set_globs self.now) path.now }
+        ensures counted { visits.old ≤ visits.new }
+    {
+        Ok(self.matcher().matches_all(path, sets, visits)?)
+    }
+
+    /// Returns an equal value, which shares the matcher. It takes no memory. Returns an error if 2^63 values share it, and no other.
+    pub fn clone(&self) -> Result<Stored, Error>
+        ensures ok { IfOk result (λ s. s ≡ self.now) }
+        ensures err { IfErr result (λ e. e ≡ out_of_memory) }
+    {
+        let matcher = Arc::try_clone(&self.matcher)?;
+        Ok(Stored {
+            alloc: self.alloc,
+            globs: self.globs.copy(),
+            matcher,
+        })
+    }
+}
+
+/// The number of globs, that of the states of the largest automaton, and how many bytes the tables of deterministic automata take.
+impl fmt::Debug for Stored {
+    fn fmt<W: fmt::Write>(&self, f: &mut fmt::Formatter<W>) -> fmt::Result {
+        f.debug_struct("GlobSet")
+            .field("len", &self.len())
+            .field("max_states", &self.max_states())
+            .field("table_bytes", &self.table_bytes())
+            .finish()
+    }
+}
