@@ -45,7 +45,7 @@ impl Globs {
     }
 
     fn new(alloc: Global, globs: GlobSetBuilder) -> Result<Globs, Error> {
-        let set = globs.build()?;
+        let set = globs.into_set()?;
         let scratch = Scratch::new(alloc, &set)?;
         Ok(Globs { set, scratch })
     }

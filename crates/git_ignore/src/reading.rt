@@ -144,7 +144,7 @@ pub fn set_of(alloc: Global, globs: Vec<Glob>) -> Result<GlobSet, Error>
     for glob in globs {
         builder.push(glob)?;
     }
-    builder.take_set()
+    builder.into_set()
 }
 
 /// Returns the bytes of a file without a byte order mark at their start.

@@ -168,6 +168,30 @@ impl GlobSetBuilder {
         Ok(set)
     }
 
+    /// Returns the set of the globs that were added, in order, and drops each glob once the set has what it needs of it. It
+    /// takes less memory than [`GlobSetBuilder::build`], which needs all of the globs beside the set, and as much time.
+    ///
+    /// Returns an error if memory runs out, and no other. The globs are dropped then, too.
+    ///
+    /// ```rust
+    /// use globset::{Glob, GlobSetBuilder};
+    ///
+    /// let mut builder = GlobSetBuilder::new(alloc);
+    /// builder.add(Glob::new(alloc, "*.c")?)?.add(Glob::new(alloc, "*.h")?)?;
+    /// let sources = builder.into_set()?;
+    /// assert_eq!(rt; sources.matches(alloc, "a.h")?.as_slice(), [1].as_slice());
+    /// ```
+    pub fn into_set(self) -> Result<GlobSet, Error>
+        ensures ok { IfOk result (λ s. set_globs s ≡ builder_globs self) }
+        ensures err { IfErr result (λ e. e ≡ out_of_memory) }
+    {
+        let GlobSetBuilder {
+            pats,
+            dfa_size_limit,
+        } = self;
+        GlobSet::of_globs(*pats.allocator(), dfa_size_limit, pats)
+    }
+
     /// Returns a builder of equal globs and the same limit, with memory of its own. Returns an error if memory runs out, and no other.
     pub fn clone(&self) -> Result<GlobSetBuilder, Error>
         ensures ok { IfOk result (λ b. b ≡ self.now) }

@@ -176,6 +176,20 @@ impl GlobSet {
             stored: Some(Stored::of_slice(alloc, dfa_size_limit, globs)?),
         })
     }
+
+    /// Returns the set of these globs, as [`GlobSet::of_slice`] does, and drops each once it is not needed any more.
+    pub(crate) fn of_globs(
+        alloc: Global,
+        dfa_size_limit: usize,
+        globs: Vec<Glob>,
+    ) -> Result<GlobSet, Error>
+        ensures ok { IfOk result (λ s. set_globs s ≡ globs.items) }
+        ensures err { IfErr result (λ e. e ≡ out_of_memory) }
+    {
+        Ok(GlobSet {
+            stored: Some(Stored::of_globs(alloc, dfa_size_limit, globs)?),
+        })
+    }
 }
 
 impl Default for GlobSet {

@@ -1,4 +1,4 @@
-//! Calls for the crate `globset` alone, which does not re-export them.
+//! Calls for the crates that match many globs, which users need not.
 
 ghost use Rattle.std.specs.Prelude.{◌≡◌, ◌≤◌, ◌*◌, ◌^◌, MatchOption, Ok, length};
 ghost use Rattle.std.specs.Str.{chars};

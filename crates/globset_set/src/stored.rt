@@ -84,6 +84,18 @@ impl Stored {
         Ok(builder.finish(dfa_size_limit)?)
     }
 
+    /// Adds each of these globs to the matcher, as [`Stored::of_slice`] does, and drops each once it is added.
+    pub fn of_globs(alloc: Global, dfa_size_limit: usize, globs: Vec<Glob>) -> Result<Stored, Error>
+        ensures ok { IfOk result (λ s. set_globs s ≡ globs.items) }
+        ensures err { IfErr result (λ e. e ≡ out_of_memory) }
+    {
+        let mut builder = StoredBuilder::new(alloc, globs.len());
+        for glob in globs {
+            builder.add(&glob)?;
+        }
+        Ok(builder.finish(dfa_size_limit)?)
+    }
+
     /// Adds each of these globs to the matcher, as [`Stored::of_slice`] does, with the default limit.
     pub fn of_references(alloc: Global, references: &[&Glob]) -> Result<Stored, Error>
         ensures ok { IfOk result (λ s. set_globs s ≡ map (λ g. g.now) references.now) }

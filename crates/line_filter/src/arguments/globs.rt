@@ -13,13 +13,13 @@ pub fn command_of_globs(alloc: Global, arguments: &[String]) -> Result<Command, 
     ensures { MatchResult result (λ command. command_of_globs (map string_bytes arguments.now) ≡ Ok (command_value command))
         (IsFaultOf (command_of_globs (map string_bytes arguments.now))) }
 {
-    let parsed = GlobArguments::parse(alloc, arguments)?;
-    let set = parsed.globs.build()?;
+    let GlobArguments { flags, globs } = GlobArguments::parse(alloc, arguments)?;
+    let set = globs.into_set()?;
     if set.is_empty() {
         return Err(CommandFault::NoGlob);
     }
     Ok(Command {
         set,
-        numbered: parsed.flags.numbered,
+        numbered: flags.numbered,
     })
 }
