@@ -248,7 +248,7 @@ pub fn exits_of(targets: &[usize], at: usize) -> &[usize]
     &targets[at + 1..at + 1 + count]
 }
 
-/// Returns whether a state is in a set. What is made from an automaton before it is run counts no visits.
+/// Returns whether a state is in a set, and counts no visit: the callers are no part of a run, or count each state themselves.
 pub fn is_in(set: &StateSet, state: usize) -> bool
     requires { state < state_capacity set.now }
     ensures { result ≡ has_state set.now state }
