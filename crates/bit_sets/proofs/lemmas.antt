@@ -1,4 +1,5 @@
 pub mod Bits
+pub mod Texts
 pub mod Combining
 pub mod Clearing
 pub mod Disjoint

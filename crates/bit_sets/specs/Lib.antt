@@ -2,6 +2,7 @@ pub mod Bits
 pub mod Seen
 pub mod Numbers
 pub mod Bytes
+pub mod Texts
 pub mod Indexes
 pub mod WordSets
 pub mod StateSets

@@ -2,7 +2,7 @@
 use Rattle.std.specs.Prelude.{◌≡◌, ℕ, ◌<◌, ◌⊎◌, List, [], ◌∷◌, length, slice_index}
 use Rattle.bit_sets.specs.Bytes.{folded}
 use Rattle.byte_nfa.specs.Steps.{Accepts, Machine}
-use Rattle.byte_nfa.specs.Texts.{AllBytes}
+use Rattle.bit_sets.specs.Texts.{AllBytes}
 use Rattle.byte_filter.specs.declared.others.OtherStart.{OtherStart}
 
 -- one of the first n bytes of the text folds to c

@@ -1,7 +1,7 @@
 -- Signs: what of a window of three bytes is kept of a text, and asked for beside the key of an entry.
 use Rattle.std.specs.Prelude.{◌≡◌, ℕ, ◌<◌, ◌⊎◌, List, length, slice_index}
 use Rattle.byte_nfa.specs.Steps.{Accepts, Machine}
-use Rattle.byte_nfa.specs.Texts.{AllBytes}
+use Rattle.bit_sets.specs.Texts.{AllBytes}
 use Rattle.byte_filter.specs.Hashes.{place_of}
 use Rattle.byte_filter.specs.Windows.{HasThreeBefore}
 

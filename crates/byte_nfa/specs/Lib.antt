@@ -1,4 +1,3 @@
-pub mod Texts
 pub mod Steps
 pub mod Building
 pub mod Runs

@@ -1,11 +1,5 @@
-pub mod Booleans
 pub mod Building
-pub mod Characters
-pub mod Cuts
 pub mod Frames
 pub mod IndexedTokens
 pub mod Spelling
-pub mod TokenMatches
-pub mod MatchesByParts
-pub mod TokenLists
 pub mod TokenStates

@@ -2,10 +2,11 @@
 use Rattle.std.specs.Prelude.{◌≡◌, ℕ, ◌⊎◌, ◌↔◌, List, [], ◌∷◌, length, IsTrue}
 use Rattle.glob_syntax.specs.declared.options.Options.{Options}
 use Rattle.glob_syntax.specs.Token.{Tokens}
-use Rattle.glob_nfa.specs.TokensMatch.{tokens_match}
+use Rattle.glob_meaning.specs.TokensMatch.{tokens_match}
+use Rattle.glob_meaning.specs.After.{MeanAfter}
 use Rattle.byte_nfa.specs.Steps.{State, IsIn, Accepts, Machine}
 use Rattle.byte_nfa.specs.Building.{Agrees}
-use Rattle.byte_nfa.specs.Texts.{AllBytes}
+use Rattle.bit_sets.specs.Texts.{AllBytes}
 
 -- tokens, the options that they are matched under, and the index that they have in the automaton
 pub record IndexedTokens : Type 0 where
@@ -29,6 +30,11 @@ Matches x path k = (x.index ≡ k) × IsTrue (tokens_match x.options x.tokens pa
 abbrev pub SomeMatches : List IndexedTokens → List ℕ → ℕ → Type 0
 SomeMatches [] path k = ⊥
 SomeMatches (x ∷ xs) path k = Matches x path k ⊎ SomeMatches xs path k
+
+-- some of the tokens match some path that begins with y, and has bytes alone after it
+abbrev pub SomeMeanAfter : List IndexedTokens → List ℕ → Type 0
+SomeMeanAfter [] y = ⊥
+SomeMeanAfter (x ∷ xs) y = MeanAfter x.options x.tokens y ⊎ SomeMeanAfter xs y
 
 -- From its starts the automaton accepts the paths that these tokens match, each for its index. So does each automaton with
 -- the same starts that begins with these states.

@@ -1,7 +1,2 @@
-pub mod Blank
-pub mod Characters
-pub mod TokenMatches
-pub mod TokensMatch
 pub mod IndexedTokens
 pub mod inner
-pub mod After

@@ -5,8 +5,9 @@
 
 ghost use Rattle.std.specs.Prelude.{◌≡◌, ◌+◌, ◌<◌, ◌∷◌, [], OnOk, IfOk};
 ghost use Rattle.byte_nfa.specs.Runs.{size};
-ghost use Rattle.glob_nfa.specs.Characters.{is_between};
-ghost use Rattle.glob_nfa.specs.inner.TokenStates.{IsSetOf, continues, is_ascii_wild, begins_three};
+ghost use Rattle.glob_meaning.specs.Characters.{is_between};
+ghost use Rattle.glob_meaning.specs.inner.CharacterRows.{continues, is_ascii_wild, begins_three};
+ghost use Rattle.glob_nfa.specs.inner.TokenStates.{IsSetOf};
 ghost use Rattle.glob_nfa.specs.inner.Building.{Grows, BuildsRow, BuildsCharacter};
 
 use bit_sets::ByteSet;

@@ -4,7 +4,7 @@ use Rattle.bit_sets.specs.Indexes.{index_capacity}
 use Rattle.byte_nfa.specs.Runs.{size, AcceptsFrom}
 use Rattle.bit_sets.specs.StateSets.{state_capacity}
 use Rattle.byte_nfa.specs.Steps.{Machine, IsReached}
-use Rattle.byte_nfa.specs.Texts.{AllBytes}
+use Rattle.bit_sets.specs.Texts.{AllBytes}
 use Rattle.globset_glob.specs.GlobMatches.{GlobValue, glob_matches}
 use Rattle.set_matcher.specs.Indexes.{passing_indexes}
 use Rattle.glob_prefixes.specs.declared.states.PrefixStates.{PrefixStates}

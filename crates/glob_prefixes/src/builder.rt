@@ -1,13 +1,14 @@
 //! How a matcher is made.
 
 ghost use Rattle.std.specs.Prelude.{◌≡◌, ◌+◌, ◌<◌, ◌≤◌, ◌++◌, ◌∷◌, [], OnOk, OnErr, IfOk, length};
-ghost use Rattle.globset_glob.specs.Cost.{cost};
+ghost use Rattle.glob_text.specs.Cost.{cost};
 ghost use Rattle.glob_prefixes.specs.Prefixes.{max_globs, prefix_states};
 
 use crate::matcher::PrefixMatcher;
 use byte_nfa::Builder;
 use glob_nfa::{add_tokens, new_builder};
-use globset_glob::{GivenGlobs, Glob, options_of, tokens_of};
+use glob_text::GivenGlobs;
+use globset_glob::{Glob, options_of, text_of, tokens_of};
 use nfa_simulation::Nfa;
 use std::alloc::{AllocError, Global};
 use std::marker::Model;
@@ -75,7 +76,7 @@ impl PrefixMatcherBuilder {
     {
         let (options, tokens) = (options_of(glob), tokens_of(glob));
         add_tokens(self.alloc, &mut self.automaton, options, tokens, self.added)?;
-        self.globs = self.globs.copy().and(glob);
+        self.globs = self.globs.copy().and(text_of(glob), options);
         self.added += 1;
         Ok(())
     }

@@ -6,7 +6,7 @@ ghost use Rattle.byte_nfa.specs.Steps.{IsReached};
 ghost use Rattle.glob_prefixes.specs.Prefixes.{FitAsBefore, FitsPrefixes, IsAfter, all_matching_indexes, matching_of, max_globs, prefix_states};
 
 use crate::states::PrefixStates;
-use globset_glob::GivenGlobs;
+use glob_text::GivenGlobs;
 use nfa_simulation::Nfa;
 use std::marker::Model;
 use std::mem::swap;

@@ -1,8 +1,8 @@
 -- What the strategy for a glob says about a path.
 use Rattle.std.specs.Prelude.{◌≡◌, ◌↔◌, ℕ, Bool, true, false, List, ◌++◌, IsTrue}
 use Rattle.std.specs.Str.{bytes_eq}
-use Rattle.byte_nfa.specs.Texts.{AllBytes}
-use Rattle.glob_nfa.specs.TokensMatch.{tokens_match}
+use Rattle.bit_sets.specs.Texts.{AllBytes}
+use Rattle.glob_meaning.specs.TokensMatch.{tokens_match}
 use Rattle.glob_syntax.specs.declared.options.Options.{Options}
 use Rattle.glob_syntax.specs.Token.{Tokens}
 use Rattle.glob_path.specs.Key.{KeyMatches, key_seen}

@@ -4,12 +4,16 @@ use Rattle.std.specs.Str.{chars}
 use Rattle.glob_syntax.specs.declared.options.Options.{Options}
 use Rattle.glob_syntax.specs.Token.{Tokens, end}
 use Rattle.glob_syntax.specs.Reading.{reading}
-use Rattle.glob_nfa.specs.TokensMatch.{tokens_match}
+use Rattle.glob_meaning.specs.TokensMatch.{tokens_match}
 
 -- A glob as contracts see it: its text, in UTF-8, and its options.
 pub record GlobValue : Type 0 where
   pub text : List ℕ
   pub options : Options
+
+-- these two as one value
+abbrev pub glob_value : List ℕ → Options → GlobValue
+glob_value text options = record { text = text; options = options }
 
 -- the options of a glob if none is set: `\` escapes, and the others are off
 abbrev pub default_options : Options
@@ -24,7 +28,7 @@ default_options = record {
 
 -- the glob with this text and the default options
 abbrev pub default_glob : List ℕ → GlobValue
-default_glob text = record { text = text; options = default_options }
+default_glob text = glob_value text default_options
 
 -- The text has a reading under the options. That of every `Glob` has one.
 abbrev pub IsRead : GlobValue → Type 0

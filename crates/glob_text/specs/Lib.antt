@@ -1,4 +1,5 @@
 pub mod GlobMatches
+pub mod Cost
 pub mod SmallRegex
 pub mod RegexText
 pub mod RegexDenotes

@@ -12,10 +12,12 @@ mod any;
 mod below;
 mod matches;
 mod scratch;
+mod storing;
 mod value;
 mod with;
 
 use crate::builder::GlobSetBuilder;
+use crate::set::storing::{stored_of_globs, stored_of_references, stored_of_slice};
 use globset_glob::{Error, Glob};
 use globset_set::Stored;
 pub use scratch::Scratch;
@@ -144,7 +146,7 @@ impl GlobSet {
             references.push(glob)?;
         }
         Ok(GlobSet {
-            stored: Some(Stored::of_references(alloc, &references)?),
+            stored: Some(stored_of_references(alloc, &references)?),
         })
     }
 
@@ -173,7 +175,7 @@ impl GlobSet {
         ensures err { IfErr result (λ e. e ≡ out_of_memory) }
     {
         Ok(GlobSet {
-            stored: Some(Stored::of_slice(alloc, dfa_size_limit, globs)?),
+            stored: Some(stored_of_slice(alloc, dfa_size_limit, globs)?),
         })
     }
 
@@ -187,7 +189,7 @@ impl GlobSet {
         ensures err { IfErr result (λ e. e ≡ out_of_memory) }
     {
         Ok(GlobSet {
-            stored: Some(Stored::of_globs(alloc, dfa_size_limit, globs)?),
+            stored: Some(stored_of_globs(alloc, dfa_size_limit, globs)?),
         })
     }
 }

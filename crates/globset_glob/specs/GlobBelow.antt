@@ -1,6 +1,6 @@
 -- Whether a glob matches some path below a folder.
 use Rattle.std.specs.Prelude.{ℕ, List, IsTrue}
-use Rattle.byte_nfa.specs.Texts.{AllBytes}
+use Rattle.bit_sets.specs.Texts.{AllBytes}
 use Rattle.glob_path.specs.Below.{path_below}
 use Rattle.glob_text.specs.GlobMatches.{GlobValue, glob_matches}
 

@@ -1,7 +1,7 @@
-pub mod Cost
 pub mod GlobBelow
 pub mod inner
 pub use Rattle.glob_text.specs.GlobMatches
+pub use Rattle.glob_text.specs.Cost
 pub use Rattle.glob_text.specs.SmallRegex
 pub use Rattle.glob_text.specs.RegexText
 pub use Rattle.glob_text.specs.RegexDenotes
@@ -20,8 +20,8 @@ pub use Rattle.glob_syntax.specs.ClassBytes
 pub use Rattle.glob_syntax.specs.StatesPerByte
 pub use Rattle.glob_syntax.specs.Views
 pub use Rattle.glob_path.specs.PathParts
-pub use Rattle.byte_nfa.specs.Texts
-pub use Rattle.glob_nfa.specs.Blank
-pub use Rattle.glob_nfa.specs.Characters
-pub use Rattle.glob_nfa.specs.TokenMatches
-pub use Rattle.glob_nfa.specs.TokensMatch
+pub use Rattle.bit_sets.specs.Texts
+pub use Rattle.glob_meaning.specs.Blank
+pub use Rattle.glob_meaning.specs.Characters
+pub use Rattle.glob_meaning.specs.TokenMatches
+pub use Rattle.glob_meaning.specs.TokensMatch

@@ -1,2 +1,1 @@
-pub mod GivenGlobs
 pub mod GlobNfa

@@ -1,6 +1,6 @@
 //! Globs.
 
-ghost use Rattle.std.specs.Prelude.{◌≡◌, ◌==◌, ◌≤◌, ◌*◌, ◌↔◌, ◌++◌, ℕ, List, Some, Ok, IfOk, IfErr, IsTrue, length};
+ghost use Rattle.std.specs.Prelude.{◌≡◌, ◌==◌, ◌≤◌, ◌*◌, ◌↔◌, ◌++◌, ℕ, List, Some, Ok, IfOk, IfErr, IsTrue, length, string_bytes};
 ghost use Rattle.std.specs.Cmp.{partial_equiv_from_equiv};
 ghost use Rattle.std.specs.Fmt.{styled_text};
 ghost use Rattle.std.specs.Hash as fed;
@@ -203,6 +203,13 @@ impl Glob {
             tokens,
             regex,
         })
+    }
+
+    /// Returns the text that the glob was read from, as it is held.
+    pub(crate) fn text(&self) -> &String
+        ensures { string_bytes result.now ≡ self.now.text }
+    {
+        &self.text
     }
 
     /// Returns the tokens that the text was read as.

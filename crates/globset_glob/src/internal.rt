@@ -1,6 +1,6 @@
 //! Calls for the crates that match many globs, which users need not.
 
-ghost use Rattle.std.specs.Prelude.{◌≡◌, ◌≤◌, ◌*◌, ◌^◌, MatchOption, Ok, length};
+ghost use Rattle.std.specs.Prelude.{◌≡◌, ◌≤◌, ◌*◌, ◌^◌, MatchOption, Ok, length, string_bytes};
 ghost use Rattle.std.specs.Str.{chars};
 ghost use Rattle.glob_syntax.specs.Reading.{reading};
 ghost use Rattle.glob_text.specs.GlobMatches.{tokens_of_glob};
@@ -8,7 +8,7 @@ ghost use Rattle.glob_syntax.specs.FlatTokens.{IsNested};
 ghost use Rattle.glob_syntax.specs.StatesPerByte.{states_per_byte};
 ghost use Rattle.glob_syntax.specs.Views.{flats, tokens_of};
 ghost use Rattle.glob_syntax.specs.inner.Weight.{weight};
-ghost use Rattle.globset_glob.specs.Cost.{cost};
+ghost use Rattle.glob_text.specs.Cost.{cost};
 
 use crate::glob::Glob;
 use crate::matcher::GlobMatcher;
@@ -23,6 +23,13 @@ pub fn tokens_of(glob: &Glob) -> &[Token]
     ensures weight { weight glob.now.options (tokens_of result.now) ≤ states_per_byte glob.now.options * length glob.now.text }
 {
     glob.tokens()
+}
+
+/// Returns the text that the glob was read from.
+pub fn text_of(glob: &Glob) -> &String
+    ensures { string_bytes result.now ≡ glob.now.text }
+{
+    glob.text()
 }
 
 /// Returns the options that the glob was read under.

@@ -2,19 +2,17 @@
 #![tactic(auto)]
 
 mod builder;
-mod given;
 mod glob;
 mod internal;
 mod json;
 mod matcher;
 
 pub use builder::GlobBuilder;
-pub use given::GivenGlobs;
 pub use glob::Glob;
 pub use glob_matching::DEFAULT_DFA_SIZE_LIMIT;
 pub use glob_path::{AsPath, Candidate};
 pub use glob_syntax::{Class, Options, Token};
 pub use glob_text::{Error, ErrorKind, ValueError, ValueErrorKind, escape};
-pub use internal::{max_states_of, options_of, tokens_of};
+pub use internal::{max_states_of, options_of, text_of, tokens_of};
 pub use matcher::{GlobMatcher, MatcherScratch};
 pub use visits::Visits;

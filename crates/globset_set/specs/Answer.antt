@@ -1,6 +1,6 @@
 -- The indexes that a set returns for a path.
 use Rattle.std.specs.Prelude.{ℕ, List}
-use Rattle.globset_glob.specs.GlobMatches.{GlobValue}
+use Rattle.glob_text.specs.GlobMatches.{GlobValue}
 use Rattle.set_matcher.specs.Indexes.{passing_indexes}
 use Rattle.globset_set.specs.Excluded.{is_reported}
 

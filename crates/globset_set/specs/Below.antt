@@ -1,7 +1,7 @@
 -- Whether a set matches some path below a folder.
 use Rattle.std.specs.Prelude.{◌≢◌, ℕ, List, []}
-use Rattle.globset_glob.specs.GlobMatches.{GlobValue}
-use Rattle.globset_glob.specs.Texts.{AllBytes}
+use Rattle.glob_text.specs.GlobMatches.{GlobValue}
+use Rattle.bit_sets.specs.Texts.{AllBytes}
 use Rattle.glob_path.specs.Below.{path_below}
 use Rattle.globset_set.specs.Answer.{matching_indexes}
 

@@ -1,6 +1,6 @@
 -- Excluded globs: those that a set leaves out.
 use Rattle.std.specs.Prelude.{ℕ, Bool, ◌&&◌, not, List}
-use Rattle.globset_glob.specs.GlobMatches.{GlobValue, tokens_of_glob, glob_matches}
+use Rattle.glob_text.specs.GlobMatches.{GlobValue, tokens_of_glob, glob_matches}
 use Rattle.glob_strategy.specs.Excluded.{are_excluded}
 
 -- The glob is excluded: no set returns its index, for any path. This depends on the glob's tokens and on

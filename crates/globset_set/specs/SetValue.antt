@@ -1,6 +1,6 @@
 -- Sets as contracts see them: a list of globs, and a number.
 use Rattle.std.specs.Prelude.{ℕ, List}
-use Rattle.globset_glob.specs.GlobMatches.{GlobValue}
+use Rattle.glob_text.specs.GlobMatches.{GlobValue}
 
 -- A set is seen as the list of its globs, each a text and options, and one number: the states of its largest automaton. The
 -- first glob has index 0.

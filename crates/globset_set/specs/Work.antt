@@ -2,8 +2,8 @@
 use Rattle.std.specs.Prelude.{ℕ, List, cond, length, sum_by}
 use Rattle.glob_strategy.specs.Direct.{is_direct, needs_automaton}
 use Rattle.set_matcher.specs.Visits.{visits_below_for, visits_for}
-use Rattle.globset_glob.specs.GlobMatches.{GlobValue, tokens_of_glob}
-use Rattle.globset_glob.specs.Cost.{cost}
+use Rattle.glob_text.specs.GlobMatches.{GlobValue, tokens_of_glob}
+use Rattle.glob_text.specs.Cost.{cost}
 
 -- The sum of `cost` over the globs that need an automaton for the path: those that are not direct and require no extension
 -- that the path lacks.

@@ -1,10 +1,18 @@
 //! Sets as they are made, glob by glob.
 
-ghost use Rattle.std.specs.Prelude.{◌≡◌, ◌<◌, ◌++◌, ◌∷◌, [], IfOk, OnOk, OnErr, length};
+ghost use Rattle.std.specs.Prelude.{◌≡◌, ◌<◌, ◌≤◌, ◌*◌, ◌++◌, ◌∷◌, [], IfOk, Ok, OnOk, OnErr, length, string_bytes};
+ghost use Rattle.std.specs.Str.{chars};
+ghost use Rattle.glob_syntax.specs.FlatTokens.{IsNested};
+ghost use Rattle.glob_syntax.specs.Reading.{reading};
+ghost use Rattle.glob_syntax.specs.StatesPerByte.{states_per_byte};
+ghost use Rattle.glob_syntax.specs.Views.{flats, tokens_of};
+ghost use Rattle.glob_syntax.specs.inner.Weight.{weight};
+ghost use Rattle.glob_text.specs.GlobMatches.{glob_value};
 ghost use Rattle.globset_set.specs.SetValue.{set_globs};
 
 use crate::stored::Stored;
-use globset_glob::{GivenGlobs, Glob, options_of, tokens_of};
+use glob_syntax::{Options, Token};
+use glob_text::GivenGlobs;
 use set_matcher::SetMatcherBuilder;
 use std::alloc::{AllocError, Global};
 use std::marker::Model;
@@ -53,20 +61,27 @@ impl StoredBuilder {
         }
     }
 
-    /// Adds a glob after those that were added. It takes time and memory linear in the glob's tokens. Returns an error if memory
-    /// runs out; the builder then has no globs.
-    pub fn add(&mut self, glob: &Glob) -> Result<(), AllocError>
-        requires { length self.old.given < self.old.count }
-        ensures glob { OnOk result (self.new.given ≡ self.old.given ++ glob.now ∷ []) }
+    /// Adds a glob after those that were added: its text, its options, and the tokens that the text was read as. It takes time and
+    /// memory linear in the tokens. Returns an error if memory runs out; the builder then has no globs.
+    pub fn add(
+        &mut self,
+        text: &String,
+        options: Options,
+        tokens: &[Token],
+    ) -> Result<(), AllocError>
+        requires room { length self.old.given < self.old.count }
+        requires read { reading options (chars (string_bytes text.now)) ≡ Ok (tokens_of tokens.now) }
+        requires nested { IsNested (flats tokens.now) }
+        requires weight { weight options (tokens_of tokens.now) ≤ states_per_byte options * length (string_bytes text.now) }
+        ensures glob { OnOk result (self.new.given ≡ self.old.given ++ glob_value (string_bytes text.now) options ∷ []) }
         ensures none { OnErr result (self.new.given ≡ []) }
         ensures count { self.new.count ≡ self.old.count }
     {
-        let (options, tokens) = (options_of(glob), tokens_of(glob));
         if let Err(error) = self.matcher.add(self.alloc, options, tokens) {
             self.globs = GivenGlobs::new();
             return Err(error);
         }
-        self.globs = self.globs.copy().and(glob);
+        self.globs = self.globs.copy().and(text, options);
         Ok(())
     }
 

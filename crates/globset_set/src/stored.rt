@@ -1,8 +1,8 @@
 //! What a set stores.
 
 ghost use Rattle.std.specs.Prelude.{◌≡◌, ◌≢◌, ◌↔◌, [], ℕ, ◌+◌, ◌≤◌, All, IfOk, IfErr, IsOk, OnOk, OnErr, IsTrue, length, map, vec_capacity};
-ghost use Rattle.globset_glob.specs.Errors.{out_of_memory};
-ghost use Rattle.globset_glob.specs.GlobMatches.{IsRead};
+ghost use Rattle.glob_text.specs.Errors.{out_of_memory};
+ghost use Rattle.glob_text.specs.GlobMatches.{IsRead};
 ghost use Rattle.globset_set.specs.Answer.{matching_indexes};
 ghost use Rattle.globset_set.specs.SetValue.{set_globs, set_states};
 ghost use Rattle.globset_set.specs.Below.{MatchesBelow};
@@ -11,13 +11,14 @@ ghost use Rattle.globset_set.specs.inner.StoredGlobs.{AreStored};
 ghost use Rattle.set_matcher.specs.Indexes.{ContainsAllBelow};
 ghost use Rattle.set_matcher.specs.inner.Capacity.{HasCapacity, KeepsCapacity};
 
-use crate::building::StoredBuilder;
-use globset_glob::{Candidate, DEFAULT_DFA_SIZE_LIMIT, Error, GivenGlobs, Glob, Visits};
+use glob_path::Candidate;
+use glob_text::{Error, GivenGlobs};
 use set_matcher::{MatchingSets, SetMatcher};
 use std::alloc::{AllocError, Global};
 use std::fmt;
 use std::marker::Model;
 use std::sync::Arc;
+use visits::Visits;
 
 /// What a set needs to match: a matcher that decides which of its globs match a path. The index of a glob is its position. Of the
 /// globs themselves nothing is kept but what contracts see, which takes no memory.
@@ -69,43 +70,6 @@ impl Stored {
             globs,
             matcher,
         })
-    }
-
-    /// Adds each of these globs to the matcher. They are not copied. The tables of deterministic automata take at most
-    /// `dfa_size_limit` bytes. Returns an error if memory runs out, and no other.
-    pub fn of_slice(alloc: Global, dfa_size_limit: usize, globs: &[Glob]) -> Result<Stored, Error>
-        ensures ok { IfOk result (λ s. set_globs s ≡ globs.now) }
-        ensures err { IfErr result (λ e. e ≡ out_of_memory) }
-    {
-        let mut builder = StoredBuilder::new(alloc, globs.len());
-        for glob in globs {
-            builder.add(glob)?;
-        }
-        Ok(builder.finish(dfa_size_limit)?)
-    }
-
-    /// Adds each of these globs to the matcher, as [`Stored::of_slice`] does, and drops each once it is added.
-    pub fn of_globs(alloc: Global, dfa_size_limit: usize, globs: Vec<Glob>) -> Result<Stored, Error>
-        ensures ok { IfOk result (λ s. set_globs s ≡ globs.items) }
-        ensures err { IfErr result (λ e. e ≡ out_of_memory) }
-    {
-        let mut builder = StoredBuilder::new(alloc, globs.len());
-        for glob in globs {
-            builder.add(&glob)?;
-        }
-        Ok(builder.finish(dfa_size_limit)?)
-    }
-
-    /// Adds each of these globs to the matcher, as [`Stored::of_slice`] does, with the default limit.
-    pub fn of_references(alloc: Global, references: &[&Glob]) -> Result<Stored, Error>
-        ensures ok { IfOk result (λ s. set_globs s ≡ map (λ g. g.now) references.now) }
-        ensures err { IfErr result (λ e. e ≡ out_of_memory) }
-    {
-        let mut builder = StoredBuilder::new(alloc, references.len());
-        for glob in references {
-            builder.add(glob)?;
-        }
-        Ok(builder.finish(DEFAULT_DFA_SIZE_LIMIT)?)
     }
 
     /// Returns the matcher.

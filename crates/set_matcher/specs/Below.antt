@@ -1,6 +1,6 @@
 -- Globs of a list that are reported for some path below a folder.
 use Rattle.std.specs.Prelude.{◌≢◌, ℕ, ◌+◌, List, [], cond, length, sum_by}
-use Rattle.byte_nfa.specs.Texts.{AllBytes}
+use Rattle.bit_sets.specs.Texts.{AllBytes}
 use Rattle.glob_strategy.specs.Direct.{is_direct}
 use Rattle.glob_path.specs.Below.{path_below}
 use Rattle.glob_syntax.specs.inner.Weight.{weight}

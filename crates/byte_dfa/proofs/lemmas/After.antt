@@ -3,7 +3,7 @@ use Rattle.std.proofs.Common.{◌≡◌, ℕ, zero, suc, arith, ◌+◌, ◌/◌
 use Rattle.std.specs.Prelude.{◌↔◌, slice_index_or}
 use Rattle.byte_nfa.specs.Live.{MatchesAfter}
 use Rattle.byte_nfa.specs.Steps.{Machine, IsReached}
-use Rattle.byte_nfa.specs.Texts.{AllBytes}
+use Rattle.bit_sets.specs.Texts.{AllBytes}
 use Rattle.byte_nfa.proofs.lemmas.Live.{after_byte}
 use Rattle.byte_dfa.specs.inner.Tables.{Table, after, later, finds, IsRow, IsTable, AreLiveRows}
 use Rattle.byte_dfa.proofs.lemmas.Steps.{drop_bytes}

@@ -12,7 +12,7 @@ use Rattle.byte_nfa.specs.Steps.{state, final, Machine, IsReached, Accepts, ends
 use Rattle.bit_sets.specs.declared.byte_set.ByteSet.{ByteSet}
 use Rattle.bit_sets.specs.declared.state_set.StateSet.{StateSet}
 use Rattle.bit_sets.specs.Numbers.{is_reported}
-use Rattle.byte_nfa.specs.Texts.{AllBytes}
+use Rattle.bit_sets.specs.Texts.{AllBytes}
 use Rattle.byte_nfa.proofs.lemmas.Equivalent.{from_equivalent}
 use Rattle.byte_nfa.proofs.lemmas.Deciding.{reached_by}
 use Rattle.byte_nfa.proofs.lemmas.Pass.{or_first, or_second}

@@ -4,7 +4,7 @@ use Rattle.byte_nfa.specs.Runs.{size, AcceptsFrom, AreAccepting}
 use Rattle.byte_nfa.specs.ByteSteps.{leads_to}
 use Rattle.bit_sets.specs.StateSets.{has_state, state_capacity}
 use Rattle.byte_nfa.specs.Steps.{Accepts, Machine, IsReached}
-use Rattle.byte_nfa.specs.Texts.{AllBytes}
+use Rattle.bit_sets.specs.Texts.{AllBytes}
 use Rattle.byte_nfa.specs.declared.byte_steps.ByteSteps.{ByteSteps}
 use Rattle.bit_sets.specs.declared.state_set.StateSet.{StateSet}
 use Rattle.byte_dfa.specs.declared.classes.ByteClasses.{ByteClasses}

@@ -3,7 +3,7 @@ use Rattle.std.specs.Prelude.{◌≡◌, ℕ, ◌+◌, ◌*◌, ◌/◌, ◌%◌
 use Rattle.byte_nfa.specs.Runs.{HasLastBytes}
 use Rattle.byte_nfa.specs.Steps.{Machine, IsReached}
 use Rattle.bit_sets.specs.declared.byte_set.ByteSet.{ByteSet}
-use Rattle.byte_nfa.specs.Texts.{AllBytes}
+use Rattle.bit_sets.specs.Texts.{AllBytes}
 use Rattle.bit_sets.specs.Numbers.{is_reported}
 use Rattle.byte_dfa.specs.inner.Lists.{list_at, IsList}
 

@@ -2,7 +2,7 @@
 use Rattle.std.proofs.Common.{◌≡◌, ℕ, zero, suc, ◌<◌, ◌≤◌, ◌⊎◌, inl, inr, List, [], ◌∷◌, ◌++◌, length, take, slice_index, slice_index_or, arith, refl}
 use Rattle.std.specs.Prelude.{Contains}
 use Rattle.byte_nfa.specs.Steps.{Machine, Accepts}
-use Rattle.byte_nfa.specs.Texts.{AllBytes}
+use Rattle.bit_sets.specs.Texts.{AllBytes}
 use Rattle.byte_filter.specs.Others.{HasByteBefore, HasEach, IsRequiredByte, AreBytesFrom, IsOther, HasOther, AreOthersBelow}
 use Rattle.byte_filter.specs.inner.Others.{AreOfSome, AreRequiredBytes}
 use Rattle.byte_filter.specs.declared.others.OtherStart.{OtherStart}

@@ -1,17 +1,10 @@
 -- What an automaton leads to, by the one with ends where an index is decided.
-use Rattle.std.proofs.Common.{◌≡◌, ℕ, suc, ◌+◌, ◌<◌, ◌⊎◌, inl, inr, List, [], ◌∷◌, ◌++◌, slice_index, arith, refl, ap, sym, subst, ◌∙◌}
+use Rattle.std.proofs.Common.{◌≡◌, ℕ, ◌+◌, ◌<◌, ◌⊎◌, inl, inr, List, [], ◌∷◌, ◌++◌, arith, refl, ap, sym, subst, ◌∙◌}
 use Rattle.std.specs.Prelude.{◌↔◌}
 use Rattle.byte_nfa.specs.Steps.{State, reads, skips, stays, final, state, Machine, IsIn, Accepts, IsReached, ends, by_byte, by_skip, by_out, by_stay}
-use Rattle.byte_nfa.specs.Texts.{AllBytes}
+use Rattle.bit_sets.specs.Texts.{AllBytes}
+use Rattle.bit_sets.proofs.lemmas.Texts.{rest_bytes}
 use Rattle.byte_nfa.specs.EarlyMatches.{Decides, IsAtEarlyMatch, EndsAtEarlyMatches}
-
-pub all_bytes : (path : List ℕ) → ((i : ℕ) → slice_index path i < 256) → AllBytes path
-all_bytes [] h = tt
-all_bytes (c ∷ cs) h = (h 0, all_bytes cs (λ i. h (suc i)))
-
-pub rest_bytes : (p q : List ℕ) → AllBytes (p ++ q) → AllBytes q
-rest_bytes [] q h = h
-rest_bytes (c ∷ p) q h = rest_bytes p q h.1
 
 -- from the state s the text leads to an end of k, or its beginning to an end of n + k
 abbrev pub LeadsOrAlwaysMatches : List State → ℕ → ℕ → List ℕ → ℕ → Type 0

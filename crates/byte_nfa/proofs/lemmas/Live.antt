@@ -5,7 +5,7 @@ use Rattle.std.proofs.lemmas.Bool.{cases_lt}
 use Rattle.std.proofs.Math.Logic.{⊎_elim}
 use Rattle.byte_nfa.specs.Live.{IsLive}
 use Rattle.byte_nfa.specs.Steps.{State, state, Accepts}
-use Rattle.byte_nfa.specs.Texts.{AllBytes}
+use Rattle.bit_sets.specs.Texts.{AllBytes}
 use Rattle.byte_nfa.specs.inner.Pass.{goes_next, LeadsBy}
 use Rattle.byte_nfa.specs.inner.Views.{GoesBelow}
 use Rattle.bit_sets.specs.declared.byte_set.ByteSet.{ByteSet}

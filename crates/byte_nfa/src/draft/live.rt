@@ -5,7 +5,7 @@ ghost use Rattle.byte_nfa.specs.Live.{AreLive};
 ghost use Rattle.byte_nfa.specs.Runs.{size, AcceptsFrom};
 ghost use Rattle.bit_sets.specs.StateSets.{has_state, state_capacity};
 ghost use Rattle.byte_nfa.specs.Steps.{state};
-ghost use Rattle.byte_nfa.specs.Texts.{AllBytes};
+ghost use Rattle.bit_sets.specs.Texts.{AllBytes};
 ghost use Rattle.byte_nfa.specs.inner.Pass.{LeadsBy};
 ghost use Rattle.byte_nfa.specs.inner.Views.{GoesBelow};
 

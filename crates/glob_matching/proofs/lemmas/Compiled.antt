@@ -4,10 +4,11 @@ use Rattle.std.specs.Prelude.{◌↔◌}
 use Rattle.std.proofs.Math.Logic.{⊎_elim}
 use Rattle.byte_nfa.specs.Live.{MatchesAfter}
 use Rattle.byte_nfa.specs.Steps.{Machine, IsReached}
-use Rattle.byte_nfa.specs.Texts.{AllBytes}
-use Rattle.glob_nfa.specs.After.{SomeMeanAfter}
+use Rattle.bit_sets.specs.Texts.{AllBytes}
+use Rattle.glob_nfa.specs.IndexedTokens.{SomeMeanAfter}
 use Rattle.glob_nfa.specs.IndexedTokens.{IndexedTokens, SomeMatches, IsFor}
-use Rattle.glob_nfa.proofs.lemmas.IndexedTokens.{all_bytes, reached_matches}
+use Rattle.bit_sets.proofs.lemmas.Texts.{all_bytes}
+use Rattle.glob_nfa.proofs.lemmas.IndexedTokens.{reached_matches}
 
 -- beside what was found before
 pub finds_matches : {Now Before : Type 0} (m : Machine) (xs : List IndexedTokens) (path : List ℕ) (k : ℕ) → ((i : ℕ) → slice_index path i < 256)

@@ -5,7 +5,7 @@ use Rattle.bit_sets.specs.Numbers.{AreBelow}
 use Rattle.byte_nfa.specs.Parts.{IsReachedBetween}
 use Rattle.byte_nfa.specs.Runs.{size}
 use Rattle.byte_nfa.specs.Steps.{Machine, IsReached}
-use Rattle.byte_nfa.specs.Texts.{AllBytes}
+use Rattle.bit_sets.specs.Texts.{AllBytes}
 use Rattle.byte_dfa.specs.DfaValue.{DfaValue}
 
 -- the automata that deterministic ones were made from

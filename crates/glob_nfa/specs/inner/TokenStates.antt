@@ -1,12 +1,12 @@
 -- The states of tokens, in an automaton over bytes.
-use Rattle.std.specs.Prelude.{◌≡◌, ℕ, ◌<◌, Bool, true, false, not, ◌&&◌, ◌==◌, ◌⊎◌, List, [], ◌∷◌, ◌++◌, IsTrue, IsFalse, encode_utf8}
+use Rattle.std.specs.Prelude.{◌≡◌, ℕ, ◌<◌, Bool, true, ◌==◌, ◌⊎◌, List, [], ◌∷◌, IsTrue, IsFalse, encode_utf8}
 use Rattle.glob_syntax.specs.declared.options.Options.{Options}
 use Rattle.glob_syntax.specs.Token.{Token, Literal, Any, ZeroOrMore, RecursivePrefix, RecursiveSuffix, RecursiveZeroOrMore, Class, Group, Tokens, end, and_then, Branches, none, branch}
 use Rattle.glob_syntax.specs.ClassBytes.{class_has}
 use Rattle.std.specs.Str.{bytes_eq}
-use Rattle.glob_nfa.specs.TokenMatches.{slash, is_wild, compared}
-use Rattle.glob_nfa.specs.Blank.{is_kept, any_kept}
-use Rattle.glob_nfa.specs.Characters.{is_between}
+use Rattle.glob_meaning.specs.TokenMatches.{slash, is_wild, compared}
+use Rattle.glob_meaning.specs.Blank.{is_kept, any_kept}
+use Rattle.glob_meaning.specs.inner.CharacterRows.{wild_rows}
 use Rattle.bit_sets.specs.Bytes.{has_byte}
 use Rattle.byte_nfa.specs.Steps.{State, reads, skips, stays, state}
 use Rattle.bit_sets.specs.declared.byte_set.ByteSet.{ByteSet}
@@ -33,13 +33,6 @@ Loop a s test e = (w : ByteSet) × (state a s ≡ stays w (e ∷ [])) × IsSetOf
 
 -- ---- whole characters
 
--- there are as many bytes as tests, and each byte passes its test
-abbrev pub passes : List (ℕ → Bool) → List ℕ → Bool
-passes [] [] = true
-passes [] (c ∷ cs) = false
-passes (test ∷ tests) [] = false
-passes (test ∷ tests) (c ∷ cs) = passes tests cs && test c
-
 -- the states from s on read bytes that pass these tests, one after another, and lead to e
 abbrev pub ReadsEach : List State → ℕ → List (ℕ → Bool) → ℕ → Type 0
 ReadsEach a s [] e = s ≡ e
@@ -51,36 +44,6 @@ AreRead a [] [] e = Unit {0}
 AreRead a [] (row ∷ rows) e = ⊥
 AreRead a (s ∷ ss) [] e = ⊥
 AreRead a (s ∷ ss) (row ∷ rows) e = ReadsEach a s row e × AreRead a ss rows e
-
--- the bytes after the first byte of a character, but for some second ones
-abbrev pub continues : ℕ → Bool
-continues = is_between (0x80, 0xBF)
-
--- a character of one byte that `?` matches
-abbrev pub is_ascii_wild : Options → ℕ → Bool
-is_ascii_wild o c = is_between (0x00, 0x7F) c && is_wild o c
-
--- the first byte of a character of three bytes, of which the second is any that continues one
-abbrev pub begins_three : ℕ → Bool
-begins_three c = not (c == 0xED) && is_between (0xE1, 0xEF) c
-
-abbrev pub three_byte_rows : List (List (ℕ → Bool))
-three_byte_rows =
-    (is_between (0xE0, 0xE0) ∷ is_between (0xA0, 0xBF) ∷ continues ∷ [])
-    ∷ (begins_three ∷ continues ∷ continues ∷ [])
-    ∷ (is_between (0xED, 0xED) ∷ is_between (0x80, 0x9F) ∷ continues ∷ [])
-    ∷ []
-
-abbrev pub four_byte_rows : List (List (ℕ → Bool))
-four_byte_rows =
-    (is_between (0xF0, 0xF0) ∷ is_between (0x90, 0xBF) ∷ continues ∷ continues ∷ [])
-    ∷ (is_between (0xF1, 0xF3) ∷ continues ∷ continues ∷ continues ∷ [])
-    ∷ (is_between (0xF4, 0xF4) ∷ is_between (0x80, 0x8F) ∷ continues ∷ continues ∷ [])
-    ∷ []
-
--- What `?` matches under `whole_character`, row by row. Two rows of the Unicode Standard are one, which saves a state.
-abbrev pub wild_rows : Options → List (List (ℕ → Bool))
-wild_rows o = (is_ascii_wild o ∷ []) ∷ (is_between (0xC2, 0xDF) ∷ continues ∷ []) ∷ (three_byte_rows ++ four_byte_rows)
 
 -- the states of such a `?`: s skips to one for each row
 abbrev pub IsCharacter : Options → List State → ℕ → ℕ → Type 0

@@ -1,6 +1,6 @@
 //! The keys of globs are bytes, as the contracts of functions that do nothing.
 
-ghost use Rattle.byte_nfa.specs.Texts.{AllBytes};
+ghost use Rattle.bit_sets.specs.Texts.{AllBytes};
 ghost use Rattle.glob_strategy.specs.Below.{HasBytes};
 ghost use Rattle.glob_strategy.specs.StrategyMeaning.{strategy_seen};
 

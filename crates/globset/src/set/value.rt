@@ -7,6 +7,7 @@ ghost use Rattle.globset.specs.SetFromValue.{globs_from, globs_of_value};
 ghost use Rattle.globset.specs.SetValue.{set_globs};
 
 use crate::set::GlobSet;
+use crate::set::storing::add;
 use glob_text::error_of_element;
 use globset_glob::{DEFAULT_DFA_SIZE_LIMIT, Glob, ValueError, ValueErrorKind};
 use globset_set::{Stored, StoredBuilder};
@@ -52,7 +53,7 @@ fn read_globs(alloc: Global, values: &[Value]) -> Result<Stored, ValueError>
     let mut builder = StoredBuilder::new(alloc, values.len());
     for (index, value) in values.iter().enumerate() {
         match Glob::from_value(alloc, value) {
-            Ok(glob) => builder.add(&glob)?,
+            Ok(glob) => add(&mut builder, &glob)?,
             Err(error) => return Err(error_of_element(index, error)),
         }
     }

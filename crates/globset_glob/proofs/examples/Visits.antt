@@ -2,7 +2,7 @@
 -- each position of the path. Each row computes.
 use Rattle.std.specs.Prelude.{◌≡◌, ◌+◌, ◌*◌, [], ◌∷◌, refl}
 use Rattle.glob_syntax.specs.declared.options.TheConstants.Options.{DEFAULT}
-use Rattle.globset_glob.specs.Cost.{cost, max_visits}
+use Rattle.glob_text.specs.Cost.{cost, max_visits}
 use Rattle.glob_text.proofs.examples.Unfoldings.{glob_on_literals}
 use Rattle.glob_syntax.proofs.examples.Words.{whole}
 use Rattle.glob_text.proofs.examples.Words.{utf8, glob_of}

@@ -7,7 +7,7 @@ use Rattle.glob_nfa.specs.IndexedTokens.{indexed, IsFor}
 use Rattle.glob_strategy.specs.inner.DecidedByKey.{IsDecidedBy}
 use Rattle.glob_path.specs.Key.{key_seen}
 use Rattle.glob_text.specs.GlobMatches.{GlobValue, tokens_of_glob}
-use Rattle.globset_glob.specs.Cost.{cost}
+use Rattle.glob_text.specs.Cost.{cost}
 use Rattle.globset_glob.specs.declared.matcher.strategy.Strategy.{Strategy}
 use Rattle.globset_glob.specs.declared.matcher.strategy.Strategy.TheVariants.{Key, Nfa}
 

@@ -1,7 +1,7 @@
 //! By what a matcher decides.
 
 ghost use Rattle.std.specs.Prelude.{◌≡◌, ◌+◌, ◌≤◌, ◌↔◌, IfOk, IsTrue};
-ghost use Rattle.globset_glob.specs.Cost.{max_visits, max_visits_below};
+ghost use Rattle.glob_text.specs.Cost.{max_visits, max_visits_below};
 ghost use Rattle.globset_glob.specs.GlobBelow.{GlobMatchesBelow};
 ghost use Rattle.glob_text.specs.GlobMatches.{GlobValue, glob_matches};
 ghost use Rattle.globset_glob.specs.inner.GlobNfa.{IsAutomatonOf, IsStrategyOfMatcher, form_states};

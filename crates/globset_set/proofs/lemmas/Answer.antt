@@ -5,8 +5,8 @@ use Rattle.std.specs.List.{range_with_len}
 use Rattle.std.proofs.lemmas.List.{length-map}
 use Rattle.std.proofs.Math.Nat.{mul-le-mul_left}
 use Rattle.glob_path.specs.Below.{path_below}
-use Rattle.globset_glob.specs.GlobMatches.{GlobValue, glob_matches}
-use Rattle.set_matcher.specs.Globs.{TokenGlob, reported_indexes, max_visits}
+use Rattle.glob_text.specs.GlobMatches.{GlobValue, glob_matches}
+use Rattle.set_matcher.specs.Globs.{reported_indexes, max_visits}
 use Rattle.set_matcher.specs.Below as below
 use Rattle.set_matcher.specs.Globs as tokens
 use Rattle.set_matcher.specs.Indexes.{passes_at}

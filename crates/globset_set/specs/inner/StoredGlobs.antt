@@ -1,6 +1,6 @@
 -- What a set stores, and its globs. No contract of `globset` cites this.
 use Rattle.std.specs.Prelude.{◌≡◌, ◌≤◌, ℕ, All, List, length, map}
-use Rattle.globset_glob.specs.GlobMatches.{GlobValue, IsRead, tokens_of_glob}
+use Rattle.glob_text.specs.GlobMatches.{GlobValue, IsRead, tokens_of_glob}
 use Rattle.set_matcher.specs.Below as below
 use Rattle.set_matcher.specs.Globs as tokens
 use Rattle.set_matcher.specs.Globs.{TokenGlob, token_glob}

@@ -3,7 +3,7 @@
 ghost use Rattle.std.specs.Prelude.{◌≡◌, ℕ, ◌+◌, ◌≤◌, ◌↔◌, List, IsTrue};
 ghost use Rattle.byte_nfa.specs.Runs.{size, AcceptsFrom};
 ghost use Rattle.bit_sets.specs.StateSets.{state_capacity};
-ghost use Rattle.byte_nfa.specs.Texts.{AllBytes};
+ghost use Rattle.bit_sets.specs.Texts.{AllBytes};
 
 use crate::nfa::Nfa;
 use bit_sets::StateSet;

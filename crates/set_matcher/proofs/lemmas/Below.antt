@@ -7,8 +7,8 @@ use Rattle.std.proofs.lemmas.Nat.{mul-le}
 use Rattle.byte_nfa.specs.Live.{MatchesAfter}
 use Rattle.byte_nfa.specs.Runs.{max_reads}
 use Rattle.byte_nfa.specs.Steps.{Machine}
-use Rattle.byte_nfa.specs.Texts.{AllBytes}
-use Rattle.glob_nfa.specs.After.{SomeMeanAfter}
+use Rattle.bit_sets.specs.Texts.{AllBytes}
+use Rattle.glob_nfa.specs.IndexedTokens.{SomeMeanAfter}
 use Rattle.glob_nfa.specs.IndexedTokens.{IndexedTokens, IsFor}
 use Rattle.glob_nfa.proofs.lemmas.IndexedTokens.{reached_matches}
 use Rattle.glob_matching.proofs.lemmas.Compiled.{some_after, after_some}

@@ -15,7 +15,8 @@ use Rattle.byte_nfa.specs.Runs.{size, max_reads}
 use Rattle.byte_table.specs.Entries.{Entry, entry, indexes_under}
 use Rattle.byte_table.specs.inner.Lists.{with_index}
 use Rattle.byte_table.proofs.lemmas.Entries.{indexes_added}
-use Rattle.glob_nfa.specs.After.{MeanAfter, SomeMeanAfter}
+use Rattle.glob_meaning.specs.After.{MeanAfter}
+use Rattle.glob_nfa.specs.IndexedTokens.{SomeMeanAfter}
 use Rattle.glob_nfa.specs.IndexedTokens.{IndexedTokens, IsFor}
 use Rattle.set_matcher.specs.inner.Automata.{ExtensionParts, AreExtensionMatchers, AreFor, KeepsTokens, AddsTokens, SomeExtensionAfter, first, max_size, slot_of, tokens_under, total_reads, machine_under}
 use Rattle.set_matcher.proofs.lemmas.Tables.{first_in, under_push, first_push}

@@ -1,7 +1,7 @@
 -- What is stored to tell which globs of a list match a path.
 use Rattle.std.specs.Prelude.{◌≡◌, ◌↔◌, ◌⊎◌, ℕ, ◌≤◌, List, Contains, cond, length, sum_by, IsTrue}
 use Rattle.set_matcher.specs.Globs.{FlatGlob, TokenGlob, is_reported, is_reported_at, load, token_globs}
-use Rattle.byte_nfa.specs.Texts.{AllBytes}
+use Rattle.bit_sets.specs.Texts.{AllBytes}
 use Rattle.set_matcher.specs.Below.{SomeReportedBelow, load_below}
 use Rattle.literal_index.specs.Below.{MatchesBelow}
 use Rattle.literal_index.specs.LiteralIndex.{KeyParts, keys_found}

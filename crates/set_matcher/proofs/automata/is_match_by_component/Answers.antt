@@ -2,7 +2,7 @@ use Rattle.std.proofs.Common.{◌≡◌, ℕ, List, IsTrue, ap, subst, arith, �
 use Rattle.std.specs.Prelude.{◌↔◌, IfOk}
 use Rattle.byte_nfa.specs.Runs.{size, max_reads}
 use Rattle.glob_nfa.specs.IndexedTokens.{IndexedTokens, SomeMatches, IsFor}
-use Rattle.glob_nfa.proofs.lemmas.IndexedTokens.{all_bytes}
+use Rattle.bit_sets.proofs.lemmas.Texts.{all_bytes}
 use Rattle.glob_path.specs.PathParts.{last_component}
 use Rattle.set_matcher.proofs.lemmas.Automata.{component_bytes, component_visits, no_matches}
 use Rattle.set_matcher.proofs.automata.is_match_by_component.Goals as goal

@@ -1,6 +1,6 @@
 use Rattle.std.proofs.Common.{◌≡◌, arith, true≢false, sym}
 use Rattle.byte_nfa.specs.Runs.{size}
-use Rattle.glob_nfa.proofs.lemmas.IndexedTokens.{all_bytes}
+use Rattle.bit_sets.proofs.lemmas.Texts.{all_bytes}
 use Rattle.set_matcher.proofs.lemmas.Automata.{no_matches}
 use Rattle.set_matcher.proofs.automata.is_match_by_path.Goals as goal
 

@@ -4,7 +4,7 @@ use Rattle.std.proofs.Math.Logic.{⊎_elim}
 use Rattle.byte_nfa.specs.Runs.{size, max_reads}
 use Rattle.bit_sets.specs.Indexes.{has_index}
 use Rattle.glob_nfa.specs.IndexedTokens.{IndexedTokens, SomeMatches, IsFor}
-use Rattle.glob_nfa.proofs.lemmas.IndexedTokens.{all_bytes}
+use Rattle.bit_sets.proofs.lemmas.Texts.{all_bytes}
 use Rattle.set_matcher.specs.inner.Automata.{before_extension}
 use Rattle.set_matcher.proofs.lemmas.Automata.{before_bytes, before_visits, no_matches}
 use Rattle.set_matcher.proofs.automata.run_by_extension.Goals as goal

@@ -2,7 +2,7 @@ use Rattle.std.proofs.Common.{◌≡◌, inr, IsTrue, arith}
 use Rattle.std.proofs.Math.Logic.{⊎_elim}
 use Rattle.byte_nfa.specs.Runs.{size}
 use Rattle.bit_sets.specs.Indexes.{has_index}
-use Rattle.glob_nfa.proofs.lemmas.IndexedTokens.{all_bytes}
+use Rattle.bit_sets.proofs.lemmas.Texts.{all_bytes}
 use Rattle.set_matcher.proofs.lemmas.Automata.{no_matches}
 use Rattle.set_matcher.proofs.automata.run_by_path.Goals as goal
 

@@ -1,5 +1,5 @@
 use Rattle.std.proofs.Common.{◌≡◌, ℕ, true, false, List, refl, ap, subst}
-use Rattle.byte_nfa.specs.Texts.{AllBytes}
+use Rattle.bit_sets.specs.Texts.{AllBytes}
 use Rattle.glob_syntax.specs.Views.{tokens_of}
 use Rattle.glob_strategy.specs.Below.{StrategyIsSoundBelow}
 use Rattle.glob_strategy.specs.declared.strategy.MatchStrategy.{MatchStrategy}

@@ -3,7 +3,7 @@ use Rattle.std.proofs.lemmas.List.{drop_more, drop_all}
 use Rattle.std.specs.Prelude.{◌↔◌, slice_index_or}
 use Rattle.byte_nfa.specs.Live.{MatchesAfter}
 use Rattle.bit_sets.specs.Numbers.{is_reported}
-use Rattle.byte_nfa.proofs.lemmas.Deciding.{all_bytes}
+use Rattle.bit_sets.proofs.lemmas.Texts.{all_bytes}
 use Rattle.byte_nfa.proofs.lemmas.Pass.{or_first}
 use Rattle.byte_dfa.specs.DfaValue.{DfaValue}
 use Rattle.byte_dfa.specs.inner.Tables.{table_of, transition, after, special, on_entry, later}

@@ -1,7 +1,7 @@
 use Rattle.std.proofs.Common.{◌≡◌, ℕ, ◌+◌, ◌<◌, ◌∷◌, ◌-◌, [], drop, length, get_or, slice_index, true≢false, arith, sym, ap, ◌∙◌}
 use Rattle.std.proofs.lemmas.List.{drop_more, drop_all}
 use Rattle.bit_sets.specs.Numbers.{is_reported}
-use Rattle.byte_nfa.proofs.lemmas.Deciding.{all_bytes}
+use Rattle.bit_sets.proofs.lemmas.Texts.{all_bytes}
 use Rattle.byte_nfa.proofs.lemmas.Pass.{or_first}
 use Rattle.byte_dfa.specs.DfaValue.{DfaValue}
 use Rattle.byte_dfa.specs.inner.Tables.{table_of, transition, special, on_entry, at_end, later, finds}

@@ -2,7 +2,7 @@ use Rattle.std.proofs.Common.{◌+◌, ◌*◌, ◌≤◌, length, inl, inr, IsT
 use Rattle.std.proofs.Math.Logic.{⊎_elim}
 use Rattle.std.proofs.lemmas.Nat.{mul-le}
 use Rattle.bit_sets.specs.Indexes.{has_index, index_capacity}
-use Rattle.byte_nfa.proofs.lemmas.Deciding.{all_bytes}
+use Rattle.bit_sets.proofs.lemmas.Texts.{all_bytes}
 use Rattle.byte_filter.specs.Entries.{IsNamed}
 use Rattle.byte_filter.specs.Others.{IsOther}
 use Rattle.byte_filter.specs.Starts.{Guards}

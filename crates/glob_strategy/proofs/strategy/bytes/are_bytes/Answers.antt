@@ -1,5 +1,5 @@
 use Rattle.std.proofs.Common.{arith}
-use Rattle.glob_nfa.proofs.lemmas.IndexedTokens.{all_bytes}
+use Rattle.bit_sets.proofs.lemmas.Texts.{all_bytes}
 use Rattle.glob_strategy.proofs.strategy.bytes.are_bytes.Goals as goal
 
 pub returns : goal.returns

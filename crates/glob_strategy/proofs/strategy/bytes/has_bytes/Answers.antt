@@ -1,5 +1,5 @@
 use Rattle.std.proofs.Common.{subst, sym}
-use Rattle.byte_nfa.specs.Texts.{AllBytes}
+use Rattle.bit_sets.specs.Texts.{AllBytes}
 use Rattle.glob_strategy.specs.Below.{HasBytes}
 use Rattle.glob_strategy.specs.StrategyMeaning.{strategy_seen}
 use Rattle.glob_strategy.specs.declared.strategy.MatchStrategy.{MatchStrategy}

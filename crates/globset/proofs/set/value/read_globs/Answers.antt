@@ -13,7 +13,7 @@ pub loop-index-preserved : goal.loop-index-preserved
 loop-index-preserved c =
     let given = c.loop-index.builder.given in
     let more = c.in_ok-add-in-Ok.ensures.glob in record {
-      read = one_glob c.args.values.now c.loop-index.index c.index-values-index.result given c.add.new.self.given c.in-Ok.glob c.in-Ok.glob
+      read = one_glob c.args.values.now c.loop-index.index c.index-values-index.result given c.add.new.builder.given c.in-Ok.glob c.in-Ok.glob
           (globs_from 0 (items_view c.args.values.now)) c.loop-index-test.true c.index-values-index.is c.loop-index.invariant.read c.in-Ok.ensures.ok refl more;
       so_far = omega (arith, ap length more, length-append given (c.in-Ok.glob ∷ []), c.loop-index.invariant.so_far);
       count = c.add.ensures.count ∙ c.loop-index.invariant.count;

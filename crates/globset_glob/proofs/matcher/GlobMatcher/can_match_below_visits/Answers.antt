@@ -1,7 +1,7 @@
 use Rattle.std.proofs.Common.{IsTrue, ap, subst, arith}
 use Rattle.std.specs.Prelude.{◌↔◌}
 use Rattle.glob_text.specs.GlobMatches.{GlobValue}
-use Rattle.globset_glob.specs.Cost.{max_visits_below}
+use Rattle.glob_text.specs.Cost.{max_visits_below}
 use Rattle.globset_glob.specs.GlobBelow.{GlobMatchesBelow}
 use Rattle.globset_glob.proofs.matcher.GlobMatcher.can_match_below_visits.Goals as goal
 

@@ -1,6 +1,6 @@
 use Rattle.std.proofs.Common.{ap, ◌∙◌, arith}
 use Rattle.glob_text.specs.GlobMatches.{GlobValue, glob_matches}
-use Rattle.globset_glob.specs.Cost.{max_visits}
+use Rattle.glob_text.specs.Cost.{max_visits}
 use Rattle.globset_glob.proofs.matcher.GlobMatcher.is_match_visits.Goals as goal
 
 pub returns-clause-ok : goal.returns-clause-ok

@@ -1,6 +1,6 @@
 use Rattle.std.proofs.Common.{◌≡◌, ◌+◌, ◌*◌, ◌≤◌, length, ap, sym, subst, true≢false, arith, ◌∙◌}
 use Rattle.glob_nfa.specs.IndexedTokens.{IsFor}
-use Rattle.glob_nfa.proofs.lemmas.IndexedTokens.{all_bytes}
+use Rattle.bit_sets.proofs.lemmas.Texts.{all_bytes}
 use Rattle.byte_nfa.specs.Runs.{size, max_reads}
 use Rattle.nfa_simulation.specs.Sets.{sets_capacity}
 use Rattle.byte_nfa.specs.Steps.{Machine}

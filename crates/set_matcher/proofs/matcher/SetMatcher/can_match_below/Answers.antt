@@ -1,7 +1,7 @@
 use Rattle.std.proofs.Common.{List, ap, sym, subst, arith, true, true≢false, ◌∙◌}
 use Rattle.std.specs.Prelude.{◌↔◌, IsTrue}
 use Rattle.std.proofs.lemmas.Result.{IfOk-weaker}
-use Rattle.glob_nfa.proofs.lemmas.IndexedTokens.{all_bytes}
+use Rattle.bit_sets.proofs.lemmas.Texts.{all_bytes}
 use Rattle.set_matcher.specs.Below.{SomeReportedBelow}
 use Rattle.set_matcher.specs.Globs.{TokenGlob, token_globs}
 use Rattle.set_matcher.specs.SetMatcherValue.{matcher_globs}

@@ -5,7 +5,7 @@ use Rattle.std.proofs.lemmas.Result.{IfOk-weaker}
 use Rattle.byte_nfa.specs.Runs.{size}
 use Rattle.glob_nfa.specs.IndexedTokens.{indexed}
 use Rattle.glob_text.specs.GlobMatches.{tokens_of_glob}
-use Rattle.globset_glob.specs.Cost.{cost}
+use Rattle.glob_text.specs.Cost.{cost}
 use Rattle.globset_glob.specs.GlobBelow.{GlobMatchesBelow}
 use Rattle.globset_glob.specs.declared.matcher.strategy.Strategy.{Strategy}
 use Rattle.globset_glob.specs.inner.GlobNfa.{IsAutomatonOf, IsStrategyOfMatcher}

@@ -4,7 +4,7 @@ use Rattle.std.proofs.lemmas.Result.{IfOk-weaker}
 use Rattle.byte_nfa.specs.Runs.{max_reads}
 use Rattle.glob_nfa.specs.IndexedTokens.{indexed}
 use Rattle.glob_text.specs.GlobMatches.{tokens_of_glob, glob_matches}
-use Rattle.globset_glob.specs.Cost.{cost}
+use Rattle.glob_text.specs.Cost.{cost}
 use Rattle.globset_glob.specs.declared.matcher.strategy.Strategy.{Strategy}
 use Rattle.globset_glob.specs.inner.GlobNfa.{IsAutomatonOf, IsStrategyOfMatcher}
 use Rattle.globset_glob.proofs.lemmas.GlobNfa.{key_matches_glob, one_matches, one_visit}

@@ -1,0 +1,6 @@
+pub mod Blank
+pub mod Characters
+pub mod TokenMatches
+pub mod TokensMatch
+pub mod After
+pub mod inner

@@ -1,0 +1,65 @@
+//! What sets store, from globs.
+
+ghost use Rattle.std.specs.Prelude.{◌≡◌, ◌<◌, ◌++◌, ◌∷◌, [], IfOk, IfErr, OnOk, OnErr, length, map};
+ghost use Rattle.globset_glob.specs.Errors.{out_of_memory};
+ghost use Rattle.globset_set.specs.SetValue.{set_globs};
+
+use globset_glob::{DEFAULT_DFA_SIZE_LIMIT, Error, Glob, options_of, text_of, tokens_of};
+use globset_set::{Stored, StoredBuilder};
+use std::alloc::{AllocError, Global};
+
+/// Adds a glob after those that were added. It takes time and memory linear in the glob's text. Returns an error if memory runs
+/// out; the builder then has no globs.
+pub fn add(builder: &mut StoredBuilder, glob: &Glob) -> Result<(), AllocError>
+    requires { length builder.old.given < builder.old.count }
+    ensures glob { OnOk result (builder.new.given ≡ builder.old.given ++ glob.now ∷ []) }
+    ensures none { OnErr result (builder.new.given ≡ []) }
+    ensures count { builder.new.count ≡ builder.old.count }
+{
+    builder.add(text_of(glob), options_of(glob), tokens_of(glob))
+}
+
+/// Returns what the set of these globs stores. They are not copied. The tables of deterministic automata take at most
+/// `dfa_size_limit` bytes. Returns an error if memory runs out, and no other.
+pub fn stored_of_slice(
+    alloc: Global,
+    dfa_size_limit: usize,
+    globs: &[Glob],
+) -> Result<Stored, Error>
+    ensures ok { IfOk result (λ s. set_globs s ≡ globs.now) }
+    ensures err { IfErr result (λ e. e ≡ out_of_memory) }
+{
+    let mut builder = StoredBuilder::new(alloc, globs.len());
+    for glob in globs {
+        add(&mut builder, glob)?;
+    }
+    Ok(builder.finish(dfa_size_limit)?)
+}
+
+/// Returns what the set of these globs stores, as [`stored_of_slice`] does, and drops each once it is added.
+pub fn stored_of_globs(
+    alloc: Global,
+    dfa_size_limit: usize,
+    globs: Vec<Glob>,
+) -> Result<Stored, Error>
+    ensures ok { IfOk result (λ s. set_globs s ≡ globs.items) }
+    ensures err { IfErr result (λ e. e ≡ out_of_memory) }
+{
+    let mut builder = StoredBuilder::new(alloc, globs.len());
+    for glob in globs {
+        add(&mut builder, &glob)?;
+    }
+    Ok(builder.finish(dfa_size_limit)?)
+}
+
+/// Returns what the set of these globs stores, as [`stored_of_slice`] does, under the default limit.
+pub fn stored_of_references(alloc: Global, references: &[&Glob]) -> Result<Stored, Error>
+    ensures ok { IfOk result (λ s. set_globs s ≡ map (λ g. g.now) references.now) }
+    ensures err { IfErr result (λ e. e ≡ out_of_memory) }
+{
+    let mut builder = StoredBuilder::new(alloc, references.len());
+    for glob in references {
+        add(&mut builder, glob)?;
+    }
+    Ok(builder.finish(DEFAULT_DFA_SIZE_LIMIT)?)
+}
