@@ -11,5 +11,4 @@ mod Recursive
 mod RegexTexts
 mod Separator
 mod SmallRegex
-mod Values
 mod Wildcards

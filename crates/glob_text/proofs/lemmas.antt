@@ -7,6 +7,4 @@ pub mod EscapeReading
 pub mod Expressions
 pub mod GlobEquality
 pub mod Globs
-pub mod Members
 pub mod RegexWriting
-pub mod Values

@@ -2,10 +2,10 @@
 use Rattle.std.specs.Prelude.{◌≡◌, string_bytes}
 use Rattle.glob_text.specs.declared.error.kind.ErrorKind.{ErrorKind}
 use Rattle.glob_text.specs.declared.error.kind.ErrorKind.TheVariants as kinds
-use Rattle.glob_text.specs.declared.json.error.ValueErrorKind.{ValueErrorKind}
-use Rattle.glob_text.specs.declared.json.error.ValueErrorKind.TheVariants as causes
+use Rattle.glob_text.specs.declared.value_error.ValueErrorKind.{ValueErrorKind}
+use Rattle.glob_text.specs.declared.value_error.ValueErrorKind.TheVariants as causes
 use Rattle.glob_text.specs.Errors.{ErrorValue}
-use Rattle.glob_text.specs.Values.{ValueErrorValue}
+use Rattle.glob_text.specs.ValueErrors.{ValueErrorValue}
 
 -- Kinds of errors are equal if they are the same variant, with the same characters or the same text. `≡` would compare
 -- where the text is in memory too.

@@ -5,6 +5,6 @@ pub mod RegexText
 pub mod RegexDenotes
 pub mod Errors
 pub mod Equality
-pub mod Values
+pub mod ValueErrors
 pub mod Escape
 pub mod inner

@@ -32,4 +32,5 @@ pub use Rattle.glob_path.specs.PathParts
 pub use Rattle.globset_glob.specs.Errors
 pub use Rattle.globset_glob.specs.Equality
 pub use Rattle.globset_glob.specs.Values
+pub use Rattle.globset_glob.specs.ValueErrors
 pub use Rattle.globset_glob.specs.Escape

@@ -2,7 +2,8 @@
 use Rattle.std.specs.Prelude.{ℕ, ◌+◌, List, [], ◌∷◌, Result, Ok, Err}
 use Rattle.serde_json.specs.Data.{Data, null, boolean, number, string, array, object, Items, no_items, item}
 use Rattle.globset_glob.specs.GlobMatches.{GlobValue}
-use Rattle.globset_glob.specs.Values.{ValueErrorValue, not_array, at_index, glob_of_value}
+use Rattle.globset_glob.specs.ValueErrors.{ValueErrorValue, not_array, at_index}
+use Rattle.globset_glob.specs.Values.{glob_of_value}
 
 -- a glob and the globs after it, or the error of what comes after it
 abbrev pub ahead_of : GlobValue → Result (List GlobValue) ValueErrorValue → Result (List GlobValue) ValueErrorValue

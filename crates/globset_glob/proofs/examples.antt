@@ -1,1 +1,2 @@
+mod Values
 mod Visits

@@ -1,1 +1,3 @@
 pub mod GlobNfa
+pub mod Members
+pub mod Values

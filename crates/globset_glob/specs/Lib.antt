@@ -1,3 +1,4 @@
+pub mod Values
 pub mod GlobBelow
 pub mod inner
 pub use Rattle.glob_text.specs.GlobMatches
@@ -7,7 +8,7 @@ pub use Rattle.glob_text.specs.RegexText
 pub use Rattle.glob_text.specs.RegexDenotes
 pub use Rattle.glob_text.specs.Errors
 pub use Rattle.glob_text.specs.Equality
-pub use Rattle.glob_text.specs.Values
+pub use Rattle.glob_text.specs.ValueErrors
 pub use Rattle.glob_text.specs.Escape
 pub use Rattle.glob_syntax.specs.Token
 pub use Rattle.glob_syntax.specs.Ranges

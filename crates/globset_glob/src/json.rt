@@ -1,13 +1,18 @@
 //! Globs as JSON values.
 
-ghost use Rattle.std.specs.Prelude.{◌≡◌, IfOk, IfErr, Ok};
+ghost use Rattle.std.specs.Prelude.{◌≡◌, Err, IfOk, IfErr, MatchResult, Ok};
 ghost use Rattle.serde_json.specs.View.{view};
-ghost use Rattle.glob_text.specs.Errors.{out_of_memory};
+ghost use Rattle.glob_text.specs.Errors.{glob_or_parse_error, out_of_memory};
 ghost use Rattle.glob_text.specs.GlobMatches.{IsRead};
-ghost use Rattle.glob_text.specs.Values.{IsValueErrorOf, glob_of_value, value_of_glob};
+ghost use Rattle.glob_text.specs.ValueErrors.{IsValueErrorOf, of_kind};
+ghost use Rattle.globset_glob.specs.Values.{glob_of_value, of_text, value_of_glob};
+
+mod object;
 
 use crate::glob::Glob;
-use glob_text::{Error, ValueError, text_and_options, value_of};
+use glob_syntax::Options;
+use glob_text::{Error, ValueError, ValueErrorKind};
+use object::{members_text_and_options, value_of};
 use serde_json::Value;
 use std::alloc::Global;
 
@@ -26,7 +31,7 @@ impl Glob {
     /// assert_eq!(rt; text.as_str(), r#"{"glob":"*.rs","literal_separator":true}"#);
     /// assert!(rt; Glob::from_value(alloc, &value)? == glob);
     /// ```
-    #[tactic(auto, using(glob_text::proofs::lemmas::Values::read_back))]
+    #[tactic(auto, using(crate::proofs::lemmas::Values::read_back))]
     pub fn to_value(&self) -> Result<Value, Error>
         ensures ok { IfOk result (λ value. view value ≡ value_of_glob self.now) }
         ensures read_back { IfOk result (λ value. glob_of_value (view value) ≡ Ok self.now) }
@@ -54,5 +59,22 @@ impl Glob {
     {
         let (text, options) = text_and_options(value)?;
         Ok(Glob::read(alloc, options, text)?)
+    }
+}
+
+/// Returns the text and the options of the glob that a JSON value stands for: a text, which has the default options, or an
+/// object. Whether the text is a glob is not looked at.
+///
+/// Returns the first of these errors: [`ValueErrorKind::NotText`], [`ValueErrorKind::UnknownKey`],
+/// [`ValueErrorKind::NotBool`].
+fn text_and_options(value: &Value) -> Result<(&str, Options), ValueErrorKind>
+    ensures { MatchResult result
+        (λ (text, options). glob_of_value (view value.now) ≡ of_text (glob_or_parse_error (record { text = text.now; options = options })))
+        (λ kind. glob_of_value (view value.now) ≡ Err (of_kind kind)) }
+{
+    match value {
+        Value::String(text) => Ok((text.as_str(), Options::DEFAULT)),
+        Value::Object(members) => members_text_and_options(members),
+        _ => Err(ValueErrorKind::NotText),
     }
 }

@@ -6,7 +6,7 @@ use Rattle.serde_json.specs.Read.{read}
 use Rattle.globset.specs.GlobMatches.{GlobValue}
 use Rattle.globset.specs.Errors.{ErrorValue, glob_or_parse_error, out_of_memory}
 use Rattle.globset.specs.SetFromValue.{globs_of_value}
-use Rattle.globset.specs.Values.{ValueErrorValue}
+use Rattle.globset.specs.ValueErrors.{ValueErrorValue}
 use Rattle.globset.specs.SetValue.{set_globs}
 use Rattle.line_filter.specs.declared.arguments.parsed.Command.{Command}
 use Rattle.line_filter.specs.declared.arguments.fault.CommandFault.{CommandFault}

@@ -1,7 +1,7 @@
 -- The texts of errors.
 use Rattle.std.specs.Prelude.{ℕ, List, ◌++◌, codes}
 use Rattle.globset.specs.Errors.{error_text}
-use Rattle.globset.specs.Values.{value_error_text}
+use Rattle.globset.specs.ValueErrors.{value_error_text}
 use Rattle.line_filter.specs.Command.{fault_value, FaultValue, unknown_option, no_glob, set_without_text, set_not_alone, not_json, glob_error, value_error}
 use Rattle.line_filter.specs.declared.fault.Fault.{Fault}
 use Rattle.line_filter.specs.declared.fault.Fault.TheVariants.{Command, Sift}

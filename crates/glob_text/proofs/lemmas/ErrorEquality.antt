@@ -9,10 +9,10 @@ use Rattle.std.proofs.lemmas.Cmp.{nat_eq_equiv, nat_list_eq_equiv}
 use Rattle.std.proofs.lemmas.Slice.Eq.{bytes_eq-Decides}
 use Rattle.glob_text.specs.declared.error.kind.ErrorKind.{ErrorKind}
 use Rattle.glob_text.specs.declared.error.kind.ErrorKind.TheVariants as kinds
-use Rattle.glob_text.specs.declared.json.error.ValueErrorKind.{ValueErrorKind}
-use Rattle.glob_text.specs.declared.json.error.ValueErrorKind.TheVariants as causes
+use Rattle.glob_text.specs.declared.value_error.ValueErrorKind.{ValueErrorKind}
+use Rattle.glob_text.specs.declared.value_error.ValueErrorKind.TheVariants as causes
 use Rattle.glob_text.specs.Errors.{ErrorValue}
-use Rattle.glob_text.specs.Values.{ValueErrorValue}
+use Rattle.glob_text.specs.ValueErrors.{ValueErrorValue}
 use Rattle.glob_text.specs.Equality.{SameKind, SameError, SameValueKind, SameValueError}
 use Rattle.glob_text.specs.inner.Equality.{same_kind, same_kind_laws, same_error, same_value_kind, same_value_kind_laws, same_value_error}
 

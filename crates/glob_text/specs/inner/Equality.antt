@@ -12,11 +12,11 @@ use Rattle.std.proofs.lemmas.Cmp.{and_equiv, on_equiv, nat_eq_equiv, nat_list_eq
 use Rattle.glob_syntax.specs.declared.options.Options.{Options}
 use Rattle.glob_text.specs.declared.error.kind.ErrorKind.{ErrorKind}
 use Rattle.glob_text.specs.declared.error.kind.ErrorKind.TheVariants as kinds
-use Rattle.glob_text.specs.declared.json.error.ValueErrorKind.{ValueErrorKind}
-use Rattle.glob_text.specs.declared.json.error.ValueErrorKind.TheVariants as causes
+use Rattle.glob_text.specs.declared.value_error.ValueErrorKind.{ValueErrorKind}
+use Rattle.glob_text.specs.declared.value_error.ValueErrorKind.TheVariants as causes
 use Rattle.glob_text.specs.GlobMatches.{GlobValue}
 use Rattle.glob_text.specs.Errors.{ErrorValue}
-use Rattle.glob_text.specs.Values.{ValueErrorValue}
+use Rattle.glob_text.specs.ValueErrors.{ValueErrorValue}
 
 -- ---- globs
 

@@ -2,9 +2,9 @@
 use Rattle.std.specs.Prelude.{◌≡◌, [], ◌∷◌, true, Ok, Err, codes, refl}
 use Rattle.serde_json.specs.Data.{boolean, number, unsigned, string, array, object, no_items, item, no_members, member}
 use Rattle.glob_syntax.specs.declared.parse_error_kind.ParseErrorKind.TheVariants.{UnclosedClass}
-use Rattle.glob_text.specs.declared.json.error.ValueErrorKind.TheVariants.{Glob}
+use Rattle.glob_text.specs.declared.value_error.ValueErrorKind.TheVariants.{Glob}
 use Rattle.globset_glob.specs.Errors.{parse_error}
-use Rattle.globset_glob.specs.Values.{of_kind, not_text, unknown_key, not_array, at_index}
+use Rattle.globset_glob.specs.ValueErrors.{of_kind, not_text, unknown_key, not_array, at_index}
 use Rattle.globset.specs.SetFromValue.{globs_of_value}
 use Rattle.globset.proofs.examples.Words.{globs_on_literals, glob, insensitive, globs}
 

@@ -9,12 +9,13 @@ use Rattle.serde_json.specs.View.{view, items_view}
 use Rattle.serde_json.specs.declared.value.Value.{Value}
 use Rattle.glob_syntax.specs.declared.parse_error_kind.ParseErrorKind.{ParseErrorKind}
 use Rattle.glob_syntax.specs.declared.parse_error_kind.ParseErrorKind.TheVariants as faults
-use Rattle.glob_text.specs.declared.json.error.ValueErrorKind.TheVariants.{Glob}
+use Rattle.glob_text.specs.declared.value_error.ValueErrorKind.TheVariants.{Glob}
 use Rattle.globset_glob.specs.Errors.{parse_error, glob_or_parse_error}
 use Rattle.globset_glob.specs.GlobMatches.{GlobValue, default_glob, default_options}
 use Rattle.globset_glob.specs.Reading.{reading}
 use Rattle.globset_glob.specs.Token.{Tokens}
-use Rattle.globset_glob.specs.Values.{ValueErrorValue, IsValueErrorOf, of_kind, of_text, of_element, at_index, not_text, unknown_key, not_bool, glob_key, has_unknown_key, has_non_boolean, options_in, glob_of_members, glob_of_value}
+use Rattle.globset_glob.specs.ValueErrors.{ValueErrorValue, IsValueErrorOf, of_kind, of_element, at_index, not_text, unknown_key, not_bool}
+use Rattle.globset_glob.specs.Values.{of_text, glob_key, has_unknown_key, has_non_boolean, options_in, glob_of_members, glob_of_value}
 use Rattle.globset.specs.SetFromValue.{ahead_of, globs_from}
 
 -- ---- the globs read so far, and what comes after them

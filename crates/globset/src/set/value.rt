@@ -2,7 +2,7 @@
 
 ghost use Rattle.std.specs.Prelude.{◌≡◌, IfOk, IfErr, MatchResult, Ok};
 ghost use Rattle.serde_json.specs.View.{view, items_view};
-ghost use Rattle.globset_glob.specs.Values.{IsValueErrorOf};
+ghost use Rattle.globset_glob.specs.ValueErrors.{IsValueErrorOf};
 ghost use Rattle.globset.specs.SetFromValue.{globs_from, globs_of_value};
 ghost use Rattle.globset.specs.SetValue.{set_globs};
 

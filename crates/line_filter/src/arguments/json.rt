@@ -4,7 +4,7 @@ ghost use Rattle.std.specs.Prelude.{◌≡◌, map, MatchResult, Ok, if◌then�
 ghost use Rattle.std.specs.List.{list_all};
 ghost use Rattle.globset.specs.Errors.{out_of_memory};
 ghost use Rattle.globset.specs.SetValue.{set_globs};
-ghost use Rattle.globset.specs.Values.{is_memory};
+ghost use Rattle.globset.specs.ValueErrors.{is_memory};
 ghost use Rattle.line_filter.specs.Command.{IsFaultOf, command_of_set, command_value, fault_value, glob_error};
 ghost use Rattle.line_filter.specs.Command.{globs_of_json, is_dash_n, value_error};
 

@@ -12,9 +12,10 @@ use Rattle.glob_text.specs.GlobMatches.{GlobValue, IsRead, default_options}
 use Rattle.glob_syntax.specs.Reading.{reading}
 use Rattle.glob_syntax.specs.Token.{Tokens}
 use Rattle.glob_text.specs.inner.Equality.{same_options}
-use Rattle.glob_text.specs.Values.{keyed_options, glob_key, of_text, has_unknown_key, is_non_boolean, has_non_boolean, option_in, options_in, glob_of_members, not_text, glob_of_value, are_default, with_options, value_of_glob}
+use Rattle.glob_text.specs.ValueErrors.{not_text}
+use Rattle.globset_glob.specs.Values.{keyed_options, glob_key, of_text, has_unknown_key, is_non_boolean, has_non_boolean, option_in, options_in, glob_of_members, glob_of_value, are_default, with_options, value_of_glob}
 use Rattle.glob_text.proofs.lemmas.GlobEquality.{same_options_decides}
-use Rattle.glob_text.proofs.lemmas.Members.{added, found_after_all, found_in_options, known_in_options}
+use Rattle.globset_glob.proofs.lemmas.Members.{added, found_after_all, found_in_options, known_in_options}
 
 -- ---- the test whether each option has its default
 

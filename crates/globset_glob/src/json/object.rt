@@ -4,12 +4,13 @@ ghost use Rattle.std.specs.Prelude.{◌≡◌, false, true, map, option_map, Err
 ghost use Rattle.serde_json.specs.Find.{get_member};
 ghost use Rattle.serde_json.specs.View.{members_view, view};
 ghost use Rattle.glob_text.specs.Errors.{glob_or_parse_error};
-ghost use Rattle.glob_text.specs.Values.{glob_of_object, has_non_boolean, has_unknown_key, of_kind, of_text};
-ghost use Rattle.glob_text.specs.Values.{is_known_key, is_non_boolean, keyed_options, option_in, option_keys, options_in};
-ghost use Rattle.glob_text.specs.Values.{value_of_glob, with_option, with_options};
+ghost use Rattle.glob_text.specs.ValueErrors.{of_kind};
+ghost use Rattle.globset_glob.specs.Values.{glob_of_object, has_non_boolean, has_unknown_key, of_text};
+ghost use Rattle.globset_glob.specs.Values.{is_known_key, is_non_boolean, keyed_options, option_in, option_keys, options_in};
+ghost use Rattle.globset_glob.specs.Values.{value_of_glob, with_option, with_options};
 
-use super::error::ValueErrorKind;
 use glob_syntax::Options;
+use glob_text::ValueErrorKind;
 use serde_json::{Map, Value, put};
 use std::alloc::{AllocError, Global};
 

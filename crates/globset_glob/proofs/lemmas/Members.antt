@@ -12,7 +12,7 @@ use Rattle.serde_json.specs.Find.{get_member}
 use Rattle.serde_json.specs.View.{members_view}
 use Rattle.serde_json.specs.declared.value.Value.{Value}
 use Rattle.serde_json.proofs.Views.{Entry, get_member-put, get_member-put_other}
-use Rattle.glob_text.specs.Values.{KeyedOption, is_known_key, has_unknown_key, with_option, with_options}
+use Rattle.globset_glob.specs.Values.{KeyedOption, is_known_key, has_unknown_key, with_option, with_options}
 
 -- ---- the value under a key
 

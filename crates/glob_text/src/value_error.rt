@@ -3,7 +3,7 @@
 ghost use Rattle.std.specs.Prelude.{◌≡◌, ◌↔◌, IsTrue};
 ghost use Rattle.std.specs.Cmp.{partial_equiv_from_equiv};
 ghost use Rattle.glob_text.specs.Equality.{SameValueKind, SameValueError};
-ghost use Rattle.glob_text.specs.Values.{of_element};
+ghost use Rattle.glob_text.specs.ValueErrors.{of_element};
 ghost use Rattle.glob_text.specs.inner.Equality.{same_value_kind, same_value_kind_laws, same_value_error, same_value_error_laws};
 
 use crate::error::Error;
@@ -89,7 +89,7 @@ impl Eq for ValueErrorKind {
 
 impl fmt::Display for ValueErrorKind {
     ghost use Rattle.std.specs.Prelude.{Some};
-    ghost use Rattle.glob_text.specs.Values.{value_kind_text};
+    ghost use Rattle.glob_text.specs.ValueErrors.{value_kind_text};
 
     ghost output = { λ kind. Some (value_kind_text kind) };
 
@@ -133,7 +133,7 @@ impl Drop for ValueError {
 }
 
 impl Model for ValueError {
-    ghost use Rattle.glob_text.specs.Values.{ValueErrorValue};
+    ghost use Rattle.glob_text.specs.ValueErrors.{ValueErrorValue};
 
     ghost Value = { ValueErrorValue };
 
@@ -174,7 +174,7 @@ impl Eq for ValueError {
 
 impl ValueError {
     ghost use Rattle.std.specs.Prelude.{◌≡◌};
-    ghost use Rattle.glob_text.specs.Values.{is_memory, of_element};
+    ghost use Rattle.glob_text.specs.ValueErrors.{is_memory, of_element};
 
     /// Returns the index of the first rejected element, or `None` if the error is not about an element of an array.
     pub fn index(&self) -> Option<usize>
@@ -226,7 +226,7 @@ pub fn error_of_element(index: usize, error: ValueError) -> ValueError
 /// `element <index>: <kind>`, or only the kind's text if the error holds no index.
 impl fmt::Display for ValueError {
     ghost use Rattle.std.specs.Prelude.{Some};
-    ghost use Rattle.glob_text.specs.Values.{value_error_text};
+    ghost use Rattle.glob_text.specs.ValueErrors.{value_error_text};
 
     ghost output = { λ e. Some (value_error_text e) };
 
@@ -246,7 +246,7 @@ impl std::error::Error for ValueError {}
 /// An error with no index.
 impl From<ValueErrorKind> for ValueError {
     ghost use Rattle.std.specs.Prelude.{◌≡◌};
-    ghost use Rattle.glob_text.specs.Values.{of_kind};
+    ghost use Rattle.glob_text.specs.ValueErrors.{of_kind};
 
     ghost from_gives = { λ kind e. e ≡ of_kind kind };
 
@@ -258,8 +258,8 @@ impl From<ValueErrorKind> for ValueError {
 /// An error with no index, of the kind [`ValueErrorKind::Glob`].
 impl From<Error> for ValueError {
     ghost use Rattle.std.specs.Prelude.{◌≡◌};
-    ghost use Rattle.glob_text.specs.Values.{of_kind};
-    ghost use Rattle.glob_text.specs.declared.json.error.ValueErrorKind.TheVariants.{Glob};
+    ghost use Rattle.glob_text.specs.ValueErrors.{of_kind};
+    ghost use Rattle.glob_text.specs.declared.value_error.ValueErrorKind.TheVariants.{Glob};
 
     ghost from_gives = { λ error e. e ≡ of_kind (Glob error) };
 
@@ -271,7 +271,7 @@ impl From<Error> for ValueError {
 /// The error that memory ran out, so that `?` converts std's.
 impl From<AllocError> for ValueError {
     ghost use Rattle.std.specs.Prelude.{◌≡◌};
-    ghost use Rattle.glob_text.specs.Values.{value_out_of_memory};
+    ghost use Rattle.glob_text.specs.ValueErrors.{value_out_of_memory};
 
     ghost from_gives = { λ _ e. e ≡ value_out_of_memory };
 
@@ -283,7 +283,7 @@ impl From<AllocError> for ValueError {
 /// The error that memory ran out, so that `?` converts the error of `Vec::push` and the like.
 impl<T: Drop> From<AllocFailed<T>> for ValueError {
     ghost use Rattle.std.specs.Prelude.{◌≡◌};
-    ghost use Rattle.glob_text.specs.Values.{value_out_of_memory};
+    ghost use Rattle.glob_text.specs.ValueErrors.{value_out_of_memory};
 
     ghost from_gives = { λ _ e. e ≡ value_out_of_memory };
 

@@ -1,7 +1,7 @@
 use Rattle.std.proofs.Common.{◌≡◌}
 use Rattle.serde_json.specs.View.{members_view}
-use Rattle.glob_text.specs.Values.{has_unknown_key}
-use Rattle.glob_text.proofs.json.object.has_unknown_key.Given as goal
+use Rattle.globset_glob.specs.Values.{has_unknown_key}
+use Rattle.globset_glob.proofs.json.object.has_unknown_key.Given as goal
 
 abbrev pub invariant-loop-key : goal.invariant-loop-key
 invariant-loop-key l =

@@ -1,50 +1,15 @@
--- The JSON value of a glob, which glob a value is read as, and errors of values.
-use Rattle.std.specs.Prelude.{◌≡◌, ◌⊎◌, ℕ, List, [], ◌∷◌, ◌++◌, ◌||◌, map, Bool, true, false, not, Option, Some, None, is_some, unwrap_or, option_and_then, Result, Ok, Err, codes, decimal, if◌then◌else◌}
+-- The JSON value of a glob, and which glob a value is read as.
+use Rattle.std.specs.Prelude.{List, [], ◌∷◌, ◌||◌, ℕ, map, Bool, false, not, Some, None, is_some, unwrap_or, option_and_then, Result, Ok, Err, codes, if◌then◌else◌}
 use Rattle.std.specs.Bool.{beq}
 use Rattle.std.specs.List.{list_all, list_any}
 use Rattle.std.specs.Str.{bytes_eq}
 use Rattle.serde_json.specs.Data.{Data, null, boolean, number, string, array, object, Members, no_members, member, put}
 use Rattle.serde_json.specs.Find.{get_member, as_bool, as_str}
 use Rattle.glob_syntax.specs.declared.options.Options.{Options}
-use Rattle.glob_text.specs.declared.error.kind.ErrorKind.{ErrorKind}
-use Rattle.glob_text.specs.declared.error.kind.ErrorKind.TheVariants as causes
-use Rattle.glob_text.specs.declared.json.error.ValueErrorKind.{ValueErrorKind}
-use Rattle.glob_text.specs.declared.json.error.ValueErrorKind.TheVariants as kinds
-use Rattle.glob_text.specs.Errors.{ErrorValue, out_of_memory, error_text, glob_or_parse_error}
+use Rattle.glob_text.specs.declared.value_error.ValueErrorKind.TheVariants as kinds
+use Rattle.glob_text.specs.Errors.{ErrorValue, glob_or_parse_error}
 use Rattle.glob_text.specs.GlobMatches.{GlobValue, default_glob, default_options}
-
--- An error of a value as contracts see it: the index, if the error is about an element of an array, and the kind.
-pub record ValueErrorValue : Type 0 where
-  pub index : Option ℕ
-  pub kind : ValueErrorKind
-
--- the error of this kind that is about no element
-abbrev pub of_kind : ValueErrorKind → ValueErrorValue
-of_kind kind = record { index = None; kind = kind }
-
--- the error of a value that is neither a text nor an object with a text under `glob`
-abbrev pub not_text : ValueErrorValue
-not_text = of_kind kinds.NotText
-
--- the error of an object that has a key other than `glob` and those of options
-abbrev pub unknown_key : ValueErrorValue
-unknown_key = of_kind kinds.UnknownKey
-
--- the error of an object in which an option is neither true nor false
-abbrev pub not_bool : ValueErrorValue
-not_bool = of_kind kinds.NotBool
-
--- the error of a value that is not an array
-abbrev pub not_array : ValueErrorValue
-not_array = of_kind kinds.NotArray
-
--- The error that memory ran out. It is about no element.
-abbrev pub value_out_of_memory : ValueErrorValue
-value_out_of_memory = of_kind (kinds.Glob out_of_memory)
-
--- The error is one that a call with this result may return: that of the result, or that memory ran out.
-abbrev pub IsValueErrorOf : {X : Type 0} → Result X ValueErrorValue → ValueErrorValue → Type 0
-IsValueErrorOf outcome e = (e ≡ value_out_of_memory) ⊎ (outcome ≡ Err e)
+use Rattle.glob_text.specs.ValueErrors.{ValueErrorValue, of_kind, not_text, unknown_key, not_bool}
 
 -- the glob of a text, or the error of the text as one of a value
 abbrev pub of_text : Result GlobValue ErrorValue → Result GlobValue ValueErrorValue
@@ -150,42 +115,3 @@ with_options (option ∷ options) entries = with_options options (with_option op
 abbrev pub value_of_glob : GlobValue → Data
 value_of_glob g = if are_default g.options then string g.text
     else object (with_options (keyed_options g.options) (member glob_key (string g.text) no_members))
-
--- ---- elements
-
--- the error as one of the element at this index
-abbrev pub at_index : ℕ → ValueErrorValue → ValueErrorValue
-at_index i e = record { index = Some i; kind = e.kind }
-
--- the kind says that memory ran out
-abbrev pub is_memory_kind : ErrorKind → Bool
-is_memory_kind causes.OutOfMemory = true
-is_memory_kind _ = false
-
--- the kind of an error of a value says that memory ran out
-abbrev pub is_memory : ValueErrorKind → Bool
-is_memory (kinds.Glob e) = is_memory_kind e.kind
-is_memory _ = false
-
--- the error of the element at this index; that memory ran out is about no element
-abbrev pub of_element : ℕ → ValueErrorValue → ValueErrorValue
-of_element i e = if is_memory e.kind then e else at_index i e
-
--- ---- displayed texts
-
--- what a kind displays
-abbrev pub value_kind_text : ValueErrorKind → List ℕ
-value_kind_text kinds.NotText = codes "expected a glob pattern"
-value_kind_text kinds.UnknownKey = codes "unknown key in a glob object"
-value_kind_text kinds.NotBool = codes "expected true or false"
-value_kind_text kinds.NotArray = codes "expected an array of glob patterns"
-value_kind_text (kinds.Glob e) = error_text e
-
--- what an error displays, by its index and by what its kind displays
-abbrev pub text_at : Option ℕ → List ℕ → List ℕ
-text_at None kind = kind
-text_at (Some i) kind = codes "element " ++ decimal i ++ codes ": " ++ kind
-
--- what an error displays
-abbrev pub value_error_text : ValueErrorValue → List ℕ
-value_error_text e = text_at e.index (value_kind_text e.kind)

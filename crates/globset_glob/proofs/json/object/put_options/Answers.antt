@@ -1,8 +1,8 @@
 use Rattle.std.proofs.Common.{◌≡◌, suc, ◌+◌, take, sym, ap, ◌∙◌, arith}
 use Rattle.serde_json.specs.View.{members_view}
-use Rattle.glob_text.specs.Values.{keyed_options, with_option, with_options}
-use Rattle.glob_text.proofs.lemmas.Members.{with_next}
-use Rattle.glob_text.proofs.json.object.put_options.Goals as goal
+use Rattle.globset_glob.specs.Values.{keyed_options, with_option, with_options}
+use Rattle.globset_glob.proofs.lemmas.Members.{with_next}
+use Rattle.globset_glob.proofs.json.object.put_options.Goals as goal
 
 pub loop-i-preserved : goal.loop-i-preserved
 loop-i-preserved c =

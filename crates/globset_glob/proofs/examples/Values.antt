@@ -3,10 +3,11 @@ use Rattle.std.specs.Prelude.{◌≡◌, true, false, Ok, Err, codes, refl}
 use Rattle.std.specs.Fmt.{digits}
 use Rattle.serde_json.specs.Data.{null, boolean, number, unsigned, string, array, object, no_items, item, no_members, member}
 use Rattle.glob_syntax.specs.declared.parse_error_kind.ParseErrorKind.TheVariants.{UnclosedClass}
-use Rattle.glob_text.specs.declared.json.error.ValueErrorKind.TheVariants.{Glob}
+use Rattle.glob_text.specs.declared.value_error.ValueErrorKind.TheVariants.{Glob}
 use Rattle.glob_text.specs.Errors.{parse_error}
 use Rattle.glob_text.specs.GlobMatches.{default_glob, default_options}
-use Rattle.glob_text.specs.Values.{of_kind, not_text, unknown_key, not_bool, not_array, at_index, of_element, value_out_of_memory, glob_of_value, value_of_glob, value_error_text}
+use Rattle.glob_text.specs.ValueErrors.{of_kind, not_text, unknown_key, not_bool, not_array, at_index, of_element, value_out_of_memory, value_error_text}
+use Rattle.globset_glob.specs.Values.{glob_of_value, value_of_glob}
 use Rattle.glob_text.proofs.examples.Unfoldings.{glob_on_literals}
 
 text_with_a_reading : glob_of_value (string (codes "src/**/*.rs")) ≡ Ok (default_glob (codes "src/**/*.rs"))
