@@ -61,14 +61,14 @@ def files_of(*patterns):
     return [name for name in said.stdout.split("\0") if os.path.isfile(f"{TOP}/{name}")]
 
 
-def documents(crates):
-    """Returns the names of the documents and of the sources of these crates."""
-    return [*DOCUMENTS, *(name for crate in crates for name in files_of(f"crates/{crate}/src/*.rt"))]
+def documents():
+    """Returns the names of the documents and of the sources of the crates."""
+    return [*DOCUMENTS, *files_of("crates/*/src/*.rt")]
 
 
 def examples():
     """Returns the blocks that are examples."""
-    blocks = [block for name in documents("*") for block in blocks_of(name)]
+    blocks = [block for name in documents() for block in blocks_of(name)]
     return [block for block in blocks if block.language == "rust" and not block.file()]
 
 
