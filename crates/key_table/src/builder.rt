@@ -1,0 +1,91 @@
+//! What a table is built from.
+
+ghost use Rattle.std.specs.Prelude.{◌≡◌, ℕ, List, ◌++◌, ◌∷◌, [], OnOk, OnErr, IfOk};
+ghost use Rattle.key_table.specs.Entries.{entry};
+
+use crate::directory::directory_of;
+use crate::ends::ends_of;
+use crate::keys::hash;
+use crate::pairs::{Pair, indexes_of, sort};
+use crate::rows::rows_of;
+use crate::table::Table;
+use std::alloc::{AllocError, Global};
+use std::marker::Model;
+use std::snapshot::Snapshot;
+
+/// Indexes under byte keys, from which a table is built.
+pub struct TableBuilder {
+    bytes: Vec<u8>,
+    pairs: Vec<Pair>,
+}
+
+impl Drop for TableBuilder {
+    // One call wherever a value is dropped, which keeps proofs short.
+    fn drop(self) {
+        let TableBuilder { bytes: _, pairs: _ } = self;
+    }
+}
+
+impl Model for TableBuilder {
+    ghost use Rattle.std.specs.Prelude.{List};
+    ghost use Rattle.std.specs.List.{All};
+    ghost use Rattle.key_table.specs.Entries.{Entry};
+    ghost use Rattle.key_table.specs.inner.Pairs.{entries_of, IsKept};
+
+    ghost Value = { List Entry };
+
+    ghost view = { λ b. entries_of b.bytes.items b.pairs.items };
+
+    ghost invariant = { λ b. All (IsKept b.bytes.items) b.pairs.items };
+}
+
+impl TableBuilder {
+    /// Returns a builder of no entries, which takes no memory.
+    pub fn new(alloc: Global) -> TableBuilder
+        ensures { result ≡ [] }
+    {
+        TableBuilder {
+            bytes: Vec::new(alloc),
+            pairs: Vec::new(alloc),
+        }
+    }
+
+    /// Adds an index under a key, after those that it has.
+    ///
+    /// Returns an error if memory runs out; the builder then has the entries that it had.
+    pub fn insert(&mut self, key: &[u8], index: usize) -> Result<(), AllocError>
+        ensures ok { OnOk result (self.new ≡ self.old ++ entry key.now index ∷ []) }
+        ensures err { OnErr result (self.new ≡ self.old) }
+    {
+        let start = self.bytes.len();
+        self.bytes.extend_from_slice(key)?;
+        self.pairs.push(Pair {
+            hash: hash(key),
+            start,
+            end: self.bytes.len(),
+            index,
+        })?;
+        Ok(())
+    }
+
+    /// Returns the table of the entries. Returns an error if memory runs out.
+    ///
+    /// The entries are sorted. The table's memory has no room for more.
+    pub fn build(self) -> Result<Table, AllocError>
+        ensures { IfOk result (λ table. table ≡ self) }
+    {
+        let entries = Snapshot::of(&self);
+        let TableBuilder {
+            mut bytes,
+            mut pairs,
+        } = self;
+        let alloc = *bytes.allocator();
+        bytes.shrink_to_fit();
+        sort(&bytes, &mut pairs)?;
+        let rows = rows_of(alloc, &bytes, &pairs)?;
+        let indexes = indexes_of(alloc, &pairs)?;
+        let ends = ends_of(&bytes, &rows);
+        let directory = directory_of(alloc, &rows)?;
+        Ok(Table::of(bytes, rows, ends, directory, indexes, entries))
+    }
+}

@@ -1,0 +1,47 @@
+//! Pairs of a key and an index, as a builder keeps them.
+
+ghost use Rattle.std.specs.Prelude.{◌≡◌, ℕ, List, length, map, OnOk, IfOk};
+ghost use Rattle.std.specs.List.{All};
+ghost use Rattle.std.specs.List.Sorted.{IsSortedBy};
+ghost use Rattle.key_table.specs.Entries.{indexes_under};
+ghost use Rattle.key_table.specs.inner.Pairs.{pair_key, entries_of, pair_below, IsKept};
+
+use crate::keys::compare;
+use crate::parts::part;
+use std::alloc::{AllocError, Global};
+
+/// An index under a key, which is a part of bytes that lie elsewhere; and the key's hash.
+#[derive(Clone, Copy)]
+pub(crate) struct Pair {
+    pub(crate) hash: u32,
+    pub(crate) start: usize,
+    pub(crate) end: usize,
+    pub(crate) index: usize,
+}
+
+impl Pair {
+    /// Returns the pair's key.
+    pub(crate) fn key<'a>(&self, bytes: &'a [u8]) -> &'a [u8]
+        ensures { result.now ≡ pair_key bytes.now self.now }
+    {
+        part(bytes, self.start, self.end)
+    }
+}
+
+/// Sorts pairs by their hashes and keys. Indexes under one key keep their order.
+pub(crate) fn sort(bytes: &[u8], pairs: &mut Vec<Pair>) -> Result<(), AllocError>
+    requires { All (IsKept bytes.now) pairs.old.items }
+    ensures kept { All (IsKept bytes.now) pairs.new.items }
+    ensures len { length pairs.new.items ≡ length pairs.old.items }
+    ensures sorted { OnOk result (IsSortedBy (pair_below bytes.now) pairs.new.items) }
+    ensures same { (q : List ℕ) → indexes_under (entries_of bytes.now pairs.new.items) q ≡ indexes_under (entries_of bytes.now pairs.old.items) q }
+{
+    pairs.sort_by(|a, b| compare(a.hash, a.key(bytes), b.hash, b.key(bytes)))
+}
+
+/// Returns the pairs' indexes, in the pairs' order.
+pub(crate) fn indexes_of(alloc: Global, pairs: &[Pair]) -> Result<Vec<usize>, AllocError>
+    ensures { IfOk result (λ v. v.items ≡ map (λ p. p.index) pairs.now) }
+{
+    pairs.iter().map(|pair| pair.index).collect(alloc)
+}
