@@ -1,6 +1,6 @@
 -- What follows from the definition of what a trie finds. The law is the contract of a function of the module `laws`.
 use Rattle.std.specs.Prelude.{◌≡◌, ℕ, ◌↔◌, List, ◌++◌, Contains}
-use Rattle.byte_table.specs.Entries.{entry}
+use Rattle.key_table.specs.Entries.{entry}
 use Rattle.byte_trie.specs.declared.anchor.Anchor.{Anchor}
 use Rattle.byte_trie.specs.declared.anchor.Anchor.TheVariants.{Start, End}
 use Rattle.byte_trie.specs.Texts.{Texts, found}

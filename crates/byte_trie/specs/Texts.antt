@@ -1,7 +1,7 @@
 -- Which indexes a trie finds for a path.
 use Rattle.std.specs.Prelude.{ℕ, List, [], ◌∷◌, ◌++◌, map}
 use Rattle.std.specs.List.{flat_map}
-use Rattle.byte_table.specs.Entries.{Entry, entry, indexes_under}
+use Rattle.key_table.specs.Entries.{Entry, entry, indexes_under}
 use Rattle.byte_trie.specs.declared.anchor.Anchor.{Anchor}
 use Rattle.byte_trie.specs.declared.anchor.Anchor.TheVariants.{Start, End}
 use Rattle.byte_trie.specs.declared.text.Text.{Text}

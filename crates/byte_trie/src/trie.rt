@@ -2,7 +2,7 @@
 
 ghost use Rattle.std.specs.Prelude.{◌≡◌, ◌≢◌, ℕ, ◌+◌, ◌≤◌, ◌↔◌, [], List, map, length, IsTrue, IfOk};
 ghost use Rattle.bit_sets.specs.Indexes.{index_capacity, HasAlso};
-ghost use Rattle.byte_table.specs.Entries.{indexes_under};
+ghost use Rattle.key_table.specs.Entries.{indexes_under};
 ghost use Rattle.byte_trie.specs.Texts.{found, entry_of};
 ghost use Rattle.byte_trie.specs.inner.Building.{IsOrdered};
 ghost use Rattle.byte_trie.specs.inner.Anchors.{entry_from_anchor};
@@ -12,7 +12,6 @@ use crate::text::Text;
 use crate::tree::Tree;
 use crate::walk;
 use bit_sets::IndexSet;
-use byte_table::Entries;
 use std::alloc::{AllocError, Global};
 use std::marker::Model;
 use std::snapshot::Snapshot;
@@ -23,7 +22,7 @@ pub struct Trie {
     tree: Tree,
     anchor: Anchor,
     count: usize,
-    entries: Entries,
+    entries: Snapshot<Vec<Text>>,
 }
 
 impl Drop for Trie {
@@ -39,15 +38,16 @@ impl Drop for Trie {
 }
 
 impl Model for Trie {
-    ghost use Rattle.byte_trie.specs.Texts.{Texts};
+    ghost use Rattle.std.specs.Prelude.{map};
+    ghost use Rattle.byte_trie.specs.Texts.{Texts, entry_of};
 
     ghost Value = { Texts };
 
     ghost use Rattle.byte_trie.specs.inner.PassInvariant.{PassInvariant};
 
-    ghost view = { λ t. record { anchor = t.anchor; entries = t.entries } };
+    ghost view = { λ t. record { anchor = t.anchor; entries = map entry_of t.entries.value.items } };
 
-    ghost invariant = { λ t. PassInvariant t.tree t.anchor t.count t.entries };
+    ghost invariant = { λ t. PassInvariant t.tree t.anchor t.count (map entry_of t.entries.value.items) };
 }
 
 impl Trie {
@@ -58,7 +58,7 @@ impl Trie {
         ensures { IfOk result (λ t. t ≡ record { anchor = anchor; entries = map entry_of texts.items }) }
     {
         let count = texts.len();
-        let entries = entries_of(&texts);
+        let entries = Snapshot::of(&texts);
         let sorted = sorted(anchor, texts)?;
         Ok(Trie {
             tree: Tree::build(alloc, &sorted)?,
@@ -111,17 +111,6 @@ impl Trie {
         }
         walk::count(&self.tree, self.anchor, path, visits)
     }
-}
-
-/// Returns the list that contracts see texts as.
-fn entries_of(texts: &[Text]) -> Entries
-    ensures { result ≡ map entry_of texts.now }
-{
-    let mut entries = Entries::new();
-    for text in texts {
-        entries.push(Snapshot::of(&text.bytes), text.index);
-    }
-    entries
 }
 
 /// Returns texts as they are read from a side of a path, in order.

@@ -1,6 +1,6 @@
 //! What a table is built from.
 
-ghost use Rattle.std.specs.Prelude.{◌≡◌, ℕ, List, ◌++◌, ◌∷◌, [], OnOk, OnErr, IfOk};
+ghost use Rattle.std.specs.Prelude.{◌≡◌, ◌↔◌, ℕ, IsTrue, List, ◌++◌, ◌∷◌, [], OnOk, OnErr, IfOk};
 ghost use Rattle.key_table.specs.Entries.{entry};
 
 use crate::directory::directory_of;
@@ -48,6 +48,23 @@ impl TableBuilder {
             bytes: Vec::new(alloc),
             pairs: Vec::new(alloc),
         }
+    }
+
+    /// Returns a builder of no entries, with room for so many. Returns an error if memory runs out.
+    pub fn with_capacity(alloc: Global, entries: usize) -> Result<TableBuilder, AllocError>
+        ensures { IfOk result (λ builder. builder ≡ []) }
+    {
+        Ok(TableBuilder {
+            bytes: Vec::new(alloc),
+            pairs: Vec::with_capacity(alloc, entries)?,
+        })
+    }
+
+    /// Returns whether there are no entries.
+    pub fn is_empty(&self) -> bool
+        ensures { IsTrue result ↔ (self.now ≡ []) }
+    {
+        self.pairs.is_empty()
     }
 
     /// Adds an index under a key, after those that it has.

@@ -1,6 +1,6 @@
 -- Indexes under keys, and which of them a path finds.
 use Rattle.std.specs.Prelude.{◌≡◌, ℕ, ◌+◌, ◌≤◌, ◌↔◌, ◌⊎◌, Bool, cond, IsTrue, List, length, [], ◌∷◌, ◌++◌, Contains}
-use Rattle.byte_table.specs.Entries.{Entry, entry, indexes_under}
+use Rattle.key_table.specs.Entries.{Entry, entry, indexes_under}
 use Rattle.byte_trie.specs.declared.anchor.Anchor.{Anchor}
 use Rattle.byte_trie.specs.declared.anchor.Anchor.TheVariants.{Start, End}
 use Rattle.byte_trie.specs.Texts.{Texts, found}

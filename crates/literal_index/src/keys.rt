@@ -2,7 +2,7 @@
 
 ghost use Rattle.std.specs.Prelude.{◌≡◌, ◌≢◌, ◌+◌, ◌*◌, ◌≤◌, ◌↔◌, ◌<◌, ◌^◌, [], ℕ, List, length, map, IsTrue, IsFalse, MatchOption, OnOk, IfOk};
 ghost use Rattle.bit_sets.specs.Indexes.{index_capacity, HasAlso};
-ghost use Rattle.byte_table.specs.Entries.{indexes_under};
+ghost use Rattle.key_table.specs.Entries.{indexes_under};
 ghost use Rattle.byte_trie.specs.Texts.{entry_of};
 ghost use Rattle.glob_path.specs.Key.{KeyMatches, KeyMayMatchBelow, key_seen};
 ghost use Rattle.glob_path.specs.PathParts.{component_extension, last_component};
@@ -13,9 +13,9 @@ ghost use Rattle.literal_index.specs.inner.Parts.{HasOthers, tables_count};
 
 use crate::folders::Folders;
 use bit_sets::IndexSet;
-use byte_table::Table;
 use byte_trie::{Anchor, Text, Trie};
 use glob_path::{Candidate, Key, component_extension_of, last_component_of};
+use key_table::{Table, TableBuilder};
 use std::alloc::{AllocError, Global};
 use std::marker::Model;
 use visits::Visits;
@@ -158,7 +158,7 @@ impl LiteralIndex {
         if self.paths.is_empty() {
             return &[];
         }
-        self.paths.get(path.path(), visits)
+        self.paths.get(path.path(), visits, &mut Visits::new())
     }
 
     /// Returns the indexes under the path's last component.
@@ -170,7 +170,8 @@ impl LiteralIndex {
         if self.components.is_empty() {
             return &[];
         }
-        self.components.get(last_component_of(path), visits)
+        self.components
+            .get(last_component_of(path), visits, &mut Visits::new())
     }
 
     /// Returns the indexes under the extension of the path's last component.
@@ -182,15 +183,16 @@ impl LiteralIndex {
         if self.extensions.is_empty() {
             return &[];
         }
-        self.extensions.get(component_extension_of(path), visits)
+        self.extensions
+            .get(component_extension_of(path), visits, &mut Visits::new())
     }
 }
 
 /// Makes [`LiteralIndex`].
 pub struct LiteralIndexBuilder {
     paths: Vec<Text>,
-    components: Table,
-    extensions: Table,
+    components: TableBuilder,
+    extensions: TableBuilder,
     prefixes: Vec<Text>,
     ends: Vec<Text>,
 }
@@ -233,8 +235,8 @@ impl LiteralIndexBuilder {
     {
         LiteralIndexBuilder {
             paths: Vec::new(alloc),
-            components: Table::new(alloc),
-            extensions: Table::new(alloc),
+            components: TableBuilder::new(alloc),
+            extensions: TableBuilder::new(alloc),
             prefixes: Vec::new(alloc),
             ends: Vec::new(alloc),
         }
@@ -266,8 +268,8 @@ impl LiteralIndexBuilder {
         let folders = folders_of(alloc, has_others, &paths, &prefixes)?;
         Ok(LiteralIndex {
             paths: table_of(alloc, paths)?,
-            components,
-            extensions,
+            components: components.build()?,
+            extensions: extensions.build()?,
             prefixes: Trie::new(alloc, Anchor::Start, prefixes)?,
             ends: Trie::new(alloc, Anchor::End, ends)?,
             has_others,
@@ -281,8 +283,8 @@ impl LiteralIndexBuilder {
     {
         match key {
             Key::WholePath(bytes) => self.put_path(bytes, index),
-            Key::Basename(bytes) => self.components.insert(bytes, index),
-            Key::Extension(bytes) => self.extensions.insert(bytes, index),
+            Key::Basename(bytes) => self.components.insert(&bytes, index),
+            Key::Extension(bytes) => self.extensions.insert(&bytes, index),
             Key::ComponentSuffix(bytes) => self.put_components(bytes, index),
             Key::Suffix(bytes) => self.put_end(bytes, index),
             Key::Prefix(bytes) => self.put_beginning(bytes, index),
@@ -357,10 +359,9 @@ fn folders_of(
 fn table_of(alloc: Global, texts: Vec<Text>) -> Result<Table, AllocError>
     ensures { IfOk result (λ table. table ≡ map entry_of texts.items) }
 {
-    let mut table = Table::new(alloc);
+    let mut table = TableBuilder::with_capacity(alloc, texts.len())?;
     for text in texts {
-        let Text { bytes, index } = text;
-        table.insert(bytes, index)?;
+        table.insert(&text.bytes, text.index)?;
     }
-    Ok(table)
+    table.build()
 }

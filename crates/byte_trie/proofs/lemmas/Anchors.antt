@@ -5,7 +5,7 @@ use Rattle.std.specs.List.{flat_map}
 use Rattle.std.specs.Cmp.Lexicographic.{bytes_decides}
 use Rattle.std.proofs.lemmas.List.{reverse-append, reverse-reverse, map-append, length-reverse}
 use Rattle.std.proofs.lemmas.List.Folds.{flat_map-map}
-use Rattle.byte_table.specs.Entries.{Entry, indexes_under}
+use Rattle.key_table.specs.Entries.{Entry, indexes_under}
 use Rattle.byte_trie.specs.declared.anchor.Anchor.{Anchor}
 use Rattle.byte_trie.specs.declared.anchor.Anchor.TheVariants.{Start, End}
 use Rattle.byte_trie.specs.declared.tree.Tree.{Tree}

@@ -14,7 +14,7 @@ use Rattle.std.proofs.lemmas.Map.Text.{is_eq-slice_cmp}
 use Rattle.std.proofs.lemmas.List.{get_or-map, map-set, get_or_default, length-map}
 use Rattle.std.proofs.lemmas.List.Edits.{map_over_more}
 use Rattle.std.proofs.lemmas.List.Sorted.{ranks_by, sorted_far}
-use Rattle.byte_table.specs.Entries.{entry, indexes_under}
+use Rattle.key_table.specs.Entries.{entry, indexes_under}
 use Rattle.byte_trie.specs.declared.anchor.Anchor.TheVariants.{End}
 use Rattle.byte_trie.specs.declared.text.Text.{Text}
 use Rattle.byte_trie.specs.Texts.{entry_of}

@@ -6,7 +6,7 @@ use Rattle.std.specs.List.{AllWithin, HoldsAt, AllByRecursion}
 use Rattle.std.proofs.lemmas.Bool.{cases_lt, true≢false}
 use Rattle.std.proofs.lemmas.Bool.Decides.{nat_tests}
 use Rattle.std.proofs.lemmas.List.{map-append, length-drop}
-use Rattle.byte_table.specs.Entries.{Entry, indexes_under}
+use Rattle.key_table.specs.Entries.{Entry, indexes_under}
 use Rattle.byte_trie.specs.declared.text.Text.{Text}
 use Rattle.byte_trie.specs.declared.tree.build.Span.{Span}
 use Rattle.byte_trie.specs.inner.Building.{rest_of, next_of, rests, rests_of, IsUpTo, IsSpan, picked, IsSplit}

@@ -1,6 +1,6 @@
 -- Paths and texts as they are read from a side of a path: from the end each is reversed.
 use Rattle.std.specs.Prelude.{ℕ, List, reverse}
-use Rattle.byte_table.specs.Entries.{Entry, entry}
+use Rattle.key_table.specs.Entries.{Entry, entry}
 use Rattle.byte_trie.specs.declared.anchor.Anchor.{Anchor}
 use Rattle.byte_trie.specs.declared.anchor.Anchor.TheVariants.{Start, End}
 

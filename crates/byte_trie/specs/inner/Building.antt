@@ -2,7 +2,7 @@
 use Rattle.std.specs.Prelude.{◌≡◌, ℕ, ◌+◌, ◌<◌, ◌≤◌, ◌==◌, ◌⊎◌, cond, List, [], ◌∷◌, ◌++◌, Option, length, map, drop, slice_get, slice_index_or, slice_range}
 use Rattle.std.specs.List.{AllWithin, AllByRecursion}
 use Rattle.std.specs.List.Sorted.{IsStrictlyIncreasing}
-use Rattle.byte_table.specs.Entries.{Entry, entry, indexes_under}
+use Rattle.key_table.specs.Entries.{Entry, entry, indexes_under}
 use Rattle.byte_trie.specs.declared.text.Text.{Text}
 use Rattle.byte_trie.specs.declared.tree.Node.{Node}
 use Rattle.byte_trie.specs.declared.tree.Tree.{Tree}

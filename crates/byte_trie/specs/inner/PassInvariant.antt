@@ -1,6 +1,6 @@
 -- What is true of the parts of each trie.
 use Rattle.std.specs.Prelude.{◌≡◌, ℕ, ◌<◌, ◌^◌, List, length, map}
-use Rattle.byte_table.specs.Entries.{Entry, indexes_under}
+use Rattle.key_table.specs.Entries.{Entry, indexes_under}
 use Rattle.byte_trie.specs.declared.anchor.Anchor.{Anchor}
 use Rattle.byte_trie.specs.declared.tree.Tree.{Tree}
 use Rattle.byte_trie.specs.inner.Anchors.{entry_from_anchor}

@@ -6,7 +6,7 @@
 
 ghost use Rattle.std.specs.Prelude.{◌≡◌, ◌≢◌, ℕ, ◌+◌, ◌<◌, ◌≤◌, ◌^◌, ◌++◌, List, map, length, IfOk, OnOk};
 ghost use Rattle.std.specs.List.{AllWithin, HoldsAt};
-ghost use Rattle.byte_table.specs.Entries.{indexes_under};
+ghost use Rattle.key_table.specs.Entries.{indexes_under};
 ghost use Rattle.byte_trie.specs.Texts.{entry_of};
 ghost use Rattle.byte_trie.specs.inner.Nodes.{under, IsTree};
 ghost use Rattle.byte_trie.specs.declared.tree.build.Span.{Span};

@@ -2,7 +2,7 @@
 use Rattle.std.proofs.Common.{◌≡◌, ℕ, ◌⊎◌, inl, inr, Bool, List, [], ◌∷◌, ◌++◌, length, IsTrue, refl, ap, sym, subst, ◌∙◌, append_assoc, arith}
 use Rattle.std.specs.Prelude.{◌≢◌, ◌↔◌, Contains}
 use Rattle.std.proofs.Math.Logic.{⊎_elim}
-use Rattle.byte_table.specs.Entries.{Entry, entry}
+use Rattle.key_table.specs.Entries.{Entry, entry}
 use Rattle.byte_trie.specs.declared.anchor.Anchor.{Anchor}
 use Rattle.byte_trie.specs.declared.anchor.Anchor.TheVariants.{Start}
 use Rattle.byte_trie.specs.Texts.{Texts, found}

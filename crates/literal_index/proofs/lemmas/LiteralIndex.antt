@@ -8,9 +8,9 @@ use Rattle.std.proofs.Math.Logic.{⊎_elim}
 use Rattle.std.proofs.lemmas.Bool.{eqb-true}
 use Rattle.std.proofs.lemmas.List.{length-append}
 use Rattle.std.proofs.lemmas.List.Elements.{Contains-append_left, Contains-append_right, Contains-append_cases}
-use Rattle.byte_table.specs.Entries.{Entry, entry, indexes_under}
-use Rattle.byte_table.specs.inner.Lists.{with_index}
-use Rattle.byte_table.proofs.lemmas.Entries.{indexes_added}
+use Rattle.key_table.specs.Entries.{Entry, entry, indexes_under}
+use Rattle.key_table.proofs.lemmas.Entries.{with_index}
+use Rattle.key_table.proofs.lemmas.Entries.{indexes_added}
 use Rattle.byte_trie.specs.declared.anchor.Anchor.{Anchor}
 use Rattle.byte_trie.specs.declared.anchor.Anchor.TheVariants.{Start, End}
 use Rattle.byte_trie.specs.Texts.{prefixes, suffixes, parts, found}

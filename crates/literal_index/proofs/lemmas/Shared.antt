@@ -1,17 +1,16 @@
 -- Tables, tries and keys can be sent to other threads, and shared between them.
 use denote.Param.Send.{IsSend, IsSync, sendable}
 use Rattle.std.proofs.Crossing.{crosses}
-use Rattle.std.proofs.MapsCrossing.{HashMap-send, HashMap-sync}
-use Rattle.byte_table.specs.contracts.table.Table as Table
+use Rattle.key_table.specs.contracts.table.Table as Table
 use Rattle.byte_trie.specs.contracts.trie.Trie as Trie
 use Rattle.literal_index.specs.contracts.folders.Folders as Folders
 use Rattle.literal_index.specs.contracts.keys.LiteralIndex as LiteralIndex
 
 pub table-send : IsSend Table.the_field.row
-table-send = search (sendable, crosses, HashMap-send) depth 20
+table-send = search (sendable, crosses) depth 40 fits 20000
 
 pub table-sync : IsSync Table.the_field.row
-table-sync = search (sendable, crosses, HashMap-sync) depth 20
+table-sync = search (sendable, crosses) depth 40 fits 20000
 
 trie-send : IsSend Trie.the_field.row
 trie-send = search (sendable, crosses) depth 40 fits 20000

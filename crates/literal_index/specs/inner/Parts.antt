@@ -1,6 +1,6 @@
 -- Keys in parts: how many indexes the tables have for a path, and what is true of all keys.
 use Rattle.std.specs.Prelude.{◌≡◌, ◌≢◌, ℕ, ◌+◌, ◌↔◌, ◌⊎◌, Bool, IsTrue, IsFalse, List, [], length}
-use Rattle.byte_table.specs.Entries.{Entry, indexes_under}
+use Rattle.key_table.specs.Entries.{Entry, indexes_under}
 use Rattle.byte_trie.specs.declared.anchor.Anchor.TheVariants.{Start, End}
 use Rattle.byte_trie.specs.Texts.{Texts}
 use Rattle.glob_path.specs.PathParts.{last_component, component_extension}

@@ -24,7 +24,7 @@ use Rattle.glob_strategy.specs.Strategies.{after_prefix, before_ending}
 use Rattle.glob_strategy.proofs.lemmas.BeforeEnding.{weight_before}
 use Rattle.set_matcher.specs.Below.{SomeReportedBelow, load_below, reads_below}
 use Rattle.set_matcher.specs.Globs.{TokenGlob, is_reported, is_reported_at, reads, load}
-use Rattle.byte_table.specs.Entries.{indexes_under}
+use Rattle.key_table.specs.Entries.{indexes_under}
 use Rattle.literal_index.specs.Below.{MatchesBelow}
 use Rattle.literal_index.specs.LiteralIndex.{KeyParts, MoreIn, keys_found}
 use Rattle.set_matcher.specs.inner.Automata.{AutomataParts, ExtensionParts, TokenLists, AreForLists, AreFor, AreFound, AreFoundBelow, AddsTokens, before_extension, first, folder_reads, machine_under, reads_for, tokens_under, total_reads}

@@ -6,7 +6,7 @@ use Rattle.byte_nfa.specs.Steps.{IsIn, Machine}
 use Rattle.byte_nfa.specs.Runs.{size, max_reads}
 use Rattle.bit_sets.specs.Indexes.{has_index, index_capacity}
 use Rattle.bit_sets.specs.declared.index_set.IndexSet.{IndexSet}
-use Rattle.byte_table.specs.Entries.{Entry, indexes_under}
+use Rattle.key_table.specs.Entries.{Entry, indexes_under}
 use Rattle.glob_meaning.specs.After.{MeanAfter}
 use Rattle.glob_nfa.specs.IndexedTokens.{SomeMeanAfter}
 use Rattle.glob_nfa.specs.IndexedTokens.{IndexedTokens, SomeMatches, IsFor}

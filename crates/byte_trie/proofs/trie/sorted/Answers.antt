@@ -2,7 +2,7 @@ use Rattle.std.proofs.Common.{◌∙◌, sym, ap, map, drop, length, arith, rule
 use Rattle.std.proofs.lemmas.List.{length-map}
 use Rattle.byte_trie.proofs.lemmas.Ranges.{taken}
 use Rattle.std.proofs.lemmas.List.Sorted.{answers_always}
-use Rattle.byte_table.specs.Entries.{indexes_under}
+use Rattle.key_table.specs.Entries.{indexes_under}
 use Rattle.byte_trie.specs.declared.anchor.Anchor.TheVariants.{End}
 use Rattle.byte_trie.specs.Texts.{entry_of}
 use Rattle.byte_trie.specs.inner.Anchors.{entry_from_anchor}

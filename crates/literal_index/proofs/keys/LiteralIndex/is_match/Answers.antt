@@ -1,7 +1,7 @@
 use Rattle.std.proofs.Common.{◌≡◌, length, refl, ap, ◌∙◌, arith}
 use Rattle.std.specs.Prelude.{◌==◌, ◌++◌}
 use Rattle.std.proofs.lemmas.List.{length-append}
-use Rattle.byte_table.specs.Entries.{indexes_under}
+use Rattle.key_table.specs.Entries.{indexes_under}
 use Rattle.byte_trie.specs.Texts.{found}
 use Rattle.byte_trie.specs.declared.anchor.Anchor.TheVariants.{Start, End}
 use Rattle.glob_path.specs.PathParts.{last_component, component_extension}

@@ -1,6 +1,6 @@
 use Rattle.std.proofs.Common.{List, ap, sym, subst}
 use Rattle.std.specs.Prelude.{◌↔◌, IsTrue, IsFalse, map}
-use Rattle.byte_table.specs.Entries.{Entry}
+use Rattle.key_table.specs.Entries.{Entry}
 use Rattle.byte_trie.specs.Texts.{Texts, entry_of}
 use Rattle.literal_index.specs.inner.Folders.{AreFolders}
 use Rattle.literal_index.specs.LiteralIndex.{KeyParts}

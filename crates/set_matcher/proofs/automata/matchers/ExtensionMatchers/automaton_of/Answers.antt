@@ -3,7 +3,7 @@ use Rattle.std.specs.Prelude.{get_or, slice_index_or}
 use Rattle.std.specs.Option.{option_map_or}
 use Rattle.byte_nfa.specs.Runs.{size}
 use Rattle.byte_nfa.specs.Steps.{Machine}
-use Rattle.byte_table.specs.Entries.{indexes_under}
+use Rattle.key_table.specs.Entries.{indexes_under}
 use Rattle.glob_nfa.specs.IndexedTokens.{IsFor}
 use Rattle.set_matcher.specs.inner.Automata.{ExtensionParts, AreFor, first, machine_under, max_size, slot_of, tokens_under}
 use Rattle.set_matcher.proofs.lemmas.Tables.{first_in, first_none, first_some}

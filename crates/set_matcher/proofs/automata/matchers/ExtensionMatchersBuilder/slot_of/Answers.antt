@@ -1,5 +1,5 @@
 use Rattle.std.proofs.Common.{ap, sym, ◌∙◌}
-use Rattle.byte_table.specs.Entries.{indexes_under}
+use Rattle.key_table.specs.Entries.{indexes_under}
 use Rattle.set_matcher.specs.inner.Automata.{ExtensionParts, first, slot_of}
 use Rattle.set_matcher.proofs.lemmas.Tables.{first_none}
 use Rattle.set_matcher.proofs.automata.matchers.ExtensionMatchersBuilder.slot_of.Goals as goal
