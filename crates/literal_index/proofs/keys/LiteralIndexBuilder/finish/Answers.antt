@@ -11,14 +11,18 @@ pub invariant_of-result : goal.invariant_of-result
 invariant_of-result c =
     let inside = c.self.inside in
     let paths = c.in_ok-table_of.ensures in
+    let components = c.in_ok-build.ensures in
+    let extensions = c.in_ok-build-2.ensures in
     let prefixes = ap (λ (t : Texts). t.entries) c.in_ok-new.ensures in
     let ends = ap (λ (t : Texts). t.entries) c.in_ok-new-2.ensures in
     let has_others = c.has_others-has_others.result in
     record {
       at_beginning = ap (λ (t : Texts). t.anchor) c.in_ok-new.ensures;
       at_end = ap (λ (t : Texts). t.anchor) c.in_ok-new-2.ensures;
-      some_others = subst (λ (es : List Entry). IsTrue has_others ↔ HasOthers inside.components inside.extensions es) (sym ends)
-          (subst (λ (k : KeyParts). IsTrue has_others ↔ HasOthers k.components k.extensions k.ends) (sym c.self.view_is) c.has_others-has_others.ensures);
+      some_others = subst (λ (es : List Entry). IsTrue has_others ↔ HasOthers c.in_ok-build.field-0 c.in_ok-build-2.field-0 es) (sym ends)
+          (subst (λ (es : List Entry). IsTrue has_others ↔ HasOthers es c.in_ok-build-2.field-0 (map entry_of inside.ends.items)) (sym components)
+          (subst (λ (es : List Entry). IsTrue has_others ↔ HasOthers inside.components es (map entry_of inside.ends.items)) (sym extensions)
+          (subst (λ (k : KeyParts). IsTrue has_others ↔ HasOthers k.components k.extensions k.ends) (sym c.self.view_is) c.has_others-has_others.ensures)));
       all_folders = subst (λ es. IsFalse has_others → AreFolders c.in_ok-folders.folders c.in_ok-table_of.field-0 es) (sym prefixes)
           (subst (λ (es : List Entry). IsFalse has_others → AreFolders c.in_ok-folders.folders es (map entry_of inside.prefixes.items)) (sym paths)
           (subst (λ ts. IsFalse has_others → AreFolders c.in_ok-folders.folders (map entry_of inside.paths.items) (map entry_of ts)) c.deref-2.ensures.value
