@@ -15,6 +15,7 @@ ghost use Rattle.set_matcher.specs.inner.Automata.{AddsTokens, AreFor, AreForLis
 
 mod below;
 mod matchers;
+mod slots;
 
 use crate::matching_sets::MatchingSets;
 use below::has_text;

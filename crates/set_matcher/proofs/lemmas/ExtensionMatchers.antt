@@ -68,6 +68,17 @@ matchers_push matchers machines none n m is before = record {
   for_none = before.for_none;
 }
 
+-- no extension has a slot
+pub matchers_cleared : (matchers : List Entry) (machines : List Machine) (none : Machine) (n : ℕ) → AreExtensionMatchers matchers machines none n → AreExtensionMatchers [] machines none n
+matchers_cleared matchers machines none n before = record {
+  held = λ extension s there. absurd there;
+  apart = λ a b s of_a of_b. absurd (cc);
+  counted = before.counted;
+  none_counted = before.none_counted;
+  empty = before.empty;
+  for_none = before.for_none;
+}
+
 -- ---- a new slot
 
 -- no other extension has it

@@ -10,11 +10,12 @@ ghost use Rattle.glob_syntax.specs.Views.{flats, tokens_of};
 ghost use Rattle.glob_syntax.specs.inner.Weight.{weight};
 ghost use Rattle.set_matcher.specs.inner.Automata.{AddsTokens, AreFor, KeepsTokens, SomeExtensionAfter, machine_under, max_size, slot_of, tokens_under, total_reads};
 
+use super::slots::Slots;
 use byte_nfa::Builder;
-use byte_table::Table;
 use glob_matching::{Budget, Compiled};
 use glob_nfa::{add_tokens, new_builder};
 use glob_syntax::{Options, Token};
+use key_table::Table;
 use nfa_simulation::{Nfa, StateSets};
 use std::alloc::{AllocError, Global};
 use std::marker::Model;
@@ -108,7 +109,7 @@ impl ExtensionMatchers {
         ensures tokens { (by_slot : ℕ → List IndexedTokens) → AreFor self.now.machines by_slot → IsFor result.now (tokens_under by_slot self.now.matchers extension.now) }
         ensures visits { visits.new ≡ visits.old + 1 }
     {
-        match self.matchers.get(extension, visits) {
+        match self.matchers.get(extension, visits, &mut Visits::new()) {
             [slot, ..] => &self.automata[*slot],
             [] => &self.none,
         }
@@ -145,7 +146,7 @@ impl ExtensionMatchers {
 
 /// Makes [`ExtensionMatchers`].
 pub struct ExtensionMatchersBuilder {
-    matchers: Table,
+    matchers: Slots,
     builders: Vec<Builder>,
     none: Builder,
     index_count: usize,
@@ -187,7 +188,7 @@ impl ExtensionMatchersBuilder {
         ensures none { max_reads result.none ≡ 0 }
     {
         ExtensionMatchersBuilder {
-            matchers: Table::new(alloc),
+            matchers: Slots::new(alloc),
             builders: Vec::new(alloc),
             none: new_builder(alloc, index_count),
             index_count,
@@ -230,10 +231,8 @@ impl ExtensionMatchersBuilder {
         ensures total { OnOk result (total_reads self.new.machines ≡ total_reads self.old.machines) }
         ensures count { self.new.index_count ≡ self.old.index_count }
     {
-        // These lookups are no part of matching a path, so nobody counts them.
-        let mut visits = Visits::new();
-        if let [slot, ..] = self.matchers.get(&key, &mut visits) {
-            return Ok(*slot);
+        if let Some(slot) = self.matchers.get(&key) {
+            return Ok(slot);
         }
         self.add_slot(alloc, key)
     }
@@ -249,7 +248,7 @@ impl ExtensionMatchersBuilder {
     {
         let slot = self.builders.len();
         self.builders.push(new_builder(alloc, self.index_count))?;
-        self.matchers.insert(key, slot)?;
+        self.matchers.insert(alloc, key, slot)?;
         Ok(slot)
     }
 
@@ -264,7 +263,7 @@ impl ExtensionMatchersBuilder {
             index_count,
         } = self;
         Ok(ExtensionMatchers {
-            matchers,
+            matchers: matchers.build()?,
             automata: finished(alloc, budget, builders)?,
             none: Compiled::simulated(Nfa::new(none.finish())),
             index_count,

@@ -17,8 +17,8 @@ index-requires c =
     let lt = c.self.invariant.held c.args.extension.now slot (first_in (indexes_under c.self.inside.matchers c.args.extension.now) slot at) in
     omega (arith, lt, c.self.inside.automata.ok.0)
 
-pub returns-in-empty-clause-tokens : goal.returns-in-empty-clause-tokens
-returns-in-empty-clause-tokens c = λ by_slot are.
+pub returns-clause-tokens : goal.returns-clause-tokens
+returns-clause-tokens c = λ by_slot are.
     let none : slot_of c.self.inside.matchers c.args.extension.now ≡ None = ap first (sym c.get.ensures.indexes) ∙ first_none c.get.result.now c.in-empty.len_below in
     subst (λ (e : ExtensionParts). IsFor c.self.inside.none (tokens_under by_slot e.matchers c.args.extension.now)) c.self.view_is
     (subst (λ o. IsFor c.self.inside.none (option_map_or by_slot o [])) (sym none) c.self.invariant.for_none)

@@ -5,7 +5,7 @@ use Rattle.byte_nfa.specs.Steps.{Machine}
 use Rattle.key_table.specs.Entries.{Entry, entry}
 use Rattle.set_matcher.specs.inner.Automata.{ExtensionParts, AreFor, AreExtensionMatchers, KeepsTokens, machine_under, slot_of, total_reads}
 use Rattle.set_matcher.proofs.lemmas.Tables.{first_of_key}
-use Rattle.set_matcher.proofs.lemmas.ExtensionMatchers.{extension_parts, matchers_push, matchers_insert, slot_keeps, slot_reads, total_push}
+use Rattle.set_matcher.proofs.lemmas.ExtensionMatchers.{extension_parts, matchers_cleared, matchers_push, matchers_insert, slot_keeps, slot_reads, total_push}
 use Rattle.set_matcher.proofs.automata.matchers.ExtensionMatchersBuilder.add_slot.Goals as goal
 
 pub invariant_of-self-in_err-insert : goal.invariant_of-self-in_err-insert
@@ -13,7 +13,8 @@ invariant_of-self-in_err-insert c =
     let machines = c.self.inside.builders.items in
     let more = matchers_push c.self.inside.matchers machines c.self.inside.none c.self.inside.index_count c.new_builder.result c.new_builder.ensures.index_count c.self.invariant in
     subst (λ es. AreExtensionMatchers es c.push.new.self.items c.self.inside.none c.self.inside.index_count) (sym {A = List Entry} c.in_err-insert.ensures.err)
-    (subst (λ ms. AreExtensionMatchers c.self.inside.matchers ms c.self.inside.none c.self.inside.index_count) (sym {A = List Machine} c.in_ok-push.ensures.items) more)
+    (matchers_cleared c.self.inside.matchers _ c.self.inside.none c.self.inside.index_count
+    (subst (λ ms. AreExtensionMatchers c.self.inside.matchers ms c.self.inside.none c.self.inside.index_count) (sym {A = List Machine} c.in_ok-push.ensures.items) more))
 
 pub invariant_of-self-2 : goal.invariant_of-self-2
 invariant_of-self-2 c =

@@ -1,0 +1,8 @@
+use Rattle.std.proofs.Common.{◌≡◌, List, [], ◌∷◌, ◌++◌, ap, ◌∙◌}
+use Rattle.key_table.specs.Entries.{entry}
+use Rattle.set_matcher.proofs.lemmas.Slots.{slots_added}
+use Rattle.set_matcher.proofs.automata.slots.insert.Goals as goal
+
+pub returns-clause-has : goal.returns-clause-has
+returns-clause-has c =
+    slots_added _ _ c.args.extension c.args.slot _ _ c.in_ok-insert-2.ensures.updates c.requires.has c.requires.none (rw c.deref.ensures.value at c.in_ok-insert.ensures.ok)
