@@ -126,13 +126,7 @@ fn scan(bytes: &[u8], rows: &[Row], key: &[u8], compared: &mut Visits) -> Option
 }
 
 /// Finds the row with a key and its hash among sorted rows by halves.
-fn search(
-    bytes: &[u8],
-    rows: &[Row],
-    hash: u32,
-    key: &[u8],
-    compared: &mut Visits,
-) -> Option<Row>
+fn search(bytes: &[u8], rows: &[Row], hash: u32, key: &[u8], compared: &mut Visits) -> Option<Row>
     requires hash { hash ≡ hash_of key.now }
     requires hashed { All (IsHashed bytes.now) rows.now }
     requires sorted { IsSortedBy (row_below bytes.now) rows.now }

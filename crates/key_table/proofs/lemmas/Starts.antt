@@ -1,5 +1,5 @@
 -- A directory's starts: how they are made, and the rows that they lead to.
-use Rattle.std.proofs.Common.{◌≡◌, ℕ, true, false, List, [], ◌∷◌, ◌++◌, ◌⊎◌, ◌+◌, ◌-◌, ◌/◌, ◌^◌, ◌<◌, ◌≤◌, ltb, All, Ordering, Option, Some, None, sym, ap, subst, ◌∙◌, length, get_or, map, slice_range, slice_index, drop, arith, ⊎_elim, inl, inr, length-take, length-drop}
+use Rattle.std.proofs.Common.{◌≡◌, ℕ, true, false, List, [], ◌∷◌, ◌++◌, ◌⊎◌, ◌+◌, ◌-◌, ◌/◌, ◌^◌, ◌<◌, ◌≤◌, ltb, All, Ordering, Option, Some, None, sym, ap, subst, ◌∙◌, length, get_or, slice_range, slice_index, drop, arith, ⊎_elim, inl, inr, length-take, length-drop}
 use Rattle.std.proofs.Math.ListN.{get_or-append}
 use Rattle.std.proofs.Math.Pow.{shr_mono}
 use Rattle.std.specs.List.{Contains}

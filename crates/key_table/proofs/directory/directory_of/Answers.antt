@@ -1,5 +1,3 @@
-use Rattle.std.proofs.Common.{arith}
-use Rattle.std.proofs.lemmas.List.{length-map}
 use Rattle.key_table.proofs.lemmas.Starts.{buckets_rise}
 use Rattle.key_table.proofs.directory.directory_of.Goals as goal
 

@@ -1,9 +1,7 @@
 use Rattle.std.proofs.Common.{◌≡◌, ◌∙◌, ◌++◌, ◌∷◌, [], ◌+◌, length, ap, arith, length-append, Result, Ok, Err}
 use Rattle.std.specs.Result.{OnErr}
 use Rattle.key_table.specs.Entries.{entry}
-use Rattle.std.proofs.lemmas.List.Elements.{All-weaker}
-use Rattle.key_table.specs.inner.Pairs.{IsKept}
-use Rattle.key_table.proofs.lemmas.Bytes.{entries_kept, entries_added, kept_more, kept_added}
+use Rattle.key_table.proofs.lemmas.Bytes.{entries_kept, entries_added, kept_added}
 use Rattle.key_table.proofs.builder.TableBuilder.insert.Goals as goal
 
 on_err_always : {T E P : Type 0} (r : Result T E) → P → OnErr r P
