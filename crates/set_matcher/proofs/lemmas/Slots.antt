@@ -1,5 +1,5 @@
 -- The slots of extensions in a map, once one more is added.
-use Rattle.std.proofs.Common.{◌≡◌, ℕ, Bool, true, false, List, [], ◌∷◌, ◌++◌, Option, Some, None, Vec, Ordering, refl, sym, ap, subst, ◌∙◌, ⊎_elim}
+use Rattle.std.proofs.Common.{◌≡◌, ℕ, Bool, true, false, List, [], ◌∷◌, ◌++◌, Some, None, Vec, Ordering, sym, ap, subst, ◌∙◌, ⊎_elim}
 use Rattle.std.specs.Cmp.Lexicographic.{bytes_decides, nat_list_eq_equiv, slice_cmp}
 use Rattle.std.specs.BTreeMap.{BTreeMap, IsEmpty, Updates}
 use Rattle.std.specs.Map.{lookup, IsKeyTest, AreApart, KeepsOthers}
@@ -7,7 +7,7 @@ use Rattle.std.specs.Ordering.{is_eq, nat_cmp}
 use Rattle.std.specs.Str.{bytes_eq}
 use Rattle.std.proofs.lemmas.Bool.{cases_Bool, cond-false}
 use Rattle.std.proofs.lemmas.Map.Text.{is_eq-slice_cmp}
-use Rattle.key_table.specs.Entries.{Entry, entry, indexes_under}
+use Rattle.key_table.specs.Entries.{Entry, entry}
 use Rattle.key_table.proofs.lemmas.Entries.{indexes_added}
 use Rattle.set_matcher.specs.inner.Automata.{first, slot_of}
 use Rattle.set_matcher.specs.inner.Slots.{slot_in, HasSlots}

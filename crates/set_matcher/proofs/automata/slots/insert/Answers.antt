@@ -1,5 +1,3 @@
-use Rattle.std.proofs.Common.{◌≡◌, List, [], ◌∷◌, ◌++◌, ap, ◌∙◌}
-use Rattle.key_table.specs.Entries.{entry}
 use Rattle.set_matcher.proofs.lemmas.Slots.{slots_added}
 use Rattle.set_matcher.proofs.automata.slots.insert.Goals as goal
 
