@@ -40,11 +40,16 @@ impl Row {
 
 /// Returns whether the pair after one has another key, or there is none.
 fn ends_group(bytes: &[u8], pairs: &[Pair], at: usize) -> bool
-    requires { at < length pairs.now }
+    requires kept { All (IsKept bytes.now) pairs.now }
+    requires at { at < length pairs.now }
     ensures { MatchBool result (IsOtherKey bytes.now pairs.now at) (IsSameKey bytes.now pairs.now at) }
 {
     let next = at + 1;
     if next == pairs.len() {
+        return true;
+    }
+    // The pairs hold the hashes, so most keys need not be read.
+    if pairs[next].hash != pairs[at].hash {
         return true;
     }
     pairs[next].key(bytes) != pairs[at].key(bytes)
