@@ -3,9 +3,9 @@
 
 Usage: build_wheel.py LIBRARY FOLDER
 
-LIBRARY is the shared library libglobset.so, which the wheel holds, and FOLDER is where the wheel is put. The same files give
-the same wheel, byte by byte; its files have the time SOURCE_DATE_EPOCH, or 1980. It needs `readelf`, to find what the library
-needs of the C library, and nothing else beside Python.
+LIBRARY is the shared library libglobset.so, which the wheel holds with the file NOTICE beside it. FOLDER is where the wheel is put.
+The same files give the same wheel, byte by byte; its files have the time SOURCE_DATE_EPOCH, or 1980. It needs `readelf`, to find
+what the library needs of the C library, and nothing else beside Python.
 """
 
 import base64
@@ -80,13 +80,14 @@ def files(library, tags):
     info = f"globset-{version()}.dist-info"
     metadata = METADATA.format(
         version=version(),
-        licenses="".join(f"License-File: {name}\n" for name in LICENSES),
+        licenses="".join(f"License-File: {name}\n" for name in (*LICENSES, "NOTICE")),
         description=read(f"{HERE}/README.md").decode(),
     )
     return {
         **{f"globset/{name}": read(f"{HERE}/globset/{name}") for name in MODULE},
         "globset/libglobset.so": read(library),
         **{f"{info}/licenses/{name}": read(f"{TOP}/{name}") for name in LICENSES},
+        f"{info}/licenses/NOTICE": read(f"{os.path.dirname(os.path.abspath(library))}/NOTICE"),
         f"{info}/METADATA": metadata.encode(),
         f"{info}/WHEEL": WHEEL.format(tags="".join(f"Tag: py3-none-{tag}\n" for tag in tags)).encode(),
     }
