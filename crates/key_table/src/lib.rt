@@ -12,8 +12,6 @@ mod pairs;
 mod parts;
 mod rows;
 mod table;
-#[cfg(test)]
-mod tests;
 
 pub use builder::TableBuilder;
 pub use table::Table;
