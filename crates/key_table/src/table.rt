@@ -11,7 +11,6 @@ use crate::directory::Directory;
 use crate::ends::Ends;
 use crate::parts::part;
 use crate::rows::{Row, find};
-use std::alloc::Global;
 use std::marker::Model;
 use std::snapshot::Snapshot;
 use visits::Visits;
@@ -55,20 +54,6 @@ impl Model for Table {
 }
 
 impl Table {
-    /// Returns a table of no entries, which takes no memory.
-    pub fn new(alloc: Global) -> Table
-        ensures { result ≡ [] }
-    {
-        Table {
-            bytes: Vec::new(alloc),
-            rows: Vec::new(alloc),
-            ends: Ends::nothing(),
-            directory: Directory::new(alloc),
-            indexes: Vec::new(alloc),
-            entries: Snapshot::of(&TableBuilder::new(alloc)),
-        }
-    }
-
     /// Returns the table of a builder's entries.
     pub(crate) fn of(
         bytes: Vec<u8>,
