@@ -40,17 +40,15 @@ impl Drop for Table {
 }
 
 impl Model for Table {
-    ghost use Rattle.std.specs.Prelude.{List, length, ◌≡◌};
+    ghost use Rattle.std.specs.Prelude.{List};
     ghost use Rattle.key_table.specs.Entries.{Entry};
-    ghost use Rattle.key_table.specs.inner.Rows.{HasRows};
-    ghost use Rattle.key_table.specs.inner.Ends.{HasEnds};
-    ghost use Rattle.key_table.specs.inner.Starts.{HasStarts};
+    ghost use Rattle.key_table.specs.inner.Tables.{AreParts};
 
     ghost Value = { List Entry };
 
     ghost view = { λ t. t.entries.value };
 
-    ghost invariant = { λ t. HasRows t.bytes.items t.rows.items t.indexes.items t.entries.value × HasEnds t.bytes.items t.rows.items t.ends × HasStarts t.rows.items t.directory.shift t.directory.starts.items × (length t.indexes.items ≡ length t.entries.value) };
+    ghost invariant = { λ t. AreParts t.bytes.items t.rows.items t.ends t.directory.shift t.directory.starts.items t.indexes.items t.entries.value };
 }
 
 impl Table {
