@@ -8,4 +8,4 @@ pub mod ExtensionMatchers
 pub mod Tables
 pub mod Shared
 pub mod Visits
-pub mod Slots
+pub mod ExtensionSlots

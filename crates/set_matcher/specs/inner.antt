@@ -3,4 +3,4 @@ pub mod GivenGlobs
 pub mod GivenTokens
 pub mod SetMatcher
 pub mod Capacity
-pub mod Slots
+pub mod ExtensionSlots

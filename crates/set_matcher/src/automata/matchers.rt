@@ -10,7 +10,7 @@ ghost use Rattle.glob_syntax.specs.Views.{flats, tokens_of};
 ghost use Rattle.glob_syntax.specs.inner.Weight.{weight};
 ghost use Rattle.set_matcher.specs.inner.Automata.{AddsTokens, AreFor, KeepsTokens, SomeExtensionAfter, machine_under, max_size, slot_of, tokens_under, total_reads};
 
-use super::slots::Slots;
+use super::slots::ExtensionSlots;
 use byte_nfa::Builder;
 use glob_matching::{Budget, Compiled};
 use glob_nfa::{add_tokens, new_builder};
@@ -146,7 +146,7 @@ impl ExtensionMatchers {
 
 /// Makes [`ExtensionMatchers`].
 pub struct ExtensionMatchersBuilder {
-    matchers: Slots,
+    matchers: ExtensionSlots,
     builders: Vec<Builder>,
     none: Builder,
     index_count: usize,
@@ -188,7 +188,7 @@ impl ExtensionMatchersBuilder {
         ensures none { max_reads result.none ≡ 0 }
     {
         ExtensionMatchersBuilder {
-            matchers: Slots::new(alloc),
+            matchers: ExtensionSlots::new(alloc),
             builders: Vec::new(alloc),
             none: new_builder(alloc, index_count),
             index_count,

@@ -3,7 +3,7 @@
 ghost use Rattle.std.specs.Prelude.{◌≡◌, ◌++◌, ◌∷◌, [], None, OnOk, OnErr, IfOk};
 ghost use Rattle.key_table.specs.Entries.{entry};
 ghost use Rattle.set_matcher.specs.inner.Automata.{slot_of};
-ghost use Rattle.set_matcher.specs.inner.Slots.{HasSlots};
+ghost use Rattle.set_matcher.specs.inner.ExtensionSlots.{HasSlots};
 
 use key_table::{Table, TableBuilder};
 use std::alloc::{AllocError, Global};
@@ -11,26 +11,26 @@ use std::collections::BTreeMap;
 use std::marker::Model;
 
 /// Extensions and their slots, in the order in which they were added.
-pub struct Slots {
+pub struct ExtensionSlots {
     table: TableBuilder,
     // The same slots, for lookups before the table is built.
     by_extension: BTreeMap<Vec<u8>, usize>,
 }
 
-impl Drop for Slots {
+impl Drop for ExtensionSlots {
     // One call wherever a value is dropped, which keeps proofs short.
     fn drop(self) {
-        let Slots {
+        let ExtensionSlots {
             table: _,
             by_extension: _,
         } = self;
     }
 }
 
-impl Model for Slots {
+impl Model for ExtensionSlots {
     ghost use Rattle.std.specs.Prelude.{List};
     ghost use Rattle.key_table.specs.Entries.{Entry};
-    ghost use Rattle.set_matcher.specs.inner.Slots.{HasSlots};
+    ghost use Rattle.set_matcher.specs.inner.ExtensionSlots.{HasSlots};
 
     ghost Value = { List Entry };
 
@@ -39,12 +39,12 @@ impl Model for Slots {
     ghost invariant = { λ s. HasSlots s.by_extension s.table };
 }
 
-impl Slots {
+impl ExtensionSlots {
     /// Returns no slots. It allocates nothing.
-    pub fn new(alloc: Global) -> Slots
+    pub fn new(alloc: Global) -> ExtensionSlots
         ensures { result ≡ [] }
     {
-        Slots {
+        ExtensionSlots {
             table: TableBuilder::new(alloc),
             by_extension: BTreeMap::new(alloc),
         }
@@ -84,7 +84,7 @@ impl Slots {
     pub fn build(self) -> Result<Table, AllocError>
         ensures { IfOk result (λ table. table ≡ self) }
     {
-        let Slots {
+        let ExtensionSlots {
             table,
             by_extension: _,
         } = self;

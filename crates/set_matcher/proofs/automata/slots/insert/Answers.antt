@@ -1,4 +1,4 @@
-use Rattle.set_matcher.proofs.lemmas.Slots.{slots_added}
+use Rattle.set_matcher.proofs.lemmas.ExtensionSlots.{slots_added}
 use Rattle.set_matcher.proofs.automata.slots.insert.Goals as goal
 
 pub returns-clause-has : goal.returns-clause-has

@@ -10,7 +10,7 @@ use Rattle.std.proofs.lemmas.Map.Text.{is_eq-slice_cmp}
 use Rattle.key_table.specs.Entries.{Entry, entry}
 use Rattle.key_table.proofs.lemmas.Entries.{indexes_added}
 use Rattle.set_matcher.specs.inner.Automata.{first, slot_of}
-use Rattle.set_matcher.specs.inner.Slots.{slot_in, HasSlots}
+use Rattle.set_matcher.specs.inner.ExtensionSlots.{slot_in, HasSlots}
 use Rattle.set_matcher.proofs.lemmas.Tables.{first_of_key}
 
 abbrev key_cmp : {X : Type 0} → Vec ℕ X → Vec ℕ X → Ordering
