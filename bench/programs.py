@@ -133,3 +133,22 @@ def globsift():
     if not os.path.exists(program):
         raise SystemExit("globsift could not be built")
     return program
+
+
+def pair(settings):
+    """The names and the files of the programs, and a sentence about the baseline."""
+    ours = settings.program or globsift()
+    if settings.without_baseline:
+        return {"globsift": ours}, "The baseline was not measured."
+    crates = find_crates(settings.crates, settings.mirror)
+    both = {"Baseline": baseline(crates), "globsift": ours}
+    return both, f"The baseline has globset {globset_version(crates)}."
+
+
+def commit():
+    """The commit of this repository, with a word if files differ from it."""
+    def git(*words):
+        return subprocess.run(["git", *words], cwd=HERE, capture_output=True, text=True).stdout.strip()
+
+    changed = " with changes" if git("status", "--porcelain", "--", "../crates") else ""
+    return git("rev-parse", "--short", "HEAD") + changed
