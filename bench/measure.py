@@ -70,14 +70,17 @@ def output_digest(command, limit, path):
     return output.count(b"\n"), hashlib.sha256(output).hexdigest()
 
 
-def least(tries, runs, limit):
+def least(tries, runs, limit, enough=None, known=None):
     """For each pair of a command and a file the least seconds of several runs, in alternation.
 
-    Short ones run more often, up to ten times as often. Where a run failed the result is its failure.
+    Short ones run more often, up to ten times as often, until all have taken `enough` seconds (by default half a second each).
+    Where a run failed the result is its failure; what is known to fail is not run.
     """
-    results = [None] * len(tries)
+    if enough is None:
+        enough = len(tries) / 2
+    results = known or [None] * len(tries)
     rounds, spent = 0, 0
-    while rounds < runs or rounds < 10 * runs and spent < len(tries) / 2:
+    while rounds < runs or rounds < 10 * runs and spent < enough:
         for index, (command, path) in enumerate(tries):
             if isinstance(results[index], Failed):
                 continue

@@ -1,9 +1,22 @@
 """What the commands of this folder share: rows of tables, and what it costs to start a program and to match a path."""
 
+import datetime
 import os
 
 import measure
+import programs
 import workloads
+
+
+def head(title, baseline, settings):
+    """The first lines of results: where, when and of what."""
+    load = ", ".join(f"{each:.1f}" for each in os.getloadavg())
+    if settings.program:
+        baseline += " `globsift` was handed over by `--program`, not built from this commit for the measurement."
+    return (
+        f"# {title}\n\n{measure.machine()}, {datetime.date.today()}, commit {programs.commit()}. {baseline} A run of"
+        f" {settings.limit} s was stopped.\nThe load of the machine was {load} at the start. {settings.note}".rstrip()
+    )
 
 
 def write_lines(folder, name, lines):
