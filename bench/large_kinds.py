@@ -2,6 +2,7 @@
 
 import random
 
+import families_kinds
 import workloads
 
 WORDS = workloads.FOLDERS + workloads.NAMES
@@ -78,7 +79,28 @@ def extensions(rng, index):
     return f"**/*.ext{index}"
 
 
-# For each kind the options of its globs, and a function from a random generator and an index to a glob.
+def named(rng, index):
+    """A word, and mostly the index behind it."""
+    return rng.choice(WORDS) + (str(index) if rng.random() < 0.9 else "")
+
+
+# What stands for a placeholder in a mixture.
+PLACED = {
+    "PATH": whole_paths,
+    "NAME": lambda rng, index: f"{named(rng, index)}.{rng.choice(EXTENSIONS)}",
+    "DIR": lambda rng, index: f"{numbered(rng)}/{named(rng, index)}",
+    "EXT": lambda rng, index: rng.choice(EXTENSIONS) + (str(index) if rng.random() < 0.9 else ""),
+    "WORD": named,
+}
+
+
+def mixture(rng, index):
+    """A glob of one of the realistic kinds of `bench/families`."""
+    template = families_kinds.drawn(families_kinds.REALISTIC, rng)
+    return families_kinds.PLACEHOLDER.sub(lambda found: PLACED[found[0]](rng, index), template)
+
+
+# For each kind the options, and a function from a random generator and an index to a glob.
 KINDS = {
     "owners": ([], owners),
     "ignored": ([], ignored),
@@ -94,6 +116,8 @@ KINDS = {
     "whole paths": ([], whole_paths),
     "last components": ([], last_components),
     "extensions": ([], extensions),
+    # A path matches some of so many globs, which ends a search for any of them.
+    "mixture": (["-n"], mixture),
 }
 
 

@@ -21,7 +21,7 @@ def head(title, baseline, settings):
 
 def write_lines(folder, name, lines):
     path = os.path.join(folder, name)
-    with open(path, "w") as file:
+    with open(path, "w", encoding="utf-8") as file:
         file.writelines(line + "\n" for line in lines)
     return path
 

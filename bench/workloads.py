@@ -106,6 +106,12 @@ def folders_below_folders():
     ]
 
 
+def infixes_with_digits():
+    """1,000 globs of words with numbers, of which few are in the paths, though their words are in many."""
+    rng = random.Random(18)
+    return [f"*{rng.choice(FOLDERS)}{rng.randrange(1000)}*" for _ in range(1000)]
+
+
 def workloads(lines):
     """The name, the arguments and the paths of each workload. The last ones have fewer lines, as they are slow."""
     usual = paths(lines)
@@ -143,6 +149,7 @@ def workloads(lines):
         ),
         ("1,000-byte paths", LONG_PATH_GLOBS, long),
         ("1,000-byte paths, -n", ["-n"] + LONG_PATH_GLOBS, long),
+        ("1,000 infixes with digits", infixes_with_digits(), usual[: max(1, lines // 20)]),
         ("1,000 with two parts", parts_in_order(), usual[: max(1, lines // 20)]),
         ("1,000 below folders, -s", ["-s"] + folders_below_folders(), few),
     ]
