@@ -41,7 +41,7 @@ module _ (a : List State) (k b c : ℕ) (z : List ℕ) (equivalent : AreEquivale
   has_equivalent : (s : ℕ) (st : State) (w : ByteSet) → state a s ≡ st → ((d : ℕ) → reads_byte st d ≡ has_byte w d) → IsTrue (has_byte w b) → IsTrue (has_byte w c)
   has_equivalent s st w e f h = sym (f c) ∙ sym (ap (λ u. reads_byte u c) e) ∙ sym (equivalent s) ∙ ap (λ u. reads_byte u b) e ∙ f b ∙ h
 
-  accepts_equivalent : (s : ℕ) (y : List ℕ) → Accepts a k s y → y ≡ b ∷ z → Accepts a k s (c ∷ z)
+  pub accepts_equivalent : (s : ℕ) (y : List ℕ) → Accepts a k s y → y ≡ b ∷ z → Accepts a k s (c ∷ z)
   accepts_equivalent s y (ends s' e) is = absurd cc
   accepts_equivalent s y (by_byte s' t d x w e has rest) is =
       let same : d ≡ b = cc in let others : x ≡ z = cc in
