@@ -17,12 +17,14 @@ mod early_matches;
 mod forcing;
 mod live;
 mod parts;
+mod reading;
 mod spans;
 mod steps;
 
 use crate::byte_steps::ByteSteps;
 use crate::state::State;
 use bit_sets::{ByteSet, IndexSet, StateSet};
+pub use reading::StateRef;
 use std::alloc::{AllocError, Global};
 use std::marker::Model;
 use visits::Visits;

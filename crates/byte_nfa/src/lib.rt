@@ -13,4 +13,4 @@ mod state;
 
 pub use builder::Builder;
 pub use byte_steps::ByteSteps;
-pub use draft::Draft;
+pub use draft::{Draft, StateRef};

@@ -1,0 +1,3 @@
+pub mod Lists
+pub mod Chunks
+pub mod Known

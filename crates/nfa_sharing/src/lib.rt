@@ -1,0 +1,40 @@
+//! Automata in which texts that begin alike share states.
+//!
+//! An automaton for many globs begins in a state of each, and most texts lead to states of many of them. [`shared`] makes an
+//! automaton that leads to the same ends and begins in one state. There one state stands for all that a text may lead to by steps
+//! of one kind with the same bytes, so a run goes through smaller sets of states.
+#![tactic(auto)]
+
+ghost use Rattle.std.specs.Prelude.{IfOk, IfSome};
+ghost use Rattle.nfa_sharing.specs.Sharing.{Shares};
+
+mod budget;
+mod chunk;
+mod expanded;
+mod known;
+mod order;
+mod sets;
+mod sharing;
+
+use crate::sharing::start_state;
+use byte_nfa::{Builder, Draft};
+use std::alloc::{AllocError, Global};
+
+/// Returns an automaton that leads where `automaton` does and begins in one state, and in which texts that begin alike share
+/// states.
+///
+/// Returns `None` if there are no starts, or if that takes more states than there are, or more work than is linear in the states.
+/// Returns an error if memory runs out. It takes memory linear in the automaton.
+pub fn shared(alloc: Global, automaton: &Draft) -> Result<Option<Draft>, AllocError>
+    ensures { IfOk result (λ made. IfSome made (λ new. Shares automaton.now new)) }
+{
+    if automaton.starts().is_empty() {
+        return Ok(None);
+    }
+    let mut builder = Builder::new(alloc, automaton.index_count());
+    let Some(start) = start_state(alloc, automaton, &mut builder)? else {
+        return Ok(None);
+    };
+    builder.add_start(start)?;
+    Ok(Some(builder.finish()))
+}
