@@ -1,7 +1,7 @@
 //! Deterministic automata over bytes: which of several ends a text leads to, by one step through a table for each byte.
 //!
 //! A [`Dfa`] is made from a [`byte_nfa::Draft`], and finds exactly what that finds. It may need a table that is
-//! very much larger than the automaton, so it is made within a budget.
+//! very much larger than the automaton, so it is made within a budget. [`ByteClasses`] divide the bytes for its rows.
 #![tactic(auto)]
 
 mod classes;
@@ -9,4 +9,6 @@ mod determinizer;
 mod dfa;
 mod lists;
 
+pub use classes::ByteClasses;
 pub use dfa::Dfa;
+pub use lists::put_listed;

@@ -1,0 +1,456 @@
+-- Rows that are added, written and found again.
+use Rattle.std.proofs.Common.{◌≡◌, ◌≢◌, ℕ, ◌+◌, ◌-◌, ◌*◌, ◌<◌, ◌≤◌, ◌⊎◌, ◌||◌, inl, inr, Bool, true, false, true≢false, List, [], ◌∷◌, ◌++◌, Some, None, length, take, drop, replicate, slice_index, slice_set, IsTrue, refl, ap, sym, ◌∙◌, subst, arith, length-append}
+use Rattle.std.specs.Prelude.{◌↔◌, IsFalse, Option, MatchOption, is_some}
+use Rattle.std.proofs.lemmas.Bool.{cases_lt, or_cases}
+use Rattle.std.proofs.lemmas.Nat.{mul-le}
+use Rattle.std.proofs.lemmas.List.{get_or_append_left, get_or-append_right, get_or-replicate, get_or-set_same, get_or-set_other, take_all, length-set, length-replicate}
+use Rattle.std.proofs.Math.Seq.{get_or-append_seam, drop-append-add}
+use Rattle.std.proofs.Math.Logic.{⊎_elim}
+use Rattle.bit_sets.specs.Numbers.{is_reported, AreBelow}
+use Rattle.bit_sets.specs.StateSets.{has_state}
+use Rattle.bit_sets.specs.declared.state_set.StateSet.{StateSet}
+use Rattle.byte_nfa.specs.Steps.{Machine, IsReached, state}
+use Rattle.byte_nfa.specs.Equivalent.{AreEquivalent, reads_byte}
+use Rattle.byte_nfa.proofs.lemmas.Equivalent.{accepts_equivalent}
+use Rattle.byte_nfa.specs.Runs.{size, AcceptsFrom}
+use Rattle.byte_nfa.proofs.lemmas.Pass.{iff_trans, or_first, accepts_within}
+use Rattle.byte_dfa.specs.inner.Building.{half}
+use Rattle.byte_dfa.specs.inner.Lists.{list_at, IsList, IsListOf}
+use Rattle.byte_dfa.proofs.lemmas.Found.{list_of_iff}
+use Rattle.bit_sets.specs.Indexes.{has_index}
+use Rattle.bit_sets.specs.declared.index_set.IndexSet.{IndexSet}
+use Rattle.byte_dfa.proofs.lemmas.Lists as Lists
+use Rattle.byte_dfa.proofs.lemmas.Lists.{keeps_lists, list_last}
+use Rattle.lazy_dfa.specs.declared.rows.Rows.{Rows}
+use Rattle.lazy_dfa.specs.inner.Rows.{AcceptsIn, AcceptsRow, IsNext, IsEnd, IsEntry, IsEntryBy, IsSound, HasEnds, HasMarks, MarksAre, GoesTo, IsDeadBy, HasRoomFor, marked, KeepsRows, states_of, place_of, max_rows}
+
+-- places of entries
+
+pub place_within : (i c n w : ℕ) → i < n → c ≤ w → i * (w + 1) + c < n * (w + 1)
+place_within i c n w lt le = let h = mul-le (i + 1) (w + 1) n (w + 1) (omega arith) (omega arith) in omega (arith, h)
+
+pub same_place : (i c j d w : ℕ) → c ≤ w → d ≤ w → i * (w + 1) + c ≡ j * (w + 1) + d → (i ≡ j) × (c ≡ d)
+same_place i c j d w hc hd e = ⊎_elim {C = (i ≡ j) × (c ≡ d)}
+    (λ lt. let h = place_within i c j w lt hc in absurd (omega arith))
+    (λ ge. ⊎_elim {C = (i ≡ j) × (c ≡ d)}
+    (λ lt. let h = place_within j d i w lt hd in absurd (omega arith))
+    (λ le. let is : i ≡ j = omega arith in (is, (let f = ap (λ x. x * (w + 1)) is in omega arith)))
+    (cases_lt j i))
+    (cases_lt i j)
+
+-- states of a set, and of a list
+
+pub accepts_listed : (m : Machine) (set : StateSet) (list : List ℕ) → ((t : ℕ) → IsTrue (is_reported t list) ↔ ((t < size m) × IsTrue (has_state set t)))
+    → (y : List ℕ) (k : ℕ) → AcceptsFrom m set y k ↔ AcceptsIn m list y k
+accepts_listed m set list has y k = (
+  λ (t, lt, at, h). (t, (has t).1 (lt, at), h),
+  λ (t, at, h). let (lt, in') = (has t).0 at in (t, lt, in', h),
+)
+
+-- the states of a list were put into an empty set
+pub accepts_loaded : (m : Machine) (empty set : StateSet) (list : List ℕ) → ((t : ℕ) → has_state empty t ≡ false) → ((t : ℕ) → has_state set t ≡ (is_reported t list || has_state empty t))
+    → (y : List ℕ) (k : ℕ) → AcceptsIn m list y k ↔ AcceptsFrom m set y k
+accepts_loaded m empty set list none has y k = (
+  λ (t, at, h). (t, accepts_within m.states k t y h, has t ∙ or_first (is_reported t list) (has_state empty t) at, h),
+  λ (t, lt, at, h). (t, listed t (or_cases (is_reported t list) (has_state empty t) (sym (has t) ∙ at)), h),
+)
+  where
+    listed : (t : ℕ) → IsTrue (is_reported t list) ⊎ IsTrue (has_state empty t) → IsTrue (is_reported t list)
+    listed t (inl at) = at
+    listed t (inr at) = absurd (true≢false (sym at ∙ none t))
+
+-- a list stays where it is
+pub list_kept : (lists more starts more' : List ℕ) (n i : ℕ) → i < length starts → IsList lists n (slice_index starts i)
+    → (list_at (lists ++ more) (slice_index (starts ++ more') i) ≡ list_at lists (slice_index starts i)) × IsList (lists ++ more) n (slice_index (starts ++ more') i)
+list_kept lists more starts more' n i lt is =
+    let same : slice_index (starts ++ more') i ≡ slice_index starts i = get_or_append_left starts more' 0 i lt in
+    let (list, states, count) = (keeps_lists lists more).1 n (slice_index starts i) is in
+    (ap (list_at (lists ++ more)) same ∙ states, subst (IsList (lists ++ more) n) (sym same) list)
+
+-- a row that is still there leads where it did
+pub accepts_kept : (m : Machine) (old new : Rows) (i : ℕ) (y : List ℕ) (k : ℕ) → states_of new i ≡ states_of old i → AcceptsRow m old i y k ↔ AcceptsRow m new i y k
+accepts_kept m old new i y k same = (λ a. subst (λ l. AcceptsIn m l y k) (sym same) a, λ a. subst (λ l. AcceptsIn m l y k) same a)
+
+-- an entry is right where rows were added
+module _ (m : Machine) (old new : Rows) (i : ℕ) (keeps : KeepsRows old new) (lt : i < length old.starts.items) where
+  pub marks_still : HasMarks m old i → HasMarks m new i
+  marks_still (k, low, a) = (k, low, (accepts_kept m old new i [] (half m + k) (keeps.states i lt)).0 a)
+
+  pub marks_before : HasMarks m new i → HasMarks m old i
+  marks_before (k, low, a) = (k, low, (accepts_kept m old new i [] (half m + k) (keeps.states i lt)).1 a)
+
+  next_kept : (b e : ℕ) → IsNext m old i b e → IsNext m new i b e
+  next_kept b e is = record {
+    dead = λ d y k h. is.dead d y k (subst (λ l. AcceptsIn m l (b ∷ y) k) (keeps.states i lt) h);
+    row = λ some.
+        let (there, goes) = is.row some in (
+          (let more = keeps.more in omega arith),
+          λ y k. subst (λ l. AcceptsIn m l (b ∷ y) k ↔ AcceptsRow m new (e - 2) y k) (sym (keeps.states i lt))
+              (subst (λ l. AcceptsRow m old i (b ∷ y) k ↔ AcceptsIn m l y k) (sym (keeps.states (e - 2) there)) (goes y k)),
+        );
+  }
+
+  pub end_kept : (e : ℕ) → IsEnd m old i e → IsEnd m new i e
+  end_kept e is = record {
+    none = λ d k low h. is.none d k low (subst (λ l. AcceptsIn m l [] k) (keeps.states i lt) h);
+    some = λ known. let (k, low, a) = is.some known in (k, low, (accepts_kept m old new i [] k (keeps.states i lt)).0 a);
+    listed = λ known. list_of_iff new.lists.items (half m + half m) (e - 2) (AcceptsRow m old i []) (AcceptsRow m new i []) (λ k. accepts_kept m old new i [] k (keeps.states i lt))
+        (Lists.list_kept old.lists.items new.lists.items (half m + half m) (e - 2) (AcceptsRow m old i []) keeps.lists (is.listed known));
+  }
+
+  pub entry_kept : (c e : ℕ) → IsEntry m old i c e → IsEntry m new i c e
+  entry_kept c e is = record {
+    byte = λ b byte class.
+        let by = is.byte b byte (ap (λ l. slice_index l b) (sym keeps.class_of) ∙ class) in
+        record {
+          plain = λ low. let (quiet, next) = by.plain low in (λ h. quiet (marks_before h), next_kept b e next);
+          marks = λ high. let (marks, some, next) = by.marks high in (marks_still marks, some, next_kept b (e - marked) next);
+        };
+    end = λ column. end_kept e (is.end (column ∙ keeps.class_count));
+  }
+
+-- the rows are the same, beside the memory that a step needs
+pub record HasSameRows (old new : Rows) : Type 0 where
+  pub starts : new.starts.items ≡ old.starts.items
+  pub lists : new.lists.items ≡ old.lists.items
+  pub class_of : new.class_of ≡ old.class_of
+  pub class_count : new.class_count ≡ old.class_count
+
+pub same_keeps : (old new : Rows) → HasSameRows old new → KeepsRows old new
+same_keeps old new is = record {
+  more = rw is.starts (omega arith);
+  states = λ i lt. rw (is.lists, is.starts) refl;
+  lists = rw is.lists (omega arith, λ n place list. (list, refl, refl));
+  class_of = is.class_of;
+  class_count = is.class_count;
+}
+
+-- where a run begins
+abbrev pub Begins : Machine → Rows → Type 0
+Begins m rows = (j : ℕ) → rows.begin ≡ Some j → (j < length rows.starts.items) × ((y : List ℕ) (k : ℕ) → AcceptsRow m rows j y k ↔ IsReached m y k)
+
+begins_kept : (m : Machine) (old new : Rows) → HasSameRows old new → new.begin ≡ old.begin → Begins m old → Begins m new
+begins_kept m old new is begin before j at =
+    let (lt, begins) = before j (sym begin ∙ at) in
+    (rw is.starts lt, λ y k. subst (λ l. AcceptsIn m l y k ↔ IsReached m y k) (sym ((same_keeps old new is).states j lt)) (begins y k))
+
+pub begun_sound : (m : Machine) (old new : Rows) → HasSameRows old new → new.entries.items ≡ old.entries.items → HasRoomFor m new → Begins m new → IsSound m old → IsSound m new
+begun_sound m old new is entries room begins sound = record {
+  room = room;
+  representatives = sound.representatives;
+  classes = rw (is.class_of, is.class_count) sound.classes;
+  few = rw is.starts sound.few;
+  lists = rw (is.starts, is.lists) sound.lists;
+  len = rw (is.starts, is.class_count, entries) sound.len;
+  known = λ i c lt hc some.
+      let same : slice_index new.entries.items (place_of new i c) ≡ slice_index old.entries.items (place_of old i c) = rw (is.class_count, entries) refl in
+      let before : i < length old.starts.items = rw is.starts at lt in
+      let short : c ≤ old.class_count = rw is.class_count at hc in
+      subst (IsEntry m new i c) (sym same) (entry_kept m old new i (same_keeps old new is) before c (slice_index old.entries.items (place_of old i c)) (sound.known i c before short (subst (λ x. 0 < x) same some)));
+  begins = begins;
+}
+
+pub same_sound : (m : Machine) (old new : Rows) → HasSameRows old new → new.entries.items ≡ old.entries.items → new.begin ≡ old.begin → HasRoomFor m new → IsSound m old → IsSound m new
+same_sound m old new is entries begin room sound = begun_sound m old new is entries room (begins_kept m old new is begin sound.begins) sound
+
+-- an entry was written
+pub entry_written : (m : Machine) (rows : Rows) (entries : List ℕ) (w n row column e i c : ℕ) → length entries ≡ n * (w + 1) → row < n → column ≤ w → c ≤ w
+    → IsEntry m rows row column e → ((j d : ℕ) → j < n → d ≤ w → 0 < slice_index entries (j * (w + 1) + d) → IsEntry m rows j d (slice_index entries (j * (w + 1) + d)))
+    → i < n → 0 < slice_index (slice_set entries (row * (w + 1) + column) e) (i * (w + 1) + c) → IsEntry m rows i c (slice_index (slice_set entries (row * (w + 1) + column) e) (i * (w + 1) + c))
+entry_written m rows entries w n row column e i c len here hcol hc is known lt some = ⊎_elim {C = IsEntry m rows i c (slice_index new at)}
+    (λ low. other (omega arith))
+    (λ ge. ⊎_elim {C = IsEntry m rows i c (slice_index new at)} (λ high. other (omega arith)) (λ le. this (omega arith)) (cases_lt place at))
+    (cases_lt at place)
+  where
+    place : ℕ
+    place = row * (w + 1) + column
+
+    at : ℕ
+    at = i * (w + 1) + c
+
+    new : List ℕ
+    new = slice_set entries place e
+
+    other : at ≢ place → IsEntry m rows i c (slice_index new at)
+    other ne =
+        let same : slice_index new at ≡ slice_index entries at = get_or-set_other entries place at e 0 ne in
+        subst (IsEntry m rows i c) (sym same) (known i c lt hc (subst (λ x. 0 < x) same some))
+
+    this : at ≡ place → IsEntry m rows i c (slice_index new at)
+    this same =
+        let room = place_within row column n w here hcol in
+        let (is_row, is_column) = same_place i c row column w hc hcol same in
+        let value : slice_index new at ≡ e = ap (slice_index new) same ∙ get_or-set_same entries place e 0 (omega arith) in
+        subst (IsEntry m rows i c) (sym value) (subst (λ x. IsEntry m rows x c e) (sym is_row) (subst (λ x. IsEntry m rows row x e) (sym is_column) is))
+
+-- the entries of a row that was added are not known
+
+zeros : (n i : ℕ) → i < n → slice_index (replicate n 0) i ≡ 0
+zeros n i lt = get_or-replicate n i 0 0 lt
+
+pub entries_more : (entries : List ℕ) (w n i c : ℕ) → length entries ≡ n * (w + 1) → i < n + 1 → c ≤ w → 0 < slice_index (entries ++ replicate (w + 1) 0) (i * (w + 1) + c)
+    → (i < n) × (slice_index (entries ++ replicate (w + 1) 0) (i * (w + 1) + c) ≡ slice_index entries (i * (w + 1) + c))
+entries_more entries w n i c len lt hc some = ⊎_elim {C = (i < n) × (slice_index (entries ++ replicate (w + 1) 0) (i * (w + 1) + c) ≡ slice_index entries (i * (w + 1) + c))}
+    (λ low. let h = place_within i c n w low hc in (low, get_or_append_left entries (replicate (w + 1) 0) 0 (i * (w + 1) + c) (omega arith)))
+    (λ high.
+    let is : i ≡ n = omega arith in
+    let e = ap (λ x. x * (w + 1)) is in
+    let none = get_or-append_right entries (replicate (w + 1) 0) (length entries) (i * (w + 1) + c) 0 refl (omega arith) ∙ zeros (w + 1) (i * (w + 1) + c - length entries) (omega arith) in
+    absurd (omega (arith, none, some)))
+    (cases_lt i n)
+
+-- a row was added, of the states of a list
+pub record HasAdded (old new : Rows) (list : List ℕ) : Type 0 where
+  pub lists : new.lists.items ≡ old.lists.items ++ length list ∷ list
+  pub starts : new.starts.items ≡ old.starts.items ++ length old.lists.items ∷ []
+  pub entries : new.entries.items ≡ old.entries.items ++ replicate (old.class_count + 1) 0
+  pub class_of : new.class_of ≡ old.class_of
+  pub class_count : new.class_count ≡ old.class_count
+  pub begin : new.begin ≡ old.begin
+
+module _ (m : Machine) (old new : Rows) (list : List ℕ) (is : HasAdded old new list) (sound : IsSound m old) where
+  more_starts : length new.starts.items ≡ length old.starts.items + 1
+  more_starts = ap length is.starts ∙ length-append old.starts.items (length old.lists.items ∷ [])
+
+  pub added_keeps : KeepsRows old new
+  added_keeps = record {
+    more = omega (arith, more_starts);
+    states = λ i lt. rw (is.lists, is.starts) (list_kept old.lists.items (length list ∷ list) old.starts.items (length old.lists.items ∷ []) (size m) i lt (sound.lists i lt)).0;
+    lists = rw is.lists (keeps_lists old.lists.items (length list ∷ list));
+    class_of = is.class_of;
+    class_count = is.class_count;
+  }
+
+  last_start : slice_index new.starts.items (length old.starts.items) ≡ length old.lists.items
+  last_start = ap (λ l. slice_index l (length old.starts.items)) is.starts ∙ get_or-append_seam old.starts.items (length old.lists.items) [] 0
+
+  last_count : slice_index new.lists.items (length old.lists.items) ≡ length list
+  last_count = ap (λ l. slice_index l (length old.lists.items)) is.lists ∙ get_or-append_seam old.lists.items (length list) list 0
+
+  last_list : list_at new.lists.items (length old.lists.items) ≡ list
+  last_list =
+      ap (λ n. take n (drop (length old.lists.items + 1) new.lists.items)) last_count
+      ∙ ap (λ l. take (length list) (drop (length old.lists.items + 1) l)) is.lists
+      ∙ ap (take (length list)) (drop-append-add old.lists.items (length list ∷ list) 1)
+      ∙ take_all (length list) list (omega arith)
+
+  pub added_states : states_of new (length old.starts.items) ≡ list
+  added_states = ap (list_at new.lists.items) last_start ∙ last_list
+
+  new_list : AreBelow (size m) list → IsList new.lists.items (size m) (length old.lists.items)
+  new_list below = record {
+    room = let len = ap length is.lists in let both = length-append old.lists.items (length list ∷ list) in omega (arith, last_count);
+    below = subst (λ l. (x : ℕ) → x < length l → slice_index l x < size m) (sym last_list) below;
+  }
+
+  pub added_sound : AreBelow (size m) list → length old.starts.items < max_rows → HasRoomFor m new → IsSound m new
+  added_sound below few room = record {
+    room = room;
+    representatives = sound.representatives;
+    classes = rw (is.class_of, is.class_count) sound.classes;
+    few = omega (arith, more_starts);
+    lists = λ i lt. ⊎_elim {C = IsList new.lists.items (size m) (slice_index new.starts.items i)}
+        (λ before. rw (is.lists, is.starts) (list_kept old.lists.items (length list ∷ list) old.starts.items (length old.lists.items ∷ []) (size m) i before (sound.lists i before)).1)
+        (λ past. let this : i ≡ length old.starts.items = omega (arith, more_starts) in
+        subst (IsList new.lists.items (size m)) (sym (ap (slice_index new.starts.items) this ∙ last_start)) (new_list below))
+        (cases_lt i (length old.starts.items));
+    len =
+        let both = ap length is.entries ∙ length-append old.entries.items (replicate (old.class_count + 1) 0) in
+        let zeros_len = length-replicate {A = ℕ} (old.class_count + 1) 0 in
+        let old_len = sound.len in
+        rw (more_starts, is.class_count) (omega (arith, both, zeros_len, old_len));
+    known = λ i c lt hc some.
+        let w = old.class_count in
+        let place : place_of new i c ≡ i * (w + 1) + c = ap (λ n. i * (n + 1) + c) is.class_count in
+        let value : slice_index new.entries.items (place_of new i c) ≡ slice_index (old.entries.items ++ replicate (w + 1) 0) (i * (w + 1) + c) = ap (slice_index new.entries.items) place ∙ ap (λ l. slice_index l (i * (w + 1) + c)) is.entries in
+        let short : c ≤ w = omega (arith, hc, is.class_count) in
+        let (before, same) = entries_more old.entries.items w (length old.starts.items) i c sound.len (omega (arith, more_starts)) short (subst (λ x. 0 < x) value some) in
+        subst (IsEntry m new i c) (sym (value ∙ same)) (entry_kept m old new i added_keeps before c (slice_index old.entries.items (i * (w + 1) + c))
+        (sound.known i c before short (subst (λ x. 0 < x) (value ∙ same) some)));
+    begins = λ j at.
+        let (lt, begins) = sound.begins j (sym is.begin ∙ at) in
+        (omega (arith, more_starts), λ y k. subst (λ l. AcceptsIn m l y k ↔ IsReached m y k) (sym (added_keeps.states j lt)) (begins y k));
+  }
+
+-- the look for an index in a range
+pub in_range : (from end : ℕ) (set : ℕ → Bool) (o : Option ℕ) (r : Bool) → r ≡ is_some o
+    → MatchOption o ((k : ℕ) → from ≤ k → k < end → set k ≡ false) (λ at. (from ≤ at) × (at < end) × (set at ≡ true) × ((k : ℕ) → from ≤ k → k < at → set k ≡ false))
+    → IsTrue r ↔ ((k : ℕ) × (from ≤ k) × (k < end) × IsTrue (set k))
+in_range from end set None r is none = (
+  λ h. absurd (true≢false (sym h ∙ is)),
+  λ (k, low, high, at). absurd (true≢false (sym at ∙ none k low high)),
+)
+in_range from end set (Some k) r is (low, high, at, before) = (λ _. (k, low, high, at), λ _. is)
+
+-- one entry of the rows was written
+pub written_sound : (m : Machine) (old new : Rows) (row column e : ℕ) → HasSameRows old new → new.entries.items ≡ slice_set old.entries.items (place_of old row column) e → new.begin ≡ old.begin → HasRoomFor m new
+    → row < length old.starts.items → column ≤ old.class_count → IsEntry m old row column e → IsSound m old → IsSound m new
+written_sound m old new row column e is entries begin room here short entry sound = record {
+  room = room;
+  representatives = sound.representatives;
+  classes = rw (is.class_of, is.class_count) sound.classes;
+  few = rw is.starts sound.few;
+  lists = rw (is.starts, is.lists) sound.lists;
+  len = rw (is.starts, is.class_count, entries) (length-set old.entries.items (place_of old row column) e ∙ sound.len);
+  known = λ i c lt hc some.
+      let w = old.class_count in
+      let n = length old.starts.items in
+      let keeps = same_keeps old new is in
+      let same : slice_index new.entries.items (place_of new i c) ≡ slice_index (slice_set old.entries.items (row * (w + 1) + column) e) (i * (w + 1) + c) = rw (is.class_count, entries) refl in
+      let before : i < n = rw is.starts at lt in
+      let low : c ≤ w = rw is.class_count at hc in
+      subst (IsEntry m new i c) (sym same) (entry_written m new old.entries.items w n row column e i c
+      sound.len here short low (entry_kept m old new row keeps here column e entry)
+      (λ j d lj ld one. entry_kept m old new j keeps lj d (slice_index old.entries.items (j * (w + 1) + d)) (sound.known j d lj ld one)) before (subst (λ x. 0 < x) same some));
+  begins = begins_kept m old new is begin sound.begins;
+}
+
+-- bytes of one class lead to the same ends
+
+in_equivalent : (m : Machine) (list : List ℕ) (b c : ℕ) (y : List ℕ) (k : ℕ) → AreEquivalent m.states b c → AcceptsIn m list (b ∷ y) k → AcceptsIn m list (c ∷ y) k
+in_equivalent m list b c y k same (t, at, h) = (t, at, accepts_equivalent m.states k b c y same t (b ∷ y) h refl)
+
+same_class : (m : Machine) (rows : Rows) (b c : ℕ) → IsSound m rows → b < 256 → c < 256 → slice_index rows.class_of b ≡ slice_index rows.class_of c → AreEquivalent m.states b c
+same_class m rows b c sound small small' class s =
+    let first = (sound.classes b small).1 s in
+    let second = (sound.classes c small').1 s in
+    sym first ∙ ap (λ d. reads_byte (state m.states s) (slice_index sound.representatives d)) class ∙ second
+
+next_by : (m : Machine) (rows : Rows) (i b c e : ℕ) → AreEquivalent m.states c b → AreEquivalent m.states b c → IsNext m rows i b e → IsNext m rows i c e
+next_by m rows i b c e there back is = record {
+  dead = λ d y k a. is.dead d y k (in_equivalent m (states_of rows i) c b y k there a);
+  row = λ some. let (lt, goes) = is.row some in (lt, λ y k. (λ a. (goes y k).0 (in_equivalent m (states_of rows i) c b y k there a), λ a. in_equivalent m (states_of rows i) b c y k back ((goes y k).1 a)));
+}
+
+-- what an entry says of one byte, it says of each of the class
+pub entry_by : (m : Machine) (rows : Rows) (i b e marks : ℕ) → IsSound m rows → b < 256 → 0 < e → e < marked → MarksAre m rows i marks → IsNext m rows i b e → IsEntry m rows i (slice_index rows.class_of b) (e + marks)
+entry_by m rows i b e marks sound small some low are is = record {
+  byte = λ c small' class.
+      let next = next_by m rows i b c e (same_class m rows c b sound small' small class) (same_class m rows b c sound small small' (sym class)) is in
+      by_marks c are next;
+  end = λ column. absurd (let short = (sound.classes b small).0 in omega (arith, short, column));
+}
+  where
+    by_marks : (c : ℕ) → MarksAre m rows i marks → IsNext m rows i c e → IsEntryBy m rows i c (e + marks)
+    by_marks c (inl (has, n)) next =
+        let same : e ≡ e + marks - marked = omega arith in
+        record {
+          plain = λ less. absurd (omega (arith, less, n));
+          marks = λ _. (has, omega (arith, n), subst (IsNext m rows i c) same next);
+        }
+    by_marks c (inr (none, n)) next =
+        let same : e ≡ e + marks = omega arith in
+        record {
+          plain = λ _. (none, subst (IsNext m rows i c) same next);
+          marks = λ more. absurd (omega (arith, more, n, low));
+        }
+
+-- marks, by the indexes of ends
+pub marks_by_ends : (m : Machine) (rows : Rows) (i : ℕ) (ends : IndexSet) (marks : Bool) → IsTrue marks ↔ ((k : ℕ) × (k < half m) × IsTrue (has_index ends (half m + k)))
+    → HasEnds m rows i ends → IsTrue marks ↔ HasMarks m rows i
+marks_by_ends m rows i ends marks is has = (
+  λ h. let (k, lt, at) = is.0 h in (k, lt, (has (half m + k) (omega arith)).0 at),
+  λ (k, lt, a). is.1 (k, lt, (has (half m + k) (omega arith)).1 a),
+)
+
+pub marks_kept : (m : Machine) (old new : Rows) (i n : ℕ) → KeepsRows old new → i < length old.starts.items → MarksAre m old i n → MarksAre m new i n
+marks_kept m old new i n keeps lt (inl (has, is)) = inl (marks_still m old new i keeps lt has, is)
+marks_kept m old new i n keeps lt (inr (none, is)) = inr (λ h. none (marks_before m old new i keeps lt h), is)
+
+pub marks_are : (m : Machine) (rows : Rows) (i n : ℕ) (r : Bool) → IsTrue r ↔ HasMarks m rows i → (IsTrue r × (n ≡ marked)) ⊎ (IsFalse r × (n ≡ 0)) → MarksAre m rows i n
+marks_are m rows i n r has (inl (on, is)) = inl (has.0 on, is)
+marks_are m rows i n r has (inr (off, is)) = inr (λ h. true≢false (sym (has.1 h) ∙ off), is)
+
+pub ends_kept : (m : Machine) (old new : Rows) (i : ℕ) (ends : IndexSet) → KeepsRows old new → i < length old.starts.items → HasEnds m old i ends → HasEnds m new i ends
+ends_kept m old new i ends keeps lt has k small = iff_trans (has k small) (accepts_kept m old new i [] k (keeps.states i lt))
+
+-- an entry that is taken
+pub next_is : (m : Machine) (rows : Rows) (i b e : ℕ) (o : Option ℕ) → MatchOption o (e ≡ 1) (λ j. (1 < e) × (j ≡ e - 2)) → IsNext m rows i b e → MatchOption o (IsDeadBy m rows i b) (λ j. GoesTo m rows i b rows j)
+next_is m rows i b e None one is = is.dead one
+next_is m rows i b e (Some j) (some, same) is = subst (GoesTo m rows i b rows) (sym same) (is.row some)
+
+pub next_later : (m : Machine) (old new : Rows) (i b : ℕ) (o : Option ℕ) → KeepsRows old new → MatchOption o (IsDeadBy m old i b) (λ j. GoesTo m old i b old j) → MatchOption o (IsDeadBy m old i b) (λ j. GoesTo m old i b new j)
+next_later m old new i b None keeps dead = dead
+next_later m old new i b (Some j) keeps (lt, goes) = ((let h = keeps.more in omega arith), λ y k. iff_trans (goes y k) (accepts_kept m old new j y k (keeps.states j lt)))
+
+-- the entry of a byte, and that of the end of the text
+module _ (m : Machine) (rows : Rows) (i : ℕ) (sound : IsSound m rows) (lt : i < length rows.starts.items) where
+  pub read_entry : (b e : ℕ) → b < 256 → e ≡ slice_index rows.entries.items (place_of rows i (slice_index rows.class_of b)) → 0 < e → IsEntryBy m rows i b e
+  read_entry b e small is some =
+      let short = (sound.classes b small).0 in
+      let entry = sound.known i (slice_index rows.class_of b) lt (omega (arith, short)) (omega (arith, is, some)) in
+      subst (IsEntryBy m rows i b) (sym is) (entry.byte b small refl)
+
+  pub read_end : (e : ℕ) → e ≡ slice_index rows.entries.items (place_of rows i rows.class_count) → 0 < e → IsEnd m rows i e
+  read_end e is some = subst (IsEnd m rows i) (sym is) ((sound.known i rows.class_count lt (omega arith) (omega (arith, is, some))).end refl)
+
+pub keeps_then : (a b c : Rows) → KeepsRows a b → KeepsRows b c → KeepsRows a c
+keeps_then a b c f g = record {
+  more = (let h = f.more in let k = g.more in omega arith);
+  states = λ i lt. g.states i (let h = f.more in omega arith) ∙ f.states i lt;
+  lists = Lists.keeps_then a.lists.items b.lists.items c.lists.items f.lists g.lists;
+  class_of = g.class_of ∙ f.class_of;
+  class_count = g.class_count ∙ f.class_count;
+}
+
+-- a list of ends was appended, and its place written
+pub record HasListed (old new : Rows) (row : ℕ) (list : List ℕ) : Type 0 where
+  pub lists : new.lists.items ≡ old.lists.items ++ length list ∷ list
+  pub starts : new.starts.items ≡ old.starts.items
+  pub entries : new.entries.items ≡ slice_set old.entries.items (place_of old row old.class_count) (length old.lists.items + 2)
+  pub class_of : new.class_of ≡ old.class_of
+  pub class_count : new.class_count ≡ old.class_count
+  pub begin : new.begin ≡ old.begin
+
+module _ (m : Machine) (old new : Rows) (row : ℕ) (list : List ℕ) (is : HasListed old new row list) (sound : IsSound m old) (here : row < length old.starts.items) where
+  pub listed_keeps : KeepsRows old new
+  listed_keeps = record {
+    more = rw is.starts (omega arith);
+    states = λ i lt. rw (is.lists, is.starts) ((keeps_lists old.lists.items (length list ∷ list)).1 (size m) (slice_index old.starts.items i) (sound.lists i lt)).1;
+    lists = rw is.lists (keeps_lists old.lists.items (length list ∷ list));
+    class_of = is.class_of;
+    class_count = is.class_count;
+  }
+
+  pub listed_sound : AreBelow (half m + half m) list → ((k : ℕ) → IsTrue (is_reported k list) ↔ ((k < half m + half m) × AcceptsRow m old row [] k))
+      → ((k : ℕ) × (k < half m + half m) × AcceptsRow m old row [] k) → HasRoomFor m new → IsSound m new
+  listed_sound below has some room = record {
+    room = room;
+    representatives = sound.representatives;
+    classes = rw (is.class_of, is.class_count) sound.classes;
+    few = rw is.starts sound.few;
+    lists = λ i lt. let before : i < length old.starts.items = rw is.starts at lt in
+        rw (is.lists, is.starts) ((keeps_lists old.lists.items (length list ∷ list)).1 (size m) (slice_index old.starts.items i) (sound.lists i before)).0;
+    len = rw (is.starts, is.class_count, is.entries) (length-set old.entries.items (place_of old row old.class_count) (length old.lists.items + 2) ∙ sound.len);
+    known = λ i c lt hc known.
+        let w = old.class_count in
+        let n = length old.starts.items in
+        let e = length old.lists.items + 2 in
+        let same : slice_index new.entries.items (place_of new i c) ≡ slice_index (slice_set old.entries.items (row * (w + 1) + w) e) (i * (w + 1) + c) = rw (is.class_count, is.entries) refl in
+        let before : i < n = rw is.starts at lt in
+        let low : c ≤ w = rw is.class_count at hc in
+        let place : length old.lists.items ≡ e - 2 = omega arith in
+        let listed : IsListOf new.lists.items (half m + half m) (e - 2) (AcceptsRow m old row []) =
+        subst (λ p. IsListOf new.lists.items (half m + half m) p (AcceptsRow m old row [])) place (rw is.lists (list_last old.lists.items list (half m + half m) (AcceptsRow m old row []) below has)) in
+        let entry : IsEntry m new row w e = record {
+          byte = λ b small class. absurd (let short = (sound.classes b small).0 in let class' : slice_index old.class_of b ≡ w = ap (λ l. slice_index l b) (sym is.class_of) ∙ class in omega (arith, short, class'));
+          end = λ _. record {
+            none = λ d. absurd (omega (arith, d));
+            some = λ _. let (k, small, a) = some in (k, small, (accepts_kept m old new row [] k (listed_keeps.states row here)).0 a);
+            listed = λ _. list_of_iff new.lists.items (half m + half m) (e - 2) (AcceptsRow m old row []) (AcceptsRow m new row []) (λ k. accepts_kept m old new row [] k (listed_keeps.states row here)) listed;
+          };
+        } in
+        subst (IsEntry m new i c) (sym same) (entry_written m new old.entries.items w n row w e i c sound.len here (omega arith) low entry
+        (λ j d lj ld one. entry_kept m old new j listed_keeps lj d (slice_index old.entries.items (j * (w + 1) + d)) (sound.known j d lj ld one)) before (subst (λ x. 0 < x) same known));
+    begins = λ j at.
+        let (lt, begins) = sound.begins j (sym is.begin ∙ at) in
+        (rw is.starts lt, λ y k. subst (λ l. AcceptsIn m l y k ↔ IsReached m y k) (sym (listed_keeps.states j lt)) (begins y k));
+  }
+
+-- no state is in the set
+pub none_accepted : (m : Machine) (set : StateSet) → ((t : ℕ) → has_state set t ≡ false) → (y : List ℕ) (k : ℕ) → AcceptsFrom m set y k → ⊥
+none_accepted m set none y k (t, lt, at, h) = true≢false (sym at ∙ none t)
+
+-- an automaton with no states leads to no end
+pub none_reached : (m : Machine) → size m ≡ 0 → (y : List ℕ) (k : ℕ) → IsReached m y k → ⊥
+none_reached m none y k (s, begins, h) = let lt = accepts_within m.states k s y h in absurd (omega (arith, lt, none))

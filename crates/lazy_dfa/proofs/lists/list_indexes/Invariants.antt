@@ -1,0 +1,16 @@
+use Rattle.std.proofs.Common.{◌-◌, ◌≤◌, length}
+use Rattle.std.specs.Prelude.{vec_capacity}
+use Rattle.bit_sets.specs.Indexes.{has_index}
+use Rattle.byte_dfa.proofs.lemmas.Lists.{IsReportedTo}
+use Rattle.lazy_dfa.proofs.lists.list_indexes.Given as goal
+
+abbrev pub invariant-loop-index : goal.invariant-loop-index
+invariant-loop-index l = record {
+  high : l.at ≤ l.limit;
+  few : length l.list.items ≤ l.at;
+  listed : IsReportedTo (has_index l.set) l.limit l.at l.list.items;
+  capacity : vec_capacity l.fn.list ≤ vec_capacity l.list;
+}
+
+abbrev pub decreases-loop-index : goal.decreases-loop-index
+decreases-loop-index l = l.limit - l.at

@@ -1,0 +1,89 @@
+use Rattle.std.proofs.Common.{◌≡◌, ℕ, ◌<◌, ◌≤◌, Bool, false, true≢false, List, [], ◌∷◌, ◌++◌, length, slice_index, IsTrue, arith, sym, ap, subst, ◌∙◌, length-append}
+use Rattle.std.specs.Prelude.{◌↔◌, ◌==◌}
+use Rattle.std.proofs.lemmas.Bool.{cases_lt, eq-eqb, eqb-true, or_cases}
+use Rattle.std.proofs.lemmas.List.{get_or_append_left}
+use Rattle.std.proofs.Math.Logic.{⊎_elim}
+use Rattle.std.proofs.Math.Seq.{get_or-append_seam}
+use Rattle.bit_sets.specs.Numbers.{is_reported, AreBelow}
+use Rattle.bit_sets.specs.StateSets.{has_state}
+use Rattle.byte_nfa.proofs.lemmas.Pass.{or_first, or_second}
+use Rattle.byte_dfa.proofs.lemmas.Lists.{listed_push}
+use Rattle.lazy_dfa.proofs.lists.list_of.Goals as goal
+
+below_push : (n s : ℕ) (list : List ℕ) → s < n → AreBelow n list → AreBelow n (list ++ s ∷ [])
+below_push n s list lt below i small =
+    let len = length-append list (s ∷ []) in
+    ⊎_elim {C = slice_index (list ++ s ∷ []) i < n}
+    (λ low. rw (get_or_append_left list (s ∷ []) 0 i low) (below i low))
+    (λ past. let e : i ≡ length list = omega arith in rw (ap (slice_index (list ++ s ∷ [])) e ∙ get_or-append_seam list s [] 0) lt)
+    (cases_lt i (length list))
+
+-- the states down to s are listed, of which none between s and the bound before is in the set
+module _ (n s high : ℕ) (set : ℕ → Bool) (list : List ℕ) (lt : s < high) (le : high ≤ n) (between : (k : ℕ) → s < k → k < high → set k ≡ false)
+    (has : (t : ℕ) → IsTrue (is_reported t list) ↔ ((high ≤ t) × (t < n) × IsTrue (set t))) where
+  listed_more : IsTrue (set s) → (t : ℕ) → IsTrue (is_reported t (list ++ s ∷ [])) ↔ ((s ≤ t) × (t < n) × IsTrue (set t))
+  listed_more here t = (there, λ (low, small, at). back low small at)
+    where
+      there : IsTrue (is_reported t (list ++ s ∷ [])) → (s ≤ t) × (t < n) × IsTrue (set t)
+      there h = ⊎_elim {C = (s ≤ t) × (t < n) × IsTrue (set t)} (λ old. let (low, small, at) = (has t).0 old in (omega arith, small, at))
+          (λ e. let is : t ≡ s = eqb-true t s e in (omega arith, omega arith, subst (λ u. IsTrue (set u)) (sym is) here))
+          (or_cases (is_reported t list) (t == s) (sym (listed_push t s list) ∙ h))
+
+      back : s ≤ t → t < n → IsTrue (set t) → IsTrue (is_reported t (list ++ s ∷ []))
+      back low small at = ⊎_elim {C = IsTrue (is_reported t (list ++ s ∷ []))}
+          (λ under. ⊎_elim {C = IsTrue (is_reported t (list ++ s ∷ []))} (λ over. absurd (true≢false (sym at ∙ between t over under)))
+          (λ down. let is : t ≡ s = omega arith in listed_push t s list ∙ or_second (is_reported t list) (t == s) (eq-eqb t s is)) (cases_lt s t))
+          (λ above. listed_push t s list ∙ or_first (is_reported t list) (t == s) ((has t).1 (above, small, at)))
+          (cases_lt t high)
+
+  listed_same : set s ≡ false → (t : ℕ) → IsTrue (is_reported t list) ↔ ((s ≤ t) × (t < n) × IsTrue (set t))
+  listed_same off t = (
+    λ h. let (low, small, at) = (has t).0 h in (omega arith, small, at),
+    λ (low, small, at). ⊎_elim {C = IsTrue (is_reported t list)}
+        (λ under. ⊎_elim {C = IsTrue (is_reported t list)} (λ over. absurd (true≢false (sym at ∙ between t over under)))
+        (λ down. let is : t ≡ s = omega arith in absurd (true≢false (sym at ∙ ap set is ∙ off))) (cases_lt s t))
+        (λ above. (has t).1 (above, small, at))
+        (cases_lt t high),
+  )
+
+pub loop-high-init : goal.loop-high-init
+loop-high-init c = rw c.clear.ensures.items record {
+  within = omega arith;
+  below = λ i lt. absurd (omega arith);
+  few = omega arith;
+  has = λ t. (λ h. absurd (true≢false (sym h)), λ (low, small, at). absurd (omega arith));
+  capacity = omega arith;
+}
+
+pub loop-high-preserved-then-seen : goal.loop-high-preserved-then-seen
+loop-high-preserved-then-seen c =
+    let inv = c.loop-high.invariant in
+    let last = c.read_below-seen.ensures.seen in
+    let s = c.read_below-seen.result.at in
+    let n = c.args.limit in
+    let list = c.loop-high.list.items in
+    rw c.push_within.ensures.items record {
+      within = omega (arith, last.below);
+      below = below_push n s list (omega (arith, last.below)) inv.below;
+      few = omega (arith, last.below, length-append list (s ∷ []));
+      has = listed_more n s c.loop-high.high (has_state c.args.set.now) list last.below inv.within last.between inv.has (sym last.marked ∙ c.if-seen.true);
+      capacity = omega (arith, c.push_within.ensures.capacity);
+    }
+
+pub loop-high-preserved : goal.loop-high-preserved
+loop-high-preserved c =
+    let inv = c.loop-high.invariant in
+    let last = c.read_below-seen.ensures.seen in
+    record {
+      within = omega (arith, last.below);
+      below = inv.below;
+      few = omega (arith, last.below);
+      has = listed_same c.args.limit c.read_below-seen.result.at c.loop-high.high (has_state c.args.set.now) c.loop-high.list.items last.below inv.within last.between inv.has (sym last.marked ∙ c.if-seen.false);
+      capacity = inv.capacity;
+    }
+
+pub returns-clause-has : goal.returns-clause-has
+returns-clause-has c = λ t. (
+  λ h. let (low, small, at) = (c.loop-high.invariant.has t).0 h in (small, at),
+  λ (small, at). (c.loop-high.invariant.has t).1 (omega arith, small, at),
+)

@@ -1,0 +1,17 @@
+use Rattle.std.proofs.Common.{ℕ, ◌+◌, ◌<◌, ◌≤◌, length, IsTrue}
+use Rattle.std.specs.Prelude.{◌↔◌, vec_capacity}
+use Rattle.bit_sets.specs.Numbers.{is_reported, AreBelow}
+use Rattle.bit_sets.specs.StateSets.{has_state}
+use Rattle.lazy_dfa.proofs.lists.list_of.Given as goal
+
+abbrev pub invariant-loop-high : goal.invariant-loop-high
+invariant-loop-high l = record {
+  within : l.high ≤ l.limit;
+  below : AreBelow l.limit l.list.items;
+  few : length l.list.items + l.high ≤ l.limit;
+  has : (t : ℕ) → IsTrue (is_reported t l.list.items) ↔ ((l.high ≤ t) × (t < l.limit) × IsTrue (has_state l.set t));
+  capacity : vec_capacity l.fn.list ≤ vec_capacity l.list;
+}
+
+abbrev pub decreases-loop-high : goal.decreases-loop-high
+decreases-loop-high l = l.high

@@ -1,0 +1,45 @@
+use Rattle.std.proofs.Common.{◌≡◌, ◌∷◌, [], ◌++◌, length, append_assoc, refl, ap, ◌∙◌, arith}
+use Rattle.lazy_dfa.proofs.lemmas.Rows.{added_keeps, added_sound}
+use Rattle.lazy_dfa.proofs.rows.Rows.add.Goals as goal
+
+pub returns-clause-kept : goal.returns-clause-kept
+returns-clause-kept c =
+    let rows = c.args.self.now in
+    let list = rows.list.items in
+    let count : c.len.result ≡ length list = omega (arith, c.len.ensures, rows.list.ok.0) in
+    let start : c.len-start.result ≡ length rows.lists.items = omega (arith, c.len-start.ensures, rows.lists.ok.0) in
+    added_keeps c.args.automaton.now rows _ list record {
+      lists = c.extend_within.ensures.items ∙ ap (λ l. l ++ c.deref.result.now) c.push_within.ensures.items ∙ append_assoc rows.lists.items (c.len.result ∷ []) c.deref.result.now
+          ∙ ap (λ l. rows.lists.items ++ c.len.result ∷ l) c.deref.ensures.value ∙ ap (λ n. rows.lists.items ++ n ∷ list) count;
+      starts = c.push_within-2.ensures.items ∙ ap (λ n. rows.starts.items ++ n ∷ []) start;
+      entries = c.zeros_within.ensures.items;
+      class_of = refl;
+      class_count = refl;
+      begin = refl;
+    } c.requires.sound
+
+pub returns-clause-sound : goal.returns-clause-sound
+returns-clause-sound c =
+    let rows = c.args.self.now in
+    let room = c.requires.sound.room in
+    let list = rows.list.items in
+    let count : c.len.result ≡ length list = omega (arith, c.len.ensures, rows.list.ok.0) in
+    let start : c.len-start.result ≡ length rows.lists.items = omega (arith, c.len-start.ensures, rows.lists.ok.0) in
+    added_sound c.args.automaton.now rows _ list record {
+      lists = c.extend_within.ensures.items ∙ ap (λ l. l ++ c.deref.result.now) c.push_within.ensures.items ∙ append_assoc rows.lists.items (c.len.result ∷ []) c.deref.result.now
+          ∙ ap (λ l. rows.lists.items ++ c.len.result ∷ l) c.deref.ensures.value ∙ ap (λ n. rows.lists.items ++ n ∷ list) count;
+      starts = c.push_within-2.ensures.items ∙ ap (λ n. rows.starts.items ++ n ∷ []) start;
+      entries = c.zeros_within.ensures.items;
+      class_of = refl;
+      class_count = refl;
+      begin = refl;
+    } c.requires.sound c.requires.below c.requires.space.few record {
+      from = room.from;
+      next = room.next;
+      ends = room.ends;
+      list = room.list;
+      told = room.told;
+      lists = omega (arith, room.lists, c.push_within.ensures.capacity, c.extend_within.ensures.capacity);
+      starts = omega (arith, room.starts, c.push_within-2.ensures.capacity);
+      entries = omega (arith, room.entries, c.zeros_within.ensures.capacity);
+    }

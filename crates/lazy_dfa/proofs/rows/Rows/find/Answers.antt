@@ -1,0 +1,102 @@
+use Rattle.std.proofs.Common.{◌≡◌, ℕ, ◌+◌, ◌<◌, ◌∷◌, [], inr, IsTrue, true≢false, drop, length, get_or, refl, arith, sym, ◌∙◌}
+use Rattle.std.proofs.lemmas.List.{drop_more, drop_all}
+use Rattle.std.proofs.Math.Logic.{⊎_elim}
+use Rattle.bit_sets.specs.Indexes.{has_index}
+use Rattle.byte_nfa.specs.Runs.{size}
+use Rattle.byte_nfa.specs.Steps.{IsReached}
+use Rattle.byte_nfa.proofs.lemmas.Pass.{iff_trans}
+use Rattle.byte_dfa.specs.inner.Building.{half}
+use Rattle.lazy_dfa.specs.inner.Rows.{AcceptsRow}
+use Rattle.lazy_dfa.proofs.lemmas.Finding.{iff_beside, finds_same, next_found, dead_found, last_found, none_last, visits_more, visits_within}
+use Rattle.lazy_dfa.proofs.lemmas.Rows.{none_reached}
+use Rattle.lazy_dfa.proofs.rows.Rows.find.Goals as goal
+
+pub returns-then-state_count-eq0-clause-found : goal.returns-then-state_count-eq0-clause-found
+returns-then-state_count-eq0-clause-found c = λ k.
+    let m = c.args.automaton.now in
+    let none : size m ≡ 0 = sym c.state_count.ensures ∙ c.if-state_count-eq0.true in (
+      λ h. inr h,
+      ⊎_elim {C = IsTrue (has_index c.args.found.now k)}
+          (λ (lt, found). ⊎_elim {C = IsTrue (has_index c.args.found.now k)} (λ r. absurd (none_reached m none c.args.text.now k r)) (λ (p, q, is, r). absurd (none_reached m none p (half m + k) r)) found)
+          (λ h. h),
+    )
+
+pub loop-byte-init : goal.loop-byte-init
+loop-byte-init c = record {
+  sound = c.start-row.ensures.sound;
+  row = c.start-row.ensures.row;
+  room = refl;
+  finds = λ k. iff_beside (finds_same (half c.args.automaton.now) (AcceptsRow c.args.automaton.now c.start-row.new.self c.start-row.result) (IsReached c.args.automaton.now) c.start-row.ensures.begins c.args.text.now k);
+  visits = omega arith;
+  counted = omega arith;
+}
+
+pub loop-byte-preserved : goal.loop-byte-preserved
+loop-byte-preserved c =
+    let m = c.args.automaton.now in
+    let text = c.args.text.now in
+    let l = c.loop-byte in
+    let inv = l.invariant in
+    let i = l.byte-index in
+    let lt : i < length text = c.loop-byte-test.true in
+    let b : ℕ = get_or text i 0 in
+    let rest = drop (i + 1) text in
+    let more : drop i text ≡ b ∷ rest = drop_more text i 0 lt in
+    let step = c.step-step.ensures in
+    let next = rw c.in-Some.is at step.next in
+    let h = half m in
+    let told = rw c.index_count-half.ensures at c.tell_marks.ensures.has in
+    record {
+      sound = step.sound;
+      row = next.0;
+      room = c.tell_marks.ensures.room ∙ inv.room;
+      finds = λ k. next_found h (AcceptsRow m l.self l.row) c.step-step.result.has_marks (has_index c.step-step.new.self.ends) step.marks step.ends
+          (AcceptsRow m c.step-step.new.self c.in-Some.next) b next.1 rest k (has_index l.found k) (has_index c.tell_marks.new.found k) _ (told k) (rw more at inv.finds k);
+      visits = visits_more c.args.visits.now l.visits c.step-step.new.visits i (size m) inv.visits step.visits;
+      counted = omega (arith, step.counted, inv.counted);
+    }
+
+pub returns-in_default-clause-found : goal.returns-in_default-clause-found
+returns-in_default-clause-found c = λ k.
+    let m = c.args.automaton.now in
+    let text = c.args.text.now in
+    let l = c.loop-byte in
+    let i = l.byte-index in
+    let lt : i < length text = c.loop-byte-test.true in
+    let b : ℕ = get_or text i 0 in
+    let rest = drop (i + 1) text in
+    let more : drop i text ≡ b ∷ rest = drop_more text i 0 lt in
+    let step = c.step-step.ensures in
+    let dead = rw c.in_default.is at step.next in
+    let told = rw c.index_count-half.ensures at c.tell_marks.ensures.has in
+    dead_found (half m) (AcceptsRow m l.self l.row) c.step-step.result.has_marks (has_index c.step-step.new.self.ends) step.marks step.ends
+    b dead rest k (has_index l.found k) (has_index c.tell_marks.new.found k) _ (told k) (rw more at l.invariant.finds k)
+
+pub returns-in_default-clause-visits : goal.returns-in_default-clause-visits
+returns-in_default-clause-visits c =
+    let l = c.loop-byte in
+    visits_within c.args.visits.now l.visits c.step-step.new.visits l.byte-index (length c.args.text.now) (size c.args.automaton.now) (omega arith) l.invariant.visits c.step-step.ensures.visits
+
+pub returns-then-finish-clause-found : goal.returns-then-finish-clause-found
+returns-then-finish-clause-found c = λ k.
+    let m = c.args.automaton.now in
+    let l = c.loop-byte in
+    let past : drop l.byte-index c.args.text.now ≡ [] = drop_all l.byte-index c.args.text.now c.loop-byte-test.false in
+    let first = rw c.index_count-half.ensures at c.put_lowered.ensures.has k in
+    let second = rw c.index_count-half.ensures at c.put_lowered-then-finish.ensures.has k in
+    let none : 0 + k ≡ k = omega arith in
+    last_found (half m) (AcceptsRow m l.self l.row) (has_index c.finish.new.self.ends) (c.finish.ensures.ends c.if-finish.true) k
+    (has_index l.found k) (has_index c.put_lowered.new.into k) (has_index c.put_lowered-then-finish.new.into k) _ first (rw none at second) (rw past at l.invariant.finds k)
+
+pub returns-then-finish-clause-visits : goal.returns-then-finish-clause-visits
+returns-then-finish-clause-visits c =
+    let l = c.loop-byte in
+    visits_within c.args.visits.now l.visits c.finish.new.visits l.byte-index (length c.args.text.now) (size c.args.automaton.now) l.auto.byte-index-end l.invariant.visits c.finish.ensures.visits
+
+pub returns-else-finish-clause-found : goal.returns-else-finish-clause-found
+returns-else-finish-clause-found c = λ k.
+    let m = c.args.automaton.now in
+    let l = c.loop-byte in
+    let past : drop l.byte-index c.args.text.now ≡ [] = drop_all l.byte-index c.args.text.now c.loop-byte-test.false in
+    let none = none_last (half m) (AcceptsRow m l.self l.row) (λ j lt a. true≢false (sym (c.finish.ensures.some.1 (j, lt, a)) ∙ c.if-finish.false)) k in
+    iff_trans (λ h. inr h, ⊎_elim {C = IsTrue (has_index l.found k)} (λ f. absurd (none f)) (λ h. h)) (rw past at l.invariant.finds k)

@@ -1,0 +1,88 @@
+use Rattle.std.proofs.Common.{◌≡◌, ℕ, ◌+◌, ◌<◌, ◌∷◌, [], inr, true≢false, drop, length, get_or, refl, arith, sym, ◌∙◌}
+use Rattle.std.proofs.lemmas.List.{drop_more, drop_all}
+use Rattle.byte_nfa.specs.Runs.{size}
+use Rattle.byte_nfa.specs.Steps.{IsReached}
+use Rattle.byte_nfa.proofs.lemmas.Pass.{iff_trans}
+use Rattle.byte_dfa.specs.inner.Building.{half}
+use Rattle.lazy_dfa.specs.inner.Rows.{AcceptsRow}
+use Rattle.lazy_dfa.proofs.lemmas.Finding.{finds_same, at_quiet, at_dead, some_last, some_same, visits_more, visits_within}
+use Rattle.lazy_dfa.proofs.rows.Rows.is_match.Goals as goal
+
+pub loop-byte-init : goal.loop-byte-init
+loop-byte-init c = record {
+  sound = c.start-row.ensures.sound;
+  row = c.start-row.ensures.row;
+  finds = λ k. finds_same (half c.args.automaton.now) (AcceptsRow c.args.automaton.now c.start-row.new.self c.start-row.result) (IsReached c.args.automaton.now) c.start-row.ensures.begins c.args.text.now k;
+  visits = omega arith;
+  counted = omega arith;
+}
+
+pub returns-then-step-clause-some : goal.returns-then-step-clause-some
+returns-then-step-clause-some c =
+    let m = c.args.automaton.now in
+    let text = c.args.text.now in
+    let l = c.loop-byte in
+    let i = l.byte-index in
+    let lt : i < length text = c.loop-byte-test.true in
+    let b : ℕ = get_or text i 0 in
+    let rest = drop (i + 1) text in
+    let more : drop i text ≡ b ∷ rest = drop_more text i 0 lt in
+    let step = c.step-step.ensures in
+    let (k, low, a) = step.marks.0 c.if-step.true in
+    (λ _. (k, (rw more at l.invariant.finds k).0 (low, inr ([], b ∷ rest, refl, a))), λ _. refl)
+
+pub returns-then-step-clause-visits : goal.returns-then-step-clause-visits
+returns-then-step-clause-visits c =
+    let l = c.loop-byte in
+    visits_within c.args.visits.now l.visits c.step-step.new.visits l.byte-index (length c.args.text.now) (size c.args.automaton.now) (omega arith) l.invariant.visits c.step-step.ensures.visits
+
+pub returns-in_default-clause-some : goal.returns-in_default-clause-some
+returns-in_default-clause-some c =
+    let m = c.args.automaton.now in
+    let text = c.args.text.now in
+    let l = c.loop-byte in
+    let i = l.byte-index in
+    let lt : i < length text = c.loop-byte-test.true in
+    let b : ℕ = get_or text i 0 in
+    let rest = drop (i + 1) text in
+    let more : drop i text ≡ b ∷ rest = drop_more text i 0 lt in
+    let step = c.step-step.ensures in
+    let dead = rw c.in_default.is at step.next in (
+      λ off. absurd (true≢false (sym off)),
+      λ (k, found).
+          let (low, a) = (at_dead (half m) (AcceptsRow m l.self l.row) b dead rest k).0 ((rw more at l.invariant.finds k).1 found) in
+          absurd (true≢false (sym (step.marks.1 (k, low, a)) ∙ c.if-step.false)),
+    )
+
+pub returns-in_default-clause-visits : goal.returns-in_default-clause-visits
+returns-in_default-clause-visits c =
+    let l = c.loop-byte in
+    visits_within c.args.visits.now l.visits c.step-step.new.visits l.byte-index (length c.args.text.now) (size c.args.automaton.now) (omega arith) l.invariant.visits c.step-step.ensures.visits
+
+pub loop-byte-preserved : goal.loop-byte-preserved
+loop-byte-preserved c =
+    let m = c.args.automaton.now in
+    let text = c.args.text.now in
+    let l = c.loop-byte in
+    let i = l.byte-index in
+    let lt : i < length text = c.loop-byte-test.true in
+    let b : ℕ = get_or text i 0 in
+    let rest = drop (i + 1) text in
+    let more : drop i text ≡ b ∷ rest = drop_more text i 0 lt in
+    let step = c.step-step.ensures in
+    let next = rw c.in-Some.is at step.next in
+    record {
+      sound = step.sound;
+      row = next.0;
+      finds = λ k. iff_trans (at_quiet (half m) (AcceptsRow m l.self l.row) (AcceptsRow m c.step-step.new.self c.in-Some.next) b next.1
+          (λ j low a. true≢false (sym (step.marks.1 (j, low, a)) ∙ c.if-step.false)) rest k) (rw more at l.invariant.finds k);
+      visits = visits_more c.args.visits.now l.visits c.step-step.new.visits i (size m) l.invariant.visits step.visits;
+      counted = omega (arith, step.counted, l.invariant.counted);
+    }
+
+pub returns-clause-some : goal.returns-clause-some
+returns-clause-some c =
+    let m = c.args.automaton.now in
+    let l = c.loop-byte in
+    let past : drop l.byte-index c.args.text.now ≡ [] = drop_all l.byte-index c.args.text.now c.loop-byte-test.false in
+    iff_trans c.finish.ensures.some (iff_trans (some_last (half m) (AcceptsRow m l.self l.row)) (some_same (λ k. rw past at l.invariant.finds k)))

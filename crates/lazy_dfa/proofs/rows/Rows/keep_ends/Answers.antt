@@ -1,0 +1,67 @@
+use Rattle.std.proofs.Common.{◌≡◌, ◌∷◌, [], ◌++◌, length, append_assoc, refl, ap, ◌∙◌, arith}
+use Rattle.byte_dfa.specs.inner.Building.{half}
+use Rattle.lazy_dfa.proofs.lemmas.Rows.{listed_keeps, listed_sound, same_sound}
+use Rattle.lazy_dfa.proofs.rows.Rows.keep_ends.Goals as goal
+
+pub returns-clause-kept : goal.returns-clause-kept
+returns-clause-kept c =
+    let rows = c.args.self.now in
+    let list = c.list_indexes.new.list.items in
+    let count : c.len-2.result ≡ length list = omega (arith, c.len-2.ensures, c.list_indexes.new.list.ok.0) in
+    let place : c.len-place.result ≡ length rows.lists.items = omega (arith, c.len-place.ensures, rows.lists.ok.0) in
+    listed_keeps c.args.automaton.now rows _ c.args.row list record {
+      lists = c.extend_within.ensures.items ∙ ap (λ l. l ++ c.deref.result.now) c.push_within.ensures.items ∙ append_assoc rows.lists.items (c.len-2.result ∷ []) c.deref.result.now
+          ∙ ap (λ l. rows.lists.items ++ c.len-2.result ∷ l) c.deref.ensures.value ∙ ap (λ n. rows.lists.items ++ n ∷ list) count;
+      starts = refl;
+      entries = rw place refl;
+      class_of = refl;
+      class_count = refl;
+      begin = refl;
+    } c.requires.sound c.requires.row
+
+pub returns-clause-sound : goal.returns-clause-sound
+returns-clause-sound c =
+    let m = c.args.automaton.now in
+    let rows = c.args.self.now in
+    let room = c.requires.sound.room in
+    let list = c.list_indexes.new.list.items in
+    let h = half m in
+    let listed = rw c.index_count-half.ensures at c.list_indexes.ensures.has in
+    let below = rw c.index_count-half.ensures at c.list_indexes.ensures.below in
+    let count : c.len-2.result ≡ length list = omega (arith, c.len-2.ensures, c.list_indexes.new.list.ok.0) in
+    let place : c.len-place.result ≡ length rows.lists.items = omega (arith, c.len-place.ensures, rows.lists.ok.0) in
+    listed_sound m rows _ c.args.row list record {
+      lists = c.extend_within.ensures.items ∙ ap (λ l. l ++ c.deref.result.now) c.push_within.ensures.items ∙ append_assoc rows.lists.items (c.len-2.result ∷ []) c.deref.result.now
+          ∙ ap (λ l. rows.lists.items ++ c.len-2.result ∷ l) c.deref.ensures.value ∙ ap (λ n. rows.lists.items ++ n ∷ list) count;
+      starts = refl;
+      entries = rw place refl;
+      class_of = refl;
+      class_count = refl;
+      begin = refl;
+    } c.requires.sound c.requires.row below (λ k. (
+      λ at. let (lt, has) = (listed k).0 at in (lt, (c.requires.ends k lt).0 has),
+      λ (lt, a). (listed k).1 (lt, (c.requires.ends k lt).1 a),
+    )) c.requires.some record {
+      from = room.from;
+      next = room.next;
+      ends = room.ends;
+      list = room.list;
+      told = omega (arith, room.told, c.list_indexes.ensures.capacity);
+      lists = omega (arith, room.lists, c.push_within.ensures.capacity, c.extend_within.ensures.capacity);
+      starts = room.starts;
+      entries = room.entries;
+    }
+
+pub returns-then-capacity-place-clause-sound : goal.returns-then-capacity-place-clause-sound
+returns-then-capacity-place-clause-sound c =
+    let room = c.requires.sound.room in
+    same_sound c.args.automaton.now c.args.self.now _ record { starts = refl; lists = refl; class_of = refl; class_count = refl } refl refl record {
+      from = room.from;
+      next = room.next;
+      ends = room.ends;
+      list = room.list;
+      told = omega (arith, room.told, c.list_indexes.ensures.capacity);
+      lists = room.lists;
+      starts = room.starts;
+      entries = room.entries;
+    } c.requires.sound

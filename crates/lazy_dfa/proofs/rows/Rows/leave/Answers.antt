@@ -1,0 +1,101 @@
+use Rattle.std.proofs.Common.{◌≡◌, ℕ, ◌+◌, ◌-◌, ◌<◌, ◌∷◌, length, slice_index, arith, subst}
+use Rattle.byte_nfa.proofs.lemmas.Pass.{iff_trans}
+use Rattle.byte_dfa.proofs.lemmas.Found.{iff_sym}
+use Rattle.lazy_dfa.specs.inner.Rows.{IsEntry, GoesTo, KeepsRows}
+use Rattle.lazy_dfa.proofs.lemmas.Rows.{accepts_kept, ends_kept, entry_by, keeps_then, marks_are, marks_before, marks_kept, marks_still, none_accepted}
+use Rattle.lazy_dfa.proofs.rows.Rows.leave.Goals as goal
+
+pub keep_marks-has_marks-requires-clause-ends : goal.keep_marks-has_marks-requires-clause-ends
+keep_marks-has_marks-requires-clause-ends c = ends_kept c.args.automaton.now c.args.self.now c.read_row.new.self c.args.row c.read_row.new.self.ends c.read_row.ensures.kept c.requires.row c.read_row.ensures.ends
+
+pub write-requires-clause-entry : goal.write-requires-clause-entry
+write-requires-clause-entry c =
+    let m = c.args.automaton.now in
+    let old = c.args.self.now in
+    let first = c.read_row.new.self in
+    let rows = c.keep_marks-has_marks.new.self in
+    let row = c.args.row in
+    let here = (let h = c.read_row.ensures.kept.more in let lt : row < length first.starts.items = omega (arith, h, c.requires.row) in lt) in
+    let kept = keeps_then old first rows c.read_row.ensures.kept c.keep_marks-has_marks.ensures.kept in
+    let marks = marks_kept m first rows row c.added_by-marks.result c.keep_marks-has_marks.ensures.kept here (marks_are m first row c.added_by-marks.result c.keep_marks-has_marks.result c.keep_marks-has_marks.ensures.marks c.added_by-marks.ensures) in
+    let none = rw c.keep_marks-has_marks.ensures.next at c.is_empty.ensures c.if-is_empty.true in
+    entry_by m rows row c.args.byte 1 c.added_by-marks.result c.keep_marks-has_marks.ensures.sound (omega arith) (omega arith) (omega arith) marks record {
+      dead = λ _ y k a. none_accepted m first.next none y k ((c.read_row.ensures.steps y k).0 ((accepts_kept m old rows row (c.args.byte ∷ y) k (kept.states row c.requires.row)).1 a));
+      row = λ some. absurd (omega (arith, some));
+    }
+
+pub write-requires-then-place-clause-entry : goal.write-requires-then-place-clause-entry
+write-requires-then-place-clause-entry c =
+    let m = c.args.automaton.now in
+    let old = c.args.self.now in
+    let first = c.read_row.new.self in
+    let rows = c.keep_marks-has_marks.new.self in
+    let new = c.seek-place.new.self in
+    let row = c.args.row in
+    let n = c.added_by-marks.result in
+    let next : ℕ = c.seek-place.result.row in
+    let here = (let h = c.read_row.ensures.kept.more in let lt : row < length first.starts.items = omega (arith, h, c.requires.row) in lt) in
+    let moved = c.seek-place.ensures.kept c.if-place.true in
+    let later : KeepsRows first new = keeps_then first rows new c.keep_marks-has_marks.ensures.kept moved in
+    let kept : KeepsRows old new = keeps_then old first new c.read_row.ensures.kept later in
+    let marks = marks_kept m first new row n later here (marks_are m first row n c.keep_marks-has_marks.result c.keep_marks-has_marks.ensures.marks c.added_by-marks.ensures) in
+    let back : next ≡ next + 2 - 2 = omega arith in
+    let states = rw c.keep_marks-has_marks.ensures.next at c.seek-place.ensures.states in
+    subst (λ l. IsEntry m new row (slice_index l c.args.byte) (next + 2 + n)) moved.class_of
+    (entry_by m new row c.args.byte (next + 2) n c.seek-place.ensures.sound (omega arith) (omega arith) (omega (arith, c.seek-place.ensures.row, c.seek-place.ensures.sound.few)) marks record {
+      dead = λ is. absurd (omega (arith, is));
+      row = λ some. subst (GoesTo m new row c.args.byte new) back (
+        c.seek-place.ensures.row,
+        λ y k. iff_trans (iff_sym (accepts_kept m old new row (c.args.byte ∷ y) k (kept.states row c.requires.row))) (iff_trans (c.read_row.ensures.steps y k) (states y k)),
+      );
+    })
+
+pub returns-then-is_empty-clause-next : goal.returns-then-is_empty-clause-next
+returns-then-is_empty-clause-next c = λ y k a.
+    let none = rw c.keep_marks-has_marks.ensures.next at c.is_empty.ensures c.if-is_empty.true in
+    none_accepted c.args.automaton.now c.read_row.new.self.next none y k ((c.read_row.ensures.steps y k).0 a)
+
+pub returns-then-is_empty-clause-marks : goal.returns-then-is_empty-clause-marks
+returns-then-is_empty-clause-marks c =
+    let same = c.read_row.ensures.kept in (
+      λ on. marks_before c.args.automaton.now c.args.self.now c.read_row.new.self c.args.row same c.requires.row (c.keep_marks-has_marks.ensures.marks.0 on),
+      λ h. c.keep_marks-has_marks.ensures.marks.1 (marks_still c.args.automaton.now c.args.self.now c.read_row.new.self c.args.row same c.requires.row h),
+    )
+
+pub returns-then-is_empty-clause-ends : goal.returns-then-is_empty-clause-ends
+returns-then-is_empty-clause-ends c = λ _ k lt. rw (c.write.ensures.ends, c.keep_marks-has_marks.ensures.ends) (c.read_row.ensures.ends k lt)
+
+pub returns-then-place-clause-next : goal.returns-then-place-clause-next
+returns-then-place-clause-next c =
+    let m = c.args.automaton.now in
+    let kept = c.write-then-place.ensures.kept in
+    let next : ℕ = c.seek-place.result.row in
+    let states = rw c.keep_marks-has_marks.ensures.next at c.seek-place.ensures.states in (
+      (let h = kept.more in omega (arith, h, c.seek-place.ensures.row)),
+      λ y k. iff_trans (c.read_row.ensures.steps y k) (iff_trans (states y k) (accepts_kept m c.seek-place.new.self c.write-then-place.new.self next y k (kept.states next c.seek-place.ensures.row))),
+    )
+
+pub returns-then-place-clause-marks : goal.returns-then-place-clause-marks
+returns-then-place-clause-marks c =
+    let same = c.read_row.ensures.kept in (
+      λ on. marks_before c.args.automaton.now c.args.self.now c.read_row.new.self c.args.row same c.requires.row (c.keep_marks-has_marks.ensures.marks.0 on),
+      λ h. c.keep_marks-has_marks.ensures.marks.1 (marks_still c.args.automaton.now c.args.self.now c.read_row.new.self c.args.row same c.requires.row h),
+    )
+
+pub returns-then-place-clause-ends : goal.returns-then-place-clause-ends
+returns-then-place-clause-ends c = λ _ k lt. rw (c.write-then-place.ensures.ends, c.seek-place.ensures.ends, c.keep_marks-has_marks.ensures.ends) (c.read_row.ensures.ends k lt)
+
+pub returns-else-place-clause-next : goal.returns-else-place-clause-next
+returns-else-place-clause-next c =
+    let states = rw c.keep_marks-has_marks.ensures.next at c.seek-place.ensures.states in
+    (c.seek-place.ensures.row, λ y k. iff_trans (c.read_row.ensures.steps y k) (states y k))
+
+pub returns-else-place-clause-marks : goal.returns-else-place-clause-marks
+returns-else-place-clause-marks c =
+    let same = c.read_row.ensures.kept in (
+      λ on. marks_before c.args.automaton.now c.args.self.now c.read_row.new.self c.args.row same c.requires.row (c.keep_marks-has_marks.ensures.marks.0 on),
+      λ h. c.keep_marks-has_marks.ensures.marks.1 (marks_still c.args.automaton.now c.args.self.now c.read_row.new.self c.args.row same c.requires.row h),
+    )
+
+pub returns-else-place-clause-ends : goal.returns-else-place-clause-ends
+returns-else-place-clause-ends c = λ _ k lt. rw (c.seek-place.ensures.ends, c.keep_marks-has_marks.ensures.ends) (c.read_row.ensures.ends k lt)

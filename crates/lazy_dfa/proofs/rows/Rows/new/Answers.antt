@@ -1,0 +1,30 @@
+use Rattle.std.proofs.Common.{ℕ, ◌+◌, length, ap, arith}
+use Rattle.std.proofs.lemmas.Nat.{mul-le}
+use Rattle.lazy_dfa.proofs.rows.Rows.new.Goals as goal
+
+pub returns : goal.returns
+returns c =
+    let m = c.args.automaton.now in
+    let starts = ap length c.in_ok-with_capacity.ensures.items in
+    let entries = ap length c.in_ok-with_capacity-3.ensures.items in
+    let w : ℕ = c.args.classes.now.count + 1 in
+    let one = mul-le 1 w c.max-rows.result w (omega (arith, c.max-rows.ensures)) (omega arith) in
+    record {
+      room = record {
+        from = omega (arith, c.state_count-states.ensures, c.in_ok-new.ensures.room);
+        next = omega (arith, c.state_count-states.ensures, c.in_ok-new-2.ensures.room);
+        ends = omega (arith, c.index_count.ensures, c.in_ok-new-3.ensures.room);
+        list = omega (arith, c.state_count-states.ensures, c.in_ok-with_capacity-4.ensures.capacity);
+        told = omega (arith, c.index_count-2.ensures, c.in_ok-with_capacity-5.ensures.capacity);
+        lists = omega (arith, c.state_count-states.ensures, c.in_ok-with_capacity-2.ensures.capacity, c.in-Some.ensures, c.max-listed.ensures, c.saturating_mul.ensures);
+        starts = omega (arith, c.in_ok-with_capacity.ensures.capacity, c.max-rows.ensures);
+        entries = omega (arith, one, c.in_ok-with_capacity-3.ensures.capacity, c.saturating_mul-3.ensures);
+      };
+      representatives = c.args.classes.now.representatives;
+      classes = c.requires.division;
+      few = omega (arith, starts);
+      lists = λ i lt. absurd (omega (arith, starts));
+      len = rw (starts, entries) (omega arith);
+      known = λ i col lt hc some. absurd (omega (arith, starts));
+      begins = λ j at. absurd (cc);
+    }

@@ -1,0 +1,46 @@
+use Rattle.std.proofs.Common.{refl, ◌∙◌, arith}
+use Rattle.byte_dfa.proofs.lemmas.Lists.{keeps_then}
+use Rattle.lazy_dfa.proofs.lemmas.Rows.{same_sound}
+use Rattle.lazy_dfa.proofs.rows.Rows.seek.Goals as goal
+
+pub returns-in-Some-clause-sound : goal.returns-in-Some-clause-sound
+returns-in-Some-clause-sound c =
+    let room = c.requires.room in
+    same_sound c.args.automaton.now c.args.self.now _ record { starts = refl; lists = refl; class_of = refl; class_count = refl } refl refl record {
+      from = room.from;
+      next = room.next;
+      ends = room.ends;
+      list = omega (arith, room.list, c.list_of.ensures.capacity);
+      told = room.told;
+      lists = room.lists;
+      starts = room.starts;
+      entries = room.entries;
+    } c.requires
+
+pub make_room-is_kept-requires : goal.make_room-is_kept-requires
+make_room-is_kept-requires c =
+    let room = c.requires.room in
+    same_sound c.args.automaton.now c.args.self.now _ record { starts = refl; lists = refl; class_of = refl; class_count = refl } refl refl record {
+      from = room.from;
+      next = room.next;
+      ends = room.ends;
+      list = omega (arith, room.list, c.list_of.ensures.capacity);
+      told = room.told;
+      lists = room.lists;
+      starts = room.starts;
+      entries = room.entries;
+    } c.requires
+
+pub returns-clause-kept : goal.returns-clause-kept
+returns-clause-kept c = λ on.
+    let old = c.args.self.now in
+    let room = c.make_room-is_kept.new.self in
+    let first = c.make_room-is_kept.ensures.kept on in
+    let second = c.add-row.ensures.kept in
+    record {
+      more = omega (arith, first.more, second.more);
+      states = λ i lt. second.states i (omega (arith, first.more, lt)) ∙ first.states i lt;
+      lists = keeps_then old.lists.items room.lists.items c.add-row.new.self.lists.items first.lists second.lists;
+      class_of = second.class_of ∙ first.class_of;
+      class_count = second.class_count ∙ first.class_count;
+    }

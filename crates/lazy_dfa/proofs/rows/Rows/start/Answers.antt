@@ -1,0 +1,42 @@
+use Rattle.std.proofs.Common.{◌≡◌, refl, arith, sym}
+use Rattle.byte_nfa.proofs.lemmas.Pass.{iff_trans}
+use Rattle.byte_dfa.proofs.lemmas.Found.{iff_sym}
+use Rattle.lazy_dfa.proofs.lemmas.Rows.{same_sound, begun_sound}
+use Rattle.lazy_dfa.proofs.rows.Rows.start.Goals as goal
+
+pub returns-in-Some-clause-begins : goal.returns-in-Some-clause-begins
+returns-in-Some-clause-begins c = (c.requires.begins c.in-Some.row c.in-Some.is).1
+
+pub seek-place-requires : goal.seek-place-requires
+seek-place-requires c =
+    let room = c.requires.room in
+    same_sound c.args.automaton.now c.args.self.now _ record { starts = refl; lists = refl; class_of = refl; class_count = refl } refl refl record {
+      from = room.from;
+      next = omega (arith, room.next, c.start.ensures.room);
+      ends = room.ends;
+      list = room.list;
+      told = room.told;
+      lists = room.lists;
+      starts = room.starts;
+      entries = room.entries;
+    } c.requires
+
+pub returns-clause-begins : goal.returns-clause-begins
+returns-clause-begins c = λ y k. iff_trans (iff_sym (c.seek-place.ensures.states y k)) (c.start.ensures.starts y k)
+
+pub returns-clause-sound : goal.returns-clause-sound
+returns-clause-sound c =
+    let sound = c.seek-place.ensures.sound in
+    let room = sound.room in
+    begun_sound c.args.automaton.now c.seek-place.new.self _ record { starts = refl; lists = refl; class_of = refl; class_count = refl } refl record {
+      from = room.from;
+      next = room.next;
+      ends = room.ends;
+      list = room.list;
+      told = room.told;
+      lists = room.lists;
+      starts = room.starts;
+      entries = room.entries;
+    } (λ j at.
+    let same : c.seek-place.result.row ≡ j = cc in
+    (rw (sym same) c.seek-place.ensures.row, λ y k. rw (sym same) (iff_trans (iff_sym (c.seek-place.ensures.states y k)) (c.start.ensures.starts y k)))) sound

@@ -1,0 +1,17 @@
+use Rattle.std.proofs.Common.{refl}
+use Rattle.lazy_dfa.proofs.lemmas.Rows.{written_sound}
+use Rattle.lazy_dfa.proofs.rows.Rows.write.Goals as goal
+
+pub returns-clause-sound : goal.returns-clause-sound
+returns-clause-sound c =
+    let room = c.requires.sound.room in
+    written_sound c.args.automaton.now c.args.self.now _ c.args.row c.args.column c.args.entry record { starts = refl; lists = refl; class_of = refl; class_count = refl } refl refl record {
+      from = room.from;
+      next = room.next;
+      ends = room.ends;
+      list = room.list;
+      told = room.told;
+      lists = room.lists;
+      starts = room.starts;
+      entries = room.entries;
+    } c.requires.row c.requires.column c.requires.entry c.requires.sound

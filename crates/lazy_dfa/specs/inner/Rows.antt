@@ -1,0 +1,129 @@
+-- The rows of a cache.
+use Rattle.std.specs.Prelude.{◌≡◌, ℕ, ◌+◌, ◌-◌, ◌*◌, ◌<◌, ◌≤◌, ◌⊎◌, ◌↔◌, List, [], ◌∷◌, ◌++◌, Some, length, slice_index, vec_capacity, IsTrue}
+use Rattle.bit_sets.specs.declared.index_set.IndexSet.{IndexSet}
+use Rattle.bit_sets.specs.Indexes.{has_index, index_capacity}
+use Rattle.bit_sets.specs.StateSets.{state_capacity}
+use Rattle.bit_sets.specs.Numbers.{is_reported}
+use Rattle.byte_nfa.specs.Steps.{Accepts, Machine, IsReached}
+use Rattle.byte_nfa.specs.EarlyMatches.{EndsAtEarlyMatches}
+use Rattle.byte_nfa.specs.Runs.{size}
+use Rattle.byte_dfa.specs.inner.Building.{half}
+use Rattle.byte_dfa.specs.inner.Classes.{IsDivision}
+use Rattle.byte_dfa.specs.inner.Lists.{list_at, IsList, IsListOf, KeepsLists}
+use Rattle.lazy_dfa.specs.declared.rows.Rows.{Rows}
+
+-- the states of the row of number i
+abbrev pub states_of : Rows → ℕ → List ℕ
+states_of rows i = list_at rows.lists.items (slice_index rows.starts.items i)
+
+-- the list of states of each row is there
+abbrev pub AreListed : Rows → Type 0
+AreListed rows = (i : ℕ) → i < length rows.starts.items → slice_index rows.starts.items i + 1 + slice_index rows.lists.items (slice_index rows.starts.items i) ≤ length rows.lists.items
+
+-- from some state of a list the text leads to an end of the index k
+abbrev pub AcceptsIn : Machine → List ℕ → List ℕ → ℕ → Type 0
+AcceptsIn m list y k = (t : ℕ) × IsTrue (is_reported t list) × Accepts m.states k t y
+
+-- from some state of the row of number i the text leads to an end of the index k
+abbrev pub AcceptsRow : Machine → Rows → ℕ → List ℕ → ℕ → Type 0
+AcceptsRow m rows i = AcceptsIn m (states_of rows i)
+
+-- the row leads without a byte to an end that says that an index is decided
+abbrev pub HasMarks : Machine → Rows → ℕ → Type 0
+HasMarks m rows i = (k : ℕ) × (k < half m) × AcceptsRow m rows i [] (half m + k)
+
+-- the byte leads from the row of number i of the old rows to where the row of number j of the new ones is
+abbrev pub GoesTo : Machine → Rows → ℕ → ℕ → Rows → ℕ → Type 0
+GoesTo m old i b new j = (j < length new.starts.items) × ((y : List ℕ) (k : ℕ) → AcceptsRow m old i (b ∷ y) k ↔ AcceptsRow m new j y k)
+
+-- the byte leads from the row to no end
+abbrev pub IsDeadBy : Machine → Rows → ℕ → ℕ → Type 0
+IsDeadBy m rows i b = (y : List ℕ) (k : ℕ) → AcceptsRow m rows i (b ∷ y) k → ⊥
+
+-- the set has the indexes of the ends to which the row leads without a byte
+abbrev pub HasEnds : Machine → Rows → ℕ → IndexSet → Type 0
+HasEnds m rows i ends = (k : ℕ) → k < half m + half m → IsTrue (has_index ends k) ↔ AcceptsRow m rows i [] k
+
+-- from here on entries are of rows with marks
+abbrev pub marked : ℕ
+marked = 2147483648
+
+-- what is added to the entries of a row
+abbrev pub MarksAre : Machine → Rows → ℕ → ℕ → Type 0
+MarksAre m rows i n = (HasMarks m rows i × (n ≡ marked)) ⊎ ((HasMarks m rows i → ⊥) × (n ≡ 0))
+
+-- what an entry without marks says of a byte: it is 1 where nothing follows, and otherwise 2 more than the number of a row
+pub record IsNext (m : Machine) (rows : Rows) (i b e : ℕ) : Type 0 where
+  pub dead : e ≡ 1 → IsDeadBy m rows i b
+  pub row : 1 < e → GoesTo m rows i b rows (e - 2)
+
+-- what an entry says of a byte
+pub record IsEntryBy (m : Machine) (rows : Rows) (i b e : ℕ) : Type 0 where
+  pub plain : e < marked → (HasMarks m rows i → ⊥) × IsNext m rows i b e
+  pub marks : marked ≤ e → HasMarks m rows i × (0 < e - marked) × IsNext m rows i b (e - marked)
+
+-- what the entry for the end of the text says: it is 1 where the row leads to no end without a byte, and otherwise 2 more than the place
+-- of the list of the indexes of these
+pub record IsEnd (m : Machine) (rows : Rows) (i e : ℕ) : Type 0 where
+  pub none : e ≡ 1 → (k : ℕ) → k < half m + half m → AcceptsRow m rows i [] k → ⊥
+  pub some : 1 < e → (k : ℕ) × (k < half m + half m) × AcceptsRow m rows i [] k
+  pub listed : 1 < e → IsListOf rows.lists.items (half m + half m) (e - 2) (AcceptsRow m rows i [])
+
+-- what an entry says, if it is known: of each byte of a class; or behind the classes of the end of the text
+pub record IsEntry (m : Machine) (rows : Rows) (i c e : ℕ) : Type 0 where
+  pub byte : (b : ℕ) → b < 256 → slice_index rows.class_of b ≡ c → IsEntryBy m rows i b e
+  pub end : c ≡ rows.class_count → IsEnd m rows i e
+
+-- there is room for one row, whatever its states are, and for one pass
+pub record HasRoomFor (m : Machine) (rows : Rows) : Type 0 where
+  pub from : size m ≤ state_capacity rows.from
+  pub next : size m ≤ state_capacity rows.next
+  pub ends : m.index_count ≤ index_capacity rows.ends
+  pub list : size m ≤ vec_capacity rows.list
+  pub told : m.index_count ≤ vec_capacity rows.told
+  pub lists : size m < vec_capacity rows.lists
+  pub starts : 0 < vec_capacity rows.starts
+  pub entries : rows.class_count < vec_capacity rows.entries
+
+-- rows have numbers below this
+abbrev pub max_rows : ℕ
+max_rows = 2147483646
+
+-- the place of an entry
+abbrev pub place_of : Rows → ℕ → ℕ → ℕ
+place_of rows i c = i * (rows.class_count + 1) + c
+
+-- the rows are right, as far as they are known
+pub record IsSound (m : Machine) (rows : Rows) : Type 0 where
+  pub room : HasRoomFor m rows
+  pub representatives : List ℕ
+  pub classes : IsDivision m.states rows.class_of representatives rows.class_count
+  pub few : length rows.starts.items ≤ max_rows
+  pub lists : (i : ℕ) → i < length rows.starts.items → IsList rows.lists.items (size m) (slice_index rows.starts.items i)
+  pub len : length rows.entries.items ≡ length rows.starts.items * (rows.class_count + 1)
+  pub known : (i c : ℕ) → i < length rows.starts.items → c ≤ rows.class_count → 0 < slice_index rows.entries.items (place_of rows i c)
+      → IsEntry m rows i c (slice_index rows.entries.items (place_of rows i c))
+  pub begins : (j : ℕ) → rows.begin ≡ Some j → (j < length rows.starts.items) × ((y : List ℕ) (k : ℕ) → AcceptsRow m rows j y k ↔ IsReached m y k)
+
+-- each row is still there, with the same states and the same classes of bytes, and each list stands where it stood
+pub record KeepsRows (old new : Rows) : Type 0 where
+  pub more : length old.starts.items ≤ length new.starts.items
+  pub states : (i : ℕ) → i < length old.starts.items → states_of new i ≡ states_of old i
+  pub lists : KeepsLists old.lists.items new.lists.items
+  pub class_of : new.class_of ≡ old.class_of
+  pub class_count : new.class_count ≡ old.class_count
+
+-- there is room for a row more, whatever its states are
+pub record HasSpace (m : Machine) (rows : Rows) : Type 0 where
+  pub lists : length rows.lists.items + size m < vec_capacity rows.lists
+  pub starts : length rows.starts.items < vec_capacity rows.starts
+  pub few : length rows.starts.items < max_rows
+  pub entries : length rows.entries.items + rows.class_count < vec_capacity rows.entries
+
+-- the rows are those of an automaton with an end in place of each state of the source that decides an index
+abbrev pub IsCacheOf : Machine → Rows → Type 0
+IsCacheOf source rows = (m : Machine) × EndsAtEarlyMatches source m × IsSound m rows
+
+-- a text leads to an end of the index k, or its beginning to the end that says that k is decided
+abbrev pub FindsBy : ℕ → (List ℕ → ℕ → Type 0) → List ℕ → ℕ → Type 0
+FindsBy n P y k = (k < n) × (P y k ⊎ ((p : List ℕ) × (q : List ℕ) × (y ≡ p ++ q) × P p (n + k)))

@@ -1,0 +1,59 @@
+//! What the caches of all threads are made for.
+
+ghost use Rattle.std.specs.Prelude.{◌≡◌, IfOk, IfSome};
+ghost use Rattle.byte_nfa.specs.Steps.{Machine};
+ghost use Rattle.lazy_dfa.specs.inner.Sources.{IsMadeOf};
+
+use byte_dfa::ByteClasses;
+use byte_nfa::Draft;
+use std::alloc::AllocError;
+use std::marker::Model;
+use std::snapshot::Snapshot;
+
+/// A deterministic automaton without its rows, which a [`Cache`](crate::Cache) makes.
+pub struct LazyDfa {
+    /// The automaton with an end in place of each state that decides an index. So an index that is decided is found once, and then
+    /// takes no state any more.
+    pub(crate) automaton: Draft,
+    pub(crate) classes: ByteClasses,
+    pub(crate) source: Snapshot<Draft>,
+}
+
+impl Drop for LazyDfa {
+    // One call wherever a value is dropped, which keeps proofs short.
+    fn drop(self) {
+        let LazyDfa {
+            automaton: _,
+            classes: _,
+            source: _,
+        } = self;
+    }
+}
+
+impl Model for LazyDfa {
+    ghost Value = { Machine };
+
+    ghost view = { λ d. d.source.value };
+
+    ghost invariant = { λ d. IsMadeOf d.source.value d.automaton d.classes };
+}
+
+impl LazyDfa {
+    /// Makes a deterministic automaton that finds what an automaton finds.
+    ///
+    /// It reads each state, and takes about as much memory as the automaton. Returns `None` if twice as many indexes are too many
+    /// for a `usize`, and an error if memory runs out.
+    pub fn new(automaton: &Draft) -> Result<Option<LazyDfa>, AllocError>
+        ensures { IfOk result (λ made. IfSome made (λ dfa. dfa ≡ automaton.now)) }
+    {
+        let Some(early_match) = automaton.with_early_matches()? else {
+            return Ok(None);
+        };
+        let classes = ByteClasses::new(&early_match);
+        Ok(Some(LazyDfa {
+            automaton: early_match,
+            classes,
+            source: Snapshot::of(automaton),
+        }))
+    }
+}

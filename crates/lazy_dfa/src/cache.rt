@@ -1,0 +1,87 @@
+//! The memory of one thread, and what it answers.
+
+ghost use Rattle.std.specs.Prelude.{◌≡◌, ℕ, ◌+◌, ◌*◌, ◌≤◌, ◌⊎◌, ◌↔◌, length, IsTrue, IfOk};
+ghost use Rattle.bit_sets.specs.Indexes.{has_index, index_capacity};
+ghost use Rattle.byte_nfa.specs.Runs.{size};
+ghost use Rattle.byte_nfa.specs.Steps.{Machine, IsReached};
+ghost use Rattle.lazy_dfa.specs.inner.Rows.{IsCacheOf};
+
+use crate::automaton::LazyDfa;
+use crate::rows::Rows;
+use bit_sets::IndexSet;
+use std::alloc::{AllocError, Global};
+use std::marker::Model;
+use std::snapshot::Snapshot;
+use visits::Visits;
+
+/// The rows that the texts of one thread needed so far, in a memory of fixed size.
+///
+/// A cache is made for one automaton. Contracts see it as the automaton that this was made from: what earlier calls left has no
+/// effect on an answer.
+pub struct Cache {
+    rows: Rows,
+    made_for: Snapshot<LazyDfa>,
+}
+
+impl Drop for Cache {
+    // One call wherever a value is dropped, which keeps proofs short.
+    fn drop(self) {
+        let Cache {
+            rows: _,
+            made_for: _,
+        } = self;
+    }
+}
+
+impl Model for Cache {
+    ghost Value = { Machine };
+
+    ghost view = { λ c. c.made_for.value };
+
+    ghost invariant = { λ c. IsCacheOf c.made_for.value c.rows };
+}
+
+impl Cache {
+    /// Returns a cache with no rows.
+    ///
+    /// It takes so many bytes, and more only where few states would fit: there is always room for some rows. All memory is taken
+    /// here, and none by later calls. Returns an error if memory runs out.
+    pub fn new(alloc: Global, dfa: &LazyDfa, bytes: usize) -> Result<Cache, AllocError>
+        ensures { IfOk result (λ cache. cache ≡ dfa.now) }
+    {
+        Ok(Cache {
+            rows: Rows::new(alloc, &dfa.automaton, &dfa.classes, bytes)?,
+            made_for: Snapshot::of(dfa),
+        })
+    }
+
+    /// Puts the index of each end that a text leads to into a set, beside what it holds.
+    ///
+    /// An entry that is there is one visit. Where there is none yet, each state of the automaton is read at most once, and is one
+    /// visit. So it is at most `(text bytes + 1) * states` visits. It takes no memory: if there is no room for a row, all rows are
+    /// forgotten, which is no visit.
+    pub fn find(&mut self, dfa: &LazyDfa, text: &[u8], found: &mut IndexSet, visits: &mut Visits)
+        requires same { dfa.now ≡ self.old }
+        requires room { self.old.index_count ≤ index_capacity found.old }
+        ensures same { self.new ≡ self.old }
+        ensures room { index_capacity found.new ≡ index_capacity found.old }
+        ensures found { (k : ℕ) → IsTrue (has_index found.new k) ↔ (IsReached self.old text.now k ⊎ IsTrue (has_index found.old k)) }
+        ensures visits { visits.new ≤ visits.old + (length text.now + 1) * size self.old }
+        ensures counted { visits.old ≤ visits.new }
+    {
+        self.rows.find(&dfa.automaton, text, found, visits);
+    }
+
+    /// Returns whether a text leads to some end. It stops at the first that is found whatever follows.
+    ///
+    /// It is as many visits as [`Cache::find`] makes, and takes no memory.
+    pub fn is_match(&mut self, dfa: &LazyDfa, text: &[u8], visits: &mut Visits) -> bool
+        requires { dfa.now ≡ self.old }
+        ensures same { self.new ≡ self.old }
+        ensures some { IsTrue result ↔ ((k : ℕ) × IsReached self.old text.now k) }
+        ensures visits { visits.new ≤ visits.old + (length text.now + 1) * size self.old }
+        ensures counted { visits.old ≤ visits.new }
+    {
+        self.rows.is_match(&dfa.automaton, text, visits)
+    }
+}

@@ -1,0 +1,16 @@
+//! Deterministic automata over bytes whose rows are made while texts are read, in a memory of fixed size.
+//!
+//! A [`LazyDfa`] is made from a [`byte_nfa::Draft`], and finds exactly what that finds. It can be shared by threads. Each thread has
+//! a [`Cache`], which holds the rows that its texts needed so far. A whole table, as `byte_dfa` makes it, may need very many rows
+//! more than texts ever lead to.
+#![tactic(auto)]
+
+mod automaton;
+mod cache;
+mod lists;
+mod pass;
+mod rows;
+mod run;
+
+pub use automaton::LazyDfa;
+pub use cache::Cache;

@@ -1,0 +1,99 @@
+//! Vectors of numbers that have room for more, and lists of states.
+
+ghost use Rattle.std.specs.Prelude.{◌≡◌, ℕ, ◌+◌, ◌<◌, ◌≤◌, ◌↔◌, ◌⊎◌, ◌^◌, ◌++◌, ◌∷◌, [], length, replicate, slice_index, vec_capacity, IsTrue};
+ghost use Rattle.bit_sets.specs.Indexes.{has_index, index_capacity};
+ghost use Rattle.bit_sets.specs.Numbers.{is_reported, AreBelow};
+ghost use Rattle.bit_sets.specs.StateSets.{has_state, state_capacity};
+ghost use Rattle.byte_dfa.specs.inner.Lists.{list_at};
+
+use bit_sets::{IndexSet, StateSet};
+use visits::Visits;
+
+/// Returns the list of states of a row, by the places where the lists of rows stand.
+pub fn states_at<'a>(starts: &[usize], lists: &'a [usize], row: usize) -> &'a [usize]
+    requires row { row < length starts.now }
+    requires list { slice_index starts.now row + 1 + slice_index lists.now (slice_index starts.now row) ≤ length lists.now }
+    ensures { result.now ≡ list_at lists.now (slice_index starts.now row) }
+{
+    let start = starts[row];
+    let count = lists[start];
+    &lists[start + 1..start + 1 + count]
+}
+
+/// Makes `list` that of the states below a bound that a set has. It takes no memory if there is room for so many.
+pub fn list_of(set: &StateSet, limit: usize, list: &mut Vec<usize>)
+    requires within { limit ≤ state_capacity set.now }
+    requires room { limit ≤ vec_capacity list.old }
+    ensures below { AreBelow limit list.new.items }
+    ensures few { length list.new.items ≤ limit }
+    ensures has { (t : ℕ) → IsTrue (is_reported t list.new.items) ↔ ((t < limit) × IsTrue (has_state set.now t)) }
+    ensures capacity { vec_capacity list.old ≤ vec_capacity list.new }
+{
+    list.clear();
+    let mut high = limit;
+    while high > 0 {
+        // The states were read before: this counts no visit.
+        let seen = set.read_below(high, &mut Visits::new());
+        if seen.is_set {
+            push_within(list, seen.at);
+        }
+        high = seen.at;
+    }
+}
+
+/// Makes `list` that of the indexes below a bound that a set has. It takes no memory if there is room for so many.
+pub fn list_indexes(set: &IndexSet, limit: usize, list: &mut Vec<usize>)
+    requires { limit ≤ vec_capacity list.old }
+    ensures below { AreBelow limit list.new.items }
+    ensures few { length list.new.items ≤ limit }
+    ensures has { (k : ℕ) → IsTrue (is_reported k list.new.items) ↔ ((k < limit) × IsTrue (has_index set.now k)) }
+    ensures capacity { vec_capacity list.old ≤ vec_capacity list.new }
+{
+    list.clear();
+    let mut at = 0;
+    while let Some(index) = set.next_below(at, limit) {
+        push_within(list, index);
+        at = index + 1;
+    }
+}
+
+/// Appends a number to a vector that has room for it. It takes no memory.
+pub fn push_within(numbers: &mut Vec<usize>, number: usize)
+    requires { length numbers.old.items < vec_capacity numbers.old }
+    ensures items { numbers.new.items ≡ numbers.old.items ++ number ∷ [] }
+    ensures capacity { vec_capacity numbers.old ≤ vec_capacity numbers.new }
+{
+    let _ = numbers.push(number);
+}
+
+/// Appends numbers to a vector that has room for them. It takes no memory.
+pub fn extend_within(numbers: &mut Vec<usize>, more: &[usize])
+    requires { length numbers.old.items + length more.now ≤ vec_capacity numbers.old }
+    ensures items { numbers.new.items ≡ numbers.old.items ++ more.now }
+    ensures capacity { vec_capacity numbers.old ≤ vec_capacity numbers.new }
+{
+    let _ = numbers.extend_from_slice(more);
+}
+
+/// Appends so many zeros to a vector that has room for them. It takes no memory.
+pub fn zeros_within(numbers: &mut Vec<u32>, count: usize)
+    requires { length numbers.old.items + count ≤ vec_capacity numbers.old }
+    ensures items { numbers.new.items ≡ numbers.old.items ++ replicate count 0 }
+    ensures capacity { vec_capacity numbers.old ≤ vec_capacity numbers.new }
+{
+    let _ = numbers.resize(numbers.len() + count, 0);
+}
+
+/// Puts the indexes of a set from `from` on, `count` at most, each less `from`, into another set, beside what it holds.
+pub fn put_lowered(set: &IndexSet, from: usize, count: usize, into: &mut IndexSet)
+    requires fits { from + count < 2 ^ 64 }
+    requires room { count ≤ index_capacity into.old }
+    ensures room { index_capacity into.new ≡ index_capacity into.old }
+    ensures has { (k : ℕ) → IsTrue (has_index into.new k) ↔ (((k < count) × IsTrue (has_index set.now (from + k))) ⊎ IsTrue (has_index into.old k)) }
+{
+    let mut at = from;
+    while let Some(index) = set.next_below(at, from + count) {
+        into.put(index - from);
+        at = index + 1;
+    }
+}

@@ -1,0 +1,555 @@
+//! The rows that a cache holds, and how they are made.
+
+ghost use Rattle.std.specs.Prelude.{◌≡◌, ℕ, ◌+◌, ◌-◌, ◌*◌, ◌<◌, ◌≤◌, ◌⊎◌, ◌↔◌, ◌++◌, ◌∷◌, [], List, length, slice_index, replicate, vec_len, vec_capacity, Some, None, IsTrue, IsFalse, IfOk, IfSome, MatchOption};
+ghost use Rattle.bit_sets.specs.Indexes.{has_index, index_capacity};
+ghost use Rattle.bit_sets.specs.StateSets.{has_state, state_capacity};
+ghost use Rattle.bit_sets.specs.Numbers.{is_reported, AreBelow};
+ghost use Rattle.byte_nfa.specs.Steps.{IsReached};
+ghost use Rattle.byte_nfa.specs.Runs.{size, AcceptsFrom};
+ghost use Rattle.byte_dfa.specs.inner.Classes.{IsDivision};
+ghost use Rattle.byte_dfa.specs.inner.Building.{half};
+ghost use Rattle.lazy_dfa.specs.inner.Rows.{AcceptsRow, HasEnds, HasMarks, GoesTo, IsDeadBy, IsNext, IsEnd, IsEntry, IsSound, AreListed, KeepsRows, HasSpace, states_of, place_of, max_rows, marked};
+
+use crate::lists::{extend_within, list_indexes, list_of, push_within, states_at, zeros_within};
+use crate::pass::read;
+use bit_sets::{IndexSet, StateSet};
+use byte_dfa::{ByteClasses, put_listed};
+use byte_nfa::Draft;
+use std::alloc::{AllocError, Global};
+use std::hash::{FoldHasher, Hasher};
+use visits::Visits;
+
+/// An entry that is not known.
+const UNKNOWN: u32 = 0;
+
+/// An entry where nothing follows: a byte leads to no end, or the text's end is none.
+const DEAD: u32 = 1;
+
+/// The entry that leads to the first row. That to the next is one more, and so on.
+const FIRST: u32 = 2;
+
+/// What is added to the entries of a row that has marks: it leads without a byte to ends that say that an index is decided.
+const MARKED: u32 = 1 << 31;
+
+/// Rows have numbers below this, so that entries have room for them.
+const MAX_ROWS: usize = (MARKED - FIRST) as usize;
+
+/// The lists of ends have places below this, so that entries have room for them.
+const MAX_PLACES: usize = (u32::MAX - FIRST) as usize;
+
+/// In how many places of the table of rows a list is looked for.
+const PROBES: usize = 8;
+
+/// There is room for at least so many rows, and so many lists of all states.
+const LEAST_ROWS: usize = 4;
+
+/// Where a byte leads from a row.
+#[derive(Clone, Copy)]
+pub struct Step {
+    /// The row, or `None` if the byte leads to no end.
+    pub next: Option<usize>,
+    /// Whether the row that was left has marks: it leads without a byte to ends that say that an index is decided.
+    pub has_marks: bool,
+}
+
+/// The row of some states.
+#[derive(Clone, Copy)]
+struct Place {
+    row: usize,
+    /// Whether the rows before are still there.
+    is_kept: bool,
+}
+
+/// The rows that are made, each for a list of states of the automaton that some text leads to, and what a step needs.
+///
+/// All memory is taken when it is made. If there is no room for a row more, all rows are forgotten.
+pub struct Rows {
+    class_of: [u8; 256],
+    class_count: usize,
+    /// For each row, where its list of states stands.
+    starts: Vec<usize>,
+    /// The lists of states, and of the indexes of ends, one after another: for each how many these are, and then these.
+    lists: Vec<usize>,
+    /// For each row an entry for each class of bytes, and one for the end of the text: where the list of the indexes stands that
+    /// are found without a byte.
+    entries: Vec<u32>,
+    /// The numbers of rows, and one more, at places by the hashes of their lists.
+    table: Vec<u32>,
+    /// The row that a run begins in, if it is made.
+    begin: Option<usize>,
+    /// The states that a pass takes.
+    from: StateSet,
+    /// The states that a byte leads to.
+    next: StateSet,
+    /// The indexes of the ends that are found without a byte.
+    pub ends: IndexSet,
+    /// The list of the states that a byte leads to.
+    list: Vec<usize>,
+    /// The list of the indexes in `ends`.
+    told: Vec<usize>,
+}
+
+impl Drop for Rows {
+    // One call wherever a value is dropped, which keeps proofs short.
+    fn drop(self) {
+        let Rows {
+            class_of: _,
+            class_count: _,
+            starts: _,
+            lists: _,
+            entries: _,
+            table: _,
+            begin: _,
+            from: _,
+            next: _,
+            ends: _,
+            list: _,
+            told: _,
+        } = self;
+    }
+}
+
+impl Rows {
+    /// Returns no rows, with room for as many as fit so many bytes, and for a few in each case.
+    pub fn new(
+        alloc: Global,
+        automaton: &Draft,
+        classes: &ByteClasses,
+        bytes: usize,
+    ) -> Result<Rows, AllocError>
+        requires few { classes.now.count ≤ 256 }
+        requires division { IsDivision automaton.now.states classes.now.class_of classes.now.representatives classes.now.count }
+        ensures { IfOk result (λ rows. IsSound automaton.now rows) }
+    {
+        let states = automaton.state_count();
+        let width = classes.count + 1;
+        // One half is for entries, the other for lists.
+        let rows = (bytes / (8 * width)).max(LEAST_ROWS);
+        let Some(longest) = states.checked_add(1) else {
+            return Err(AllocError);
+        };
+        let listed = (bytes / 16).max(longest.saturating_mul(LEAST_ROWS));
+        let mut table = Vec::new(alloc);
+        table.resize(rows.saturating_mul(2), 0)?;
+        Ok(Rows {
+            class_of: classes.class_of,
+            class_count: classes.count,
+            starts: Vec::with_capacity(alloc, rows)?,
+            lists: Vec::with_capacity(alloc, listed)?,
+            entries: Vec::with_capacity(alloc, rows.saturating_mul(width))?,
+            table,
+            begin: None,
+            from: StateSet::new(alloc, states)?,
+            next: StateSet::new(alloc, states)?,
+            ends: IndexSet::new(alloc, automaton.index_count())?,
+            list: Vec::with_capacity(alloc, states)?,
+            told: Vec::with_capacity(alloc, automaton.index_count())?,
+        })
+    }
+
+    /// Returns the row that a run begins in.
+    pub fn start(&mut self, automaton: &Draft) -> usize
+        requires { IsSound automaton.now self.old }
+        ensures sound { IsSound automaton.now self.new }
+        ensures row { result < length self.new.starts.items }
+        ensures begins { (y : List ℕ) (k : ℕ) → AcceptsRow automaton.now self.new result y k ↔ IsReached automaton.now y k }
+    {
+        if let Some(row) = self.begin {
+            return row;
+        }
+        automaton.start(&mut self.next);
+        let place = self.seek(automaton);
+        self.begin = Some(place.row);
+        place.row
+    }
+
+    /// Returns where a byte leads from a row. If the row has marks, `ends` has afterwards what the row leads to without a byte.
+    ///
+    /// A known entry is one visit. If the entry is not known, each state is read at most once, and is one visit.
+    pub fn step(&mut self, automaton: &Draft, row: usize, byte: u8, visits: &mut Visits) -> Step
+        requires sound { IsSound automaton.now self.old }
+        requires row { row < length self.old.starts.items }
+        requires some { 0 < size automaton.now }
+        ensures sound { IsSound automaton.now self.new }
+        ensures next { MatchOption result.next (IsDeadBy automaton.now self.old row byte) (λ j. GoesTo automaton.now self.old row byte self.new j) }
+        ensures marks { IsTrue result.has_marks ↔ HasMarks automaton.now self.old row }
+        ensures ends { IsTrue result.has_marks → HasEnds automaton.now self.old row self.new.ends }
+        ensures visits { visits.new ≤ visits.old + size automaton.now }
+        ensures counted { visits.old ≤ visits.new }
+    {
+        let class = self.class_of[byte as usize] as usize;
+        let entry = self.entry(row, class);
+        if entry == UNKNOWN {
+            return self.leave(automaton, row, byte, visits);
+        }
+        if entry >= MARKED {
+            return self.step_marked(automaton, row, byte, entry - MARKED, visits);
+        }
+        visits.tick();
+        Step {
+            next: next_of(entry),
+            has_marks: false,
+        }
+    }
+
+    /// Returns where a byte leads from a row that has marks, by its entry without these.
+    fn step_marked(
+        &mut self,
+        automaton: &Draft,
+        row: usize,
+        byte: u8,
+        entry: u32,
+        visits: &mut Visits,
+    ) -> Step
+        requires sound { IsSound automaton.now self.old }
+        requires row { row < length self.old.starts.items }
+        requires some { 0 < size automaton.now }
+        requires marks { HasMarks automaton.now self.old row }
+        requires next { IsNext automaton.now self.old row byte entry }
+        requires known { 0 < entry }
+        ensures sound { IsSound automaton.now self.new }
+        ensures next { MatchOption result.next (IsDeadBy automaton.now self.old row byte) (λ j. GoesTo automaton.now self.old row byte self.new j) }
+        ensures marks { IsTrue result.has_marks ↔ HasMarks automaton.now self.old row }
+        ensures ends { IsTrue result.has_marks → HasEnds automaton.now self.old row self.new.ends }
+        ensures visits { visits.new ≤ visits.old + size automaton.now }
+        ensures counted { visits.old ≤ visits.new }
+    {
+        let end = self.entry(row, self.class_count);
+        if end < FIRST {
+            // There was no room for the list of what the row leads to without a byte.
+            return self.leave(automaton, row, byte, visits);
+        }
+        visits.tick();
+        self.load_ends(automaton, row, end);
+        Step {
+            next: next_of(entry),
+            has_marks: true,
+        }
+    }
+
+    /// Returns whether a row leads to some end without a byte. If it does, `ends` has afterwards the indexes of these.
+    ///
+    /// If it is known that it leads to none, that is one visit. Otherwise each state is read at most once, and is one visit.
+    pub fn finish(&mut self, automaton: &Draft, row: usize, visits: &mut Visits) -> bool
+        requires sound { IsSound automaton.now self.old }
+        requires row { row < length self.old.starts.items }
+        requires some { 0 < size automaton.now }
+        ensures sound { IsSound automaton.now self.new }
+        ensures some { IsTrue result ↔ ((k : ℕ) × (k < half automaton.now + half automaton.now) × AcceptsRow automaton.now self.old row [] k) }
+        ensures ends { IsTrue result → HasEnds automaton.now self.old row self.new.ends }
+        ensures visits { visits.new ≤ visits.old + size automaton.now }
+        ensures counted { visits.old ≤ visits.new }
+    {
+        let column = self.class_count;
+        let end = self.entry(row, column);
+        if end == DEAD {
+            visits.tick();
+            return false;
+        }
+        if end >= FIRST {
+            visits.tick();
+            self.load_ends(automaton, row, end);
+            return true;
+        }
+        // What any byte leads to has no effect here.
+        self.read_row(automaton, row, 0, visits);
+        let half = automaton.index_count() / 2;
+        if self.ends.next_below(0, half + half).is_some() {
+            self.keep_ends(automaton, row);
+            return true;
+        }
+        self.write(automaton, row, column, DEAD);
+        false
+    }
+
+    /// Returns where a byte leads from a row whose entry for it is not known, and writes the entry if the row has no marks.
+    fn leave(&mut self, automaton: &Draft, row: usize, byte: u8, visits: &mut Visits) -> Step
+        requires sound { IsSound automaton.now self.old }
+        requires row { row < length self.old.starts.items }
+        ensures sound { IsSound automaton.now self.new }
+        ensures next { MatchOption result.next (IsDeadBy automaton.now self.old row byte) (λ j. GoesTo automaton.now self.old row byte self.new j) }
+        ensures marks { IsTrue result.has_marks ↔ HasMarks automaton.now self.old row }
+        ensures ends { IsTrue result.has_marks → HasEnds automaton.now self.old row self.new.ends }
+        ensures visits { visits.new ≤ visits.old + size automaton.now }
+        ensures counted { visits.old ≤ visits.new }
+    {
+        self.read_row(automaton, row, byte, visits);
+        let has_marks = self.keep_marks(automaton, row);
+        let marks = added_by(has_marks);
+        let class = self.class_of[byte as usize] as usize;
+        if self.next.is_empty() {
+            self.write(automaton, row, class, DEAD + marks);
+            return Step {
+                next: None,
+                has_marks,
+            };
+        }
+        let place = self.seek(automaton);
+        // If the rows were forgotten, the row that was left is another one now, or none.
+        if place.is_kept {
+            self.write(automaton, row, class, place.row as u32 + FIRST + marks);
+        }
+        Step {
+            next: Some(place.row),
+            has_marks,
+        }
+    }
+
+    /// Returns whether a row has marks, by the indexes in `ends`. If it has, their list is kept.
+    fn keep_marks(&mut self, automaton: &Draft, row: usize) -> bool
+        requires sound { IsSound automaton.now self.old }
+        requires row { row < length self.old.starts.items }
+        requires ends { HasEnds automaton.now self.old row self.old.ends }
+        ensures sound { IsSound automaton.now self.new }
+        ensures kept { KeepsRows self.old self.new }
+        ensures marks { IsTrue result ↔ HasMarks automaton.now self.old row }
+        ensures ends { self.new.ends ≡ self.old.ends }
+        ensures next { self.new.next ≡ self.old.next }
+    {
+        if !self.has_marks(automaton) {
+            return false;
+        }
+        self.keep_ends(automaton, row);
+        true
+    }
+
+    /// Keeps the list of the indexes in `ends`, to which a row leads without a byte, if there is room for it.
+    fn keep_ends(&mut self, automaton: &Draft, row: usize)
+        requires sound { IsSound automaton.now self.old }
+        requires row { row < length self.old.starts.items }
+        requires ends { HasEnds automaton.now self.old row self.old.ends }
+        requires some { (k : ℕ) × (k < half automaton.now + half automaton.now) × AcceptsRow automaton.now self.old row [] k }
+        ensures sound { IsSound automaton.now self.new }
+        ensures kept { KeepsRows self.old self.new }
+        ensures ends { self.new.ends ≡ self.old.ends }
+        ensures next { self.new.next ≡ self.old.next }
+    {
+        let half = automaton.index_count() / 2;
+        list_indexes(&self.ends, half + half, &mut self.told);
+        let place = self.lists.len();
+        if self.lists.capacity() - place <= self.told.len() || place >= MAX_PLACES {
+            return;
+        }
+        push_within(&mut self.lists, self.told.len());
+        extend_within(&mut self.lists, &self.told);
+        self.entries[row * (self.class_count + 1) + self.class_count] = place as u32 + FIRST;
+    }
+
+    /// Makes `ends` the indexes of the list that is kept for a row.
+    fn load_ends(&mut self, automaton: &Draft, row: usize, end: u32)
+        requires sound { IsSound automaton.now self.old }
+        requires row { row < length self.old.starts.items }
+        requires known { 1 < end }
+        requires end { IsEnd automaton.now self.old row end }
+        ensures sound { IsSound automaton.now self.new }
+        ensures ends { HasEnds automaton.now self.old row self.new.ends }
+        ensures kept { KeepsRows self.old self.new }
+    {
+        let _automaton = automaton;
+        let _row = row;
+        self.ends.clear();
+        put_listed(&self.lists, (end - FIRST) as usize, &mut self.ends);
+    }
+
+    /// Puts what a row leads to into `next` by a byte, and into `ends` without one. It is at most one visit for each state.
+    fn read_row(&mut self, automaton: &Draft, row: usize, byte: u8, visits: &mut Visits)
+        requires sound { IsSound automaton.now self.old }
+        requires row { row < length self.old.starts.items }
+        ensures sound { IsSound automaton.now self.new }
+        ensures kept { KeepsRows self.old self.new }
+        ensures steps { (y : List ℕ) (k : ℕ) → AcceptsRow automaton.now self.old row (byte ∷ y) k ↔ AcceptsFrom automaton.now self.new.next y k }
+        ensures ends { HasEnds automaton.now self.old row self.new.ends }
+        ensures visits { visits.new ≤ visits.old + size automaton.now }
+        ensures counted { visits.old ≤ visits.new }
+    {
+        self.from.clear();
+        self.from.put_all(states_at(&self.starts, &self.lists, row));
+        read(
+            automaton,
+            byte,
+            &mut self.from,
+            &mut self.next,
+            &mut self.ends,
+            visits,
+        );
+    }
+
+    /// Returns whether `ends` has an index that says that another is decided.
+    fn has_marks(&self, automaton: &Draft) -> bool
+        ensures { IsTrue result ↔ ((k : ℕ) × (k < half automaton.now) × IsTrue (has_index self.now.ends (half automaton.now + k))) }
+    {
+        let half = automaton.index_count() / 2;
+        self.ends.next_below(half, half + half).is_some()
+    }
+
+    /// Returns an entry of a row.
+    fn entry(&self, row: usize, column: usize) -> u32
+        requires row { row < length self.now.starts.items }
+        requires column { column ≤ self.now.class_count }
+        requires len { length self.now.entries.items ≡ length self.now.starts.items * (self.now.class_count + 1) }
+        ensures { result ≡ slice_index self.now.entries.items (place_of self.now row column) }
+    {
+        self.entries[row * (self.class_count + 1) + column]
+    }
+
+    /// Writes an entry of a row.
+    fn write(&mut self, automaton: &Draft, row: usize, column: usize, entry: u32)
+        requires sound { IsSound automaton.now self.old }
+        requires row { row < length self.old.starts.items }
+        requires column { column ≤ self.old.class_count }
+        requires entry { IsEntry automaton.now self.old row column entry }
+        ensures sound { IsSound automaton.now self.new }
+        ensures kept { KeepsRows self.old self.new }
+        ensures ends { self.new.ends ≡ self.old.ends }
+    {
+        let _automaton = automaton;
+        self.entries[row * (self.class_count + 1) + column] = entry;
+    }
+
+    /// Returns the row of the states in `next`, and makes it if it is not there. If there is no room for it, all rows are
+    /// forgotten before.
+    fn seek(&mut self, automaton: &Draft) -> Place
+        requires { IsSound automaton.now self.old }
+        ensures sound { IsSound automaton.now self.new }
+        ensures row { result.row < length self.new.starts.items }
+        ensures states { (y : List ℕ) (k : ℕ) → AcceptsFrom automaton.now self.old.next y k ↔ AcceptsRow automaton.now self.new result.row y k }
+        ensures kept { IsTrue result.is_kept → KeepsRows self.old self.new }
+        ensures ends { self.new.ends ≡ self.old.ends }
+    {
+        list_of(&self.next, automaton.state_count(), &mut self.list);
+        let hash = hash_of(&self.list);
+        if let Some(row) = self.known(hash) {
+            return Place { row, is_kept: true };
+        }
+        let is_kept = self.make_room(automaton);
+        let row = self.add(automaton, hash);
+        Place { row, is_kept }
+    }
+
+    /// Returns the row of the states in `list`, if it is found. Another row can be of the same states: nothing hangs on that.
+    fn known(&self, hash: u64) -> Option<usize>
+        requires { AreListed self.now }
+        ensures { IfSome result (λ i. (i < length self.now.starts.items) × (states_of self.now i ≡ self.now.list.items)) }
+    {
+        for probe in 0..PROBES {
+            let number = *self.table.get(place_of(hash, probe, self.table.len()))? as usize;
+            if number == 0 {
+                return None;
+            }
+            if self.has_list(number - 1) {
+                return Some(number - 1);
+            }
+        }
+        None
+    }
+
+    /// Returns whether a row is there, and is that of the states in `list`.
+    fn has_list(&self, row: usize) -> bool
+        requires { AreListed self.now }
+        ensures { IsTrue result → (row < length self.now.starts.items) × (states_of self.now row ≡ self.now.list.items) }
+    {
+        if row >= self.starts.len() {
+            return false;
+        }
+        states_at(&self.starts, &self.lists, row) == self.list.as_slice()
+    }
+
+    /// Makes room for a row. Returns whether no row was forgotten.
+    fn make_room(&mut self, automaton: &Draft) -> bool
+        requires { IsSound automaton.now self.old }
+        ensures sound { IsSound automaton.now self.new }
+        ensures space { HasSpace automaton.now self.new }
+        ensures kept { IsTrue result → KeepsRows self.old self.new }
+        ensures list { self.new.list ≡ self.old.list }
+        ensures ends { self.new.ends ≡ self.old.ends }
+    {
+        let states = automaton.state_count();
+        if self.lists.capacity() - self.lists.len() > states
+            && self.starts.len() < self.starts.capacity().min(MAX_ROWS)
+            && self.entries.capacity() - self.entries.len() > self.class_count
+        {
+            return true;
+        }
+        self.starts.clear();
+        self.lists.clear();
+        self.entries.clear();
+        self.begin = None;
+        self.table.fill(0);
+        false
+    }
+
+    /// Adds a row of the states in `list`, none of whose entries is known. Returns its number.
+    fn add(&mut self, automaton: &Draft, hash: u64) -> usize
+        requires sound { IsSound automaton.now self.old }
+        requires space { HasSpace automaton.now self.old }
+        requires below { AreBelow (size automaton.now) self.old.list.items }
+        requires few { length self.old.list.items ≤ size automaton.now }
+        ensures sound { IsSound automaton.now self.new }
+        ensures row { result < length self.new.starts.items }
+        ensures states { states_of self.new result ≡ self.old.list.items }
+        ensures kept { KeepsRows self.old self.new }
+        ensures ends { self.new.ends ≡ self.old.ends }
+    {
+        let _automaton = automaton;
+        let row = self.starts.len();
+        let start = self.lists.len();
+        push_within(&mut self.lists, self.list.len());
+        extend_within(&mut self.lists, &self.list);
+        push_within(&mut self.starts, start);
+        zeros_within(&mut self.entries, self.class_count + 1);
+        remember(&mut self.table, hash, row);
+        row
+    }
+}
+
+/// Puts the number of a row into the table, at the first place that is free of those where it will be looked for. If none is
+/// free, another row is no longer found there.
+fn remember(table: &mut [u32], hash: u64, row: usize)
+    requires { row < max_rows }
+    ensures { length table.new ≡ length table.old }
+{
+    let count = table.len();
+    let mut place = place_of(hash, 0, count);
+    for probe in 1..PROBES {
+        if let Some(0) = table.get(place) {
+            break;
+        }
+        place = place_of(hash, probe, count);
+    }
+    if let Some(number) = table.get_mut(place) {
+        *number = row as u32 + 1;
+    }
+}
+
+/// Returns what is added to the entries of a row that has marks, or has none.
+fn added_by(has_marks: bool) -> u32
+    ensures { (IsTrue has_marks × (result ≡ marked)) ⊎ (IsFalse has_marks × (result ≡ 0)) }
+{
+    if has_marks { MARKED } else { 0 }
+}
+
+/// Returns the row that an entry without marks leads to.
+fn next_of(entry: u32) -> Option<usize>
+    requires { 0 < entry }
+    ensures { MatchOption result (entry ≡ 1) (λ j. (1 < entry) × (j ≡ entry - 2)) }
+{
+    if entry == DEAD {
+        None
+    } else {
+        Some((entry - FIRST) as usize)
+    }
+}
+
+/// Returns a place of a table of so many places.
+fn place_of(hash: u64, probe: usize, count: usize) -> usize {
+    (hash as usize).wrapping_add(probe) % count.max(1)
+}
+
+/// Returns the hash of a list of states.
+fn hash_of(list: &[usize]) -> u64 {
+    let mut hasher = FoldHasher::default();
+    for state in list {
+        hasher.write_usize(*state);
+    }
+    hasher.finish()
+}
