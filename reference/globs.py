@@ -223,6 +223,25 @@ def reading(glob):
     return (PREFIX,) if whole == [TWO_STARS] else tokens_of_branch(whole)
 
 
+def error_offset(glob):
+    """Returns how many bytes of a glob's text stand before its first error, or None if it has none."""
+    text, at, opened = glob.text, 0, []
+    while at < len(text):
+        try:
+            mark, after = mark_at(text, at, glob.options)
+        except Rejected:
+            return len(text[:at].encode())
+        if mark.kind == "{":
+            opened.append(at)
+        elif mark.kind == "}" and not opened:
+            return len(text[:at].encode())
+        elif mark.kind == "}":
+            opened.pop()
+        at = after
+    # The outermost group that is open.
+    return len(text[: opened[0]].encode()) if opened else None
+
+
 # ---- The bytes of a class
 
 

@@ -10,7 +10,8 @@ import globs as definitions
 from globs import Glob, Options, Rejected, ValueRejected
 
 QUESTION = {
-    "read": 3, "glob": 3, "add": 3, "match": 4, "path": 2, "below": 2, "equal": 5, "parts": 2, "escape": 2, "value": 2, "array": 2,
+    "read": 3, "glob": 3, "add": 3, "match": 4, "path": 2, "below": 2, "equal": 5, "offset": 3, "parts": 2, "escape": 2, "value": 2,
+    "array": 2,
 }
 
 LETTERS = {
@@ -127,6 +128,10 @@ class Case:
         if len(errors) == 1:
             return ["a glob and an error"]
         return [yes_or_no(errors[0] == errors[1] if errors else globs[0] == globs[1])]
+
+    def offset(self, options, text):
+        offset = definitions.error_offset(glob_of(options, text))
+        return ["-" if offset is None else str(offset)]
 
     def parts(self, path):
         path = unescaped(path)

@@ -3,4 +3,5 @@ pub mod Unfoldings
 mod Stars
 mod Classes
 mod Faults
+mod ErrorOffsets
 mod ClassBytes

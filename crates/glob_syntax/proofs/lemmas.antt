@@ -5,6 +5,7 @@ pub mod FlatTrees
 pub mod SetMatcher
 pub mod Lists
 pub mod Lexemes
+pub mod FirstError
 pub mod Nesting
 pub mod UnclosedClasses
 pub mod Weights

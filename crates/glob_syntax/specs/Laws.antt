@@ -1,9 +1,11 @@
 -- What follows from the definition of reading. Each law is the contract of a function of the module `laws`.
-use Rattle.std.specs.Prelude.{◌≡◌, ℕ, Bool, true, false, IsTrue, List, ◌++◌}
+use Rattle.std.specs.Prelude.{◌≡◌, ◌↔◌, ℕ, Bool, true, false, IsTrue, List, ◌++◌, Some}
+use Rattle.std.specs.Option.{option_map}
 use Rattle.glob_syntax.specs.declared.options.Options.{Options}
 use Rattle.glob_syntax.specs.declared.parse_error_kind.ParseErrorKind.{ParseErrorKind}
 use Rattle.glob_syntax.specs.declared.parse_error_kind.ParseErrorKind.TheVariants.{UnclosedClass, InvalidRange, UnopenedAlternates, UnclosedAlternates, DanglingEscape}
 use Rattle.glob_syntax.specs.Reading.{HasParseError}
+use Rattle.glob_syntax.specs.ErrorOffset.{first_error}
 
 -- The errors that more text cannot remove: a range that goes down, and a `}` that closes no group. The others say that the
 -- text ends too early.
@@ -17,3 +19,7 @@ is_lasting DanglingEscape = false
 -- Without `allow_unclosed_class`, a text with such an error keeps that very error whatever follows the text.
 abbrev pub ParseErrorsStay : Type 0
 ParseErrorsStay = (o : Options) (text more : List ℕ) (f : ParseErrorKind) → o.allow_unclosed_class ≡ false → IsTrue (is_lasting f) → HasParseError o text f → HasParseError o (text ++ more) f
+
+-- The error whose offset a text has is the error that `reading` finds. A text that has tokens has no such error.
+abbrev pub ErrorsAgree : Type 0
+ErrorsAgree = (o : Options) (text : List ℕ) (f : ParseErrorKind) → HasParseError o text f ↔ (option_map (λ e. e.0) (first_error o text) ≡ Some f)

@@ -4,6 +4,7 @@ pub mod Lexemes
 pub mod Nesting
 pub mod Stars
 pub mod Reading
+pub mod ErrorOffset
 pub mod FlatTokens
 pub mod ClassBytes
 pub mod StatesPerByte

@@ -15,7 +15,7 @@ use lexeme::{Lexeme, lexeme_at};
 use std::alloc::Global;
 
 /// Returns a lexeme inside `depth` open groups, and how many are open after it.
-fn nested_lexeme<'a>(
+pub fn nested_lexeme<'a>(
     depth: usize,
     lexeme: Lexeme<'a>,
 ) -> Result<(usize, Lexeme<'a>), ParseErrorKind>

@@ -5,6 +5,7 @@
 #![tactic(auto)]
 
 mod class;
+mod first_error;
 mod groups;
 pub mod laws;
 mod lexemes;
@@ -15,6 +16,7 @@ mod stars;
 mod token;
 
 pub use class::Class;
+pub use first_error::error_offset;
 pub use options::Options;
 pub use parse_error_kind::{ParseErrorKind, ReadError};
 pub use reading::read_tokens;

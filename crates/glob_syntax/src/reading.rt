@@ -17,7 +17,7 @@ use crate::token::Token;
 use std::alloc::{AllocError, Global};
 
 /// Returns the characters of a text. Returns an error if memory runs out.
-fn characters(alloc: Global, text: &str) -> Result<Vec<char>, AllocError>
+pub fn characters(alloc: Global, text: &str) -> Result<Vec<char>, AllocError>
     ensures { IfOk result (λ v. v.items ≡ chars text.now) }
 {
     text.chars().collect(alloc)

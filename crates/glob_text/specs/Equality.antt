@@ -1,5 +1,5 @@
 -- Equality of errors. Globs need no definition: two are equal if they have one `GlobValue`.
-use Rattle.std.specs.Prelude.{◌≡◌, string_bytes}
+use Rattle.std.specs.Prelude.{◌≡◌, ℕ, Option, None, string_bytes}
 use Rattle.glob_text.specs.declared.error.kind.ErrorKind.{ErrorKind}
 use Rattle.glob_text.specs.declared.error.kind.ErrorKind.TheVariants as kinds
 use Rattle.glob_text.specs.declared.value_error.ValueErrorKind.{ValueErrorKind}
@@ -13,7 +13,7 @@ abbrev pub SameKind : ErrorKind → ErrorKind → Type 0
 SameKind (kinds.Regex text) (kinds.Regex other) = string_bytes text ≡ string_bytes other
 SameKind kind other = kind ≡ other
 
--- Errors are equal if both have the same text, or both have none, and their kinds are equal.
+-- Errors are equal if both have the same text, or both have none, and their kinds are equal. Their offsets are not compared.
 abbrev pub SameError : ErrorValue → ErrorValue → Type 0
 SameError e f = (e.glob ≡ f.glob) × SameKind e.kind f.kind
 
@@ -25,3 +25,10 @@ SameValueKind kind other = kind ≡ other
 -- Errors of values are equal if both have the same index, or both have none, and their kinds are equal.
 abbrev pub SameValueError : ValueErrorValue → ValueErrorValue → Type 0
 SameValueError e f = (e.index ≡ f.index) × SameValueKind e.kind f.kind
+
+-- ---- copies, which are equal and also have the same offsets
+
+-- the offset of the error that a kind of errors of values holds, if it holds one
+abbrev pub offset_in : ValueErrorKind → Option ℕ
+offset_in (causes.Glob e) = e.offset
+offset_in _ = None

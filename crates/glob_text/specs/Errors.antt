@@ -7,16 +7,18 @@ use Rattle.glob_syntax.specs.declared.parse_error_kind.ParseErrorKind.TheVariant
 use Rattle.glob_syntax.specs.declared.options.Options.{Options}
 use Rattle.glob_text.specs.GlobMatches.{GlobValue}
 use Rattle.glob_syntax.specs.Reading.{HasParseError, reading}
+use Rattle.glob_syntax.specs.ErrorOffset.{error_offset}
 use Rattle.std.specs.Str.{chars}
 
--- An error as contracts see it: the rejected text, if it holds one, and its kind.
+-- An error as contracts see it: the rejected text, if it holds one, its kind, and where in the text it stands, in bytes.
 pub record ErrorValue : Type 0 where
   pub glob : Option (List ℕ)
   pub kind : ErrorKind
+  pub offset : Option ℕ
 
 -- The error that memory ran out. It holds no text.
 abbrev pub out_of_memory : ErrorValue
-out_of_memory = record { glob = None; kind = kinds.OutOfMemory }
+out_of_memory = record { glob = None; kind = kinds.OutOfMemory; offset = None }
 
 -- the kind of the error of a text with this fault
 abbrev pub kind_of : ParseErrorKind → ErrorKind
@@ -26,18 +28,18 @@ kind_of faults.UnopenedAlternates = kinds.UnopenedAlternates
 kind_of faults.UnclosedAlternates = kinds.UnclosedAlternates
 kind_of faults.DanglingEscape = kinds.DanglingEscape
 
--- The error of a text with this fault. It holds the text.
-abbrev pub parse_error : List ℕ → ParseErrorKind → ErrorValue
-parse_error text f = record { glob = Some text; kind = kind_of f }
+-- The error of a text whose first fault under these options is this one. It holds the text, and where the fault stands.
+abbrev pub parse_error : Options → List ℕ → ParseErrorKind → ErrorValue
+parse_error o text f = record { glob = Some text; kind = kind_of f; offset = error_offset o (chars text) }
 
 -- The glob of a text under its options, or if the text has a fault, the error of its first fault.
 abbrev pub glob_or_parse_error : GlobValue → Result GlobValue ErrorValue
-glob_or_parse_error g = elim (reading g.options (chars g.text)) [ Ok ts ↦ Ok g | Err f ↦ Err (parse_error g.text f) ]
+glob_or_parse_error g = elim (reading g.options (chars g.text)) [ Ok ts ↦ Ok g | Err f ↦ Err (parse_error g.options g.text f) ]
 
 -- The error is one that reading the text under these options may return: that of the text's first fault, or that memory ran
 -- out.
 abbrev pub IsParseErrorOf : Options → List ℕ → ErrorValue → Type 0
-IsParseErrorOf o text e = (e ≡ out_of_memory) ⊎ ((f : ParseErrorKind) × HasParseError o (chars text) f × (e ≡ parse_error text f))
+IsParseErrorOf o text e = (e ≡ out_of_memory) ⊎ ((f : ParseErrorKind) × HasParseError o (chars text) f × (e ≡ parse_error o text f))
 
 -- ---- displayed texts
 

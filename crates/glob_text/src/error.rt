@@ -8,7 +8,7 @@ ghost use Rattle.glob_text.specs.inner.Equality.{same_error, same_error_laws};
 
 pub mod kind;
 
-use glob_syntax::ParseErrorKind;
+use glob_syntax::{Options, ParseErrorKind, error_offset};
 use kind::ErrorKind;
 use std::alloc::{AllocError, AllocFailed, Global};
 use std::fmt;
@@ -26,6 +26,7 @@ use std::marker::Model;
 /// let error = Glob::new(alloc, "a[z-a]").expect_err(rt, "the range goes down");
 /// assert_eq!(rt; error.glob(), Some("a[z-a]"));
 /// assert_eq!(rt; error.kind(), &ErrorKind::InvalidRange('z', 'a'));
+/// assert_eq!(rt; error.offset(), Some(1));
 /// let text = error.to_string(alloc)?;
 /// assert_eq!(rt; text.as_str(), "error parsing glob 'a[z-a]': invalid range; 'z' > 'a'");
 /// ```
@@ -33,12 +34,17 @@ use std::marker::Model;
 pub struct Error {
     glob: Option<String>,
     kind: ErrorKind,
+    offset: Option<usize>,
 }
 
 impl Drop for Error {
     // One call wherever a value is dropped, which keeps proofs short.
     fn drop(self) {
-        let Error { glob: _, kind: _ } = self;
+        let Error {
+            glob: _,
+            kind: _,
+            offset: _,
+        } = self;
     }
 }
 
@@ -49,23 +55,33 @@ impl Model for Error {
 
     ghost Value = { ErrorValue };
 
-    ghost view = { λ e. record { glob = option_map string_bytes e.glob; kind = e.kind } };
+    ghost view = { λ e. record { glob = option_map string_bytes e.glob; kind = e.kind; offset = e.offset } };
 }
 
 impl Error {
     ghost use Rattle.std.specs.Option.{option_map};
     ghost use Rattle.glob_text.specs.Errors.{parse_error};
 
-    /// Returns the error of a text with this fault. If the text cannot be copied, it says that memory ran out.
-    pub(crate) fn parse_error(alloc: Global, text: &str, parse_error_kind: ParseErrorKind) -> Error
-        ensures { (result ≡ out_of_memory) ⊎ (result ≡ parse_error text.now parse_error_kind) }
+    /// Returns the error of a text whose first fault under these options is this one. This reads the text once more, for the
+    /// place of the fault. If memory runs out, also for the copy of the text, the error says so.
+    pub(crate) fn parse_error(
+        alloc: Global,
+        options: Options,
+        text: &str,
+        parse_error_kind: ParseErrorKind,
+    ) -> Error
+        ensures { (result ≡ out_of_memory) ⊎ (result ≡ parse_error options text.now parse_error_kind) }
     {
+        let Ok(offset) = error_offset(alloc, options, text) else {
+            return Error::out_of_memory();
+        };
         let Ok(glob) = String::from_str(alloc, text) else {
             return Error::out_of_memory();
         };
         Error {
             glob: Some(glob),
             kind: ErrorKind::of(parse_error_kind),
+            offset,
         }
     }
 
@@ -76,6 +92,7 @@ impl Error {
         Error {
             glob: None,
             kind: ErrorKind::OutOfMemory,
+            offset: None,
         }
     }
 
@@ -96,9 +113,30 @@ impl Error {
         &self.kind
     }
 
-    /// Returns an equal error, or an error if memory runs out.
+    /// Returns the offset in the rejected text at which its first error stands, in bytes, or `None` if memory ran out. This is
+    /// the offset of
+    ///
+    /// - the `[` of the class, for [`ErrorKind::UnclosedClass`] and [`ErrorKind::InvalidRange`];
+    /// - the `}`, for [`ErrorKind::UnopenedAlternates`];
+    /// - the outermost `{` that is open at the end of the text, for [`ErrorKind::UnclosedAlternates`];
+    /// - the last `\`, for [`ErrorKind::DanglingEscape`].
+    ///
+    /// ```rust
+    /// use globset::Glob;
+    ///
+    /// let error = Glob::new(alloc, "é/{*.c,*.{h,hpp}").expect_err(rt, "one } is missing");
+    /// assert_eq!(rt; error.offset(), Some(3));
+    /// ```
+    pub fn offset(&self) -> Option<usize>
+        ensures { result ≡ self.now.offset }
+    {
+        self.offset
+    }
+
+    /// Returns an equal error with the same offset, or an error if memory runs out.
     pub fn clone(&self) -> Result<Error, Error>
         ensures ok { IfOk result (λ e. SameError e self.now) }
+        ensures offset { IfOk result (λ e. e.offset ≡ self.now.offset) }
         ensures equal { IfOk result (λ e. IsTrue (⟦<Error as PartialEq>⟧.eq e self.now)) }
         ensures err { IfErr result (λ e. e ≡ out_of_memory) }
     {
@@ -106,9 +144,9 @@ impl Error {
     }
 }
 
-/// An equal error. The error of the call says that memory ran out.
+/// An equal error with the same offset. The error of the call says that memory ran out.
 impl Clone for Error {
-    ghost is_clone = { λ e f. SameError f e };
+    ghost is_clone = { λ e f. SameError f e × (f.offset ≡ e.offset) };
 
     fn clone(&self) -> Result<Error, AllocError> {
         let kind = Clone::clone(&self.kind)?;
@@ -116,11 +154,16 @@ impl Clone for Error {
             Some(glob) => Some(glob.clone()?),
             None => None,
         };
-        Ok(Error { glob, kind })
+        Ok(Error {
+            glob,
+            kind,
+            offset: self.offset,
+        })
     }
 }
 
-/// Errors are equal if their texts and their kinds are. It allocates nothing.
+/// Errors are equal if their texts and their kinds are. Their offsets, which may differ under other options, are not compared.
+/// It allocates nothing.
 impl PartialEq for Error {
     ghost eq = { same_error };
 

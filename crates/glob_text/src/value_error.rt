@@ -2,7 +2,7 @@
 
 ghost use Rattle.std.specs.Prelude.{◌≡◌, ◌↔◌, IsTrue};
 ghost use Rattle.std.specs.Cmp.{partial_equiv_from_equiv};
-ghost use Rattle.glob_text.specs.Equality.{SameValueKind, SameValueError};
+ghost use Rattle.glob_text.specs.Equality.{SameValueKind, SameValueError, offset_in};
 ghost use Rattle.glob_text.specs.ValueErrors.{of_element};
 ghost use Rattle.glob_text.specs.inner.Equality.{same_value_kind, same_value_kind_laws, same_value_error, same_value_error_laws};
 
@@ -52,9 +52,9 @@ impl ValueErrorKind {
     }
 }
 
-/// An equal kind. The error says that memory ran out.
+/// An equal kind, whose error has the same offset. The error of the call says that memory ran out.
 impl Clone for ValueErrorKind {
-    ghost is_clone = { λ k l. SameValueKind l k };
+    ghost is_clone = { λ k l. SameValueKind l k × (offset_in l ≡ offset_in k) };
 
     fn clone(&self) -> Result<ValueErrorKind, AllocError> {
         match self {
@@ -140,9 +140,9 @@ impl Model for ValueError {
     ghost view = { λ e. record { index = e.index; kind = e.kind } };
 }
 
-/// An equal error. The error of the call says that memory ran out.
+/// An equal error, also with the same offset. The error of the call says that memory ran out.
 impl Clone for ValueError {
-    ghost is_clone = { λ e f. SameValueError f e };
+    ghost is_clone = { λ e f. SameValueError f e × (offset_in f.kind ≡ offset_in e.kind) };
 
     fn clone(&self) -> Result<ValueError, AllocError> {
         Ok(ValueError {

@@ -27,4 +27,4 @@ IsErrorOf text options e = (f : ParseErrorKind) × HasParseError (options_of opt
 
 -- The text is no glob under these options, and P holds of what its first error displays.
 abbrev pub IfRejected : List ℕ → ℕ → (List ℕ → Type 0) → Type 0
-IfRejected text options P = (f : ParseErrorKind) × HasParseError (options_of options) (chars text) f × P (error_text (parse_error text f))
+IfRejected text options P = (f : ParseErrorKind) × HasParseError (options_of options) (chars text) f × P (error_text (parse_error (options_of options) text f))

@@ -73,6 +73,7 @@ impl Globs {
             "path" => self.path(columns, Asked::Path),
             "below" => self.path(columns, Asked::Below),
             "equal" => self.equal(columns),
+            "offset" => self.offset(columns),
             "parts" => self.parts(columns),
             "escape" => self.escape(columns),
             "value" => self.value(columns),
@@ -182,6 +183,14 @@ impl Globs {
         let one = read(self.alloc, columns)?;
         let other = read(self.alloc, columns)?;
         Ok(String::from_str(self.alloc, compared(&one, &other))?)
+    }
+
+    /// Returns the offset of the error of a text, or `-` if the text is a glob. The error's copy must have the same offset.
+    fn offset(&self, columns: &mut Columns<'_>) -> Result<String, Fault> {
+        match &read(self.alloc, columns)? {
+            Ok(_) => Ok(String::from_str(self.alloc, "-")?),
+            Err(error) => shown_offset(self.alloc, error),
+        }
     }
 
     /// Returns the basename and the extension of a path.
@@ -326,6 +335,16 @@ fn shown_error(alloc: Global, error: &Error) -> Result<String, Fault> {
     let text = format!(in alloc; "{error}")?;
     let (kind, text) = (Escaped(kind.as_bytes()), Escaped(text.as_bytes()));
     Ok(format!(in alloc; "fails\t{kind}\t{text}")?)
+}
+
+/// Returns the offset of an error.
+fn shown_offset(alloc: Global, error: &Error) -> Result<String, Fault> {
+    let copied = error.clone()?.offset();
+    match error.offset() {
+        Some(offset) if copied == Some(offset) => Ok(format!(in alloc; "{offset}")?),
+        Some(_) => Ok(String::from_str(alloc, "the copy has another offset")?),
+        None => Ok(String::from_str(alloc, "the error has no offset")?),
+    }
 }
 
 /// Returns `fails`, the index or `-`, and the text.
