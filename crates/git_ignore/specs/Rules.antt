@@ -1,11 +1,12 @@
--- The rules of an ignore file, and what they say of a path below the folder of the file.
+-- The rules of an ignore file, and what they say of a path below the folder of the file. A line that no glob can stand for has none, which is
+-- a difference from git.
 use Rattle.std.specs.Prelude.{ℕ, suc, Bool, not, ◌&&◌, ◌||◌, List, [], ◌∷◌, Option, Some, None, if◌then◌else◌}
 use Rattle.ignore_pattern.specs.Lines.{file_lines}
-use Rattle.ignore_pattern.specs.Patterns.{Pattern, pattern_of_line, pattern_matches}
+use Rattle.ignore_pattern.specs.Patterns.{Pattern, read_pattern, pattern_matches}
 use Rattle.git_ignore.specs.declared.decision.Decision.{Decision}
 use Rattle.git_ignore.specs.declared.decision.Decision.TheVariants.{Ignored, Kept, Undecided}
 
--- a line with a pattern: the number of the line, counted from 1, and the pattern
+-- a line with a pattern that a glob can stand for: the number of the line, counted from 1, and the pattern
 pub record Rule : Type 0 where
   pub line : ℕ
   pub pattern : Pattern
@@ -13,7 +14,7 @@ pub record Rule : Type 0 where
 -- the rules of these lines, the first of which has this number
 abbrev pub rules_from : ℕ → List (List ℕ) → List Rule
 rules_from n [] = []
-rules_from n (line ∷ lines) = elim (pattern_of_line line) [ None ↦ rules_from (suc n) lines | Some p ↦ record { line = n; pattern = p } ∷ rules_from (suc n) lines ]
+rules_from n (line ∷ lines) = elim (read_pattern line) [ None ↦ rules_from (suc n) lines | Some p ↦ record { line = n; pattern = p } ∷ rules_from (suc n) lines ]
 
 -- the rules of an ignore file, given by its bytes
 unfoldable pub rules_of : List ℕ → List Rule

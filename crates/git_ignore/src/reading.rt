@@ -3,8 +3,8 @@
 ghost use Rattle.std.specs.Prelude.{◌≡◌, ◌<◌, ◌++◌, ◌∷◌, [], ◌+◌, ◌≤◌, ◌^◌, List, length, IfErr, IfOk, OnOk};
 ghost use Rattle.globset.specs.Errors.{out_of_memory};
 ghost use Rattle.globset.specs.SetValue.{set_globs};
-ghost use Rattle.ignore_pattern.specs.Lines.{lines_of, without_lexeme};
-ghost use Rattle.ignore_pattern.specs.Patterns.{pattern_of_line};
+ghost use Rattle.ignore_pattern.specs.Lines.{lines_of, without_byte_order_mark};
+ghost use Rattle.ignore_pattern.specs.Patterns.{read_pattern};
 ghost use Rattle.git_ignore.specs.Rules.{Rule, rules_from};
 ghost use Rattle.git_ignore.specs.inner.Entries.{AreEntriesOf, rule_at};
 
@@ -68,7 +68,7 @@ impl RulesBuilder {
     /// Adds the rule of a line, if it has one. Returns an error if memory runs out, and no other.
     fn push_line(&mut self, alloc: Global, number: usize, line: &[u8]) -> Result<(), Error>
         ensures rule { OnOk result ((done : List Rule) → AreEntriesOf done self.old.globs.items self.old.entries.items →
-            AreEntriesOf (done ++ rule_at number (pattern_of_line line.now)) self.new.globs.items self.new.entries.items) }
+            AreEntriesOf (done ++ rule_at number (read_pattern line.now)) self.new.globs.items self.new.entries.items) }
         ensures err { IfErr result (λ e. e ≡ out_of_memory) }
     {
         match pattern_of_line(alloc, line)? {
@@ -149,7 +149,7 @@ pub fn set_of(alloc: Global, globs: Vec<Glob>) -> Result<GlobSet, Error>
 
 /// Returns the bytes of a file without a byte order mark at their start.
 pub fn after_mark(bytes: &[u8]) -> &[u8]
-    ensures { result.now ≡ without_lexeme bytes.now }
+    ensures { result.now ≡ without_byte_order_mark bytes.now }
 {
     match bytes.strip_prefix(BYTE_ORDER_MARK) {
         Some(rest) => rest,

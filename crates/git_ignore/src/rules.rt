@@ -61,8 +61,8 @@ impl Model for Rules {
 }
 
 impl Rules {
-    /// Reads an ignore file, given by its bytes. Each line has at most one rule. A line that git cannot read, or that is not UTF-8,
-    /// has none, and is no error: [`Rules::unread_lines`] returns its number.
+    /// Reads an ignore file, given by its bytes. Each line has at most one rule. A line that git cannot read has none, nor has one
+    /// that no glob can stand for, as one that is not UTF-8. That is no error: [`Rules::unread_lines`] returns its number.
     ///
     /// Returns an error if memory runs out, and no other.
     pub fn new(alloc: Global, file: &[u8]) -> Result<Rules, Error>
@@ -148,7 +148,7 @@ impl Rules {
     /// The decision about a folder is put at the index of the `/` after it in the path, unless there is one already: an item that is
     /// not [`Decision::Undecided`] stays as it is. So calls for several files, those of deeper folders first, find what the files
     /// say together. The path below the folder of the file begins at `start`, and folders that end before are left out, as are those
-    /// for which `decisions` is too short.
+    /// for which `decisions` is too short. The items at other bytes and those beyond the path stay as they are.
     ///
     /// It takes memory for the states of an automaton of all globs. A byte of the path takes as many steps as this is in states, 64 in
     /// one word together. Returns an error if memory runs out, and no other; nothing is put then.
@@ -168,7 +168,7 @@ impl Rules {
     }
 
     /// Returns the numbers, counted from 1, of the lines that match nothing and are neither blank nor a comment: those that git cannot
-    /// read, and those that are not UTF-8.
+    /// read, and those that no glob can stand for.
     pub fn unread_lines(&self) -> &[usize] {
         &self.unread
     }

@@ -1,6 +1,6 @@
 //! Memory that rules match with.
 
-ghost use Rattle.std.specs.Prelude.{◌≡◌, IfOk, IfErr, IsOk, OnOk, OnErr};
+ghost use Rattle.std.specs.Prelude.{◌≡◌, ◌↔◌, IsTrue, IfOk, IfErr, IsOk, OnOk, OnErr};
 ghost use Rattle.globset.specs.Errors.{out_of_memory};
 ghost use Rattle.globset.specs.SetValue.{Fits, FitsAsBefore};
 ghost use Rattle.git_ignore.specs.RulesValue.{FitsRules};
@@ -13,7 +13,7 @@ use std::marker::Model;
 /// All the memory that rules need to decide about a path: a [`Scratch`], and a number for each rule.
 ///
 /// With a scratch that fits the rules, [`Rules::decide`] cannot fail. What earlier calls left in it has no effect. It can be used
-/// with all rules that it fits, and [`IgnoreScratch::fit`] makes it fit more of them.
+/// with all rules that it fits, which [`IgnoreScratch::fits`] tells, and [`IgnoreScratch::fit`] makes it fit more of them.
 pub struct IgnoreScratch {
     pub(crate) scratch: Scratch,
     /// The indexes of the rules whose globs match a path.
@@ -58,6 +58,25 @@ impl IgnoreScratch {
         let scratch = Scratch::new(alloc, set)?;
         let matching = Vec::with_capacity(alloc, set.len())?;
         Ok(IgnoreScratch { scratch, matching })
+    }
+
+    /// Returns whether the scratch fits the rules. It fits the rules that it was made for.
+    ///
+    /// ```rust
+    /// use git_ignore::{Decision, IgnoreScratch, Rules};
+    ///
+    /// let one = Rules::new(alloc, b"*.o\n")?;
+    /// let two = Rules::new(alloc, b"*.o\n!a.*\n")?;
+    /// let mut scratch = IgnoreScratch::new(alloc, &one)?;
+    /// if !scratch.fits(&two) {
+    ///     scratch.fit(&two)?;
+    /// }
+    /// assert_eq!(rt; two.decide(b"a.o", false, &mut scratch), Decision::Kept);
+    /// ```
+    pub fn fits(&self, rules: &Rules) -> bool
+        ensures { IsTrue result ↔ FitsRules self.now rules.now }
+    {
+        self.scratch.fits(rules.set())
     }
 
     /// Makes the scratch fit more rules. It takes no memory if it fits them already.

@@ -4,8 +4,10 @@ pub mod Booleans
 pub mod Braces
 pub mod ClassBodies
 pub mod Classes
+pub mod ClassesInBytes
 pub mod ElementLexemes
 pub mod ElementTokens
+pub mod ElementsInBytes
 pub mod Ends
 pub mod Exactness
 pub mod Filters
@@ -13,7 +15,10 @@ pub mod Items
 pub mod LineAnswers
 pub mod Lines
 pub mod Lists
+pub mod MatchesInBytes
 pub mod Patterns
+pub mod PatternsInBytes
 pub mod Results
 pub mod SoundElements
 pub mod Texts
+pub mod Utf8Bytes

@@ -1,20 +1,21 @@
 -- What is returned for a line of an ignore file.
 use Rattle.std.specs.Prelude.{◌≡◌, ℕ, List, Option, Some, None}
-use Rattle.ignore_pattern.specs.Patterns.{Pattern, pattern_of_line}
+use Rattle.ignore_pattern.specs.Patterns.{Pattern, read_pattern, pattern_matches}
 use Rattle.ignore_pattern.specs.Meaning.{HasMeaningOf, MatchesNothing}
 use Rattle.ignore_pattern.specs.Globs.{glob_of_line}
 use Rattle.ignore_pattern.specs.declared.pattern.IgnorePattern.{IgnorePattern}
 
 -- the glob has the meaning of the pattern, and what is beside the glob is that of the pattern
 pub record IsFor (p : Pattern) (r : IgnorePattern) : Type 0 where
-  pub meaning : HasMeaningOf p r.glob
+  pub meaning : HasMeaningOf (pattern_matches p) r.glob
   pub negated : r.is_negated ≡ p.negated
   pub folders_only : r.is_folders_only ≡ p.folders_only
 
--- The pattern of the line, and the glob that has its meaning; or none, and then the line matches nothing.
+-- The pattern of the line, if a glob can stand for it, and the glob that has its meaning; or none, and then the line has no such
+-- pattern, or one that matches nothing.
 abbrev pub IsPatternOf : List ℕ → Option IgnorePattern → Type 0
-IsPatternOf line None = (p : Pattern) → pattern_of_line line ≡ Some p → MatchesNothing p
-IsPatternOf line (Some r) = (p : Pattern) × (pattern_of_line line ≡ Some p) × IsFor p r
+IsPatternOf line None = (p : Pattern) → read_pattern line ≡ Some p → MatchesNothing (pattern_matches p)
+IsPatternOf line (Some r) = (p : Pattern) × (read_pattern line ≡ Some p) × IsFor p r
 
 -- What is returned for a line is for the line, whatever bytes it has. This is the contract of a function of the module `laws`.
 abbrev pub LineIsExact : Type 0

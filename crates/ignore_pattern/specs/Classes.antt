@@ -1,9 +1,8 @@
--- Character classes of ignore files, as git reads them: what is after a `[`, and the bytes that it contains.
-use Rattle.std.specs.Prelude.{ℕ, zero, suc, ◌+◌, ◌%◌, Bool, false, not, ◌&&◌, ◌||◌, ◌==◌, nat_le, nat_lt, List, [], ◌∷◌, take, Option, Some, None, codes, if◌then◌else◌, encode_utf8, length}
+-- Character classes of ignore files, as git reads them: what is after a `[`, and the bytes that it contains. All is bytes.
+use Rattle.std.specs.Prelude.{ℕ, zero, suc, ◌+◌, Bool, false, not, ◌&&◌, ◌||◌, ◌==◌, nat_le, List, [], ◌∷◌, take, Option, Some, None, codes, if◌then◌else◌, length}
 use Rattle.std.specs.Str.{bytes_eq}
 use Rattle.std.specs.List.{list_any, position}
 use Rattle.std.specs.Char.{is_ascii_alphabetic, is_ascii_alphanumeric, is_ascii_digit, is_ascii_hexdigit, is_ascii_lowercase, is_ascii_uppercase, is_ascii_punctuation, is_ascii_graphic, is_ascii_control}
-use Rattle.globset_glob.specs.ClassBytes.{is_one_of, is_spanned}
 use Rattle.ignore_pattern.specs.Ends.{ends_with, without_last}
 use Rattle.ignore_pattern.specs.declared.item.ClassName.{ClassName}
 use Rattle.ignore_pattern.specs.declared.item.ClassName.TheVariants.{Alnum, Alpha, Blank, Cntrl, Digit, Graph, Lower, Print, Punct, Space, Upper, Xdigit}
@@ -46,12 +45,10 @@ named_has Xdigit byte = is_ascii_hexdigit byte
 
 -- ---- items
 
--- The item contains the byte. A class is about bytes, so a character stands for each of its bytes in UTF-8, and a range goes from
--- the last byte of its first character to the first byte of its last one, and has the other bytes of both. A range that goes down
--- has no more than these.
+-- The item contains the byte: it is the byte, a range that the byte is in, or a class with a name. A range that goes down has none.
 abbrev pub item_has : ℕ → Item → Bool
-item_has byte (Member c) = is_one_of byte (encode_utf8 c)
-item_has byte (Range x y) = is_spanned byte (encode_utf8 x) (encode_utf8 y)
+item_has byte (Member c) = byte == c
+item_has byte (Range x y) = nat_le x byte && nat_le byte y
 item_has byte (Named name) = named_has name byte
 
 -- The class matches the byte: an item contains it, or no item does if the class is negated. No class matches `/`.
@@ -60,29 +57,20 @@ class_matches negated items byte = not (byte == 47) && (if negated then not (lis
 
 -- ---- reading
 
--- A range that has the bytes C0 and C1 without a character of which one could say so: it begins with a character whose last byte is
--- BF, and ends with one from U+0080 to U+00BF. No pattern with such a range is read, which is a difference from git.
-abbrev pub is_odd_range : ℕ → ℕ → Bool
-is_odd_range x y = (nat_le 128 x && x % 64 == 63) && (nat_le 128 y && nat_le y 191)
-
--- In what follows, an item comes with the number of characters that belong to it after its first one, and with the character that
--- a `-` after it makes a range from, if it does.
+-- In what follows, an item comes with the number of bytes that belong to it after its first one, and with the byte that a `-` after
+-- it makes a range from, if it does.
 abbrev pub one_item : Item → ℕ → Option ℕ → Option ItemAt
 one_item item more last = Some (record { item = item; more = more; last = last })
-
--- A range from `x` to `y`. A `-` after it makes no range, unless `y` is not ASCII.
-abbrev pub range_at : ℕ → ℕ → ℕ → Option ItemAt
-range_at x y more = if is_odd_range x y then None else one_item (Range x y) more (if nat_lt y 128 then None else Some y)
 
 -- a range from `x` whose end is escaped: what is after the `\`
 abbrev pub escaped_range_at : ℕ → List ℕ → Option ItemAt
 escaped_range_at x [] = None
-escaped_range_at x (y ∷ cs) = range_at x y 2
+escaped_range_at x (y ∷ cs) = one_item (Range x y) 2 None
 
--- What is at a `-`, after the character `x`, followed by these characters: a range; but a member before `]`.
+-- What is at a `-`, after `x`, followed by these bytes: a range, after which a `-` makes none; but a member before `]`.
 abbrev pub hyphen_at : ℕ → List ℕ → Option ItemAt
 hyphen_at x [] = None
-hyphen_at x (y ∷ cs) = if y == 93 then one_item (Member 45) 0 (Some 45) else (if y == 92 then escaped_range_at x cs else range_at x y 1)
+hyphen_at x (y ∷ cs) = if y == 93 then one_item (Member 45) 0 (Some 45) else (if y == 92 then escaped_range_at x cs else one_item (Range x y) 1 None)
 
 -- What is at a `[:` that the `]` after `body` follows. With a `:` before that `]` it is a named class, and its name has to be one of
 -- the twelve. Otherwise the `[` is a member.
@@ -91,19 +79,19 @@ name_at body = if ends_with 58 body
     then elim (class_named (without_last 58 body)) [ None ↦ None | Some name ↦ one_item (Named name) (length body + 2) None ]
     else one_item (Member 91) 0 (Some 91)
 
--- what is at a `[` inside a class, followed by these characters
+-- what is at a `[` inside a class, followed by these bytes
 abbrev pub bracket_at : List ℕ → Option ItemAt
 bracket_at [] = one_item (Member 91) 0 (Some 91)
 bracket_at (c ∷ cs) = if c == 58
     then elim (position (λ d. d == 93) cs) [ None ↦ None | Some n ↦ name_at (take n cs) ]
     else one_item (Member 91) 0 (Some 91)
 
--- what is at a `\`, followed by these characters: the next one is a member whatever it is
+-- what is at a `\`, followed by these bytes: the next one is a member whatever it is
 abbrev pub escape_at : List ℕ → Option ItemAt
 escape_at [] = None
 escape_at (c ∷ cs) = one_item (Member c) 1 (Some c)
 
--- what is at `c` inside a class, followed by `cs`; `last` is the character before it that a range can begin with
+-- what is at `c` inside a class, followed by `cs`; `last` is the byte before it that a range can begin with
 unfoldable pub item_at : Option ℕ → ℕ → List ℕ → Option ItemAt
 item_at last c cs =
     if c == 92 then escape_at cs
@@ -111,11 +99,11 @@ item_at last c cs =
     else (if c == 45 then elim last [ None ↦ one_item (Member 45) 0 (Some 45) | Some x ↦ hyphen_at x cs ]
     else one_item (Member c) 0 (Some c)))
 
--- the items of a class, and how many characters it has with its `]`
+-- the items of a class, and how many bytes it has with its `]`
 abbrev pub ClassAt : Type 0
 ClassAt = List Item × ℕ
 
--- one more character before the others
+-- one more byte before the others
 abbrev pub with_character : Option ClassAt → Option ClassAt
 with_character None = None
 with_character (Some class) = Some (class.0, suc class.1)
@@ -125,9 +113,8 @@ abbrev pub with_item : Item → Option ClassAt → Option ClassAt
 with_item item None = None
 with_item item (Some class) = Some (item ∷ class.0, suc class.1)
 
--- The items of a class from here up to its `]`, and the number of characters. The first n characters belong to the item before them.
--- The first character of a class is an item whatever it is; after it a `]` closes the class. `None` if no `]` does, or an item
--- cannot be read.
+-- The items of a class from here up to its `]`, and the number of bytes. The first n bytes belong to the item before them. The first
+-- byte of a class is an item whatever it is; after it a `]` closes the class. `None` if no `]` does, or an item cannot be read.
 unfoldable pub class_items : ℕ → Bool → Option ℕ → List ℕ → Option ClassAt
 class_items n first last [] = None
 class_items (suc n) first last (c ∷ cs) = with_character (class_items n first last cs)

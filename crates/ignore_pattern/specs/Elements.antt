@@ -1,10 +1,7 @@
--- What a pattern of an ignore file consists of, and which bytes it matches.
---
--- git compares a pattern with a path byte by byte. Here patterns are read as characters, since all characters that mean something
--- in a pattern are ASCII, and a character matches its bytes in UTF-8.
-use Rattle.std.specs.Prelude.{ℕ, zero, suc, ◌+◌, Bool, true, false, not, ◌&&◌, ◌||◌, ◌==◌, List, [], ◌∷◌, drop, Option, Some, None, if◌then◌else◌, encode_utf8}
+-- What a pattern of an ignore file consists of, and which bytes it matches. git reads a pattern and compares it with a path byte by
+-- byte, and so all is bytes here.
+use Rattle.std.specs.Prelude.{ℕ, zero, suc, ◌+◌, Bool, true, false, not, ◌&&◌, ◌||◌, ◌==◌, List, [], ◌∷◌, drop, Option, Some, None, if◌then◌else◌}
 use Rattle.std.specs.List.{list_all, prefix_len}
-use Rattle.std.specs.Str.{bytes_eq}
 use Rattle.globset_glob.specs.TokenMatches.{is_empty, is_one_byte, ends_with_slash, some_cut}
 use Rattle.ignore_pattern.specs.Classes.{class_items, class_matches, is_negated}
 use Rattle.ignore_pattern.specs.declared.item.Item.{Item}
@@ -12,7 +9,7 @@ use Rattle.ignore_pattern.specs.declared.place.Place.{Place}
 use Rattle.ignore_pattern.specs.declared.place.Place.TheVariants.{Start, AfterSlash, Elsewhere}
 
 pub data Element : Type 0 where
-  -- a character
+  -- a byte
   Literal : ℕ → Element
   -- `?`
   Any : Element
@@ -33,7 +30,8 @@ is_inner byte = not (byte == 47)
 
 -- the element matches the bytes
 abbrev pub element_matches : Element → List ℕ → Bool
-element_matches (Literal c) b = bytes_eq b (encode_utf8 c)
+-- this byte
+element_matches (Literal c) b = is_one_byte (λ byte. byte == c) b
 -- any byte but `/`
 element_matches Any b = is_one_byte is_inner b
 -- any bytes but `/`, or none
@@ -51,7 +49,7 @@ elements_take (e ∷ es) b = some_cut (λ x y. element_matches e x && elements_t
 
 -- ---- reading
 
--- The place of the character after a plain one. One that follows plain characters alone is at the start, whatever they are.
+-- The place of the byte after a plain one. One that follows plain bytes alone is at the start, whatever they are.
 abbrev pub place_after : Place → ℕ → Place
 place_after Start c = Start
 place_after AfterSlash c = if c == 47 then AfterSlash else Elsewhere
@@ -67,7 +65,7 @@ may_cross Start = true
 may_cross AfterSlash = true
 may_cross Elsewhere = false
 
--- what was read at one position: the element, how many characters belong to it after its first one, and the place after it
+-- what was read at one position: the element, how many bytes belong to it after its first one, and the place after it
 pub record ElementAt : Type 0 where
   pub element : Element
   pub more : ℕ
@@ -76,7 +74,7 @@ pub record ElementAt : Type 0 where
 abbrev pub at : Element → ℕ → Place → ElementAt
 at element more place = record { element = element; more = more; place = place }
 
--- The last `more` of a run of stars, two or more that may cross, are followed by these characters. Before a `/` they stand for folders,
+-- The last `more` of a run of stars, two or more that may cross, are followed by these bytes. Before a `/` they stand for folders,
 -- which may be none, and the `/` belongs to them. At the end and before `\/` they stand for everything. Before anything else they are one `*`.
 abbrev pub crossing_at : ℕ → List ℕ → ElementAt
 crossing_at more [] = at Everything more Elsewhere
@@ -89,7 +87,7 @@ abbrev pub run_at : Bool → ℕ → List ℕ → ElementAt
 run_at crosses zero rest = at Star 0 Elsewhere
 run_at crosses (suc n) rest = if crosses then crossing_at (suc n) rest else at Star (suc n) Elsewhere
 
--- The class after a `[` and so many characters of negation. `None` if it cannot be read.
+-- The class after a `[` and so many bytes of negation. `None` if it cannot be read.
 abbrev pub class_after : ℕ → Bool → List ℕ → Option ElementAt
 class_after skipped negated cs = elim (class_items zero true None cs) [ None ↦ None | Some class ↦ Some (at (Class negated class.0) (skipped + class.1) Elsewhere) ]
 
@@ -97,7 +95,7 @@ class_after skipped negated cs = elim (class_items zero true None cs) [ None ↦
 abbrev pub class_at : List ℕ → Option ElementAt
 class_at cs = if is_negated cs then class_after 1 true (drop 1 cs) else class_after 0 false cs
 
--- what is after a `\`: the next character is plain whatever it is, and there has to be one
+-- what is after a `\`: the next byte is plain whatever it is, and there has to be one
 abbrev pub escaped_at : List ℕ → Option ElementAt
 escaped_at [] = None
 escaped_at (c ∷ cs) = Some (at (Literal c) 1 (place_after_escaped c))
@@ -116,7 +114,7 @@ abbrev pub with_element : Element → Option (List Element) → Option (List Ele
 with_element e None = None
 with_element e (Some es) = Some (e ∷ es)
 
--- The elements of these characters, the first n of which belong to the element before them. `None` if an escape or a class cannot be
+-- The elements of these bytes, the first n of which belong to the element before them. `None` if an escape or a class cannot be
 -- read: git then matches nothing.
 unfoldable pub elements : Bool → Place → ℕ → List ℕ → Option (List Element)
 elements whole place n [] = Some []

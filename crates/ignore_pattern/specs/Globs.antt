@@ -2,7 +2,7 @@
 use Rattle.std.specs.Prelude.{ℕ, List, Option, encode_utf8_all}
 use Rattle.std.specs.Option.{option_map, option_and_then}
 use Rattle.globset_glob.specs.GlobMatches.{GlobValue}
-use Rattle.ignore_pattern.specs.Patterns.{Pattern, pattern_of_line}
+use Rattle.ignore_pattern.specs.CharacterPatterns.{Pattern, characters_of_line}
 use Rattle.ignore_pattern.specs.Translation.{glob_options, pattern_text}
 use Rattle.ignore_pattern.specs.declared.pattern.IgnorePattern.{IgnorePattern}
 
@@ -16,4 +16,4 @@ glob_of_pattern p = option_map (λ (text : List ℕ). record { glob = translated
 
 -- What is returned for a line: its pattern, if it has one and the pattern has a text.
 unfoldable pub glob_of_line : List ℕ → Option IgnorePattern
-glob_of_line line = option_and_then glob_of_pattern (pattern_of_line line)
+glob_of_line line = option_and_then glob_of_pattern (characters_of_line line)

@@ -3,6 +3,9 @@ pub mod Lines
 pub mod Classes
 pub mod Elements
 pub mod Patterns
+pub mod CharacterClasses
+pub mod CharacterElements
+pub mod CharacterPatterns
 pub mod Translation
 pub mod Globs
 pub mod Meaning

@@ -6,8 +6,8 @@ use Rattle.ignore_pattern.specs.Ends.{without_last}
 -- ---- lines
 
 -- the bytes without a byte order mark at their start, which is EF BB BF
-abbrev pub without_lexeme : List ℕ → List ℕ
-without_lexeme bytes = if bytes_eq (take 3 bytes) (0xEF ∷ 0xBB ∷ 0xBF ∷ []) then drop 3 bytes else bytes
+abbrev pub without_byte_order_mark : List ℕ → List ℕ
+without_byte_order_mark bytes = if bytes_eq (take 3 bytes) (0xEF ∷ 0xBB ∷ 0xBF ∷ []) then drop 3 bytes else bytes
 
 -- a byte at the start of the first line
 abbrev pub onto_first : ℕ → List (List ℕ) → List (List ℕ)
@@ -22,7 +22,7 @@ lines_of (c ∷ cs) = if c == 10 then [] ∷ lines_of cs else onto_first c (line
 
 -- the lines of an ignore file
 abbrev pub file_lines : List ℕ → List (List ℕ)
-file_lines bytes = lines_of (without_lexeme bytes)
+file_lines bytes = lines_of (without_byte_order_mark bytes)
 
 -- ---- the text of a line
 

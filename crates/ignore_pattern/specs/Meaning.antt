@@ -1,26 +1,28 @@
--- The glob of a pattern has the pattern's meaning. This is the contract of a function of the module `laws`.
-use Rattle.std.specs.Prelude.{◌≡◌, ℕ, false, List, Option, Some, None, All}
+-- A glob has the meaning of a pattern. `TranslationIsExact` is the contract of a function of the module `laws`.
+use Rattle.std.specs.Prelude.{◌≡◌, ℕ, Bool, false, List, Option, Some, None, All}
 use Rattle.std.specs.Char.{IsScalar}
 use Rattle.globset_glob.specs.GlobMatches.{GlobValue, IsRead, tokens_of_glob, glob_matches}
 use Rattle.glob_strategy.specs.Excluded.{are_excluded}
-use Rattle.ignore_pattern.specs.Patterns.{Pattern, pattern_of_chars, pattern_matches}
+use Rattle.ignore_pattern.specs.Patterns.{Pattern}
+use Rattle.ignore_pattern.specs.CharacterPatterns.{pattern_of_chars, pattern_matches}
 use Rattle.ignore_pattern.specs.Translation.{pattern_text}
 use Rattle.ignore_pattern.specs.Globs.{translated}
 
--- A glob that has the meaning of a pattern: it is read, it is not excluded, and it matches the paths that the pattern matches.
-pub record HasMeaningOf (p : Pattern) (g : GlobValue) : Type 0 where
+-- A glob that has the meaning of a pattern, which is given by the paths that it matches: the glob is read, it is not excluded, and it
+-- matches these paths.
+pub record HasMeaningOf (matches : List ℕ → Bool) (g : GlobValue) : Type 0 where
   pub read : IsRead g
   pub listed : are_excluded g.options (tokens_of_glob g) ≡ false
-  pub tokens_match : (path : List ℕ) → glob_matches g path ≡ pattern_matches p path
+  pub paths_match : (path : List ℕ) → glob_matches g path ≡ matches path
 
 -- a pattern that matches no path
-abbrev pub MatchesNothing : Pattern → Type 0
-MatchesNothing p = (path : List ℕ) → pattern_matches p path ≡ false
+abbrev pub MatchesNothing : (List ℕ → Bool) → Type 0
+MatchesNothing matches = (path : List ℕ) → matches path ≡ false
 
 -- the text of a pattern is that of a glob that has its meaning; a pattern without a text matches nothing
 abbrev pub HasMeaning : Pattern → Option (List ℕ) → Type 0
-HasMeaning p None = MatchesNothing p
-HasMeaning p (Some text) = HasMeaningOf p (translated text)
+HasMeaning p None = MatchesNothing (pattern_matches p)
+HasMeaning p (Some text) = HasMeaningOf (pattern_matches p) (translated text)
 
 -- for each pattern that characters are read as
 abbrev pub TranslationIsExact : Type 0

@@ -3,11 +3,11 @@ use Rattle.std.specs.Prelude.{ℕ, ◌+◌, ◌%◌, Bool, true, false, not, ◌
 use Rattle.std.specs.List.{list_any, flat_map, range_with_len}
 use Rattle.globset_glob.specs.GlobMatches.{default_options}
 use Rattle.glob_syntax.specs.declared.options.Options.{Options}
-use Rattle.ignore_pattern.specs.Classes.{item_has}
+use Rattle.ignore_pattern.specs.CharacterClasses.{item_has}
 use Rattle.ignore_pattern.specs.declared.item.Item.{Item}
 use Rattle.ignore_pattern.specs.declared.item.Item.TheVariants.{Member, Range, Named}
-use Rattle.ignore_pattern.specs.Elements.{Element, Literal, Any, Star, Folders, Everything, Class}
-use Rattle.ignore_pattern.specs.Patterns.{Pattern}
+use Rattle.ignore_pattern.specs.CharacterElements.{Element, Literal, Any, Star, Folders, Everything, Class}
+use Rattle.ignore_pattern.specs.CharacterPatterns.{Pattern}
 
 -- `*` and `?` do not match `/`, and an empty branch in braces stands for nothing
 abbrev pub glob_options : Options

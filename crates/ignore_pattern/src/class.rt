@@ -2,7 +2,7 @@
 
 ghost use Rattle.std.specs.Prelude.{◌≡◌, ◌≤◌, ◌==◌, ◌&&◌, not, zero, true, None, IfOk, IfSome, length};
 ghost use Rattle.std.specs.Option.{option_map};
-ghost use Rattle.ignore_pattern.specs.Classes.{class_items};
+ghost use Rattle.ignore_pattern.specs.CharacterClasses.{class_items};
 
 use crate::item::{Item, item_at};
 use std::alloc::{AllocError, Global};

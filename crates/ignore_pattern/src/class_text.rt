@@ -3,7 +3,7 @@
 ghost use Rattle.std.specs.Prelude.{◌≡◌, ◌<◌, ◌++◌, [], ◌∷◌, ◌&&◌, not, true, false, filter, IfOk, OnOk, string_bytes, encode_utf8_all};
 ghost use Rattle.std.specs.List.{flat_map};
 ghost use Rattle.ignore_pattern.specs.declared.item.Item.TheVariants.{Range};
-ghost use Rattle.ignore_pattern.specs.Classes.{named_has, item_has};
+ghost use Rattle.ignore_pattern.specs.CharacterClasses.{named_has, item_has};
 ghost use Rattle.ignore_pattern.specs.Translation.{is_written, has_place, written, spelled, first_beyond, beyond_ascii, ascii, body_start, body_end, choice, positive, class_text};
 ghost use Rattle.ignore_pattern.specs.inner.Writing.{outcome, followed};
 

@@ -3,7 +3,7 @@
 ghost use Rattle.std.specs.Prelude.{◌≡◌, ◌≤◌, ◌<◌, ◌+◌, ◌^◌, ◌==◌, IfOk, IfSome, length};
 ghost use Rattle.std.specs.List.{prefix_len};
 ghost use Rattle.std.specs.Option.{option_map};
-ghost use Rattle.ignore_pattern.specs.Elements.{crossing_at, run_at, class_after, class_at, escaped_at, element_at};
+ghost use Rattle.ignore_pattern.specs.CharacterElements.{crossing_at, run_at, class_after, class_at, escaped_at, element_at};
 ghost use Rattle.ignore_pattern.specs.inner.Views.{element_of, at_of};
 
 use crate::class::class_items;
@@ -138,7 +138,7 @@ fn escaped_at(cs: &[char]) -> Option<ElementAt>
 
 /// Returns what is at `c`, before `cs`; `None` if it cannot be read. `whole` says whether the pattern is matched against whole
 /// paths. Returns an error if memory runs out.
-#[tactic(auto, unfolding(crate::specs::Elements::element_at))]
+#[tactic(auto, unfolding(crate::specs::CharacterElements::element_at))]
 pub fn element_at(
     alloc: Global,
     whole: bool,

@@ -4,7 +4,7 @@ ghost use Rattle.std.specs.Prelude.{◌≡◌, ◌≤◌, ◌<◌, ◌+◌, ◌=
 ghost use Rattle.std.specs.List.{position};
 ghost use Rattle.std.specs.Str.{bytes_eq};
 ghost use Rattle.ignore_pattern.specs.declared.item.Item.TheVariants.{Member};
-ghost use Rattle.ignore_pattern.specs.Classes.{class_named, is_odd_range, range_at, escaped_range_at, hyphen_at, name_at, bracket_at, escape_at, item_at};
+ghost use Rattle.ignore_pattern.specs.CharacterClasses.{class_named, is_odd_range, range_at, escaped_range_at, hyphen_at, name_at, bracket_at, escape_at, item_at};
 
 use crate::ends::before_last;
 
@@ -207,7 +207,7 @@ fn escape_at(cs: &[char]) -> Option<ItemAt>
 }
 
 /// Returns what is at `c` inside a class, before `cs`, where a `-` can make a range from `last`.
-#[tactic(auto, unfolding(crate::specs::Classes::item_at))]
+#[tactic(auto, unfolding(crate::specs::CharacterClasses::item_at))]
 pub fn item_at(last: Option<char>, c: char, cs: &[char]) -> Option<ItemAt>
     ensures value { result ≡ item_at last c cs.now }
     ensures within { IfSome result (λ i. i.more ≤ length cs.now) }

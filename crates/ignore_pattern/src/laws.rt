@@ -9,8 +9,9 @@ pub fn translation_is_exact()
     ensures { TranslationIsExact }
 {}
 
-/// What [`pattern_of_line`](crate::pattern_of_line) returns for a line is for the line, whatever bytes it has: a glob that has the meaning
-/// of the line's pattern, and what is beside the glob; or `None`, and then the line has no pattern or its pattern matches no path.
+/// What [`pattern_of_line`](crate::pattern_of_line) returns for a line is for the line, whatever bytes it has: a glob that has the
+/// meaning of the line's pattern, and what is beside the glob; or `None`, and then no glob can stand for the line, it has no
+/// pattern, or its pattern matches no path.
 pub fn line_is_exact()
     ensures { LineIsExact }
 {}

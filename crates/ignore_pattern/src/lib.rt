@@ -39,9 +39,12 @@
 //!
 //! # Differences from git
 //!
-//! - A line that is not UTF-8 has no pattern here.
-//! - A pattern with a range from a character whose last byte is BF to one from U+0080 to U+00BF, as `[¿-¿]`, has none. git gives
-//!   such a range the bytes C0 and C1, which no character has.
+//! The definition says what git reads a line as, byte by byte. A glob can stand for each pattern, but for those of two kinds of
+//! lines, and for these nothing is returned:
+//!
+//! - A line that is not UTF-8, as the text of a glob is.
+//! - A line with a range from a character whose last byte is BF to one from U+0080 to U+00BF, as `[¿-¿]`. git gives such a range
+//!   the bytes from BF to C2, and so C0 and C1, which no character has.
 #![tactic(auto)]
 
 mod class;

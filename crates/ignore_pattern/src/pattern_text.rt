@@ -2,7 +2,7 @@
 
 ghost use Rattle.std.specs.Prelude.{◌≡◌, ◌≤◌, ◌<◌, ◌+◌, ◌-◌, ◌^◌, zero, true, [], length, IfOk, IfSome, string_bytes};
 ghost use Rattle.std.specs.Option.{option_map, option_and_then};
-ghost use Rattle.ignore_pattern.specs.Elements.{elements};
+ghost use Rattle.ignore_pattern.specs.CharacterElements.{elements};
 ghost use Rattle.ignore_pattern.specs.Translation.{after_folders, whole_text};
 ghost use Rattle.ignore_pattern.specs.declared.place.Place.TheVariants.{Start};
 ghost use Rattle.ignore_pattern.specs.inner.Writing.{followed, text_of, text_from, mended, folders_at, folders_after};

@@ -1,7 +1,7 @@
 //! Where a character of a pattern stands.
 
 ghost use Rattle.std.specs.Prelude.{◌≡◌};
-ghost use Rattle.ignore_pattern.specs.Elements.{place_after, place_after_escaped, may_cross};
+ghost use Rattle.ignore_pattern.specs.CharacterElements.{place_after, place_after_escaped, may_cross};
 
 /// Where a character of a pattern stands.
 #[derive(Clone, Copy)]

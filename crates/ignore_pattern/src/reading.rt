@@ -3,8 +3,8 @@
 ghost use Rattle.std.specs.Prelude.{◌≡◌, zero, IfOk};
 ghost use Rattle.std.specs.Option.{option_map, option_and_then};
 ghost use Rattle.std.specs.Str.{chars};
-ghost use Rattle.ignore_pattern.specs.Elements.{elements};
-ghost use Rattle.ignore_pattern.specs.Patterns.{has_slash, pattern_with, pattern_between, pattern_after, pattern_of_chars};
+ghost use Rattle.ignore_pattern.specs.CharacterElements.{elements};
+ghost use Rattle.ignore_pattern.specs.CharacterPatterns.{has_slash, pattern_with, pattern_between, pattern_after, pattern_of_chars};
 ghost use Rattle.ignore_pattern.specs.Globs.{glob_of_pattern, glob_of_line};
 ghost use Rattle.ignore_pattern.specs.declared.place.Place.TheVariants.{Start};
 ghost use Rattle.ignore_pattern.specs.inner.Views.{with_glob};
@@ -45,7 +45,7 @@ fn characters(alloc: Global, text: &str) -> Result<Vec<char>, AllocError>
 }
 
 /// Returns the pattern of the characters of a line.
-#[tactic(auto, unfolding(crate::specs::Patterns::pattern_of_chars))]
+#[tactic(auto, unfolding(crate::specs::CharacterPatterns::pattern_of_chars))]
 fn pattern_of_chars(alloc: Global, cs: &[char]) -> Result<Option<PatternText>, AllocError>
     ensures { IfOk result (λ r. option_map with_glob r ≡ option_and_then glob_of_pattern (pattern_of_chars cs.now)) }
 {

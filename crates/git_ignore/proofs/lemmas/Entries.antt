@@ -8,7 +8,7 @@ use Rattle.globset.specs.GlobMatches.{GlobValue, glob_matches}
 use Rattle.globset.specs.Excluded.{excluded, is_reported}
 use Rattle.globset.specs.Answer.{matching_indexes}
 use Rattle.globset.specs.Indexes.{passes_at}
-use Rattle.ignore_pattern.specs.Patterns.{Pattern, pattern_matches, pattern_of_line}
+use Rattle.ignore_pattern.specs.Patterns.{Pattern, pattern_matches, read_pattern}
 use Rattle.ignore_pattern.specs.Meaning.{HasMeaningOf, MatchesNothing}
 use Rattle.ignore_pattern.specs.Answer.{IsPatternOf}
 use Rattle.ignore_pattern.specs.declared.pattern.IgnorePattern.{IgnorePattern}
@@ -65,20 +65,20 @@ last_entry_more path f (k ∷ gs) g (d ∷ es) e h =
     ∙ or_later (is_for f e && is_reported g path) (is_for f d && is_reported k path) e d (last_entry path f gs es)
 
 -- a glob that has the meaning of a pattern is found where the pattern matches
-found_if_matched : (p : Pattern) (g : GlobValue) (path : List ℕ) → HasMeaningOf p g → is_reported g path ≡ pattern_matches p path
+found_if_matched : (p : Pattern) (g : GlobValue) (path : List ℕ) → HasMeaningOf (pattern_matches p) g → is_reported g path ≡ pattern_matches p path
 unfolding excluded
-found_if_matched p g path h = ap (λ (b : Bool). not b && glob_matches g path) h.listed ∙ h.tokens_match path
+found_if_matched p g path h = ap (λ (b : Bool). not b && glob_matches g path) h.listed ∙ h.paths_match path
 
 entry_of_if : (b : Bool) (r : Rule) (o : Option Rule) → (if b then Some (entry_of r) else entry_of_rule o) ≡ entry_of_rule (if b then Some r else o)
 entry_of_if true r o = refl
 entry_of_if false r o = refl
 
-one_listed : (p : Pattern) (g : GlobValue) → HasMeaningOf p g → All (λ (x : GlobValue). excluded x ≡ false) (g ∷ [])
+one_listed : (p : Pattern) (g : GlobValue) → HasMeaningOf (pattern_matches p) g → All (λ (x : GlobValue). excluded x ≡ false) (g ∷ [])
 unfolding excluded
 one_listed p g m zero d within = m.listed
 one_listed p g m (suc k) d within = absurd (omega (arith, within))
 
-rule_added : (done : List Rule) (gs : List GlobValue) (es : List RuleEntry) (n : ℕ) (p : Pattern) (g : GlobValue) → HasMeaningOf p g
+rule_added : (done : List Rule) (gs : List GlobValue) (es : List RuleEntry) (n : ℕ) (p : Pattern) (g : GlobValue) → HasMeaningOf (pattern_matches p) g
     → AreEntriesOf done gs es → AreEntriesOf (done ++ record { line = n; pattern = p } ∷ []) (gs ++ g ∷ []) (es ++ entry_of (record { line = n; pattern = p }) ∷ [])
 rule_added done gs es n p g m h =
     let r : Rule = record { line = n; pattern = p } in
@@ -96,7 +96,7 @@ never_applies : (b m : Bool) → m ≡ false → (b && m) ≡ false
 never_applies true m h = h
 never_applies false m h = refl
 
-rule_left_out : (done : List Rule) (gs : List GlobValue) (es : List RuleEntry) (n : ℕ) (p : Pattern) → MatchesNothing p
+rule_left_out : (done : List Rule) (gs : List GlobValue) (es : List RuleEntry) (n : ℕ) (p : Pattern) → MatchesNothing (pattern_matches p)
     → AreEntriesOf done gs es → AreEntriesOf (done ++ record { line = n; pattern = p } ∷ []) gs es
 rule_left_out done gs es n p m h =
     let r : Rule = record { line = n; pattern = p } in
@@ -113,7 +113,7 @@ rule_left_out done gs es n p m h =
 pub line_added : (done : List Rule) (gs hs : List GlobValue) (es ds : List RuleEntry) (n : ℕ) (line : List ℕ) (r : IgnorePattern)
     → IsPatternOf line (Some r)
     → hs ≡ gs ++ r.glob ∷ [] → ds ≡ es ++ record { line = n; is_negated = r.is_negated; is_folders_only = r.is_folders_only } ∷ []
-    → AreEntriesOf done gs es → AreEntriesOf (done ++ rule_at n (pattern_of_line line)) hs ds
+    → AreEntriesOf done gs es → AreEntriesOf (done ++ rule_at n (read_pattern line)) hs ds
 line_added done gs hs es ds n line r (p, is, for) put pushed h =
     let same : ds ≡ es ++ entry_of (record { line = n; pattern = p }) ∷ [] =
     pushed ∙ (λ i. es ++ record { line = n; is_negated = for.negated i; is_folders_only = for.folders_only i } ∷ []) in
@@ -121,10 +121,10 @@ line_added done gs hs es ds n line r (p, is, for) put pushed h =
 
 -- the line was read, and it matches nothing
 pub line_left_out : (done : List Rule) (gs hs : List GlobValue) (es ds : List RuleEntry) (n : ℕ) (line : List ℕ) → IsPatternOf line None
-    → hs ≡ gs → ds ≡ es → AreEntriesOf done gs es → AreEntriesOf (done ++ rule_at n (pattern_of_line line)) hs ds
-line_left_out done gs hs es ds n line none same_globs same_entries h = rw (same_globs, same_entries) (of (pattern_of_line line) none)
+    → hs ≡ gs → ds ≡ es → AreEntriesOf done gs es → AreEntriesOf (done ++ rule_at n (read_pattern line)) hs ds
+line_left_out done gs hs es ds n line none same_globs same_entries h = rw (same_globs, same_entries) (of (read_pattern line) none)
   where
-    of : (o : Option Pattern) → ((p : Pattern) → o ≡ Some p → MatchesNothing p) → AreEntriesOf (done ++ rule_at n o) gs es
+    of : (o : Option Pattern) → ((p : Pattern) → o ≡ Some p → MatchesNothing (pattern_matches p)) → AreEntriesOf (done ++ rule_at n o) gs es
     of None m = rw append-nil h
     of (Some p) m = rule_left_out done gs es n p (m p refl) h
 

@@ -6,7 +6,7 @@ use Rattle.std.proofs.lemmas.Bool.{cases_lt, cases_eq, cases_Bool, ne_eqb}
 use Rattle.std.proofs.lemmas.Slice.Eq.{bytes_eq-Decides}
 use Rattle.std.proofs.lemmas.Str.{encode_ascii}
 use lib.Utf8.{encode}
-use Rattle.ignore_pattern.specs.Elements.{Element, Literal, Any, Star, Folders, Everything, Class}
+use Rattle.ignore_pattern.specs.CharacterElements.{Element, Literal, Any, Star, Folders, Everything, Class}
 use Rattle.ignore_pattern.specs.Translation.{is_special, literal_text, body_start, body_end, choice, positive, other_choices, class_text, element_text, joined, elements_text, needs_braces, after_folders}
 use Rattle.ignore_pattern.specs.inner.Writing.{followed, mended}
 use Rattle.ignore_pattern.proofs.lemmas.Ascii.{first_byte}

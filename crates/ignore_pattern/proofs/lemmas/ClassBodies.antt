@@ -10,7 +10,7 @@ use Rattle.glob_syntax.specs.Lexemes.{is_negated}
 use Rattle.glob_syntax.specs.Ranges.{ranges, bad_range}
 use Rattle.glob_syntax.specs.ClassBytes.{is_one_of, range_has, ranges_have, class_has}
 use Rattle.ignore_pattern.specs.declared.item.Item.{Item}
-use Rattle.ignore_pattern.specs.Classes.{item_has, class_matches}
+use Rattle.ignore_pattern.specs.CharacterClasses.{item_has, class_matches}
 use Rattle.ignore_pattern.specs.Translation.{glob_options, is_written, has_place, beyond_ascii, ascii, body_start, body_end}
 use Rattle.ignore_pattern.proofs.lemmas.Booleans.{or_none, and_true, and_none}
 use Rattle.ignore_pattern.proofs.lemmas.Bodies.{IsBody, IsPlain, is_no_closer, single_ranges, single_bad, body_none, body_hyphen, body_single, alone_filtered, body_filtered, have_append}

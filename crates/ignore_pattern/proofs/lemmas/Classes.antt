@@ -3,20 +3,20 @@ use Rattle.std.proofs.Common.{◌≡◌, ℕ, zero, suc, ◌+◌, ◌-◌, ◌�
 use Rattle.std.proofs.lemmas.List.{nil_from_length}
 use Rattle.ignore_pattern.specs.declared.item.Item.{Item}
 use Rattle.ignore_pattern.specs.declared.item.ItemAt.{ItemAt}
-use Rattle.ignore_pattern.specs.Classes.{ClassAt, item_at, with_character, with_item, class_items}
+use Rattle.ignore_pattern.specs.CharacterClasses.{ClassAt, item_at, with_character, with_item, class_items}
 
 -- items and a number of characters that were read, and then the rest of a class
 abbrev pub before : List Item → ℕ → Option ClassAt → Option ClassAt
 before items n None = None
 before items n (Some class) = Some (items ++ class.0, n + class.1)
 
-one_more : (n : ℕ) (o : Option ClassAt) → with_character (before [] n o) ≡ before [] (suc n) o
+pub one_more : (n : ℕ) (o : Option ClassAt) → with_character (before [] n o) ≡ before [] (suc n) o
 one_more n None = refl
 one_more n (Some class) =
     let same : suc (n + class.1) ≡ suc n + class.1 = omega arith in
     ap (λ (k : ℕ). let o : Option ClassAt = Some (class.0, k) in o) same
 
-nothing_before : (o : Option ClassAt) → o ≡ before [] zero o
+pub nothing_before : (o : Option ClassAt) → o ≡ before [] zero o
 nothing_before None = refl
 nothing_before (Some class) =
     let same : class.1 ≡ zero + class.1 = omega arith in

@@ -17,8 +17,8 @@ use Rattle.glob_meaning.specs.TokenMatches.{is_empty, is_one_byte, begins_with_s
 use Rattle.glob_meaning.proofs.lemmas.Booleans.{and_both, and_second, same_truth}
 use Rattle.glob_meaning.proofs.lemmas.Cuts.{cut_of, some_cut-append}
 use Rattle.ignore_pattern.specs.declared.item.Item.{Item}
-use Rattle.ignore_pattern.specs.Classes.{class_matches}
-use Rattle.ignore_pattern.specs.Elements.{Element, Literal, Any, Star, Folders, Everything, Class, is_inner, element_matches, elements_take}
+use Rattle.ignore_pattern.specs.CharacterClasses.{class_matches}
+use Rattle.ignore_pattern.specs.CharacterElements.{Element, Literal, Any, Star, Folders, Everything, Class, is_inner, element_matches, elements_take}
 use Rattle.ignore_pattern.specs.Translation.{glob_options, is_written, is_special, literal_text, body_start, body_end, choice, other_choices, positive, class_text, element_text, joined, elements_text}
 use Rattle.ignore_pattern.proofs.lemmas.Booleans.{or_none, and_true, and_none}
 use Rattle.ignore_pattern.proofs.lemmas.Items.{Linked, ascii_is}
@@ -82,8 +82,8 @@ are_apart (e ∷ es) = not (is_star e && begin_star es) && are_apart es
 -- ---- reading of one element
 
 pub record ElementReads (e : Element) (text : List ℕ) : Type 0 where
-  pub are_lexemes : List Lexeme
-  pub reads : Reads (is_star e) text are_lexemes (element_tokens e)
+  pub text_lexemes : List Lexeme
+  pub reads : Reads (is_star e) text text_lexemes (element_tokens e)
   pub first : starts_star e ≡ false → (rest : List ℕ) → begins_star (text ++ rest) ≡ false
 
 literal_first : (q : Bool) (c : ℕ) (rest : List ℕ) → is_special c ≡ q → begins_star (cond q (92 ∷ c ∷ []) (c ∷ []) ++ rest) ≡ false
@@ -94,8 +94,8 @@ literal_first false c rest e =
 
 -- a class that is not negated is read, by the parts of its body
 pub record PositiveReads (start last text : List ℕ) : Type 0 where
-  pub are_lexemes : List Lexeme
-  pub reads : Reads false text are_lexemes (positive_token start last ∷ [])
+  pub text_lexemes : List Lexeme
+  pub reads : Reads false text text_lexemes (positive_token start last ∷ [])
   pub first : (rest : List ℕ) → begins_star (text ++ rest) ≡ false
 
 positive_reads : (start last text : List ℕ) (rs : List (ℕ × ℕ)) → IsClass (start ++ last) rs → lexeme.is_negated start ≡ false → NoSlashes last → all_scalars last ≡ true
@@ -103,10 +103,10 @@ positive_reads : (start last text : List ℕ) (rs : List (ℕ × ℕ)) → IsCla
 positive_reads [] [] text rs b n h s e = absurd cc
 positive_reads [] (c ∷ cs) text rs b n h s e =
     let is : 123 ∷ 92 ∷ c ∷ other_choices cs ≡ text = cc in
-    subst (PositiveReads [] (c ∷ cs)) is (record { are_lexemes = _; reads = reads_choice c cs h s; first = λ rest. refl })
+    subst (PositiveReads [] (c ∷ cs)) is (record { text_lexemes = _; reads = reads_choice c cs h s; first = λ rest. refl })
 positive_reads (c ∷ cs) last text rs b n h s e =
     let same : 91 ∷ c ∷ ((cs ++ last) ++ 93 ∷ []) ≡ text = cc in
-    subst (PositiveReads (c ∷ cs) last) same (record { are_lexemes = _; reads = reads_positive c (cs ++ last) n b.no_closer b.good b.scalars; first = λ rest. refl })
+    subst (PositiveReads (c ∷ cs) last) same (record { text_lexemes = _; reads = reads_positive c (cs ++ last) n b.no_closer b.good b.scalars; first = λ rest. refl })
 
 end_no_slash : (items : List Item) → NoSlashes (body_end false items)
 end_no_slash items = by_case (is_written false items 33) (is_written false items 94) (is_written false items 45)
@@ -128,7 +128,7 @@ unfolding class_text
 class_reads false items text linked e =
     let r = positive_reads (body_start false items) (body_end false items) text (class_ranges false items) (class_body false items linked) (start_is false items linked)
     (end_no_slash items) (end_is (is_written false items)).scalars e in
-    record { are_lexemes = r.are_lexemes; reads = r.reads; first = λ _ rest. r.first rest }
+    record { text_lexemes = r.text_lexemes; reads = r.reads; first = λ _ rest. r.first rest }
 class_reads true items text linked e =
     let b = class_body true items linked in
     let f = negated_first items linked in
@@ -136,25 +136,25 @@ class_reads true items text linked e =
     let c = subst (λ l. IsClass l (class_ranges true items)) f.is b in
     let r = reads_negated f.first f.others c.no_closer c.good c.scalars in
     subst (ElementReads (Class true items)) same
-    (record { are_lexemes = _; reads = subst (λ l. Reads false (91 ∷ 33 ∷ (l ++ 93 ∷ [])) (lexeme.Class true (ranges l) ∷ []) (token.Class true (ranges l) ∷ [])) (sym f.is) r; first = λ _ rest. refl })
+    (record { text_lexemes = _; reads = subst (λ l. Reads false (91 ∷ 33 ∷ (l ++ 93 ∷ [])) (lexeme.Class true (ranges l) ∷ []) (token.Class true (ranges l) ∷ [])) (sym f.is) r; first = λ _ rest. refl })
 
 pub element_reads : (e : Element) (text : List ℕ) → Sound e → element_text e ≡ Some text → ElementReads e text
 unfolding element_text
 element_reads (Literal c) text s h =
     let is : literal_text c ≡ text = cc in
-    subst (ElementReads (Literal c)) is (record { are_lexemes = _; reads = reads_literal c s; first = λ _ rest. literal_first (is_special c) c rest refl })
+    subst (ElementReads (Literal c)) is (record { text_lexemes = _; reads = reads_literal c s; first = λ _ rest. literal_first (is_special c) c rest refl })
 element_reads Any text s h =
     let is : codes "?" ≡ text = cc in
-    subst (ElementReads Any) is (record { are_lexemes = _; reads = reads_any; first = λ _ rest. refl })
+    subst (ElementReads Any) is (record { text_lexemes = _; reads = reads_any; first = λ _ rest. refl })
 element_reads Star text s h =
     let is : codes "*" ≡ text = cc in
-    subst (ElementReads Star) is (record { are_lexemes = _; reads = reads_star; first = λ never rest. absurd (true≢false never) })
+    subst (ElementReads Star) is (record { text_lexemes = _; reads = reads_star; first = λ never rest. absurd (true≢false never) })
 element_reads Folders text s h =
     let is : codes "{**/}" ≡ text = cc in
-    subst (ElementReads Folders) is (record { are_lexemes = _; reads = reads_folders; first = λ _ rest. refl })
+    subst (ElementReads Folders) is (record { text_lexemes = _; reads = reads_folders; first = λ _ rest. refl })
 element_reads Everything text s h =
     let is : codes "*{,/**}" ≡ text = cc in
-    subst (ElementReads Everything) is (record { are_lexemes = _; reads = reads_everything; first = λ never rest. absurd (true≢false never) })
+    subst (ElementReads Everything) is (record { text_lexemes = _; reads = reads_everything; first = λ never rest. absurd (true≢false never) })
 element_reads (Class negated items) text s h = class_reads negated items text s h
 
 -- ---- reading of elements
@@ -164,11 +164,11 @@ abbrev pub all_tokens : List Element → List Token
 all_tokens es = flat_map element_tokens es
 
 pub record AreRead (es : List Element) (text : List ℕ) : Type 0 where
-  pub are_lexemes : List Lexeme
-  pub marked : lexemes glob_options zero text ≡ are_lexemes
-  pub nests : nested zero are_lexemes ≡ Ok are_lexemes
-  pub leveled : (start : Bool) → levels zero start are_lexemes ≡ (branch (before (all_tokens es) end) none, [])
-  pub calm : starts_run are_lexemes ≡ false
+  pub text_lexemes : List Lexeme
+  pub marked : lexemes glob_options zero text ≡ text_lexemes
+  pub nests : nested zero text_lexemes ≡ Ok text_lexemes
+  pub leveled : (start : Bool) → levels zero start text_lexemes ≡ (branch (before (all_tokens es) end) none, [])
+  pub calm : starts_run text_lexemes ≡ false
   pub first : begin_star es ≡ false → begins_star text ≡ false
   pub scalars : all_scalars text ≡ true
 
@@ -190,7 +190,7 @@ scalars_append (c ∷ cs) b p q = let r = and_parts _ _ p in and_from _ _ r.0 (s
 
 none_left : AreRead [] []
 unfolding lexemes nested levels
-none_left = record { are_lexemes = []; marked = refl; nests = refl; leveled = λ start. refl; calm = refl; first = λ _. refl; scalars = refl }
+none_left = record { text_lexemes = []; marked = refl; nests = refl; leveled = λ start. refl; calm = refl; first = λ _. refl; scalars = refl }
 
 not_both : (p q : Bool) → not (p && q) ≡ true → p ≡ true → q ≡ false
 not_both true true h e = absurd cc
@@ -206,12 +206,12 @@ elements_read (e ∷ es) text s a h =
     let r = element_reads e j.front s.0 j.front_is in
     let more = elements_read es j.back s.1 apart.1 j.back_is in
     subst (AreRead (e ∷ es)) j.is (record {
-      are_lexemes = r.are_lexemes ++ more.are_lexemes;
-      marked = r.reads.marked j.back (λ alone. more.first (not_both (is_star e) (begin_star es) apart.0 alone)) ∙ ap (λ l. r.are_lexemes ++ l) more.marked;
-      nests = r.reads.nests more.are_lexemes more.nests;
-      leveled = λ start. r.reads.leveled start more.are_lexemes more.calm ∙ ap (in_level (element_tokens e)) (more.leveled false)
+      text_lexemes = r.text_lexemes ++ more.text_lexemes;
+      marked = r.reads.marked j.back (λ alone. more.first (not_both (is_star e) (begin_star es) apart.0 alone)) ∙ ap (λ l. r.text_lexemes ++ l) more.marked;
+      nests = r.reads.nests more.text_lexemes more.nests;
+      leveled = λ start. r.reads.leveled start more.text_lexemes more.calm ∙ ap (in_level (element_tokens e)) (more.leveled false)
           ∙ in_level_twice (element_tokens e) (all_tokens es) (branch end none, []);
-      calm = r.reads.calm more.are_lexemes;
+      calm = r.reads.calm more.text_lexemes;
       first = λ none_first. r.first none_first j.back;
       scalars = scalars_append j.front j.back r.reads.scalars more.scalars;
     })

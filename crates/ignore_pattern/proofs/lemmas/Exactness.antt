@@ -26,11 +26,10 @@ use Rattle.glob_strategy.proofs.lemmas.Components.{Lacks, lacks_append, lacks_co
 use Rattle.globset_glob.specs.GlobMatches.{IsRead, tokens_of_glob, glob_matches}
 use Rattle.ignore_pattern.specs.declared.item.Item.{Item}
 use Rattle.ignore_pattern.specs.declared.place.Place.TheVariants.{Start}
-use Rattle.ignore_pattern.specs.Lines.{line_text}
 use Rattle.ignore_pattern.specs.Ends.{begins_with, without_first, ends_with, without_last}
-use Rattle.ignore_pattern.specs.Classes.{class_matches}
-use Rattle.ignore_pattern.specs.Elements.{Element, Literal, Any, Star, Folders, Everything, Class, is_inner, element_matches, elements_take, elements}
-use Rattle.ignore_pattern.specs.Patterns.{Pattern, has_slash, pattern_with, pattern_between, pattern_of_chars, pattern_of_line, pattern_matches}
+use Rattle.ignore_pattern.specs.CharacterClasses.{class_matches}
+use Rattle.ignore_pattern.specs.CharacterElements.{Element, Literal, Any, Star, Folders, Everything, Class, is_inner, element_matches, elements_take, elements}
+use Rattle.ignore_pattern.specs.CharacterPatterns.{Pattern, has_slash, pattern_with, pattern_between, pattern_of_chars, pattern_matches}
 use Rattle.ignore_pattern.specs.Translation.{glob_options, body_start, body_end, element_text, joined, elements_text, needs_braces, after_folders, whole_text, pattern_text}
 use Rattle.ignore_pattern.specs.Globs.{translated}
 use Rattle.ignore_pattern.specs.Meaning.{HasMeaning, TranslationIsExact}
@@ -120,7 +119,7 @@ elements_exact e es s a None h = λ path. elements_none (e ∷ es) path s h
 elements_exact e es s a (Some text) h =
     let k = elements_read (e ∷ es) text s a h in
     let n = no_prefix e es in
-    of_tokens text (before (all_tokens (e ∷ es)) end) (elements_take (e ∷ es)) k.scalars (reads_as text k.are_lexemes _ k.marked k.nests (not_whole_run k.are_lexemes k.calm) (k.leveled true)) n.alone n.silence
+    of_tokens text (before (all_tokens (e ∷ es)) end) (elements_take (e ∷ es)) k.scalars (reads_as text k.text_lexemes _ k.marked k.nests (not_whole_run k.text_lexemes k.calm) (k.leveled true)) n.alone n.silence
     (λ path. elements_take_as (e ∷ es) text path s h)
 
 -- ---- `**/` before elements
@@ -222,8 +221,8 @@ plain_exact es s a n None h = λ path. elements_none (Folders ∷ es) path (tt, 
 plain_exact es s a n (Some text) h =
     let k = elements_read es text s a h in
     of_tokens (codes "**/" ++ text) (prefixed es) (elements_take (Folders ∷ es)) k.scalars
-    (reads_as (codes "**/" ++ text) (Stars 2 ∷ Char false 47 ∷ k.are_lexemes) (prefixed es) (prefix_marked text ∙ ap (λ ms. Stars 2 ∷ Char false 47 ∷ ms) k.marked)
-    (prefix_nests k.are_lexemes k.nests) refl (prefix_leveled k.are_lexemes (tokens_of es) k.calm (k.leveled false)))
+    (reads_as (codes "**/" ++ text) (Stars 2 ∷ Char false 47 ∷ k.text_lexemes) (prefixed es) (prefix_marked text ∙ ap (λ ms. Stars 2 ∷ Char false 47 ∷ ms) k.marked)
+    (prefix_nests k.text_lexemes k.nests) refl (prefix_leveled k.text_lexemes (tokens_of es) k.calm (k.leveled false)))
     (prefix_not_alone es n) (prefix_not_excluded es n) (λ path. prefix_matches es text path s h)
 
 after_exact : (es : List Element) → AreSound es → are_apart es ≡ true → IsExact (elements_take (Folders ∷ es)) (after_folders es)
@@ -313,11 +312,11 @@ by_whole false e es w =
     exact_as (elements_take (Folders ∷ e ∷ es)) (λ path. elements_take (e ∷ es) (last_component path)) (λ path. last_is (e ∷ es) path (w.inner refl)) (after_folders (e ∷ es))
     (after_exact (e ∷ es) w.sound w.apart)
 
-record PatternFacts (p : Pattern) : Type 0 where
-  first : Element
-  others : List Element
-  is : p.elements ≡ first ∷ others
-  well : AreWell p.whole p.elements
+pub record PatternFacts (p : Pattern) : Type 0 where
+  pub first : Element
+  pub others : List Element
+  pub is : p.elements ≡ first ∷ others
+  pub well : AreWell p.whole p.elements
 
 pattern_exact : (p : Pattern) → PatternFacts p → IsExact (pattern_matches p) (pattern_text p)
 unfolding pattern_matches pattern_text
@@ -327,7 +326,7 @@ pattern_exact p f =
 
 has_meaning : (p : Pattern) (r : Option (List ℕ)) → IsExact (pattern_matches p) r → HasMeaning p r
 has_meaning p None h = h
-has_meaning p (Some text) h = record { read = h.0; listed = h.1; tokens_match = h.2 }
+has_meaning p (Some text) h = record { read = h.0; listed = h.1; paths_match = h.2 }
 
 -- ---- characters
 
@@ -349,7 +348,7 @@ first_slashes [] h = refl
 first_slashes (d ∷ ds) h = cond_both (47 == d) ds (d ∷ ds) (λ l. has_slash l ≡ false) (λ e. (or_parts (d == 47) (has_slash ds) h).1) (λ e. h)
 
 -- what holds of a pattern, if there is one
-abbrev IfPattern : Option Pattern → Type 0
+abbrev pub IfPattern : Option Pattern → Type 0
 IfPattern r = (p : Pattern) → r ≡ Some p → PatternFacts p
 
 with_facts : (negated folders_only whole : Bool) (r : Option (List Element)) → ((es : List Element) → r ≡ Some es → AreWell whole es) → IfPattern (pattern_with negated folders_only whole r)
@@ -365,7 +364,7 @@ between_facts negated folders_only cs s =
     with_facts negated folders_only (has_slash cs) (elements (has_slash cs) Start zero (without_first 47 cs))
     (λ es h. elements_well (has_slash cs) Start zero (without_first 47 cs) es (first_scalars 47 cs s) (first_slashes cs) h)
 
-pattern_facts : (cs : List ℕ) → all_scalars cs ≡ true → IfPattern (pattern_of_chars cs)
+pub pattern_facts : (cs : List ℕ) → all_scalars cs ≡ true → IfPattern (pattern_of_chars cs)
 unfolding pattern_of_chars
 pattern_facts cs s =
     cond_both (begins_with 35 cs) _ _ IfPattern (λ e p h. absurd cc)
@@ -378,16 +377,9 @@ translation_is_exact cs p s h = has_meaning p (pattern_text p) (pattern_exact p 
 -- ---- lines
 
 -- the law for characters that are given as a test
-of_scalars : (cs : List ℕ) (p : Pattern) → all_scalars cs ≡ true → pattern_of_chars cs ≡ Some p → HasMeaning p (pattern_text p)
+pub of_scalars : (cs : List ℕ) (p : Pattern) → all_scalars cs ≡ true → pattern_of_chars cs ≡ Some p → HasMeaning p (pattern_text p)
 of_scalars cs p s h = has_meaning p (pattern_text p) (pattern_exact p (pattern_facts cs s p h))
 
-utf8_scalars : (bytes : List ℕ) → is_utf8 bytes ≡ true → all_scalars (chars bytes) ≡ true
+pub utf8_scalars : (bytes : List ℕ) → is_utf8 bytes ≡ true → all_scalars (chars bytes) ≡ true
 unfolding is_utf8
 utf8_scalars bytes h = and_first (all_scalars (chars bytes)) _ h
-
--- the law for the pattern of a line
-pub line_pattern : (line : List ℕ) (p : Pattern) → pattern_of_line line ≡ Some p → HasMeaning p (pattern_text p)
-unfolding pattern_of_line
-line_pattern line p =
-    cond_both (is_utf8 (line_text line)) (pattern_of_chars (chars (line_text line))) None (λ r. r ≡ Some p → HasMeaning p (pattern_text p))
-    (λ e h. of_scalars (chars (line_text line)) p (utf8_scalars (line_text line) e) h) (λ e h. absurd cc)

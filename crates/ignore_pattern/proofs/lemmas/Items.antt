@@ -11,14 +11,14 @@ use Rattle.ignore_pattern.specs.declared.item.Item.{Item}
 use Rattle.ignore_pattern.specs.declared.item.Item.TheVariants.{Member, Range, Named}
 use Rattle.ignore_pattern.specs.declared.item.ClassName.{ClassName}
 use Rattle.ignore_pattern.specs.declared.item.ClassName.TheVariants.{Alnum, Alpha, Blank, Cntrl, Digit, Graph, Lower, Print, Punct, Space, Upper, Xdigit}
-use Rattle.ignore_pattern.specs.Classes.{named_has, item_has, is_odd_range}
+use Rattle.ignore_pattern.specs.CharacterClasses.{named_has, item_has, is_odd_range}
 use Rattle.ignore_pattern.specs.Translation.{spelled, first_beyond, beyond_ascii}
 use Rattle.ignore_pattern.proofs.lemmas.Booleans.{or_none, or_assoc}
 use Rattle.ignore_pattern.proofs.lemmas.Bodies.{IsBody, IsPlain, body_spelled, have_append}
 
 -- ---- bytes of characters
 
-one_of_push : (byte : ℕ) (bs : List ℕ) (last : ℕ) → is_one_of byte (bs ++ last ∷ []) ≡ (is_one_of byte bs || (byte == last))
+pub one_of_push : (byte : ℕ) (bs : List ℕ) (last : ℕ) → is_one_of byte (bs ++ last ∷ []) ≡ (is_one_of byte bs || (byte == last))
 one_of_push byte [] last = or_none (byte == last)
 one_of_push byte (b ∷ bs) last = ap (λ t. (byte == b) || t) (one_of_push byte bs last) ∙ or_assoc (byte == b) (is_one_of byte bs) (byte == last)
 
@@ -41,15 +41,15 @@ pub ascii_is : (c : ℕ) → c < 128 → encode_utf8 c ≡ c ∷ []
 unfolding encode
 ascii_is c low = cond-true _ _ _ (lt-ltb c 128 low)
 
-two_are : (c : ℕ) → 128 ≤ c → c < 2048 → encode_utf8 c ≡ (192 + c / 64) ∷ (128 + c % 64) ∷ []
+pub two_are : (c : ℕ) → 128 ≤ c → c < 2048 → encode_utf8 c ≡ (192 + c / 64) ∷ (128 + c % 64) ∷ []
 unfolding encode
 two_are c low high = cond-false _ _ _ (le-ltb c 128 low) ∙ cond-true _ _ _ (lt-ltb c 2048 high)
 
-three_are : (c : ℕ) → 2048 ≤ c → c < 65536 → encode_utf8 c ≡ (224 + c / 4096) ∷ (128 + (c / 64) % 64) ∷ (128 + c % 64) ∷ []
+pub three_are : (c : ℕ) → 2048 ≤ c → c < 65536 → encode_utf8 c ≡ (224 + c / 4096) ∷ (128 + (c / 64) % 64) ∷ (128 + c % 64) ∷ []
 unfolding encode
 three_are c low high = cond-false _ _ _ (le-ltb c 128 (omega arith)) ∙ cond-false _ _ _ (le-ltb c 2048 low) ∙ cond-true _ _ _ (lt-ltb c 65536 high)
 
-four_are : (c : ℕ) → 65536 ≤ c → encode_utf8 c ≡ (240 + c / 262144) ∷ (128 + (c / 4096) % 64) ∷ (128 + (c / 64) % 64) ∷ (128 + c % 64) ∷ []
+pub four_are : (c : ℕ) → 65536 ≤ c → encode_utf8 c ≡ (240 + c / 262144) ∷ (128 + (c / 4096) % 64) ∷ (128 + (c / 64) % 64) ∷ (128 + c % 64) ∷ []
 unfolding encode
 four_are c low = cond-false _ _ _ (le-ltb c 128 (omega arith)) ∙ cond-false _ _ _ (le-ltb c 2048 (omega arith)) ∙ cond-false _ _ _ (le-ltb c 65536 low)
 
@@ -165,11 +165,11 @@ narrow_has f y byte low high yl yh =
     (λ i. a i || (b i || false))
 
 -- the bytes of the first character of a range, and those of the range
-abbrev from_first : ℕ → List ℕ → List ℕ → Bool
+abbrev pub from_first : ℕ → List ℕ → List ℕ → Bool
 from_first byte first last = is_one_of byte first || is_spanned byte first last
 
 -- by the last byte of the first character
-by_last : (byte : ℕ) (front : List ℕ) (last upper : ℕ) (others : List ℕ)
+pub by_last : (byte : ℕ) (front : List ℕ) (last upper : ℕ) (others : List ℕ)
     → from_first byte (front ++ last ∷ []) (upper ∷ others)
     ≡ ((is_one_of byte front || (byte == last)) || ((is_one_of byte front || (nat_le last byte && nat_le byte upper)) || is_one_of byte others))
 by_last byte front last upper others = (λ i. one_of_push byte front last i || (from_last_push byte front last upper i || is_one_of byte others))
@@ -304,7 +304,7 @@ member_same byte c high = cond_both (nat_lt c 128) _ _ (λ rs. is_one_of byte (e
 joined_member : (p m b ri rb : Bool) → m ≡ b → (m || ri) ≡ (m || rb) → (p || (m || ri)) ≡ (p || (b || rb))
 joined_member p m b ri rb e h = ap (λ t. p || t) (h ∙ ap (λ t. t || rb) e)
 
-joined_range : (p r b q ri rb : Bool) → (p || r) ≡ (p || b) → (q ≡ true → b ≡ true) → (q || ri) ≡ (q || rb) → (p || (r || ri)) ≡ (p || (b || rb))
+pub joined_range : (p r b q ri rb : Bool) → (p || r) ≡ (p || b) → (q ≡ true → b ≡ true) → (q || ri) ≡ (q || rb) → (p || (r || ri)) ≡ (p || (b || rb))
 joined_range true r b q ri rb e c h = refl
 joined_range false r true q ri rb e c h = ap (λ t. t || ri) e
 joined_range false r false true ri rb e c h = absurd (let f = c refl in cc)

@@ -9,9 +9,9 @@ use Rattle.ignore_pattern.specs.declared.place.Place.{Place}
 use Rattle.ignore_pattern.specs.declared.place.Place.TheVariants.{Start, AfterSlash, Elsewhere}
 use Rattle.ignore_pattern.specs.declared.pattern.IgnorePattern.{IgnorePattern}
 use Rattle.globset_glob.specs.GlobMatches.{GlobValue}
-use Rattle.ignore_pattern.specs.Classes.{ClassAt, class_items, is_negated}
-use Rattle.ignore_pattern.specs.Elements.{Element, Literal, Any, Star, Folders, Everything, Class, ElementAt, at, run_at, class_after, class_at, escaped_at, element_at, with_element, elements}
-use Rattle.ignore_pattern.specs.Patterns.{pattern_with, pattern_of_chars, pattern_of_line}
+use Rattle.ignore_pattern.specs.CharacterClasses.{ClassAt, class_items, is_negated}
+use Rattle.ignore_pattern.specs.CharacterElements.{Element, Literal, Any, Star, Folders, Everything, Class, ElementAt, at, run_at, class_after, class_at, escaped_at, element_at, with_element, elements}
+use Rattle.ignore_pattern.specs.CharacterPatterns.{pattern_with, pattern_of_chars, characters_of_line}
 use Rattle.ignore_pattern.specs.Lines.{line_text}
 use Rattle.ignore_pattern.specs.Translation.{glob_options, elements_text, after_folders, whole_text, pattern_text}
 use Rattle.ignore_pattern.specs.Globs.{translated, glob_of_pattern, glob_of_line}
@@ -205,9 +205,9 @@ some_with negated folders_only whole x bytes g e h = some_made negated folders_o
 -- ---- lines
 
 pub line_without : (line t : List ℕ) → t ≡ line_text line → (IsUtf8 t → ⊥) → None ≡ glob_of_line line
-unfolding glob_of_line pattern_of_line
+unfolding glob_of_line characters_of_line
 line_without line t e bad = rw (← e) (rw (false_from_ne_true (is_utf8 t) (λ h. bad (IsUtf8-from_is_utf8 t h))) refl)
 
 pub line_with : (line t : List ℕ) → t ≡ line_text line → IsUtf8 t → option_and_then glob_of_pattern (pattern_of_chars (chars t)) ≡ glob_of_line line
-unfolding glob_of_line pattern_of_line
+unfolding glob_of_line characters_of_line
 line_with line t e good = rw (← e) (rw (is_utf8-from_IsUtf8 t good) refl)

@@ -12,9 +12,9 @@ use Rattle.ignore_pattern.specs.declared.item.ClassName.{ClassName}
 use Rattle.ignore_pattern.specs.declared.place.Place.{Place}
 use Rattle.ignore_pattern.specs.declared.place.Place.TheVariants.{Elsewhere, AfterSlash}
 use Rattle.ignore_pattern.specs.Ends.{ends_with, without_last}
-use Rattle.ignore_pattern.specs.Classes.{is_odd_range, class_named, one_item, range_at, escaped_range_at, hyphen_at, name_at, bracket_at, escape_at, item_at, ClassAt, with_character, with_item, class_items, is_negated}
-use Rattle.ignore_pattern.specs.Elements.{Element, Literal, Any, Star, Folders, Everything, Class, ElementAt, at, may_cross, place_after, crossing_at, run_at, class_at, escaped_at, element_at, with_element, elements}
-use Rattle.ignore_pattern.specs.Patterns.{has_slash}
+use Rattle.ignore_pattern.specs.CharacterClasses.{is_odd_range, class_named, one_item, range_at, escaped_range_at, hyphen_at, name_at, bracket_at, escape_at, item_at, ClassAt, with_character, with_item, class_items, is_negated}
+use Rattle.ignore_pattern.specs.CharacterElements.{Element, Literal, Any, Star, Folders, Everything, Class, ElementAt, at, may_cross, place_after, crossing_at, run_at, class_at, escaped_at, element_at, with_element, elements}
+use Rattle.ignore_pattern.specs.CharacterPatterns.{has_slash}
 use Rattle.ignore_pattern.proofs.lemmas.Items.{Linked}
 use Rattle.ignore_pattern.proofs.lemmas.ElementTokens.{Sound, AreSound, starts_star, begin_star, is_star, are_apart}
 

@@ -5,7 +5,7 @@ use Rattle.std.proofs.lemmas.List.{nil_from_length}
 use Rattle.std.proofs.lemmas.Str.{encodes-append}
 use lib.Utf8.{encode}
 use Rattle.ignore_pattern.specs.declared.place.Place.{Place}
-use Rattle.ignore_pattern.specs.Elements.{Element, ElementAt, element_at, with_element, elements}
+use Rattle.ignore_pattern.specs.CharacterElements.{Element, ElementAt, element_at, with_element, elements}
 use Rattle.ignore_pattern.specs.Translation.{joined, element_text, elements_text}
 use Rattle.ignore_pattern.specs.inner.Writing.{outcome, followed, text_from, continued}
 

@@ -2,7 +2,7 @@
 use Rattle.ignore_pattern.specs.declared.element.Element.{Element}
 use Rattle.ignore_pattern.specs.declared.element.Element.TheVariants as held
 use Rattle.ignore_pattern.specs.declared.element.ElementAt.{ElementAt}
-use Rattle.ignore_pattern.specs.Elements as elements
+use Rattle.ignore_pattern.specs.CharacterElements as elements
 use Rattle.std.specs.Prelude.{string_bytes}
 use Rattle.ignore_pattern.specs.Translation.{glob_options}
 use Rattle.ignore_pattern.specs.declared.pattern.IgnorePattern.{IgnorePattern}

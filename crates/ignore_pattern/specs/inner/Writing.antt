@@ -4,7 +4,7 @@ use Rattle.std.specs.List.{prefix_len}
 use Rattle.std.specs.Str.{bytes_eq}
 use Rattle.std.specs.Option.{option_and_then}
 use Rattle.ignore_pattern.specs.Ends.{begins_with}
-use Rattle.ignore_pattern.specs.Elements.{Element, elements}
+use Rattle.ignore_pattern.specs.CharacterElements.{Element, elements}
 use Rattle.ignore_pattern.specs.declared.place.Place.{Place}
 use Rattle.ignore_pattern.specs.Translation.{elements_text, after_folders, whole_text}
 

@@ -1,5 +1,5 @@
 use Rattle.std.proofs.Common.{zero, true, None, sym, arith}
-use Rattle.ignore_pattern.specs.Classes.{class_items}
+use Rattle.ignore_pattern.specs.CharacterClasses.{class_items}
 use Rattle.ignore_pattern.proofs.lemmas.Lists.{one_cell}
 use Rattle.ignore_pattern.proofs.lemmas.Classes.{starts, ends, closed, unreadable, goes_on}
 use Rattle.ignore_pattern.proofs.class.class_items.Goals as goal

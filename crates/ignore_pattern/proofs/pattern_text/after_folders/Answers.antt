@@ -1,5 +1,5 @@
 use Rattle.std.proofs.Common.{ℕ, zero, List, Some, ap, ◌∙◌, string_bytes}
-use Rattle.ignore_pattern.specs.Elements.{elements}
+use Rattle.ignore_pattern.specs.CharacterElements.{elements}
 use Rattle.ignore_pattern.proofs.lemmas.Braces.{braces}
 use Rattle.ignore_pattern.proofs.pattern_text.after_folders.Goals as goal
 

@@ -2,7 +2,7 @@ use Rattle.std.proofs.Common.{◌≡◌, ℕ, zero, true, List, [], Option, sym,
 use Rattle.std.specs.Option.{option_map, option_and_then}
 use Rattle.std.specs.Result.{IfOk}
 use Rattle.ignore_pattern.specs.declared.place.Place.TheVariants.{AfterSlash}
-use Rattle.ignore_pattern.specs.Elements.{elements}
+use Rattle.ignore_pattern.specs.CharacterElements.{elements}
 use Rattle.ignore_pattern.specs.Translation.{after_folders}
 use Rattle.ignore_pattern.specs.inner.Writing.{followed}
 use Rattle.ignore_pattern.proofs.lemmas.Patterns.{whole_is, whole_by}

@@ -1,5 +1,5 @@
 use Rattle.std.proofs.Common.{zero, string_bytes, refl}
-use Rattle.ignore_pattern.specs.Elements.{elements}
+use Rattle.ignore_pattern.specs.CharacterElements.{elements}
 use Rattle.ignore_pattern.specs.declared.place.Place.TheVariants.{Start}
 use Rattle.ignore_pattern.proofs.lemmas.Patterns.{none_with, some_with}
 use Rattle.ignore_pattern.proofs.reading.pattern_with.Goals as goal

@@ -4,7 +4,7 @@ use Rattle.std.specs.Result.{IfOk}
 use Rattle.std.specs.Str.{chars}
 use Rattle.ignore_pattern.specs.declared.pattern.IgnorePattern.{IgnorePattern}
 use Rattle.ignore_pattern.specs.Globs.{glob_of_pattern}
-use Rattle.ignore_pattern.specs.Patterns.{pattern_of_chars}
+use Rattle.ignore_pattern.specs.CharacterPatterns.{pattern_of_chars}
 use Rattle.ignore_pattern.specs.inner.Views.{with_glob}
 use Rattle.ignore_pattern.proofs.lemmas.Patterns.{line_without, line_with}
 use Rattle.ignore_pattern.proofs.reading.read_line.Goals as goal
