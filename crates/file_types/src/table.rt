@@ -4,31 +4,24 @@
 //! `make: [Mm]akefile, *.mk`. Blank lines, and those that begin with `#`, are skipped. A path has a type if one of its globs
 //! matches the last component of the path. `{c,h}` has no space, so it belongs to one glob.
 
-ghost use Rattle.globset.specs.SetValue.{Fits};
-
 use example_io::{Fault, TextFile};
-use globset::{Candidate, Error, Glob, GlobSet, GlobSetBuilder, Scratch, Visits};
+use globset::{Candidate, Error, Glob, GlobSetBuilder, Searcher};
 use std::alloc::{AllocError, Global};
 use std::mem;
 
 /// A table of types, and all the memory that its globs are matched with.
 pub struct Table<'t> {
-    set: GlobSet,
+    searcher: Searcher,
     /// For each glob of the set, the name of its type.
     names: Vec<&'t str>,
-    scratch: Scratch,
-    matching: Vec<usize>,
-    ghost fits: { Fits scratch set },
 }
 
 impl Drop for Table<'_> {
     // One call wherever a value is dropped, which keeps proofs short.
     fn drop(self) {
         let Table {
-            set: _,
+            searcher: _,
             names: _,
-            scratch: _,
-            matching: _,
         } = self;
     }
 }
@@ -48,29 +41,16 @@ impl<'t> Table<'t> {
 
     /// Takes the types that were read.
     fn take(alloc: Global, types: &mut Types<'t>) -> Result<Table<'t>, Error> {
-        let set = types.globs.build()?;
-        let scratch = Scratch::new(alloc, &set)?;
-        let matching = Vec::with_capacity(alloc, set.len())?;
         Ok(Table {
-            set,
+            searcher: Searcher::new(alloc, &types.globs.build()?)?,
             names: mem::replace(&mut types.names, Vec::new(alloc)),
-            scratch,
-            matching,
         })
     }
 
     /// Returns the types of a path, in the order of the table, each once and separated by `,`, or `-` if it has none.
     pub fn types(&mut self, alloc: Global, path: &[u8]) -> Result<String, AllocError> {
         let component = Candidate::from_bytes(last_component(path));
-        let visits = &mut Visits::new();
-        match self
-            .set
-            .matches_into_with(&component, &mut self.scratch, &mut self.matching, visits)
-        {
-            Ok(()) => joined(alloc, &self.names, &self.matching),
-            // A set has no other error than that memory ran out.
-            Err(_) => Err(AllocError),
-        }
+        joined(alloc, &self.names, self.searcher.matches(&component))
     }
 }
 

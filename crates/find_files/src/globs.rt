@@ -1,11 +1,9 @@
 //! The globs of a search: which paths match, and below which folders one can.
 
-ghost use Rattle.globset.specs.SetValue.{Fits};
-
 use crate::arguments::{Arguments, Flags};
 use crate::fault::Fault;
 use example_io::TextFile;
-use globset::{Candidate, Error, Glob, GlobBuilder, GlobSet, GlobSetBuilder, Scratch, Visits};
+use globset::{Candidate, Error, Glob, GlobBuilder, GlobSetBuilder, Searcher};
 use std::alloc::Global;
 
 /// What a walk does with a path.
@@ -19,15 +17,13 @@ pub struct Wanted {
 
 /// A set of globs, and all the memory that it is matched with.
 pub struct Globs {
-    set: GlobSet,
-    scratch: Scratch,
-    ghost fits: { Fits scratch set },
+    searcher: Searcher,
 }
 
 impl Drop for Globs {
     // One call wherever a value is dropped, which keeps proofs short.
     fn drop(self) {
-        let Globs { set: _, scratch: _ } = self;
+        let Globs { searcher: _ } = self;
     }
 }
 
@@ -45,19 +41,18 @@ impl Globs {
     }
 
     fn new(alloc: Global, globs: GlobSetBuilder) -> Result<Globs, Error> {
-        let set = globs.into_set()?;
-        let scratch = Scratch::new(alloc, &set)?;
-        Ok(Globs { set, scratch })
+        Ok(Globs {
+            searcher: Searcher::new(alloc, &globs.into_set()?)?,
+        })
     }
 
     /// Returns what a walk does with a path. It takes no memory.
     pub fn wanted(&mut self, path: &str) -> Wanted {
-        let (path, visits) = (Candidate::new(path), &mut Visits::new());
-        let is_file = self.set.is_match_with(&path, &mut self.scratch, visits);
-        let is_folder = self
-            .set
-            .can_match_below_with(&path, &mut self.scratch, visits);
-        Wanted { is_file, is_folder }
+        let path = Candidate::new(path);
+        Wanted {
+            is_file: self.searcher.is_match(&path),
+            is_folder: self.searcher.can_match_below(&path),
+        }
     }
 }
 

@@ -1,4 +1,5 @@
 pub mod SetValue
+pub mod SearcherValue
 pub mod SetFromValue
 pub mod Lending
 pub mod Laws

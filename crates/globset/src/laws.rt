@@ -6,9 +6,11 @@ ghost use Rattle.globset.specs.Laws.{AddKeeps, BelowEnds, BelowHasPaths, OneGlob
 ghost use Rattle.globset.specs.SetValue.{builder_globs};
 
 use crate::builder::GlobSetBuilder;
+use crate::searcher::Searcher;
 use crate::set::{GlobSet, Scratch};
 use globset_glob::{
-    Candidate, Error, ErrorKind, Glob, GlobBuilder, GlobMatcher, ValueError, ValueErrorKind, Visits,
+    Candidate, Error, ErrorKind, Glob, GlobBuilder, GlobMatcher, MatcherSearcher, ValueError,
+    ValueErrorKind, Visits,
 };
 
 /// One more glob after the others adds at most its own index, at the end of the indexes. The others stay as they are.
@@ -82,8 +84,10 @@ pub fn can_be_shared<'a>() {
     is_shared::<Glob>();
     is_shared::<GlobBuilder<'a>>();
     is_shared::<GlobMatcher>();
+    is_shared::<MatcherSearcher>();
     is_shared::<GlobSet>();
     is_shared::<GlobSetBuilder>();
+    is_shared::<Searcher>();
     is_shared::<Scratch>();
     is_shared::<Candidate<'a>>();
     is_shared::<Error>();

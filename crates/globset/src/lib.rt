@@ -3,7 +3,8 @@
 //! - A [`Glob`] is one parsed pattern: [`Glob::new`] parses it under the default options, and [`GlobBuilder`] under
 //!   others.
 //! - A [`GlobMatcher`] matches one glob against paths.
-//! - A [`GlobSet`] matches many globs against a path at once. With a [`Scratch`] it takes no memory for that.
+//! - A [`GlobSet`] matches many globs against a path at once.
+//! - A [`Searcher`] has a set and the memory to match many paths with it, and a [`MatcherSearcher`] a matcher. They cannot fail.
 //! - [`escape`] returns a pattern that matches the given text and nothing else.
 //! - [`Glob::from_value`] and [`GlobSet::from_value`] read JSON values.
 //!
@@ -105,11 +106,13 @@
 
 mod builder;
 pub mod laws;
+mod searcher;
 mod set;
 
 pub use builder::GlobSetBuilder;
 pub use globset_glob::{
     AsPath, Candidate, DEFAULT_DFA_SIZE_LIMIT, Error, ErrorKind, Glob, GlobBuilder, GlobMatcher,
-    MatcherScratch, ValueError, ValueErrorKind, Visits, escape,
+    MatcherScratch, MatcherSearcher, ValueError, ValueErrorKind, Visits, escape,
 };
+pub use searcher::Searcher;
 pub use set::{GlobSet, Scratch};

@@ -54,7 +54,7 @@ use std::marker::Model;
 /// assert!(rt; !GlobSet::new(alloc, [&glob])?.is_match("a/..")?);
 /// ```
 pub struct GlobSet {
-    stored: Option<Stored>,
+    pub(crate) stored: Option<Stored>,
 }
 
 impl Drop for GlobSet {

@@ -143,7 +143,7 @@ impl<'a> GlobBuilder<'a> {
     /// Reads the glob under its options, in time linear in the length of its text. The builder does not change.
     ///
     /// Returns an error if the text is not a glob, or if memory runs out. The error of a text holds the text, and its kind
-    /// is that of the first error in the text.
+    /// and its offset are those of the first error in the text.
     pub fn build(&self, alloc: Global) -> Result<Glob, Error>
         ensures ok { IfOk result (λ g. g ≡ self.now) }
         ensures read { IfOk result IsRead }

@@ -88,7 +88,7 @@ impl Glob {
     /// Reads a glob under the default options: `\` escapes, and the other options are off.
     ///
     /// Returns an error if the text is not a glob, or if memory runs out. The error of a text holds the text, and its kind
-    /// is that of the first error in the text.
+    /// and its offset are those of the first error in the text.
     pub fn new(alloc: Global, glob: &str) -> Result<Glob, Error>
         ensures ok { IfOk result (λ g. g ≡ default_glob glob.now) }
         ensures read { IfOk result IsRead }

@@ -14,5 +14,5 @@ pub use glob_path::{AsPath, Candidate};
 pub use glob_syntax::{Class, Options, Token};
 pub use glob_text::{Error, ErrorKind, ValueError, ValueErrorKind, escape};
 pub use internal::{max_states_of, options_of, text_of, tokens_of};
-pub use matcher::{GlobMatcher, MatcherScratch};
+pub use matcher::{GlobMatcher, MatcherScratch, MatcherSearcher};
 pub use visits::Visits;

@@ -1,17 +1,21 @@
 //! Matchers of one glob.
 
-ghost use Rattle.std.specs.Prelude.{◌≡◌, ◌+◌, ◌≤◌, ◌↔◌, IfOk, IfErr, IsTrue};
+ghost use Rattle.std.specs.Prelude.{◌≡◌, ◌+◌, ◌≤◌, ◌↔◌, IfOk, IfErr, IsOk, IsTrue};
+ghost use Rattle.nfa_simulation.specs.Sets.{sets_capacity};
 ghost use Rattle.glob_text.specs.Errors.{out_of_memory};
 ghost use Rattle.glob_text.specs.Cost.{cost, max_visits, max_visits_below};
 ghost use Rattle.globset_glob.specs.GlobBelow.{GlobMatchesBelow};
 
 mod scratch;
+mod searcher;
 mod strategy;
 
 use crate::glob::Glob;
 use glob_path::{AsPath, Candidate};
 use glob_text::Error;
+use nfa_simulation::StateSets;
 pub use scratch::MatcherScratch;
+pub use searcher::MatcherSearcher;
 use std::alloc::AllocError;
 use std::fmt;
 use std::marker::Model;
@@ -114,7 +118,25 @@ impl GlobMatcher {
         ensures visits { visits.new ≤ visits.old + max_visits self.now path.now }
         ensures counted { visits.old ≤ visits.new }
     {
-        Ok(self.strategy.is_match(self.glob.allocator(), path, visits)?)
+        let mut sets = StateSets::new(self.glob.allocator());
+        Ok(self.is_match_in(path, &mut sets, visits)?)
+    }
+
+    /// The same, in sets of the caller. Returns an error if memory runs out, and none if the sets have room for as many states as
+    /// the automaton of such a glob may have.
+    fn is_match_in(
+        &self,
+        path: &Candidate<'_>,
+        sets: &mut StateSets,
+        visits: &mut Visits,
+    ) -> Result<bool, AllocError>
+        ensures ok { IfOk result (λ yes. yes ≡ glob_matches self.now path.now) }
+        ensures room { cost self.now ≤ sets_capacity sets.old → IsOk result }
+        ensures kept { sets_capacity sets.old ≤ sets_capacity sets.new }
+        ensures visits { visits.new ≤ visits.old + max_visits self.now path.now }
+        ensures counted { visits.old ≤ visits.new }
+    {
+        self.strategy.is_match(path, sets, visits)
     }
 
     /// Does what [`is_match_visits`](GlobMatcher::is_match_visits) does, in the caller's memory: it takes none, and cannot fail.
@@ -194,10 +216,24 @@ impl GlobMatcher {
         ensures visits { visits.new ≤ visits.old + max_visits_below self.now folder.now }
         ensures counted { visits.old ≤ visits.new }
     {
-        Ok(
-            self.strategy
-                .can_match_below(self.glob.allocator(), folder, visits)?,
-        )
+        let mut sets = StateSets::new(self.glob.allocator());
+        Ok(self.can_match_below_in(folder, &mut sets, visits)?)
+    }
+
+    /// The same, in sets of the caller, as [`is_match_in`](GlobMatcher::is_match_in).
+    fn can_match_below_in(
+        &self,
+        folder: &Candidate<'_>,
+        sets: &mut StateSets,
+        visits: &mut Visits,
+    ) -> Result<bool, AllocError>
+        ensures ok { IfOk result (λ yes. IsTrue yes ↔ GlobMatchesBelow self.now folder.now) }
+        ensures room { cost self.now ≤ sets_capacity sets.old → IsOk result }
+        ensures kept { sets_capacity sets.old ≤ sets_capacity sets.new }
+        ensures visits { visits.new ≤ visits.old + max_visits_below self.now folder.now }
+        ensures counted { visits.old ≤ visits.new }
+    {
+        self.strategy.can_match_below(folder, sets, visits)
     }
 
     /// Returns a matcher for an equal glob. It copies the glob, and shares its automaton. Returns an error if memory runs out or if 2^63

@@ -38,8 +38,8 @@ fn zeros(alloc: Global, count: usize) -> Result<Vec<u8>, AllocError>
 /// flushed at the end alone.
 ///
 /// On success all output was written and the writer was flushed. It needs memory for what is read at once (64 KiB), pending
-/// output (68 KiB and that of one line), the beginning of a line whose end was not read yet, the indexes of the set's globs, and
-/// a [`Scratch`](globset::Scratch) for the set. To match a line it takes no more.
+/// output (68 KiB and that of one line), the beginning of a line whose end was not read yet, and a
+/// [`Searcher`](globset::Searcher) of the set. To match a line it takes no more.
 ///
 /// # Errors
 ///

@@ -50,7 +50,7 @@ fn push_owners(
     output: &mut Output,
 ) -> Result<(), AllocError> {
     for path in paths.iter() {
-        let owners = rules.owners(path)?.unwrap_or("-");
+        let owners = rules.owners(path).unwrap_or("-");
         output.push_line(&[path, b"\t", owners.as_bytes()])?;
     }
     Ok(())

@@ -12,31 +12,24 @@
 //! It differs from GitHub in this: `{a,b}` and `[ab]` match `a` and `b`, owners are not looked up, and a pattern that cannot be
 //! read is an error.
 
-ghost use Rattle.globset.specs.SetValue.{Fits};
-
 use example_io::{Fault, TextFile};
-use globset::{Candidate, Error, GlobBuilder, GlobSet, GlobSetBuilder, Scratch, Visits};
-use std::alloc::{AllocError, Global};
+use globset::{Candidate, Error, GlobBuilder, GlobSetBuilder, Searcher};
+use std::alloc::Global;
 use std::mem;
 
 /// The rules of an owners file, and all the memory that they are matched with.
 pub struct Rules<'t> {
-    set: GlobSet,
+    searcher: Searcher,
     /// For each glob of the set, the owners of its rule.
     owners: Vec<&'t str>,
-    scratch: Scratch,
-    matching: Vec<usize>,
-    ghost fits: { Fits scratch set },
 }
 
 impl Drop for Rules<'_> {
     // One call wherever a value is dropped, which keeps proofs short.
     fn drop(self) {
         let Rules {
-            set: _,
+            searcher: _,
             owners: _,
-            scratch: _,
-            matching: _,
         } = self;
     }
 }
@@ -55,34 +48,16 @@ impl<'t> Rules<'t> {
 
     /// Takes the patterns that were read.
     fn take(alloc: Global, patterns: &mut Patterns<'t>) -> Result<Rules<'t>, Error> {
-        let set = patterns.globs.build()?;
-        let scratch = Scratch::new(alloc, &set)?;
-        let matching = Vec::with_capacity(alloc, set.len())?;
         Ok(Rules {
-            set,
+            searcher: Searcher::new(alloc, &patterns.globs.build()?)?,
             owners: mem::replace(&mut patterns.owners, Vec::new(alloc)),
-            scratch,
-            matching,
         })
     }
 
     /// Returns the owners of the last rule that matches a path, or `None` if none does, or that rule has no owners.
-    pub fn owners(&mut self, path: &[u8]) -> Result<Option<&'t str>, AllocError> {
-        let path = Candidate::from_bytes(path);
-        let visits = &mut Visits::new();
-        match self
-            .set
-            .matches_into_with(&path, &mut self.scratch, &mut self.matching, visits)
-        {
-            Ok(()) => Ok(self.last_owners()),
-            // A set has no other error than that memory ran out.
-            Err(_) => Err(AllocError),
-        }
-    }
-
-    /// Returns the owners of the last rule that matches, or `None` if there is none, or it has no owners.
-    fn last_owners(&self) -> Option<&'t str> {
-        let owners = *self.owners.get(*self.matching.last()?)?;
+    pub fn owners(&mut self, path: &[u8]) -> Option<&'t str> {
+        self.searcher.find(&Candidate::from_bytes(path));
+        let owners = *self.owners.get(*self.searcher.found().last()?)?;
         if owners.is_empty() {
             None
         } else {

@@ -4,6 +4,7 @@ use Rattle.serde_json.specs.Data.{boolean, number, unsigned, string, array, obje
 use Rattle.glob_syntax.specs.declared.parse_error_kind.ParseErrorKind.TheVariants.{UnclosedClass}
 use Rattle.glob_text.specs.declared.value_error.ValueErrorKind.TheVariants.{Glob}
 use Rattle.globset_glob.specs.Errors.{parse_error}
+use Rattle.globset_glob.specs.GlobMatches.{default_options}
 use Rattle.globset_glob.specs.ValueErrors.{of_kind, not_text, unknown_key, not_array, at_index}
 use Rattle.globset.specs.SetFromValue.{globs_of_value}
 use Rattle.globset.proofs.examples.Words.{globs_on_literals, glob, insensitive, globs}
@@ -27,7 +28,7 @@ number_at_index_one : globs_of_value (array (item (string (codes "*.rs")) (item 
 unfolding globs_on_literals
 number_at_index_one = refl
 
-fault_at_index_one : globs_of_value (array (item (string (codes "a")) (item (string (codes "[")) no_items))) ≡ Err (at_index 1 (of_kind (Glob (parse_error (codes "[") UnclosedClass))))
+fault_at_index_one : globs_of_value (array (item (string (codes "a")) (item (string (codes "[")) no_items))) ≡ Err (at_index 1 (of_kind (Glob (parse_error default_options (codes "[") UnclosedClass))))
 unfolding globs_on_literals
 fault_at_index_one = refl
 

@@ -39,17 +39,17 @@ onto-more (h ∷ globs) g r = ap (ahead_of h) (onto-more globs g r)
 
 -- ---- no error of a value is that of memory
 
-known_fault : (i : ℕ) (text : List ℕ) (f : ParseErrorKind) → of_element i (of_kind (Glob (parse_error text f))) ≡ at_index i (of_kind (Glob (parse_error text f)))
-known_fault i text faults.UnclosedClass = refl
-known_fault i text (faults.InvalidRange start end) = refl
-known_fault i text faults.UnopenedAlternates = refl
-known_fault i text faults.UnclosedAlternates = refl
-known_fault i text faults.DanglingEscape = refl
+known_fault : (i : ℕ) (g : GlobValue) (f : ParseErrorKind) → of_element i (of_kind (Glob (parse_error g.options g.text f))) ≡ at_index i (of_kind (Glob (parse_error g.options g.text f)))
+known_fault i g faults.UnclosedClass = refl
+known_fault i g (faults.InvalidRange start end) = refl
+known_fault i g faults.UnopenedAlternates = refl
+known_fault i g faults.UnclosedAlternates = refl
+known_fault i g faults.DanglingEscape = refl
 
 known_text : (i : ℕ) (g : GlobValue) (r : Result Tokens ParseErrorKind) →
-    IfErr (of_text (elim r [ Ok ts ↦ Ok g | Err f ↦ Err (parse_error g.text f) ])) (λ e. of_element i e ≡ at_index i e)
+    IfErr (of_text (elim r [ Ok ts ↦ Ok g | Err f ↦ Err (parse_error g.options g.text f) ])) (λ e. of_element i e ≡ at_index i e)
 known_text i g (Ok ts) = tt
-known_text i g (Err f) = known_fault i g.text f
+known_text i g (Err f) = known_fault i g f
 
 known_choice : (i : ℕ) (has_unknown has_other : Bool) (g : GlobValue) →
     IfErr (if has_unknown then Err unknown_key else (if has_other then Err not_bool else of_text (glob_or_parse_error g))) (λ e. of_element i e ≡ at_index i e)

@@ -1,11 +1,13 @@
--- Sets and matchers can be sent to other threads, and shared between them.
+-- Sets, matchers and searchers can be sent to other threads, and shared between them.
 use denote.Param.Send.{IsSend, IsSync, sendable}
 use Rattle.std.proofs.Crossing.{crosses}
 use Rattle.globset_glob.specs.contracts.glob.Glob as Glob
 use Rattle.globset_glob.specs.contracts.matcher.GlobMatcher as GlobMatcher
 use Rattle.set_matcher.proofs.lemmas.Shared.{compiled-send, compiled-sync}
-use Rattle.globset_set.proofs.lemmas.Shared.{stored-send, stored-sync}
+use Rattle.globset_set.proofs.lemmas.Shared.{stored-send, stored-sync, stored_searcher-send, stored_searcher-sync}
+use Rattle.globset_glob.specs.contracts.matcher.searcher.MatcherSearcher as MatcherSearcher
 use Rattle.globset.specs.contracts.set.GlobSet as GlobSet
+use Rattle.globset.specs.contracts.searcher.Searcher as Searcher
 
 glob-send : IsSend Glob.the_field.row
 glob-send = search (sendable, crosses) depth 40 fits 20000
@@ -24,3 +26,27 @@ set-send = search (sendable, stored-send) depth 20
 
 pub set-sync : IsSync GlobSet.the_row
 set-sync = search (sendable, stored-sync) depth 20
+
+matcher_inside-send : IsSend GlobMatcher.the_field.row
+matcher_inside-send = search (sendable, crosses, glob-send, compiled-send, compiled-sync) depth 40 fits 20000
+
+matcher_inside-sync : IsSync GlobMatcher.the_field.row
+matcher_inside-sync = search (sendable, crosses, glob-sync, compiled-send, compiled-sync) depth 40 fits 20000
+
+pub matcher_searcher-send : IsSend MatcherSearcher.the_row
+matcher_searcher-send = search (sendable, crosses, matcher_inside-send) depth 40 fits 20000
+
+pub matcher_searcher-sync : IsSync MatcherSearcher.the_row
+matcher_searcher-sync = search (sendable, crosses, matcher_inside-sync) depth 40 fits 20000
+
+set_inside-send : IsSend GlobSet.the_field.row
+set_inside-send = search (sendable, stored-send) depth 20
+
+set_inside-sync : IsSync GlobSet.the_field.row
+set_inside-sync = search (sendable, stored-sync) depth 20
+
+pub searcher-send : IsSend Searcher.the_row
+searcher-send = search (sendable, crosses, set_inside-send, stored_searcher-send) depth 40 fits 20000
+
+pub searcher-sync : IsSync Searcher.the_row
+searcher-sync = search (sendable, crosses, set_inside-sync, stored_searcher-sync) depth 40 fits 20000

@@ -14,7 +14,7 @@ text_with_a_reading : glob_of_value (string (codes "src/**/*.rs")) ≡ Ok (defau
 unfolding glob_on_literals
 text_with_a_reading = refl
 
-text_with_a_fault : glob_of_value (string (codes "[")) ≡ Err (of_kind (Glob (parse_error (codes "[") UnclosedClass)))
+text_with_a_fault : glob_of_value (string (codes "[")) ≡ Err (of_kind (Glob (parse_error default_options (codes "[") UnclosedClass)))
 unfolding glob_on_literals
 text_with_a_fault = refl
 
@@ -62,7 +62,7 @@ unknown_key_before_a_fault = refl
 no_bool_before_a_fault : glob_of_value (object (member (codes "glob") (string (codes "[")) (member (codes "literal_separator") (number (unsigned 0)) no_members))) ≡ Err not_bool
 no_bool_before_a_fault = refl
 
-object_with_a_fault : glob_of_value (object (member (codes "glob") (string (codes "[")) no_members)) ≡ Err (of_kind (Glob (parse_error (codes "[") UnclosedClass)))
+object_with_a_fault : glob_of_value (object (member (codes "glob") (string (codes "[")) no_members)) ≡ Err (of_kind (Glob (parse_error default_options (codes "[") UnclosedClass)))
 unfolding glob_on_literals
 object_with_a_fault = refl
 
@@ -98,6 +98,6 @@ text_at_an_index : value_error_text (at_index 10 not_text) ≡ codes "element 10
 unfolding digits
 text_at_an_index = refl
 
-text_of_a_fault : value_error_text (at_index 1 (of_kind (Glob (parse_error (codes "[") UnclosedClass)))) ≡ codes "element 1: error parsing glob '[': unclosed character class; missing ']'"
+text_of_a_fault : value_error_text (at_index 1 (of_kind (Glob (parse_error default_options (codes "[") UnclosedClass)))) ≡ codes "element 1: error parsing glob '[': unclosed character class; missing ']'"
 unfolding digits
 text_of_a_fault = refl

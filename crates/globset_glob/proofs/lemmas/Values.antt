@@ -37,7 +37,7 @@ object_of_others g same = ap (λ b. if b then string g.text else object (with_op
 -- ---- a text
 
 -- a text that has a reading is a glob
-of_read : (g : GlobValue) (r : Result Tokens ParseErrorKind) → IsOk r → of_text (elim r [ Ok ts ↦ Ok g | Err f ↦ Err (parse_error g.text f) ]) ≡ Ok g
+of_read : (g : GlobValue) (r : Result Tokens ParseErrorKind) → IsOk r → of_text (elim r [ Ok ts ↦ Ok g | Err f ↦ Err (parse_error g.options g.text f) ]) ≡ Ok g
 of_read g (Ok ts) is = refl
 of_read g (Err f) is = absurd (true≢false (sym is))
 

@@ -1,6 +1,7 @@
 //! By what a matcher decides.
 
-ghost use Rattle.std.specs.Prelude.{◌≡◌, ◌+◌, ◌≤◌, ◌↔◌, IfOk, IsTrue};
+ghost use Rattle.std.specs.Prelude.{◌≡◌, ◌+◌, ◌≤◌, ◌↔◌, IfOk, IsOk, IsTrue};
+ghost use Rattle.nfa_simulation.specs.Sets.{sets_capacity};
 ghost use Rattle.glob_text.specs.Cost.{max_visits, max_visits_below};
 ghost use Rattle.globset_glob.specs.GlobBelow.{GlobMatchesBelow};
 ghost use Rattle.glob_text.specs.GlobMatches.{GlobValue, glob_matches};
@@ -51,14 +52,17 @@ impl Strategy {
         }
     }
 
-    /// Returns whether the glob matches a path. Returns an error if memory runs out, and none if a key decides.
+    /// Returns whether the glob matches a path. Returns an error if memory runs out, and none if a key decides or the sets have
+    /// room.
     pub fn is_match(
         &self,
-        alloc: Global,
         path: &Candidate<'_>,
+        sets: &mut StateSets,
         visits: &mut Visits,
     ) -> Result<bool, AllocError>
         ensures some { IfOk result (λ yes. (g : GlobValue) → IsStrategyOfMatcher g self.now → yes ≡ glob_matches g path.now) }
+        ensures room { form_states self.now ≤ sets_capacity sets.old → IsOk result }
+        ensures kept { sets_capacity sets.old ≤ sets_capacity sets.new }
         ensures visits { (g : GlobValue) → IsStrategyOfMatcher g self.now → visits.new ≤ visits.old + max_visits g path.now }
         ensures counted { visits.old ≤ visits.new }
     {
@@ -68,10 +72,7 @@ impl Strategy {
                 visits.tick();
                 Ok(key.matches(path))
             }
-            Strategy::Nfa(automaton) => {
-                let mut sets = StateSets::new(alloc);
-                automaton.is_match(path.path(), &mut sets, visits)
-            }
+            Strategy::Nfa(automaton) => automaton.is_match(path.path(), sets, visits),
         }
     }
 
@@ -97,14 +98,17 @@ impl Strategy {
         }
     }
 
-    /// Returns whether the glob matches some path below a folder. Returns an error if memory runs out, and none if a key decides.
+    /// Returns whether the glob matches some path below a folder. Returns an error if memory runs out, and none if a key decides
+    /// or the sets have room.
     pub fn can_match_below(
         &self,
-        alloc: Global,
         folder: &Candidate<'_>,
+        sets: &mut StateSets,
         visits: &mut Visits,
     ) -> Result<bool, AllocError>
         ensures some { IfOk result (λ yes. (g : GlobValue) → IsStrategyOfMatcher g self.now → IsTrue yes ↔ GlobMatchesBelow g folder.now) }
+        ensures room { form_states self.now ≤ sets_capacity sets.old → IsOk result }
+        ensures kept { sets_capacity sets.old ≤ sets_capacity sets.new }
         ensures visits { (g : GlobValue) → IsStrategyOfMatcher g self.now → visits.new ≤ visits.old + max_visits_below g folder.now }
         ensures counted { visits.old ≤ visits.new }
     {
@@ -114,8 +118,7 @@ impl Strategy {
                 Ok(key.can_match_below(folder.path()))
             }
             Strategy::Nfa(automaton) => {
-                let mut sets = StateSets::new(alloc);
-                automaton.can_match_after(folder.path(), b'/', &mut sets, visits)
+                automaton.can_match_after(folder.path(), b'/', sets, visits)
             }
         }
     }

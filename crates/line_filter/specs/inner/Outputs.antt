@@ -4,4 +4,4 @@ use Rattle.line_filter.specs.declared.sifting.output.Output.{Output}
 
 -- both are made with the same set, and in the same form
 abbrev pub AreEquivalent : Output → Output → Type 0
-AreEquivalent old new = (new.set.now ≡ old.set.now) × (new.numbered ≡ old.numbered)
+AreEquivalent old new = (new.searcher.set ≡ old.searcher.set) × (new.numbered ≡ old.numbered)

@@ -17,28 +17,28 @@ use std::alloc::{AllocError, Global};
 use std::io::Write;
 
 /// What is kept from chunk to chunk.
-pub struct Sifter<'s> {
+pub struct Sifter {
     /// The output for the lines so far.
-    pub output: Output<'s>,
+    pub output: Output,
     /// The beginning of a line whose end was not read yet. The vector keeps its capacity.
     pub rest: Vec<u8>,
 }
 
-impl Drop for Sifter<'_> {
+impl Drop for Sifter {
     // One call wherever a value is dropped, which keeps proofs short.
     fn drop(self) {
         let Sifter { output: _, rest: _ } = self;
     }
 }
 
-impl<'s> Sifter<'s> {
+impl Sifter {
     ghost use Rattle.line_filter.specs.inner.Outputs.{AreEquivalent};
 
     /// Returns a sifter that was given no chunk yet, for this set and this form.
-    pub fn new(alloc: Global, set: &'s GlobSet, numbered: bool) -> Result<Sifter<'s>, AllocError>
+    pub fn new(alloc: Global, set: &GlobSet, numbered: bool) -> Result<Sifter, AllocError>
         ensures empty { IfOk result (λ sifter. sifter.output.pending.items ≡ []) }
         ensures unwritten { IfOk result (λ sifter. sifter.output.any_written ≡ false) }
-        ensures set { IfOk result (λ sifter. sifter.output.set.now ≡ set.now) }
+        ensures set { IfOk result (λ sifter. sifter.output.searcher.set ≡ set.now) }
         ensures numbered { IfOk result (λ sifter. sifter.output.numbered ≡ numbered) }
         ensures rest { IfOk result (λ sifter. sifter.rest.items ≡ []) }
     {
@@ -56,11 +56,11 @@ impl<'s> Sifter<'s> {
     ) -> Result<(), SiftFault>
         requires { self.old.rest.items ≡ [] }
         ensures done { MatchResult result
-            (λ _. Handles (set_globs self.old.output.set.now) self.old.output.numbered bytes.now self.new.rest.items
+            (λ _. Handles (set_globs self.old.output.searcher.set) self.old.output.numbered bytes.now self.new.rest.items
             (W.contents writer.old) (W.contents writer.new)
             self.old.output.pending.items self.new.output.pending.items self.old.output.any_written self.new.output.any_written)
             (FailsMidway (W.contents writer.old) (W.contents writer.new)
-            (self.old.output.pending.items ++ sifted (set_globs self.old.output.set.now) self.old.output.numbered bytes.now)) }
+            (self.old.output.pending.items ++ sifted (set_globs self.old.output.searcher.set) self.old.output.numbered bytes.now)) }
         ensures equivalent { AreEquivalent self.old.output self.new.output }
     {
         let tail = self.output.handle_lines(bytes, writer)?;
@@ -72,11 +72,11 @@ impl<'s> Sifter<'s> {
     pub fn handle_chunk<W: Write>(&mut self, chunk: &[u8], writer: &mut W) -> Result<(), SiftFault>
         requires { list_any is_lf self.old.rest.items ≡ false }
         ensures done { MatchResult result
-            (λ _. Handles (set_globs self.old.output.set.now) self.old.output.numbered (self.old.rest.items ++ chunk.now) self.new.rest.items
+            (λ _. Handles (set_globs self.old.output.searcher.set) self.old.output.numbered (self.old.rest.items ++ chunk.now) self.new.rest.items
             (W.contents writer.old) (W.contents writer.new)
             self.old.output.pending.items self.new.output.pending.items self.old.output.any_written self.new.output.any_written)
             (FailsMidway (W.contents writer.old) (W.contents writer.new)
-            (self.old.output.pending.items ++ sifted (set_globs self.old.output.set.now) self.old.output.numbered (self.old.rest.items ++ chunk.now))) }
+            (self.old.output.pending.items ++ sifted (set_globs self.old.output.searcher.set) self.old.output.numbered (self.old.rest.items ++ chunk.now))) }
         ensures equivalent { AreEquivalent self.old.output self.new.output }
     {
         if self.rest.is_empty() {
@@ -97,10 +97,10 @@ impl<'s> Sifter<'s> {
         requires { list_any is_lf self.old.rest.items ≡ false }
         ensures { MatchResult result
             (λ _. WritesAllBut (W.contents writer.old) (W.contents writer.new)
-            self.new.output.pending.items (self.old.output.pending.items ++ sifted (set_globs self.old.output.set.now) self.old.output.numbered self.old.rest.items)
-            × (self.new.output.any_written ≡ (self.old.output.any_written || has_match (set_globs self.old.output.set.now) self.old.rest.items)))
+            self.new.output.pending.items (self.old.output.pending.items ++ sifted (set_globs self.old.output.searcher.set) self.old.output.numbered self.old.rest.items)
+            × (self.new.output.any_written ≡ (self.old.output.any_written || has_match (set_globs self.old.output.searcher.set) self.old.rest.items)))
             (FailsMidway (W.contents writer.old) (W.contents writer.new)
-            (self.old.output.pending.items ++ sifted (set_globs self.old.output.set.now) self.old.output.numbered self.old.rest.items)) }
+            (self.old.output.pending.items ++ sifted (set_globs self.old.output.searcher.set) self.old.output.numbered self.old.rest.items)) }
     {
         let rest = self.rest.as_slice();
         if rest.is_empty() {
@@ -115,10 +115,10 @@ impl<'s> Sifter<'s> {
         requires { list_any is_lf self.old.rest.items ≡ false }
         ensures { MatchResult result
             (λ any. Appends (W.contents writer.old) (W.contents writer.new)
-            (self.old.output.pending.items ++ sifted (set_globs self.old.output.set.now) self.old.output.numbered self.old.rest.items)
-            × (any ≡ (self.old.output.any_written || has_match (set_globs self.old.output.set.now) self.old.rest.items)))
+            (self.old.output.pending.items ++ sifted (set_globs self.old.output.searcher.set) self.old.output.numbered self.old.rest.items)
+            × (any ≡ (self.old.output.any_written || has_match (set_globs self.old.output.searcher.set) self.old.rest.items)))
             (FailsMidway (W.contents writer.old) (W.contents writer.new)
-            (self.old.output.pending.items ++ sifted (set_globs self.old.output.set.now) self.old.output.numbered self.old.rest.items)) }
+            (self.old.output.pending.items ++ sifted (set_globs self.old.output.searcher.set) self.old.output.numbered self.old.rest.items)) }
     {
         self.handle_rest(writer)?;
         let output = &mut self.output;

@@ -7,4 +7,4 @@ use Rattle.line_filter.proofs.sifting.sift.Given as goal
 abbrev pub invariant-loop : goal.invariant-loop
 invariant-loop g l = (bytes : List ℕ) × Consumes (g.R.Read.remaining l.initial.reader) (g.R.Read.remaining l.reader) bytes
     × Handles (set_globs l.fn.set) l.fn.numbered bytes l.sifter.rest.items (g.W.Write.contents l.initial.writer) (g.W.Write.contents l.writer) [] l.sifter.output.pending.items false l.sifter.output.any_written
-    × (0 < length l.chunk.items) × (l.sifter.output.set.now ≡ l.fn.set) × (l.sifter.output.numbered ≡ l.fn.numbered)
+    × (0 < length l.chunk.items) × (l.sifter.output.searcher.set ≡ l.fn.set) × (l.sifter.output.numbered ≡ l.fn.numbered)

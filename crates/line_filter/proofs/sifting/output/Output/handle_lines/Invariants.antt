@@ -6,7 +6,7 @@ use Rattle.line_filter.proofs.sifting.output.Output.handle_lines.Given as goal
 
 abbrev pub invariant-loop-i : goal.invariant-loop-i
 invariant-loop-i g l = (seen : List ℕ) × (l.fn.bytes ≡ seen ++ l.rest) × AreEquivalent l.initial.self l.self
-    × Handles (set_globs l.initial.self.set.now) l.initial.self.numbered seen [] (g.W.Write.contents l.initial.writer) (g.W.Write.contents l.writer) l.initial.self.pending.items l.self.pending.items l.initial.self.any_written l.self.any_written
+    × Handles (set_globs l.initial.self.searcher.set) l.initial.self.numbered seen [] (g.W.Write.contents l.initial.writer) (g.W.Write.contents l.writer) l.initial.self.pending.items l.self.pending.items l.initial.self.any_written l.self.any_written
 
 abbrev pub decreases-loop-i : goal.decreases-loop-i
 decreases-loop-i g l = length l.rest

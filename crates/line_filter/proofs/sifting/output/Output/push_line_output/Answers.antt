@@ -5,10 +5,10 @@ use Rattle.line_filter.proofs.sifting.output.Output.push_line_output.Goals as go
 pub returns-then-not-branch-clause-done : goal.returns-then-not-branch-clause-done
 returns-then-not-branch-clause-done c =
     let told = c.in_ok-push_index_column.ensures.done in
-    line_skipped (set_globs c.args.self.now.set.now) c.args.self.now.numbered c.args.line.now _ _ _ _ _ told.0 told.1 (told.3 c.if-not-branch.true) c.if-not-branch.true
+    line_skipped (set_globs c.args.self.now.searcher.set) c.args.self.now.numbered c.args.line.now _ _ _ _ _ told.0 told.1 (told.3 c.if-not-branch.true) c.if-not-branch.true
 
 pub returns-clause-done : goal.returns-clause-done
 returns-clause-done c =
     let told = c.in_ok-push_index_column.ensures.done in
-    line_pushed (set_globs c.args.self.now.set.now) c.args.self.now.numbered c.args.line.now _ _ _ _ _ _ told.0 (told.2 c.if-not-branch.false) c.if-not-branch.false
+    line_pushed (set_globs c.args.self.now.searcher.set) c.args.self.now.numbered c.args.line.now _ _ _ _ _ _ told.0 (told.2 c.if-not-branch.false) c.if-not-branch.false
     c.in_ok-extend_from_slice.ensures.items c.in_ok-push.ensures.items

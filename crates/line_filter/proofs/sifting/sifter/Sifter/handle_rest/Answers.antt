@@ -12,7 +12,7 @@ returns-then-is_empty g c = rw (← c.as_slice-rest.ensures.value) (rest_empty _
 pub returns : goal.returns
 returns g c =
     let none = ap (λ (l : List ℕ). list_any is_lf l) c.as_slice-rest.ensures.value ∙ c.requires in
-    let p = rest_filled (set_globs c.args.self.now.output.set.now) c.args.self.now.output.numbered c.as_slice-rest.result.now _ none c.is_empty.ensures c.if-is_empty.false in
+    let p = rest_filled (set_globs c.args.self.now.output.searcher.set) c.args.self.now.output.numbered c.as_slice-rest.result.now _ none c.is_empty.ensures c.if-is_empty.false in
     rw (← c.as_slice-rest.ensures.value) (MatchResult-weaker c.handle_line.result c.handle_line.ensures.done
     (λ u m. rest_handled _ _ c.as_slice-rest.result.now _ _ _ _ _ _ p m)
     (λ f m. rest_fails _ _ c.as_slice-rest.result.now _ _ _ f p.0 m))

@@ -1,0 +1,249 @@
+//! A set with the memory to match with.
+
+ghost use Rattle.std.specs.Prelude.{◌≡◌, ◌≢◌, ◌+◌, ◌≤◌, ◌↔◌, [], IfOk, IfErr, IsTrue, length};
+ghost use Rattle.globset_glob.specs.Errors.{out_of_memory};
+ghost use Rattle.globset_set.specs.Answer.{matching_indexes};
+ghost use Rattle.globset_set.specs.Below.{MatchesBelow};
+ghost use Rattle.globset_set.specs.Work.{max_set_visits, max_set_visits_below};
+ghost use Rattle.set_matcher.specs.Indexes.{ContainsAllBelow};
+ghost use Rattle.globset.specs.SetValue.{set_globs};
+
+use crate::set::GlobSet;
+use globset_glob::{Candidate, Error, Visits};
+use globset_set::StoredSearcher;
+use std::alloc::Global;
+use std::marker::Model;
+
+/// A [`GlobSet`], with all the memory that one thread needs to match paths with it. That is taken when the searcher is made: no
+/// other call takes any, and none of them can fail.
+///
+/// Searchers of the same set share what it matches with. A program with several threads makes a searcher for each of them.
+///
+/// Contracts see a searcher as its set, and as the indexes that it found last. What else earlier calls left in it has no effect.
+///
+/// ```rust
+/// use globset::{Candidate, Glob, GlobSet, Searcher};
+///
+/// let set = GlobSet::new(alloc, [&Glob::new(alloc, "*.c")?, &Glob::new(alloc, "src/*")?])?;
+/// let mut searcher = Searcher::new(alloc, &set)?;
+/// assert!(rt; searcher.is_match(&Candidate::new("a.c")));
+/// assert!(rt; !searcher.matches_all(&Candidate::new("a.c")));
+/// assert_eq!(rt; searcher.matches(&Candidate::new("src/a.c")), [0, 1].as_slice());
+/// assert_eq!(rt; searcher.matches(&Candidate::new("src/a.h")), [1].as_slice());
+/// ```
+pub struct Searcher {
+    set: GlobSet,
+    /// `None` if nothing is stored, as in an empty set.
+    stored: Option<StoredSearcher>,
+    found: Vec<usize>,
+}
+
+impl Drop for Searcher {
+    // One call wherever a value is dropped, which keeps proofs short.
+    fn drop(self) {
+        let Searcher {
+            set: _,
+            stored: _,
+            found: _,
+        } = self;
+    }
+}
+
+impl Model for Searcher {
+    ghost use Rattle.std.specs.Prelude.{◌≡◌, ◌≤◌, length, vec_capacity};
+    ghost use Rattle.globset.specs.SearcherValue.{SearcherValue};
+    ghost use Rattle.globset.specs.SetValue.{set_globs};
+    ghost use Rattle.globset.specs.inner.StoredSet.{stored_set};
+
+    ghost Value = { SearcherValue };
+
+    ghost view = { λ s. record {
+      set = s.set;
+      found = s.found.items;
+    } };
+
+    ghost invariant = { λ s. (stored_set s.stored ≡ s.set) × (length (set_globs s.set) ≤ vec_capacity s.found) };
+}
+
+impl Searcher {
+    ghost use Rattle.std.specs.Borrow.{sem};
+    ghost use Rattle.globset.specs.Lending.{LendsFound};
+
+    /// Returns a searcher of the set, which shares what the set matches with. It takes eight bytes of memory for each glob, and as
+    /// much as a [`Scratch`] for the set. If more than 32 globs need an automaton, it may take up to 16 MB more, for parts of tables
+    /// that it keeps from one path to the next.
+    ///
+    /// Returns an error if memory runs out or if 2^63 sets share it, and no other.
+    pub fn new(alloc: Global, set: &GlobSet) -> Result<Searcher, Error>
+        ensures set { IfOk result (λ s. s.set ≡ set.now) }
+        ensures found { IfOk result (λ s. s.found ≡ []) }
+        ensures err { IfErr result (λ e. e ≡ out_of_memory) }
+    {
+        let set = set.clone()?;
+        let stored = match &set.stored {
+            Some(stored) => Some(stored.searcher(alloc)?),
+            None => None,
+        };
+        let found = Vec::with_capacity(alloc, set.len())?;
+        Ok(Searcher { set, stored, found })
+    }
+
+    /// Returns the set.
+    pub fn set(&self) -> &GlobSet
+        ensures { result.now ≡ self.now.set }
+    {
+        &self.set
+    }
+
+    /// Returns whether some glob that is not excluded matches the candidate's path, as [`GlobSet::is_match_candidate`] does.
+    pub fn is_match(&mut self, path: &Candidate<'_>) -> bool
+        ensures some { IsTrue result ↔ (matching_indexes (set_globs self.old.set) path.now ≢ []) }
+        ensures kept { self.new ≡ self.old }
+    {
+        let mut visits = Visits::new();
+        self.is_match_visits(path, &mut visits)
+    }
+
+    /// The same as [`Searcher::is_match`], which calls it, with a count of the visits: it adds at most as many as
+    /// [`GlobSet::is_match_visits`] may.
+    pub fn is_match_visits(&mut self, path: &Candidate<'_>, visits: &mut Visits) -> bool
+        ensures some { IsTrue result ↔ (matching_indexes (set_globs self.old.set) path.now ≢ []) }
+        ensures kept { self.new ≡ self.old }
+        ensures visits { visits.new ≤ visits.old + max_set_visits (set_globs self.old.set) path.now }
+        ensures counted { visits.old ≤ visits.new }
+        ensures no_visits_if_empty { set_globs self.old.set ≡ [] → visits.new ≡ visits.old }
+    {
+        if self.set.is_empty() {
+            return false;
+        }
+        let Some(stored) = &mut self.stored else {
+            return false;
+        };
+        stored.is_match(path, visits)
+    }
+
+    /// Returns whether every glob matches the candidate's path and none is excluded, as [`GlobSet::matches_all_candidate`] does.
+    pub fn matches_all(&mut self, path: &Candidate<'_>) -> bool
+        ensures all { IsTrue result
+            ↔ ContainsAllBelow (matching_indexes (set_globs self.old.set) path.now) (length (set_globs self.old.set)) }
+        ensures kept { self.new ≡ self.old }
+    {
+        let mut visits = Visits::new();
+        self.matches_all_visits(path, &mut visits)
+    }
+
+    /// The same as [`Searcher::matches_all`], which calls it, with a count of the visits: it adds at most as many as
+    /// [`GlobSet::matches_all_visits`] may.
+    pub fn matches_all_visits(&mut self, path: &Candidate<'_>, visits: &mut Visits) -> bool
+        ensures all { IsTrue result
+            ↔ ContainsAllBelow (matching_indexes (set_globs self.old.set) path.now) (length (set_globs self.old.set)) }
+        ensures kept { self.new ≡ self.old }
+        ensures visits { visits.new ≤ visits.old + max_set_visits (set_globs self.old.set) path.now }
+        ensures counted { visits.old ≤ visits.new }
+        ensures no_visits_if_empty { set_globs self.old.set ≡ [] → visits.new ≡ visits.old }
+    {
+        if self.set.is_empty() {
+            return true;
+        }
+        let Some(stored) = &mut self.stored else {
+            return true;
+        };
+        stored.matches_all(path, visits)
+    }
+
+    /// Finds the indexes, ascending, of the globs that match the candidate's path, which [`Searcher::found`] then returns.
+    /// Excluded globs are left out.
+    pub fn find(&mut self, path: &Candidate<'_>)
+        ensures found { self.new.found ≡ matching_indexes (set_globs self.old.set) path.now }
+        ensures set { self.new.set ≡ self.old.set }
+    {
+        let mut visits = Visits::new();
+        self.find_visits(path, &mut visits);
+    }
+
+    /// The same as [`Searcher::find`], which calls it, with a count of the visits: it adds at most as many as
+    /// [`GlobSet::matches_visits`] may.
+    pub fn find_visits(&mut self, path: &Candidate<'_>, visits: &mut Visits)
+        ensures found { self.new.found ≡ matching_indexes (set_globs self.old.set) path.now }
+        ensures set { self.new.set ≡ self.old.set }
+        ensures visits { visits.new ≤ visits.old + max_set_visits (set_globs self.old.set) path.now }
+        ensures counted { visits.old ≤ visits.new }
+        ensures no_visits_if_empty { set_globs self.old.set ≡ [] → visits.new ≡ visits.old }
+    {
+        self.found.clear();
+        if self.set.is_empty() {
+            return;
+        }
+        let Some(stored) = &mut self.stored else {
+            return;
+        };
+        stored.find(path, &mut self.found, visits);
+    }
+
+    /// Returns the indexes that the last call of [`Searcher::find`], [`Searcher::find_visits`] or [`Searcher::matches`] found, or
+    /// none if there was no such call. Other calls do not change them.
+    ///
+    /// ```rust
+    /// use globset::{Candidate, Glob, GlobSet, Searcher};
+    ///
+    /// let set = GlobSet::new(alloc, [&Glob::new(alloc, "*.c")?, &Glob::new(alloc, "src/*")?])?;
+    /// let mut searcher = Searcher::new(alloc, &set)?;
+    /// assert!(rt; searcher.found().is_empty());
+    /// searcher.find(&Candidate::new("src/a.c"));
+    /// assert!(rt; !searcher.is_match(&Candidate::new("a.h")));
+    /// assert_eq!(rt; searcher.found(), [0, 1].as_slice());
+    /// ```
+    pub fn found(&self) -> &[usize]
+        ensures { result.now ≡ self.now.found }
+    {
+        self.found.as_slice()
+    }
+
+    /// Returns the indexes, ascending, of the globs that match the candidate's path, as [`GlobSet::matches_candidate`] does. It
+    /// calls [`Searcher::find`], and so [`Searcher::found`] returns them too.
+    pub fn matches(&mut self, path: &Candidate<'_>) -> &[usize]
+        ensures* lends { sem 𝓛 (LendsFound self.entry result) }
+        ensures found { result.now ≡ matching_indexes (set_globs self.old.set) path.now }
+    {
+        self.find(path);
+        self.found()
+    }
+
+    /// Returns whether some glob that is not excluded matches some path below the candidate's path, as
+    /// [`GlobSet::can_match_below_candidate`] does.
+    ///
+    /// ```rust
+    /// use globset::{Candidate, Glob, GlobSet, Searcher};
+    ///
+    /// let set = GlobSet::new(alloc, [&Glob::new(alloc, "src/**")?])?;
+    /// let mut searcher = Searcher::new(alloc, &set)?;
+    ///
+    /// // A walk has come to the folder `target`. It opens it only if some path below it can match.
+    /// assert!(rt; !searcher.can_match_below(&Candidate::new("target")));
+    /// ```
+    pub fn can_match_below(&mut self, folder: &Candidate<'_>) -> bool
+        ensures some { IsTrue result ↔ MatchesBelow (set_globs self.old.set) folder.now }
+        ensures kept { self.new ≡ self.old }
+    {
+        let mut visits = Visits::new();
+        self.can_match_below_visits(folder, &mut visits)
+    }
+
+    /// The same as [`Searcher::can_match_below`], which calls it, with a count of the visits: it adds at most as many as
+    /// [`GlobSet::can_match_below_visits`] may.
+    pub fn can_match_below_visits(&mut self, folder: &Candidate<'_>, visits: &mut Visits) -> bool
+        ensures some { IsTrue result ↔ MatchesBelow (set_globs self.old.set) folder.now }
+        ensures kept { self.new ≡ self.old }
+        ensures visits { visits.new ≤ visits.old + max_set_visits_below (set_globs self.old.set) folder.now }
+        ensures counted { visits.old ≤ visits.new }
+        ensures no_visits_if_empty { set_globs self.old.set ≡ [] → visits.new ≡ visits.old }
+    {
+        if self.set.is_empty() {
+            return false;
+        }
+        let Some(stored) = &mut self.stored else {
+            return false;
+        };
+        stored.can_match_below(folder, visits)
+    }
+}

@@ -1,0 +1,136 @@
+//! A matcher with the memory to match with.
+
+ghost use Rattle.std.specs.Prelude.{◌≡◌, ◌+◌, ◌≤◌, ◌↔◌, IfOk, IfErr, IsTrue};
+ghost use Rattle.glob_text.specs.Cost.{max_visits, max_visits_below};
+ghost use Rattle.glob_text.specs.Errors.{out_of_memory};
+ghost use Rattle.glob_text.specs.GlobMatches.{glob_matches};
+ghost use Rattle.globset_glob.specs.GlobBelow.{GlobMatchesBelow};
+
+use crate::internal::max_states_of;
+use crate::matcher::GlobMatcher;
+use glob_path::Candidate;
+use glob_text::Error;
+use nfa_simulation::StateSets;
+use std::alloc::{AllocError, Global};
+use std::marker::Model;
+use visits::Visits;
+
+/// A [`GlobMatcher`], with all the memory that one thread needs to match paths with it. That is taken when the searcher is made: no
+/// other call takes any, and none of them can fail.
+///
+/// Contracts see a searcher as its glob.
+///
+/// ```rust
+/// use globset::{Candidate, Glob, MatcherSearcher};
+///
+/// let matcher = Glob::new(alloc, "*{foo,bar}*")?.compile_matcher()?;
+/// let mut searcher = MatcherSearcher::new(alloc, &matcher)?;
+/// assert!(rt; searcher.is_match(&Candidate::new("a/foo")));
+/// assert!(rt; !searcher.is_match(&Candidate::new("a/fo")));
+/// ```
+pub struct MatcherSearcher {
+    matcher: GlobMatcher,
+    sets: StateSets,
+}
+
+impl Drop for MatcherSearcher {
+    // One call wherever a value is dropped, which keeps proofs short.
+    fn drop(self) {
+        let MatcherSearcher {
+            matcher: _,
+            sets: _,
+        } = self;
+    }
+}
+
+impl Model for MatcherSearcher {
+    ghost use Rattle.std.specs.Prelude.{◌≤◌};
+    ghost use Rattle.nfa_simulation.specs.Sets.{sets_capacity};
+    ghost use Rattle.glob_text.specs.Cost.{cost};
+    ghost use Rattle.glob_text.specs.GlobMatches.{GlobValue};
+
+    ghost Value = { GlobValue };
+
+    ghost view = { λ s. s.matcher };
+
+    ghost invariant = { λ s. cost s.matcher ≤ sets_capacity s.sets };
+}
+
+impl MatcherSearcher {
+    /// Returns a searcher that matches as the matcher does. It copies the matcher's glob and shares its automaton, and takes a byte
+    /// of memory for each byte of the glob's text and one more, or four times as much under `whole_character`.
+    ///
+    /// Returns an error if memory runs out or if 2^63 matchers share the automaton, and no other.
+    pub fn new(alloc: Global, matcher: &GlobMatcher) -> Result<MatcherSearcher, Error>
+        ensures ok { IfOk result (λ s. s ≡ matcher.now) }
+        ensures err { IfErr result (λ e. e ≡ out_of_memory) }
+    {
+        let states = max_states_of(matcher).ok_or(AllocError)?;
+        let mut sets = StateSets::new(alloc);
+        sets.reserve(states)?;
+        Ok(MatcherSearcher {
+            matcher: matcher.clone()?,
+            sets,
+        })
+    }
+
+    /// Returns the matcher that the searcher matches as.
+    pub fn matcher(&self) -> &GlobMatcher
+        ensures { result.now ≡ self.now }
+    {
+        &self.matcher
+    }
+
+    /// Returns whether the glob matches a candidate's path, as [`GlobMatcher::is_match_candidate`] does.
+    pub fn is_match(&mut self, path: &Candidate<'_>) -> bool
+        ensures matches { result ≡ glob_matches self.old path.now }
+        ensures kept { self.new ≡ self.old }
+    {
+        let mut visits = Visits::new();
+        self.is_match_visits(path, &mut visits)
+    }
+
+    /// Does what [`is_match`](MatcherSearcher::is_match) does, and adds its visits to `visits`: at most as many as
+    /// [`GlobMatcher::is_match_visits`] may.
+    pub fn is_match_visits(&mut self, path: &Candidate<'_>, visits: &mut Visits) -> bool
+        ensures matches { result ≡ glob_matches self.old path.now }
+        ensures kept { self.new ≡ self.old }
+        ensures visits { visits.new ≤ visits.old + max_visits self.old path.now }
+        ensures counted { visits.old ≤ visits.new }
+    {
+        self.matcher
+            .is_match_in(path, &mut self.sets, visits)
+            .unwrap()
+    }
+
+    /// Returns whether the glob matches some path below a candidate's path, as [`GlobMatcher::can_match_below_candidate`] does.
+    ///
+    /// ```rust
+    /// use globset::{Candidate, Glob, MatcherSearcher};
+    ///
+    /// let matcher = Glob::new(alloc, "docs/{a,b}*.md")?.compile_matcher()?;
+    /// let mut searcher = MatcherSearcher::new(alloc, &matcher)?;
+    /// assert!(rt; searcher.can_match_below(&Candidate::new("docs")));
+    /// assert!(rt; !searcher.can_match_below(&Candidate::new("src")));
+    /// ```
+    pub fn can_match_below(&mut self, folder: &Candidate<'_>) -> bool
+        ensures some { IsTrue result ↔ GlobMatchesBelow self.old folder.now }
+        ensures kept { self.new ≡ self.old }
+    {
+        let mut visits = Visits::new();
+        self.can_match_below_visits(folder, &mut visits)
+    }
+
+    /// Does what [`can_match_below`](MatcherSearcher::can_match_below) does, and adds its visits to `visits`: at most as many as
+    /// [`GlobMatcher::can_match_below_visits`] may.
+    pub fn can_match_below_visits(&mut self, folder: &Candidate<'_>, visits: &mut Visits) -> bool
+        ensures some { IsTrue result ↔ GlobMatchesBelow self.old folder.now }
+        ensures kept { self.new ≡ self.old }
+        ensures visits { visits.new ≤ visits.old + max_visits_below self.old folder.now }
+        ensures counted { visits.old ≤ visits.new }
+    {
+        self.matcher
+            .can_match_below_in(folder, &mut self.sets, visits)
+            .unwrap()
+    }
+}
