@@ -2,3 +2,4 @@
 pub mod Compiled
 pub mod Parts
 pub mod Filtered
+pub mod Rows

@@ -1,6 +1,6 @@
 //! Automata as they are run over paths.
 
-ghost use Rattle.std.specs.Prelude.{◌≡◌, ◌+◌, ◌*◌, ◌≤◌, ◌↔◌, ◌⊎◌, ◌++◌, ◌∷◌, [], ℕ, List, length, IsTrue, IsOk, OnOk, IfOk};
+ghost use Rattle.std.specs.Prelude.{◌≡◌, ◌+◌, ◌*◌, ◌≤◌, ◌↔◌, ◌⊎◌, ◌++◌, ◌∷◌, [], ℕ, List, length, IsTrue, IsOk, OnOk, IfOk, IfSome};
 ghost use Rattle.byte_nfa.specs.Runs.{size, max_reads};
 ghost use Rattle.bit_sets.specs.Indexes.{has_index, index_capacity};
 ghost use Rattle.nfa_simulation.specs.Sets.{sets_capacity};
@@ -11,6 +11,7 @@ use crate::budget::Budget;
 use crate::filtered::{Filtered, filter_for};
 use crate::partition::{joint, partitioned};
 use crate::parts::Parts;
+use crate::rows::{RowCache, RowSource};
 use crate::simulation;
 use bit_sets::IndexSet;
 use byte_nfa::Draft;
@@ -32,22 +33,30 @@ enum Strategy {
 /// each byte, and no memory. Contracts see the automaton.
 pub struct Compiled {
     strategy: Strategy,
+    /// What the rows of a [`RowCache`] are made from, if runs with one take less time.
+    rows: Option<RowSource>,
 }
 
 impl Drop for Compiled {
     // One call wherever a value is dropped, which keeps proofs short.
     fn drop(self) {
-        let Compiled { strategy: _ } = self;
+        let Compiled {
+            strategy: _,
+            rows: _,
+        } = self;
     }
 }
 
 impl Model for Compiled {
+    ghost use Rattle.std.specs.Prelude.{◌≡◌, IfSome};
     ghost use Rattle.byte_nfa.specs.Steps.{Machine};
     ghost use Rattle.glob_matching.specs.inner.Compiled.{machine_of};
 
     ghost Value = { Machine };
 
     ghost view = { λ c. machine_of c.strategy };
+
+    ghost invariant = { λ c. IfSome c.rows (λ r. r ≡ machine_of c.strategy) };
 }
 
 impl Compiled {
@@ -66,22 +75,53 @@ impl Compiled {
     pub fn new(alloc: Global, budget: &mut Budget, automaton: Draft) -> Result<Compiled, AllocError>
         ensures { IfOk result (λ c. c ≡ automaton) }
     {
+        Compiled::made(alloc, budget, automaton, false)
+    }
+
+    /// The same as [`Compiled::new`], for runs with a [`RowCache`] too. So it takes more time and memory, linear in the states, if
+    /// there are more than 32 starts and the automaton is not deterministic as a whole.
+    pub fn with_rows(
+        alloc: Global,
+        budget: &mut Budget,
+        automaton: Draft,
+    ) -> Result<Compiled, AllocError>
+        ensures { IfOk result (λ c. c ≡ automaton) }
+    {
+        Compiled::made(alloc, budget, automaton, true)
+    }
+
+    /// Returns an automaton as it is run, and if `with_rows` is set, what rows are made from.
+    fn made(
+        alloc: Global,
+        budget: &mut Budget,
+        automaton: Draft,
+        with_rows: bool,
+    ) -> Result<Compiled, AllocError>
+        ensures { IfOk result (λ c. c ≡ automaton) }
+    {
         if !is_large(*budget, &automaton) {
-            return Compiled::partitioned(alloc, budget, automaton);
+            return Compiled::partitioned(alloc, budget, automaton, None);
         }
         if let Some(parts) = joint(alloc, budget, &automaton)? {
             return Ok(Compiled {
                 strategy: Strategy::Partitioned(parts),
+                rows: None,
             });
         }
+        let rows = if with_rows {
+            RowSource::new(alloc, &automaton)?
+        } else {
+            None
+        };
         match filter_for(alloc, &automaton)? {
             Some(filter) => Ok(Compiled {
                 strategy: Strategy::Filtered(Box::new(
                     alloc,
                     Filtered::of(Nfa::with_blocks(automaton)?, filter),
                 )?),
+                rows,
             }),
-            None => Compiled::partitioned(alloc, budget, automaton),
+            None => Compiled::partitioned(alloc, budget, automaton, rows),
         }
     }
 
@@ -90,15 +130,16 @@ impl Compiled {
         alloc: Global,
         budget: &mut Budget,
         automaton: Draft,
+        rows: Option<RowSource>,
     ) -> Result<Compiled, AllocError>
+        requires { IfSome rows (λ r. r ≡ automaton) }
         ensures { IfOk result (λ c. c ≡ automaton) }
     {
-        match partitioned(alloc, budget, &automaton)? {
-            Some(parts) => Ok(Compiled {
-                strategy: Strategy::Partitioned(parts),
-            }),
-            None => Ok(Compiled::simulated(Nfa::with_blocks(automaton)?)),
-        }
+        let strategy = match partitioned(alloc, budget, &automaton)? {
+            Some(parts) => Strategy::Partitioned(parts),
+            None => Strategy::Whole(Nfa::with_blocks(automaton)?),
+        };
+        Ok(Compiled { strategy, rows })
     }
 
     /// Returns an automaton that is simulated as a whole. It allocates nothing.
@@ -107,6 +148,18 @@ impl Compiled {
     {
         Compiled {
             strategy: Strategy::Whole(automaton),
+            rows: None,
+        }
+    }
+
+    /// Returns a cache with no rows for this automaton, or `None` if runs need none. All memory that it needs is taken here. Returns
+    /// an error if memory runs out.
+    pub fn new_cache(&self, alloc: Global) -> Result<Option<RowCache>, AllocError>
+        ensures { IfOk result (λ made. IfSome made (λ cache. cache ≡ self.now)) }
+    {
+        match &self.rows {
+            Some(rows) => Ok(Some(rows.new_cache(alloc)?)),
+            None => Ok(None),
         }
     }
 
@@ -177,6 +230,58 @@ impl Compiled {
             Strategy::Whole(automaton) => simulation::is_match(automaton, text, sets, visits),
             Strategy::Partitioned(parts) => parts.is_match(text, sets, visits),
             Strategy::Filtered(filtered) => filtered.is_match(text, sets, visits),
+        }
+    }
+}
+
+impl Compiled {
+    /// The same as [`Compiled::find`], by the rows of a cache if there is one. Then it takes no memory, and cannot fail.
+    pub fn find_with(
+        &self,
+        text: &[u8],
+        sets: &mut StateSets,
+        cache: &mut Option<RowCache>,
+        found: &mut IndexSet,
+        visits: &mut Visits,
+    ) -> Result<(), AllocError>
+        requires count { self.now.index_count ≤ index_capacity found.old }
+        requires cache { IfSome cache.old (λ c. c ≡ self.now) }
+        ensures cache { cache.new ≡ cache.old }
+        ensures room { index_capacity found.new ≡ index_capacity found.old }
+        ensures found { OnOk result ((xs : List IndexedTokens) → IsFor self.now xs → (k : ℕ) → IsTrue (has_index found.new k) ↔ (SomeMatches xs text.now k ⊎ IsTrue (has_index found.old k))) }
+        ensures kept { sets_capacity sets.old ≤ sets_capacity sets.new }
+        ensures memory { size self.now ≤ sets_capacity sets.old → IsOk result }
+        ensures visits { visits.new ≤ visits.old + (length text.now + 1) * max_reads self.now }
+        ensures counted { visits.old ≤ visits.new }
+    {
+        match cache {
+            Some(rows) => {
+                rows.find(text, found, visits);
+                Ok(())
+            }
+            None => self.find(text, sets, found, visits),
+        }
+    }
+
+    /// The same as [`Compiled::is_match`], by the rows of a cache if there is one. Then it takes no memory, and cannot fail.
+    pub fn is_match_with(
+        &self,
+        text: &[u8],
+        sets: &mut StateSets,
+        cache: &mut Option<RowCache>,
+        visits: &mut Visits,
+    ) -> Result<bool, AllocError>
+        requires { IfSome cache.old (λ c. c ≡ self.now) }
+        ensures cache { cache.new ≡ cache.old }
+        ensures some { IfOk result (λ yes. (xs : List IndexedTokens) → IsFor self.now xs → IsTrue yes ↔ ((k : ℕ) × SomeMatches xs text.now k)) }
+        ensures kept { sets_capacity sets.old ≤ sets_capacity sets.new }
+        ensures memory { size self.now ≤ sets_capacity sets.old → IsOk result }
+        ensures visits { visits.new ≤ visits.old + (length text.now + 1) * max_reads self.now }
+        ensures counted { visits.old ≤ visits.new }
+    {
+        match cache {
+            Some(rows) => Ok(rows.is_match(text, visits)),
+            None => self.is_match(text, sets, visits),
         }
     }
 }

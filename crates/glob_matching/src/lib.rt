@@ -10,7 +10,9 @@ mod compiled;
 mod filtered;
 mod partition;
 mod parts;
+mod rows;
 mod simulation;
 
 pub use budget::{Budget, DEFAULT_DFA_SIZE_LIMIT};
 pub use compiled::Compiled;
+pub use rows::RowCache;

@@ -1,1 +1,2 @@
 pub mod StoredGlobs
+pub mod SharedValue

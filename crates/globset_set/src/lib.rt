@@ -5,7 +5,10 @@
 #![tactic(auto)]
 
 mod building;
+mod searcher;
+mod shared;
 mod stored;
 
 pub use building::StoredBuilder;
+pub use searcher::StoredSearcher;
 pub use stored::Stored;

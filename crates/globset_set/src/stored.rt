@@ -1,6 +1,6 @@
 //! What a set stores.
 
-ghost use Rattle.std.specs.Prelude.{◌≡◌, ◌≢◌, ◌↔◌, [], ℕ, ◌+◌, ◌≤◌, All, IfOk, IfErr, IsOk, OnOk, OnErr, IsTrue, length, map, vec_capacity};
+ghost use Rattle.std.specs.Prelude.{◌≡◌, ◌≢◌, ◌↔◌, [], ℕ, ◌+◌, ◌≤◌, All, IfOk, IfErr, IsOk, OnOk, OnErr, IsTrue, length, vec_capacity};
 ghost use Rattle.glob_text.specs.Errors.{out_of_memory};
 ghost use Rattle.glob_text.specs.GlobMatches.{IsRead};
 ghost use Rattle.globset_set.specs.Answer.{matching_indexes};
@@ -11,21 +11,20 @@ ghost use Rattle.globset_set.specs.inner.StoredGlobs.{AreStored};
 ghost use Rattle.set_matcher.specs.Indexes.{ContainsAllBelow};
 ghost use Rattle.set_matcher.specs.inner.Capacity.{HasCapacity, KeepsCapacity};
 
+use crate::searcher::StoredSearcher;
+use crate::shared::Shared;
 use glob_path::Candidate;
 use glob_text::{Error, GivenGlobs};
-use set_matcher::{MatchingSets, SetMatcher};
+use set_matcher::{Caches, MatchingSets, SetMatcher};
 use std::alloc::{AllocError, Global};
 use std::fmt;
 use std::marker::Model;
-use std::sync::Arc;
 use visits::Visits;
 
-/// What a set needs to match: a matcher that decides which of its globs match a path. The index of a glob is its position. Of the
-/// globs themselves nothing is kept but what contracts see, which takes no memory.
+/// What a set needs to match. Contracts see the list of its globs, and the number of states of the largest automaton.
 pub struct Stored {
     alloc: Global,
-    globs: GivenGlobs,
-    matcher: Arc<SetMatcher>,
+    shared: Shared,
 }
 
 impl Drop for Stored {
@@ -33,25 +32,17 @@ impl Drop for Stored {
     fn drop(self) {
         let Stored {
             alloc: _,
-            globs: _,
-            matcher: _,
+            shared: _,
         } = self;
     }
 }
 
 impl Model for Stored {
-    ghost use Rattle.std.specs.Arc.{arc_value};
     ghost use Rattle.globset_set.specs.SetValue.{SetValue};
-    ghost use Rattle.globset_set.specs.inner.StoredGlobs.{AreStored};
 
     ghost Value = { SetValue };
 
-    ghost view = { λ s. record {
-      globs = s.globs;
-      states = (arc_value s.matcher).states;
-    } };
-
-    ghost invariant = { λ s. AreStored s.globs (arc_value s.matcher) };
+    ghost view = { λ s. s.shared.set };
 }
 
 impl Stored {
@@ -64,20 +55,19 @@ impl Stored {
         requires { AreStored globs matcher }
         ensures { IfOk result (λ s. set_globs s ≡ globs) }
     {
-        let matcher = Arc::new(alloc, matcher)?;
         Ok(Stored {
             alloc,
-            globs,
-            matcher,
+            shared: Shared::of_matcher(alloc, globs, matcher)?,
         })
     }
 
-    /// Returns the matcher.
-    fn matcher(&self) -> &SetMatcher
-        ensures stored { AreStored (set_globs self.now) result.now }
-        ensures states { result.now.states ≡ set_states self.now }
+    /// Returns a searcher of the set, with all memory that it needs. Returns an error if memory runs out or if 2^63 values share the
+    /// matcher, and no other.
+    pub fn searcher(&self, alloc: Global) -> Result<StoredSearcher, Error>
+        ensures ok { IfOk result (λ s. s ≡ self.now) }
+        ensures err { IfErr result (λ e. e ≡ out_of_memory) }
     {
-        &self.matcher
+        StoredSearcher::new(alloc, &self.shared)
     }
 
     /// Returns the number of globs, each of which was read.
@@ -85,19 +75,19 @@ impl Stored {
         ensures count { result ≡ length (set_globs self.now) }
         ensures read { All IsRead (set_globs self.now) }
     {
-        self.matcher().len()
+        self.shared.len()
     }
 
     /// Returns the number of states of the largest automaton.
     pub fn max_states(&self) -> usize
         ensures { result ≡ set_states self.now }
     {
-        self.matcher().max_states()
+        self.shared.max_states()
     }
 
     /// Returns how many bytes the tables of deterministic automata take. It takes time linear in the number of these.
     pub fn table_bytes(&self) -> usize {
-        self.matcher().table_bytes()
+        self.shared.table_bytes()
     }
 
     /// Returns sets without room, to match with. It allocates nothing.
@@ -124,8 +114,8 @@ impl Stored {
         ensures visits { visits.new ≤ visits.old + max_set_visits (set_globs self.now) path.now }
         ensures counted { visits.old ≤ visits.new }
     {
-        self.matcher().find(path, sets, into, visits)?;
-        Ok(())
+        self.shared
+            .find(path, sets, &mut Caches::none(), into, visits)
     }
 
     /// Returns whether some glob that is not excluded matches the path.
@@ -145,7 +135,8 @@ impl Stored {
         ensures visits { visits.new ≤ visits.old + max_set_visits (set_globs self.now) path.now }
         ensures counted { visits.old ≤ visits.new }
     {
-        Ok(self.matcher().is_match(path, sets, visits)?)
+        self.shared
+            .is_match(path, sets, &mut Caches::none(), visits)
     }
 
     /// Returns whether some glob that is not excluded matches some path below a folder.
@@ -165,7 +156,7 @@ impl Stored {
         ensures visits { visits.new ≤ visits.old + max_set_visits_below (set_globs self.now) folder.now }
         ensures counted { visits.old ≤ visits.new }
     {
-        Ok(self.matcher().can_match_below(folder.path(), sets, visits)?)
+        self.shared.can_match_below(folder, sets, visits)
     }
 
     /// Returns whether every glob matches the path and none is excluded.
@@ -185,7 +176,8 @@ impl Stored {
         ensures visits { visits.new ≤ visits.old + max_set_visits (set_globs self.now) path.now }
         ensures counted { visits.old ≤ visits.new }
     {
-        Ok(self.matcher().matches_all(path, sets, visits)?)
+        self.shared
+            .matches_all(path, sets, &mut Caches::none(), visits)
     }
 
     /// Returns an equal value, which shares the matcher. It takes no memory. Returns an error if 2^63 values share it, and no other.
@@ -193,11 +185,9 @@ impl Stored {
         ensures ok { IfOk result (λ s. s ≡ self.now) }
         ensures err { IfErr result (λ e. e ≡ out_of_memory) }
     {
-        let matcher = Arc::try_clone(&self.matcher)?;
         Ok(Stored {
             alloc: self.alloc,
-            globs: self.globs.copy(),
-            matcher,
+            shared: self.shared.clone()?,
         })
     }
 }

@@ -4,3 +4,4 @@ pub mod GivenTokens
 pub mod SetMatcher
 pub mod Capacity
 pub mod ExtensionSlots
+pub mod Caches

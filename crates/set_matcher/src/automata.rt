@@ -1,6 +1,6 @@
 //! Globs that no text decides: automata of their tokens.
 
-ghost use Rattle.std.specs.Prelude.{◌≡◌, ◌+◌, ◌*◌, ◌<◌, ◌≤◌, ◌++◌, ◌∷◌, ◌↔◌, ◌⊎◌, [], ℕ, List, length, true, false, IsTrue, IsOk, OnOk, IfOk, cond};
+ghost use Rattle.std.specs.Prelude.{◌≡◌, ◌+◌, ◌*◌, ◌<◌, ◌≤◌, ◌++◌, ◌∷◌, ◌↔◌, ◌⊎◌, [], ℕ, List, length, true, false, IsTrue, IsOk, OnOk, IfOk, IfSome, cond};
 ghost use Rattle.std.specs.Str.{bytes_eq};
 ghost use Rattle.byte_nfa.specs.Runs.{size, max_reads};
 ghost use Rattle.bit_sets.specs.Indexes.{has_index, index_capacity};
@@ -10,6 +10,7 @@ ghost use Rattle.glob_path.specs.PathParts.{component_extension, last_component}
 ghost use Rattle.glob_syntax.specs.FlatTokens.{IsNested};
 ghost use Rattle.glob_syntax.specs.Views.{flats, tokens_of};
 ghost use Rattle.glob_syntax.specs.inner.Weight.{weight};
+ghost use Rattle.set_matcher.specs.inner.Caches.{AreCachesOf};
 ghost use Rattle.set_matcher.specs.inner.Capacity.{HasCapacity, KeepsCapacity};
 ghost use Rattle.set_matcher.specs.inner.Automata.{AddsTokens, AreFor, AreForLists, AreFound, AreIdle, IsFoundSet, TokenLists, before_extension, machine_under, max_size, max_states, reads_for, states_for, tokens_under, total_reads};
 
@@ -17,10 +18,11 @@ mod below;
 mod matchers;
 mod slots;
 
+use crate::caches::Caches;
 use crate::matching_sets::MatchingSets;
 use below::has_text;
 use byte_nfa::Builder;
-use glob_matching::{Budget, Compiled};
+use glob_matching::{Budget, Compiled, RowCache};
 use glob_nfa::{add_tokens, new_builder};
 use glob_path::{Candidate, component_extension_of, last_component_of};
 use glob_syntax::{Options, Token};
@@ -92,13 +94,27 @@ impl Automata {
             .saturating_add(self.extensions.table_bytes())
     }
 
+    /// Returns caches with no rows for the automata for whole paths and for last components, where runs need one. All memory that they
+    /// need is taken here. Returns an error if memory runs out.
+    pub fn new_caches(&self, alloc: Global) -> Result<Caches, AllocError>
+        ensures { IfOk result (λ caches. AreCachesOf self.now caches) }
+    {
+        Ok(Caches {
+            by_path: self.by_path.new_cache(alloc)?,
+            by_component: self.by_component.new_cache(alloc)?,
+        })
+    }
+
     /// Marks the indexes of the globs that match the path, and no others. Returns an error if memory runs out.
     pub fn mark(
         &self,
         path: &[u8],
         sets: &mut MatchingSets,
+        caches: &mut Caches,
         visits: &mut Visits,
     ) -> Result<(), AllocError>
+        requires { AreCachesOf self.now caches.old }
+        ensures caches { caches.new ≡ caches.old }
         ensures room { OnOk result (self.now.extensions.index_count ≤ index_capacity sets.new.marks) }
         ensures marked { OnOk result ((t : TokenLists) → AreForLists self.now t → (k : ℕ) → IsTrue (has_index sets.new.marks k) ↔ AreFound self.now.extensions.matchers t path.now k) }
         ensures kept { KeepsCapacity sets.old sets.new }
@@ -106,7 +122,7 @@ impl Automata {
         ensures visits { visits.new ≤ visits.old + (1 + (length path.now + 1) * reads_for self.now path.now) }
         ensures counted { visits.old ≤ visits.new }
     {
-        if self.find(path, sets, visits)? {
+        if self.find(path, sets, caches, visits)? {
             return Ok(());
         }
         sets.clear_marks(self.index_count())
@@ -120,8 +136,11 @@ impl Automata {
         &self,
         path: &[u8],
         sets: &mut MatchingSets,
+        caches: &mut Caches,
         visits: &mut Visits,
     ) -> Result<bool, AllocError>
+        requires { AreCachesOf self.now caches.old }
+        ensures caches { caches.new ≡ caches.old }
         ensures found { IfOk result (λ some. some ≡ true → IsFoundSet self.now path.now sets.new.marks) }
         ensures idle { IfOk result (λ some. some ≡ false → AreIdle self.now path.now) }
         ensures kept { KeepsCapacity sets.old sets.new }
@@ -135,8 +154,14 @@ impl Automata {
             return Ok(false);
         }
         sets.clear_marks(self.index_count())?;
-        run_by_path(&self.by_path, path, sets, visits)?;
-        run_by_component(&self.by_component, path, sets, visits)?;
+        run_by_path(&self.by_path, path, sets, &mut caches.by_path, visits)?;
+        run_by_component(
+            &self.by_component,
+            path,
+            sets,
+            &mut caches.by_component,
+            visits,
+        )?;
         run_by_extension(by_extension, path, sets, visits)?;
         Ok(true)
     }
@@ -148,8 +173,11 @@ impl Automata {
         &self,
         path: &Candidate<'_>,
         sets: &mut StateSets,
+        caches: &mut Caches,
         visits: &mut Visits,
     ) -> Result<bool, AllocError>
+        requires { AreCachesOf self.now caches.old }
+        ensures caches { caches.new ≡ caches.old }
         ensures some { IfOk result (λ yes. (t : TokenLists) → AreForLists self.now t → IsTrue yes ↔ ((k : ℕ) × AreFound self.now.extensions.matchers t path.now k)) }
         ensures kept { sets_capacity sets.old ≤ sets_capacity sets.new }
         ensures memory { states_for self.now path.now ≡ 0 → IsOk result }
@@ -157,10 +185,22 @@ impl Automata {
         ensures visits { visits.new ≤ visits.old + (1 + (length path.now + 1) * reads_for self.now path.now) }
         ensures counted { visits.old ≤ visits.new }
     {
-        if is_match_by_path(&self.by_path, path.path(), sets, visits)? {
+        if is_match_by_path(
+            &self.by_path,
+            path.path(),
+            sets,
+            &mut caches.by_path,
+            visits,
+        )? {
             return Ok(true);
         }
-        if is_match_by_component(&self.by_component, path.path(), sets, visits)? {
+        if is_match_by_component(
+            &self.by_component,
+            path.path(),
+            sets,
+            &mut caches.by_component,
+            visits,
+        )? {
             return Ok(true);
         }
         let by_extension = self.by_extension(path, visits);
@@ -199,9 +239,12 @@ fn run_by_path(
     automaton: &Compiled,
     path: &[u8],
     sets: &mut MatchingSets,
+    cache: &mut Option<RowCache>,
     visits: &mut Visits,
 ) -> Result<(), AllocError>
-    requires { automaton.now.index_count ≤ index_capacity sets.old.marks }
+    requires count { automaton.now.index_count ≤ index_capacity sets.old.marks }
+    requires cache { IfSome cache.old (λ c. c ≡ automaton.now) }
+    ensures cache { cache.new ≡ cache.old }
     ensures found { OnOk result ((xs : List IndexedTokens) → IsFor automaton.now xs → (k : ℕ) → IsTrue (has_index sets.new.marks k) ↔ (SomeMatches xs path.now k ⊎ IsTrue (has_index sets.old.marks k))) }
     ensures kept { KeepsCapacity sets.old sets.new }
     ensures memory { size automaton.now ≤ sets_capacity sets.old.states → IsOk result }
@@ -211,7 +254,7 @@ fn run_by_path(
     if automaton.state_count() == 0 {
         return Ok(());
     }
-    automaton.find(path, &mut sets.states, &mut sets.marks, visits)
+    automaton.find_with(path, &mut sets.states, cache, &mut sets.marks, visits)
 }
 
 /// Returns whether the whole path matches tokens.
@@ -219,8 +262,11 @@ fn is_match_by_path(
     automaton: &Compiled,
     path: &[u8],
     sets: &mut StateSets,
+    cache: &mut Option<RowCache>,
     visits: &mut Visits,
 ) -> Result<bool, AllocError>
+    requires { IfSome cache.old (λ c. c ≡ automaton.now) }
+    ensures cache { cache.new ≡ cache.old }
     ensures some { IfOk result (λ yes. (xs : List IndexedTokens) → IsFor automaton.now xs → IsTrue yes ↔ ((k : ℕ) × SomeMatches xs path.now k)) }
     ensures kept { sets_capacity sets.old ≤ sets_capacity sets.new }
     ensures memory { size automaton.now ≤ sets_capacity sets.old → IsOk result }
@@ -230,7 +276,7 @@ fn is_match_by_path(
     if automaton.state_count() == 0 {
         return Ok(false);
     }
-    automaton.is_match(path, sets, visits)
+    automaton.is_match_with(path, sets, cache, visits)
 }
 
 /// Marks the indexes of the globs that the path's last component matches, beside those that are marked. The component is only
@@ -239,9 +285,12 @@ fn run_by_component(
     automaton: &Compiled,
     path: &[u8],
     sets: &mut MatchingSets,
+    cache: &mut Option<RowCache>,
     visits: &mut Visits,
 ) -> Result<(), AllocError>
-    requires { automaton.now.index_count ≤ index_capacity sets.old.marks }
+    requires count { automaton.now.index_count ≤ index_capacity sets.old.marks }
+    requires cache { IfSome cache.old (λ c. c ≡ automaton.now) }
+    ensures cache { cache.new ≡ cache.old }
     ensures found { OnOk result ((xs : List IndexedTokens) → IsFor automaton.now xs → (k : ℕ) → IsTrue (has_index sets.new.marks k) ↔ (SomeMatches xs (last_component path.now) k ⊎ IsTrue (has_index sets.old.marks k))) }
     ensures kept { KeepsCapacity sets.old sets.new }
     ensures memory { size automaton.now ≤ sets_capacity sets.old.states → IsOk result }
@@ -252,7 +301,7 @@ fn run_by_component(
         return Ok(());
     }
     let component = last_component_of(&Candidate::from_bytes(path));
-    automaton.find(component, &mut sets.states, &mut sets.marks, visits)
+    automaton.find_with(component, &mut sets.states, cache, &mut sets.marks, visits)
 }
 
 /// Returns whether the path's last component matches tokens. It is only searched for if there are states.
@@ -260,8 +309,11 @@ fn is_match_by_component(
     automaton: &Compiled,
     path: &[u8],
     sets: &mut StateSets,
+    cache: &mut Option<RowCache>,
     visits: &mut Visits,
 ) -> Result<bool, AllocError>
+    requires { IfSome cache.old (λ c. c ≡ automaton.now) }
+    ensures cache { cache.new ≡ cache.old }
     ensures some { IfOk result (λ yes. (xs : List IndexedTokens) → IsFor automaton.now xs → IsTrue yes ↔ ((k : ℕ) × SomeMatches xs (last_component path.now) k)) }
     ensures kept { sets_capacity sets.old ≤ sets_capacity sets.new }
     ensures memory { size automaton.now ≤ sets_capacity sets.old → IsOk result }
@@ -272,7 +324,7 @@ fn is_match_by_component(
         return Ok(false);
     }
     let component = last_component_of(&Candidate::from_bytes(path));
-    automaton.is_match(component, sets, visits)
+    automaton.is_match_with(component, sets, cache, visits)
 }
 
 /// Marks the indexes of the globs whose tokens match the path before its extension, beside those that are marked. The extension
@@ -456,10 +508,10 @@ impl AutomataBuilder {
             extensions,
         } = self;
         let mut budget = Budget::new(dfa_size_limit);
-        let by_path = Compiled::new(alloc, &mut budget, by_path.finish())?;
+        let by_path = Compiled::with_rows(alloc, &mut budget, by_path.finish())?;
         let by_component = by_component.finish();
         let has_component = has_text(alloc, &by_component)?;
-        let by_component = Compiled::new(alloc, &mut budget, by_component)?;
+        let by_component = Compiled::with_rows(alloc, &mut budget, by_component)?;
         let extensions = extensions.finish(alloc, &mut budget)?;
         let max_states = by_path
             .state_count()

@@ -17,7 +17,8 @@ use std::marker::Model;
 
 /// A list of globs, grouped by what decides each of them. The index of a glob is its position in the list.
 ///
-/// Contracts see the list, the number that each index is below, and the number of states of the largest automaton.
+/// Contracts see the list, the number that each index is below, the number of states of the largest automaton, and the automata, so that
+/// it can be said which of them a cache is of.
 pub struct SetMatcher {
     globs: GivenGlobs,
     /// How many globs there are.
@@ -49,6 +50,7 @@ impl Model for SetMatcher {
       given = g.globs;
       index_count = g.automata.extensions.index_count;
       states = max_states g.automata;
+      automata = g.automata;
     } };
 
     ghost invariant = { λ g. IsMatcherOf g.globs g.len g.keys g.automata };
@@ -86,6 +88,7 @@ impl Model for SetMatcherBuilder {
       given = g.globs;
       index_count = g.automata.extensions.index_count;
       states = max_states g.automata;
+      automata = g.automata;
     } };
 
     ghost invariant = { λ g. IsMatcherOf g.globs g.len g.keys g.automata };

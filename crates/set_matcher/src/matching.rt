@@ -5,12 +5,14 @@ ghost use Rattle.bit_sets.specs.Indexes.{has_index};
 ghost use Rattle.set_matcher.specs.Globs.{is_reported_at, reported_indexes, load, max_visits};
 ghost use Rattle.set_matcher.specs.SetMatcherValue.{matcher_globs};
 ghost use Rattle.set_matcher.specs.Indexes.{ContainsAllBelow};
+ghost use Rattle.set_matcher.specs.inner.Caches.{AreCachesOf};
 ghost use Rattle.set_matcher.specs.inner.Capacity.{HasCapacity, KeepsCapacity};
 
+use crate::caches::Caches;
 use crate::matcher::SetMatcher;
 use crate::matching_sets::MatchingSets;
 use glob_path::Candidate;
-use std::alloc::AllocError;
+use std::alloc::{AllocError, Global};
 use visits::Visits;
 
 impl SetMatcher {
@@ -33,6 +35,13 @@ impl SetMatcher {
         self.automata.table_bytes()
     }
 
+    /// Returns caches with no rows for this matcher. All memory that they need is taken here. Returns an error if memory runs out.
+    pub fn new_caches(&self, alloc: Global) -> Result<Caches, AllocError>
+        ensures { IfOk result (λ caches. AreCachesOf self.now.automata caches) }
+    {
+        self.automata.new_caches(alloc)
+    }
+
     /// Replaces the vector's items by the indexes, ascending, of the globs that are not excluded and match the path.
     ///
     /// The sets get room for each index, and for each state of a part that is simulated; the vector grows for the indexes. Returns
@@ -42,9 +51,12 @@ impl SetMatcher {
         &self,
         path: &Candidate<'_>,
         sets: &mut MatchingSets,
+        caches: &mut Caches,
         into: &mut Vec<usize>,
         visits: &mut Visits,
     ) -> Result<(), AllocError>
+        requires { AreCachesOf self.now.automata caches.old }
+        ensures caches { caches.new ≡ caches.old }
         ensures ok { OnOk result (into.new.items ≡ reported_indexes (matcher_globs self.now) path.now) }
         ensures cleared { OnErr result (into.new.items ≡ []) }
         ensures kept { KeepsCapacity sets.old sets.new }
@@ -54,7 +66,7 @@ impl SetMatcher {
         ensures counted { visits.old ≤ visits.new }
     {
         into.clear();
-        self.mark(path, sets, visits)?;
+        self.mark(path, sets, caches, visits)?;
         if let Err(error) = sets.marks.push_below(self.len(), into) {
             into.clear();
             return Err(error);
@@ -70,8 +82,11 @@ impl SetMatcher {
         &self,
         path: &Candidate<'_>,
         sets: &mut MatchingSets,
+        caches: &mut Caches,
         visits: &mut Visits,
     ) -> Result<bool, AllocError>
+        requires { AreCachesOf self.now.automata caches.old }
+        ensures caches { caches.new ≡ caches.old }
         ensures some { IfOk result (λ yes. IsTrue yes ↔ (reported_indexes (matcher_globs self.now) path.now ≢ [])) }
         ensures kept { KeepsCapacity sets.old sets.new }
         ensures room { HasCapacity sets.old self.now.states self.now.index_count → IsOk result }
@@ -82,7 +97,8 @@ impl SetMatcher {
         if self.keys.is_match(path, visits) {
             return Ok(true);
         }
-        self.automata.is_match(path, &mut sets.states, visits)
+        self.automata
+            .is_match(path, &mut sets.states, caches, visits)
     }
 
     /// Returns whether every glob matches the path and none is excluded.
@@ -93,8 +109,11 @@ impl SetMatcher {
         &self,
         path: &Candidate<'_>,
         sets: &mut MatchingSets,
+        caches: &mut Caches,
         visits: &mut Visits,
     ) -> Result<bool, AllocError>
+        requires { AreCachesOf self.now.automata caches.old }
+        ensures caches { caches.new ≡ caches.old }
         ensures all { IfOk result (λ yes. IsTrue yes ↔ ContainsAllBelow (reported_indexes (matcher_globs self.now) path.now) (length (matcher_globs self.now))) }
         ensures kept { KeepsCapacity sets.old sets.new }
         ensures room { HasCapacity sets.old self.now.states self.now.index_count → IsOk result }
@@ -102,7 +121,7 @@ impl SetMatcher {
         ensures visits { visits.new ≤ visits.old + max_visits (matcher_globs self.now) path.now }
         ensures counted { visits.old ≤ visits.new }
     {
-        if self.automata.find(path.path(), sets, visits)? {
+        if self.automata.find(path.path(), sets, caches, visits)? {
             self.keys.find(path, &mut sets.marks, visits);
             return Ok(sets.marks.has_all_below(self.len()));
         }
@@ -115,15 +134,18 @@ impl SetMatcher {
         &self,
         path: &Candidate<'_>,
         sets: &mut MatchingSets,
+        caches: &mut Caches,
         visits: &mut Visits,
     ) -> Result<(), AllocError>
+        requires { AreCachesOf self.now.automata caches.old }
+        ensures caches { caches.new ≡ caches.old }
         ensures marked { OnOk result ((k : ℕ) → IsTrue (has_index sets.new.marks k) ↔ IsTrue (is_reported_at (matcher_globs self.now) path.now k)) }
         ensures kept { KeepsCapacity sets.old sets.new }
         ensures room { HasCapacity sets.old self.now.states self.now.index_count → IsOk result }
         ensures visits { visits.new ≤ visits.old + max_visits (matcher_globs self.now) path.now }
         ensures counted { visits.old ≤ visits.new }
     {
-        self.automata.mark(path.path(), sets, visits)?;
+        self.automata.mark(path.path(), sets, caches, visits)?;
         self.keys.find(path, &mut sets.marks, visits);
         Ok(())
     }

@@ -1,7 +1,8 @@
--- What a set stores can be sent to other threads, and shared between them.
+-- What a set stores, and a searcher of it, can be sent to other threads, and shared between them.
 use denote.Param.Send.{IsSend, IsSync, sendable}
 use Rattle.std.proofs.Crossing.{crosses}
-use Rattle.set_matcher.proofs.lemmas.Shared.{matcher-send, matcher-sync}
+use Rattle.set_matcher.proofs.lemmas.Shared.{matcher-send, matcher-sync, row_cache-send, row_cache-sync}
+use Rattle.globset_set.specs.contracts.searcher.StoredSearcher as StoredSearcher
 use Rattle.globset_set.specs.contracts.stored.Stored as Stored
 
 pub stored-send : IsSend Stored.the_field.row
@@ -9,3 +10,9 @@ stored-send = search (sendable, crosses, matcher-send, matcher-sync) depth 20
 
 pub stored-sync : IsSync Stored.the_field.row
 stored-sync = search (sendable, crosses, matcher-send, matcher-sync) depth 20
+
+pub stored_searcher-send : IsSend StoredSearcher.the_field.row
+stored_searcher-send = search (sendable, crosses, matcher-send, matcher-sync, row_cache-send) depth 40 fits 20000
+
+pub stored_searcher-sync : IsSync StoredSearcher.the_field.row
+stored_searcher-sync = search (sendable, crosses, matcher-send, matcher-sync, row_cache-sync) depth 40 fits 20000

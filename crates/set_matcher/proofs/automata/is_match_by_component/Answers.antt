@@ -17,10 +17,10 @@ returns-then-state_count-eq0-clause-some c = λ xs is.
 
 pub returns-clause-some : goal.returns-clause-some
 returns-clause-some c =
-    subst (λ text. IfOk c.is_match.result (λ yes. (xs : List IndexedTokens) → IsFor c.args.automaton.now xs → IsTrue yes ↔ ((k : ℕ) × SomeMatches xs text k)))
-    (c.last_component_of-component.ensures ∙ ap last_component c.from_bytes.ensures) c.is_match.ensures.some
+    subst (λ text. IfOk c.is_match_with.result (λ yes. (xs : List IndexedTokens) → IsFor c.args.automaton.now xs → IsTrue yes ↔ ((k : ℕ) × SomeMatches xs text k)))
+    (c.last_component_of-component.ensures ∙ ap last_component c.from_bytes.ensures) c.is_match_with.ensures.some
 
 pub returns-clause-visits : goal.returns-clause-visits
 returns-clause-visits c =
-    component_visits c.args.path.now c.last_component_of-component.result.now (max_reads c.args.automaton.now) c.args.visits.now c.is_match.new.visits
-    (c.last_component_of-component.ensures ∙ ap last_component c.from_bytes.ensures) c.is_match.ensures.visits
+    component_visits c.args.path.now c.last_component_of-component.result.now (max_reads c.args.automaton.now) c.args.visits.now c.is_match_with.new.visits
+    (c.last_component_of-component.ensures ∙ ap last_component c.from_bytes.ensures) c.is_match_with.ensures.visits

@@ -19,10 +19,10 @@ returns-then-state_count-eq0-clause-found c = λ xs is k.
 
 pub returns-clause-found : goal.returns-clause-found
 returns-clause-found c =
-    subst (λ text. OnOk c.find.result ((xs : List IndexedTokens) → IsFor c.args.automaton.now xs → (k : ℕ) → IsTrue (has_index c.find.new.found k) ↔ (SomeMatches xs text k ⊎ IsTrue (has_index c.args.sets.now.marks k))))
-    (c.last_component_of-component.ensures ∙ ap last_component c.from_bytes.ensures) c.find.ensures.found
+    subst (λ text. OnOk c.find_with.result ((xs : List IndexedTokens) → IsFor c.args.automaton.now xs → (k : ℕ) → IsTrue (has_index c.find_with.new.found k) ↔ (SomeMatches xs text k ⊎ IsTrue (has_index c.args.sets.now.marks k))))
+    (c.last_component_of-component.ensures ∙ ap last_component c.from_bytes.ensures) c.find_with.ensures.found
 
 pub returns-clause-visits : goal.returns-clause-visits
 returns-clause-visits c =
-    component_visits c.args.path.now c.last_component_of-component.result.now (max_reads c.args.automaton.now) c.args.visits.now c.find.new.visits
-    (c.last_component_of-component.ensures ∙ ap last_component c.from_bytes.ensures) c.find.ensures.visits
+    component_visits c.args.path.now c.last_component_of-component.result.now (max_reads c.args.automaton.now) c.args.visits.now c.find_with.new.visits
+    (c.last_component_of-component.ensures ∙ ap last_component c.from_bytes.ensures) c.find_with.ensures.visits

@@ -1,0 +1,21 @@
+-- What is found by an automaton that another one stands for.
+use Rattle.std.proofs.Common.{ℕ, ◌⊎◌, inl, inr, List}
+use Rattle.std.specs.Prelude.{◌↔◌}
+use Rattle.std.proofs.Math.Logic.{⊎_elim}
+use Rattle.byte_nfa.specs.Steps.{Machine, IsReached}
+use Rattle.nfa_sharing.specs.Sharing.{Shares}
+
+module _ (m sharing : Machine) (shares : Shares m sharing) (y : List ℕ) where
+  -- beside what was found before
+  pub found_by : {Now Before : Type 0} (k : ℕ) → Now ↔ (IsReached sharing y k ⊎ Before) → Now ↔ (IsReached m y k ⊎ Before)
+  found_by {Now = Now} {Before = Before} k found = (
+    λ h. ⊎_elim {C = IsReached m y k ⊎ Before} (λ at. inl ((shares.reached y k).0 at)) (λ old. inr old) (found.0 h),
+    λ h. found.1 (⊎_elim {C = IsReached sharing y k ⊎ Before} (λ at. inl ((shares.reached y k).1 at)) (λ old. inr old) h),
+  )
+
+  -- whether there is any
+  pub some_by : {Some : Type 0} → Some ↔ ((k : ℕ) × IsReached sharing y k) → Some ↔ ((k : ℕ) × IsReached m y k)
+  some_by some = (
+    λ h. let (k, at) = some.0 h in (k, (shares.reached y k).0 at),
+    λ (k, at). some.1 (k, (shares.reached y k).1 at),
+  )

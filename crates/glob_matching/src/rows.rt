@@ -1,0 +1,171 @@
+//! Automata whose tables are made row by row, as texts need them.
+
+ghost use Rattle.std.specs.Prelude.{◌≡◌, ◌+◌, ◌*◌, ◌≤◌, ◌↔◌, ◌⊎◌, ℕ, List, length, IsTrue, IfOk, IfSome};
+ghost use Rattle.byte_nfa.specs.Runs.{max_reads};
+ghost use Rattle.bit_sets.specs.Indexes.{has_index, index_capacity};
+ghost use Rattle.glob_nfa.specs.IndexedTokens.{IndexedTokens, IsFor, SomeMatches};
+ghost use Rattle.nfa_sharing.specs.Sharing.{Shares};
+
+use bit_sets::IndexSet;
+use byte_nfa::Draft;
+use lazy_dfa::{Cache, LazyDfa};
+use nfa_sharing::shared;
+use std::alloc::{AllocError, Global};
+use std::marker::Model;
+use std::snapshot::Snapshot;
+use std::sync::Arc;
+use visits::Visits;
+
+/// What rows are made from. All threads share it, and each has a [`RowCache`]. Contracts see the automaton whose ends are found.
+pub struct RowSource {
+    /// It is made from another automaton that leads to the same ends, in which texts that begin alike share states.
+    dfa: Arc<LazyDfa>,
+    /// How many bytes the rows of a thread take.
+    cache_bytes: usize,
+    source: Snapshot<Draft>,
+}
+
+impl Drop for RowSource {
+    // One call wherever a value is dropped, which keeps proofs short.
+    fn drop(self) {
+        let RowSource {
+            dfa: _,
+            cache_bytes: _,
+            source: _,
+        } = self;
+    }
+}
+
+impl Model for RowSource {
+    ghost use Rattle.std.specs.Arc.{arc_value};
+    ghost use Rattle.byte_nfa.specs.Steps.{Machine};
+    ghost use Rattle.nfa_sharing.specs.Sharing.{Shares};
+
+    ghost Value = { Machine };
+
+    ghost view = { λ r. r.source.value };
+
+    ghost invariant = { λ r. Shares r.source.value (arc_value r.dfa) };
+}
+
+/// The rows that the texts of one thread needed so far, in a memory of fixed size. Contracts see the automaton whose ends are found:
+/// what earlier calls left has no effect on an answer.
+pub struct RowCache {
+    dfa: Arc<LazyDfa>,
+    cache: Cache,
+    made_for: Snapshot<RowSource>,
+}
+
+impl Drop for RowCache {
+    // One call wherever a value is dropped, which keeps proofs short.
+    fn drop(self) {
+        let RowCache {
+            dfa: _,
+            cache: _,
+            made_for: _,
+        } = self;
+    }
+}
+
+impl Model for RowCache {
+    ghost use Rattle.std.specs.Arc.{arc_value};
+    ghost use Rattle.std.specs.Prelude.{◌≡◌};
+    ghost use Rattle.byte_nfa.specs.Steps.{Machine};
+    ghost use Rattle.nfa_sharing.specs.Sharing.{Shares};
+
+    ghost Value = { Machine };
+
+    ghost view = { λ r. r.made_for.value };
+
+    ghost invariant = { λ r. Shares r.made_for.value (arc_value r.dfa) × (arc_value r.dfa ≡ r.cache) };
+}
+
+impl RowSource {
+    /// Returns what rows of an automaton are made from.
+    ///
+    /// It takes time and memory linear in the states. Returns `None` if there are too many indexes, and an error if memory runs out.
+    pub fn new(alloc: Global, automaton: &Draft) -> Result<Option<RowSource>, AllocError>
+        ensures { IfOk result (λ made. IfSome made (λ rows. rows ≡ automaton.now)) }
+    {
+        match shared(alloc, automaton)? {
+            Some(sharing) => RowSource::of(alloc, automaton, &sharing),
+            None => RowSource::of(alloc, automaton, automaton),
+        }
+    }
+
+    /// Returns what rows of an automaton are made from, by one that leads to the same ends.
+    fn of(
+        alloc: Global,
+        automaton: &Draft,
+        sharing: &Draft,
+    ) -> Result<Option<RowSource>, AllocError>
+        requires { Shares automaton.now sharing.now }
+        ensures { IfOk result (λ made. IfSome made (λ rows. rows ≡ automaton.now)) }
+    {
+        let Some(dfa) = LazyDfa::new(sharing)? else {
+            return Ok(None);
+        };
+        Ok(Some(RowSource {
+            dfa: Arc::new(alloc, dfa)?,
+            cache_bytes: cache_bytes(sharing.state_count()),
+            source: Snapshot::of(automaton),
+        }))
+    }
+
+    /// Returns a cache with no rows. All memory that it needs is taken here. Returns an error if memory runs out.
+    pub fn new_cache(&self, alloc: Global) -> Result<RowCache, AllocError>
+        ensures { IfOk result (λ cache. cache ≡ self.now) }
+    {
+        let cache = Cache::new(alloc, &self.dfa, self.cache_bytes)?;
+        Ok(RowCache {
+            dfa: Arc::try_clone(&self.dfa)?,
+            cache,
+            made_for: Snapshot::of(self),
+        })
+    }
+}
+
+impl RowCache {
+    /// Puts the indexes of the tokens that match a text into a set, beside what it holds.
+    ///
+    /// It is at most `(text bytes + 1) * states` visits. It takes no memory.
+    pub fn find(&mut self, text: &[u8], found: &mut IndexSet, visits: &mut Visits)
+        requires { self.old.index_count ≤ index_capacity found.old }
+        ensures same { self.new ≡ self.old }
+        ensures room { index_capacity found.new ≡ index_capacity found.old }
+        ensures found { (xs : List IndexedTokens) → IsFor self.old xs → (k : ℕ) → IsTrue (has_index found.new k) ↔ (SomeMatches xs text.now k ⊎ IsTrue (has_index found.old k)) }
+        ensures visits { visits.new ≤ visits.old + (length text.now + 1) * max_reads self.old }
+        ensures counted { visits.old ≤ visits.new }
+    {
+        self.cache.find(&self.dfa, text, found, visits);
+    }
+
+    /// Returns whether tokens match a text.
+    ///
+    /// It is at most `(text bytes + 1) * states` visits. It takes no memory.
+    pub fn is_match(&mut self, text: &[u8], visits: &mut Visits) -> bool
+        ensures same { self.new ≡ self.old }
+        ensures some { (xs : List IndexedTokens) → IsFor self.old xs → IsTrue result ↔ ((k : ℕ) × SomeMatches xs text.now k) }
+        ensures visits { visits.new ≤ visits.old + (length text.now + 1) * max_reads self.old }
+        ensures counted { visits.old ≤ visits.new }
+    {
+        self.cache.is_match(&self.dfa, text, visits)
+    }
+}
+
+/// How many bytes a cache has for each state. With fewer, rows are forgotten so often that texts make many of theirs anew.
+const BYTES_PER_STATE: usize = 1 << 11;
+
+/// The fewest bytes of a cache.
+const FEWEST_BYTES: usize = 1 << 17;
+
+/// The most bytes of a cache.
+const MOST_BYTES: usize = 1 << 23;
+
+/// Returns how many bytes the cache of an automaton of so many states takes.
+fn cache_bytes(state_count: usize) -> usize {
+    state_count
+        .saturating_mul(BYTES_PER_STATE)
+        .max(FEWEST_BYTES)
+        .min(MOST_BYTES)
+}

@@ -1,0 +1,15 @@
+use Rattle.std.proofs.Common.{ap, sym, subst, ◌∙◌}
+use Rattle.set_matcher.specs.SetMatcherValue.{SetMatcherValue}
+use Rattle.globset_set.specs.inner.SharedValue.{shared_value}
+use Rattle.globset_set.specs.inner.StoredGlobs.{AreStored}
+use Rattle.globset_set.proofs.shared.Shared.clone.Goals as goal
+
+pub invariant_of-result : goal.invariant_of-result
+invariant_of-result c =
+    subst (λ gs. AreStored gs c.in_ok-matcher.matcher.value) (sym c.copy.ensures)
+    (subst (λ (g : SetMatcherValue). AreStored c.self.inside.globs g) (sym c.in_ok-matcher.ensures) c.self.invariant)
+
+pub returns-clause-ok : goal.returns-clause-ok
+returns-clause-ok c =
+    ap (λ gs. shared_value gs c.in_ok-matcher.matcher.value) c.copy.ensures
+    ∙ ap (λ (g : SetMatcherValue). shared_value c.self.inside.globs g) c.in_ok-matcher.ensures ∙ c.self.view_is

@@ -1,0 +1,117 @@
+//! What a set stores, with the memory to match with.
+
+ghost use Rattle.std.specs.Prelude.{◌≡◌, ◌≢◌, ◌↔◌, [], ◌+◌, ◌≤◌, IfOk, IfErr, IsTrue, length, vec_capacity};
+ghost use Rattle.glob_text.specs.Errors.{out_of_memory};
+ghost use Rattle.globset_set.specs.Answer.{matching_indexes};
+ghost use Rattle.globset_set.specs.Below.{MatchesBelow};
+ghost use Rattle.globset_set.specs.SetValue.{set_globs};
+ghost use Rattle.globset_set.specs.Work.{max_set_visits, max_set_visits_below};
+ghost use Rattle.set_matcher.specs.Indexes.{ContainsAllBelow};
+
+use crate::shared::Shared;
+use glob_path::Candidate;
+use glob_text::Error;
+use set_matcher::{Caches, MatchingSets};
+use std::alloc::Global;
+use std::marker::Model;
+use visits::Visits;
+
+/// What a set stores, with all the memory that one thread needs to match with it: its calls take none, and cannot fail. Automata keep
+/// rows from one path to the next, so that few have to be simulated. Contracts see what they see of the set.
+pub struct StoredSearcher {
+    shared: Shared,
+    sets: MatchingSets,
+    caches: Caches,
+}
+
+impl Drop for StoredSearcher {
+    // One call wherever a value is dropped, which keeps proofs short.
+    fn drop(self) {
+        let StoredSearcher {
+            shared: _,
+            sets: _,
+            caches: _,
+        } = self;
+    }
+}
+
+impl Model for StoredSearcher {
+    ghost use Rattle.std.specs.Prelude.{length};
+    ghost use Rattle.globset_set.specs.SetValue.{SetValue, set_globs, set_states};
+    ghost use Rattle.set_matcher.specs.inner.Caches.{AreCachesOf};
+    ghost use Rattle.set_matcher.specs.inner.Capacity.{HasCapacity};
+
+    ghost Value = { SetValue };
+
+    ghost view = { λ s. s.shared.set };
+
+    ghost invariant = { λ s. HasCapacity s.sets (set_states s.shared.set) (length (set_globs s.shared.set)) × AreCachesOf s.shared.automata s.caches };
+}
+
+impl StoredSearcher {
+    /// Returns a searcher of what a set shares. Returns an error if memory runs out or if 2^63 values share it, and no other.
+    pub(crate) fn new(alloc: Global, shared: &Shared) -> Result<StoredSearcher, Error>
+        ensures ok { IfOk result (λ s. s ≡ shared.now.set) }
+        ensures err { IfErr result (λ e. e ≡ out_of_memory) }
+    {
+        let shared = shared.clone()?;
+        let sets = MatchingSets::with_capacity_for(alloc, shared.max_states(), shared.len())?;
+        let caches = shared.new_caches(alloc)?;
+        Ok(StoredSearcher {
+            shared,
+            sets,
+            caches,
+        })
+    }
+
+    /// Replaces the vector's items by the indexes, ascending, of the globs that are not excluded and match the path. The vector has to
+    /// have a capacity for all indexes.
+    pub fn find(&mut self, path: &Candidate<'_>, into: &mut Vec<usize>, visits: &mut Visits)
+        requires { length (set_globs self.old) ≤ vec_capacity into.old }
+        ensures found { into.new.items ≡ matching_indexes (set_globs self.old) path.now }
+        ensures capacity { vec_capacity into.old ≤ vec_capacity into.new }
+        ensures kept { self.new ≡ self.old }
+        ensures visits { visits.new ≤ visits.old + max_set_visits (set_globs self.old) path.now }
+        ensures counted { visits.old ≤ visits.new }
+    {
+        self.shared
+            .find(path, &mut self.sets, &mut self.caches, into, visits)
+            .unwrap();
+    }
+
+    /// Returns whether some glob that is not excluded matches the path.
+    pub fn is_match(&mut self, path: &Candidate<'_>, visits: &mut Visits) -> bool
+        ensures some { IsTrue result ↔ (matching_indexes (set_globs self.old) path.now ≢ []) }
+        ensures kept { self.new ≡ self.old }
+        ensures visits { visits.new ≤ visits.old + max_set_visits (set_globs self.old) path.now }
+        ensures counted { visits.old ≤ visits.new }
+    {
+        self.shared
+            .is_match(path, &mut self.sets, &mut self.caches, visits)
+            .unwrap()
+    }
+
+    /// Returns whether every glob matches the path and none is excluded.
+    pub fn matches_all(&mut self, path: &Candidate<'_>, visits: &mut Visits) -> bool
+        ensures all { IsTrue result ↔ ContainsAllBelow (matching_indexes (set_globs self.old) path.now) (length (set_globs self.old)) }
+        ensures kept { self.new ≡ self.old }
+        ensures visits { visits.new ≤ visits.old + max_set_visits (set_globs self.old) path.now }
+        ensures counted { visits.old ≤ visits.new }
+    {
+        self.shared
+            .matches_all(path, &mut self.sets, &mut self.caches, visits)
+            .unwrap()
+    }
+
+    /// Returns whether some glob that is not excluded matches some path below a folder.
+    pub fn can_match_below(&mut self, folder: &Candidate<'_>, visits: &mut Visits) -> bool
+        ensures some { IsTrue result ↔ MatchesBelow (set_globs self.old) folder.now }
+        ensures kept { self.new ≡ self.old }
+        ensures visits { visits.new ≤ visits.old + max_set_visits_below (set_globs self.old) folder.now }
+        ensures counted { visits.old ≤ visits.new }
+    {
+        self.shared
+            .can_match_below(folder, &mut self.sets, visits)
+            .unwrap()
+    }
+}

@@ -1,0 +1,206 @@
+//! What a set shares with its clones and its searchers.
+
+ghost use Rattle.std.specs.Prelude.{◌≡◌, ◌≢◌, ◌↔◌, [], ℕ, ◌+◌, ◌≤◌, All, IfOk, IfErr, IsOk, OnOk, OnErr, IsTrue, length, vec_capacity};
+ghost use Rattle.glob_text.specs.Errors.{out_of_memory};
+ghost use Rattle.glob_text.specs.GlobMatches.{IsRead};
+ghost use Rattle.globset_set.specs.Answer.{matching_indexes};
+ghost use Rattle.globset_set.specs.SetValue.{set_globs, set_states};
+ghost use Rattle.globset_set.specs.Below.{MatchesBelow};
+ghost use Rattle.globset_set.specs.Work.{load, load_below, max_set_visits, max_set_visits_below};
+ghost use Rattle.globset_set.specs.inner.StoredGlobs.{AreStored};
+ghost use Rattle.set_matcher.specs.Indexes.{ContainsAllBelow};
+ghost use Rattle.set_matcher.specs.inner.Caches.{AreCachesOf};
+ghost use Rattle.set_matcher.specs.inner.Capacity.{HasCapacity, KeepsCapacity};
+
+use glob_path::Candidate;
+use glob_text::{Error, GivenGlobs};
+use set_matcher::{Caches, MatchingSets, SetMatcher};
+use std::alloc::{AllocError, Global};
+use std::marker::Model;
+use std::sync::Arc;
+use visits::Visits;
+
+/// A matcher that decides which globs of a set match a path. The index of a glob is its position. Of the globs themselves nothing is
+/// kept but what contracts see, which takes no memory. Contracts see the automata too, so that it can be said which of them a cache
+/// is of.
+pub struct Shared {
+    globs: GivenGlobs,
+    matcher: Arc<SetMatcher>,
+}
+
+impl Drop for Shared {
+    // One call wherever a value is dropped, which keeps proofs short.
+    fn drop(self) {
+        let Shared {
+            globs: _,
+            matcher: _,
+        } = self;
+    }
+}
+
+impl Model for Shared {
+    ghost use Rattle.std.specs.Arc.{arc_value};
+    ghost use Rattle.globset_set.specs.inner.SharedValue.{SharedValue, shared_value};
+    ghost use Rattle.globset_set.specs.inner.StoredGlobs.{AreStored};
+
+    ghost Value = { SharedValue };
+
+    ghost view = { λ s. shared_value s.globs (arc_value s.matcher) };
+
+    ghost invariant = { λ s. AreStored s.globs (arc_value s.matcher) };
+}
+
+impl Shared {
+    /// Returns what a set shares, whose globs are in this matcher. Returns an error if memory runs out.
+    pub fn of_matcher(
+        alloc: Global,
+        globs: GivenGlobs,
+        matcher: SetMatcher,
+    ) -> Result<Shared, AllocError>
+        requires { AreStored globs matcher }
+        ensures { IfOk result (λ s. set_globs s.set ≡ globs) }
+    {
+        let matcher = Arc::new(alloc, matcher)?;
+        Ok(Shared { globs, matcher })
+    }
+
+    /// Returns the matcher.
+    fn matcher(&self) -> &SetMatcher
+        ensures stored { AreStored (set_globs self.now.set) result.now }
+        ensures states { result.now.states ≡ set_states self.now.set }
+        ensures automata { result.now.automata ≡ self.now.automata }
+    {
+        &self.matcher
+    }
+
+    /// Returns the number of globs, each of which was read.
+    pub fn len(&self) -> usize
+        ensures count { result ≡ length (set_globs self.now.set) }
+        ensures read { All IsRead (set_globs self.now.set) }
+    {
+        self.matcher().len()
+    }
+
+    /// Returns the number of states of the largest automaton.
+    pub fn max_states(&self) -> usize
+        ensures { result ≡ set_states self.now.set }
+    {
+        self.matcher().max_states()
+    }
+
+    /// Returns how many bytes the tables of deterministic automata take. It takes time linear in the number of these.
+    pub fn table_bytes(&self) -> usize {
+        self.matcher().table_bytes()
+    }
+
+    /// Returns caches with no rows for the automata. Returns an error if memory runs out.
+    pub fn new_caches(&self, alloc: Global) -> Result<Caches, AllocError>
+        ensures { IfOk result (λ caches. AreCachesOf self.now.automata caches) }
+    {
+        self.matcher().new_caches(alloc)
+    }
+
+    /// Replaces the vector's items by the indexes, ascending, of the globs that are not excluded and match the path.
+    ///
+    /// Returns an error if memory runs out, and no other. The vector is then empty.
+    pub fn find(
+        &self,
+        path: &Candidate<'_>,
+        sets: &mut MatchingSets,
+        caches: &mut Caches,
+        into: &mut Vec<usize>,
+        visits: &mut Visits,
+    ) -> Result<(), Error>
+        requires { AreCachesOf self.now.automata caches.old }
+        ensures caches { caches.new ≡ caches.old }
+        ensures ok { OnOk result (into.new.items ≡ matching_indexes (set_globs self.now.set) path.now) }
+        ensures err { IfErr result (λ e. e ≡ out_of_memory) }
+        ensures cleared { OnErr result (into.new.items ≡ []) }
+        ensures kept { KeepsCapacity sets.old sets.new }
+        ensures room { HasCapacity sets.old (set_states self.now.set) (length (set_globs self.now.set)) → length (set_globs self.now.set) ≤ vec_capacity into.old → IsOk result }
+        ensures capacity { vec_capacity into.old ≤ vec_capacity into.new }
+        ensures visits { visits.new ≤ visits.old + max_set_visits (set_globs self.now.set) path.now }
+        ensures counted { visits.old ≤ visits.new }
+    {
+        self.matcher().find(path, sets, caches, into, visits)?;
+        Ok(())
+    }
+
+    /// Returns whether some glob that is not excluded matches the path.
+    ///
+    /// Returns an error if memory runs out, and no other.
+    pub fn is_match(
+        &self,
+        path: &Candidate<'_>,
+        sets: &mut MatchingSets,
+        caches: &mut Caches,
+        visits: &mut Visits,
+    ) -> Result<bool, Error>
+        requires { AreCachesOf self.now.automata caches.old }
+        ensures caches { caches.new ≡ caches.old }
+        ensures ok { IfOk result (λ yes. IsTrue yes ↔ (matching_indexes (set_globs self.now.set) path.now ≢ [])) }
+        ensures err { IfErr result (λ e. e ≡ out_of_memory) }
+        ensures kept { KeepsCapacity sets.old sets.new }
+        ensures room { HasCapacity sets.old (set_states self.now.set) (length (set_globs self.now.set)) → IsOk result }
+        ensures succeeds_without_automata { load (set_globs self.now.set) path.now ≡ 0 → IsOk result }
+        ensures visits { visits.new ≤ visits.old + max_set_visits (set_globs self.now.set) path.now }
+        ensures counted { visits.old ≤ visits.new }
+    {
+        Ok(self.matcher().is_match(path, sets, caches, visits)?)
+    }
+
+    /// Returns whether some glob that is not excluded matches some path below a folder.
+    ///
+    /// Returns an error if memory runs out, and no other.
+    pub fn can_match_below(
+        &self,
+        folder: &Candidate<'_>,
+        sets: &mut MatchingSets,
+        visits: &mut Visits,
+    ) -> Result<bool, Error>
+        ensures ok { IfOk result (λ yes. IsTrue yes ↔ MatchesBelow (set_globs self.now.set) folder.now) }
+        ensures err { IfErr result (λ e. e ≡ out_of_memory) }
+        ensures kept { KeepsCapacity sets.old sets.new }
+        ensures room { HasCapacity sets.old (set_states self.now.set) (length (set_globs self.now.set)) → IsOk result }
+        ensures succeeds_without_automata { load_below (set_globs self.now.set) ≡ 0 → IsOk result }
+        ensures visits { visits.new ≤ visits.old + max_set_visits_below (set_globs self.now.set) folder.now }
+        ensures counted { visits.old ≤ visits.new }
+    {
+        Ok(self.matcher().can_match_below(folder.path(), sets, visits)?)
+    }
+
+    /// Returns whether every glob matches the path and none is excluded.
+    ///
+    /// Returns an error if memory runs out, and no other.
+    pub fn matches_all(
+        &self,
+        path: &Candidate<'_>,
+        sets: &mut MatchingSets,
+        caches: &mut Caches,
+        visits: &mut Visits,
+    ) -> Result<bool, Error>
+        requires { AreCachesOf self.now.automata caches.old }
+        ensures caches { caches.new ≡ caches.old }
+        ensures ok { IfOk result (λ yes. IsTrue yes ↔ ContainsAllBelow (matching_indexes (set_globs self.now.set) path.now) (length (set_globs self.now.set))) }
+        ensures err { IfErr result (λ e. e ≡ out_of_memory) }
+        ensures kept { KeepsCapacity sets.old sets.new }
+        ensures room { HasCapacity sets.old (set_states self.now.set) (length (set_globs self.now.set)) → IsOk result }
+        ensures succeeds_without_automata { load (set_globs self.now.set) path.now ≡ 0 → IsOk result }
+        ensures visits { visits.new ≤ visits.old + max_set_visits (set_globs self.now.set) path.now }
+        ensures counted { visits.old ≤ visits.new }
+    {
+        Ok(self.matcher().matches_all(path, sets, caches, visits)?)
+    }
+
+    /// Returns an equal value, which shares the matcher. It takes no memory. Returns an error if 2^63 values share it, and no other.
+    pub fn clone(&self) -> Result<Shared, Error>
+        ensures ok { IfOk result (λ s. s ≡ self.now) }
+        ensures err { IfErr result (λ e. e ≡ out_of_memory) }
+    {
+        let matcher = Arc::try_clone(&self.matcher)?;
+        Ok(Shared {
+            globs: self.globs.copy(),
+            matcher,
+        })
+    }
+}
