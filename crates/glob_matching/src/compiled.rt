@@ -79,7 +79,7 @@ impl Compiled {
     }
 
     /// The same as [`Compiled::new`], for runs with a [`RowCache`] too. So it takes more time and memory, linear in the states, if
-    /// there are more than 32 starts and the automaton is not deterministic as a whole.
+    /// there are more than 32 starts and at most 512, and the automaton is not deterministic as a whole.
     pub fn with_rows(
         alloc: Global,
         budget: &mut Budget,
@@ -108,7 +108,7 @@ impl Compiled {
                 rows: None,
             });
         }
-        let rows = if with_rows {
+        let rows = if with_rows && automaton.starts().len() <= MOST_STARTS_OF_ROWS {
             RowSource::new(alloc, &automaton)?
         } else {
             None
@@ -317,6 +317,10 @@ impl Compiled {
 
 /// An automaton with more starts than these is not divided, if a filter can name those that are run.
 const MANY_STARTS: usize = 32;
+
+/// An automaton with more starts than these has no rows: texts lead to so many that they do not fit into the memory for them, and a
+/// filter takes less time.
+const MOST_STARTS_OF_ROWS: usize = 512;
 
 /// Returns whether an automaton has many starts, of which a filter may name a few.
 fn is_large(budget: Budget, automaton: &Draft) -> bool {
