@@ -1,11 +1,11 @@
 //! Automata as they are run over paths.
 
-ghost use Rattle.std.specs.Prelude.{◌≡◌, ◌+◌, ◌*◌, ◌≤◌, ◌↔◌, ◌⊎◌, ◌++◌, ◌∷◌, [], ℕ, List, length, IsTrue, IsOk, OnOk, IfOk, IfSome};
+ghost use Rattle.std.specs.Prelude.{◌≡◌, ◌+◌, ◌*◌, ◌≤◌, ◌↔◌, ◌++◌, ◌∷◌, [], List, length, IsTrue, IsOk, OnOk, IfOk, IfSome};
 ghost use Rattle.byte_nfa.specs.Runs.{size, max_reads};
-ghost use Rattle.bit_sets.specs.Indexes.{has_index, index_capacity};
+ghost use Rattle.bit_sets.specs.Indexes.{index_capacity};
 ghost use Rattle.nfa_simulation.specs.Sets.{sets_capacity};
-ghost use Rattle.glob_nfa.specs.IndexedTokens.{SomeMeanAfter};
-ghost use Rattle.glob_nfa.specs.IndexedTokens.{IndexedTokens, IsFor, SomeMatches};
+ghost use Rattle.glob_nfa.specs.IndexedTokens.{IndexedTokens, IsFor, SomeMeanAfter};
+ghost use Rattle.glob_matching.specs.Matching.{AddsMatches, TellsMatch};
 
 use crate::budget::Budget;
 use crate::filtered::{Filtered, filter_for};
@@ -79,7 +79,7 @@ impl Compiled {
     }
 
     /// The same as [`Compiled::new`], for runs with a [`RowCache`] too. So it takes more time and memory, linear in the states, if
-    /// there are more than 32 starts and at most 512, and the automaton is not deterministic as a whole.
+    /// there are more than 32 starts, and the automaton is not deterministic as a whole.
     pub fn with_rows(
         alloc: Global,
         budget: &mut Budget,
@@ -108,7 +108,7 @@ impl Compiled {
                 rows: None,
             });
         }
-        let rows = if with_rows && automaton.starts().len() <= MOST_STARTS_OF_ROWS {
+        let rows = if with_rows {
             RowSource::new(alloc, &automaton)?
         } else {
             None
@@ -196,7 +196,7 @@ impl Compiled {
     ) -> Result<(), AllocError>
         requires { self.now.index_count ≤ index_capacity found.old }
         ensures room { index_capacity found.new ≡ index_capacity found.old }
-        ensures found { OnOk result ((xs : List IndexedTokens) → IsFor self.now xs → (k : ℕ) → IsTrue (has_index found.new k) ↔ (SomeMatches xs text.now k ⊎ IsTrue (has_index found.old k))) }
+        ensures found { OnOk result (AddsMatches self.now text.now found.old found.new) }
         ensures kept { sets_capacity sets.old ≤ sets_capacity sets.new }
         ensures memory { size self.now ≤ sets_capacity sets.old → IsOk result }
         ensures visits { visits.new ≤ visits.old + (length text.now + 1) * max_reads self.now }
@@ -220,7 +220,7 @@ impl Compiled {
         sets: &mut StateSets,
         visits: &mut Visits,
     ) -> Result<bool, AllocError>
-        ensures some { IfOk result (λ yes. (xs : List IndexedTokens) → IsFor self.now xs → IsTrue yes ↔ ((k : ℕ) × SomeMatches xs text.now k)) }
+        ensures some { IfOk result (λ yes. TellsMatch self.now text.now yes) }
         ensures kept { sets_capacity sets.old ≤ sets_capacity sets.new }
         ensures memory { size self.now ≤ sets_capacity sets.old → IsOk result }
         ensures visits { visits.new ≤ visits.old + (length text.now + 1) * max_reads self.now }
@@ -235,7 +235,8 @@ impl Compiled {
 }
 
 impl Compiled {
-    /// The same as [`Compiled::find`], by the rows of a cache if there is one. Then it takes no memory, and cannot fail.
+    /// The same as [`Compiled::find`], by the rows of a cache if there is one and running the starts that a filter names would take
+    /// more time.
     pub fn find_with(
         &self,
         text: &[u8],
@@ -248,22 +249,27 @@ impl Compiled {
         requires cache { IfSome cache.old (λ c. c ≡ self.now) }
         ensures cache { cache.new ≡ cache.old }
         ensures room { index_capacity found.new ≡ index_capacity found.old }
-        ensures found { OnOk result ((xs : List IndexedTokens) → IsFor self.now xs → (k : ℕ) → IsTrue (has_index found.new k) ↔ (SomeMatches xs text.now k ⊎ IsTrue (has_index found.old k))) }
+        ensures found { OnOk result (AddsMatches self.now text.now found.old found.new) }
         ensures kept { sets_capacity sets.old ≤ sets_capacity sets.new }
         ensures memory { size self.now ≤ sets_capacity sets.old → IsOk result }
         ensures visits { visits.new ≤ visits.old + (length text.now + 1) * max_reads self.now }
         ensures counted { visits.old ≤ visits.new }
     {
-        match cache {
-            Some(rows) => {
-                rows.find(text, found, visits);
-                Ok(())
+        let Some(rows) = cache else {
+            return self.find(text, sets, found, visits);
+        };
+        if let Strategy::Filtered(filtered) = &self.strategy {
+            if filtered.marks_few(text, sets, visits)? {
+                filtered.find_marked(text, sets, found, visits);
+                return Ok(());
             }
-            None => self.find(text, sets, found, visits),
         }
+        rows.find(text, found, visits);
+        Ok(())
     }
 
-    /// The same as [`Compiled::is_match`], by the rows of a cache if there is one. Then it takes no memory, and cannot fail.
+    /// The same as [`Compiled::is_match`], by the rows of a cache if there is one and running the starts that a filter names would take
+    /// more time.
     pub fn is_match_with(
         &self,
         text: &[u8],
@@ -273,16 +279,21 @@ impl Compiled {
     ) -> Result<bool, AllocError>
         requires { IfSome cache.old (λ c. c ≡ self.now) }
         ensures cache { cache.new ≡ cache.old }
-        ensures some { IfOk result (λ yes. (xs : List IndexedTokens) → IsFor self.now xs → IsTrue yes ↔ ((k : ℕ) × SomeMatches xs text.now k)) }
+        ensures some { IfOk result (λ yes. TellsMatch self.now text.now yes) }
         ensures kept { sets_capacity sets.old ≤ sets_capacity sets.new }
         ensures memory { size self.now ≤ sets_capacity sets.old → IsOk result }
         ensures visits { visits.new ≤ visits.old + (length text.now + 1) * max_reads self.now }
         ensures counted { visits.old ≤ visits.new }
     {
-        match cache {
-            Some(rows) => Ok(rows.is_match(text, visits)),
-            None => self.is_match(text, sets, visits),
+        let Some(rows) = cache else {
+            return self.is_match(text, sets, visits);
+        };
+        if let Strategy::Filtered(filtered) = &self.strategy {
+            if filtered.marks_few(text, sets, visits)? {
+                return Ok(filtered.is_match_marked(text, sets, visits));
+            }
         }
+        Ok(rows.is_match(text, visits))
     }
 }
 
@@ -317,10 +328,6 @@ impl Compiled {
 
 /// An automaton with more starts than these is not divided, if a filter can name those that are run.
 const MANY_STARTS: usize = 32;
-
-/// An automaton with more starts than these has no rows: texts lead to so many that they do not fit into the memory for them, and a
-/// filter takes less time.
-const MOST_STARTS_OF_ROWS: usize = 512;
 
 /// Returns whether an automaton has many starts, of which a filter may name a few.
 fn is_large(budget: Budget, automaton: &Draft) -> bool {

@@ -109,6 +109,65 @@ impl Filtered {
 }
 
 impl Filtered {
+    /// Marks the starts that a text may lead from to an end, if there are so many that a filter may save time beside rows. Returns
+    /// whether so few are marked that running these takes less time than rows do.
+    ///
+    /// It is at most `text bytes * 3 * starts` visits. It makes room in the sets of states for those of the automaton. Returns an
+    /// error if memory runs out.
+    pub fn marks_few(
+        &self,
+        text: &[u8],
+        sets: &mut StateSets,
+        visits: &mut Visits,
+    ) -> Result<bool, AllocError>
+        ensures marked { IfOk result (λ few. IsTrue few → (k : ℕ) → IsReached self.now text.now k ↔ IsReachedMarked self.now sets.new.starts text.now k) }
+        ensures room { IfOk result (λ few. IsTrue few → size self.now ≤ sets_capacity sets.new) }
+        ensures kept { sets_capacity sets.old ≤ sets_capacity sets.new }
+        ensures memory { size self.now ≤ sets_capacity sets.old → IsOk result }
+        ensures visits { visits.new ≤ visits.old + length text.now * (3 * length self.now.starts) }
+        ensures counted { visits.old ≤ visits.new }
+    {
+        let count = self.automaton.start_count();
+        let few = count / STARTS_FOR_ONE;
+        if few == 0 {
+            return Ok(false);
+        }
+        mark(&self.automaton, &self.filter, text, sets, visits)?;
+        Ok(has_at_most(few, &sets.starts, count))
+    }
+
+    /// Puts the index of each end that a text leads to from a marked start into a set, beside what it holds.
+    pub fn find_marked(
+        &self,
+        text: &[u8],
+        sets: &mut StateSets,
+        found: &mut IndexSet,
+        visits: &mut Visits,
+    )
+        requires room { size self.now ≤ sets_capacity sets.old }
+        requires found_capacity { self.now.index_count ≤ index_capacity found.old }
+        ensures room { sets_capacity sets.new ≡ sets_capacity sets.old }
+        ensures found_capacity { index_capacity found.new ≡ index_capacity found.old }
+        ensures found { (k : ℕ) → IsTrue (has_index found.new k) ↔ (IsReachedMarked self.now sets.old.starts text.now k ⊎ IsTrue (has_index found.old k)) }
+        ensures visits { visits.new ≤ visits.old + (length text.now + 1) * size self.now + 2 * length self.now.starts }
+        ensures counted { visits.old ≤ visits.new }
+    {
+        find_from_marked(&self.automaton, text, sets, found, visits);
+    }
+
+    /// Returns whether a text leads from a marked start to some end.
+    pub fn is_match_marked(&self, text: &[u8], sets: &mut StateSets, visits: &mut Visits) -> bool
+        requires { size self.now ≤ sets_capacity sets.old }
+        ensures room { sets_capacity sets.new ≡ sets_capacity sets.old }
+        ensures some { IsTrue result ↔ ((k : ℕ) × IsReachedMarked self.now sets.old.starts text.now k) }
+        ensures visits { visits.new ≤ visits.old + (length text.now + 1) * size self.now + 2 * length self.now.starts }
+        ensures counted { visits.old ≤ visits.new }
+    {
+        is_match_from_marked(&self.automaton, text, sets, visits)
+    }
+}
+
+impl Filtered {
     /// Returns whether some text that begins with `text` and then `byte` leads to some end. All starts are run, since what follows
     /// may have any window.
     ///
@@ -133,6 +192,21 @@ impl Filtered {
 
 /// At most one start in so many may have no window, and so be run for each text. More are faster in parts.
 const FEW: usize = 3;
+
+/// Of so many starts, running one for a text takes less time than rows do. Texts lead to more rows where there are more starts.
+const STARTS_FOR_ONE: usize = 256;
+
+/// Returns whether at most so many of the indexes below a bound are in a set.
+fn has_at_most(most: usize, set: &IndexSet, bound: usize) -> bool {
+    let mut from = 0;
+    for _ in 0..most {
+        match set.next_below(from, bound) {
+            Some(i) => from = i + 1,
+            None => return true,
+        }
+    }
+    set.next_below(from, bound).is_none()
+}
 
 /// Returns a filter for an automaton, or `None` if too few starts have a window, or if a run from one start comes to states of
 /// another. Returns an error if memory runs out. It takes time and memory linear in the states.

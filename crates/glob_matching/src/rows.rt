@@ -1,9 +1,9 @@
 //! Automata whose tables are made row by row, as texts need them.
 
-ghost use Rattle.std.specs.Prelude.{◌≡◌, ◌+◌, ◌*◌, ◌≤◌, ◌↔◌, ◌⊎◌, ℕ, List, length, IsTrue, IfOk, IfSome};
-ghost use Rattle.byte_nfa.specs.Runs.{max_reads};
-ghost use Rattle.bit_sets.specs.Indexes.{has_index, index_capacity};
-ghost use Rattle.glob_nfa.specs.IndexedTokens.{IndexedTokens, IsFor, SomeMatches};
+ghost use Rattle.std.specs.Prelude.{◌≡◌, ◌+◌, ◌*◌, ◌≤◌, length, IfOk, IfSome};
+ghost use Rattle.byte_nfa.specs.Runs.{size};
+ghost use Rattle.bit_sets.specs.Indexes.{index_capacity};
+ghost use Rattle.glob_matching.specs.Matching.{AddsMatches, TellsMatch};
 ghost use Rattle.nfa_sharing.specs.Sharing.{Shares};
 
 use bit_sets::IndexSet;
@@ -133,8 +133,8 @@ impl RowCache {
         requires { self.old.index_count ≤ index_capacity found.old }
         ensures same { self.new ≡ self.old }
         ensures room { index_capacity found.new ≡ index_capacity found.old }
-        ensures found { (xs : List IndexedTokens) → IsFor self.old xs → (k : ℕ) → IsTrue (has_index found.new k) ↔ (SomeMatches xs text.now k ⊎ IsTrue (has_index found.old k)) }
-        ensures visits { visits.new ≤ visits.old + (length text.now + 1) * max_reads self.old }
+        ensures found { AddsMatches self.old text.now found.old found.new }
+        ensures visits { visits.new ≤ visits.old + (length text.now + 1) * size self.old }
         ensures counted { visits.old ≤ visits.new }
     {
         self.cache.find(&self.dfa, text, found, visits);
@@ -145,8 +145,8 @@ impl RowCache {
     /// It is at most `(text bytes + 1) * states` visits. It takes no memory.
     pub fn is_match(&mut self, text: &[u8], visits: &mut Visits) -> bool
         ensures same { self.new ≡ self.old }
-        ensures some { (xs : List IndexedTokens) → IsFor self.old xs → IsTrue result ↔ ((k : ℕ) × SomeMatches xs text.now k) }
-        ensures visits { visits.new ≤ visits.old + (length text.now + 1) * max_reads self.old }
+        ensures some { TellsMatch self.old text.now result }
+        ensures visits { visits.new ≤ visits.old + (length text.now + 1) * size self.old }
         ensures counted { visits.old ≤ visits.new }
     {
         self.cache.is_match(&self.dfa, text, visits)

@@ -1,6 +1,4 @@
-use Rattle.std.proofs.Common.{ℕ, ◌⊎◌, IsTrue, arith, subst, sym, ◌∙◌}
-use Rattle.std.specs.Prelude.{◌↔◌}
-use Rattle.bit_sets.specs.Indexes.{has_index}
+use Rattle.std.proofs.Common.{arith, subst}
 use Rattle.byte_nfa.specs.Steps.{Machine}
 use Rattle.nfa_sharing.specs.Sharing.{Shares}
 use Rattle.glob_matching.proofs.lemmas.Compiled.{finds_matches}
