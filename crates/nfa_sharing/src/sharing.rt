@@ -5,7 +5,7 @@ ghost use Rattle.byte_nfa.specs.Runs.{size};
 ghost use Rattle.byte_nfa.specs.Steps.{state};
 ghost use Rattle.nfa_sharing.specs.inner.Chunks.{IsPushedFor};
 ghost use Rattle.nfa_sharing.specs.inner.Known.{IsSharing};
-ghost use Rattle.nfa_sharing.specs.inner.Lists.{IsStateFor};
+ghost use Rattle.nfa_sharing.specs.inner.Lists.{AcceptAlike, IsStateFor};
 
 use crate::budget::{budget, spend};
 use crate::chunk::Chunk;
@@ -42,7 +42,7 @@ pub fn start_state(
     ensures index_count { IfOk result (λ made. IfSome made (λ u. builder.new.index_count ≡ automaton.now.index_count)) }
 {
     let mut sharing = Sharing {
-        known: KnownLists::new(alloc),
+        known: KnownLists::new(alloc, automaton.state_count())?,
         waiting: Vec::new(alloc),
         sets: SetNumbers::new(alloc)?,
         left: budget(automaton),
@@ -80,10 +80,9 @@ impl Sharing {
         if self.known.state_of(&list).is_some() {
             return Ok(true);
         }
-        let Some(states) = expanded(alloc, automaton, &list, &mut self.left)? else {
+        let Some(states) = self.in_order(alloc, automaton, &list)? else {
             return Ok(false);
         };
-        let states = ordered(alloc, automaton, &states, &mut self.sets)?;
         let Some(mut missing) = missing_lists(alloc, automaton, &states, &self.known)? else {
             return Ok(false);
         };
@@ -97,6 +96,32 @@ impl Sharing {
         };
         self.known.add(list, state)?;
         Ok(builder.state_count() <= automaton.state_count())
+    }
+}
+
+impl Sharing {
+    /// Returns the states of a list with what a union goes on to in its place, in an order in which those that are alike stand
+    /// together. `None` if that is too much work.
+    fn in_order(
+        &mut self,
+        alloc: Global,
+        automaton: &Draft,
+        list: &[usize],
+    ) -> Result<Option<Vec<usize>>, AllocError>
+        ensures alike { IfOk result (λ made. IfSome made (λ states. AcceptAlike automaton.now list.now states.items)) }
+        ensures known { self.new.known ≡ self.old.known }
+        ensures left { self.new.left ≤ self.old.left }
+    {
+        // Most lists are so, and a list of one state is in order.
+        if let [only] = list {
+            if !matches!(automaton.state(*only), Some(StateRef::Union(_))) {
+                return Ok(Some(Vec::from_slice(alloc, list)?));
+            }
+        }
+        let Some(states) = expanded(alloc, automaton, list, &mut self.left)? else {
+            return Ok(None);
+        };
+        Ok(Some(ordered(alloc, automaton, &states, &mut self.sets)?))
     }
 }
 

@@ -1,12 +1,12 @@
 -- Lists that a state was made for.
 use Rattle.std.proofs.Common.{◌≡◌, ℕ, zero, suc, ◌⊎◌, inl, inr, List, [], ◌∷◌, ◌++◌, ap, subst}
-use Rattle.std.specs.Prelude.{◌↔◌, Some, None, slice_get}
+use Rattle.std.specs.Prelude.{Some, None, slice_get}
 use Rattle.std.proofs.Math.Logic.{⊎_elim}
-use Rattle.byte_nfa.specs.Steps.{Machine, IsIn}
+use Rattle.byte_nfa.specs.Steps.{Machine}
 use Rattle.nfa_sharing.specs.declared.known.Known.{Known}
 use Rattle.nfa_sharing.specs.inner.Known.{IsKnown, IsSharing}
 use Rattle.nfa_sharing.specs.inner.Lists.{AcceptAlike, IsStateFor}
-use Rattle.nfa_sharing.proofs.lemmas.Lists.{alike_members, state_of_alike}
+use Rattle.nfa_sharing.proofs.lemmas.Lists.{state_of_alike}
 
 pub known_push : (xs : List Known) (x : Known) (l : List ℕ) (u : ℕ) → IsKnown (xs ++ x ∷ []) l u → IsKnown xs l u ⊎ ((x.list.items ≡ l) × (x.state ≡ u))
 known_push [] x l u (inl h) = inr h
@@ -24,15 +24,14 @@ known_at (y ∷ ys) zero x e = let eq : Some y ≡ Some x = e in let same : y �
 known_at (y ∷ ys) (suc i) x e = inr (known_at ys i x e)
 
 -- a state was made for one list more
-pub sharing_more : (old new : Machine) (xs ys : List Known) (list states in_order : List ℕ) (state : ℕ) → IsSharing old new xs → AcceptAlike old list states
-    → ((s : ℕ) → IsIn s in_order ↔ IsIn s states) → IsStateFor old new in_order state
+pub sharing_more : (old new : Machine) (xs ys : List Known) (list in_order : List ℕ) (state : ℕ) → IsSharing old new xs → AcceptAlike old list in_order
+    → IsStateFor old new in_order state
     → ((l : List ℕ) (u : ℕ) → IsKnown ys l u → IsKnown xs l u ⊎ ((list ≡ l) × (state ≡ u))) → IsSharing old new ys
-sharing_more old new xs ys list states in_order state sharing alike members made adds = record {
+sharing_more old new xs ys list in_order state sharing alike made adds = record {
   known = λ l u is. ⊎_elim {C = IsStateFor old new l u} (λ before. sharing.known l u before) (λ (same, number). subst (IsStateFor old new l) number (subst (λ x. IsStateFor old new x state) same this)) (adds l u is);
   starts = sharing.starts;
   index_count = sharing.index_count;
 }
   where
     this : IsStateFor old new list state
-    this = state_of_alike old new list states state alike
-        (state_of_alike old new states in_order state (alike_members old states in_order (λ s. ((members s).1, (members s).0))) made)
+    this = state_of_alike old new list in_order state alike made

@@ -83,6 +83,12 @@ module _ (a : List State) (y : List ℕ) (k : ℕ) where
 pub alike_members : (m : Machine) (xs ys : List ℕ) → ((s : ℕ) → IsIn s xs ↔ IsIn s ys) → AcceptAlike m xs ys
 alike_members m xs ys same y k = (λ (s, at, h). (s, (same s).0 at, h), λ (s, at, h). (s, (same s).1 at, h))
 
+-- a list is alike another whose members, in some order, are those of a list that it is alike
+pub alike_in_order : (m : Machine) (list states in_order : List ℕ) → AcceptAlike m list states → ((s : ℕ) → IsIn s in_order ↔ IsIn s states) → AcceptAlike m list in_order
+alike_in_order m list states in_order alike members y k =
+    let same : AcceptAlike m in_order states = alike_members m in_order states members in
+    (λ h. (same y k).1 ((alike y k).0 h), λ h. (alike y k).1 ((same y k).0 h))
+
 -- what holds in each list that agrees holds after more pushes
 
 pub agrees_before : (a : List State) (old new : Machine) → Keeps old.states new.states → Agrees a new.states 0 (size new) → Agrees a old.states 0 (size old)

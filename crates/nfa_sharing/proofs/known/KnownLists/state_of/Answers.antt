@@ -11,7 +11,7 @@ pub returns-then-eq : goal.returns-then-eq
 returns-then-eq c =
     let entries = c.args.self.now.entries.items in
     let found = c.in_ok-known.known.now in
-    let place = c.in_ok-place.field-0.now in
+    let place = c.in_ok-place.place in
     let lookup = rw c.deref.ensures.value at c.in_ok-known.ensures.lookup in
     let at : slice_get entries place ≡ Some found = slice_get_read entries (length entries) place found refl lookup.3.0 lookup.1 in
     let same : found.list.items ≡ c.args.list.now = (slice_eq-Decides Decides-eqb found.list.items c.args.list.now true (rw c.as_slice.ensures.value at c.if-eq.ensures)).0 refl in
