@@ -79,7 +79,7 @@ impl Compiled {
     }
 
     /// The same as [`Compiled::new`], for runs with a [`RowCache`] too. So it takes more time and memory, linear in the states, if
-    /// there are more than 32 starts, and the automaton is not deterministic as a whole.
+    /// there would be three parts or more, or one that is simulated.
     pub fn with_rows(
         alloc: Global,
         budget: &mut Budget,
@@ -100,7 +100,7 @@ impl Compiled {
         ensures { IfOk result (λ c. c ≡ automaton) }
     {
         if !is_large(*budget, &automaton) {
-            return Compiled::partitioned(alloc, budget, automaton, None);
+            return Compiled::partitioned(alloc, budget, automaton, with_rows);
         }
         if let Some(parts) = joint(alloc, budget, &automaton)? {
             return Ok(Compiled {
@@ -108,38 +108,44 @@ impl Compiled {
                 rows: None,
             });
         }
-        let rows = if with_rows {
-            RowSource::new(alloc, &automaton)?
-        } else {
-            None
+        let Some(filter) = filter_for(alloc, &automaton)? else {
+            return Compiled::partitioned(alloc, budget, automaton, with_rows);
         };
-        match filter_for(alloc, &automaton)? {
-            Some(filter) => Ok(Compiled {
-                strategy: Strategy::Filtered(Box::new(
-                    alloc,
-                    Filtered::of(Nfa::with_blocks(automaton)?, filter),
-                )?),
-                rows,
-            }),
-            None => Compiled::partitioned(alloc, budget, automaton, rows),
-        }
+        let rows = rows_if(alloc, with_rows, &automaton)?;
+        let filtered = Filtered::of(Nfa::with_blocks(automaton)?, filter);
+        Ok(Compiled {
+            strategy: Strategy::Filtered(Box::new(alloc, filtered)?),
+            rows,
+        })
     }
 
-    /// Returns an automaton in parts, as far as the budget allows it deterministic ones. Returns an error if memory runs out.
+    /// Returns an automaton in parts, as far as the budget allows it deterministic ones, and if `with_rows` is set, what rows are
+    /// made from where a text would be run through many parts. Returns an error if memory runs out.
     fn partitioned(
         alloc: Global,
         budget: &mut Budget,
         automaton: Draft,
-        rows: Option<RowSource>,
+        with_rows: bool,
     ) -> Result<Compiled, AllocError>
-        requires { IfSome rows (λ r. r ≡ automaton) }
         ensures { IfOk result (λ c. c ≡ automaton) }
     {
-        let strategy = match partitioned(alloc, budget, &automaton)? {
-            Some(parts) => Strategy::Partitioned(parts),
-            None => Strategy::Whole(Nfa::with_blocks(automaton)?),
-        };
-        Ok(Compiled { strategy, rows })
+        let allows_rows = with_rows && !budget.simulates_all();
+        match partitioned(alloc, budget, &automaton)? {
+            Some(parts) => {
+                let rows = rows_if(alloc, allows_rows && parts.are_many(), &automaton)?;
+                Ok(Compiled {
+                    strategy: Strategy::Partitioned(parts),
+                    rows,
+                })
+            }
+            None => {
+                let rows = rows_if(alloc, allows_rows, &automaton)?;
+                Ok(Compiled {
+                    strategy: Strategy::Whole(Nfa::with_blocks(automaton)?),
+                    rows,
+                })
+            }
+        }
     }
 
     /// Returns an automaton that is simulated as a whole. It allocates nothing.
@@ -328,6 +334,17 @@ impl Compiled {
 
 /// An automaton with more starts than these is not divided, if a filter can name those that are run.
 const MANY_STARTS: usize = 32;
+
+/// Returns what rows of an automaton are made from, if they are wanted. Returns an error if memory runs out.
+fn rows_if(alloc: Global, wanted: bool, automaton: &Draft) -> Result<Option<RowSource>, AllocError>
+    ensures { IfOk result (λ made. IfSome made (λ rows. rows ≡ automaton.now)) }
+{
+    if wanted && automaton.state_count() > 0 {
+        RowSource::new(alloc, automaton)
+    } else {
+        Ok(None)
+    }
+}
 
 /// Returns whether an automaton has many starts, of which a filter may name a few.
 fn is_large(budget: Budget, automaton: &Draft) -> bool {

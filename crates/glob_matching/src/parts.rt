@@ -51,6 +51,9 @@ impl Model for Parts {
     ghost invariant = { λ p. ArePartsOf p.source.value p.state_count p.tables.items p.automata.items };
 }
 
+/// So many tables are as fast as rows, which have to be made first.
+const FEW: usize = 2;
+
 impl Parts {
     /// Returns the parts of an automaton.
     pub fn of(automaton: &Draft, tables: Vec<Dfa>, automata: Vec<Nfa>) -> Parts
@@ -70,6 +73,11 @@ impl Parts {
         ensures { result ≡ size self.now }
     {
         self.state_count
+    }
+
+    /// Returns whether running a text through these parts takes longer than reading the entries of one automaton.
+    pub fn are_many(&self) -> bool {
+        !self.automata.is_empty() || self.tables.len() > FEW
     }
 
     /// Returns how many bytes the deterministic parts take. It takes time linear in their number.

@@ -166,6 +166,8 @@ impl Rows {
     /// Returns where a byte leads from a row. If the row has marks, `ends` has afterwards what the row leads to without a byte.
     ///
     /// A known entry is one visit. If the entry is not known, each state is read at most once, and is one visit.
+    // It is the loop of a run over a text, and mostly reads one entry.
+    #[inline(always)]
     pub fn step(&mut self, automaton: &Draft, row: usize, byte: u8, visits: &mut Visits) -> Step
         requires sound { IsSound automaton.now self.old }
         requires row { row < length self.old.starts.items }
@@ -193,6 +195,7 @@ impl Rows {
     }
 
     /// Returns where a byte leads from a row that has marks, by its entry without these.
+    #[inline(never)]
     fn step_marked(
         &mut self,
         automaton: &Draft,
@@ -263,6 +266,8 @@ impl Rows {
     }
 
     /// Returns where a byte leads from a row whose entry for it is not known, and writes the entry if the row has no marks.
+    #[cold]
+    #[inline(never)]
     fn leave(&mut self, automaton: &Draft, row: usize, byte: u8, visits: &mut Visits) -> Step
         requires sound { IsSound automaton.now self.old }
         requires row { row < length self.old.starts.items }
@@ -383,6 +388,7 @@ impl Rows {
     }
 
     /// Returns an entry of a row.
+    #[inline(always)]
     fn entry(&self, row: usize, column: usize) -> u32
         requires row { row < length self.now.starts.items }
         requires column { column ≤ self.now.class_count }
@@ -529,6 +535,7 @@ fn added_by(has_marks: bool) -> u32
 }
 
 /// Returns the row that an entry without marks leads to.
+#[inline(always)]
 fn next_of(entry: u32) -> Option<usize>
     requires { 0 < entry }
     ensures { MatchOption result (entry ≡ 1) (λ j. (1 < entry) × (j ≡ entry - 2)) }

@@ -77,6 +77,7 @@ impl Rows {
     }
 
     /// Puts what the ends of a row that was left say is decided into a set, if the row has marks.
+    #[inline(always)]
     fn tell_marks(&self, has_marks: bool, half: usize, found: &mut IndexSet)
         requires fits { half + half < 2 ^ 64 }
         requires room { half ≤ index_capacity found.old }
