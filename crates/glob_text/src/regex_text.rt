@@ -11,6 +11,9 @@ use glob_meaning::is_prefix_alone;
 use glob_syntax::{Class, Options, Token};
 use std::alloc::{AllocError, Global};
 
+/// The most bytes of what stands around the text of the tokens: the flags, `^` and `$`.
+const AROUND: usize = 11;
+
 /// Returns the text of a glob's tokens, in time linear in the tokens. Returns an error if memory runs out.
 pub fn regex_of_tokens(
     alloc: Global,
@@ -20,7 +23,9 @@ pub fn regex_of_tokens(
     requires { IsNested (flats tokens.now) }
     ensures { IfOk result (λ text. string_bytes text ≡ regex_text options (tokens_of tokens.now)) }
 {
-    let mut text = String::new(alloc);
+    // Most tokens are a character of their text, or two.
+    let capacity = tokens.len().saturating_add(tokens.len() / 4);
+    let mut text = String::with_capacity(alloc, capacity.saturating_add(AROUND))?;
     push_flags(&mut text, options)?;
     text.push_str("^")?;
     push_body(alloc, &mut text, options, tokens)?;
