@@ -70,10 +70,10 @@ impl Searcher {
     ghost use Rattle.globset.specs.Lending.{LendsFound};
 
     /// Returns a searcher of the set, which shares what the set matches with. It takes eight bytes of memory for each glob, and as
-    /// much as a [`Scratch`] for the set. If more than 32 globs need an automaton, it may take up to 16 MB more, for parts of tables
+    /// much as a [`Scratch`] for the set. If several globs need an automaton, it may take up to 16 MB more, for parts of tables
     /// that it keeps from one path to the next.
     ///
-    /// Returns an error if memory runs out or if 2^63 sets share it, and no other.
+    /// Returns an error if memory runs out or 2^63 sets share it, and in no other case.
     pub fn new(alloc: Global, set: &GlobSet) -> Result<Searcher, Error>
         ensures set { IfOk result (λ s. s.set ≡ set.now) }
         ensures found { IfOk result (λ s. s.found ≡ []) }

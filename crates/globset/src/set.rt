@@ -151,7 +151,7 @@ impl GlobSet {
     }
 
     /// Returns an equal set, which shares what it matches with. It takes no memory, and little time whatever the set's size. Returns an
-    /// error if 2^63 sets share it, and no other.
+    /// error if 2^63 sets share it, and in no other case.
     pub fn clone(&self) -> Result<GlobSet, Error>
         ensures ok { IfOk result (λ s. s ≡ self.now) }
         ensures err { IfErr result (λ e. e ≡ out_of_memory) }

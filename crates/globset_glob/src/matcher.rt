@@ -237,7 +237,7 @@ impl GlobMatcher {
     }
 
     /// Returns a matcher for an equal glob. It copies the glob, and shares its automaton. Returns an error if memory runs out or if 2^63
-    /// matchers share the automaton, and no other.
+    /// matchers share the automaton, and in no other case.
     pub fn clone(&self) -> Result<GlobMatcher, Error>
         ensures ok { IfOk result (λ m. m ≡ self.now) }
         ensures err { IfErr result (λ e. e ≡ out_of_memory) }

@@ -49,7 +49,7 @@ impl Model for StoredSearcher {
 }
 
 impl StoredSearcher {
-    /// Returns a searcher of what a set shares. Returns an error if memory runs out or if 2^63 values share it, and no other.
+    /// Returns a searcher of what a set shares. Returns an error if memory runs out or 2^63 values share it, and in no other case.
     pub(crate) fn new(alloc: Global, shared: &Shared) -> Result<StoredSearcher, Error>
         ensures ok { IfOk result (λ s. s ≡ shared.now.set) }
         ensures err { IfErr result (λ e. e ≡ out_of_memory) }

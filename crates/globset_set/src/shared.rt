@@ -192,7 +192,8 @@ impl Shared {
         Ok(self.matcher().matches_all(path, sets, caches, visits)?)
     }
 
-    /// Returns an equal value, which shares the matcher. It takes no memory. Returns an error if 2^63 values share it, and no other.
+    /// Returns an equal value, which shares the matcher. It takes no memory. Returns an error if 2^63 values share it, and in no
+    /// other case.
     pub fn clone(&self) -> Result<Shared, Error>
         ensures ok { IfOk result (λ s. s ≡ self.now) }
         ensures err { IfErr result (λ e. e ≡ out_of_memory) }

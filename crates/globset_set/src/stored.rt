@@ -61,8 +61,8 @@ impl Stored {
         })
     }
 
-    /// Returns a searcher of the set, with all memory that it needs. Returns an error if memory runs out or if 2^63 values share the
-    /// matcher, and no other.
+    /// Returns a searcher of the set, with all memory that it needs. Returns an error if memory runs out or 2^63 values share the
+    /// matcher, and in no other case.
     pub fn searcher(&self, alloc: Global) -> Result<StoredSearcher, Error>
         ensures ok { IfOk result (λ s. s ≡ self.now) }
         ensures err { IfErr result (λ e. e ≡ out_of_memory) }
@@ -180,7 +180,8 @@ impl Stored {
             .matches_all(path, sets, &mut Caches::none(), visits)
     }
 
-    /// Returns an equal value, which shares the matcher. It takes no memory. Returns an error if 2^63 values share it, and no other.
+    /// Returns an equal value, which shares the matcher. It takes no memory. Returns an error if 2^63 values share it, and in no
+    /// other case.
     pub fn clone(&self) -> Result<Stored, Error>
         ensures ok { IfOk result (λ s. s ≡ self.now) }
         ensures err { IfErr result (λ e. e ≡ out_of_memory) }

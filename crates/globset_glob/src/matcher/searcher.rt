@@ -60,7 +60,7 @@ impl MatcherSearcher {
     /// Returns a searcher that matches as the matcher does. It copies the matcher's glob and shares its automaton, and takes a byte
     /// of memory for each byte of the glob's text and one more, or four times as much under `whole_character`.
     ///
-    /// Returns an error if memory runs out or if 2^63 matchers share the automaton, and no other.
+    /// Returns an error if memory runs out or 2^63 matchers share the automaton, and in no other case.
     pub fn new(alloc: Global, matcher: &GlobMatcher) -> Result<MatcherSearcher, Error>
         ensures ok { IfOk result (λ s. s ≡ matcher.now) }
         ensures err { IfErr result (λ e. e ≡ out_of_memory) }
