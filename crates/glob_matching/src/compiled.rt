@@ -265,9 +265,13 @@ impl Compiled {
             return self.find(text, sets, found, visits);
         };
         if let Strategy::Filtered(filtered) = &self.strategy {
-            if filtered.marks_few(text, sets, visits)? {
-                filtered.find_marked(text, sets, found, visits);
-                return Ok(());
+            if rows.asks_filter() {
+                let few = filtered.marks_few(text, sets, visits)?;
+                rows.keep_answer(few);
+                if few {
+                    filtered.find_marked(text, sets, found, visits);
+                    return Ok(());
+                }
             }
         }
         rows.find(text, found, visits);
@@ -295,8 +299,12 @@ impl Compiled {
             return self.is_match(text, sets, visits);
         };
         if let Strategy::Filtered(filtered) = &self.strategy {
-            if filtered.marks_few(text, sets, visits)? {
-                return Ok(filtered.is_match_marked(text, sets, visits));
+            if rows.asks_filter() {
+                let few = filtered.marks_few(text, sets, visits)?;
+                rows.keep_answer(few);
+                if few {
+                    return Ok(filtered.is_match_marked(text, sets, visits));
+                }
             }
         }
         Ok(rows.is_match(text, visits))

@@ -53,6 +53,10 @@ impl Model for RowSource {
 pub struct RowCache {
     dfa: Arc<LazyDfa>,
     cache: Cache,
+    /// How many texts are run by rows before a filter is asked again, since it marked many starts each time it was asked last.
+    left: u32,
+    /// How many these were at first.
+    pause: u32,
     made_for: Snapshot<RowSource>,
 }
 
@@ -62,6 +66,8 @@ impl Drop for RowCache {
         let RowCache {
             dfa: _,
             cache: _,
+            left: _,
+            pause: _,
             made_for: _,
         } = self;
     }
@@ -120,12 +126,42 @@ impl RowSource {
         Ok(RowCache {
             dfa: Arc::try_clone(&self.dfa)?,
             cache,
+            left: 0,
+            pause: 0,
             made_for: Snapshot::of(self),
         })
     }
 }
 
 impl RowCache {
+    /// Returns whether a filter should be asked before rows.
+    pub fn asks_filter(&mut self) -> bool
+        ensures { self.new ≡ self.old }
+    {
+        match self.left.checked_sub(1) {
+            Some(left) => {
+                self.left = left;
+                false
+            }
+            None => true,
+        }
+    }
+
+    /// Keeps whether a filter marked few starts when it was asked. Each time that it did not, it is asked half as often.
+    pub fn keep_answer(&mut self, few: bool)
+        ensures { self.new ≡ self.old }
+    {
+        self.pause = if few {
+            0
+        } else {
+            self.pause
+                .saturating_mul(2)
+                .saturating_add(1)
+                .min(MOST_PAUSE)
+        };
+        self.left = self.pause;
+    }
+
     /// Puts the indexes of the tokens that match a text into a set, beside what it holds.
     ///
     /// It is at most `(text bytes + 1) * states` visits. It takes no memory.
@@ -152,6 +188,9 @@ impl RowCache {
         self.cache.is_match(&self.dfa, text, visits)
     }
 }
+
+/// A filter is asked for one of so many texts, and one, at least.
+const MOST_PAUSE: u32 = 63;
 
 /// How many bytes a cache has for each state. With fewer, rows are forgotten so often that texts make many of theirs anew.
 const BYTES_PER_STATE: usize = 1 << 11;
