@@ -79,7 +79,7 @@ impl Compiled {
     }
 
     /// The same as [`Compiled::new`], for runs with a [`RowCache`] too. So it takes more time and memory, linear in the states, if
-    /// there would be three parts or more, or one that is simulated.
+    /// there would be four parts or more, or one that is simulated.
     pub fn with_rows(
         alloc: Global,
         budget: &mut Budget,

@@ -51,8 +51,8 @@ impl Model for Parts {
     ghost invariant = { λ p. ArePartsOf p.source.value p.state_count p.tables.items p.automata.items };
 }
 
-/// So many tables are as fast as rows, which have to be made first.
-const FEW: usize = 2;
+/// So many tables are about as fast as rows: a table is left out for a text that ends in another byte than its matches.
+const FEW: usize = 3;
 
 impl Parts {
     /// Returns the parts of an automaton.
