@@ -67,8 +67,8 @@ impl FolderRules {
         }
     }
 
-    /// Puts what the file says of each folder above a path, which begins in the top folder, at the index of the `/` after the folder,
-    /// unless there is a decision already. Returns an error if memory runs out.
+    /// Puts what the file says of each folder above a path, which begins in the top folder, at the index of the `/` after the
+    /// folder, unless there is a decision already. All other items stay as they are. Returns an error if memory runs out.
     fn decide_folders(&self, path: &[u8], decisions: &mut [Decision]) -> Result<(), Error>
         requires { length path.now ≤ length decisions.old }
         ensures added { OnOk result (IsFileAdded (file_of self.now) path.now decisions.old decisions.new) }
@@ -238,8 +238,9 @@ fn is_ignored_at(path: &[u8], decisions: &[Decision], end: usize) -> bool
     path[end] == b'/' && decisions[end].is_ignored()
 }
 
-/// Returns what files say of each folder above a path, which begins in the top folder: at the index of the `/` after the folder. There
-/// are as many decisions as the path has bytes. Returns an error if memory runs out.
+/// Returns what files say of each folder above a path, which begins in the top folder: at the index of the `/` after the folder.
+/// There are as many decisions as the path has bytes, and those at other bytes are [`Decision::Undecided`]. Returns an error if
+/// memory runs out.
 fn decide_folders(alloc: Global, files: &[FolderRules], path: &[u8]) -> Result<Vec<Decision>, Error>
     ensures count { IfOk result (λ decisions. length decisions.items ≡ length path.now) }
     ensures decisions { IfOk result (λ decisions. AreOfFiles (files_of files.now) path.now decisions.items) }

@@ -148,7 +148,7 @@ impl Rules {
     /// The decision about a folder is put at the index of the `/` after it in the path, unless there is one already: an item that is
     /// not [`Decision::Undecided`] stays as it is. So calls for several files, those of deeper folders first, find what the files
     /// say together. The path below the folder of the file begins at `start`, and folders that end before are left out, as are those
-    /// for which `decisions` is too short.
+    /// for which `decisions` is too short. The items at other bytes and those beyond the path stay as they are.
     ///
     /// It takes memory for the states of an automaton of all globs. A byte of the path takes as many steps as this is in states, 64 in
     /// one word together. Returns an error if memory runs out, and no other; nothing is put then.

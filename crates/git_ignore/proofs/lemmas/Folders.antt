@@ -1,23 +1,25 @@
 -- Decisions about all folders above a path.
 use Rattle.std.proofs.Common.{◌≡◌, ◌⊎◌, inl, inr, ℕ, zero, suc, ◌+◌, ◌<◌, ◌≤◌, List, [], ◌∷◌, ◌++◌, length, take, drop, get_or, set, Bool, true, false, refl, ap, sym, subst, ◌∙◌, arith}
-use Rattle.std.specs.Prelude.{◌==◌, ◌&&◌, not, None, if◌then◌else◌, filter, All}
+use Rattle.std.specs.Prelude.{◌≢◌, ◌==◌, ◌&&◌, not, None, if◌then◌else◌, filter, All}
 use Rattle.std.specs.List.{range_with_len}
-use Rattle.std.proofs.lemmas.Bool.{cases_lt, cases_eq, eqb-true}
-use Rattle.std.proofs.lemmas.List.{take_more, length-take, length-take-le, drop-append-le, drop_all, get_or_default, get_or_past, get_or-set_same, get_or-set_other}
+use Rattle.std.specs.Str.{bytes_eq}
+use Rattle.std.proofs.lemmas.Bool.{cases_lt, cases_eq, eqb-true, ne_eqb}
+use Rattle.std.proofs.lemmas.List.{take_more, length-take, length-take-le, take-take, drop-append-le, drop_all, get_or_default, get_or_past, get_or-set_same, get_or-set_other}
 use Rattle.globset.specs.GlobMatches.{GlobValue, glob_matches}
 use Rattle.globset.specs.Excluded.{excluded, is_reported}
 use Rattle.globset.specs.Answer.{matching_indexes}
 use Rattle.globset.specs.Indexes.{passes_at}
 use Rattle.glob_prefixes.specs.Prefixes.{all_matching_indexes}
-use Rattle.git_ignore.specs.Folders.{IgnoreFile, files_decision, ignores, or_else}
+use Rattle.git_ignore.specs.Folders.{IgnoreFile, is_in, file_decision, files_decision, ignores, or_else}
 use Rattle.git_ignore.specs.Rules.{decision, rules_of}
 use Rattle.git_ignore.specs.declared.decision.Decision.{Decision}
 use Rattle.git_ignore.specs.declared.decision.Decision.TheVariants.{Undecided}
 use Rattle.git_ignore.specs.declared.entry.RuleEntry.{RuleEntry}
 use Rattle.git_ignore.specs.inner.Entries.{AreEntriesOf, last_chosen}
 use Rattle.git_ignore.specs.FolderDecisions.{ArePut}
-use Rattle.git_ignore.specs.inner.FolderParts.{said_of_folder, put_at, ArePutUpTo, AreOfFiles}
+use Rattle.git_ignore.specs.inner.FolderParts.{said_of_folder, put_at, ArePutUpTo, IsFileAdded, AreOfFiles}
 use Rattle.git_ignore.proofs.lemmas.Entries.{chosen_is_last, decided}
+use Rattle.git_ignore.proofs.lemmas.Stacks.{not_in, or_else_nothing}
 
 -- ---- no glob is excluded, so a set leaves none out
 
@@ -47,12 +49,16 @@ pub put_rightly : (file : List ℕ) (globs : List GlobValue) (entries : List Rul
 put_rightly file globs entries path start old new h put = record {
   before = put.before;
   put = λ j low within slash. put.put j low within slash ∙ ap (or_else (get_or old j Undecided)) (said_rightly file globs entries (drop start (take j path)) h);
+  others = put.others;
 }
 
 -- ---- the decision at a byte
 
 slash_put : (byte : ℕ) (before said : Decision) → byte ≡ 47 → put_at byte before said ≡ or_else before said
 slash_put byte before said e = ap (λ (b : ℕ). put_at b before said) e
+
+nothing_put : (byte : ℕ) (before said : Decision) → byte ≢ 47 → put_at byte before said ≡ before
+nothing_put byte before said other = ap (λ (b : Bool). if b then or_else before said else before) (ne_eqb byte 47 other)
 
 -- ---- one byte more
 
@@ -71,6 +77,7 @@ byte_put say path start i old cur d e low within put to = record {
   before = λ j under. get_or-set_other cur i j d Undecided (λ same. absurd (omega (arith, same, under, low))) ∙ put.before j under;
   put = λ j under above slash. of j under above slash (cases_eq j i);
   after = λ j over. get_or-set_other cur i j d Undecided (λ same. absurd (omega (arith, same, over))) ∙ put.after j (omega (arith, over));
+  others = λ j no_slash. stays j no_slash (cases_eq j i);
 }
   where
     said : Decision
@@ -89,6 +96,17 @@ byte_put say path start i old cur d e low within put to = record {
     of j under above slash (inr other) =
         get_or-set_other cur i j d Undecided other ∙ put.put j (omega (arith, under, other)) above slash
 
+    stays_here : get_or path i 0 ≢ 47 → get_or (set cur i d) i Undecided ≡ get_or old i Undecided
+    stays_here no_slash =
+        get_or-set_same cur i d Undecided within ∙ to ∙ nothing_put (get_or path i 0) (get_or cur i e) said no_slash
+        ∙ get_or_default cur i e Undecided within ∙ put.after i (omega arith)
+
+    stays : (j : ℕ) → get_or path j 0 ≢ 47 → (j ≡ i) ⊎ (j ≡ i → ⊥) → get_or (set cur i d) j Undecided ≡ get_or old j Undecided
+    stays j no_slash (inl same) =
+        subst (λ (k : ℕ). get_or (set cur i d) k Undecided ≡ get_or old k Undecided) (sym same)
+        (stays_here (subst (λ (k : ℕ). get_or path k 0 ≢ 47) same no_slash))
+    stays j no_slash (inr other) = get_or-set_other cur i j d Undecided other ∙ put.others j no_slash
+
 -- a `/` stands inside the path
 slash_within : (path : List ℕ) (j : ℕ) → get_or path j 0 ≡ 47 → j < length path
 slash_within path j slash = of (cases_lt j (length path))
@@ -102,9 +120,34 @@ pub all_put : (say : List ℕ → Decision) (path : List ℕ) (start i : ℕ) (o
 all_put say path start i old cur h put = record {
   before = put.before;
   put = λ j low within slash. put.put j (h j (slash_within path j slash) within) low slash;
+  others = put.others;
 }
 
--- ---- a file
+-- ---- a file of a folder
+
+-- a folder above a path is in this one exactly if the path is, unless it is above this one
+is_in_above : (folder path : List ℕ) (j : ℕ) → length folder ≤ j → is_in folder (take j path) ≡ is_in folder path
+is_in_above folder path j h = ap (λ (xs : List ℕ). bytes_eq xs folder) (take-take (length folder) j path h)
+
+-- what is said of the folders above a path that is in the folder of the file was put
+pub file_put : (file : IgnoreFile) (path : List ℕ) (old new : List Decision) → is_in file.folder path ≡ true → length path ≤ length old
+    → ArePut (λ folder. decision file.bytes folder true) path (length file.folder) old new → IsFileAdded file path old new
+file_put file path old new inside long put = record {
+  at = λ j slash. of j slash (cases_lt j (length file.folder));
+  others = put.others;
+}
+  where
+    say : (j : ℕ) → Bool → Decision
+    say j b = or_else (get_or old j Undecided) (if b then decision file.bytes (drop (length file.folder) (take j path)) true else Undecided)
+
+    of : (j : ℕ) → get_or path j 0 ≡ 47 → (j < length file.folder) ⊎ (length file.folder ≤ j)
+        → get_or new j Undecided ≡ or_else (get_or old j Undecided) (file_decision (take j path) true file)
+    of j slash (inl above) =
+        put.before j above ∙ sym (or_else_nothing (get_or old j Undecided))
+        ∙ ap (say j) (sym (not_in file.folder (take j path) (omega (arith, above, length-take j path))))
+    of j slash (inr low) =
+        put.put j low (omega (arith, slash_within path j slash, long)) slash
+        ∙ ap (say j) (sym (is_in_above file.folder path j low ∙ inside))
 
 -- ---- all files, from the last to the first
 
