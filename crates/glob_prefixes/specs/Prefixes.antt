@@ -1,13 +1,11 @@
 -- Globs that are matched against every beginning of a text, while it is read.
-use Rattle.std.specs.Prelude.{◌≡◌, ◌≤◌, ◌↔◌, ℕ, List, ◌++◌, vec_capacity}
-use Rattle.bit_sets.specs.Indexes.{index_capacity}
+use Rattle.std.specs.Prelude.{◌≤◌, ◌↔◌, ℕ, List, ◌++◌}
 use Rattle.byte_nfa.specs.Runs.{size, AcceptsFrom}
-use Rattle.bit_sets.specs.StateSets.{state_capacity}
 use Rattle.byte_nfa.specs.Steps.{Machine, IsReached}
 use Rattle.bit_sets.specs.Texts.{AllBytes}
+use Rattle.bit_sets.specs.declared.state_set.StateSet.{StateSet}
 use Rattle.globset_glob.specs.GlobMatches.{GlobValue, glob_matches}
 use Rattle.set_matcher.specs.Indexes.{passing_indexes}
-use Rattle.glob_prefixes.specs.declared.states.PrefixStates.{PrefixStates}
 
 -- ---- matchers and their builders
 
@@ -27,28 +25,33 @@ max_globs b = b.machine.index_count
 
 -- ---- states
 
--- the states have room for the matcher
-pub record FitsPrefixes (states : PrefixStates) (m : PrefixMatcherValue) : Type 0 where
-  pub current : prefix_states m ≤ state_capacity states.current
-  pub next : state_capacity states.next ≡ state_capacity states.current
-  pub asked : state_capacity states.asked ≡ state_capacity states.current
-  pub marks : m.machine.index_count ≤ index_capacity states.marks
-  pub matching : m.machine.index_count ≤ vec_capacity states.matching
+-- States are seen as two numbers, of the states and of the indexes that they have room for; as the set of the states that what was
+-- read leads to; and as the indexes that were found when they were last asked.
+pub record PrefixStatesValue : Type 0 where
+  pub states : ℕ
+  pub indexes : ℕ
+  pub current : StateSet
+  pub matching : List ℕ
+
+-- The states have room for the matcher: neither number is below that of the matcher.
+pub record FitsPrefixes (held : PrefixStatesValue) (m : PrefixMatcherValue) : Type 0 where
+  pub states : prefix_states m ≤ held.states
+  pub indexes : max_globs m ≤ held.indexes
 
 -- the new states have room for each matcher that the old ones have room for
-abbrev pub FitAsBefore : PrefixStates → PrefixStates → Type 0
+abbrev pub FitAsBefore : PrefixStatesValue → PrefixStatesValue → Type 0
 FitAsBefore old new = (m : PrefixMatcherValue) → FitsPrefixes old m → FitsPrefixes new m
 
 -- The states are those of the matcher after this text: what follows leads from them to the ends that it leads to after the text.
-pub record IsAfter (m : PrefixMatcherValue) (states : PrefixStates) (text : List ℕ) : Type 0 where
+pub record IsAfter (m : PrefixMatcherValue) (held : PrefixStatesValue) (text : List ℕ) : Type 0 where
   pub bytes : AllBytes text
-  pub leads : (y : List ℕ) (k : ℕ) → AcceptsFrom m.machine states.current y k ↔ IsReached m.machine (text ++ y) k
+  pub leads : (y : List ℕ) (k : ℕ) → AcceptsFrom m.machine held.current y k ↔ IsReached m.machine (text ++ y) k
 
 -- ---- what is found
 
 -- the indexes that were found when the states were last asked
-abbrev pub matching_of : PrefixStates → List ℕ
-matching_of states = states.matching.items
+abbrev pub matching_of : PrefixStatesValue → List ℕ
+matching_of held = held.matching
 
 -- The indexes, ascending, of the globs that match the text. Excluded globs are among them: only a set leaves those out.
 abbrev pub all_matching_indexes : List GlobValue → List ℕ → List ℕ

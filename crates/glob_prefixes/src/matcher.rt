@@ -1,11 +1,13 @@
 //! Matchers, and the steps of what they read.
 
 ghost use Rattle.std.specs.Prelude.{◌≡◌, ◌+◌, ◌*◌, ◌≤◌, ◌↔◌, ◌++◌, ◌∷◌, [], ℕ, List, length, IsTrue};
-ghost use Rattle.bit_sets.specs.Indexes.{has_index};
-ghost use Rattle.byte_nfa.specs.Steps.{IsReached};
+ghost use Rattle.bit_sets.specs.Indexes.{has_index, index_capacity};
+ghost use Rattle.bit_sets.specs.StateSets.{state_capacity};
+ghost use Rattle.byte_nfa.specs.Runs.{AcceptsFrom};
 ghost use Rattle.glob_prefixes.specs.Prefixes.{FitAsBefore, FitsPrefixes, IsAfter, all_matching_indexes, matching_of, max_globs, prefix_states};
 
 use crate::states::PrefixStates;
+use bit_sets::{IndexSet, StateSet};
 use glob_text::GivenGlobs;
 use nfa_simulation::Nfa;
 use std::marker::Model;
@@ -16,7 +18,7 @@ use visits::Visits;
 ///
 /// A [`PrefixMatcherBuilder`](crate::PrefixMatcherBuilder) makes it. A run begins with [`PrefixMatcher::start`], reads bytes by
 /// [`PrefixMatcher::push`], and may be asked at any time by [`PrefixMatcher::matches`]. What a run remembers is in its
-/// [`PrefixStates`], which have to have room for the matcher. So several runs of a matcher may go on side by side.
+/// [`PrefixStates`], which have to fit the matcher. So several runs of a matcher may go on side by side.
 ///
 /// It has at most four states for each byte of a glob's text, or 16 under `whole_character`, and four more for each glob.
 pub struct PrefixMatcher {
@@ -110,29 +112,41 @@ impl PrefixMatcher {
         ensures visits { visits.new ≤ visits.old + prefix_states self.now }
         ensures counted { visits.old ≤ visits.new }
     {
-        self.mark(states, visits);
-        states.matching.clear();
         let count = self.automaton.index_count();
+        self.mark(
+            &states.current,
+            &mut states.asked,
+            &mut states.marks,
+            visits,
+        );
+        states.matching.clear();
         states
             .marks
             .push_below(count, &mut states.matching)
             .unwrap();
     }
 
-    /// Marks the indexes of the ends that what was read leads to, and no others.
-    fn mark(&self, states: &mut PrefixStates, visits: &mut Visits)
-        requires { FitsPrefixes states.old self.now }
-        ensures marked { (text : List ℕ) → IsAfter self.now states.old text → (k : ℕ) → IsTrue (has_index states.new.marks k) ↔ IsReached self.now.machine text k }
-        ensures current { states.new.current ≡ states.old.current }
-        ensures matching { states.new.matching ≡ states.old.matching }
-        ensures fits { FitAsBefore states.old states.new }
+    /// Marks the indexes of the ends that states lead to, and no others. It works in `asked`, and what that and the marks held has
+    /// no effect.
+    fn mark(
+        &self,
+        current: &StateSet,
+        asked: &mut StateSet,
+        marks: &mut IndexSet,
+        visits: &mut Visits,
+    )
+        requires states { prefix_states self.now ≤ state_capacity current.now }
+        requires asked { state_capacity asked.old ≡ state_capacity current.now }
+        requires marks { max_globs self.now ≤ index_capacity marks.old }
+        ensures marked { (k : ℕ) → IsTrue (has_index marks.new k) ↔ AcceptsFrom self.now.machine current.now [] k }
+        ensures asked { state_capacity asked.new ≡ state_capacity current.now }
+        ensures marks { index_capacity marks.new ≡ index_capacity marks.old }
         ensures visits { visits.new ≤ visits.old + prefix_states self.now }
         ensures counted { visits.old ≤ visits.new }
     {
         // To look for ends changes the set that is looked into.
-        states.asked.copy_from(&states.current);
-        states.marks.clear();
-        self.automaton
-            .ends(&mut states.asked, &mut states.marks, visits);
+        asked.copy_from(current);
+        marks.clear();
+        self.automaton.ends(asked, marks, visits);
     }
 }

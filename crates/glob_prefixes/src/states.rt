@@ -1,17 +1,22 @@
 //! What a matcher works with.
 
-ghost use Rattle.std.specs.Prelude.{◌≡◌, IfOk};
-ghost use Rattle.glob_prefixes.specs.Prefixes.{FitsPrefixes, matching_of};
+ghost use Rattle.std.specs.Prelude.{◌≡◌, ◌↔◌, IsTrue, IfOk};
+ghost use Rattle.glob_prefixes.specs.Prefixes.{FitsPrefixes, matching_of, max_globs, prefix_states};
 
 use crate::matcher::PrefixMatcher;
 use bit_sets::{IndexSet, StateSet};
 use std::alloc::{AllocError, Global};
+use std::marker::Model;
 
 /// What a [`PrefixMatcher`] remembers of the bytes that it read, and all the memory that it takes for them.
 ///
-/// They have room for one matcher, and are only of use to it: no call of it can fail with them. What they hold has no effect after
-/// [`PrefixMatcher::start`].
+/// No call of a matcher can fail with states that fit it. They can be used with each matcher that they fit, which
+/// [`PrefixStates::fits`] tells: what they hold has no effect after [`PrefixMatcher::start`].
 pub struct PrefixStates {
+    /// The number of states that each of the three sets has room for.
+    states: usize,
+    /// The number of indexes that can be marked and listed.
+    indexes: usize,
     /// Those that what was read leads to.
     pub(crate) current: StateSet,
     /// Those that a byte more leads to, while it is read.
@@ -28,6 +33,8 @@ impl Drop for PrefixStates {
     // One call wherever a value is dropped, which keeps proofs short.
     fn drop(self) {
         let PrefixStates {
+            states: _,
+            indexes: _,
             current: _,
             next: _,
             asked: _,
@@ -37,27 +44,72 @@ impl Drop for PrefixStates {
     }
 }
 
+impl Model for PrefixStates {
+    ghost use Rattle.std.specs.Prelude.{vec_capacity};
+    ghost use Rattle.glob_prefixes.specs.Prefixes.{PrefixStatesValue};
+    ghost use Rattle.glob_prefixes.specs.inner.Capacity.{HasCapacity};
+
+    ghost Value = { PrefixStatesValue };
+
+    ghost view = { λ s. record {
+      states = s.states;
+      indexes = s.indexes;
+      current = s.current;
+      matching = s.matching.items;
+    } };
+
+    ghost invariant = { λ s. HasCapacity s.states s.indexes s.current s.next s.asked s.marks (vec_capacity s.matching) };
+}
+
 impl PrefixStates {
-    /// Returns states with room for a matcher. [`PrefixMatcher::start`] begins a run with them.
+    /// Returns states that fit a matcher. [`PrefixMatcher::start`] begins a run with them.
     ///
-    /// They take three bits of memory for each state of the matcher, and a bit and a `usize` for each of the globs that it may have.
-    /// Returns an error if memory runs out.
+    /// They take three bits of memory for each state of the matcher, and a bit and a `usize` for each of the globs that it may
+    /// have. Returns an error if memory runs out.
     pub fn new(alloc: Global, matcher: &PrefixMatcher) -> Result<PrefixStates, AllocError>
-        ensures { IfOk result (λ states. FitsPrefixes states matcher.now) }
+        ensures states { IfOk result (λ held. held.states ≡ prefix_states matcher.now) }
+        ensures indexes { IfOk result (λ held. held.indexes ≡ max_globs matcher.now) }
+        ensures fits { IfOk result (λ held. FitsPrefixes held matcher.now) }
     {
-        let count = matcher.index_count();
-        let current = StateSet::new(alloc, matcher.state_count())?;
+        let (states, indexes) = (matcher.state_count(), matcher.index_count());
+        let current = StateSet::new(alloc, states)?;
         let next = current.clone()?;
         let asked = current.clone()?;
-        let marks = IndexSet::new(alloc, count)?;
-        let matching = Vec::with_capacity(alloc, count)?;
+        let marks = IndexSet::new(alloc, indexes)?;
+        let matching = Vec::with_capacity(alloc, indexes)?;
         Ok(PrefixStates {
+            states,
+            indexes,
             current,
             next,
             asked,
             marks,
             matching,
         })
+    }
+
+    /// Returns whether the states fit the matcher: whether they have room for its states and for the globs that it may have.
+    /// They fit the matcher that they were made for.
+    ///
+    /// ```rust
+    /// use glob_prefixes::{PrefixMatcherBuilder, PrefixStates};
+    /// use globset::Glob;
+    ///
+    /// let none = PrefixMatcherBuilder::new(alloc, 0).finish()?;
+    /// let mut builder = PrefixMatcherBuilder::new(alloc, 1);
+    /// builder.add(&Glob::new(alloc, "*.c")?)?;
+    /// let one = builder.finish()?;
+    /// let mut states = PrefixStates::new(alloc, &none)?;
+    /// assert!(rt; states.fits(&none));
+    /// assert!(rt; !states.fits(&one));
+    /// states = PrefixStates::new(alloc, &one)?;
+    /// assert!(rt; states.fits(&none));
+    /// assert!(rt; states.fits(&one));
+    /// ```
+    pub fn fits(&self, matcher: &PrefixMatcher) -> bool
+        ensures { IsTrue result ↔ FitsPrefixes self.now matcher.now }
+    {
+        matcher.state_count() <= self.states && matcher.index_count() <= self.indexes
     }
 
     /// Returns the indexes, ascending, of the globs that the last call of [`PrefixMatcher::matches`] found.

@@ -16,9 +16,8 @@ use Rattle.glob_syntax.specs.Token.{Tokens}
 use Rattle.globset_glob.specs.GlobMatches.{GlobValue, tokens_of_glob, glob_matches}
 use Rattle.set_matcher.specs.Indexes.{passes_at}
 use Rattle.bit_sets.proofs.lemmas.Filters.{filter_between, filter_same}
-use Rattle.glob_prefixes.specs.Prefixes.{IsAfter, PrefixMatcherValue, all_matching_indexes}
+use Rattle.glob_prefixes.specs.Prefixes.{IsAfter, PrefixMatcherValue, PrefixStatesValue, all_matching_indexes}
 use Rattle.glob_prefixes.specs.inner.Added.{AreAdded, IsPrefixMatcherOf, indexed_globs}
-use Rattle.glob_prefixes.specs.declared.states.PrefixStates.{PrefixStates}
 
 -- ---- one glob more
 
@@ -118,7 +117,7 @@ bytes_more [] c l b = (l, tt)
 bytes_more (d ∷ ds) c l b = (b.0, bytes_more ds c l b.1)
 
 -- one byte more was read
-pub byte_read : (m : PrefixMatcherValue) (old new : PrefixStates) (stepped : StateSet) (text : List ℕ) (byte : ℕ) → byte < 256
+pub byte_read : (m : PrefixMatcherValue) (old new : PrefixStatesValue) (stepped : StateSet) (text : List ℕ) (byte : ℕ) → byte < 256
     → ((y : List ℕ) (k : ℕ) → AcceptsFrom m.machine old.current (byte ∷ y) k ↔ AcceptsFrom m.machine stepped y k) → new.current ≡ stepped
     → IsAfter m old text → IsAfter m new (text ++ byte ∷ [])
 byte_read m old new stepped text byte lt steps same h = record {
@@ -131,20 +130,27 @@ byte_read m old new stepped text byte lt steps same h = record {
       );
 }
 
--- the ends that what was read leads to, by a copy of the states
-pub ends_reached : (m : PrefixMatcherValue) (states : PrefixStates) (asked : StateSet) (text : List ℕ) (k : ℕ) (found before : Bool)
-    → ((s : ℕ) → has_state asked s ≡ has_state states.current s) → before ≡ false
-    → IsTrue found ↔ (AcceptsFrom m.machine asked [] k ⊎ IsTrue before) → IsAfter m states text → IsTrue found ↔ IsReached m.machine text k
-ends_reached m states asked text k found before same none ends after =
+-- the ends that states lead to, by a copy of the states
+pub ends_found : (m : Machine) (current asked : StateSet) (k : ℕ) (found before : Bool)
+    → ((s : ℕ) → has_state asked s ≡ has_state current s) → before ≡ false
+    → IsTrue found ↔ (AcceptsFrom m asked [] k ⊎ IsTrue before) → IsTrue found ↔ AcceptsFrom m current [] k
+ends_found m current asked k found before same none ends = (
+  λ yes. ⊎_elim {C = AcceptsFrom m current [] k} (λ (t, within, at, accepts). (t, within, sym (same t) ∙ at, accepts)) (λ b. absurd (true≢false (sym b ∙ none))) (ends.0 yes),
+  λ (t, within, at, accepts). ends.1 (inl (t, within, same t ∙ at, accepts)),
+)
+
+-- the states after a text lead to the ends of the text
+pub ends_reached : (m : PrefixMatcherValue) (held : PrefixStatesValue) (text : List ℕ) (k : ℕ) (found : Bool)
+    → IsTrue found ↔ AcceptsFrom m.machine held.current [] k → IsAfter m held text → IsTrue found ↔ IsReached m.machine text k
+ends_reached m held text k found marked after =
     let lead = after.leads [] k in
     let all : text ++ [] ≡ text = append-nil text in (
-      λ yes. subst (λ (t : List ℕ). IsReached m.machine t k) all (lead.0
-          (⊎_elim {C = AcceptsFrom m.machine states.current [] k} (λ (t, within, at, accepts). (t, within, sym (same t) ∙ at, accepts)) (λ b. absurd (true≢false (sym b ∙ none))) (ends.0 yes))),
-      λ r. let (t, within, at, accepts) = lead.1 (subst (λ (t : List ℕ). IsReached m.machine t k) (sym all) r) in ends.1 (inl (t, within, same t ∙ at, accepts)),
+      λ yes. subst (λ (t : List ℕ). IsReached m.machine t k) all (lead.0 (marked.0 yes)),
+      λ r. marked.1 (lead.1 (subst (λ (t : List ℕ). IsReached m.machine t k) (sym all) r)),
     )
 
 -- states are after a text by their current set alone
-pub same_current : (m : PrefixMatcherValue) (old new : PrefixStates) (text : List ℕ) → new.current ≡ old.current → IsAfter m old text → IsAfter m new text
+pub same_current : (m : PrefixMatcherValue) (old new : PrefixStatesValue) (text : List ℕ) → new.current ≡ old.current → IsAfter m old text → IsAfter m new text
 same_current m old new text e h = record {
   bytes = h.bytes;
   leads = λ y k. subst (λ (set : StateSet). AcceptsFrom m.machine set y k ↔ IsReached m.machine (text ++ y) k) (sym e) (h.leads y k);
