@@ -1,4 +1,5 @@
-//! Ignore files, read exactly as git reads them.
+//! Ignore files, read as git reads them, except for lines that no glob can stand for. Those have no rule, and
+//! [`Rules::unread_lines`] returns their numbers.
 //!
 //! [`Rules`] are those of one file, which decide about paths below its folder:
 //!

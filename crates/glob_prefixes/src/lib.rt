@@ -1,8 +1,7 @@
 //! Globs that are matched against every beginning of a text, in one pass over it.
 //!
-//! A path has a folder above it at each `/`. Which globs match these folders is asked of each of them, and each is a beginning of
-//! the path. A [`PrefixMatcher`] reads the path once, byte by byte, and tells after each of the bytes which globs match what was
-//! read: what was read is never read again.
+//! A path has a folder above it at each `/`, and each of these folders is a beginning of the path. A [`PrefixMatcher`] reads the
+//! path once, byte by byte, and can find after each byte which globs match what was read. It reads no byte twice.
 //!
 //! [`PrefixMatcherBuilder`] makes a matcher, glob by glob. [`PrefixStates`] are what a matcher works with, and what it remembers
 //! between two bytes.
