@@ -107,19 +107,19 @@ glob_after before argument = record {
 -- ---- globs
 
 -- the glob, or the first error of its text from the left
-abbrev pub glob_or_parse_error_kind : GlobValue → Result GlobValue FaultValue
-glob_or_parse_error_kind glob = elim (glob_or_parse_error glob) [ Ok glob ↦ Ok glob | Err error ↦ Err (glob_error error) ]
+abbrev pub glob_or_fault : GlobValue → Result GlobValue FaultValue
+glob_or_fault glob = elim (glob_or_parse_error glob) [ Ok glob ↦ Ok glob | Err error ↦ Err (glob_error error) ]
 
 -- an argument with no `--` before it: nothing for a flag, and otherwise a glob or an error
 abbrev pub parse_argument : List (List ℕ) → List ℕ → List (Result GlobValue FaultValue)
 parse_argument before argument = if is_flag argument then []
-    else (if starts_with_dash argument then Err (unknown_option argument) else glob_or_parse_error_kind (glob_after before argument)) ∷ []
+    else (if starts_with_dash argument then Err (unknown_option argument) else glob_or_fault (glob_after before argument)) ∷ []
 
 -- The globs and errors of these arguments, in order. After `--` each argument is a glob, and none is a flag.
 abbrev pub parse_arguments : List (List ℕ) → List (List ℕ) → List (Result GlobValue FaultValue)
 parse_arguments before [] = []
 parse_arguments before (argument ∷ arguments) =
-    if is_double_dash argument then map (λ glob. glob_or_parse_error_kind (glob_after before glob)) arguments
+    if is_double_dash argument then map (λ glob. glob_or_fault (glob_after before glob)) arguments
     else parse_argument before argument ++ parse_arguments (argument ∷ before) arguments
 
 -- all of the globs, or the first error

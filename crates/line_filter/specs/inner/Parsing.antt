@@ -4,7 +4,7 @@ use Rattle.std.specs.Prelude.{ℕ, List, [], ◌∷◌, ◌++◌, Bool, false, �
 use Rattle.std.specs.Str.{bytes_eq}
 use Rattle.globset.specs.GlobMatches.{GlobValue}
 use Rattle.globset.specs.SetValue.{builder_globs}
-use Rattle.line_filter.specs.Command.{FaultValue, unknown_option, starts_with_dash, is_double_dash, is_flag, is_dash_n, is_dash_r, glob_or_parse_error_kind}
+use Rattle.line_filter.specs.Command.{FaultValue, unknown_option, starts_with_dash, is_double_dash, is_flag, is_dash_n, is_dash_r, glob_or_fault}
 use Rattle.line_filter.specs.declared.arguments.flags.Flags.{Flags}
 use Rattle.line_filter.specs.declared.arguments.glob_arguments.GlobArguments.{GlobArguments}
 
@@ -51,11 +51,11 @@ flags_after flags argument = record {
 -- an argument with no `--` before it, after these flags
 abbrev pub parse_with_flags : Flags → List ℕ → List (Result GlobValue FaultValue)
 parse_with_flags flags argument = if is_flag argument then []
-    else (if starts_with_dash argument then Err (unknown_option argument) else glob_or_parse_error_kind (glob_with_flags flags argument)) ∷ []
+    else (if starts_with_dash argument then Err (unknown_option argument) else glob_or_fault (glob_with_flags flags argument)) ∷ []
 
 -- arguments after `--`, after these flags
 abbrev pub parse_globs : Flags → List (List ℕ) → List (Result GlobValue FaultValue)
-parse_globs flags arguments = map (λ argument. glob_or_parse_error_kind (glob_with_flags flags argument)) arguments
+parse_globs flags arguments = map (λ argument. glob_or_fault (glob_with_flags flags argument)) arguments
 
 -- arguments with no `--` before them, after these flags
 abbrev pub parse_all_with_flags : Flags → List (List ℕ) → List (Result GlobValue FaultValue)

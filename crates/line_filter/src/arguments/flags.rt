@@ -1,7 +1,7 @@
 //! Flags, and the globs that are read under them.
 
 ghost use Rattle.std.specs.Prelude.{◌≡◌, MatchResult, Ok};
-ghost use Rattle.line_filter.specs.Command.{IsFaultOf, glob_or_parse_error_kind, is_flag};
+ghost use Rattle.line_filter.specs.Command.{IsFaultOf, glob_or_fault, is_flag};
 ghost use Rattle.line_filter.specs.inner.Parsing.{flags_after, glob_with_flags, no_flags};
 
 use super::fault::CommandFault;
@@ -65,8 +65,8 @@ impl Flags {
 
     /// Reads an argument as a glob under the options that the flags ask for.
     pub fn read_glob(self, alloc: Global, argument: &str) -> Result<Glob, CommandFault>
-        ensures { MatchResult result (λ glob. glob_or_parse_error_kind (glob_with_flags self argument.now) ≡ Ok glob)
-            (IsFaultOf (glob_or_parse_error_kind (glob_with_flags self argument.now))) }
+        ensures { MatchResult result (λ glob. glob_or_fault (glob_with_flags self argument.now) ≡ Ok glob)
+            (IsFaultOf (glob_or_fault (glob_with_flags self argument.now))) }
     {
         let mut builder = GlobBuilder::new(argument);
         builder.case_insensitive(self.case_insensitive);
