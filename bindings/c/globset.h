@@ -7,7 +7,8 @@
  *  - functions for C and C++, `static inline`, without `raw` in their names: typed handles, and a null pointer is accepted
  *    wherever the length beside it is 0.
  *
- * Objects. A glob, a matcher, a builder, a set and a work are objects on the heap. A handle is a struct of one pointer.
+ * Objects. A glob, a matcher, a builder, a set, a work and a searcher are objects on the heap. A handle is a struct of one
+ * pointer.
  *
  *  - Who has an object *owns* it: `globset_owned`. An owned object is in one call at a time. It is freed once, by
  *    `globset_raw_free`, and its handle is not used after that. It may go to another thread, which then uses and frees it, if
@@ -18,6 +19,9 @@
  *    call as `globset_owned`: it is not freed, for instance.
  *  - A work is the memory that one thread matches with. It serves any number of sets and matchers, and grows with them. It
  *    belongs to one thread at a time.
+ *  - A searcher is a set with all the memory that one thread matches with. It shares what the set matches with, and so may
+ *    be used after the set was freed. It belongs to one thread at a time, and several threads make a searcher each. A question
+ *    about one path takes no memory and cannot fail. A program that asks a set about many paths asks a searcher of it.
  *
  * Texts and paths are bytes with a length. They need no NUL at the end and may have NULs inside. A path is any bytes. The
  * text of a glob has to be UTF-8, and the library tests that.
@@ -112,7 +116,8 @@ typedef struct globset_lent {
     const void *at;
 } globset_lent;
 
-/* Indexes that a work lends. Before a call that writes them they have to be valid, as { globset_no_indexes, 0 } is. */
+/* Indexes that a work or a searcher lends. Before a call that writes them they have to be valid, as { globset_no_indexes, 0 }
+ * is. */
 typedef struct globset_indexes {
     const size_t *at;
     size_t count;
@@ -189,6 +194,39 @@ globset_status globset_raw_set_matches(globset_lent *set, globset_owned *work, c
 globset_status globset_raw_set_is_match_many(globset_lent *set, globset_owned *work, const uint8_t *paths, size_t paths_len,
                                              const size_t *ends, size_t ends_len, uint8_t *answers, size_t answers_len);
 
+/* Makes a searcher of a set. It shares what the set matches with, so the set may be freed. It takes the memory that questions
+ * about one path need: eight bytes for each glob, as much as a work that fits the set, and up to 16 MB more if over 32 globs
+ * need an automaton. GLOBSET_DONE, GLOBSET_WRONG_KIND, GLOBSET_OUT_OF_MEMORY. */
+globset_status globset_raw_searcher_new(globset_lent *set, globset_owned *out);
+
+/* Whether some glob of the searcher's set matches the path: GLOBSET_YES or GLOBSET_NO, the same as of
+ * globset_raw_set_is_match. It takes no memory. GLOBSET_WRONG_KIND: the object is no searcher, and is as it was. */
+globset_status globset_raw_searcher_is_match(globset_owned *searcher, const uint8_t *path, size_t path_len);
+
+/* Whether all globs of the searcher's set match the path: GLOBSET_YES or GLOBSET_NO. Otherwise as
+ * globset_raw_searcher_is_match. */
+globset_status globset_raw_searcher_matches_all(globset_owned *searcher, const uint8_t *path, size_t path_len);
+
+/* Finds the indexes of the globs of the searcher's set that match the path, ascending. It takes no memory. GLOBSET_DONE: the
+ * searcher has them in place of those that it found before, and `count` tells how many they are. GLOBSET_WRONG_KIND: the
+ * object is no searcher, and is as it was. */
+globset_status globset_raw_searcher_find(globset_owned *searcher, const uint8_t *path, size_t path_len, size_t *count);
+
+/* Lends the indexes that the last globset_raw_searcher_find found, or none if there was no such call. It takes no memory.
+ * GLOBSET_DONE: they may be read until the next call that the searcher is passed to, globset_raw_free too. The caller writes
+ * nothing there. GLOBSET_WRONG_KIND: the object is no searcher, and `indexes` has the count 0. */
+globset_status globset_raw_searcher_found(globset_owned *searcher, globset_indexes *indexes);
+
+/* Asks globset_raw_searcher_is_match of many paths, as globset_raw_set_is_match_many asks of a set: with the same ends, answers
+ * and statuses. */
+globset_status globset_raw_searcher_is_match_many(globset_owned *searcher, const uint8_t *paths, size_t paths_len,
+                                                  const size_t *ends, size_t ends_len, uint8_t *answers, size_t answers_len);
+
+/* Whether some glob of the searcher's set matches some path below the folder, which is the folder, a `/`, and any bytes,
+ * perhaps none: GLOBSET_YES or GLOBSET_NO. A walk over folders need not open one that is answered by GLOBSET_NO. Otherwise
+ * as globset_raw_searcher_is_match. */
+globset_status globset_raw_searcher_can_match_below(globset_owned *searcher, const uint8_t *folder, size_t folder_len);
+
 /* Writes the text with each of `?`, `*`, `[`, `]`, `{` and `}` in brackets: a glob that matches this text and no other, if
  * its options are the default and the text has no `\`. GLOBSET_DONE and GLOBSET_TOO_SMALL as at globset_raw_error_text.
  * GLOBSET_NOT_UTF8, GLOBSET_OUT_OF_MEMORY. */
@@ -220,6 +258,9 @@ typedef struct globset_set {
 typedef struct globset_work {
     globset_owned object;
 } globset_work;
+typedef struct globset_searcher {
+    globset_owned object;
+} globset_searcher;
 
 /* A place that may be pointed to where there is nothing. */
 static const size_t globset_no_indexes[1] = {0};
@@ -328,6 +369,52 @@ static inline globset_status globset_set_is_match_many(globset_set set, globset_
     uint8_t none = 0;
     return globset_raw_set_is_match_many(&lent, &work->object, globset_bytes(paths), paths_len,
                                          ends ? ends : globset_no_indexes, count, answers ? answers : &none, count);
+}
+
+static inline globset_status globset_searcher_new(globset_set set, globset_searcher *out) {
+    globset_lent lent = globset_lend(set.object);
+    return globset_raw_searcher_new(&lent, &out->object);
+}
+
+static inline void globset_searcher_free(globset_searcher searcher) { globset_raw_free(searcher.object); }
+
+static inline globset_status globset_searcher_is_match(globset_searcher *searcher, const void *path, size_t path_len) {
+    return globset_raw_searcher_is_match(&searcher->object, globset_bytes(path), path_len);
+}
+
+static inline globset_status globset_searcher_matches_all(globset_searcher *searcher, const void *path, size_t path_len) {
+    return globset_raw_searcher_matches_all(&searcher->object, globset_bytes(path), path_len);
+}
+
+static inline globset_status globset_searcher_find(globset_searcher *searcher, const void *path, size_t path_len,
+                                                   size_t *count) {
+    return globset_raw_searcher_find(&searcher->object, globset_bytes(path), path_len, count);
+}
+
+static inline globset_status globset_searcher_found(globset_searcher *searcher, globset_indexes *indexes) {
+    indexes->at = globset_no_indexes;
+    indexes->count = 0;
+    return globset_raw_searcher_found(&searcher->object, indexes);
+}
+
+/* globset_searcher_find, and then globset_searcher_found. */
+static inline globset_status globset_searcher_matches(globset_searcher *searcher, const void *path, size_t path_len,
+                                                      globset_indexes *indexes) {
+    size_t count = 0;
+    globset_searcher_find(searcher, path, path_len, &count);
+    return globset_searcher_found(searcher, indexes);
+}
+
+static inline globset_status globset_searcher_is_match_many(globset_searcher *searcher, const void *paths, size_t paths_len,
+                                                            const size_t *ends, uint8_t *answers, size_t count) {
+    uint8_t none = 0;
+    return globset_raw_searcher_is_match_many(&searcher->object, globset_bytes(paths), paths_len,
+                                              ends ? ends : globset_no_indexes, count, answers ? answers : &none, count);
+}
+
+static inline globset_status globset_searcher_can_match_below(globset_searcher *searcher, const void *folder,
+                                                              size_t folder_len) {
+    return globset_raw_searcher_can_match_below(&searcher->object, globset_bytes(folder), folder_len);
 }
 
 static inline globset_status globset_escape(const void *text, size_t text_len, char *room, size_t room_len, size_t *needed) {

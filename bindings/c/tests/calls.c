@@ -195,8 +195,117 @@ static void many(void) {
     CHECK(globset_raw_set_is_match_many(&lent, &work.object, (const uint8_t *)paths, 11, ends, 5, answers, 4) ==
           GLOBSET_BAD_ENDS);
     CHECK(answers[0] == 7 && answers[1] == 7 && answers[4] == 7);
+    globset_searcher searcher;
+    CHECK(globset_searcher_new(set, &searcher) == GLOBSET_DONE);
+    CHECK(globset_searcher_is_match_many(&searcher, paths, 10, ends, answers, 5) == GLOBSET_BAD_ENDS);
+    CHECK(globset_searcher_is_match_many(&searcher, paths, 11, descending, answers, 2) == GLOBSET_BAD_ENDS);
+    CHECK(globset_raw_searcher_is_match_many(&searcher.object, (const uint8_t *)paths, 11, ends, 5, answers, 4) ==
+          GLOBSET_BAD_ENDS);
+    CHECK(answers[0] == 7 && answers[1] == 7 && answers[4] == 7);
+    CHECK(globset_searcher_is_match_many(&searcher, paths, 11, ends, answers, 5) == GLOBSET_DONE);
+    CHECK(memcmp(answers, wanted, 5) == 0);
+    CHECK(globset_searcher_is_match_many(&searcher, NULL, 0, NULL, NULL, 0) == GLOBSET_DONE);
+    globset_searcher_free(searcher);
     globset_work_free(work);
     globset_set_free(set);
+}
+
+/* Searchers answer as their sets do, also after these were freed, and keep what they found until they find again. */
+static void searchers(void) {
+    static const char *const globs[] = {"*.c", "src/*", "**/..", "*a*b*"};
+    globset_set set = set_of(globs, 4), empty = set_of(globs, 0), some = set_of(globs, 2);
+    globset_searcher searcher, of_empty, of_some;
+    globset_indexes found, again;
+    size_t count = 9;
+    CHECK(globset_searcher_new(set, &searcher) == GLOBSET_DONE && globset_searcher_new(empty, &of_empty) == GLOBSET_DONE);
+    CHECK(globset_searcher_new(some, &of_some) == GLOBSET_DONE);
+    globset_set_free(set);
+    globset_set_free(empty);
+    CHECK(globset_searcher_found(&searcher, &found) == GLOBSET_DONE && found.count == 0);
+    CHECK(globset_searcher_is_match(&of_empty, TEXT("a.c")) == GLOBSET_NO);
+    CHECK(globset_searcher_matches_all(&of_empty, TEXT("a.c")) == GLOBSET_YES);
+    CHECK(globset_searcher_can_match_below(&of_empty, TEXT("a")) == GLOBSET_NO);
+    CHECK(globset_searcher_find(&of_empty, TEXT("a.c"), &count) == GLOBSET_DONE && count == 0);
+    CHECK(globset_searcher_is_match(&searcher, TEXT("a.c")) == GLOBSET_YES);
+    CHECK(globset_searcher_is_match(&searcher, TEXT("x/..")) == GLOBSET_NO);
+    CHECK(globset_searcher_matches_all(&searcher, TEXT("src/ab.c")) == GLOBSET_NO);
+    CHECK(globset_searcher_matches_all(&of_some, TEXT("src/x.c")) == GLOBSET_YES);
+    CHECK(globset_searcher_matches_all(&of_some, TEXT("x.c")) == GLOBSET_NO);
+    CHECK(globset_searcher_find(&searcher, TEXT("src/ab.c"), &count) == GLOBSET_DONE && count == 3);
+    CHECK(globset_searcher_is_match(&searcher, TEXT("x")) == GLOBSET_NO);
+    CHECK(globset_searcher_found(&searcher, &found) == GLOBSET_DONE);
+    CHECK(found.count == 3 && found.at[0] == 0 && found.at[1] == 1 && found.at[2] == 3);
+    CHECK(globset_searcher_found(&searcher, &again) == GLOBSET_DONE && again.count == 3 && again.at[2] == 3);
+    CHECK(globset_searcher_matches(&of_some, TEXT("src/ab"), &found) == GLOBSET_DONE && found.count == 1 && found.at[0] == 1);
+    CHECK(globset_searcher_matches(&searcher, NULL, 0, &found) == GLOBSET_DONE && found.count == 0);
+    globset_searcher_free(searcher);
+    globset_searcher_free(of_empty);
+    CHECK(globset_set_len(some) == 2);
+    globset_set_free(some);
+    globset_searcher_free(of_some);
+}
+
+/* Whether a path below a folder can match. */
+static void folders(void) {
+    static const char *const globs[] = {"src/**", "doc/*.txt"};
+    globset_set set = set_of(globs, 2);
+    globset_searcher searcher;
+    CHECK(globset_searcher_new(set, &searcher) == GLOBSET_DONE);
+    CHECK(globset_searcher_can_match_below(&searcher, TEXT("src")) == GLOBSET_YES);
+    CHECK(globset_searcher_can_match_below(&searcher, TEXT("src/a/b")) == GLOBSET_YES);
+    CHECK(globset_searcher_can_match_below(&searcher, TEXT("doc")) == GLOBSET_YES);
+    CHECK(globset_searcher_can_match_below(&searcher, TEXT("target")) == GLOBSET_NO);
+    globset_searcher_free(searcher);
+    globset_set_free(set);
+}
+
+/* A hundred globs for which a searcher keeps rows of an automaton: it answers as the set does, whatever came before. */
+static void many_globs(void) {
+    enum { GLOBS = 100, PATHS = 500 };
+    static char texts[GLOBS][32];
+    static const char *globs[GLOBS];
+    for (int i = 0; i < GLOBS; i++) {
+        snprintf(texts[i], sizeof texts[i], "*%c*%c*%c*", 'a' + i % 26, 'a' + i / 4, 'a' + i % 7);
+        globs[i] = texts[i];
+    }
+    globset_set set = set_of(globs, GLOBS);
+    globset_work work;
+    globset_searcher searcher;
+    globset_indexes by_set, by_searcher;
+    uint32_t seed = 1;
+    size_t all = 0;
+    CHECK(globset_work_new(&work) == GLOBSET_DONE && globset_searcher_new(set, &searcher) == GLOBSET_DONE);
+    for (int i = 0; i < PATHS; i++) {
+        char path[40];
+        size_t len = (size_t)i % sizeof path;
+        for (size_t k = 0; k < len; k++) path[k] = (char)('a' + (seed = seed * 1664525 + 1013904223) / 65536 % 26);
+        CHECK(globset_set_matches(set, &work, path, len, &by_set) == GLOBSET_DONE);
+        CHECK(globset_searcher_matches(&searcher, path, len, &by_searcher) == GLOBSET_DONE);
+        CHECK(by_set.count == by_searcher.count);
+        CHECK(memcmp(by_set.at, by_searcher.at, by_set.count * sizeof *by_set.at) == 0);
+        CHECK(globset_searcher_is_match(&searcher, path, len) == (by_set.count > 0 ? GLOBSET_YES : GLOBSET_NO));
+        all += by_set.count;
+    }
+    CHECK(all > PATHS);
+    globset_searcher_free(searcher);
+    globset_work_free(work);
+    globset_set_free(set);
+}
+
+/* An object that is no searcher, in the place of one. Results are as they were. */
+static void no_searcher(globset_owned *object) {
+    static const size_t indexes[1] = {7};
+    const uint8_t *path = (const uint8_t *)"a.c";
+    const size_t end = 3;
+    globset_indexes found = {indexes, 1};
+    uint8_t byte = 9;
+    size_t count = 9;
+    CHECK(globset_raw_searcher_is_match(object, path, 3) == GLOBSET_WRONG_KIND);
+    CHECK(globset_raw_searcher_matches_all(object, path, 3) == GLOBSET_WRONG_KIND);
+    CHECK(globset_raw_searcher_can_match_below(object, path, 3) == GLOBSET_WRONG_KIND);
+    CHECK(globset_raw_searcher_find(object, path, 3, &count) == GLOBSET_WRONG_KIND && count == 9);
+    CHECK(globset_raw_searcher_found(object, &found) == GLOBSET_WRONG_KIND && found.count == 0);
+    CHECK(globset_raw_searcher_is_match_many(object, path, 3, &end, 1, &byte, 1) == GLOBSET_WRONG_KIND && byte == 9);
 }
 
 /* Objects of the wrong kind, each in each place. They are as they were. No object is lent and owned in one call. */
@@ -207,11 +316,13 @@ static void wrong_kinds(void) {
     globset_builder builder;
     globset_set set = set_of(globs, 1);
     globset_work work;
-    CHECK(globset_matcher_new(glob, &matcher) == GLOBSET_DONE);
+    globset_searcher searcher;
+    CHECK(globset_matcher_new(glob, &matcher) == GLOBSET_DONE && globset_searcher_new(set, &searcher) == GLOBSET_DONE);
     CHECK(globset_builder_new(&builder) == GLOBSET_DONE && globset_work_new(&work) == GLOBSET_DONE);
-    globset_owned *const objects[5] = {&glob.object, &matcher.object, &builder.object, &set.object, &work.object};
+    globset_owned *const objects[6] = {&glob.object, &matcher.object, &builder.object,
+                                       &set.object,  &work.object,    &searcher.object};
     const uint8_t *path = (const uint8_t *)"a.c";
-    for (int i = 0; i < 5; i++) {
+    for (int i = 0; i < 6; i++) {
         globset_lent lent = globset_lend(*objects[i]);
         globset_owned out = {&lent};
         uint8_t byte = 9;
@@ -223,7 +334,8 @@ static void wrong_kinds(void) {
         CHECK(i == 0 || i == 2 || globset_raw_builder_add(&builder.object, &lent) == GLOBSET_WRONG_KIND);
         CHECK(i == 1 || i == 4 || globset_raw_matcher_is_match(&lent, &work.object, path, 3) == GLOBSET_WRONG_KIND);
         CHECK(i == 3 || globset_raw_set_len(&lent, &size) == GLOBSET_WRONG_KIND);
-        if (i < 3) {
+        CHECK(i == 3 || globset_raw_searcher_new(&lent, &out) == GLOBSET_WRONG_KIND);
+        if (i < 3 || i == 5) {
             CHECK(globset_raw_set_is_match(&lent, &work.object, path, 3) == GLOBSET_WRONG_KIND);
             CHECK(globset_raw_set_matches_all(&lent, &work.object, path, 3) == GLOBSET_WRONG_KIND);
             CHECK(globset_raw_set_matches(&lent, &work.object, path, 3, &found) == GLOBSET_WRONG_KIND && found.count == 0);
@@ -232,12 +344,14 @@ static void wrong_kinds(void) {
         CHECK(i == 1 || i == 3 || i == 4 || globset_raw_work_fit(&work.object, &lent) == GLOBSET_WRONG_KIND);
         CHECK(byte == 9 && size == 9 && out.at == &lent);
         globset_lent lent_set = globset_lend(set.object);
-        CHECK(i >= 3 || globset_raw_set_is_match(&lent_set, objects[i], path, 3) == GLOBSET_WRONG_KIND);
-        CHECK(i >= 3 || globset_raw_set_matches_all(&lent_set, objects[i], path, 3) == GLOBSET_WRONG_KIND);
-        CHECK(i >= 3 || globset_raw_set_matches(&lent_set, objects[i], path, 3, &found) == GLOBSET_WRONG_KIND);
-        CHECK(i >= 3 || globset_raw_set_is_match_many(&lent_set, objects[i], path, 3, &end, 1, &byte, 1) == GLOBSET_WRONG_KIND);
-        CHECK(i >= 3 || globset_raw_work_fit(objects[i], &lent_set) == GLOBSET_WRONG_KIND);
-        CHECK(i >= 2 || globset_raw_builder_build(objects[i], &out) == GLOBSET_WRONG_KIND);
+        CHECK(i == 3 || i == 4 || globset_raw_set_is_match(&lent_set, objects[i], path, 3) == GLOBSET_WRONG_KIND);
+        CHECK(i == 3 || i == 4 || globset_raw_set_matches_all(&lent_set, objects[i], path, 3) == GLOBSET_WRONG_KIND);
+        CHECK(i == 3 || i == 4 || globset_raw_set_matches(&lent_set, objects[i], path, 3, &found) == GLOBSET_WRONG_KIND);
+        CHECK(i == 3 || i == 4 ||
+              globset_raw_set_is_match_many(&lent_set, objects[i], path, 3, &end, 1, &byte, 1) == GLOBSET_WRONG_KIND);
+        CHECK(i == 3 || i == 4 || globset_raw_work_fit(objects[i], &lent_set) == GLOBSET_WRONG_KIND);
+        CHECK(i == 2 || globset_raw_builder_build(objects[i], &out) == GLOBSET_WRONG_KIND);
+        if (i < 5) no_searcher(objects[i]);
     }
     globset_lent lent_glob = globset_lend(glob.object);
     globset_owned out = {&lent_glob};
@@ -245,11 +359,13 @@ static void wrong_kinds(void) {
     CHECK(globset_raw_builder_build(&set.object, &out) == GLOBSET_WRONG_KIND && out.at == &lent_glob);
     CHECK(globset_set_is_match(set, &work, "a.c", 3) == GLOBSET_YES);
     CHECK(globset_matcher_is_match(matcher, &work, "a.c", 3) == GLOBSET_YES);
+    CHECK(globset_searcher_is_match(&searcher, "a.c", 3) == GLOBSET_YES);
     globset_glob_free(glob);
     globset_matcher_free(matcher);
     globset_builder_free(builder);
     globset_set_free(set);
     globset_work_free(work);
+    globset_searcher_free(searcher);
 }
 
 int main(void) {
@@ -262,6 +378,9 @@ int main(void) {
     sets();
     builders();
     many();
+    searchers();
+    folders();
+    many_globs();
     wrong_kinds();
     puts("calls: passed");
     return 0;

@@ -139,12 +139,33 @@ static void try_questions(globset_set set, globset_matcher matcher) {
     }
 }
 
+/* Once a searcher is made, no question about one path takes memory. */
+static void try_searcher(globset_set set) {
+    globset_searcher searcher = {{&searcher}};
+    globset_indexes found;
+    TRY(globset_searcher_new(set, &searcher), GLOBSET_DONE, CHECK(blocks == before && searcher.object.at == &searcher));
+    left = 0;
+    CHECK(globset_searcher_is_match(&searcher, TEXT("src/a/b.c")) == GLOBSET_YES);
+    CHECK(globset_searcher_matches_all(&searcher, TEXT("src/a/b.c")) == GLOBSET_NO);
+    CHECK(globset_searcher_can_match_below(&searcher, TEXT("src/a")) == GLOBSET_YES);
+    CHECK(globset_searcher_matches(&searcher, TEXT("src/a/b.c"), &found) == GLOBSET_DONE);
+    CHECK(found.count == 2 && found.at[0] == 2 && found.at[1] == 3);
+    left = -1;
+    const size_t ends[] = {3, 9};
+    uint8_t answers[2] = {7, 7};
+    TRY(globset_searcher_is_match_many(&searcher, TEXT("src/a/b.c"), ends, answers, 2), GLOBSET_DONE,
+        CHECK(blocks == before && answers[0] == 7 && answers[1] == 7));
+    CHECK(answers[0] == 0 && answers[1] == 1);
+    globset_searcher_free(searcher);
+}
+
 int main(void) {
     left = -1;
     try_texts();
     globset_matcher matcher;
     globset_set set = try_making(&matcher);
     try_questions(set, matcher);
+    try_searcher(set);
     globset_matcher_free(matcher);
     globset_set_free(set);
     CHECK(blocks == 0);

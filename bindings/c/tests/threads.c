@@ -1,4 +1,5 @@
-/* Eight threads, one set and one matcher, which each thread borrows. Each has a work of its own. */
+/* Eight threads, one set and one matcher, which each thread borrows. Each has a work and a searcher of its own. The searchers are
+ * freed by another thread, after the set. */
 #include "check.h"
 
 #include <pthread.h>
@@ -7,25 +8,29 @@ enum { THREADS = 8, ROUNDS = 300, PATHS = 8 };
 
 static globset_set set;
 static globset_matcher matcher;
+static globset_searcher searchers[THREADS];
 
 static const char *const paths[PATHS] = {"src/a/b/main.c", "x.rs", "a", "b/c/d.txt", "abcabc", "src/zz/q.h", "", "/"};
 /* Of each path: how many of the globs below match it, and whether *b*c* does. */
 static const size_t counts[PATHS] = {2, 1, 2, 3, 2, 1, 0, 0};
 static const int by_matcher[PATHS] = {1, 0, 0, 1, 1, 0, 0, 0};
 
-static void *ask(void *unused) {
+static void *ask(void *searcher_at) {
+    globset_searcher *searcher = searcher_at;
     globset_work work;
     globset_indexes found;
-    CHECK(globset_work_new(&work) == GLOBSET_DONE);
+    CHECK(globset_work_new(&work) == GLOBSET_DONE && globset_searcher_new(set, searcher) == GLOBSET_DONE);
     for (int round = 0; round < ROUNDS; round++) {
         for (int i = 0; i < PATHS; i++) {
             CHECK(globset_set_matches(set, &work, TEXT(paths[i]), &found) == GLOBSET_DONE && found.count == counts[i]);
             CHECK(globset_set_is_match(set, &work, TEXT(paths[i])) == (counts[i] > 0 ? GLOBSET_YES : GLOBSET_NO));
             CHECK(globset_matcher_is_match(matcher, &work, TEXT(paths[i])) == (by_matcher[i] ? GLOBSET_YES : GLOBSET_NO));
+            CHECK(globset_searcher_matches(searcher, TEXT(paths[i]), &found) == GLOBSET_DONE && found.count == counts[i]);
+            CHECK(globset_searcher_is_match(searcher, TEXT(paths[i])) == (counts[i] > 0 ? GLOBSET_YES : GLOBSET_NO));
         }
     }
     globset_work_free(work);
-    return unused;
+    return NULL;
 }
 
 int main(void) {
@@ -35,9 +40,13 @@ int main(void) {
     globset_glob glob = glob_of("*b*c*", 0);
     CHECK(globset_matcher_new(glob, &matcher) == GLOBSET_DONE);
     globset_glob_free(glob);
-    for (int i = 0; i < THREADS; i++) CHECK(pthread_create(&threads[i], NULL, ask, NULL) == 0);
+    for (int i = 0; i < THREADS; i++) CHECK(pthread_create(&threads[i], NULL, ask, &searchers[i]) == 0);
     for (int i = 0; i < THREADS; i++) CHECK(pthread_join(threads[i], NULL) == 0);
     globset_set_free(set);
+    for (int i = 0; i < THREADS; i++) {
+        CHECK(globset_searcher_is_match(&searchers[i], TEXT(paths[0])) == GLOBSET_YES);
+        globset_searcher_free(searchers[i]);
+    }
     globset_matcher_free(matcher);
     puts("threads: passed");
     return 0;

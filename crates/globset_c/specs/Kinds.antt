@@ -1,9 +1,10 @@
 -- Facts of an object that is of one kind.
 use Rattle.std.specs.Prelude.{Option, Some, ⊤}
 use Rattle.globset_glob.specs.GlobMatches.{GlobValue}
+use Rattle.globset.specs.SearcherValue.{SearcherValue}
 use Rattle.globset.specs.SetValue.{SetValue, BuilderValue}
 use Rattle.globset_c.specs.declared.object.Object.{Object}
-use Rattle.globset_c.specs.declared.object.Object.TheVariants.{Glob, Matcher, Builder, Set, Work}
+use Rattle.globset_c.specs.declared.object.Object.TheVariants.{Glob, Matcher, Builder, Set, Work, Searcher}
 use Rattle.globset_c.specs.declared.object.Work.{Work as WorkValue}
 
 -- it is a glob, and P of it
@@ -31,6 +32,11 @@ abbrev pub IfWork : Option Object → (WorkValue → Type 0) → Type 0
 IfWork (Some (Work w)) P = P w
 IfWork _ P = ⊥
 
+-- it is a searcher, and P of it
+abbrev pub IfSearcher : Option Object → (SearcherValue → Type 0) → Type 0
+IfSearcher (Some (Searcher s)) P = P s
+IfSearcher _ P = ⊥
+
 abbrev pub IsGlob : Option Object → Type 0
 IsGlob o = IfGlob o (λ _. ⊤)
 
@@ -45,3 +51,6 @@ IsSet o = IfSet o (λ _. ⊤)
 
 abbrev pub IsWork : Option Object → Type 0
 IsWork o = IfWork o (λ _. ⊤)
+
+abbrev pub IsSearcher : Option Object → Type 0
+IsSearcher o = IfSearcher o (λ _. ⊤)

@@ -17,6 +17,8 @@ mod matchers;
 mod object;
 mod options;
 mod owned;
+mod searcher_many;
+mod searchers;
 mod sets;
 mod status;
 mod text;

@@ -26,6 +26,7 @@ pub fn give(alloc: Global, made: Result<Object, Failure>, out: &mut Owned) -> St
     ensures done { result ≡ DONE → IfOk made (λ object. out.new.object ≡ Some object) × IsOk made }
     ensures refused { result ≢ DONE → out.new ≡ out.old }
     ensures wrong_kind { result ≡ WRONG_KIND → made ≡ Err WrongKind }
+    ensures other_kind { made ≡ Err WrongKind → result ≡ WRONG_KIND }
     ensures statuses { IsOneOf (DONE ∷ OUT_OF_MEMORY ∷ WRONG_KIND ∷ []) result }
 {
     match made {

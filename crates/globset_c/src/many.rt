@@ -17,7 +17,7 @@ use globset::{Candidate, GlobSet, Scratch, Visits};
 use std::alloc::Global;
 
 /// Why paths were not answered.
-enum Problem {
+pub enum Problem {
     OutOfMemory,
     WrongKind,
     BadEnds,

@@ -1,6 +1,6 @@
 //! What C can own.
 
-use globset::{Glob, GlobMatcher, GlobSet, GlobSetBuilder, Scratch};
+use globset::{Glob, GlobMatcher, GlobSet, GlobSetBuilder, Scratch, Searcher};
 
 /// What a thread keeps between calls: memory to match with, and the indexes of the last call.
 #[derive(Drop)]
@@ -17,6 +17,7 @@ pub enum Object {
     Builder(GlobSetBuilder),
     Set(GlobSet),
     Work(Work),
+    Searcher(Searcher),
 }
 
 /// Why a call on objects did not do what it is for.
