@@ -16,8 +16,11 @@ use std::{
     alloc::{handle_alloc_error, Layout},
     cell::Cell,
     ffi::c_void,
+    panic::RefUnwindSafe,
     ptr, slice,
 };
+
+use crate::per_thread::PerThread;
 
 /// The bits of a glob's options, as in the header.
 pub(crate) mod options {
@@ -90,6 +93,12 @@ extern "C" {
         path_len: usize,
         indexes: *mut Indexes,
     ) -> Status;
+    fn globset_raw_searcher_new(set: *mut Lent, out: *mut Owned) -> Status;
+    fn globset_raw_searcher_is_match(searcher: *mut Owned, path: *const u8, path_len: usize) -> Status;
+    fn globset_raw_searcher_matches_all(searcher: *mut Owned, path: *const u8, path_len: usize) -> Status;
+    fn globset_raw_searcher_find(searcher: *mut Owned, path: *const u8, path_len: usize, count: *mut usize) -> Status;
+    fn globset_raw_searcher_found(searcher: *mut Owned, indexes: *mut Indexes) -> Status;
+    fn globset_raw_searcher_can_match_below(searcher: *mut Owned, folder: *const u8, folder_len: usize) -> Status;
     fn globset_raw_escape(
         text: *const u8,
         text_len: usize,
@@ -102,6 +111,12 @@ extern "C" {
     fn globset_version() -> u32;
     #[cfg(test)]
     fn globset_interface() -> u32;
+}
+
+impl Indexes {
+    fn none() -> Indexes {
+        Indexes { at: ptr::NonNull::dangling().as_ptr(), count: 0 }
+    }
 }
 
 /// Ends the program as Rust's own containers do when memory runs out; panics at a status that the header rules out.
@@ -238,35 +253,89 @@ impl Matcher {
     }
 }
 
-/// A set of the library.
-pub(crate) struct Set(Shared);
+/// A set of the library, and a searcher of it for each thread that asks.
+pub(crate) struct Set {
+    shared: Shared,
+    searchers: PerThread<Place>,
+}
+
+/// Has the searcher of the thread that the place is for, if there is one and the thread makes no call with it.
+#[derive(Default)]
+struct Place(Cell<Option<Searcher>>);
+
+// SAFETY: A place is reached by `PerThread::of_this_thread` alone, in `Set::with_searcher`, which lends it to nobody. So the
+// thread that has the number of a place is the only one that uses it, and sees what an earlier one with that number did.
+unsafe impl Sync for Place {}
+
+// A panic in a call drops the searcher, and leaves the place without one.
+impl RefUnwindSafe for Place {}
 
 impl Set {
+    fn new(owned: Owned) -> Set {
+        Set { shared: Shared(owned), searchers: PerThread::new() }
+    }
+
+    pub(crate) fn searcher(&self) -> Searcher {
+        // SAFETY: "Makes a searcher of a set. It shares what the set matches with, so the set may be freed."
+        Searcher(Owned::made(|out| unsafe { globset_raw_searcher_new(&mut self.shared.lend(), out) }))
+    }
+
+    /// Calls with this thread's searcher, which is made at the thread's first call. Returns `None`, with no call, where the
+    /// thread has no place for one.
+    ///
+    /// The searcher is taken out of its place during the call. So a call within the call makes a searcher of its own.
+    #[inline]
+    fn with_searcher<T>(&self, call: impl FnOnce(&mut Searcher) -> T) -> Option<T> {
+        let place = self.searchers.of_this_thread()?;
+        let mut searcher = place.0.take().unwrap_or_else(|| self.searcher());
+        let returned = call(&mut searcher);
+        place.0.set(Some(searcher));
+        Some(returned)
+    }
+
     #[inline]
     pub(crate) fn is_match(&self, path: &[u8]) -> bool {
-        with_work(|work| {
-            // SAFETY: "Whether some glob of the set matches the path". The work is this thread's.
-            answer(unsafe { globset_raw_set_is_match(&mut self.0.lend(), &mut work.0, path.as_ptr(), path.len()) })
-        })
+        self.with_searcher(|searcher| searcher.is_match(path)).unwrap_or_else(|| self.is_match_by_work(path))
     }
 
     #[inline]
     pub(crate) fn matches_all(&self, path: &[u8]) -> bool {
-        with_work(|work| {
-            // SAFETY: "Whether all globs of the set match the path". The work is this thread's.
-            answer(unsafe { globset_raw_set_matches_all(&mut self.0.lend(), &mut work.0, path.as_ptr(), path.len()) })
-        })
+        self.with_searcher(|searcher| searcher.matches_all(path)).unwrap_or_else(|| self.matches_all_by_work(path))
     }
 
     /// Adds the indexes of the globs that match, ascending, to the end of `into`.
     #[inline]
     pub(crate) fn matches(&self, path: &[u8], into: &mut Vec<usize>) {
+        let found = self.with_searcher(|searcher| into.extend_from_slice(searcher.matches(path)));
+        found.unwrap_or_else(|| self.matches_by_work(path, into))
+    }
+
+    #[cold]
+    fn is_match_by_work(&self, path: &[u8]) -> bool {
         with_work(|work| {
-            let mut indexes = Indexes { at: ptr::NonNull::dangling().as_ptr(), count: 0 };
+            // SAFETY: "Whether some glob of the set matches the path". The work is this thread's.
+            answer(unsafe { globset_raw_set_is_match(&mut self.shared.lend(), &mut work.0, path.as_ptr(), path.len()) })
+        })
+    }
+
+    #[cold]
+    fn matches_all_by_work(&self, path: &[u8]) -> bool {
+        with_work(|work| {
+            // SAFETY: "Whether all globs of the set match the path". The work is this thread's.
+            answer(unsafe {
+                globset_raw_set_matches_all(&mut self.shared.lend(), &mut work.0, path.as_ptr(), path.len())
+            })
+        })
+    }
+
+    #[cold]
+    fn matches_by_work(&self, path: &[u8], into: &mut Vec<usize>) {
+        with_work(|work| {
+            let mut indexes = Indexes::none();
             // SAFETY: "Finds the indexes of the globs of the set that match the path, ascending." The indexes handed in are
             // valid, since there are none. The work is this thread's.
             done(unsafe {
-                globset_raw_set_matches(&mut self.0.lend(), &mut work.0, path.as_ptr(), path.len(), &mut indexes)
+                globset_raw_set_matches(&mut self.shared.lend(), &mut work.0, path.as_ptr(), path.len(), &mut indexes)
             });
             if indexes.count > 0 {
                 // SAFETY: "`indexes` lends them; they may be read until the next call that the work is passed to". The work
@@ -274,6 +343,65 @@ impl Set {
                 into.extend_from_slice(unsafe { slice::from_raw_parts(indexes.at, indexes.count) });
             }
         })
+    }
+}
+
+/// A searcher of the library: "a set with all the memory that one thread matches with. It shares what the set matches with, and
+/// so may be used after the set was freed."
+pub(crate) struct Searcher(Owned);
+
+// SAFETY: "It may go to another thread, which then uses and frees it, if what the first thread did with it comes before, by a
+// lock, or by the start or the end of a thread." Whatever moves a value to another thread in safe Rust sees to that.
+unsafe impl Send for Searcher {}
+
+// SAFETY: A reference to a `Searcher` gives no call.
+unsafe impl Sync for Searcher {}
+
+impl Searcher {
+    #[inline]
+    pub(crate) fn is_match(&mut self, path: &[u8]) -> bool {
+        // SAFETY: "Whether some glob of the searcher's set matches the path". The searcher is borrowed exclusively, here and
+        // below: "An owned object is in one call at a time."
+        answer(unsafe { globset_raw_searcher_is_match(&mut self.0, path.as_ptr(), path.len()) })
+    }
+
+    #[inline]
+    pub(crate) fn matches_all(&mut self, path: &[u8]) -> bool {
+        // SAFETY: "Whether all globs of the searcher's set match the path".
+        answer(unsafe { globset_raw_searcher_matches_all(&mut self.0, path.as_ptr(), path.len()) })
+    }
+
+    #[inline]
+    pub(crate) fn can_match_below(&mut self, folder: &[u8]) -> bool {
+        // SAFETY: "Whether some glob of the searcher's set matches some path below the folder".
+        answer(unsafe { globset_raw_searcher_can_match_below(&mut self.0, folder.as_ptr(), folder.len()) })
+    }
+
+    /// The indexes of the globs that match, ascending.
+    #[inline]
+    pub(crate) fn matches(&mut self, path: &[u8]) -> &[usize] {
+        let mut count = 0;
+        // SAFETY: "Finds the indexes of the globs of the searcher's set that match the path, ascending."
+        done(unsafe { globset_raw_searcher_find(&mut self.0, path.as_ptr(), path.len(), &mut count) });
+        if count == 0 {
+            return &[];
+        }
+        let mut indexes = Indexes::none();
+        // SAFETY: "Lends the indexes that the last globset_raw_searcher_find found". The indexes handed in are valid, since
+        // there are none.
+        done(unsafe { globset_raw_searcher_found(&mut self.0, &mut indexes) });
+        // SAFETY: "they may be read until the next call that the searcher is passed to". The searcher is borrowed for as long
+        // as they are. They are as many as the call before told, which is not 0.
+        unsafe { slice::from_raw_parts(indexes.at, indexes.count) }
+    }
+}
+
+impl Drop for Searcher {
+    fn drop(&mut self) {
+        let object = Owned { at: self.0.at };
+        // SAFETY: "Frees an object of any kind. The caller owns it, it is lent to nobody, and what it lends is not read any
+        // more." A searcher is never lent, indexes are read while it is borrowed, and this is the only `free` of it.
+        unsafe { globset_raw_free(object) }
     }
 }
 
@@ -295,7 +423,7 @@ impl Builder {
     pub(crate) fn build(mut self) -> Set {
         // SAFETY: "Makes the set of the builder's globs, in the order in which they were added".
         let owned = Owned::made(|out| unsafe { globset_raw_builder_build(&mut self.0, out) });
-        Set(Shared(owned))
+        Set::new(owned)
     }
 }
 
@@ -391,17 +519,54 @@ mod tests {
         assert_eq!(glob.regex(), format!("(?-u)^{}$", "a".repeat(1000)));
     }
 
+    fn set_of(text: &str) -> Set {
+        let mut builder = Builder::new();
+        builder.add(&Glob::new(text, 0).ok().expect("a glob"));
+        builder.build()
+    }
+
     #[test]
     fn a_call_within_a_call_has_a_work_of_its_own() {
-        let mut builder = Builder::new();
-        builder.add(&Glob::new("*.c", 0).ok().expect("a glob"));
-        let set = builder.build();
+        let set = set_of("*.c");
         let (outer, inner) = with_work(|work| {
-            let inner = set.is_match(b"a.c");
-            // SAFETY: as in `Set::is_match`.
-            let status = unsafe { globset_raw_set_is_match(&mut set.0.lend(), &mut work.0, b"a.h".as_ptr(), 3) };
+            let inner = set.is_match_by_work(b"a.c");
+            // SAFETY: as in `Set::is_match_by_work`.
+            let status = unsafe { globset_raw_set_is_match(&mut set.shared.lend(), &mut work.0, b"a.h".as_ptr(), 3) };
             (answer(status), inner)
         });
         assert_eq!((outer, inner), (false, true));
+    }
+
+    #[test]
+    fn a_call_within_a_call_has_a_searcher_of_its_own() {
+        let set = set_of("*.c");
+        let within = set.with_searcher(|searcher| {
+            let mut into = vec![];
+            set.matches(b"a.c", &mut into);
+            (searcher.is_match(b"a.h"), set.is_match(b"a.c"), set.matches_all(b"a.h"), into)
+        });
+        assert_eq!(within, Some((false, true, false, vec![0])));
+    }
+
+    #[test]
+    fn a_work_answers_as_a_searcher_does() {
+        let set = set_of("*.c");
+        for (path, answer) in [(&b"a.c"[..], true), (b"a.h", false)] {
+            let (mut by_searcher, mut by_work) = (vec![], vec![]);
+            set.matches(path, &mut by_searcher);
+            set.matches_by_work(path, &mut by_work);
+            assert_eq!((by_searcher.len(), by_work.len()), (usize::from(answer), usize::from(answer)));
+            assert_eq!((set.is_match(path), set.is_match_by_work(path)), (answer, answer));
+            assert_eq!((set.matches_all(path), set.matches_all_by_work(path)), (answer, answer));
+        }
+    }
+
+    #[test]
+    fn a_searcher_is_used_after_its_set() {
+        let set = set_of("*.c");
+        let mut searcher = set.searcher();
+        drop(set);
+        assert_eq!(searcher.matches(b"a.c"), [0]);
+        assert!(searcher.matches_all(b"a.c") && searcher.can_match_below(b"a") && !searcher.is_match(b"a.h"));
     }
 }

@@ -46,8 +46,13 @@
 //! # Memory and threads
 //!
 //! Globs, matchers and sets can be sent to other threads and shared between them. A clone is one more reference. Matching takes
-//! no memory but what a thread keeps for it, which is taken at its first call and grows with the largest set that it uses.
-//! Running out of memory ends the program, as it does in Rust's own containers.
+//! no memory but what is kept for it, which is taken at the first call: a set keeps some for each thread, as [`GlobSet`] says,
+//! and a thread keeps some for its matchers until it ends, as much as the largest of them needs. Running out of memory ends the
+//! program, as it does in Rust's own containers.
+//!
+//! # Additions
+//!
+//! [`GlobBuilder::whole_character`] is an option that globset does not have, and [`ext`] has a type more.
 
 #![deny(missing_docs, unsafe_code, unsafe_op_in_unsafe_fn, clippy::undocumented_unsafe_blocks)]
 
@@ -56,9 +61,11 @@ compile_error!("globset: the C library under this crate is for Linux on x86-64")
 
 mod candidate;
 mod error;
+pub mod ext;
 #[allow(unsafe_code)]
 mod ffi;
 mod glob;
+mod per_thread;
 mod set;
 #[cfg(feature = "serde1")]
 mod with_serde;

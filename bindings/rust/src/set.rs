@@ -9,8 +9,10 @@ use crate::{ffi, Candidate, Error, Glob};
 /// A set answers what its globs say one by one, with one exception: a case-sensitive glob that is read as `**/..` matches no
 /// path in a set.
 ///
-/// Any number of threads may share a set, and a clone shares what was made for matching. Each thread that matches keeps one
-/// piece of memory for it, whatever number of sets it uses: as much as the largest of them needs.
+/// Any number of threads may share a set, and a clone shares what was made for matching. A set keeps memory for each thread that
+/// asks it, which it takes at the thread's first call: eight bytes for each glob and some for automata, and up to 16 MB for
+/// parts of tables if more than 32 globs need an automaton. After a thread has ended, another one uses its memory. The last
+/// clone of the set frees all of it.
 ///
 /// # Examples
 ///
@@ -218,6 +220,11 @@ impl GlobSet {
         if let Some(set) = &self.raw {
             set.matches(path.path(), into);
         }
+    }
+
+    #[inline]
+    pub(crate) fn raw(&self) -> Option<&ffi::Set> {
+        self.raw.as_deref()
     }
 
     /// Makes the set of globs, in their order.

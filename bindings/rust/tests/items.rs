@@ -2,7 +2,7 @@
 
 use std::{ffi::OsStr, path::Path, path::PathBuf, sync::Arc, thread};
 
-use globset::{escape, Candidate, Error, ErrorKind, Glob, GlobBuilder, GlobSet, GlobSetBuilder};
+use globset::{escape, ext::Searcher, Candidate, Error, ErrorKind, Glob, GlobBuilder, GlobSet, GlobSetBuilder};
 
 fn set(texts: &[&str]) -> GlobSet {
     let globs: Vec<Glob> = texts.iter().map(|text| Glob::new(text).expect("a glob")).collect();
@@ -188,6 +188,38 @@ fn threads_share_sets_and_matchers_of_every_size() {
     for thread in threads {
         thread.join().expect("a thread ends");
     }
+}
+
+#[test]
+fn searchers_answer_as_their_sets_in_any_thread() {
+    for size in [0, 1, 3, 33, 100] {
+        let texts: Vec<String> = (0..size).map(|i| format!("**/*{i}?[a-z]x*")).collect();
+        let set = set(&texts.iter().map(String::as_str).collect::<Vec<_>>());
+        let (mut searcher, kept) = (Searcher::new(&set), set.clone());
+        drop(set);
+        for thread in 0..3 {
+            let set = kept.clone();
+            let asked = thread::spawn(move || {
+                for path in ["1-zx", "a/32-zx", "a", "", "a/7-bx/99-zx", "7.x"] {
+                    let wanted = set.matches(path);
+                    assert_eq!(searcher.matches(path), wanted, "{size} globs and {path} in thread {thread}");
+                    assert_eq!(searcher.is_match(path), !wanted.is_empty());
+                    assert_eq!(searcher.matches_all(path), set.matches_all(path));
+                    assert_eq!(searcher.can_match_below(path), size > 0);
+                }
+                searcher
+            });
+            searcher = asked.join().expect("a thread ends");
+        }
+        assert_eq!(searcher.set().len(), size);
+    }
+}
+
+#[test]
+fn folders_below_which_nothing_can_match() {
+    let mut searcher = Searcher::new(&set(&["src/**", "doc/*.txt"]));
+    let answers = ["src", "src/a", "doc", "target", "doc/a"].map(|folder| searcher.can_match_below(folder));
+    assert_eq!(answers, [true, true, true, false, true]);
 }
 
 #[test]

@@ -1,6 +1,6 @@
-//! Running out of memory ends the program, as in Rust's own containers.
+//! Running out of memory ends the program, as in Rust's own containers, and sets give back what they took.
 
-use std::{env, os::unix::process::ExitStatusExt, process::Command};
+use std::{env, fs, os::unix::process::ExitStatusExt, process::Command, thread};
 
 use globset::{Glob, GlobSet};
 
@@ -25,4 +25,28 @@ fn fills_the_memory() {
     loop {
         sets.push(GlobSet::new([&glob]).expect("a set"));
     }
+}
+
+/// How many bytes of addresses this process has.
+fn used() -> usize {
+    let text = fs::read_to_string("/proc/self/statm").expect("a file of the system");
+    text.split(' ').next().and_then(|pages| pages.parse::<usize>().ok()).expect("a number of pages") * 4096
+}
+
+/// Makes a set, asks it in a thread, and drops it here. The memory to match with takes 4 MB or more.
+fn ask_in_a_thread() {
+    let texts = (0..100).map(|number| format!("*{number}?*abcdefghijklmnop?{number}*"));
+    let globs: Vec<Glob> = texts.map(|text| Glob::new(&text).expect("a glob")).collect();
+    let set = GlobSet::new(&globs).expect("a set");
+    let clone = set.clone();
+    let asked = thread::spawn(move || clone.is_match("17x_abcdefghijklmnop_17")).join().expect("a thread ends");
+    assert!(asked && set.is_match("7x_abcdefghijklmnop_7"));
+}
+
+#[test]
+fn the_last_clone_of_a_set_frees_what_threads_matched_with() {
+    (0..5).for_each(|_| ask_in_a_thread());
+    let before = used();
+    (0..50).for_each(|_| ask_in_a_thread());
+    assert!(used() < before + 100_000_000);
 }

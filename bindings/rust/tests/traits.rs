@@ -9,7 +9,7 @@ use std::{
     str::FromStr,
 };
 
-use globset::{Candidate, Error, ErrorKind, Glob, GlobBuilder, GlobMatcher, GlobSet, GlobSetBuilder};
+use globset::{ext::Searcher, Candidate, Error, ErrorKind, Glob, GlobBuilder, GlobMatcher, GlobSet, GlobSetBuilder};
 
 fn is_plain<T: Clone + Debug + Send + Sync + Unpin + UnwindSafe + RefUnwindSafe>() {}
 
@@ -23,6 +23,13 @@ fn all_types_are_cloned_shown_and_shared_between_threads() {
     is_plain::<Candidate<'_>>();
     is_plain::<Error>();
     is_plain::<ErrorKind>();
+}
+
+#[test]
+fn searchers_are_shown_and_go_to_other_threads() {
+    fn is_sent<T: Debug + Send + Sync + Unpin + UnwindSafe + RefUnwindSafe>() {}
+    is_sent::<Searcher>();
+    assert_eq!(format!("{:?}", Searcher::new(&GlobSet::empty())), "Searcher { set: GlobSet { len: 0, .. }, .. }");
 }
 
 #[test]
