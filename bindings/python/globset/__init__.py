@@ -37,11 +37,12 @@ import ctypes
 import enum
 import os
 from array import array
+from collections import deque
 from itertools import accumulate
-from typing import Any, Dict, Iterable, List, Optional, Tuple, Type, Union
+from typing import Any, Deque, Dict, Iterable, List, Optional, Tuple, Type, Union
 
 from . import _library
-from ._library import Lent, Object, put_back, take_work
+from ._library import Lent, Object, Searcher, put_back, take_work
 
 __all__ = ["ErrorKind", "Glob", "GlobError", "GlobSet", "escape"]
 __version__ = "0.4.21"
@@ -232,13 +233,13 @@ class GlobSet:
     options; it raises the exceptions that ``Glob`` raises for it. A glob that reads as ``**/..``, and is not case-insensitive,
     matches nothing in a set.
 
-    A set does not change.
+    A set does not change. It keeps memory for as many calls as were made at the same time, which it takes at the first of them.
 
     >>> GlobSet(["*.py", Glob("*.C", case_insensitive=True)]).matches("main.c")
     [1]
     """
 
-    __slots__ = ("_globs", "_set", "_at", "__weakref__")
+    __slots__ = ("_globs", "_set", "_at", "_searchers", "__weakref__")
 
     def __init__(self, globs: Iterable[Union[str, Glob]]) -> None:
         if isinstance(globs, (str, bytes, Glob)):
@@ -253,6 +254,8 @@ class GlobSet:
         self._set = Object()
         _library.raise_unless_done(_library.builder_build(builder_at, ctypes.byref(self._set)))
         self._at = self._set.at
+        # The searchers that no call uses.
+        self._searchers: Deque[Searcher] = deque()
 
     @property
     def globs(self) -> Tuple[Glob, ...]:
@@ -270,10 +273,9 @@ class GlobSet:
         True
         """
         data = os.fsencode(path)
-        work = take_work()
-        work.lent.at = self._at
-        status = _library.set_is_match(work.lent_at, work.at, data, len(data))
-        put_back(work)
+        searcher = self._take_searcher()
+        status = _library.searcher_is_match(searcher.at, data, len(data))
+        self._searchers.append(searcher)
         return _library.answer(status)
 
     def matches(self, path: _Path) -> List[int]:
@@ -283,13 +285,9 @@ class GlobSet:
         [1, 2]
         """
         data = os.fsencode(path)
-        work = take_work()
-        work.lent.at = self._at
-        work.clear_indexes()
-        status = _library.set_matches(work.lent_at, work.at, data, len(data), work.indexes_at)
-        indexes = work.indexes() if status == _library.DONE else []
-        put_back(work)
-        _library.raise_unless_done(status)
+        searcher = self._take_searcher()
+        indexes = searcher.matches(data)
+        self._searchers.append(searcher)
         return indexes
 
     def matches_all(self, path: _Path) -> bool:
@@ -299,10 +297,9 @@ class GlobSet:
         True
         """
         data = os.fsencode(path)
-        work = take_work()
-        work.lent.at = self._at
-        status = _library.set_matches_all(work.lent_at, work.at, data, len(data))
-        put_back(work)
+        searcher = self._take_searcher()
+        status = _library.searcher_matches_all(searcher.at, data, len(data))
+        self._searchers.append(searcher)
         return _library.answer(status)
 
     def match_many(self, paths: Iterable[_Path]) -> List[bool]:
@@ -321,13 +318,19 @@ class GlobSet:
         # A `size_t` has 8 bytes, as a `Q` has, where there is a library.
         ends = array("Q", accumulate(map(len, parts)))
         answers = ctypes.create_string_buffer(count)
-        work = take_work()
-        work.lent.at = self._at
         ends_at, _ = ends.buffer_info()
-        status = _library.set_is_match_many(work.lent_at, work.at, data, len(data), ends_at, count, answers, count)
-        put_back(work)
+        searcher = self._take_searcher()
+        status = _library.searcher_is_match_many(searcher.at, data, len(data), ends_at, count, answers, count)
+        self._searchers.append(searcher)
         _library.raise_unless_done(status)
         return [byte == 1 for byte in answers.raw]
+
+    def _take_searcher(self) -> Searcher:
+        """Returns a searcher of the set that no other call uses."""
+        try:
+            return self._searchers.pop()
+        except IndexError:
+            return Searcher(self._at)
 
     def __len__(self) -> int:
         return len(self._globs)

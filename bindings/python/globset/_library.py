@@ -34,7 +34,7 @@ class Error(ctypes.Structure):
 
 
 class Indexes(ctypes.Structure):
-    """globset_indexes: indexes that a work lends."""
+    """globset_indexes: indexes that a searcher lends."""
 
     _fields_ = [("at", ctypes.c_void_p), ("count", ctypes.c_size_t)]
 
@@ -69,11 +69,13 @@ matcher_is_match = _declare("raw_matcher_is_match", _LENT, _OWNED, _BYTES, _SIZE
 builder_new = _declare("raw_builder_new", _OWNED)
 builder_add = _declare("raw_builder_add", _OWNED, _LENT)
 builder_build = _declare("raw_builder_build", _OWNED, _OWNED)
-set_is_match = _declare("raw_set_is_match", _LENT, _OWNED, _BYTES, _SIZE)
-set_matches_all = _declare("raw_set_matches_all", _LENT, _OWNED, _BYTES, _SIZE)
-set_matches = _declare("raw_set_matches", _LENT, _OWNED, _BYTES, _SIZE, _INDEXES)
-set_is_match_many = _declare(
-    "raw_set_is_match_many", _LENT, _OWNED, _BYTES, _SIZE, ctypes.c_void_p, _SIZE, ctypes.c_void_p, _SIZE
+searcher_new = _declare("raw_searcher_new", _LENT, _OWNED)
+searcher_is_match = _declare("raw_searcher_is_match", _OWNED, _BYTES, _SIZE)
+searcher_matches_all = _declare("raw_searcher_matches_all", _OWNED, _BYTES, _SIZE)
+searcher_find = _declare("raw_searcher_find", _OWNED, _BYTES, _SIZE, _RESULT)
+searcher_found = _declare("raw_searcher_found", _OWNED, _INDEXES)
+searcher_is_match_many = _declare(
+    "raw_searcher_is_match_many", _OWNED, _BYTES, _SIZE, ctypes.c_void_p, _SIZE, ctypes.c_void_p, _SIZE
 )
 escape = _declare("raw_escape", _BYTES, _SIZE, *_ROOM)
 version = _declare("version")
@@ -91,11 +93,9 @@ class Object(Owned):
 
 
 class Work:
-    """What one call uses at a time: a work of the library, and places for the call's arguments."""
+    """What one call uses at a time: a work of the library, and a place for an argument."""
 
-    __slots__ = ("_object", "_indexes", "_found", "lent", "lent_at", "at", "indexes_at")
-
-    _NONE = (ctypes.c_size_t * 1)()
+    __slots__ = ("_object", "lent", "lent_at", "at")
 
     def __init__(self) -> None:
         self._object = Object()
@@ -103,26 +103,43 @@ class Work:
         raise_unless_done(_work_new(self.at))
         self.lent = Lent()
         self.lent_at = ctypes.addressof(self.lent)
+
+
+class Searcher:
+    """What one call on a set uses at a time: a searcher of the library, and places for results."""
+
+    __slots__ = ("_object", "_count", "_count_at", "_indexes", "_indexes_at", "_found", "at")
+
+    _NONE = (ctypes.c_size_t * 1)()
+    _NONE_AT = ctypes.addressof(_NONE)
+
+    def __init__(self, set_at: int) -> None:
+        self._object = Object()
+        self.at = ctypes.addressof(self._object)
+        raise_unless_done(searcher_new(ctypes.byref(Lent(set_at)), self.at))
+        self._count = ctypes.c_size_t()
+        self._count_at = ctypes.addressof(self._count)
         self._indexes = Indexes()
-        self.indexes_at = ctypes.addressof(self._indexes)
+        self._indexes_at = ctypes.addressof(self._indexes)
         # The field `at` of `_indexes`, seen as a pointer to indexes.
         self._found = ctypes.POINTER(ctypes.c_size_t).from_buffer(self._indexes)
-        self.clear_indexes()
 
-    def clear_indexes(self, none: int = ctypes.addressof(_NONE)) -> None:
-        """Makes the place for indexes valid, as it has to be before a call that writes them."""
-        self._indexes.at = none
-        self._indexes.count = 0
+    def matches(self, path: bytes) -> List[int]:
+        """Returns the indexes of the globs that match a path."""
+        raise_unless_done(searcher_find(self.at, path, len(path), self._count_at))
+        if not self._count:
+            return []
+        indexes = self._indexes
+        # The place for indexes has to be valid before a call that writes them.
+        indexes.at, indexes.count = self._NONE_AT, 0
+        raise_unless_done(searcher_found(self.at, self._indexes_at))
+        return self._found[: indexes.count]
 
-    def indexes(self) -> List[int]:
-        """Returns the indexes that the last call found."""
-        return self._found[: self._indexes.count]
 
-
-# The works that no call uses. A call takes one, and puts it back after it has copied what the work lends. So there are as many
-# works as there were calls at a time, and each is in one call, whichever thread makes it: also if a signal's handler or a
-# finalizer makes a call while another of the same thread is not over. `pop` and `append` of a deque need no lock. A work that
-# an exception keeps from being put back is freed.
+# The works that no call uses. A call takes one, and puts it back. So there are as many works as there were calls at a time, and
+# each is in one call, whichever thread makes it: also if a signal's handler or a finalizer makes a call while another of the
+# same thread is not over. `pop` and `append` of a deque need no lock. A work that an exception keeps from being put back is
+# freed. A set keeps its searchers in the same way.
 _works: Deque[Work] = deque()
 put_back = _works.append
 

@@ -207,10 +207,12 @@ class Errors(unittest.TestCase):
     def test_statuses(self):
         library, globs, glob = globset._library, GlobSet(["a"]), Glob("a")
         for name, call in [
-            ("set_is_match", lambda: globs.match("a")),
-            ("set_matches", lambda: globs.matches("a")),
-            ("set_matches_all", lambda: globs.matches_all("a")),
-            ("set_is_match_many", lambda: globs.match_many(["a"])),
+            ("searcher_new", lambda: GlobSet(["a"]).match("a")),
+            ("searcher_is_match", lambda: globs.match("a")),
+            ("searcher_find", lambda: globs.matches("a")),
+            ("searcher_found", lambda: globs.matches("a")),
+            ("searcher_matches_all", lambda: globs.matches_all("a")),
+            ("searcher_is_match_many", lambda: globs.match_many(["a"])),
             ("matcher_new", lambda: glob.match("a")),
             ("glob_regex", lambda: glob.regex),
             ("escape", lambda: escape("a")),
