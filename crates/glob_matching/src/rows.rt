@@ -93,6 +93,10 @@ impl RowSource {
     pub fn new(alloc: Global, automaton: &Draft) -> Result<Option<RowSource>, AllocError>
         ensures { IfOk result (λ made. IfSome made (λ rows. rows ≡ automaton.now)) }
     {
+        // One glob has no beginning to share.
+        if automaton.starts().len() <= 1 {
+            return RowSource::of(alloc, automaton, automaton);
+        }
         match shared(alloc, automaton)? {
             Some(sharing) => RowSource::of(alloc, automaton, &sharing),
             None => RowSource::of(alloc, automaton, automaton),
