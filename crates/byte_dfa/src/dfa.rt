@@ -1,6 +1,6 @@
 //! A deterministic automaton.
 
-ghost use Rattle.std.specs.Prelude.{◌≡◌, ℕ, ◌+◌, ◌≤◌, ◌⊎◌, ◌↔◌, ◌<◌, ◌^◌, ◌++◌, ◌∷◌, [], length, slice_index, IsTrue, IfOk, IfSome};
+ghost use Rattle.std.specs.Prelude.{◌≡◌, ℕ, List, ◌+◌, ◌≤◌, ◌⊎◌, ◌↔◌, ◌<◌, ◌^◌, ◌++◌, ◌∷◌, [], length, slice_index, IsTrue, IfOk, IfSome};
 ghost use Rattle.bit_sets.specs.Indexes.{has_index, index_capacity};
 ghost use Rattle.byte_nfa.specs.Live.{MatchesAfter};
 ghost use Rattle.byte_nfa.specs.Steps.{IsReached};
@@ -223,6 +223,14 @@ impl Dfa {
         self.live[last / (self.width + 2)]
     }
 
+    /// Returns whether a text that ends with a byte may lead to an end. If not, [`Dfa::find`] reads nothing of such a text but this
+    /// byte.
+    pub fn may_end_with(&self, byte: u8) -> bool
+        ensures { (y : List ℕ) (k : ℕ) → IsReached self.now.source (y ++ byte ∷ []) k → IsTrue result }
+    {
+        self.last_bytes.has(byte)
+    }
+
     /// Returns whether the last byte of a text shows that it leads to no end. It is one visit, also of a text that is empty.
     fn rejects_last_byte(&self, text: &[u8], visits: &mut Visits) -> bool
         ensures rejected { IsTrue result → (k : ℕ) → IsReached self.now.source text.now k → ⊥ }
@@ -230,7 +238,7 @@ impl Dfa {
     {
         visits.tick();
         match text.split_last() {
-            Some((last, _)) => !self.last_bytes.has(*last),
+            Some((last, _)) => !self.may_end_with(*last),
             None => false,
         }
     }

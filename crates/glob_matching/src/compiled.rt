@@ -241,8 +241,10 @@ impl Compiled {
 }
 
 impl Compiled {
-    /// The same as [`Compiled::find`], by the rows of a cache if there is one and running the starts that a filter names would take
-    /// more time.
+    /// The same as [`Compiled::find`], by the rows of a cache if there is one, unless running few tables, or the few starts that a
+    /// filter names, takes less time.
+    ///
+    /// It takes memory, and so returns an error if it runs out, only if the sets of states have no room for all states.
     pub fn find_with(
         &self,
         text: &[u8],
@@ -264,22 +266,28 @@ impl Compiled {
         let Some(rows) = cache else {
             return self.find(text, sets, found, visits);
         };
-        if let Strategy::Filtered(filtered) = &self.strategy {
-            if rows.asks_filter() {
-                let few = filtered.marks_few(text, sets, visits)?;
-                rows.keep_answer(few);
-                if few {
+        match &self.strategy {
+            Strategy::Partitioned(parts) => {
+                if parts.are_few_for(text) {
+                    return self.find(text, sets, found, visits);
+                }
+            }
+            Strategy::Filtered(filtered) => {
+                if filtered.marks_few(rows, text, sets, visits)? {
                     filtered.find_marked(text, sets, found, visits);
                     return Ok(());
                 }
             }
+            Strategy::Whole(_) => {}
         }
         rows.find(text, found, visits);
         Ok(())
     }
 
-    /// The same as [`Compiled::is_match`], by the rows of a cache if there is one and running the starts that a filter names would take
-    /// more time.
+    /// The same as [`Compiled::is_match`], by the rows of a cache if there is one, unless running few tables, or the few starts that
+    /// a filter names, takes less time.
+    ///
+    /// It takes memory, and so returns an error if it runs out, only if the sets of states have no room for all states.
     pub fn is_match_with(
         &self,
         text: &[u8],
@@ -298,14 +306,18 @@ impl Compiled {
         let Some(rows) = cache else {
             return self.is_match(text, sets, visits);
         };
-        if let Strategy::Filtered(filtered) = &self.strategy {
-            if rows.asks_filter() {
-                let few = filtered.marks_few(text, sets, visits)?;
-                rows.keep_answer(few);
-                if few {
+        match &self.strategy {
+            Strategy::Partitioned(parts) => {
+                if parts.are_few_for(text) {
+                    return self.is_match(text, sets, visits);
+                }
+            }
+            Strategy::Filtered(filtered) => {
+                if filtered.marks_few(rows, text, sets, visits)? {
                     return Ok(filtered.is_match_marked(text, sets, visits));
                 }
             }
+            Strategy::Whole(_) => {}
         }
         Ok(rows.is_match(text, visits))
     }

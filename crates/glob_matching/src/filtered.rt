@@ -9,6 +9,7 @@ ghost use Rattle.byte_nfa.specs.Steps.{IsReached};
 ghost use Rattle.byte_filter.specs.Starts.{IsFilterOf, IsReachedMarked};
 ghost use Rattle.glob_matching.specs.inner.Filtered.{AreApart, span_at};
 
+use crate::rows::RowCache;
 use crate::simulation;
 use bit_sets::IndexSet;
 use byte_filter::StartFilter;
@@ -109,17 +110,19 @@ impl Filtered {
 }
 
 impl Filtered {
-    /// Marks the starts that a text may lead from to an end, if there are so many that a filter may save time beside rows. Returns
-    /// whether so few are marked that running these takes less time than rows do.
+    /// Marks the starts that a text may lead from to an end, if a cache of rows says that the filter should be asked. Returns whether
+    /// it was asked and marked so few that running these takes less time than rows do.
     ///
     /// It is at most `text bytes * 3 * starts` visits. It makes room in the sets of states for those of the automaton. Returns an
     /// error if memory runs out.
     pub fn marks_few(
         &self,
+        rows: &mut RowCache,
         text: &[u8],
         sets: &mut StateSets,
         visits: &mut Visits,
     ) -> Result<bool, AllocError>
+        ensures rows { rows.new ≡ rows.old }
         ensures marked { IfOk result (λ few. IsTrue few → (k : ℕ) → IsReached self.now text.now k ↔ IsReachedMarked self.now sets.new.starts text.now k) }
         ensures room { IfOk result (λ few. IsTrue few → size self.now ≤ sets_capacity sets.new) }
         ensures kept { sets_capacity sets.old ≤ sets_capacity sets.new }
@@ -127,13 +130,15 @@ impl Filtered {
         ensures visits { visits.new ≤ visits.old + length text.now * (3 * length self.now.starts) }
         ensures counted { visits.old ≤ visits.new }
     {
-        let count = self.automaton.start_count();
-        let few = count / STARTS_FOR_ONE;
-        if few == 0 {
+        if !rows.asks_filter() {
             return Ok(false);
         }
         mark(&self.automaton, &self.filter, text, sets, visits)?;
-        Ok(has_at_most(few, &sets.starts, count))
+        let count = self.automaton.start_count();
+        let most = (count / STARTS_FOR_ONE).max(1);
+        let few = has_at_most(most, &sets.starts, count);
+        rows.keep_answer(few);
+        Ok(few)
     }
 
     /// Puts the index of each end that a text leads to from a marked start into a set, beside what it holds.
@@ -191,9 +196,10 @@ impl Filtered {
 }
 
 /// At most one start in so many may have no window, and so be run for each text. More are faster in parts.
-const FEW: usize = 3;
+const STARTS_FOR_ONE_WITHOUT_WINDOW: usize = 3;
 
-/// Of so many starts, running one for a text takes less time than rows do. Texts lead to more rows where there are more starts.
+/// Running one start for a text takes less time than rows do, and so does running one of so many: texts lead to more rows where
+/// there are more starts.
 const STARTS_FOR_ONE: usize = 256;
 
 /// Returns whether at most so many of the indexes below a bound are in a set.
@@ -217,7 +223,8 @@ pub fn filter_for(alloc: Global, automaton: &Draft) -> Result<Option<StartFilter
         return Ok(None);
     }
     match StartFilter::new(alloc, automaton)? {
-        Some(filter) if filter.other_count() <= filter.count() / FEW => Ok(Some(filter)),
+        Some(filter) if filter.other_count() <= filter.count() / STARTS_FOR_ONE_WITHOUT_WINDOW =>
+            Ok(Some(filter)),
         _ => Ok(None),
     }
 }

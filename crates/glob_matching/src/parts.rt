@@ -51,8 +51,11 @@ impl Model for Parts {
     ghost invariant = { λ p. ArePartsOf p.source.value p.state_count p.tables.items p.automata.items };
 }
 
-/// So many tables are about as fast as rows: a table is left out for a text that ends in another byte than its matches.
-const FEW: usize = 3;
+/// So many tables are about as fast as rows.
+const FEW_TABLES: usize = 3;
+
+/// How many looks at the last byte of a text take about the time of a run through a table. Most runs end early.
+const LOOKS_FOR_RUN: usize = 16;
 
 impl Parts {
     /// Returns the parts of an automaton.
@@ -77,7 +80,31 @@ impl Parts {
 
     /// Returns whether running a text through these parts takes longer than reading the entries of one automaton.
     pub fn are_many(&self) -> bool {
-        !self.automata.is_empty() || self.tables.len() > FEW
+        !self.automata.is_empty() || self.tables.len() > FEW_TABLES
+    }
+
+    /// Returns whether running a text through these parts takes no longer than reading the entries of one automaton, since few of
+    /// them have matches that end with its last byte. It looks at this byte once for each table, as far as these may be few.
+    pub fn are_few_for(&self, text: &[u8]) -> bool {
+        if !self.automata.is_empty() {
+            return false;
+        }
+        let Some((last, _)) = text.split_last() else {
+            return true;
+        };
+        let mut looks = (FEW_TABLES + 1) * LOOKS_FOR_RUN;
+        for table in &self.tables {
+            let needed = if table.may_end_with(*last) {
+                LOOKS_FOR_RUN
+            } else {
+                1
+            };
+            match looks.checked_sub(needed) {
+                Some(left) => looks = left,
+                None => return false,
+            }
+        }
+        true
     }
 
     /// Returns how many bytes the deterministic parts take. It takes time linear in their number.

@@ -93,7 +93,7 @@ impl RowSource {
     pub fn new(alloc: Global, automaton: &Draft) -> Result<Option<RowSource>, AllocError>
         ensures { IfOk result (λ made. IfSome made (λ rows. rows ≡ automaton.now)) }
     {
-        // One glob has no beginning to share.
+        // Only texts from two starts may begin alike.
         if automaton.starts().len() <= 1 {
             return RowSource::of(alloc, automaton, automaton);
         }

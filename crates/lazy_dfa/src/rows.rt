@@ -8,7 +8,7 @@ ghost use Rattle.byte_nfa.specs.Steps.{IsReached};
 ghost use Rattle.byte_nfa.specs.Runs.{size, AcceptsFrom};
 ghost use Rattle.byte_dfa.specs.inner.Classes.{IsDivision};
 ghost use Rattle.byte_dfa.specs.inner.Building.{half};
-ghost use Rattle.lazy_dfa.specs.inner.Rows.{AcceptsRow, HasEnds, HasMarks, GoesTo, IsDeadBy, IsNext, IsEnd, IsEntry, IsSound, AreListed, KeepsRows, HasSpace, states_of, place_of, max_rows, marked};
+ghost use Rattle.lazy_dfa.specs.inner.Rows.{AcceptsRow, HasEnds, HasMarks, GoesTo, IsDeadBy, IsNext, IsEnd, IsEntry, IsSound, AreListed, KeepsRows, HasSpace, states_of, place_of, max_entries, marked, BeginsAt, IsAt, IsStep};
 
 use crate::lists::{extend_within, list_indexes, list_of, push_within, states_at, zeros_within};
 use crate::pass::read;
@@ -25,14 +25,14 @@ const UNKNOWN: u32 = 0;
 /// An entry where nothing follows: a byte leads to no end, or the text's end is none.
 const DEAD: u32 = 1;
 
-/// The entry that leads to the first row. That to the next is one more, and so on.
+/// The entry that leads to the first row. An entry to another row is as much more as its entries begin behind those of the first.
 const FIRST: u32 = 2;
 
 /// What is added to the entries of a row that has marks: it leads without a byte to ends that say that an index is decided.
 const MARKED: u32 = 1 << 31;
 
-/// Rows have numbers below this, so that entries have room for them.
-const MAX_ROWS: usize = (MARKED - FIRST) as usize;
+/// There are at most so many entries, so that an entry has room for the place of each, and at most so many rows.
+const MAX_ENTRIES: usize = (MARKED - FIRST) as usize;
 
 /// The lists of ends have places below this, so that entries have room for them.
 const MAX_PLACES: usize = (u32::MAX - FIRST) as usize;
@@ -46,15 +46,15 @@ const LEAST_ROWS: usize = 4;
 /// Where a byte leads from a row.
 #[derive(Clone, Copy)]
 pub struct Step {
-    /// The row, or `None` if the byte leads to no end.
+    /// The place where the entries of the row begin, or `None` if the byte leads to no end.
     pub next: Option<usize>,
     /// Whether the row that was left has marks: it leads without a byte to ends that say that an index is decided.
     pub has_marks: bool,
 }
 
-/// The row of some states.
+/// The row of some states, by its number.
 #[derive(Clone, Copy)]
-struct Place {
+struct Found {
     row: usize,
     /// Whether the rows before are still there.
     is_kept: bool,
@@ -62,7 +62,8 @@ struct Place {
 
 /// The rows that are made, each for a list of states of the automaton that some text leads to, and what a step needs.
 ///
-/// All memory is taken when it is made. If there is no room for a row more, all rows are forgotten.
+/// All memory is taken when it is made. If there is no room for a row more, all rows are forgotten. A run holds a row as the place
+/// where its entries begin, so that it need not multiply for each byte.
 pub struct Rows {
     class_of: [u8; 256],
     class_count: usize,
@@ -75,7 +76,7 @@ pub struct Rows {
     entries: Vec<u32>,
     /// The numbers of rows, and one more, at places by the hashes of their lists.
     table: Vec<u32>,
-    /// The row that a run begins in, if it is made.
+    /// The place of the row that a run begins in, if it is made.
     begin: Option<usize>,
     /// The states that a pass takes.
     from: StateSet,
@@ -147,44 +148,44 @@ impl Rows {
         })
     }
 
-    /// Returns the row that a run begins in.
+    /// Returns the place of the row that a run begins in.
     pub fn start(&mut self, automaton: &Draft) -> usize
         requires { IsSound automaton.now self.old }
         ensures sound { IsSound automaton.now self.new }
-        ensures row { result < length self.new.starts.items }
-        ensures begins { (y : List ℕ) (k : ℕ) → AcceptsRow automaton.now self.new result y k ↔ IsReached automaton.now y k }
+        ensures begins { BeginsAt automaton.now self.new result }
     {
-        if let Some(row) = self.begin {
-            return row;
+        if let Some(place) = self.begin {
+            return place;
         }
         automaton.start(&mut self.next);
-        let place = self.seek(automaton);
-        self.begin = Some(place.row);
-        place.row
+        let found = self.seek(automaton);
+        let place = self.place_of_row(found.row);
+        self.begin = Some(place);
+        place
     }
 
-    /// Returns where a byte leads from a row. If the row has marks, `ends` has afterwards what the row leads to without a byte.
+    /// Returns where a byte leads from the row at a place. If the row has marks, `ends` has afterwards what the row leads to without a
+    /// byte.
     ///
     /// A known entry is one visit. If the entry is not known, each state is read at most once, and is one visit.
     // It is the loop of a run over a text, and mostly reads one entry.
     #[inline(always)]
-    pub fn step(&mut self, automaton: &Draft, row: usize, byte: u8, visits: &mut Visits) -> Step
+    pub fn step(&mut self, automaton: &Draft, place: usize, byte: u8, visits: &mut Visits) -> Step
         requires sound { IsSound automaton.now self.old }
-        requires row { row < length self.old.starts.items }
+        requires row { (i : ℕ) × IsAt self.old i place }
         requires some { 0 < size automaton.now }
         ensures sound { IsSound automaton.now self.new }
-        ensures next { MatchOption result.next (IsDeadBy automaton.now self.old row byte) (λ j. GoesTo automaton.now self.old row byte self.new j) }
-        ensures marks { IsTrue result.has_marks ↔ HasMarks automaton.now self.old row }
-        ensures ends { IsTrue result.has_marks → HasEnds automaton.now self.old row self.new.ends }
+        ensures step { (i : ℕ) → IsAt self.old i place → IsStep automaton.now self.old i byte result self.new }
         ensures visits { visits.new ≤ visits.old + size automaton.now }
         ensures counted { visits.old ≤ visits.new }
     {
-        let class = self.class_of[byte as usize] as usize;
-        let entry = self.entry(row, class);
+        let entry = entry_at(&self.entries, place, self.class_of[byte as usize] as usize);
         if entry == UNKNOWN {
+            let row = self.row_at(place);
             return self.leave(automaton, row, byte, visits);
         }
         if entry >= MARKED {
+            let row = self.row_at(place);
             return self.step_marked(automaton, row, byte, entry - MARKED, visits);
         }
         visits.tick();
@@ -192,6 +193,23 @@ impl Rows {
             next: next_of(entry),
             has_marks: false,
         }
+    }
+
+    /// Returns the number of the row at a place.
+    fn row_at(&self, place: usize) -> usize
+        requires { self.now.class_count < max_entries }
+        ensures { (i : ℕ) → place ≡ i * (self.now.class_count + 1) → result ≡ i }
+    {
+        place / (self.class_count + 1)
+    }
+
+    /// Returns the place where the entries of a row begin.
+    fn place_of_row(&self, row: usize) -> usize
+        requires row { row < length self.now.starts.items }
+        requires len { length self.now.entries.items ≡ length self.now.starts.items * (self.now.class_count + 1) }
+        ensures { result ≡ row * (self.now.class_count + 1) }
+    {
+        row * (self.class_count + 1)
     }
 
     /// Returns where a byte leads from a row that has marks, by its entry without these.
@@ -211,9 +229,7 @@ impl Rows {
         requires next { IsNext automaton.now self.old row byte entry }
         requires known { 0 < entry }
         ensures sound { IsSound automaton.now self.new }
-        ensures next { MatchOption result.next (IsDeadBy automaton.now self.old row byte) (λ j. GoesTo automaton.now self.old row byte self.new j) }
-        ensures marks { IsTrue result.has_marks ↔ HasMarks automaton.now self.old row }
-        ensures ends { IsTrue result.has_marks → HasEnds automaton.now self.old row self.new.ends }
+        ensures step { IsStep automaton.now self.old row byte result self.new }
         ensures visits { visits.new ≤ visits.old + size automaton.now }
         ensures counted { visits.old ≤ visits.new }
     {
@@ -230,10 +246,27 @@ impl Rows {
         }
     }
 
+    /// Returns whether the row at a place leads to some end without a byte. If it does, `ends` has afterwards the indexes of these.
+    ///
+    /// It is as many visits as [`Rows::finish_row`] makes.
+    pub fn finish(&mut self, automaton: &Draft, place: usize, visits: &mut Visits) -> bool
+        requires sound { IsSound automaton.now self.old }
+        requires row { (i : ℕ) × IsAt self.old i place }
+        requires some { 0 < size automaton.now }
+        ensures sound { IsSound automaton.now self.new }
+        ensures some { (i : ℕ) → IsAt self.old i place → IsTrue result ↔ ((k : ℕ) × (k < half automaton.now + half automaton.now) × AcceptsRow automaton.now self.old i [] k) }
+        ensures ends { (i : ℕ) → IsAt self.old i place → IsTrue result → HasEnds automaton.now self.old i self.new.ends }
+        ensures visits { visits.new ≤ visits.old + size automaton.now }
+        ensures counted { visits.old ≤ visits.new }
+    {
+        let row = self.row_at(place);
+        self.finish_row(automaton, row, visits)
+    }
+
     /// Returns whether a row leads to some end without a byte. If it does, `ends` has afterwards the indexes of these.
     ///
     /// If it is known that it leads to none, that is one visit. Otherwise each state is read at most once, and is one visit.
-    pub fn finish(&mut self, automaton: &Draft, row: usize, visits: &mut Visits) -> bool
+    fn finish_row(&mut self, automaton: &Draft, row: usize, visits: &mut Visits) -> bool
         requires sound { IsSound automaton.now self.old }
         requires row { row < length self.old.starts.items }
         requires some { 0 < size automaton.now }
@@ -272,9 +305,7 @@ impl Rows {
         requires sound { IsSound automaton.now self.old }
         requires row { row < length self.old.starts.items }
         ensures sound { IsSound automaton.now self.new }
-        ensures next { MatchOption result.next (IsDeadBy automaton.now self.old row byte) (λ j. GoesTo automaton.now self.old row byte self.new j) }
-        ensures marks { IsTrue result.has_marks ↔ HasMarks automaton.now self.old row }
-        ensures ends { IsTrue result.has_marks → HasEnds automaton.now self.old row self.new.ends }
+        ensures step { IsStep automaton.now self.old row byte result self.new }
         ensures visits { visits.new ≤ visits.old + size automaton.now }
         ensures counted { visits.old ≤ visits.new }
     {
@@ -289,13 +320,14 @@ impl Rows {
                 has_marks,
             };
         }
-        let place = self.seek(automaton);
+        let found = self.seek(automaton);
+        let place = self.place_of_row(found.row);
         // If the rows were forgotten, the row that was left is another one now, or none.
-        if place.is_kept {
-            self.write(automaton, row, class, place.row as u32 + FIRST + marks);
+        if found.is_kept {
+            self.write(automaton, row, class, place as u32 + FIRST + marks);
         }
         Step {
-            next: Some(place.row),
+            next: Some(place),
             has_marks,
         }
     }
@@ -388,7 +420,6 @@ impl Rows {
     }
 
     /// Returns an entry of a row.
-    #[inline(always)]
     fn entry(&self, row: usize, column: usize) -> u32
         requires row { row < length self.now.starts.items }
         requires column { column ≤ self.now.class_count }
@@ -414,7 +445,7 @@ impl Rows {
 
     /// Returns the row of the states in `next`, and makes it if it is not there. If there is no room for it, all rows are
     /// forgotten before.
-    fn seek(&mut self, automaton: &Draft) -> Place
+    fn seek(&mut self, automaton: &Draft) -> Found
         requires { IsSound automaton.now self.old }
         ensures sound { IsSound automaton.now self.new }
         ensures row { result.row < length self.new.starts.items }
@@ -425,11 +456,11 @@ impl Rows {
         list_of(&self.next, automaton.state_count(), &mut self.list);
         let hash = hash_of(&self.list);
         if let Some(row) = self.known(hash) {
-            return Place { row, is_kept: true };
+            return Found { row, is_kept: true };
         }
         let is_kept = self.make_room(automaton);
         let row = self.add(automaton, hash);
-        Place { row, is_kept }
+        Found { row, is_kept }
     }
 
     /// Returns the row of the states in `list`, if it is found. Another row can be of the same states: nothing hangs on that.
@@ -471,8 +502,8 @@ impl Rows {
     {
         let states = automaton.state_count();
         if self.lists.capacity() - self.lists.len() > states
-            && self.starts.len() < self.starts.capacity().min(MAX_ROWS)
-            && self.entries.capacity() - self.entries.len() > self.class_count
+            && self.starts.len() < self.starts.capacity().min(MAX_ENTRIES)
+            && self.entries.capacity().min(MAX_ENTRIES) - self.entries.len() > self.class_count
         {
             return true;
         }
@@ -511,7 +542,7 @@ impl Rows {
 /// Puts the number of a row into the table, at the first place that is free of those where it will be looked for. If none is
 /// free, another row is no longer found there.
 fn remember(table: &mut [u32], hash: u64, row: usize)
-    requires { row < max_rows }
+    requires { row < max_entries }
     ensures { length table.new ≡ length table.old }
 {
     let count = table.len();
@@ -534,7 +565,18 @@ fn added_by(has_marks: bool) -> u32
     if has_marks { MARKED } else { 0 }
 }
 
-/// Returns the row that an entry without marks leads to.
+/// Returns the entry of a class in the row at a place.
+#[inline(always)]
+fn entry_at(entries: &[u32], place: usize, class: usize) -> u32
+    requires { place + class < length entries.now }
+    ensures { result ≡ slice_index entries.now (place + class) }
+{
+    // Where the entries of the class begin does not wait for the row.
+    let column = &entries[class..];
+    column[place]
+}
+
+/// Returns the place of the row that an entry without marks leads to.
 #[inline(always)]
 fn next_of(entry: u32) -> Option<usize>
     requires { 0 < entry }

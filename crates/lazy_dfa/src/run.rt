@@ -36,16 +36,16 @@ impl Rows {
             return;
         }
         let half = automaton.index_count() / 2;
-        let mut row = self.start(automaton);
+        let mut place = self.start(automaton);
         for byte in text {
-            let step = self.step(automaton, row, *byte, visits);
+            let step = self.step(automaton, place, *byte, visits);
             self.tell_marks(step.has_marks, half, found);
             let Some(next) = step.next else {
                 return;
             };
-            row = next;
+            place = next;
         }
-        if self.finish(automaton, row, visits) {
+        if self.finish(automaton, place, visits) {
             put_lowered(&self.ends, half, half, found);
             put_lowered(&self.ends, 0, half, found);
         }
@@ -62,18 +62,18 @@ impl Rows {
         if automaton.state_count() == 0 {
             return false;
         }
-        let mut row = self.start(automaton);
+        let mut place = self.start(automaton);
         for byte in text {
-            let step = self.step(automaton, row, *byte, visits);
+            let step = self.step(automaton, place, *byte, visits);
             if step.has_marks {
                 return true;
             }
             let Some(next) = step.next else {
                 return false;
             };
-            row = next;
+            place = next;
         }
-        self.finish(automaton, row, visits)
+        self.finish(automaton, place, visits)
     }
 
     /// Puts what the ends of a row that was left say is decided into a set, if the row has marks.

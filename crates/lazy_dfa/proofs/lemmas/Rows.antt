@@ -22,7 +22,7 @@ use Rattle.bit_sets.specs.declared.index_set.IndexSet.{IndexSet}
 use Rattle.byte_dfa.proofs.lemmas.Lists as Lists
 use Rattle.byte_dfa.proofs.lemmas.Lists.{keeps_lists, list_last}
 use Rattle.lazy_dfa.specs.declared.rows.Rows.{Rows}
-use Rattle.lazy_dfa.specs.inner.Rows.{AcceptsIn, AcceptsRow, IsNext, IsEnd, IsEntry, IsEntryBy, IsSound, HasEnds, HasMarks, MarksAre, GoesTo, IsDeadBy, HasRoomFor, marked, KeepsRows, states_of, place_of, max_rows}
+use Rattle.lazy_dfa.specs.inner.Rows.{AcceptsIn, AcceptsRow, IsNext, IsEnd, IsEntry, IsEntryBy, IsSound, HasEnds, HasMarks, MarksAre, GoesTo, IsDeadBy, HasRoomFor, marked, KeepsRows, states_of, place_of, max_entries, IsAt, BeginsAt}
 
 -- places of entries
 
@@ -71,6 +71,10 @@ list_kept lists more starts more' n i lt is =
 pub accepts_kept : (m : Machine) (old new : Rows) (i : ℕ) (y : List ℕ) (k : ℕ) → states_of new i ≡ states_of old i → AcceptsRow m old i y k ↔ AcceptsRow m new i y k
 accepts_kept m old new i y k same = (λ a. subst (λ l. AcceptsIn m l y k) (sym same) a, λ a. subst (λ l. AcceptsIn m l y k) same a)
 
+-- a row that is still there is where it was
+pub at_kept : (old new : Rows) (j p : ℕ) → KeepsRows old new → IsAt old j p → IsAt new j p
+at_kept old new j p keeps (lt, is) = ((let more = keeps.more in omega arith), rw keeps.class_count is)
+
 -- an entry is right where rows were added
 module _ (m : Machine) (old new : Rows) (i : ℕ) (keeps : KeepsRows old new) (lt : i < length old.starts.items) where
   pub marks_still : HasMarks m old i → HasMarks m new i
@@ -83,10 +87,11 @@ module _ (m : Machine) (old new : Rows) (i : ℕ) (keeps : KeepsRows old new) (l
   next_kept b e is = record {
     dead = λ d y k h. is.dead d y k (subst (λ l. AcceptsIn m l (b ∷ y) k) (keeps.states i lt) h);
     row = λ some.
-        let (there, goes) = is.row some in (
-          (let more = keeps.more in omega arith),
-          λ y k. subst (λ l. AcceptsIn m l (b ∷ y) k ↔ AcceptsRow m new (e - 2) y k) (sym (keeps.states i lt))
-              (subst (λ l. AcceptsRow m old i (b ∷ y) k ↔ AcceptsIn m l y k) (sym (keeps.states (e - 2) there)) (goes y k)),
+        let (j, at, goes) = is.row some in (
+          j,
+          at_kept old new j (e - 2) keeps at,
+          λ y k. subst (λ l. AcceptsIn m l (b ∷ y) k ↔ AcceptsRow m new j y k) (sym (keeps.states i lt))
+              (subst (λ l. AcceptsRow m old i (b ∷ y) k ↔ AcceptsIn m l y k) (sym (keeps.states j at.0)) (goes y k)),
         );
   }
 
@@ -127,12 +132,14 @@ same_keeps old new is = record {
 
 -- where a run begins
 abbrev pub Begins : Machine → Rows → Type 0
-Begins m rows = (j : ℕ) → rows.begin ≡ Some j → (j < length rows.starts.items) × ((y : List ℕ) (k : ℕ) → AcceptsRow m rows j y k ↔ IsReached m y k)
+Begins m rows = (p : ℕ) → rows.begin ≡ Some p → BeginsAt m rows p
+
+pub begins_at_kept : (m : Machine) (old new : Rows) (p : ℕ) → KeepsRows old new → BeginsAt m old p → BeginsAt m new p
+begins_at_kept m old new p keeps (j, at, begins) =
+    (j, at_kept old new j p keeps at, λ y k. subst (λ l. AcceptsIn m l y k ↔ IsReached m y k) (sym (keeps.states j at.0)) (begins y k))
 
 begins_kept : (m : Machine) (old new : Rows) → HasSameRows old new → new.begin ≡ old.begin → Begins m old → Begins m new
-begins_kept m old new is begin before j at =
-    let (lt, begins) = before j (sym begin ∙ at) in
-    (rw is.starts lt, λ y k. subst (λ l. AcceptsIn m l y k ↔ IsReached m y k) (sym ((same_keeps old new is).states j lt)) (begins y k))
+begins_kept m old new is begin before p at = begins_at_kept m old new p (same_keeps old new is) (before p (sym begin ∙ at))
 
 pub begun_sound : (m : Machine) (old new : Rows) → HasSameRows old new → new.entries.items ≡ old.entries.items → HasRoomFor m new → Begins m new → IsSound m old → IsSound m new
 begun_sound m old new is entries room begins sound = record {
@@ -140,6 +147,7 @@ begun_sound m old new is entries room begins sound = record {
   representatives = sound.representatives;
   classes = rw (is.class_of, is.class_count) sound.classes;
   few = rw is.starts sound.few;
+  small = rw entries sound.small;
   lists = rw (is.starts, is.lists) sound.lists;
   len = rw (is.starts, is.class_count, entries) sound.len;
   known = λ i c lt hc some.
@@ -243,12 +251,16 @@ module _ (m : Machine) (old new : Rows) (list : List ℕ) (is : HasAdded old new
     below = subst (λ l. (x : ℕ) → x < length l → slice_index l x < size m) (sym last_list) below;
   }
 
-  pub added_sound : AreBelow (size m) list → length old.starts.items < max_rows → HasRoomFor m new → IsSound m new
-  added_sound below few room = record {
+  pub added_sound : AreBelow (size m) list → length old.starts.items < max_entries → length old.entries.items + old.class_count < max_entries → HasRoomFor m new → IsSound m new
+  added_sound below few small room = record {
     room = room;
     representatives = sound.representatives;
     classes = rw (is.class_of, is.class_count) sound.classes;
     few = omega (arith, more_starts);
+    small =
+        let both = ap length is.entries ∙ length-append old.entries.items (replicate (old.class_count + 1) 0) in
+        let zeros_len = length-replicate {A = ℕ} (old.class_count + 1) 0 in
+        omega (arith, both, zeros_len, small);
     lists = λ i lt. ⊎_elim {C = IsList new.lists.items (size m) (slice_index new.starts.items i)}
         (λ before. rw (is.lists, is.starts) (list_kept old.lists.items (length list ∷ list) old.starts.items (length old.lists.items ∷ []) (size m) i before (sound.lists i before)).1)
         (λ past. let this : i ≡ length old.starts.items = omega (arith, more_starts) in
@@ -267,9 +279,7 @@ module _ (m : Machine) (old new : Rows) (list : List ℕ) (is : HasAdded old new
         let (before, same) = entries_more old.entries.items w (length old.starts.items) i c sound.len (omega (arith, more_starts)) short (subst (λ x. 0 < x) value some) in
         subst (IsEntry m new i c) (sym (value ∙ same)) (entry_kept m old new i added_keeps before c (slice_index old.entries.items (i * (w + 1) + c))
         (sound.known i c before short (subst (λ x. 0 < x) (value ∙ same) some)));
-    begins = λ j at.
-        let (lt, begins) = sound.begins j (sym is.begin ∙ at) in
-        (omega (arith, more_starts), λ y k. subst (λ l. AcceptsIn m l y k ↔ IsReached m y k) (sym (added_keeps.states j lt)) (begins y k));
+    begins = λ p at. begins_at_kept m old new p added_keeps (sound.begins p (sym is.begin ∙ at));
   }
 
 -- the look for an index in a range
@@ -290,6 +300,7 @@ written_sound m old new row column e is entries begin room here short entry soun
   representatives = sound.representatives;
   classes = rw (is.class_of, is.class_count) sound.classes;
   few = rw is.starts sound.few;
+  small = let len = ap length entries ∙ length-set old.entries.items (place_of old row column) e in let before = sound.small in omega (arith, len, before);
   lists = rw (is.starts, is.lists) sound.lists;
   len = rw (is.starts, is.class_count, entries) (length-set old.entries.items (place_of old row column) e ∙ sound.len);
   known = λ i c lt hc some.
@@ -319,7 +330,7 @@ same_class m rows b c sound small small' class s =
 next_by : (m : Machine) (rows : Rows) (i b c e : ℕ) → AreEquivalent m.states c b → AreEquivalent m.states b c → IsNext m rows i b e → IsNext m rows i c e
 next_by m rows i b c e there back is = record {
   dead = λ d y k a. is.dead d y k (in_equivalent m (states_of rows i) c b y k there a);
-  row = λ some. let (lt, goes) = is.row some in (lt, λ y k. (λ a. (goes y k).0 (in_equivalent m (states_of rows i) c b y k there a), λ a. in_equivalent m (states_of rows i) b c y k back ((goes y k).1 a)));
+  row = λ some. let (j, at, goes) = is.row some in (j, at, λ y k. (λ a. (goes y k).0 (in_equivalent m (states_of rows i) c b y k there a), λ a. in_equivalent m (states_of rows i) b c y k back ((goes y k).1 a)));
 }
 
 -- what an entry says of one byte, it says of each of the class
@@ -365,13 +376,13 @@ pub ends_kept : (m : Machine) (old new : Rows) (i : ℕ) (ends : IndexSet) → K
 ends_kept m old new i ends keeps lt has k small = iff_trans (has k small) (accepts_kept m old new i [] k (keeps.states i lt))
 
 -- an entry that is taken
-pub next_is : (m : Machine) (rows : Rows) (i b e : ℕ) (o : Option ℕ) → MatchOption o (e ≡ 1) (λ j. (1 < e) × (j ≡ e - 2)) → IsNext m rows i b e → MatchOption o (IsDeadBy m rows i b) (λ j. GoesTo m rows i b rows j)
+pub next_is : (m : Machine) (rows : Rows) (i b e : ℕ) (o : Option ℕ) → MatchOption o (e ≡ 1) (λ p. (1 < e) × (p ≡ e - 2)) → IsNext m rows i b e → MatchOption o (IsDeadBy m rows i b) (GoesTo m rows i b rows)
 next_is m rows i b e None one is = is.dead one
-next_is m rows i b e (Some j) (some, same) is = subst (GoesTo m rows i b rows) (sym same) (is.row some)
+next_is m rows i b e (Some p) (some, same) is = subst (GoesTo m rows i b rows) (sym same) (is.row some)
 
-pub next_later : (m : Machine) (old new : Rows) (i b : ℕ) (o : Option ℕ) → KeepsRows old new → MatchOption o (IsDeadBy m old i b) (λ j. GoesTo m old i b old j) → MatchOption o (IsDeadBy m old i b) (λ j. GoesTo m old i b new j)
+pub next_later : (m : Machine) (old new : Rows) (i b : ℕ) (o : Option ℕ) → KeepsRows old new → MatchOption o (IsDeadBy m old i b) (GoesTo m old i b old) → MatchOption o (IsDeadBy m old i b) (GoesTo m old i b new)
 next_later m old new i b None keeps dead = dead
-next_later m old new i b (Some j) keeps (lt, goes) = ((let h = keeps.more in omega arith), λ y k. iff_trans (goes y k) (accepts_kept m old new j y k (keeps.states j lt)))
+next_later m old new i b (Some p) keeps (j, at, goes) = (j, at_kept old new j p keeps at, λ y k. iff_trans (goes y k) (accepts_kept m old new j y k (keeps.states j at.0)))
 
 -- the entry of a byte, and that of the end of the text
 module _ (m : Machine) (rows : Rows) (i : ℕ) (sound : IsSound m rows) (lt : i < length rows.starts.items) where
@@ -419,6 +430,7 @@ module _ (m : Machine) (old new : Rows) (row : ℕ) (list : List ℕ) (is : HasL
     representatives = sound.representatives;
     classes = rw (is.class_of, is.class_count) sound.classes;
     few = rw is.starts sound.few;
+    small = let len = ap length is.entries ∙ length-set old.entries.items (place_of old row old.class_count) (length old.lists.items + 2) in let before = sound.small in omega (arith, len, before);
     lists = λ i lt. let before : i < length old.starts.items = rw is.starts at lt in
         rw (is.lists, is.starts) ((keeps_lists old.lists.items (length list ∷ list)).1 (size m) (slice_index old.starts.items i) (sound.lists i before)).0;
     len = rw (is.starts, is.class_count, is.entries) (length-set old.entries.items (place_of old row old.class_count) (length old.lists.items + 2) ∙ sound.len);
@@ -442,9 +454,7 @@ module _ (m : Machine) (old new : Rows) (row : ℕ) (list : List ℕ) (is : HasL
         } in
         subst (IsEntry m new i c) (sym same) (entry_written m new old.entries.items w n row w e i c sound.len here (omega arith) low entry
         (λ j d lj ld one. entry_kept m old new j listed_keeps lj d (slice_index old.entries.items (j * (w + 1) + d)) (sound.known j d lj ld one)) before (subst (λ x. 0 < x) same known));
-    begins = λ j at.
-        let (lt, begins) = sound.begins j (sym is.begin ∙ at) in
-        (rw is.starts lt, λ y k. subst (λ l. AcceptsIn m l y k ↔ IsReached m y k) (sym (listed_keeps.states j lt)) (begins y k));
+    begins = λ p at. begins_at_kept m old new p listed_keeps (sound.begins p (sym is.begin ∙ at));
   }
 
 -- no state is in the set

@@ -1,5 +1,5 @@
 -- The rows of a cache.
-use Rattle.std.specs.Prelude.{◌≡◌, ℕ, ◌+◌, ◌-◌, ◌*◌, ◌<◌, ◌≤◌, ◌⊎◌, ◌↔◌, List, [], ◌∷◌, ◌++◌, Some, length, slice_index, vec_capacity, IsTrue}
+use Rattle.std.specs.Prelude.{◌≡◌, ℕ, ◌+◌, ◌-◌, ◌*◌, ◌<◌, ◌≤◌, ◌⊎◌, ◌↔◌, List, [], ◌∷◌, ◌++◌, Some, length, slice_index, vec_capacity, IsTrue, MatchOption}
 use Rattle.bit_sets.specs.declared.index_set.IndexSet.{IndexSet}
 use Rattle.bit_sets.specs.Indexes.{has_index, index_capacity}
 use Rattle.bit_sets.specs.StateSets.{state_capacity}
@@ -11,6 +11,7 @@ use Rattle.byte_dfa.specs.inner.Building.{half}
 use Rattle.byte_dfa.specs.inner.Classes.{IsDivision}
 use Rattle.byte_dfa.specs.inner.Lists.{list_at, IsList, IsListOf, KeepsLists}
 use Rattle.lazy_dfa.specs.declared.rows.Rows.{Rows}
+use Rattle.lazy_dfa.specs.declared.rows.Step.{Step}
 
 -- the states of the row of number i
 abbrev pub states_of : Rows → ℕ → List ℕ
@@ -32,9 +33,13 @@ AcceptsRow m rows i = AcceptsIn m (states_of rows i)
 abbrev pub HasMarks : Machine → Rows → ℕ → Type 0
 HasMarks m rows i = (k : ℕ) × (k < half m) × AcceptsRow m rows i [] (half m + k)
 
--- the byte leads from the row of number i of the old rows to where the row of number j of the new ones is
+-- the entries of the row of number i begin at the place p
+abbrev pub IsAt : Rows → ℕ → ℕ → Type 0
+IsAt rows i p = (i < length rows.starts.items) × (p ≡ i * (rows.class_count + 1))
+
+-- the byte leads from the row of number i of the old rows to where the row at the place p of the new ones is
 abbrev pub GoesTo : Machine → Rows → ℕ → ℕ → Rows → ℕ → Type 0
-GoesTo m old i b new j = (j < length new.starts.items) × ((y : List ℕ) (k : ℕ) → AcceptsRow m old i (b ∷ y) k ↔ AcceptsRow m new j y k)
+GoesTo m old i b new p = (j : ℕ) × IsAt new j p × ((y : List ℕ) (k : ℕ) → AcceptsRow m old i (b ∷ y) k ↔ AcceptsRow m new j y k)
 
 -- the byte leads from the row to no end
 abbrev pub IsDeadBy : Machine → Rows → ℕ → ℕ → Type 0
@@ -52,7 +57,18 @@ marked = 2147483648
 abbrev pub MarksAre : Machine → Rows → ℕ → ℕ → Type 0
 MarksAre m rows i n = (HasMarks m rows i × (n ≡ marked)) ⊎ ((HasMarks m rows i → ⊥) × (n ≡ 0))
 
--- what an entry without marks says of a byte: it is 1 where nothing follows, and otherwise 2 more than the number of a row
+-- where a run begins: at the place p is a row that leads to the same ends as the automaton
+abbrev pub BeginsAt : Machine → Rows → ℕ → Type 0
+BeginsAt m rows p = (j : ℕ) × IsAt rows j p × ((y : List ℕ) (k : ℕ) → AcceptsRow m rows j y k ↔ IsReached m y k)
+
+-- where a byte leads from the row of number i of the old rows: to no end, or to a row of the new ones; and whether the row that was left
+-- has marks, and which
+pub record IsStep (m : Machine) (old : Rows) (i b : ℕ) (step : Step) (new : Rows) : Type 0 where
+  pub next : MatchOption step.next (IsDeadBy m old i b) (GoesTo m old i b new)
+  pub marks : IsTrue step.has_marks ↔ HasMarks m old i
+  pub ends : IsTrue step.has_marks → HasEnds m old i new.ends
+
+-- what an entry without marks says of a byte: it is 1 where nothing follows, and otherwise 2 more than the place of a row
 pub record IsNext (m : Machine) (rows : Rows) (i b e : ℕ) : Type 0 where
   pub dead : e ≡ 1 → IsDeadBy m rows i b
   pub row : 1 < e → GoesTo m rows i b rows (e - 2)
@@ -74,6 +90,10 @@ pub record IsEntry (m : Machine) (rows : Rows) (i c e : ℕ) : Type 0 where
   pub byte : (b : ℕ) → b < 256 → slice_index rows.class_of b ≡ c → IsEntryBy m rows i b e
   pub end : c ≡ rows.class_count → IsEnd m rows i e
 
+-- there are at most so many rows, and so many entries
+abbrev pub max_entries : ℕ
+max_entries = 2147483646
+
 -- there is room for one row, whatever its states are, and for one pass
 pub record HasRoomFor (m : Machine) (rows : Rows) : Type 0 where
   pub from : size m ≤ state_capacity rows.from
@@ -84,10 +104,7 @@ pub record HasRoomFor (m : Machine) (rows : Rows) : Type 0 where
   pub lists : size m < vec_capacity rows.lists
   pub starts : 0 < vec_capacity rows.starts
   pub entries : rows.class_count < vec_capacity rows.entries
-
--- rows have numbers below this
-abbrev pub max_rows : ℕ
-max_rows = 2147483646
+  pub width : rows.class_count < max_entries
 
 -- the place of an entry
 abbrev pub place_of : Rows → ℕ → ℕ → ℕ
@@ -98,12 +115,13 @@ pub record IsSound (m : Machine) (rows : Rows) : Type 0 where
   pub room : HasRoomFor m rows
   pub representatives : List ℕ
   pub classes : IsDivision m.states rows.class_of representatives rows.class_count
-  pub few : length rows.starts.items ≤ max_rows
+  pub few : length rows.starts.items ≤ max_entries
+  pub small : length rows.entries.items ≤ max_entries
   pub lists : (i : ℕ) → i < length rows.starts.items → IsList rows.lists.items (size m) (slice_index rows.starts.items i)
   pub len : length rows.entries.items ≡ length rows.starts.items * (rows.class_count + 1)
   pub known : (i c : ℕ) → i < length rows.starts.items → c ≤ rows.class_count → 0 < slice_index rows.entries.items (place_of rows i c)
       → IsEntry m rows i c (slice_index rows.entries.items (place_of rows i c))
-  pub begins : (j : ℕ) → rows.begin ≡ Some j → (j < length rows.starts.items) × ((y : List ℕ) (k : ℕ) → AcceptsRow m rows j y k ↔ IsReached m y k)
+  pub begins : (p : ℕ) → rows.begin ≡ Some p → BeginsAt m rows p
 
 -- each row is still there, with the same states and the same classes of bytes, and each list stands where it stood
 pub record KeepsRows (old new : Rows) : Type 0 where
@@ -117,7 +135,8 @@ pub record KeepsRows (old new : Rows) : Type 0 where
 pub record HasSpace (m : Machine) (rows : Rows) : Type 0 where
   pub lists : length rows.lists.items + size m < vec_capacity rows.lists
   pub starts : length rows.starts.items < vec_capacity rows.starts
-  pub few : length rows.starts.items < max_rows
+  pub few : length rows.starts.items < max_entries
+  pub small : length rows.entries.items + rows.class_count < max_entries
   pub entries : length rows.entries.items + rows.class_count < vec_capacity rows.entries
 
 -- the rows are those of an automaton with an end in place of each state of the source that decides an index

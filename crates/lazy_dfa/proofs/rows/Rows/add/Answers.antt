@@ -33,7 +33,7 @@ returns-clause-sound c =
       class_of = refl;
       class_count = refl;
       begin = refl;
-    } c.requires.sound c.requires.below c.requires.space.few record {
+    } c.requires.sound c.requires.below c.requires.space.few c.requires.space.small record {
       from = room.from;
       next = room.next;
       ends = room.ends;
@@ -42,4 +42,5 @@ returns-clause-sound c =
       lists = omega (arith, room.lists, c.push_within.ensures.capacity, c.extend_within.ensures.capacity);
       starts = omega (arith, room.starts, c.push_within-2.ensures.capacity);
       entries = omega (arith, room.entries, c.zeros_within.ensures.capacity);
+      width = room.width;
     }

@@ -23,10 +23,12 @@ returns-then-state_count-eq0-clause-found c = λ k.
 
 pub loop-byte-init : goal.loop-byte-init
 loop-byte-init c = record {
-  sound = c.start-row.ensures.sound;
-  row = c.start-row.ensures.row;
+  sound = c.start-place.ensures.sound;
   room = refl;
-  finds = λ k. iff_beside (finds_same (half c.args.automaton.now) (AcceptsRow c.args.automaton.now c.start-row.new.self c.start-row.result) (IsReached c.args.automaton.now) c.start-row.ensures.begins c.args.text.now k);
+  runs =
+      let m = c.args.automaton.now in
+      let (j, at, begins) = c.start-place.ensures.begins in
+      (j, at, λ k. iff_beside (finds_same (half m) (AcceptsRow m c.start-place.new.self j) (IsReached m) begins c.args.text.now k));
   visits = omega arith;
   counted = omega arith;
 }
@@ -42,18 +44,22 @@ loop-byte-preserved c =
     let b : ℕ = get_or text i 0 in
     let rest = drop (i + 1) text in
     let more : drop i text ≡ b ∷ rest = drop_more text i 0 lt in
-    let step = c.step-step.ensures in
-    let next = rw c.in-Some.is at step.next in
+    let (j, at, finds) = inv.runs in
+    let step = c.step-step.ensures.step j at in
+    let (next, there, goes) = rw c.in-Some.is at step.next in
     let h = half m in
     let told = rw c.index_count-half.ensures at c.tell_marks.ensures.has in
     record {
-      sound = step.sound;
-      row = next.0;
+      sound = c.step-step.ensures.sound;
       room = c.tell_marks.ensures.room ∙ inv.room;
-      finds = λ k. next_found h (AcceptsRow m l.self l.row) c.step-step.result.has_marks (has_index c.step-step.new.self.ends) step.marks step.ends
-          (AcceptsRow m c.step-step.new.self c.in-Some.next) b next.1 rest k (has_index l.found k) (has_index c.tell_marks.new.found k) _ (told k) (rw more at inv.finds k);
-      visits = visits_more c.args.visits.now l.visits c.step-step.new.visits i (size m) inv.visits step.visits;
-      counted = omega (arith, step.counted, inv.counted);
+      runs = (
+        next,
+        there,
+        λ k. next_found h (AcceptsRow m l.self j) c.step-step.result.has_marks (has_index c.step-step.new.self.ends) step.marks step.ends
+            (AcceptsRow m c.step-step.new.self next) b goes rest k (has_index l.found k) (has_index c.tell_marks.new.found k) _ (told k) (rw more at finds k),
+      );
+      visits = visits_more c.args.visits.now l.visits c.step-step.new.visits i (size m) inv.visits c.step-step.ensures.visits;
+      counted = omega (arith, c.step-step.ensures.counted, inv.counted);
     }
 
 pub returns-in_default-clause-found : goal.returns-in_default-clause-found
@@ -66,11 +72,12 @@ returns-in_default-clause-found c = λ k.
     let b : ℕ = get_or text i 0 in
     let rest = drop (i + 1) text in
     let more : drop i text ≡ b ∷ rest = drop_more text i 0 lt in
-    let step = c.step-step.ensures in
+    let (j, at, finds) = l.invariant.runs in
+    let step = c.step-step.ensures.step j at in
     let dead = rw c.in_default.is at step.next in
     let told = rw c.index_count-half.ensures at c.tell_marks.ensures.has in
-    dead_found (half m) (AcceptsRow m l.self l.row) c.step-step.result.has_marks (has_index c.step-step.new.self.ends) step.marks step.ends
-    b dead rest k (has_index l.found k) (has_index c.tell_marks.new.found k) _ (told k) (rw more at l.invariant.finds k)
+    dead_found (half m) (AcceptsRow m l.self j) c.step-step.result.has_marks (has_index c.step-step.new.self.ends) step.marks step.ends
+    b dead rest k (has_index l.found k) (has_index c.tell_marks.new.found k) _ (told k) (rw more at finds k)
 
 pub returns-in_default-clause-visits : goal.returns-in_default-clause-visits
 returns-in_default-clause-visits c =
@@ -85,8 +92,9 @@ returns-then-finish-clause-found c = λ k.
     let first = rw c.index_count-half.ensures at c.put_lowered.ensures.has k in
     let second = rw c.index_count-half.ensures at c.put_lowered-then-finish.ensures.has k in
     let none : 0 + k ≡ k = omega arith in
-    last_found (half m) (AcceptsRow m l.self l.row) (has_index c.finish.new.self.ends) (c.finish.ensures.ends c.if-finish.true) k
-    (has_index l.found k) (has_index c.put_lowered.new.into k) (has_index c.put_lowered-then-finish.new.into k) _ first (rw none at second) (rw past at l.invariant.finds k)
+    let (j, at, finds) = l.invariant.runs in
+    last_found (half m) (AcceptsRow m l.self j) (has_index c.finish.new.self.ends) (c.finish.ensures.ends j at c.if-finish.true) k
+    (has_index l.found k) (has_index c.put_lowered.new.into k) (has_index c.put_lowered-then-finish.new.into k) _ first (rw none at second) (rw past at finds k)
 
 pub returns-then-finish-clause-visits : goal.returns-then-finish-clause-visits
 returns-then-finish-clause-visits c =
@@ -98,5 +106,6 @@ returns-else-finish-clause-found c = λ k.
     let m = c.args.automaton.now in
     let l = c.loop-byte in
     let past : drop l.byte-index c.args.text.now ≡ [] = drop_all l.byte-index c.args.text.now c.loop-byte-test.false in
-    let none = none_last (half m) (AcceptsRow m l.self l.row) (λ j lt a. true≢false (sym (c.finish.ensures.some.1 (j, lt, a)) ∙ c.if-finish.false)) k in
-    iff_trans (λ h. inr h, ⊎_elim {C = IsTrue (has_index l.found k)} (λ f. absurd (none f)) (λ h. h)) (rw past at l.invariant.finds k)
+    let (i, at, finds) = l.invariant.runs in
+    let none = none_last (half m) (AcceptsRow m l.self i) (λ j lt a. true≢false (sym ((c.finish.ensures.some i at).1 (j, lt, a)) ∙ c.if-finish.false)) k in
+    iff_trans (λ h. inr h, ⊎_elim {C = IsTrue (has_index l.found k)} (λ f. absurd (none f)) (λ h. h)) (rw past at finds k)

@@ -4,7 +4,7 @@ use Rattle.bit_sets.specs.Indexes.{has_index, index_capacity}
 use Rattle.byte_nfa.specs.Runs.{size}
 use Rattle.byte_nfa.specs.Steps.{IsReached}
 use Rattle.byte_dfa.specs.inner.Building.{half}
-use Rattle.lazy_dfa.specs.inner.Rows.{IsSound, AcceptsRow, FindsBy}
+use Rattle.lazy_dfa.specs.inner.Rows.{IsSound, IsAt, AcceptsRow, FindsBy}
 use Rattle.lazy_dfa.proofs.rows.Rows.find.Given as goal
 
 abbrev pub invariant-loop-byte : goal.invariant-loop-byte
@@ -12,9 +12,8 @@ invariant-loop-byte l =
     let m = l.automaton in
     record {
       sound : IsSound m l.self;
-      row : l.row < length l.self.starts.items;
       room : index_capacity l.found ≡ index_capacity l.fn.found;
-      finds : (k : ℕ) → (FindsBy (half m) (AcceptsRow m l.self l.row) (drop l.byte-index l.text) k ⊎ IsTrue (has_index l.found k)) ↔ (FindsBy (half m) (IsReached m) l.text k ⊎ IsTrue (has_index l.fn.found k));
+      runs : (i : ℕ) × IsAt l.self i l.place × ((k : ℕ) → (FindsBy (half m) (AcceptsRow m l.self i) (drop l.byte-index l.text) k ⊎ IsTrue (has_index l.found k)) ↔ (FindsBy (half m) (IsReached m) l.text k ⊎ IsTrue (has_index l.fn.found k)));
       visits : l.visits ≤ l.fn.visits + l.byte-index * size m;
       counted : l.fn.visits ≤ l.visits;
     }

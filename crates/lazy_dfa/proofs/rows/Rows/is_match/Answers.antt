@@ -10,9 +10,11 @@ use Rattle.lazy_dfa.proofs.rows.Rows.is_match.Goals as goal
 
 pub loop-byte-init : goal.loop-byte-init
 loop-byte-init c = record {
-  sound = c.start-row.ensures.sound;
-  row = c.start-row.ensures.row;
-  finds = λ k. finds_same (half c.args.automaton.now) (AcceptsRow c.args.automaton.now c.start-row.new.self c.start-row.result) (IsReached c.args.automaton.now) c.start-row.ensures.begins c.args.text.now k;
+  sound = c.start-place.ensures.sound;
+  runs =
+      let m = c.args.automaton.now in
+      let (j, at, begins) = c.start-place.ensures.begins in
+      (j, at, λ k. finds_same (half m) (AcceptsRow m c.start-place.new.self j) (IsReached m) begins c.args.text.now k);
   visits = omega arith;
   counted = omega arith;
 }
@@ -27,9 +29,10 @@ returns-then-step-clause-some c =
     let b : ℕ = get_or text i 0 in
     let rest = drop (i + 1) text in
     let more : drop i text ≡ b ∷ rest = drop_more text i 0 lt in
-    let step = c.step-step.ensures in
+    let (j, at, finds) = l.invariant.runs in
+    let step = c.step-step.ensures.step j at in
     let (k, low, a) = step.marks.0 c.if-step.true in
-    (λ _. (k, (rw more at l.invariant.finds k).0 (low, inr ([], b ∷ rest, refl, a))), λ _. refl)
+    (λ _. (k, (rw more at finds k).0 (low, inr ([], b ∷ rest, refl, a))), λ _. refl)
 
 pub returns-then-step-clause-visits : goal.returns-then-step-clause-visits
 returns-then-step-clause-visits c =
@@ -46,11 +49,12 @@ returns-in_default-clause-some c =
     let b : ℕ = get_or text i 0 in
     let rest = drop (i + 1) text in
     let more : drop i text ≡ b ∷ rest = drop_more text i 0 lt in
-    let step = c.step-step.ensures in
+    let (j, at, finds) = l.invariant.runs in
+    let step = c.step-step.ensures.step j at in
     let dead = rw c.in_default.is at step.next in (
       λ off. absurd (true≢false (sym off)),
       λ (k, found).
-          let (low, a) = (at_dead (half m) (AcceptsRow m l.self l.row) b dead rest k).0 ((rw more at l.invariant.finds k).1 found) in
+          let (low, a) = (at_dead (half m) (AcceptsRow m l.self j) b dead rest k).0 ((rw more at finds k).1 found) in
           absurd (true≢false (sym (step.marks.1 (k, low, a)) ∙ c.if-step.false)),
     )
 
@@ -69,15 +73,19 @@ loop-byte-preserved c =
     let b : ℕ = get_or text i 0 in
     let rest = drop (i + 1) text in
     let more : drop i text ≡ b ∷ rest = drop_more text i 0 lt in
-    let step = c.step-step.ensures in
-    let next = rw c.in-Some.is at step.next in
+    let (n, at, finds) = l.invariant.runs in
+    let step = c.step-step.ensures.step n at in
+    let (next, there, goes) = rw c.in-Some.is at step.next in
     record {
-      sound = step.sound;
-      row = next.0;
-      finds = λ k. iff_trans (at_quiet (half m) (AcceptsRow m l.self l.row) (AcceptsRow m c.step-step.new.self c.in-Some.next) b next.1
-          (λ j low a. true≢false (sym (step.marks.1 (j, low, a)) ∙ c.if-step.false)) rest k) (rw more at l.invariant.finds k);
-      visits = visits_more c.args.visits.now l.visits c.step-step.new.visits i (size m) l.invariant.visits step.visits;
-      counted = omega (arith, step.counted, l.invariant.counted);
+      sound = c.step-step.ensures.sound;
+      runs = (
+        next,
+        there,
+        λ k. iff_trans (at_quiet (half m) (AcceptsRow m l.self n) (AcceptsRow m c.step-step.new.self next) b goes
+            (λ j low a. true≢false (sym (step.marks.1 (j, low, a)) ∙ c.if-step.false)) rest k) (rw more at finds k),
+      );
+      visits = visits_more c.args.visits.now l.visits c.step-step.new.visits i (size m) l.invariant.visits c.step-step.ensures.visits;
+      counted = omega (arith, c.step-step.ensures.counted, l.invariant.counted);
     }
 
 pub returns-clause-some : goal.returns-clause-some
@@ -85,4 +93,5 @@ returns-clause-some c =
     let m = c.args.automaton.now in
     let l = c.loop-byte in
     let past : drop l.byte-index c.args.text.now ≡ [] = drop_all l.byte-index c.args.text.now c.loop-byte-test.false in
-    iff_trans c.finish.ensures.some (iff_trans (some_last (half m) (AcceptsRow m l.self l.row)) (some_same (λ k. rw past at l.invariant.finds k)))
+    let (j, at, finds) = l.invariant.runs in
+    iff_trans (c.finish.ensures.some j at) (iff_trans (some_last (half m) (AcceptsRow m l.self j)) (some_same (λ k. rw past at finds k)))

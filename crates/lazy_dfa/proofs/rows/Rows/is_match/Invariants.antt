@@ -3,7 +3,7 @@ use Rattle.std.specs.Prelude.{◌↔◌}
 use Rattle.byte_nfa.specs.Runs.{size}
 use Rattle.byte_nfa.specs.Steps.{IsReached}
 use Rattle.byte_dfa.specs.inner.Building.{half}
-use Rattle.lazy_dfa.specs.inner.Rows.{IsSound, AcceptsRow, FindsBy}
+use Rattle.lazy_dfa.specs.inner.Rows.{IsSound, IsAt, AcceptsRow, FindsBy}
 use Rattle.lazy_dfa.proofs.rows.Rows.is_match.Given as goal
 
 abbrev pub invariant-loop-byte : goal.invariant-loop-byte
@@ -11,8 +11,7 @@ invariant-loop-byte l =
     let m = l.automaton in
     record {
       sound : IsSound m l.self;
-      row : l.row < length l.self.starts.items;
-      finds : (k : ℕ) → FindsBy (half m) (AcceptsRow m l.self l.row) (drop l.byte-index l.text) k ↔ FindsBy (half m) (IsReached m) l.text k;
+      runs : (i : ℕ) × IsAt l.self i l.place × ((k : ℕ) → FindsBy (half m) (AcceptsRow m l.self i) (drop l.byte-index l.text) k ↔ FindsBy (half m) (IsReached m) l.text k);
       visits : l.visits ≤ l.fn.visits + l.byte-index * size m;
       counted : l.fn.visits ≤ l.visits;
     }

@@ -50,6 +50,7 @@ returns-clause-sound c =
       lists = omega (arith, room.lists, c.push_within.ensures.capacity, c.extend_within.ensures.capacity);
       starts = room.starts;
       entries = room.entries;
+      width = room.width;
     }
 
 pub returns-then-capacity-place-clause-sound : goal.returns-then-capacity-place-clause-sound
@@ -64,4 +65,5 @@ returns-then-capacity-place-clause-sound c =
       lists = room.lists;
       starts = room.starts;
       entries = room.entries;
+      width = room.width;
     } c.requires.sound

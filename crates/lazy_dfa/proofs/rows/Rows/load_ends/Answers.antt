@@ -37,4 +37,5 @@ returns-clause-sound c =
       lists = room.lists;
       starts = room.starts;
       entries = room.entries;
+      width = room.width;
     } c.requires.sound

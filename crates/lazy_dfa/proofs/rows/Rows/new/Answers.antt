@@ -19,10 +19,12 @@ returns c =
         lists = omega (arith, c.state_count-states.ensures, c.in_ok-with_capacity-2.ensures.capacity, c.in-Some.ensures, c.max-listed.ensures, c.saturating_mul.ensures);
         starts = omega (arith, c.in_ok-with_capacity.ensures.capacity, c.max-rows.ensures);
         entries = omega (arith, one, c.in_ok-with_capacity-3.ensures.capacity, c.saturating_mul-3.ensures);
+        width = omega (arith, c.requires.few);
       };
       representatives = c.args.classes.now.representatives;
       classes = c.requires.division;
       few = omega (arith, starts);
+      small = omega (arith, entries);
       lists = λ i lt. absurd (omega (arith, starts));
       len = rw (starts, entries) (omega arith);
       known = λ i col lt hc some. absurd (omega (arith, starts));

@@ -26,6 +26,7 @@ returns-clause-sound c =
       lists = room.lists;
       starts = room.starts;
       entries = room.entries;
+      width = room.width;
     } c.requires.sound
 
 pub returns-clause-steps : goal.returns-clause-steps

@@ -15,6 +15,7 @@ returns-in-Some-clause-sound c =
       lists = room.lists;
       starts = room.starts;
       entries = room.entries;
+      width = room.width;
     } c.requires
 
 pub make_room-is_kept-requires : goal.make_room-is_kept-requires
@@ -29,6 +30,7 @@ make_room-is_kept-requires c =
       lists = room.lists;
       starts = room.starts;
       entries = room.entries;
+      width = room.width;
     } c.requires
 
 pub returns-clause-kept : goal.returns-clause-kept

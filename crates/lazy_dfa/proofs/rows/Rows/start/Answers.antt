@@ -5,10 +5,10 @@ use Rattle.lazy_dfa.proofs.lemmas.Rows.{same_sound, begun_sound}
 use Rattle.lazy_dfa.proofs.rows.Rows.start.Goals as goal
 
 pub returns-in-Some-clause-begins : goal.returns-in-Some-clause-begins
-returns-in-Some-clause-begins c = (c.requires.begins c.in-Some.row c.in-Some.is).1
+returns-in-Some-clause-begins c = c.requires.begins c.in-Some.place c.in-Some.is
 
-pub seek-place-requires : goal.seek-place-requires
-seek-place-requires c =
+pub seek-found-requires : goal.seek-found-requires
+seek-found-requires c =
     let room = c.requires.room in
     same_sound c.args.automaton.now c.args.self.now _ record { starts = refl; lists = refl; class_of = refl; class_count = refl } refl refl record {
       from = room.from;
@@ -19,16 +19,17 @@ seek-place-requires c =
       lists = room.lists;
       starts = room.starts;
       entries = room.entries;
+      width = room.width;
     } c.requires
 
 pub returns-clause-begins : goal.returns-clause-begins
-returns-clause-begins c = λ y k. iff_trans (iff_sym (c.seek-place.ensures.states y k)) (c.start.ensures.starts y k)
+returns-clause-begins c = (c.seek-found.result.row, (c.seek-found.ensures.row, c.place_of_row-place.ensures), λ y k. iff_trans (iff_sym (c.seek-found.ensures.states y k)) (c.start.ensures.starts y k))
 
 pub returns-clause-sound : goal.returns-clause-sound
 returns-clause-sound c =
-    let sound = c.seek-place.ensures.sound in
+    let sound = c.seek-found.ensures.sound in
     let room = sound.room in
-    begun_sound c.args.automaton.now c.seek-place.new.self _ record { starts = refl; lists = refl; class_of = refl; class_count = refl } refl record {
+    begun_sound c.args.automaton.now c.seek-found.new.self _ record { starts = refl; lists = refl; class_of = refl; class_count = refl } refl record {
       from = room.from;
       next = room.next;
       ends = room.ends;
@@ -37,6 +38,7 @@ returns-clause-sound c =
       lists = room.lists;
       starts = room.starts;
       entries = room.entries;
-    } (λ j at.
-    let same : c.seek-place.result.row ≡ j = cc in
-    (rw (sym same) c.seek-place.ensures.row, λ y k. rw (sym same) (iff_trans (iff_sym (c.seek-place.ensures.states y k)) (c.start.ensures.starts y k)))) sound
+      width = room.width;
+    } (λ p at.
+    let same : c.place_of_row-place.result ≡ p = cc in
+    rw (sym same) (c.seek-found.result.row, (c.seek-found.ensures.row, c.place_of_row-place.ensures), λ y k. iff_trans (iff_sym (c.seek-found.ensures.states y k)) (c.start.ensures.starts y k))) sound

@@ -14,4 +14,5 @@ returns-clause-sound c =
       lists = room.lists;
       starts = room.starts;
       entries = room.entries;
+      width = room.width;
     } c.requires.row c.requires.column c.requires.entry c.requires.sound
