@@ -19,7 +19,8 @@ use visits::Visits;
 /// A cache is made for one automaton. Contracts see it as the automaton that this was made from: what earlier calls left has no
 /// effect on an answer.
 pub struct Cache {
-    rows: Rows,
+    // In a box, since a cache is moved from call to call while a searcher is made.
+    rows: Box<Rows>,
     made_for: Snapshot<LazyDfa>,
 }
 
@@ -38,7 +39,7 @@ impl Model for Cache {
 
     ghost view = { λ c. c.made_for.value };
 
-    ghost invariant = { λ c. IsCacheOf c.made_for.value c.rows };
+    ghost invariant = { λ c. IsCacheOf c.made_for.value c.rows.value };
 }
 
 impl Cache {
@@ -49,8 +50,9 @@ impl Cache {
     pub fn new(alloc: Global, dfa: &LazyDfa, bytes: usize) -> Result<Cache, AllocError>
         ensures { IfOk result (λ cache. cache ≡ dfa.now) }
     {
+        let rows = Rows::new(alloc, &dfa.automaton, &dfa.classes, bytes)?;
         Ok(Cache {
-            rows: Rows::new(alloc, &dfa.automaton, &dfa.classes, bytes)?,
+            rows: Box::new(alloc, rows)?,
             made_for: Snapshot::of(dfa),
         })
     }

@@ -1,11 +1,12 @@
 //! Globs that no text decides: automata of their tokens.
 
-ghost use Rattle.std.specs.Prelude.{◌≡◌, ◌+◌, ◌*◌, ◌<◌, ◌≤◌, ◌++◌, ◌∷◌, ◌↔◌, ◌⊎◌, [], ℕ, List, length, true, false, IsTrue, IsOk, OnOk, IfOk, IfSome, cond};
+ghost use Rattle.std.specs.Prelude.{◌≡◌, ◌+◌, ◌*◌, ◌<◌, ◌≤◌, ◌++◌, ◌∷◌, ◌↔◌, [], ℕ, List, length, true, false, IsTrue, IsOk, OnOk, IfOk, IfSome, cond};
 ghost use Rattle.std.specs.Str.{bytes_eq};
 ghost use Rattle.byte_nfa.specs.Runs.{size, max_reads};
 ghost use Rattle.bit_sets.specs.Indexes.{has_index, index_capacity};
 ghost use Rattle.nfa_simulation.specs.Sets.{sets_capacity};
-ghost use Rattle.glob_nfa.specs.IndexedTokens.{IndexedTokens, IsFor, SomeMatches, indexed};
+ghost use Rattle.glob_nfa.specs.IndexedTokens.{IndexedTokens, IsFor, indexed};
+ghost use Rattle.glob_matching.specs.Matching.{AddsMatches, TellsMatch};
 ghost use Rattle.glob_path.specs.PathParts.{component_extension, last_component};
 ghost use Rattle.glob_syntax.specs.FlatTokens.{IsNested};
 ghost use Rattle.glob_syntax.specs.Views.{flats, tokens_of};
@@ -245,7 +246,7 @@ fn run_by_path(
     requires count { automaton.now.index_count ≤ index_capacity sets.old.marks }
     requires cache { IfSome cache.old (λ c. c ≡ automaton.now) }
     ensures cache { cache.new ≡ cache.old }
-    ensures found { OnOk result ((xs : List IndexedTokens) → IsFor automaton.now xs → (k : ℕ) → IsTrue (has_index sets.new.marks k) ↔ (SomeMatches xs path.now k ⊎ IsTrue (has_index sets.old.marks k))) }
+    ensures found { OnOk result (AddsMatches automaton.now path.now sets.old.marks sets.new.marks) }
     ensures kept { KeepsCapacity sets.old sets.new }
     ensures memory { size automaton.now ≤ sets_capacity sets.old.states → IsOk result }
     ensures visits { visits.new ≤ visits.old + (length path.now + 1) * max_reads automaton.now }
@@ -267,7 +268,7 @@ fn is_match_by_path(
 ) -> Result<bool, AllocError>
     requires { IfSome cache.old (λ c. c ≡ automaton.now) }
     ensures cache { cache.new ≡ cache.old }
-    ensures some { IfOk result (λ yes. (xs : List IndexedTokens) → IsFor automaton.now xs → IsTrue yes ↔ ((k : ℕ) × SomeMatches xs path.now k)) }
+    ensures some { IfOk result (TellsMatch automaton.now path.now) }
     ensures kept { sets_capacity sets.old ≤ sets_capacity sets.new }
     ensures memory { size automaton.now ≤ sets_capacity sets.old → IsOk result }
     ensures visits { visits.new ≤ visits.old + (length path.now + 1) * max_reads automaton.now }
@@ -291,7 +292,7 @@ fn run_by_component(
     requires count { automaton.now.index_count ≤ index_capacity sets.old.marks }
     requires cache { IfSome cache.old (λ c. c ≡ automaton.now) }
     ensures cache { cache.new ≡ cache.old }
-    ensures found { OnOk result ((xs : List IndexedTokens) → IsFor automaton.now xs → (k : ℕ) → IsTrue (has_index sets.new.marks k) ↔ (SomeMatches xs (last_component path.now) k ⊎ IsTrue (has_index sets.old.marks k))) }
+    ensures found { OnOk result (AddsMatches automaton.now (last_component path.now) sets.old.marks sets.new.marks) }
     ensures kept { KeepsCapacity sets.old sets.new }
     ensures memory { size automaton.now ≤ sets_capacity sets.old.states → IsOk result }
     ensures visits { visits.new ≤ visits.old + (length path.now + 1) * max_reads automaton.now }
@@ -314,7 +315,7 @@ fn is_match_by_component(
 ) -> Result<bool, AllocError>
     requires { IfSome cache.old (λ c. c ≡ automaton.now) }
     ensures cache { cache.new ≡ cache.old }
-    ensures some { IfOk result (λ yes. (xs : List IndexedTokens) → IsFor automaton.now xs → IsTrue yes ↔ ((k : ℕ) × SomeMatches xs (last_component path.now) k)) }
+    ensures some { IfOk result (TellsMatch automaton.now (last_component path.now)) }
     ensures kept { sets_capacity sets.old ≤ sets_capacity sets.new }
     ensures memory { size automaton.now ≤ sets_capacity sets.old → IsOk result }
     ensures visits { visits.new ≤ visits.old + (length path.now + 1) * max_reads automaton.now }
@@ -336,7 +337,7 @@ fn run_by_extension(
     visits: &mut Visits,
 ) -> Result<(), AllocError>
     requires { automaton.now.index_count ≤ index_capacity sets.old.marks }
-    ensures found { OnOk result ((xs : List IndexedTokens) → IsFor automaton.now xs → (k : ℕ) → IsTrue (has_index sets.new.marks k) ↔ (SomeMatches xs (before_extension path.now) k ⊎ IsTrue (has_index sets.old.marks k))) }
+    ensures found { OnOk result (AddsMatches automaton.now (before_extension path.now) sets.old.marks sets.new.marks) }
     ensures kept { KeepsCapacity sets.old sets.new }
     ensures memory { size automaton.now ≤ sets_capacity sets.old.states → IsOk result }
     ensures visits { visits.new ≤ visits.old + (length path.now + 1) * max_reads automaton.now }
@@ -356,7 +357,7 @@ fn is_match_by_extension(
     sets: &mut StateSets,
     visits: &mut Visits,
 ) -> Result<bool, AllocError>
-    ensures some { IfOk result (λ yes. (xs : List IndexedTokens) → IsFor automaton.now xs → IsTrue yes ↔ ((k : ℕ) × SomeMatches xs (before_extension path.now) k)) }
+    ensures some { IfOk result (TellsMatch automaton.now (before_extension path.now)) }
     ensures kept { sets_capacity sets.old ≤ sets_capacity sets.new }
     ensures memory { size automaton.now ≤ sets_capacity sets.old → IsOk result }
     ensures visits { visits.new ≤ visits.old + (length path.now + 1) * max_reads automaton.now }

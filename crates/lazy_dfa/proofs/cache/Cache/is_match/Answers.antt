@@ -12,7 +12,7 @@ is_match-requires c =
     let (m, early, sound) = c.self.invariant in
     let source : c.self.inside.made_for.value ≡ c.dfa.inside.source.value = cc in
     let same : m ≡ c.dfa.inside.automaton = one_automaton c.dfa.inside.source.value m c.dfa.inside.automaton (subst (λ s. EndsAtEarlyMatches s m) source early) c.dfa.invariant.early in
-    subst (λ a. IsSound a c.self.inside.rows) same sound
+    subst (λ a. IsSound a c.deref_mut.result.now) same (subst (IsSound m) (sym c.deref_mut.ensures.value) sound)
 
 pub returns-clause-some : goal.returns-clause-some
 returns-clause-some c =

@@ -1,4 +1,4 @@
-use Rattle.std.proofs.Common.{◌≡◌, sym}
+use Rattle.std.proofs.Common.{sym}
 use Rattle.lazy_dfa.proofs.rows.Rows.finish.Goals as goal
 
 pub finish_row-requires-clause-row : goal.finish_row-requires-clause-row

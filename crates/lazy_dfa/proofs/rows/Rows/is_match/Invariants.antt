@@ -1,4 +1,4 @@
-use Rattle.std.proofs.Common.{ℕ, ◌+◌, ◌*◌, ◌<◌, ◌≤◌, drop, length}
+use Rattle.std.proofs.Common.{ℕ, ◌+◌, ◌*◌, ◌≤◌, drop}
 use Rattle.std.specs.Prelude.{◌↔◌}
 use Rattle.byte_nfa.specs.Runs.{size}
 use Rattle.byte_nfa.specs.Steps.{IsReached}
