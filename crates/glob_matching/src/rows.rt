@@ -138,6 +138,11 @@ impl RowSource {
 }
 
 impl RowCache {
+    /// Returns how many bytes its rows may take.
+    pub fn bytes(&self) -> usize {
+        self.cache.bytes()
+    }
+
     /// Returns whether a filter should be asked before rows.
     pub fn asks_filter(&mut self) -> bool
         ensures { self.new ≡ self.old }

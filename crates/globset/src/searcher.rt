@@ -13,6 +13,7 @@ use globset_glob::{Candidate, Error, Visits};
 use globset_set::StoredSearcher;
 use std::alloc::Global;
 use std::marker::Model;
+use std::mem;
 
 /// A [`GlobSet`], with all the memory that one thread needs to match paths with it. That is taken when the searcher is made: no
 /// other call takes any, and none of them can fail.
@@ -93,6 +94,21 @@ impl Searcher {
         ensures { result.now ≡ self.now.set }
     {
         &self.set
+    }
+
+    /// Returns how many bytes of memory its indexes take, and the parts of tables that it may keep from one path to the next. Beside
+    /// these it takes a few bits for each glob, and for each state of the largest automaton of the set.
+    ///
+    /// A searcher takes its memory when it is made, and no more later.
+    pub fn bytes(&self) -> usize {
+        let indexes = self
+            .found
+            .capacity()
+            .saturating_mul(mem::size_of::<usize>());
+        match &self.stored {
+            Some(stored) => indexes.saturating_add(stored.row_bytes()),
+            None => indexes,
+        }
     }
 
     /// Returns whether some glob that is not excluded matches the candidate's path, as [`GlobSet::is_match_candidate`] does.

@@ -64,6 +64,11 @@ impl StoredSearcher {
         })
     }
 
+    /// Returns how many bytes the rows may take that automata keep.
+    pub fn row_bytes(&self) -> usize {
+        self.caches.bytes()
+    }
+
     /// Replaces the vector's items by the indexes, ascending, of the globs that are not excluded and match the path. The vector has to
     /// have a capacity for all indexes.
     pub fn find(&mut self, path: &Candidate<'_>, into: &mut Vec<usize>, visits: &mut Visits)

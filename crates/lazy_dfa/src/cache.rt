@@ -57,6 +57,11 @@ impl Cache {
         })
     }
 
+    /// Returns how many bytes its rows may take. Beside these it takes a few bits for each state and for each index.
+    pub fn bytes(&self) -> usize {
+        self.rows.bytes()
+    }
+
     /// Puts the index of each end that a text leads to into a set, beside what it holds.
     ///
     /// An entry that is there is one visit. Where there is none yet, each state of the automaton is read at most once, and is one

@@ -17,6 +17,7 @@ use byte_dfa::{ByteClasses, put_listed};
 use byte_nfa::Draft;
 use std::alloc::{AllocError, Global};
 use std::hash::{FoldHasher, Hasher};
+use std::mem;
 use visits::Visits;
 
 /// An entry that is not known.
@@ -146,6 +147,23 @@ impl Rows {
             list: Vec::with_capacity(alloc, states)?,
             told: Vec::with_capacity(alloc, automaton.index_count())?,
         })
+    }
+
+    /// Returns how many bytes the rows may take, their lists of states, and the table by which they are found.
+    pub fn bytes(&self) -> usize {
+        let entries = self
+            .entries
+            .capacity()
+            .saturating_add(self.table.capacity());
+        let numbers = self
+            .starts
+            .capacity()
+            .saturating_add(self.lists.capacity())
+            .saturating_add(self.list.capacity())
+            .saturating_add(self.told.capacity());
+        entries
+            .saturating_mul(mem::size_of::<u32>())
+            .saturating_add(numbers.saturating_mul(mem::size_of::<usize>()))
     }
 
     /// Returns the place of the row that a run begins in.

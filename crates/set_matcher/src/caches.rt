@@ -34,4 +34,15 @@ impl Caches {
             by_component: None,
         }
     }
+    /// Returns how many bytes the rows may take.
+    pub fn bytes(&self) -> usize {
+        let mut bytes: usize = 0;
+        if let Some(cache) = &self.by_path {
+            bytes = bytes.saturating_add(cache.bytes());
+        }
+        if let Some(cache) = &self.by_component {
+            bytes = bytes.saturating_add(cache.bytes());
+        }
+        bytes
+    }
 }
