@@ -3,11 +3,10 @@
 ghost use Rattle.std.specs.Prelude.{◌≡◌, ◌↔◌, ℕ, IsTrue, List, ◌++◌, ◌∷◌, [], OnOk, OnErr, IfOk};
 ghost use Rattle.key_table.specs.Entries.{entry};
 
-use crate::directory::directory_of;
+use crate::arranged::{Arranged, arrange};
 use crate::ends::ends_of;
 use crate::keys::hash;
-use crate::pairs::{Pair, indexes_of, sort};
-use crate::rows::rows_of;
+use crate::pairs::{Pair, indexes_of};
 use crate::table::Table;
 use std::alloc::{AllocError, Global};
 use std::marker::Model;
@@ -36,7 +35,7 @@ impl Model for TableBuilder {
 
     ghost view = { λ b. entries_of b.bytes.items b.pairs.items };
 
-    ghost invariant = { λ b. All (IsKept b.bytes.items) b.pairs.items };
+    ghost invariant = { λ b. All (IsKept 0 b.bytes.items) b.pairs.items };
 }
 
 impl TableBuilder {
@@ -77,7 +76,7 @@ impl TableBuilder {
         let start = self.bytes.len();
         self.bytes.extend_from_slice(key)?;
         self.pairs.push(Pair {
-            hash: hash(key),
+            hash: hash(0, key),
             start,
             end: self.bytes.len(),
             index,
@@ -92,17 +91,17 @@ impl TableBuilder {
         ensures { IfOk result (λ table. table ≡ self) }
     {
         let entries = Snapshot::of(&self);
-        let TableBuilder {
-            mut bytes,
-            mut pairs,
-        } = self;
+        let TableBuilder { mut bytes, pairs } = self;
         let alloc = *bytes.allocator();
         bytes.shrink_to_fit();
-        sort(&bytes, &mut pairs)?;
-        let rows = rows_of(alloc, &bytes, &pairs)?;
+        let Arranged {
+            seed,
+            pairs,
+            rows,
+            directory,
+        } = arrange(alloc, &bytes, pairs)?;
         let indexes = indexes_of(alloc, &pairs)?;
         let ends = ends_of(&bytes, &rows);
-        let directory = directory_of(alloc, &rows)?;
-        Ok(Table::of(bytes, rows, ends, directory, indexes, entries))
+        Ok(Table::of(bytes, seed, rows, ends, directory, indexes, entries))
     }
 }

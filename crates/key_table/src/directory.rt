@@ -40,6 +40,16 @@ impl Directory {
         let to = self.starts[bucket + 1] as usize;
         part(rows, from, to)
     }
+
+    /// Returns whether a bucket has more rows than are compared in turn.
+    pub(crate) fn is_crowded(&self) -> bool {
+        for next in 1..self.starts.len() {
+            if self.starts[next].saturating_sub(self.starts[next - 1]) as usize > FEW {
+                return true;
+            }
+        }
+        false
+    }
 }
 
 /// Makes the directory of rows that are sorted by their hashes: two to four buckets for each row. Returns an error if memory runs out.

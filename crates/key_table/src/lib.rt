@@ -4,6 +4,7 @@
 //! copied for it, and is one visit. However the keys are chosen, it compares few of them.
 #![tactic(auto)]
 
+mod arranged;
 mod builder;
 mod directory;
 mod ends;
