@@ -95,13 +95,12 @@ impl TableBuilder {
         let alloc = *bytes.allocator();
         bytes.shrink_to_fit();
         let Arranged {
-            seed,
             pairs,
             rows,
             directory,
         } = arrange(alloc, &bytes, pairs)?;
         let indexes = indexes_of(alloc, &pairs)?;
         let ends = ends_of(&bytes, &rows);
-        Ok(Table::of(bytes, seed, rows, ends, directory, indexes, entries))
+        Ok(Table::of(bytes, rows, ends, directory, indexes, entries))
     }
 }

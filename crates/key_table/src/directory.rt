@@ -8,9 +8,12 @@ use crate::parts::part;
 use crate::rows::{FEW, Row};
 use std::alloc::{AllocError, Global};
 
-/// For each bucket, how many rows are in lower buckets. With no such numbers each row may be in each bucket.
+/// The seed of the rows' hashes, and for each bucket how many rows are in lower buckets.
+///
+/// With no such numbers each row may be in each bucket.
 #[derive(Drop)]
 pub(crate) struct Directory {
+    pub(crate) seed: u64,
     pub(crate) shift: u32,
     pub(crate) starts: Vec<u32>,
     ghost in_range: { shift < 32 },
@@ -18,10 +21,12 @@ pub(crate) struct Directory {
 
 impl Directory {
     /// Returns a directory that knows no buckets, which takes no memory.
-    pub(crate) fn new(alloc: Global) -> Directory
-        ensures { result.starts.items ≡ [] }
+    pub(crate) fn new(alloc: Global, seed: u64) -> Directory
+        ensures seed { result.seed ≡ seed }
+        ensures starts { result.starts.items ≡ [] }
     {
         Directory {
+            seed,
             shift: 0,
             starts: Vec::new(alloc),
         }
@@ -52,22 +57,28 @@ impl Directory {
     }
 }
 
-/// Makes the directory of rows that are sorted by their hashes: two to four buckets for each row. Returns an error if memory runs out.
-pub(crate) fn directory_of(alloc: Global, rows: &[Row]) -> Result<Directory, AllocError>
+/// Makes the directory of rows that are sorted by their hashes, which have a seed: two to four buckets for each row.
+///
+/// Returns an error if memory runs out.
+pub(crate) fn directory_of(alloc: Global, seed: u64, rows: &[Row]) -> Result<Directory, AllocError>
     requires { IsNonDecreasing (hashes_of rows.now) }
-    ensures { IfOk result (λ d. HasStarts rows.now d.shift d.starts.items) }
+    ensures { IfOk result (λ d. (d.seed ≡ seed) × HasStarts rows.now d.shift d.starts.items) }
 {
     // Few rows are compared without a hash. Rows that 32 bits cannot count are searched by halves.
     if rows.len() <= FEW {
-        return Ok(Directory::new(alloc));
+        return Ok(Directory::new(alloc, seed));
     }
     let Ok(count) = u32::try_from(rows.len()) else {
-        return Ok(Directory::new(alloc));
+        return Ok(Directory::new(alloc, seed));
     };
     let shift = count.saturating_mul(2).leading_zeros();
     let buckets = buckets_of(alloc, rows, shift)?;
     let starts = starts_of(alloc, &buckets, (u32::MAX >> shift) as usize + 2)?;
-    Ok(Directory { shift, starts })
+    Ok(Directory {
+        seed,
+        shift,
+        starts,
+    })
 }
 
 /// Returns each row's bucket.

@@ -89,20 +89,17 @@ pub(crate) fn rows_of(
 /// How many rows are compared in turn. So few rows are compared without a hash.
 pub(crate) const FEW: usize = 8;
 
-/// Finds the row with a key, by the keys' ends, a directory and the seed of the rows' hashes.
-///
-/// Each comparison with a row's key is counted.
+/// Finds the row with a key, by the keys' ends and a directory. Each comparison with a row's key is counted.
 pub(crate) fn find(
     bytes: &[u8],
-    seed: u64,
     rows: &[Row],
     ends: &Ends,
     directory: &Directory,
     key: &[u8],
     compared: &mut Visits,
 ) -> Option<Row>
-    requires hashed { All (IsHashed seed bytes.now) rows.now }
-    requires sorted { IsSortedBy (row_below seed bytes.now) rows.now }
+    requires hashed { All (IsHashed directory.now.seed bytes.now) rows.now }
+    requires sorted { IsSortedBy (row_below directory.now.seed bytes.now) rows.now }
     requires ends { HasEnds bytes.now rows.now ends.now }
     requires starts { HasStarts rows.now directory.now.shift directory.now.starts.items }
     ensures row { MatchOption result (HasNoRow bytes.now rows.now key.now) (λ r. Contains rows.now r × (row_key bytes.now r ≡ key.now)) }
@@ -115,12 +112,12 @@ pub(crate) fn find(
     if rows.len() <= FEW {
         return scan(bytes, rows, key, compared);
     }
-    let hash = hash(seed, key);
+    let hash = hash(directory.seed, key);
     let near = directory.near(rows, hash);
     if near.len() <= FEW {
         return scan(bytes, near, key, compared);
     }
-    search(bytes, seed, near, hash, key, compared)
+    search(bytes, directory.seed, near, hash, key, compared)
 }
 
 /// Finds the row with a key by comparing each row.

@@ -18,7 +18,6 @@ use visits::Visits;
 /// Indexes under byte keys: under each key those that were added with it, in the order in which they were added.
 pub struct Table {
     bytes: Vec<u8>,
-    seed: u64,
     rows: Vec<Row>,
     ends: Ends,
     directory: Directory,
@@ -31,7 +30,6 @@ impl Drop for Table {
     fn drop(self) {
         let Table {
             bytes: _,
-            seed: _,
             rows: _,
             ends: _,
             directory: _,
@@ -50,21 +48,20 @@ impl Model for Table {
 
     ghost view = { λ t. t.entries.value };
 
-    ghost invariant = { λ t. AreParts t.seed t.bytes.items t.rows.items t.ends t.directory.shift t.directory.starts.items t.indexes.items t.entries.value };
+    ghost invariant = { λ t. AreParts t.directory.seed t.bytes.items t.rows.items t.ends t.directory.shift t.directory.starts.items t.indexes.items t.entries.value };
 }
 
 impl Table {
     /// Returns the table of a builder's entries.
     pub(crate) fn of(
         bytes: Vec<u8>,
-        seed: u64,
         rows: Vec<Row>,
         ends: Ends,
         directory: Directory,
         indexes: Vec<usize>,
         entries: Snapshot<TableBuilder>,
     ) -> Table
-        requires rows { HasRows seed bytes.items rows.items indexes.items entries.value }
+        requires rows { HasRows directory.seed bytes.items rows.items indexes.items entries.value }
         requires ends { HasEnds bytes.items rows.items ends }
         requires starts { HasStarts rows.items directory.shift directory.starts.items }
         requires counted { length indexes.items ≡ length entries.value }
@@ -72,7 +69,6 @@ impl Table {
     {
         Table {
             bytes,
-            seed,
             rows,
             ends,
             directory,
@@ -96,7 +92,6 @@ impl Table {
         visits.tick();
         match find(
             &self.bytes,
-            self.seed,
             &self.rows,
             &self.ends,
             &self.directory,

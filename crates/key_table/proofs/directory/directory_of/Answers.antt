@@ -1,3 +1,4 @@
+use Rattle.std.proofs.Common.{refl}
 use Rattle.key_table.proofs.lemmas.Starts.{buckets_rise}
 use Rattle.key_table.proofs.directory.directory_of.Goals as goal
 
@@ -7,4 +8,4 @@ starts_of-requires-clause-sorted c = rw (c.deref.ensures.value, c.in_ok-buckets.
 pub returns : goal.returns
 returns c =
     let made = rw (c.deref.ensures.value, c.in_ok-buckets.ensures) at c.in_ok-starts.ensures in
-    record { at = made }
+    (refl, record { at = made })
