@@ -1,4 +1,5 @@
 pub mod Automata
+pub mod PathPart
 pub mod Below
 pub mod Given
 pub mod SetMatcher

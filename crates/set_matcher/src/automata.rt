@@ -12,6 +12,7 @@ ghost use Rattle.glob_syntax.specs.FlatTokens.{IsNested};
 ghost use Rattle.glob_syntax.specs.Views.{flats, tokens_of};
 ghost use Rattle.glob_syntax.specs.inner.Weight.{weight};
 ghost use Rattle.set_matcher.specs.inner.Caches.{AreCachesOf};
+ghost use Rattle.set_matcher.specs.inner.PathPart.{part_of};
 ghost use Rattle.set_matcher.specs.inner.Capacity.{HasCapacity, KeepsCapacity};
 ghost use Rattle.set_matcher.specs.inner.Automata.{AddsTokens, AreFor, AreForLists, AreFound, AreIdle, IsFoundSet, TokenLists, before_extension, machine_under, max_size, max_states, reads_for, states_for, tokens_under, total_reads};
 
@@ -155,15 +156,30 @@ impl Automata {
             return Ok(false);
         }
         sets.clear_marks(self.index_count())?;
-        run_by_path(&self.by_path, path, sets, &mut caches.by_path, visits)?;
-        run_by_component(
+        run(
+            Part::Path,
+            &self.by_path,
+            path,
+            sets,
+            &mut caches.by_path,
+            visits,
+        )?;
+        run(
+            Part::LastComponent,
             &self.by_component,
             path,
             sets,
             &mut caches.by_component,
             visits,
         )?;
-        run_by_extension(by_extension, path, sets, visits)?;
+        run(
+            Part::BeforeExtension,
+            by_extension,
+            path,
+            sets,
+            &mut None,
+            visits,
+        )?;
         Ok(true)
     }
 
@@ -186,7 +202,8 @@ impl Automata {
         ensures visits { visits.new ≤ visits.old + (1 + (length path.now + 1) * reads_for self.now path.now) }
         ensures counted { visits.old ≤ visits.new }
     {
-        if is_match_by_path(
+        if matches_part(
+            Part::Path,
             &self.by_path,
             path.path(),
             sets,
@@ -195,7 +212,8 @@ impl Automata {
         )? {
             return Ok(true);
         }
-        if is_match_by_component(
+        if matches_part(
+            Part::LastComponent,
             &self.by_component,
             path.path(),
             sets,
@@ -205,7 +223,14 @@ impl Automata {
             return Ok(true);
         }
         let by_extension = self.by_extension(path, visits);
-        is_match_by_extension(by_extension, path.path(), sets, visits)
+        matches_part(
+            Part::BeforeExtension,
+            by_extension,
+            path.path(),
+            sets,
+            &mut None,
+            visits,
+        )
     }
 
     /// Returns the automaton of the extension of the path's last component, or one without states if it has none. The extension
@@ -235,8 +260,31 @@ impl Automata {
     }
 }
 
-/// Marks the indexes of the globs that the whole path matches, beside those that are marked.
-fn run_by_path(
+/// A part of a path that an automaton is run on.
+#[derive(Clone, Copy)]
+enum Part {
+    Path,
+    LastComponent,
+    BeforeExtension,
+}
+
+impl Part {
+    /// Returns the part's bytes. It searches no byte of the path for them that lies before the part's last component.
+    fn of(self, path: &[u8]) -> &[u8]
+        ensures { result.now ≡ part_of self path.now }
+    {
+        match self {
+            Part::Path => path,
+            Part::LastComponent => last_component_of(&Candidate::from_bytes(path)),
+            Part::BeforeExtension => before_extension(path),
+        }
+    }
+}
+
+/// Marks the indexes of the globs whose tokens match a part of the path, beside those that are marked. The part is only searched
+/// for if there are states.
+fn run(
+    part: Part,
     automaton: &Compiled,
     path: &[u8],
     sets: &mut MatchingSets,
@@ -246,7 +294,7 @@ fn run_by_path(
     requires count { automaton.now.index_count ≤ index_capacity sets.old.marks }
     requires cache { IfSome cache.old (λ c. c ≡ automaton.now) }
     ensures cache { cache.new ≡ cache.old }
-    ensures found { OnOk result (AddsMatches automaton.now path.now sets.old.marks sets.new.marks) }
+    ensures found { OnOk result (AddsMatches automaton.now (part_of part path.now) sets.old.marks sets.new.marks) }
     ensures kept { KeepsCapacity sets.old sets.new }
     ensures memory { size automaton.now ≤ sets_capacity sets.old.states → IsOk result }
     ensures visits { visits.new ≤ visits.old + (length path.now + 1) * max_reads automaton.now }
@@ -255,11 +303,13 @@ fn run_by_path(
     if automaton.state_count() == 0 {
         return Ok(());
     }
-    automaton.find_with(path, &mut sets.states, cache, &mut sets.marks, visits)
+    let text = part.of(path);
+    automaton.find_with(text, &mut sets.states, cache, &mut sets.marks, visits)
 }
 
-/// Returns whether the whole path matches tokens.
-fn is_match_by_path(
+/// Returns whether a part of the path matches tokens. The part is only searched for if there are states.
+fn matches_part(
+    part: Part,
     automaton: &Compiled,
     path: &[u8],
     sets: &mut StateSets,
@@ -268,7 +318,7 @@ fn is_match_by_path(
 ) -> Result<bool, AllocError>
     requires { IfSome cache.old (λ c. c ≡ automaton.now) }
     ensures cache { cache.new ≡ cache.old }
-    ensures some { IfOk result (TellsMatch automaton.now path.now) }
+    ensures some { IfOk result (TellsMatch automaton.now (part_of part path.now)) }
     ensures kept { sets_capacity sets.old ≤ sets_capacity sets.new }
     ensures memory { size automaton.now ≤ sets_capacity sets.old → IsOk result }
     ensures visits { visits.new ≤ visits.old + (length path.now + 1) * max_reads automaton.now }
@@ -277,97 +327,8 @@ fn is_match_by_path(
     if automaton.state_count() == 0 {
         return Ok(false);
     }
-    automaton.is_match_with(path, sets, cache, visits)
-}
-
-/// Marks the indexes of the globs that the path's last component matches, beside those that are marked. The component is only
-/// searched for if there are states.
-fn run_by_component(
-    automaton: &Compiled,
-    path: &[u8],
-    sets: &mut MatchingSets,
-    cache: &mut Option<RowCache>,
-    visits: &mut Visits,
-) -> Result<(), AllocError>
-    requires count { automaton.now.index_count ≤ index_capacity sets.old.marks }
-    requires cache { IfSome cache.old (λ c. c ≡ automaton.now) }
-    ensures cache { cache.new ≡ cache.old }
-    ensures found { OnOk result (AddsMatches automaton.now (last_component path.now) sets.old.marks sets.new.marks) }
-    ensures kept { KeepsCapacity sets.old sets.new }
-    ensures memory { size automaton.now ≤ sets_capacity sets.old.states → IsOk result }
-    ensures visits { visits.new ≤ visits.old + (length path.now + 1) * max_reads automaton.now }
-    ensures counted { visits.old ≤ visits.new }
-{
-    if automaton.state_count() == 0 {
-        return Ok(());
-    }
-    let component = last_component_of(&Candidate::from_bytes(path));
-    automaton.find_with(component, &mut sets.states, cache, &mut sets.marks, visits)
-}
-
-/// Returns whether the path's last component matches tokens. It is only searched for if there are states.
-fn is_match_by_component(
-    automaton: &Compiled,
-    path: &[u8],
-    sets: &mut StateSets,
-    cache: &mut Option<RowCache>,
-    visits: &mut Visits,
-) -> Result<bool, AllocError>
-    requires { IfSome cache.old (λ c. c ≡ automaton.now) }
-    ensures cache { cache.new ≡ cache.old }
-    ensures some { IfOk result (TellsMatch automaton.now (last_component path.now)) }
-    ensures kept { sets_capacity sets.old ≤ sets_capacity sets.new }
-    ensures memory { size automaton.now ≤ sets_capacity sets.old → IsOk result }
-    ensures visits { visits.new ≤ visits.old + (length path.now + 1) * max_reads automaton.now }
-    ensures counted { visits.old ≤ visits.new }
-{
-    if automaton.state_count() == 0 {
-        return Ok(false);
-    }
-    let component = last_component_of(&Candidate::from_bytes(path));
-    automaton.is_match_with(component, sets, cache, visits)
-}
-
-/// Marks the indexes of the globs whose tokens match the path before its extension, beside those that are marked. The extension
-/// is only searched for if there are states.
-fn run_by_extension(
-    automaton: &Compiled,
-    path: &[u8],
-    sets: &mut MatchingSets,
-    visits: &mut Visits,
-) -> Result<(), AllocError>
-    requires { automaton.now.index_count ≤ index_capacity sets.old.marks }
-    ensures found { OnOk result (AddsMatches automaton.now (before_extension path.now) sets.old.marks sets.new.marks) }
-    ensures kept { KeepsCapacity sets.old sets.new }
-    ensures memory { size automaton.now ≤ sets_capacity sets.old.states → IsOk result }
-    ensures visits { visits.new ≤ visits.old + (length path.now + 1) * max_reads automaton.now }
-    ensures counted { visits.old ≤ visits.new }
-{
-    if automaton.state_count() == 0 {
-        return Ok(());
-    }
-    let text = before_extension(path);
-    automaton.find(text, &mut sets.states, &mut sets.marks, visits)
-}
-
-/// Returns whether the path before its extension matches tokens. The extension is only searched for if there are states.
-fn is_match_by_extension(
-    automaton: &Compiled,
-    path: &[u8],
-    sets: &mut StateSets,
-    visits: &mut Visits,
-) -> Result<bool, AllocError>
-    ensures some { IfOk result (TellsMatch automaton.now (before_extension path.now)) }
-    ensures kept { sets_capacity sets.old ≤ sets_capacity sets.new }
-    ensures memory { size automaton.now ≤ sets_capacity sets.old → IsOk result }
-    ensures visits { visits.new ≤ visits.old + (length path.now + 1) * max_reads automaton.now }
-    ensures counted { visits.old ≤ visits.new }
-{
-    if automaton.state_count() == 0 {
-        return Ok(false);
-    }
-    let text = before_extension(path);
-    automaton.is_match(text, sets, visits)
+    let text = part.of(path);
+    automaton.is_match_with(text, sets, cache, visits)
 }
 
 /// Returns the bytes of a path before the extension of its last component.

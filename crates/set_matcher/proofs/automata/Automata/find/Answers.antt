@@ -42,60 +42,60 @@ returns-clause-found c = λ on. record {
       let last = ap size c.by_extension-by_extension.ensures.automaton in
       let some : (size c.args.self.now.by_path + (size c.args.self.now.by_component + size c.by_extension-by_extension.result.now) ≡ 0) → ⊥ = (λ nil. true≢false (sym (c.is_idle.ensures.1 nil) ∙ c.if-is_idle.false)) in
       omega (arith, last, same, some);
-  room = omega (arith, c.in_ok-clear_marks.ensures.room, c.index_count.ensures, c.in_ok-run_by_path.ensures.kept.indexes, c.in_ok-run_by_component.ensures.kept.indexes, c.in_ok-run_by_extension.ensures.kept.indexes);
+  room = omega (arith, c.in_ok-clear_marks.ensures.room, c.index_count.ensures, c.in_ok-run.ensures.kept.indexes, c.in_ok-run-2.ensures.kept.indexes, c.in_ok-run-3.ensures.kept.indexes);
   same = λ t are k.
       let extension_tokens = tokens_under t.by_slot c.args.self.now.extensions.matchers (component_extension c.args.path.now) in
-      let one = c.in_ok-run_by_path.ensures.found t.by_path (subst (λ (a : AutomataParts). IsFor a.by_path t.by_path) (sym c.self.view_is) are.path) k in
-      let two = c.in_ok-run_by_component.ensures.found t.by_component (subst (λ (a : AutomataParts). IsFor a.by_component t.by_component) (sym c.self.view_is) are.component) k in
+      let one = c.in_ok-run.ensures.found t.by_path (subst (λ (a : AutomataParts). IsFor a.by_path t.by_path) (sym c.self.view_is) are.path) k in
+      let two = c.in_ok-run-2.ensures.found t.by_component (subst (λ (a : AutomataParts). IsFor a.by_component t.by_component) (sym c.self.view_is) are.component) k in
       let are_for = subst (λ p. IsFor c.by_extension-by_extension.result.now (tokens_under t.by_slot c.args.self.now.extensions.matchers (component_extension p))) c.from_bytes.ensures (c.by_extension-by_extension.ensures.tokens t.by_slot are.matchers) in
-      let three = c.in_ok-run_by_extension.ensures.found extension_tokens are_for k in
+      let three = c.in_ok-run-3.ensures.found extension_tokens are_for k in
       let empty = c.in_ok-clear_marks.ensures.none k in three_runs (λ h. true≢false (sym h ∙ empty)) one two three;
 }
 
-pub returns-in_err-run_by_path-clause-visits : goal.returns-in_err-run_by_path-clause-visits
-returns-in_err-run_by_path-clause-visits c =
+pub returns-in_err-run-clause-visits : goal.returns-in_err-run-clause-visits
+returns-in_err-run-clause-visits c =
     let a = c.args.self.now in
     let n = length c.args.path.now in
     looked_runs n (max_reads a.by_path) (max_reads a.by_component) (max_reads (machine_under a.extensions (component_extension c.args.path.now))) c.args.visits.now c.by_extension-by_extension.new.visits
-    c.run_by_path.new.visits c.run_by_path.new.visits c.run_by_path.new.visits
+    c.run.new.visits c.run.new.visits c.run.new.visits
     c.by_extension-by_extension.ensures.visits
-    (subst (λ (p : AutomataParts). c.run_by_path.new.visits ≤ c.by_extension-by_extension.new.visits + (n + 1) * max_reads p.by_path) c.self.view_is c.run_by_path.ensures.visits)
+    (subst (λ (p : AutomataParts). c.run.new.visits ≤ c.by_extension-by_extension.new.visits + (n + 1) * max_reads p.by_path) c.self.view_is c.run.ensures.visits)
     (omega arith) (omega arith)
 
-pub returns-in_err-run_by_component-clause-visits : goal.returns-in_err-run_by_component-clause-visits
-returns-in_err-run_by_component-clause-visits c =
+pub returns-in_err-run-2-clause-visits : goal.returns-in_err-run-2-clause-visits
+returns-in_err-run-2-clause-visits c =
     let a = c.args.self.now in
     let n = length c.args.path.now in
     looked_runs n (max_reads a.by_path) (max_reads a.by_component) (max_reads (machine_under a.extensions (component_extension c.args.path.now))) c.args.visits.now c.by_extension-by_extension.new.visits
-    c.run_by_path.new.visits c.run_by_component.new.visits c.run_by_component.new.visits
+    c.run.new.visits c.run-2.new.visits c.run-2.new.visits
     c.by_extension-by_extension.ensures.visits
-    (subst (λ (p : AutomataParts). c.run_by_path.new.visits ≤ c.by_extension-by_extension.new.visits + (n + 1) * max_reads p.by_path) c.self.view_is c.run_by_path.ensures.visits)
-    (subst (λ (p : AutomataParts). c.run_by_component.new.visits ≤ c.run_by_path.new.visits + (n + 1) * max_reads p.by_component) c.self.view_is c.run_by_component.ensures.visits)
+    (subst (λ (p : AutomataParts). c.run.new.visits ≤ c.by_extension-by_extension.new.visits + (n + 1) * max_reads p.by_path) c.self.view_is c.run.ensures.visits)
+    (subst (λ (p : AutomataParts). c.run-2.new.visits ≤ c.run.new.visits + (n + 1) * max_reads p.by_component) c.self.view_is c.run-2.ensures.visits)
     (omega arith)
 
-pub returns-in_err-run_by_extension-clause-visits : goal.returns-in_err-run_by_extension-clause-visits
-returns-in_err-run_by_extension-clause-visits c =
+pub returns-in_err-run-3-clause-visits : goal.returns-in_err-run-3-clause-visits
+returns-in_err-run-3-clause-visits c =
     let a = c.args.self.now in
     let n = length c.args.path.now in
     looked_runs n (max_reads a.by_path) (max_reads a.by_component) (max_reads (machine_under a.extensions (component_extension c.args.path.now))) c.args.visits.now c.by_extension-by_extension.new.visits
-    c.run_by_path.new.visits c.run_by_component.new.visits c.run_by_extension.new.visits
+    c.run.new.visits c.run-2.new.visits c.run-3.new.visits
     c.by_extension-by_extension.ensures.visits
-    (subst (λ (p : AutomataParts). c.run_by_path.new.visits ≤ c.by_extension-by_extension.new.visits + (n + 1) * max_reads p.by_path) c.self.view_is c.run_by_path.ensures.visits)
-    (subst (λ (p : AutomataParts). c.run_by_component.new.visits ≤ c.run_by_path.new.visits + (n + 1) * max_reads p.by_component) c.self.view_is c.run_by_component.ensures.visits)
-    (subst (λ (m : Machine). c.run_by_extension.new.visits ≤ c.run_by_component.new.visits + (n + 1) * max_reads m)
-    (c.by_extension-by_extension.ensures.automaton ∙ ap (λ p. machine_under a.extensions (component_extension p)) c.from_bytes.ensures) c.run_by_extension.ensures.visits)
+    (subst (λ (p : AutomataParts). c.run.new.visits ≤ c.by_extension-by_extension.new.visits + (n + 1) * max_reads p.by_path) c.self.view_is c.run.ensures.visits)
+    (subst (λ (p : AutomataParts). c.run-2.new.visits ≤ c.run.new.visits + (n + 1) * max_reads p.by_component) c.self.view_is c.run-2.ensures.visits)
+    (subst (λ (m : Machine). c.run-3.new.visits ≤ c.run-2.new.visits + (n + 1) * max_reads m)
+    (c.by_extension-by_extension.ensures.automaton ∙ ap (λ p. machine_under a.extensions (component_extension p)) c.from_bytes.ensures) c.run-3.ensures.visits)
 
 pub returns-clause-visits : goal.returns-clause-visits
 returns-clause-visits c =
     let a = c.args.self.now in
     let n = length c.args.path.now in
     looked_runs n (max_reads a.by_path) (max_reads a.by_component) (max_reads (machine_under a.extensions (component_extension c.args.path.now))) c.args.visits.now c.by_extension-by_extension.new.visits
-    c.run_by_path.new.visits c.run_by_component.new.visits c.run_by_extension.new.visits
+    c.run.new.visits c.run-2.new.visits c.run-3.new.visits
     c.by_extension-by_extension.ensures.visits
-    (subst (λ (p : AutomataParts). c.run_by_path.new.visits ≤ c.by_extension-by_extension.new.visits + (n + 1) * max_reads p.by_path) c.self.view_is c.run_by_path.ensures.visits)
-    (subst (λ (p : AutomataParts). c.run_by_component.new.visits ≤ c.run_by_path.new.visits + (n + 1) * max_reads p.by_component) c.self.view_is c.run_by_component.ensures.visits)
-    (subst (λ (m : Machine). c.run_by_extension.new.visits ≤ c.run_by_component.new.visits + (n + 1) * max_reads m)
-    (c.by_extension-by_extension.ensures.automaton ∙ ap (λ p. machine_under a.extensions (component_extension p)) c.from_bytes.ensures) c.run_by_extension.ensures.visits)
+    (subst (λ (p : AutomataParts). c.run.new.visits ≤ c.by_extension-by_extension.new.visits + (n + 1) * max_reads p.by_path) c.self.view_is c.run.ensures.visits)
+    (subst (λ (p : AutomataParts). c.run-2.new.visits ≤ c.run.new.visits + (n + 1) * max_reads p.by_component) c.self.view_is c.run-2.ensures.visits)
+    (subst (λ (m : Machine). c.run-3.new.visits ≤ c.run-2.new.visits + (n + 1) * max_reads m)
+    (c.by_extension-by_extension.ensures.automaton ∙ ap (λ p. machine_under a.extensions (component_extension p)) c.from_bytes.ensures) c.run-3.ensures.visits)
 
 pub returns-in_err-clear_marks-clause-memory : goal.returns-in_err-clear_marks-clause-memory
 returns-in_err-clear_marks-clause-memory c = λ none.
@@ -103,20 +103,20 @@ returns-in_err-clear_marks-clause-memory c = λ none.
     let last = ap size c.by_extension-by_extension.ensures.automaton in
     let on = c.is_idle.ensures.1 (omega (arith, none, last, same)) in absurd (true≢false (sym on ∙ c.if-is_idle.false))
 
-pub returns-in_err-run_by_path-clause-memory : goal.returns-in_err-run_by_path-clause-memory
-returns-in_err-run_by_path-clause-memory c = λ none.
+pub returns-in_err-run-clause-memory : goal.returns-in_err-run-clause-memory
+returns-in_err-run-clause-memory c = λ none.
     let same = ap (λ p. size (machine_under c.args.self.now.extensions (component_extension p))) c.from_bytes.ensures in
     let last = ap size c.by_extension-by_extension.ensures.automaton in
     let on = c.is_idle.ensures.1 (omega (arith, none, last, same)) in absurd (true≢false (sym on ∙ c.if-is_idle.false))
 
-pub returns-in_err-run_by_component-clause-memory : goal.returns-in_err-run_by_component-clause-memory
-returns-in_err-run_by_component-clause-memory c = λ none.
+pub returns-in_err-run-2-clause-memory : goal.returns-in_err-run-2-clause-memory
+returns-in_err-run-2-clause-memory c = λ none.
     let same = ap (λ p. size (machine_under c.args.self.now.extensions (component_extension p))) c.from_bytes.ensures in
     let last = ap size c.by_extension-by_extension.ensures.automaton in
     let on = c.is_idle.ensures.1 (omega (arith, none, last, same)) in absurd (true≢false (sym on ∙ c.if-is_idle.false))
 
-pub returns-in_err-run_by_extension-clause-memory : goal.returns-in_err-run_by_extension-clause-memory
-returns-in_err-run_by_extension-clause-memory c = λ none.
+pub returns-in_err-run-3-clause-memory : goal.returns-in_err-run-3-clause-memory
+returns-in_err-run-3-clause-memory c = λ none.
     let same = ap (λ p. size (machine_under c.args.self.now.extensions (component_extension p))) c.from_bytes.ensures in
     let last = ap size c.by_extension-by_extension.ensures.automaton in
     let on = c.is_idle.ensures.1 (omega (arith, none, last, same)) in absurd (true≢false (sym on ∙ c.if-is_idle.false))
@@ -125,30 +125,30 @@ pub returns-in_err-clear_marks-clause-room : goal.returns-in_err-clear_marks-cla
 returns-in_err-clear_marks-clause-room c = λ has.
     absurd (true≢false (sym (c.in_err-clear_marks.ensures.memory (omega (arith, has.for_indexes, c.index_count.ensures)))))
 
-pub returns-in_err-run_by_path-clause-room : goal.returns-in_err-run_by_path-clause-room
-returns-in_err-run_by_path-clause-room c = λ has.
+pub returns-in_err-run-clause-room : goal.returns-in_err-run-clause-room
+returns-in_err-run-clause-room c = λ has.
     let states = subst (λ (p : AutomataParts). max_states p ≤ sets_capacity c.args.sets.now.states) (sym c.self.view_is) has.for_states in
-    absurd (true≢false (sym (c.in_err-run_by_path.ensures.memory (omega (arith, states, c.in_ok-clear_marks.ensures.kept.states)))))
+    absurd (true≢false (sym (c.in_err-run.ensures.memory (omega (arith, states, c.in_ok-clear_marks.ensures.kept.states)))))
 
-pub returns-in_err-run_by_component-clause-room : goal.returns-in_err-run_by_component-clause-room
-returns-in_err-run_by_component-clause-room c = λ has.
+pub returns-in_err-run-2-clause-room : goal.returns-in_err-run-2-clause-room
+returns-in_err-run-2-clause-room c = λ has.
     let states = subst (λ (p : AutomataParts). max_states p ≤ sets_capacity c.args.sets.now.states) (sym c.self.view_is) has.for_states in
-    absurd (true≢false (sym (c.in_err-run_by_component.ensures.memory (omega (arith, states, c.in_ok-clear_marks.ensures.kept.states, c.in_ok-run_by_path.ensures.kept.states)))))
+    absurd (true≢false (sym (c.in_err-run-2.ensures.memory (omega (arith, states, c.in_ok-clear_marks.ensures.kept.states, c.in_ok-run.ensures.kept.states)))))
 
-pub returns-in_err-run_by_extension-clause-room : goal.returns-in_err-run_by_extension-clause-room
-returns-in_err-run_by_extension-clause-room c = λ has.
-    absurd (true≢false (sym (c.in_err-run_by_extension.ensures.memory (omega (arith, has.for_states, c.by_extension-by_extension.ensures.maximum, c.in_ok-clear_marks.ensures.kept.states, c.in_ok-run_by_path.ensures.kept.states, c.in_ok-run_by_component.ensures.kept.states)))))
+pub returns-in_err-run-3-clause-room : goal.returns-in_err-run-3-clause-room
+returns-in_err-run-3-clause-room c = λ has.
+    absurd (true≢false (sym (c.in_err-run-3.ensures.memory (omega (arith, has.for_states, c.by_extension-by_extension.ensures.maximum, c.in_ok-clear_marks.ensures.kept.states, c.in_ok-run.ensures.kept.states, c.in_ok-run-2.ensures.kept.states)))))
 
-pub returns-in_err-run_by_path-clause-kept : goal.returns-in_err-run_by_path-clause-kept
-returns-in_err-run_by_path-clause-kept c = kept_then c.in_ok-clear_marks.ensures.kept c.run_by_path.ensures.kept
+pub returns-in_err-run-clause-kept : goal.returns-in_err-run-clause-kept
+returns-in_err-run-clause-kept c = kept_then c.in_ok-clear_marks.ensures.kept c.run.ensures.kept
 
-pub returns-in_err-run_by_component-clause-kept : goal.returns-in_err-run_by_component-clause-kept
-returns-in_err-run_by_component-clause-kept c = kept_then c.in_ok-clear_marks.ensures.kept (kept_then c.run_by_path.ensures.kept c.run_by_component.ensures.kept)
+pub returns-in_err-run-2-clause-kept : goal.returns-in_err-run-2-clause-kept
+returns-in_err-run-2-clause-kept c = kept_then c.in_ok-clear_marks.ensures.kept (kept_then c.run.ensures.kept c.run-2.ensures.kept)
 
-pub returns-in_err-run_by_extension-clause-kept : goal.returns-in_err-run_by_extension-clause-kept
-returns-in_err-run_by_extension-clause-kept c =
-    kept_then c.in_ok-clear_marks.ensures.kept (kept_then c.run_by_path.ensures.kept (kept_then c.run_by_component.ensures.kept c.run_by_extension.ensures.kept))
+pub returns-in_err-run-3-clause-kept : goal.returns-in_err-run-3-clause-kept
+returns-in_err-run-3-clause-kept c =
+    kept_then c.in_ok-clear_marks.ensures.kept (kept_then c.run.ensures.kept (kept_then c.run-2.ensures.kept c.run-3.ensures.kept))
 
 pub returns-clause-kept : goal.returns-clause-kept
 returns-clause-kept c =
-    kept_then c.in_ok-clear_marks.ensures.kept (kept_then c.run_by_path.ensures.kept (kept_then c.run_by_component.ensures.kept c.run_by_extension.ensures.kept))
+    kept_then c.in_ok-clear_marks.ensures.kept (kept_then c.run.ensures.kept (kept_then c.run-2.ensures.kept c.run-3.ensures.kept))

@@ -12,56 +12,56 @@ use Rattle.set_matcher.proofs.automata.Automata.is_match.Goals as goal
 pub returns-then-branch-clause-some : goal.returns-then-branch-clause-some
 returns-then-branch-clause-some c = λ t are.
     let by_path = subst (λ (a : AutomataParts). IsFor a.by_path t.by_path) (sym c.self.view_is) are.path in
-    let some = (c.in_ok-is_match_by_path.ensures.some t.by_path by_path).0 c.if-branch.true in
+    let some = (c.in_ok-matches_part.ensures.some t.by_path by_path).0 c.if-branch.true in
     (λ yes. (some.0, inl (subst (λ text. SomeMatches t.by_path text some.0) c.path.ensures some.1)), λ found. refl)
 
 pub returns-then-branch-2-clause-some : goal.returns-then-branch-2-clause-some
 returns-then-branch-2-clause-some c = λ t are.
     let by_component = subst (λ (a : AutomataParts). IsFor a.by_component t.by_component) (sym c.self.view_is) are.component in
-    let some = (c.in_ok-is_match_by_component.ensures.some t.by_component by_component).0 c.if-branch-2.true in
+    let some = (c.in_ok-matches_part-2.ensures.some t.by_component by_component).0 c.if-branch-2.true in
     (λ yes. (some.0, inr (inl (subst (λ text. SomeMatches t.by_component (last_component text) some.0) c.path-2.ensures some.1))), λ found. refl)
 
 pub returns-clause-some : goal.returns-clause-some
 returns-clause-some c =
     let path = c.args.path.now in
     let automaton = c.by_extension-by_extension.result.now in
-    IfOk-weaker c.is_match_by_extension.result (λ yes. (xs : List IndexedTokens) → IsFor automaton xs → IsTrue yes ↔ ((k : ℕ) × SomeMatches xs (before_extension c.path-3.result.now) k))
+    IfOk-weaker c.matches_part-3.result (λ yes. (xs : List IndexedTokens) → IsFor automaton xs → IsTrue yes ↔ ((k : ℕ) × SomeMatches xs (before_extension c.path-3.result.now) k))
     (λ yes. (t : TokenLists) → AreForLists c.args.self.now t → IsTrue yes ↔ ((k : ℕ) × AreFound c.args.self.now.extensions.matchers t path k))
     (λ yes tells t are.
     let by_path = subst (λ (a : AutomataParts). IsFor a.by_path t.by_path) (sym c.self.view_is) are.path in
     let by_component = subst (λ (a : AutomataParts). IsFor a.by_component t.by_component) (sym c.self.view_is) are.component in
     let extension_tokens = tokens_under t.by_slot c.args.self.now.extensions.matchers (component_extension path) in
     last_run
-    (λ k some. let found = (c.in_ok-is_match_by_path.ensures.some t.by_path by_path).1 (k, subst (λ text. SomeMatches t.by_path text k) (sym c.path.ensures) some) in true≢false (sym found ∙ c.if-branch.false))
+    (λ k some. let found = (c.in_ok-matches_part.ensures.some t.by_path by_path).1 (k, subst (λ text. SomeMatches t.by_path text k) (sym c.path.ensures) some) in true≢false (sym found ∙ c.if-branch.false))
     (λ k some.
-    let found = (c.in_ok-is_match_by_component.ensures.some t.by_component by_component).1 (k, subst (λ text. SomeMatches t.by_component (last_component text) k) (sym c.path-2.ensures) some) in
+    let found = (c.in_ok-matches_part-2.ensures.some t.by_component by_component).1 (k, subst (λ text. SomeMatches t.by_component (last_component text) k) (sym c.path-2.ensures) some) in
     true≢false (sym found ∙ c.if-branch-2.false))
     (subst (λ text. IsTrue yes ↔ ((k : ℕ) × SomeMatches extension_tokens (before_extension text) k)) c.path-3.ensures (tells extension_tokens (c.by_extension-by_extension.ensures.tokens t.by_slot are.matchers))))
-    c.is_match_by_extension.ensures.some
+    c.matches_part-3.ensures.some
 
-pub returns-in_err-is_match_by_component-clause-visits : goal.returns-in_err-is_match_by_component-clause-visits
-returns-in_err-is_match_by_component-clause-visits c =
+pub returns-in_err-matches_part-2-clause-visits : goal.returns-in_err-matches_part-2-clause-visits
+returns-in_err-matches_part-2-clause-visits c =
     let a = c.args.self.now in
     let path = c.args.path.now in
     two_runs (length path) (length c.path.result.now) (length c.path-2.result.now) (max_reads a.by_path) (max_reads c.self.inside.by_path) (max_reads a.by_component)
-    (max_reads (machine_under a.extensions (component_extension path))) c.args.visits.now c.is_match_by_path.new.visits c.is_match_by_component.new.visits
-    (ap length c.path.ensures) (ap length c.path-2.ensures) (ap (λ (p : AutomataParts). max_reads p.by_path) c.self.view_is) c.is_match_by_path.ensures.visits (subst (λ (p : AutomataParts). c.is_match_by_component.new.visits ≤ c.is_match_by_path.new.visits + (length c.path-2.result.now + 1) * max_reads p.by_component) c.self.view_is c.is_match_by_component.ensures.visits)
+    (max_reads (machine_under a.extensions (component_extension path))) c.args.visits.now c.matches_part.new.visits c.matches_part-2.new.visits
+    (ap length c.path.ensures) (ap length c.path-2.ensures) (ap (λ (p : AutomataParts). max_reads p.by_path) c.self.view_is) c.matches_part.ensures.visits (subst (λ (p : AutomataParts). c.matches_part-2.new.visits ≤ c.matches_part.new.visits + (length c.path-2.result.now + 1) * max_reads p.by_component) c.self.view_is c.matches_part-2.ensures.visits)
 
 pub returns-then-branch-2-clause-visits : goal.returns-then-branch-2-clause-visits
 returns-then-branch-2-clause-visits c =
     let a = c.args.self.now in
     let path = c.args.path.now in
     two_runs (length path) (length c.path.result.now) (length c.path-2.result.now) (max_reads a.by_path) (max_reads c.self.inside.by_path) (max_reads a.by_component)
-    (max_reads (machine_under a.extensions (component_extension path))) c.args.visits.now c.is_match_by_path.new.visits c.is_match_by_component.new.visits
-    (ap length c.path.ensures) (ap length c.path-2.ensures) (ap (λ (p : AutomataParts). max_reads p.by_path) c.self.view_is) c.is_match_by_path.ensures.visits (subst (λ (p : AutomataParts). c.is_match_by_component.new.visits ≤ c.is_match_by_path.new.visits + (length c.path-2.result.now + 1) * max_reads p.by_component) c.self.view_is c.is_match_by_component.ensures.visits)
+    (max_reads (machine_under a.extensions (component_extension path))) c.args.visits.now c.matches_part.new.visits c.matches_part-2.new.visits
+    (ap length c.path.ensures) (ap length c.path-2.ensures) (ap (λ (p : AutomataParts). max_reads p.by_path) c.self.view_is) c.matches_part.ensures.visits (subst (λ (p : AutomataParts). c.matches_part-2.new.visits ≤ c.matches_part.new.visits + (length c.path-2.result.now + 1) * max_reads p.by_component) c.self.view_is c.matches_part-2.ensures.visits)
 
 pub returns-clause-visits : goal.returns-clause-visits
 returns-clause-visits c =
     let a = c.args.self.now in
     let path = c.args.path.now in
     three_runs (length path) (length c.path.result.now) (length c.path-2.result.now) (length c.path-3.result.now) (max_reads a.by_path) (max_reads c.self.inside.by_path) (max_reads a.by_component)
-    (max_reads (machine_under a.extensions (component_extension path))) (max_reads c.by_extension-by_extension.result.now) c.args.visits.now c.is_match_by_path.new.visits c.is_match_by_component.new.visits
-    c.by_extension-by_extension.new.visits c.is_match_by_extension.new.visits
+    (max_reads (machine_under a.extensions (component_extension path))) (max_reads c.by_extension-by_extension.result.now) c.args.visits.now c.matches_part.new.visits c.matches_part-2.new.visits
+    c.by_extension-by_extension.new.visits c.matches_part-3.new.visits
     (ap length c.path.ensures) (ap length c.path-2.ensures) (ap length c.path-3.ensures) (ap (λ (p : AutomataParts). max_reads p.by_path) c.self.view_is)
     (ap max_reads c.by_extension-by_extension.ensures.automaton)
-    c.is_match_by_path.ensures.visits (subst (λ (p : AutomataParts). c.is_match_by_component.new.visits ≤ c.is_match_by_path.new.visits + (length c.path-2.result.now + 1) * max_reads p.by_component) c.self.view_is c.is_match_by_component.ensures.visits) c.by_extension-by_extension.ensures.visits c.is_match_by_extension.ensures.visits
+    c.matches_part.ensures.visits (subst (λ (p : AutomataParts). c.matches_part-2.new.visits ≤ c.matches_part.new.visits + (length c.path-2.result.now + 1) * max_reads p.by_component) c.self.view_is c.matches_part-2.ensures.visits) c.by_extension-by_extension.ensures.visits c.matches_part-3.ensures.visits
