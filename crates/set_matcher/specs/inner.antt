@@ -1,6 +1,7 @@
 pub mod Automata
 pub mod GivenGlobs
 pub mod GivenTokens
+pub mod PathPart
 pub mod SetMatcher
 pub mod Capacity
 pub mod ExtensionSlots
