@@ -6,9 +6,10 @@ ghost use Rattle.std.specs.List.Sorted.{IsSortedBy};
 ghost use Rattle.key_table.specs.Entries.{indexes_under};
 ghost use Rattle.key_table.specs.inner.Pairs.{pair_key, entries_of, pair_below, with_hash, IsKept};
 
-use crate::keys::{compare, hash};
+use crate::keys::hash;
 use crate::parts::part;
 use std::alloc::{AllocError, Global};
+use std::cmp::Ordering;
 use std::hash::{DefaultHasher, Hasher};
 
 /// An index under a key, which is a part of bytes that lie elsewhere; and the key's hash.
@@ -37,7 +38,11 @@ pub(crate) fn sort(bytes: &[u8], seed: u64, pairs: &mut Vec<Pair>) -> Result<(),
     ensures sorted { OnOk result (IsSortedBy (pair_below seed bytes.now) pairs.new.items) }
     ensures same { (q : List ℕ) → indexes_under (entries_of bytes.now pairs.new.items) q ≡ indexes_under (entries_of bytes.now pairs.old.items) q }
 {
-    pairs.sort_by(|a, b| compare(a.hash, a.key(bytes), b.hash, b.key(bytes)))
+    // Most pairs differ in their hashes, so most keys need not be read.
+    pairs.sort_by(|a, b| match a.hash.cmp(&b.hash) {
+        Ordering::Equal => a.key(bytes).cmp(b.key(bytes)),
+        unequal => unequal,
+    })
 }
 
 /// Returns a seed that depends on each byte of each key, so that no key can be chosen for the seed.
