@@ -17,7 +17,37 @@ static TAKEN: [AtomicU64; (1 << BITS) / 64] = {
 
 /// The number of a thread: the lowest that no other thread had when this one first asked for it. No other thread has it until
 /// this one ends.
-struct Number(Option<usize>);
+struct Number(Option<At>);
+
+/// Where the place of a number is. A thread keeps this in place of its number, so that it is told once.
+#[derive(Clone, Copy)]
+struct At {
+    part: usize,
+    /// Its index in the part.
+    index: usize,
+}
+
+impl At {
+    /// The first part has the place of number 0, and part `k` above 0 the places of the `2^(k - 1)` numbers from `2^(k - 1)` on.
+    fn of(number: usize) -> At {
+        let part = (usize::BITS - number.leading_zeros()) as usize;
+        At { part, index: number - At::first(part) }
+    }
+
+    fn number(self) -> usize {
+        At::first(self.part) + self.index
+    }
+
+    /// The first number of a part.
+    fn first(part: usize) -> usize {
+        1 << part >> 1
+    }
+
+    /// How many places a part has.
+    fn len(part: usize) -> usize {
+        At::first(part).max(1)
+    }
+}
 
 impl Number {
     /// Takes a number, or none if all are taken.
@@ -27,7 +57,7 @@ impl Number {
             while bits != u64::MAX {
                 let free = bits.trailing_ones();
                 match word.compare_exchange_weak(bits, bits | 1 << free, Ordering::Acquire, Ordering::Relaxed) {
-                    Ok(_) => return Number(Some(at * 64 + free as usize)),
+                    Ok(_) => return Number(Some(At::of(at * 64 + free as usize))),
                     Err(now) => bits = now,
                 }
             }
@@ -38,7 +68,7 @@ impl Number {
 
 impl Drop for Number {
     fn drop(&mut self) {
-        if let Some(number) = self.0 {
+        if let Some(number) = self.0.map(At::number) {
             TAKEN[number / 64].fetch_and(!(1 << (number % 64)), Ordering::Release);
         }
     }
@@ -50,7 +80,6 @@ thread_local! {
 
 /// Places, one for each number that a thread may have. They are made as threads ask.
 pub(crate) struct PerThread<T> {
-    /// The first has the place of number 0, and the one at `k` above 0 the places of the `2^(k - 1)` numbers from `2^(k - 1)` on.
     parts: [OnceLock<Box<[Place<T>]>>; BITS + 1],
 }
 
@@ -70,25 +99,23 @@ impl<T: Default> PerThread<T> {
     /// There is none for a thread that asked when all numbers were taken, or that ends and gave its number back.
     #[inline]
     pub(crate) fn of_this_thread(&self) -> Option<&T> {
-        let number = NUMBER.try_with(|number| number.0).ok()??;
-        Some(self.place(number))
+        let at = NUMBER.try_with(|number| number.0).ok()??;
+        Some(self.place(at))
     }
 
     #[inline]
-    fn place(&self, number: usize) -> &T {
-        let part = (usize::BITS - number.leading_zeros()) as usize;
-        let len = 1 << part.saturating_sub(1);
-        let places = match self.parts[part].get() {
+    fn place(&self, at: At) -> &T {
+        let places = match self.parts[at.part].get() {
             Some(places) => places,
-            None => self.made(part, len),
+            None => self.made(at.part),
         };
-        &places[number % len].0
+        &places[at.index].0
     }
 
     /// The places of a part. They are made before the part is locked, so that an allocator may ask for them, too.
     #[cold]
-    fn made(&self, part: usize, len: usize) -> &[Place<T>] {
-        let places = (0..len).map(|_| Place::default()).collect();
+    fn made(&self, part: usize) -> &[Place<T>] {
+        let places = (0..At::len(part)).map(|_| Place::default()).collect();
         self.parts[part].get_or_init(|| places)
     }
 }
@@ -110,7 +137,8 @@ mod tests {
     #[test]
     fn each_number_has_a_place_of_its_own() {
         let places = PerThread::<AtomicUsize>::new();
-        let all: HashSet<usize> = (0..1 << BITS).map(|number| places.place(number) as *const _ as usize).collect();
+        let all: HashSet<usize> =
+            (0..1 << BITS).map(|number| places.place(At::of(number)) as *const _ as usize).collect();
         assert_eq!(all.len(), 1 << BITS);
         assert_eq!(at(&places), at(&places));
     }
