@@ -275,6 +275,7 @@ impl Set {
         Set { shared: Shared(owned), searchers: PerThread::new() }
     }
 
+    #[cold]
     pub(crate) fn searcher(&self) -> Searcher {
         // SAFETY: "Makes a searcher of a set. It shares what the set matches with, so the set may be freed."
         Searcher(Owned::made(|out| unsafe { globset_raw_searcher_new(&mut self.shared.lend(), out) }))

@@ -1,8 +1,11 @@
 //! Places, one for each thread.
 
-use std::sync::{
-    atomic::{AtomicU64, Ordering},
-    OnceLock,
+use std::{
+    cell::Cell,
+    sync::{
+        atomic::{AtomicU64, Ordering},
+        OnceLock,
+    },
 };
 
 /// How many threads may have a number at a time, as a power of 2.
@@ -19,7 +22,7 @@ static TAKEN: [AtomicU64; (1 << BITS) / 64] = {
 /// this one ends.
 struct Number(Option<At>);
 
-/// Where the place of a number is. A thread keeps this in place of its number, so that it is told once.
+/// Where the place of a number is.
 #[derive(Clone, Copy)]
 struct At {
     part: usize,
@@ -69,6 +72,7 @@ impl Number {
 impl Drop for Number {
     fn drop(&mut self) {
         if let Some(number) = self.0.map(At::number) {
+            HERE.with(|here| here.set(None));
             TAKEN[number / 64].fetch_and(!(1 << (number % 64)), Ordering::Release);
         }
     }
@@ -76,6 +80,8 @@ impl Drop for Number {
 
 thread_local! {
     static NUMBER: Number = Number::take();
+    /// Where this thread's places are, as long as it has a number and from its first question on. It is there to be read fast.
+    static HERE: Cell<Option<At>> = const { Cell::new(None) };
 }
 
 /// Places, one for each number that a thread may have. They are made as threads ask.
@@ -99,24 +105,34 @@ impl<T: Default> PerThread<T> {
     /// There is none for a thread that asked when all numbers were taken, or that ends and gave its number back.
     #[inline]
     pub(crate) fn of_this_thread(&self) -> Option<&T> {
+        match HERE.with(Cell::get).and_then(|at| self.made(at)) {
+            Some(place) => Some(place),
+            None => self.first_of_this_thread(),
+        }
+    }
+
+    /// The same, where the thread asks for the first time, and where it has no place.
+    #[cold]
+    fn first_of_this_thread(&self) -> Option<&T> {
         let at = NUMBER.try_with(|number| number.0).ok()??;
+        HERE.with(|here| here.set(Some(at)));
         Some(self.place(at))
     }
 
+    /// A place, if its part was made.
     #[inline]
-    fn place(&self, at: At) -> &T {
-        let places = match self.parts[at.part].get() {
-            Some(places) => places,
-            None => self.made(at.part),
-        };
-        &places[at.index].0
+    fn made(&self, at: At) -> Option<&T> {
+        Some(&self.parts.get(at.part)?.get()?.get(at.index)?.0)
     }
 
-    /// The places of a part. They are made before the part is locked, so that an allocator may ask for them, too.
-    #[cold]
-    fn made(&self, part: usize) -> &[Place<T>] {
-        let places = (0..At::len(part)).map(|_| Place::default()).collect();
-        self.parts[part].get_or_init(|| places)
+    /// A place. Its part is made before it is locked, so that an allocator may ask for places, too.
+    fn place(&self, at: At) -> &T {
+        let part = &self.parts[at.part];
+        if part.get().is_none() {
+            let places = (0..At::len(at.part)).map(|_| Place::default()).collect();
+            part.get_or_init(|| places);
+        }
+        self.made(at).expect("the part was made")
     }
 }
 
@@ -124,8 +140,13 @@ impl<T: Default> PerThread<T> {
 mod tests {
     use super::*;
     use std::{
+        cell::OnceCell,
         collections::HashSet,
-        sync::{atomic::AtomicUsize, Arc, Barrier},
+        sync::{
+            atomic::AtomicUsize,
+            mpsc::{channel, Sender},
+            Arc, Barrier,
+        },
         thread,
     };
 
@@ -172,5 +193,30 @@ mod tests {
             .collect();
         // Other tests may run beside this one, and their threads have numbers too.
         assert!(all.len() < 200);
+    }
+    /// Says whether the thread has a place when this is dropped.
+    struct AskedAtEnd(Arc<PerThread<AtomicUsize>>, Sender<bool>);
+
+    impl Drop for AskedAtEnd {
+        fn drop(&mut self) {
+            self.1.send(self.0.of_this_thread().is_some()).expect("a receiver");
+        }
+    }
+
+    thread_local! {
+        static AT_END: OnceCell<AskedAtEnd> = const { OnceCell::new() };
+    }
+
+    #[test]
+    fn a_thread_that_gave_its_number_back_has_no_place() {
+        let (sender, receiver) = channel();
+        let thread = thread::spawn(move || {
+            let places = Arc::new(PerThread::new());
+            // What a thread makes first, it drops last.
+            AT_END.with(|asked| assert!(asked.set(AskedAtEnd(Arc::clone(&places), sender)).is_ok()));
+            assert_eq!(at(&places), at(&places));
+        });
+        thread.join().expect("a thread ends");
+        assert_eq!(receiver.recv(), Ok(false));
     }
 }
