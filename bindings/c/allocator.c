@@ -1,17 +1,11 @@
 /* The bridge from the library's allocator to malloc, realloc and free of the program.
  *
- * The library calls these three functions and no other for memory. It never asks for an alignment above 16, and malloc aligns a
- * block to each power of 2 up to 16 that divides its size. Another allocator can be put in place of this file: one whose three
- * functions belong together, and which aligns in the same way. */
-#include <stddef.h>
-#include <stdint.h>
-#include <stdlib.h>
+ * The library calls these three functions and no other for memory. It never asks for an alignment above 16, and malloc
+ * aligns a block to each power of 2 up to 16 that divides its size. Another allocator can be put in place of this file:
+ * one whose three functions belong together, and which aligns in the same way. */
+#include "allocator.h"
 
-/* `ok` is 1 and `at` a block, or `ok` is 0: then memory ran out, and `at` is any address but null. */
-struct rattle_block {
-    uint64_t ok;
-    void *at;
-};
+#include <stdlib.h>
 
 static char nothing;
 
@@ -21,9 +15,11 @@ static struct rattle_block block_at(void *at) {
 }
 
 /* A block of no bytes gets as many as its alignment, since malloc(0) may return null. */
-struct rattle_block rattle_alloc(size_t size, size_t align) { return block_at(malloc(size != 0 ? size : align)); }
+struct rattle_block rattle_alloc(size_t size, size_t align) {
+    return block_at(malloc(size != 0 ? size : align));
+}
 
-/* If it fails, the block is as it was. realloc keeps its first bytes, of which the library needs `kept`. */
+/* realloc keeps as many bytes as both blocks have, which are no fewer than `kept`. */
 struct rattle_block rattle_realloc(void *at, size_t kept, size_t size, size_t align) {
     (void)kept;
     return block_at(realloc(at, size != 0 ? size : align));

@@ -1,52 +1,46 @@
-/* globset.h: globs, and sets of globs, which tell which paths match patterns such as "*.c".
+/* globset.h: sets of globs, which tell the paths that match patterns such as "*.c" or "src/lib?.{c,h}".
  *
- * The library is written in Rattle and proved. This header has two layers:
+ * globset_set_new makes a set of many texts, globset_searcher_new makes a searcher of the set, and
+ * globset_searcher_is_match asks it about a path. The file example.c, which comes with the library, is a whole program.
+ * The functions are made of proved ones (globset_raw.h).
  *
- *  - the exported functions, `globset_raw_..`, which other languages call: their parameters are pointers, lengths and
- *    structs of one pointer. Each says below what the caller has to promise and what the library then promises;
- *  - functions for C and C++, `static inline`, without `raw` in their names: typed handles, and a null pointer is accepted
- *    wherever the length beside it is 0.
+ * Objects. A glob is a text that was read, with its options. A set has many globs and is ready to match. A searcher is
+ * a set with the memory that one thread needs to match, and a matcher is the same for one glob. A builder takes globs
+ * one by one and makes a set of them. Each object is made by a function that writes a pointer to it, and freed once, by
+ * the `_free` of its kind. An object keeps what it needs of those that it was made of: they may be freed before it.
  *
- * Objects. A glob, a matcher, a builder, a set, a work and a searcher are objects on the heap. A handle is a struct of one
- * pointer.
+ * Results. A function that answers a question returns 1 for yes and 0 for no. One that does something returns
+ * GLOBSET_OK, which is 0. An error is below 0, and globset_status_text says what it means. After an error no object was
+ * made, and the pointer that was to point to it is null; every object holds what it held before the call, and can be
+ * used on.
  *
- *  - Who has an object *owns* it: `globset_owned`. An owned object is in one call at a time. It is freed once, by
- *    `globset_raw_free`, and its handle is not used after that. It may go to another thread, which then uses and frees it, if
- *    what the first thread did with it comes before, by a lock, or by the start or the end of a thread.
- *  - A glob, a matcher and a set may be *lent*: `globset_lent` has the same address. Lent objects are only read, so one
- *    object may be lent to any number of calls at once, in any threads. Each call gets a `globset_lent` of its own (the
- *    struct, not the object). While an object is lent, from before the call until it has returned, nobody passes it to a
- *    call as `globset_owned`: it is not freed, for instance.
- *  - A work is the memory that one thread matches with. It serves any number of sets and matchers, and grows with them. It
- *    belongs to one thread at a time.
- *  - A searcher is a set with all the memory that one thread matches with. It shares what the set matches with, and so may
- *    be used after the set was freed. It belongs to one thread at a time, and several threads make a searcher each. A question
- *    about one path takes no memory and cannot fail. A program that asks a set about many paths asks a searcher of it.
+ * Null. Each `_free` accepts null and does nothing. Where `error`, `index` or `length` points to a result, it may be
+ * null, and then the result is not written. Bytes and arrays may be null if they have no members. Any other null
+ * pointer ends in GLOBSET_ENULL.
  *
- * Texts and paths are bytes with a length. They need no NUL at the end and may have NULs inside. A path is any bytes. The
- * text of a glob has to be UTF-8, and the library tests that.
+ * Bytes. Texts and paths are bytes with a length, and may have NULs inside. The length GLOBSET_ZERO_TERMINATED stands
+ * for a string that ends before its first NUL. A path is any bytes; the text of a glob has to be UTF-8.
  *
- * What the caller promises in every call:
+ * Buffers. A function that writes a text into a buffer of `size` bytes writes a NUL behind it, and the length of the
+ * text without that NUL to `length`. If the buffer has no room for both, the result is GLOBSET_EBUFFER, the buffer is
+ * as it was, and `length` is written all the same: a buffer of one byte more is enough. After another error `length` is
+ * 0. With size 0 the buffer may be null.
  *
- *  - Each pointer and the length beside it are one array that stays allocated, and that nobody else writes, during the
- *    call. At the exported functions it is never null, at length 0 too. A pointer to a result points to memory that nobody
- *    else uses during the call, and that overlaps no other argument.
- *  - A handle is one that a call of this library wrote, or a copy of that. The caller neither reads nor writes through
- *    `at`. A call that is passed the address of a handle of an owned object may write the handle: the one that is there
- *    afterwards counts.
- *  - No call is made from a signal handler, nor in the child of a `fork` of a process with several threads.
- *  - There is stack for a call. What it takes does not grow with texts, paths or the depth of braces.
+ * Threads. A function that takes a pointer to const only reads the object, so any number of threads may call such
+ * functions on one glob or set at once. A builder, a searcher or a matcher belongs to one thread at a time: it may go
+ * to another thread if what the first one did with it comes before, by a lock, or by the start or the end of a thread.
+ * So each thread makes a searcher of its own, of one set.
  *
- * What the library promises in every call: it reads and writes nothing else, it returns, it never ends the process, and it
- * keeps nothing of its arguments but what is said below. Running out of memory is the status GLOBSET_OUT_OF_MEMORY; all
- * objects then hold what they held before the call, but that a work may have grown, and can be used on. After any
- * status but GLOBSET_DONE, GLOBSET_NO and GLOBSET_YES no new object was made, and each result that has no sentence of
- * its own is as it was.
+ * The caller promises: an object is one that a function of this header made, and that was not freed; bytes and arrays
+ * have the length that is said, and nobody else writes them during the call; a result overlaps no other argument; no
+ * call is made from a signal handler, nor in the child of a `fork` of a process with several threads.
+ *
+ * The library promises: it reads and writes nothing else, it returns, it never ends the process, and it keeps no
+ * pointer to what it was passed. The stack that a call takes does not grow with texts, paths or the depth of braces.
  */
 #ifndef GLOBSET_H
 #define GLOBSET_H
 
-#include <stdbool.h>
 #include <stddef.h>
 #include <stdint.h>
 
@@ -54,29 +48,48 @@
 extern "C" {
 #endif
 
-/* The version of the Rust crate globset whose globs these are, as 1,000,000 times the first number, 1,000 times the second,
- * and the third: 0.4.21. */
+/* The version of the Rust crate globset whose globs these are, as 1,000,000 times the first number, 1,000 times the
+ * second, and the third: 0.4.21. */
 #define GLOBSET_VERSION 4021
 
 /* The number of this interface. It grows when a function that is here changes or goes. */
 #define GLOBSET_INTERFACE 1
 
-/* ---- Numbers ---- */
+/* The length of a string that ends before its first NUL. */
+#define GLOBSET_ZERO_TERMINATED ((size_t)-1)
 
-/* What a call returns. A number means the same in all calls. */
-typedef uint32_t globset_status;
+/* Compilers that can do so warn if the result of such a function is not used. */
+#if defined(__GNUC__)
+#define GLOBSET_CHECKED __attribute__((warn_unused_result))
+#else
+#define GLOBSET_CHECKED
+#endif
+
+typedef struct globset_glob globset_glob;
+typedef struct globset_set globset_set;
+typedef struct globset_searcher globset_searcher;
+typedef struct globset_matcher globset_matcher;
+typedef struct globset_builder globset_builder;
+
+/* ---- Results ---- */
+
 enum {
-    GLOBSET_DONE = 0,            /* the call did what it is for */
-    GLOBSET_NO = 1,              /* the answer is no */
-    GLOBSET_YES = 2,             /* the answer is yes */
-    GLOBSET_OUT_OF_MEMORY = 3,   /* memory ran out */
-    GLOBSET_REJECTED = 4,        /* the text is no glob: it has an error */
-    GLOBSET_NOT_UTF8 = 5,        /* the text is not UTF-8 */
-    GLOBSET_UNKNOWN_OPTION = 6,  /* the options have a bit that is none of those below */
-    GLOBSET_WRONG_KIND = 7,      /* an object is not of the kind that is asked for, as a glob in place of a set */
-    GLOBSET_BAD_ENDS = 8,        /* an end of a path is below the one before it, or beyond the bytes, or has no answer */
-    GLOBSET_TOO_SMALL = 9        /* the text is longer than the room for it */
+    GLOBSET_OK = 0,
+    GLOBSET_ENULL = -1,    /* a pointer is null that must not be */
+    GLOBSET_ENOMEM = -2,   /* memory ran out */
+    GLOBSET_EGLOB = -3,    /* a text is no glob: `error` says why */
+    GLOBSET_EUTF8 = -4,    /* the text is not UTF-8 */
+    GLOBSET_EOPTIONS = -5, /* the options have a bit that is none of those below */
+    GLOBSET_EOFFSETS = -6, /* an end offset is below the one before it, or beyond the bytes */
+    GLOBSET_EBUFFER = -7,  /* the buffer is too small */
+    GLOBSET_EKIND = -8,    /* an object is of another kind than its pointer says, as after a cast */
+    GLOBSET_ENONE = -9     /* the text is a glob, so it has no error */
 };
+
+/* Returns what a result means, for people: "memory ran out" and the like. The text is static and never null. */
+const char *globset_status_text(int status);
+
+/* ---- Options and errors of globs ---- */
 
 /* The options of a glob, as bits. 0 is the default: `\` escapes, and all else is off. */
 enum {
@@ -97,330 +110,119 @@ enum {
     GLOBSET_DANGLING_ESCAPE = 5
 };
 
-/* ---- Types ---- */
-
-/* The error of a text. `start` and `end` are the characters (code points) of an invalid range, and 0 at other kinds. */
+/* The error of a text. `start` and `end` are the characters (code points) of an invalid range, and 0 at other kinds. A
+ * function that can write one writes all of it: where the result is not GLOBSET_EGLOB, each member is 0. */
 typedef struct globset_error {
     uint32_t kind;
     uint32_t start;
     uint32_t end;
 } globset_error;
 
-/* An object that the caller owns. Before a call that makes an object, `at` may be anything. */
-typedef struct globset_owned {
-    void *at;
-} globset_owned;
+/* Writes what the error of a text says, for people, in UTF-8, such as
+ * "error parsing glob '[a': unclosed character class; missing ']'".
+ * The text and the options are those that were refused; they are read again. GLOBSET_ENONE: the text is a glob under
+ * these options. GLOBSET_EUTF8, GLOBSET_EOPTIONS, GLOBSET_EBUFFER, GLOBSET_ENOMEM. */
+GLOBSET_CHECKED int globset_error_text(const char *text, size_t text_length, uint32_t options, char *buffer,
+                                       size_t size, size_t *length);
 
-/* An object that is lent: `at` is that of the `globset_owned`. */
-typedef struct globset_lent {
-    const void *at;
-} globset_lent;
+/* ---- Sets ---- */
 
-/* Indexes that a work or a searcher lends. Before a call that writes them they have to be valid, as { globset_no_indexes, 0 }
- * is. */
-typedef struct globset_indexes {
-    const size_t *at;
-    size_t count;
-} globset_indexes;
+/* Makes a set of `count` texts. The first has index 0. `lengths` may be null if all texts are strings that end in NUL,
+ * and `options` if all have the default. GLOBSET_EGLOB, GLOBSET_EUTF8, GLOBSET_EOPTIONS and a text that is null:
+ * `index` is that of the first text that is wrong, and `error` says what is wrong with it at GLOBSET_EGLOB.
+ * GLOBSET_ENOMEM. */
+GLOBSET_CHECKED int globset_set_new(const char *const *texts, const size_t *lengths, const uint32_t *options,
+                                    size_t count, globset_error *error, size_t *index, globset_set **set);
 
-/* ---- Exported functions ---- */
+/* Returns how many globs a set has, and 0 for null. */
+size_t globset_set_length(const globset_set *set);
 
-/* Reads a glob. GLOBSET_DONE: `out` owns the glob of exactly this text and these options. GLOBSET_REJECTED: `error` is the
- * text's first error. GLOBSET_NOT_UTF8, GLOBSET_UNKNOWN_OPTION, GLOBSET_OUT_OF_MEMORY. */
-globset_status globset_raw_glob_new(const uint8_t *text, size_t text_len, uint32_t options, globset_error *error,
-                                    globset_owned *out);
+/* Returns whether some glob of the set matches the path. A glob that is read as `**` followed by `/..` matches no path
+ * in a set. This call takes the memory to match with and gives it back, so it may end in GLOBSET_ENOMEM. Who asks about
+ * more than a few paths asks a searcher. */
+GLOBSET_CHECKED int globset_set_is_match(const globset_set *set, const char *path, size_t length);
 
-/* Writes what the error of a text says, for people, in UTF-8: "error parsing glob '[a': unclosed character class; missing
- * ']'". GLOBSET_DONE: the first `*needed` bytes of `room` are the text, and the others are as they were. GLOBSET_TOO_SMALL:
- * `room` is as it was, and `*needed` is the length of the text. GLOBSET_NO: the text is a glob, so it has no error.
- * GLOBSET_NOT_UTF8, GLOBSET_UNKNOWN_OPTION, GLOBSET_OUT_OF_MEMORY. */
-globset_status globset_raw_error_text(const uint8_t *text, size_t text_len, uint32_t options, uint8_t *room, size_t room_len,
-                                      size_t *needed);
+void globset_set_free(globset_set *set);
 
-/* Writes a regular expression that matches the paths that the glob matches. GLOBSET_DONE and GLOBSET_TOO_SMALL as at
- * globset_raw_error_text. GLOBSET_WRONG_KIND, GLOBSET_OUT_OF_MEMORY. */
-globset_status globset_raw_glob_regex(globset_lent *glob, uint8_t *room, size_t room_len, size_t *needed);
+/* ---- Searchers ---- */
 
-/* Makes a matcher of one glob. It keeps a copy of the glob, which may be freed. GLOBSET_DONE, GLOBSET_WRONG_KIND,
- * GLOBSET_OUT_OF_MEMORY. */
-globset_status globset_raw_matcher_new(globset_lent *glob, globset_owned *out);
+/* Makes a searcher of a set. It takes all the memory that questions about one path need: eight bytes for each glob,
+ * what the automata of the set need to run, and up to 16 MB more if several globs need an automaton. GLOBSET_ENOMEM. */
+GLOBSET_CHECKED int globset_searcher_new(const globset_set *set, globset_searcher **searcher);
 
-/* Whether the matcher's glob matches the path: GLOBSET_YES or GLOBSET_NO. If the work does not fit the matcher, it is grown
- * first, and only that can end in GLOBSET_OUT_OF_MEMORY. GLOBSET_WRONG_KIND. */
-globset_status globset_raw_matcher_is_match(globset_lent *matcher, globset_owned *work, const uint8_t *path, size_t path_len);
+/* Returns whether some glob of the set matches the path. This takes no memory, and cannot fail but for null and for an
+ * object that is no searcher. */
+GLOBSET_CHECKED int globset_searcher_is_match(globset_searcher *searcher, const char *path, size_t length);
 
-/* Makes a builder without globs. GLOBSET_DONE, GLOBSET_OUT_OF_MEMORY. */
-globset_status globset_raw_builder_new(globset_owned *out);
+/* Returns whether all globs of the set match the path. It fails only as globset_searcher_is_match does. */
+GLOBSET_CHECKED int globset_searcher_matches_all(globset_searcher *searcher, const char *path, size_t length);
 
-/* Adds a copy of a glob after those that the builder has. GLOBSET_DONE; GLOBSET_WRONG_KIND and GLOBSET_OUT_OF_MEMORY, and
- * then the builder has the globs that it had. */
-globset_status globset_raw_builder_add(globset_owned *builder, globset_lent *glob);
+/* Finds the globs of the set that match the path. `indexes` points to their indexes, ascending, and `count` says how
+ * many they are. They may be read until the next call that the searcher is passed to. It fails only as
+ * globset_searcher_is_match does; then `indexes` is null and `count` is 0. */
+GLOBSET_CHECKED int globset_searcher_matches(globset_searcher *searcher, const char *path, size_t length,
+                                             const size_t **indexes, size_t *count);
 
-/* Makes the set of the builder's globs, in the order in which they were added: the first has index 0. GLOBSET_DONE: the
- * builder has no globs any more, and their memory is given back; the set has what it needs to match. GLOBSET_WRONG_KIND and
- * GLOBSET_OUT_OF_MEMORY, and then the builder has the globs that it had. */
-globset_status globset_raw_builder_build(globset_owned *builder, globset_owned *out);
+/* Returns whether some glob of the set matches some path below the folder, which is the folder, a `/`, and any bytes,
+ * perhaps none. A program that walks over folders need not open one for which the answer is 0. It fails only as
+ * globset_searcher_is_match does. */
+GLOBSET_CHECKED int globset_searcher_can_match_below(globset_searcher *searcher, const char *folder, size_t length);
 
-/* The number of globs of a set. GLOBSET_DONE: it is in `len`. GLOBSET_WRONG_KIND. It takes no memory. */
-globset_status globset_raw_set_len(globset_lent *set, size_t *len);
+/* Asks globset_searcher_is_match of `count` paths. `paths` has the bytes of all, one path behind another, and `length`
+ * bytes in all. Path number i is the bytes from end_offsets[i - 1], and from 0 for the first, up to end_offsets[i],
+ * without that one. GLOBSET_OK: answers[i] is 1 if some glob matches path number i, and else 0. GLOBSET_EOFFSETS and
+ * GLOBSET_ENOMEM, and then no answer was written: the call takes a byte for each path, and gives it back. */
+GLOBSET_CHECKED int globset_searcher_is_match_many(globset_searcher *searcher, const char *paths, size_t length,
+                                                   const size_t *end_offsets, size_t count, uint8_t *answers);
 
-/* Makes a work. It fits a set without globs, and is grown as it is used. GLOBSET_DONE, GLOBSET_OUT_OF_MEMORY. */
-globset_status globset_raw_work_new(globset_owned *out);
+void globset_searcher_free(globset_searcher *searcher);
 
-/* Grows a work, if need be, so that it fits this set or matcher, and all that it fitted before. GLOBSET_DONE;
- * GLOBSET_WRONG_KIND and GLOBSET_OUT_OF_MEMORY, and then the work fits what it fitted before. With a work that fits, no
- * question about one path takes memory or can end in GLOBSET_OUT_OF_MEMORY. */
-globset_status globset_raw_work_fit(globset_owned *work, globset_lent *set_or_matcher);
+/* ---- One glob ---- */
 
-/* Whether some glob of the set matches the path: GLOBSET_YES or GLOBSET_NO. A glob that is read as `**` followed by `/..`
- * matches no path in a set. If the work does not fit the set, it is grown first, and only that can end in
- * GLOBSET_OUT_OF_MEMORY. GLOBSET_WRONG_KIND. */
-globset_status globset_raw_set_is_match(globset_lent *set, globset_owned *work, const uint8_t *path, size_t path_len);
+/* Reads a glob. GLOBSET_EGLOB: `error` says what is wrong with the text. GLOBSET_EUTF8, GLOBSET_EOPTIONS,
+ * GLOBSET_ENOMEM. */
+GLOBSET_CHECKED int globset_glob_new(const char *text, size_t length, uint32_t options, globset_error *error,
+                                     globset_glob **glob);
 
-/* Whether all globs of the set match the path: GLOBSET_YES or GLOBSET_NO. Otherwise as globset_raw_set_is_match. */
-globset_status globset_raw_set_matches_all(globset_lent *set, globset_owned *work, const uint8_t *path, size_t path_len);
+/* Writes a regular expression that matches the paths that the glob matches. GLOBSET_EBUFFER, GLOBSET_ENOMEM. */
+GLOBSET_CHECKED int globset_glob_regex(const globset_glob *glob, char *buffer, size_t size, size_t *length);
 
-/* Finds the indexes of the globs of the set that match the path, ascending. GLOBSET_DONE: `indexes` lends them; they may be
- * read until the next call that the work is passed to, globset_raw_free too. The caller writes nothing there. Otherwise
- * `indexes` has the count 0. If the work does not fit the set, or has no room for as many indexes as the set has globs, it
- * is grown first, and only that can end in GLOBSET_OUT_OF_MEMORY. GLOBSET_WRONG_KIND. */
-globset_status globset_raw_set_matches(globset_lent *set, globset_owned *work, const uint8_t *path, size_t path_len,
-                                       globset_indexes *indexes);
+void globset_glob_free(globset_glob *glob);
 
-/* Asks globset_raw_set_is_match of many paths. Path number i is the bytes from ends[i - 1] (from 0 for the first) up to
- * ends[i], without that one. GLOBSET_DONE: answers[i] is 1 if some glob matches path number i, and else 0. Otherwise no
- * answer was written: GLOBSET_BAD_ENDS, GLOBSET_WRONG_KIND, GLOBSET_OUT_OF_MEMORY: the call takes a byte for each path, and
- * gives it back. Bytes after the last end belong to no path. */
-globset_status globset_raw_set_is_match_many(globset_lent *set, globset_owned *work, const uint8_t *paths, size_t paths_len,
-                                             const size_t *ends, size_t ends_len, uint8_t *answers, size_t answers_len);
+/* Makes a matcher of a glob, with all the memory that its questions need. GLOBSET_ENOMEM. */
+GLOBSET_CHECKED int globset_matcher_new(const globset_glob *glob, globset_matcher **matcher);
 
-/* Makes a searcher of a set. It shares what the set matches with, so the set may be freed. It takes the memory that questions
- * about one path need: eight bytes for each glob, as much as a work that fits the set, and up to 16 MB more if several
- * globs need an automaton. GLOBSET_DONE, GLOBSET_WRONG_KIND, GLOBSET_OUT_OF_MEMORY. */
-globset_status globset_raw_searcher_new(globset_lent *set, globset_owned *out);
+/* Returns whether the glob matches the path. This takes no memory, and cannot fail but for null and for an object that
+ * is no matcher. */
+GLOBSET_CHECKED int globset_matcher_is_match(globset_matcher *matcher, const char *path, size_t length);
 
-/* Whether some glob of the searcher's set matches the path: GLOBSET_YES or GLOBSET_NO, the same as of
- * globset_raw_set_is_match. It takes no memory. GLOBSET_WRONG_KIND: the object is no searcher, and is as it was. */
-globset_status globset_raw_searcher_is_match(globset_owned *searcher, const uint8_t *path, size_t path_len);
+void globset_matcher_free(globset_matcher *matcher);
 
-/* Whether all globs of the searcher's set match the path: GLOBSET_YES or GLOBSET_NO. Otherwise as
- * globset_raw_searcher_is_match. */
-globset_status globset_raw_searcher_matches_all(globset_owned *searcher, const uint8_t *path, size_t path_len);
+/* Writes the text with each of `?`, `*`, `[`, `]`, `{` and `}` in brackets: a glob that matches this text and no other,
+ * if its options are the default and the text has no `\`. GLOBSET_EUTF8, GLOBSET_EBUFFER, GLOBSET_ENOMEM. */
+GLOBSET_CHECKED int globset_escape(const char *text, size_t text_length, char *buffer, size_t size, size_t *length);
 
-/* Finds the indexes of the globs of the searcher's set that match the path, ascending. It takes no memory. GLOBSET_DONE: the
- * searcher has them in place of those that it found before, and `count` tells how many they are. GLOBSET_WRONG_KIND: the
- * object is no searcher, and is as it was. */
-globset_status globset_raw_searcher_find(globset_owned *searcher, const uint8_t *path, size_t path_len, size_t *count);
+/* ---- Sets, glob by glob ---- */
 
-/* Lends the indexes that the last globset_raw_searcher_find found, or none if there was no such call. It takes no memory.
- * GLOBSET_DONE: they may be read until the next call that the searcher is passed to, globset_raw_free too. The caller writes
- * nothing there. GLOBSET_WRONG_KIND: the object is no searcher, and `indexes` has the count 0. */
-globset_status globset_raw_searcher_found(globset_owned *searcher, globset_indexes *indexes);
+/* Makes a builder without globs. GLOBSET_ENOMEM. */
+GLOBSET_CHECKED int globset_builder_new(globset_builder **builder);
 
-/* Asks globset_raw_searcher_is_match of many paths, as globset_raw_set_is_match_many asks of a set: with the same ends, answers
- * and statuses. */
-globset_status globset_raw_searcher_is_match_many(globset_owned *searcher, const uint8_t *paths, size_t paths_len,
-                                                  const size_t *ends, size_t ends_len, uint8_t *answers, size_t answers_len);
+/* Adds a copy of a glob after those that the builder has. GLOBSET_ENOMEM. */
+GLOBSET_CHECKED int globset_builder_add(globset_builder *builder, const globset_glob *glob);
 
-/* Whether some glob of the searcher's set matches some path below the folder, which is the folder, a `/`, and any bytes,
- * perhaps none: GLOBSET_YES or GLOBSET_NO. A walk over folders need not open one that is answered by GLOBSET_NO. Otherwise
- * as globset_raw_searcher_is_match. */
-globset_status globset_raw_searcher_can_match_below(globset_owned *searcher, const uint8_t *folder, size_t folder_len);
+/* Makes the set of the builder's globs, in the order in which they were added: the first has index 0. Then the builder
+ * has no globs, and can be used for another set. GLOBSET_ENOMEM. */
+GLOBSET_CHECKED int globset_builder_build(globset_builder *builder, globset_set **set);
 
-/* Writes the text with each of `?`, `*`, `[`, `]`, `{` and `}` in brackets: a glob that matches this text and no other, if
- * its options are the default and the text has no `\`. GLOBSET_DONE and GLOBSET_TOO_SMALL as at globset_raw_error_text.
- * GLOBSET_NOT_UTF8, GLOBSET_OUT_OF_MEMORY. */
-globset_status globset_raw_escape(const uint8_t *text, size_t text_len, uint8_t *room, size_t room_len, size_t *needed);
+void globset_builder_free(globset_builder *builder);
 
-/* Frees an object of any kind. The caller owns it, it is lent to nobody, and what it lends is not read any more. */
-void globset_raw_free(globset_owned object);
+/* ---- Versions ---- */
 
-/* GLOBSET_VERSION and GLOBSET_INTERFACE of the library, which may differ from those of the header. */
+/* Returns GLOBSET_VERSION of the library, which may differ from that of the header. */
 uint32_t globset_version(void);
+
+/* Returns GLOBSET_INTERFACE of the library. */
 uint32_t globset_interface(void);
-
-/* ---- For C and C++ ---- */
-
-/* Handles by kind, so that the compiler refuses a glob where a set is wanted. A handle that is passed by value is lent to
- * the call; one that is passed by address is in that call alone. All of them are freed by the `_free` of their kind. */
-typedef struct globset_glob {
-    globset_owned object;
-} globset_glob;
-typedef struct globset_matcher {
-    globset_owned object;
-} globset_matcher;
-typedef struct globset_builder {
-    globset_owned object;
-} globset_builder;
-typedef struct globset_set {
-    globset_owned object;
-} globset_set;
-typedef struct globset_work {
-    globset_owned object;
-} globset_work;
-typedef struct globset_searcher {
-    globset_owned object;
-} globset_searcher;
-
-/* A place that may be pointed to where there is nothing. */
-static const size_t globset_no_indexes[1] = {0};
-
-static inline globset_lent globset_lend(globset_owned object) {
-    globset_lent lent;
-    lent.at = object.at;
-    return lent;
-}
-
-static inline const uint8_t *globset_bytes(const void *bytes) {
-    return bytes ? (const uint8_t *)bytes : (const uint8_t *)globset_no_indexes;
-}
-
-static inline globset_status globset_glob_new(const void *text, size_t text_len, uint32_t options, globset_error *error,
-                                              globset_glob *out) {
-    return globset_raw_glob_new(globset_bytes(text), text_len, options, error, &out->object);
-}
-
-static inline void globset_glob_free(globset_glob glob) { globset_raw_free(glob.object); }
-
-/* With `room` null and `room_len` 0 the call tells the length alone, by GLOBSET_TOO_SMALL and `needed`. */
-static inline globset_status globset_error_text(const void *text, size_t text_len, uint32_t options, char *room,
-                                                size_t room_len, size_t *needed) {
-    uint8_t none = 0;
-    return globset_raw_error_text(globset_bytes(text), text_len, options, room ? (uint8_t *)room : &none, room_len, needed);
-}
-
-static inline globset_status globset_glob_regex(globset_glob glob, char *room, size_t room_len, size_t *needed) {
-    globset_lent lent = globset_lend(glob.object);
-    uint8_t none = 0;
-    return globset_raw_glob_regex(&lent, room ? (uint8_t *)room : &none, room_len, needed);
-}
-
-static inline globset_status globset_matcher_new(globset_glob glob, globset_matcher *out) {
-    globset_lent lent = globset_lend(glob.object);
-    return globset_raw_matcher_new(&lent, &out->object);
-}
-
-static inline void globset_matcher_free(globset_matcher matcher) { globset_raw_free(matcher.object); }
-
-static inline globset_status globset_matcher_is_match(globset_matcher matcher, globset_work *work, const void *path,
-                                                      size_t path_len) {
-    globset_lent lent = globset_lend(matcher.object);
-    return globset_raw_matcher_is_match(&lent, &work->object, globset_bytes(path), path_len);
-}
-
-static inline globset_status globset_builder_new(globset_builder *out) { return globset_raw_builder_new(&out->object); }
-
-static inline void globset_builder_free(globset_builder builder) { globset_raw_free(builder.object); }
-
-static inline globset_status globset_builder_add(globset_builder *builder, globset_glob glob) {
-    globset_lent lent = globset_lend(glob.object);
-    return globset_raw_builder_add(&builder->object, &lent);
-}
-
-static inline globset_status globset_builder_build(globset_builder *builder, globset_set *out) {
-    return globset_raw_builder_build(&builder->object, &out->object);
-}
-
-static inline void globset_set_free(globset_set set) { globset_raw_free(set.object); }
-
-static inline size_t globset_set_len(globset_set set) {
-    globset_lent lent = globset_lend(set.object);
-    size_t len = 0;
-    globset_raw_set_len(&lent, &len);
-    return len;
-}
-
-static inline globset_status globset_work_new(globset_work *out) { return globset_raw_work_new(&out->object); }
-
-static inline void globset_work_free(globset_work work) { globset_raw_free(work.object); }
-
-static inline globset_status globset_work_fit_set(globset_work *work, globset_set set) {
-    globset_lent lent = globset_lend(set.object);
-    return globset_raw_work_fit(&work->object, &lent);
-}
-
-static inline globset_status globset_work_fit_matcher(globset_work *work, globset_matcher matcher) {
-    globset_lent lent = globset_lend(matcher.object);
-    return globset_raw_work_fit(&work->object, &lent);
-}
-
-/* Compare the result with GLOBSET_YES: an error is no answer, and GLOBSET_NO is not 0. */
-static inline globset_status globset_set_is_match(globset_set set, globset_work *work, const void *path, size_t path_len) {
-    globset_lent lent = globset_lend(set.object);
-    return globset_raw_set_is_match(&lent, &work->object, globset_bytes(path), path_len);
-}
-
-static inline globset_status globset_set_matches_all(globset_set set, globset_work *work, const void *path, size_t path_len) {
-    globset_lent lent = globset_lend(set.object);
-    return globset_raw_set_matches_all(&lent, &work->object, globset_bytes(path), path_len);
-}
-
-static inline globset_status globset_set_matches(globset_set set, globset_work *work, const void *path, size_t path_len,
-                                                 globset_indexes *indexes) {
-    globset_lent lent = globset_lend(set.object);
-    indexes->at = globset_no_indexes;
-    indexes->count = 0;
-    return globset_raw_set_matches(&lent, &work->object, globset_bytes(path), path_len, indexes);
-}
-
-static inline globset_status globset_set_is_match_many(globset_set set, globset_work *work, const void *paths, size_t paths_len,
-                                                       const size_t *ends, uint8_t *answers, size_t count) {
-    globset_lent lent = globset_lend(set.object);
-    uint8_t none = 0;
-    return globset_raw_set_is_match_many(&lent, &work->object, globset_bytes(paths), paths_len,
-                                         ends ? ends : globset_no_indexes, count, answers ? answers : &none, count);
-}
-
-static inline globset_status globset_searcher_new(globset_set set, globset_searcher *out) {
-    globset_lent lent = globset_lend(set.object);
-    return globset_raw_searcher_new(&lent, &out->object);
-}
-
-static inline void globset_searcher_free(globset_searcher searcher) { globset_raw_free(searcher.object); }
-
-static inline globset_status globset_searcher_is_match(globset_searcher *searcher, const void *path, size_t path_len) {
-    return globset_raw_searcher_is_match(&searcher->object, globset_bytes(path), path_len);
-}
-
-static inline globset_status globset_searcher_matches_all(globset_searcher *searcher, const void *path, size_t path_len) {
-    return globset_raw_searcher_matches_all(&searcher->object, globset_bytes(path), path_len);
-}
-
-static inline globset_status globset_searcher_find(globset_searcher *searcher, const void *path, size_t path_len,
-                                                   size_t *count) {
-    return globset_raw_searcher_find(&searcher->object, globset_bytes(path), path_len, count);
-}
-
-static inline globset_status globset_searcher_found(globset_searcher *searcher, globset_indexes *indexes) {
-    indexes->at = globset_no_indexes;
-    indexes->count = 0;
-    return globset_raw_searcher_found(&searcher->object, indexes);
-}
-
-/* globset_searcher_find, and then globset_searcher_found. */
-static inline globset_status globset_searcher_matches(globset_searcher *searcher, const void *path, size_t path_len,
-                                                      globset_indexes *indexes) {
-    size_t count = 0;
-    globset_searcher_find(searcher, path, path_len, &count);
-    return globset_searcher_found(searcher, indexes);
-}
-
-static inline globset_status globset_searcher_is_match_many(globset_searcher *searcher, const void *paths, size_t paths_len,
-                                                            const size_t *ends, uint8_t *answers, size_t count) {
-    uint8_t none = 0;
-    return globset_raw_searcher_is_match_many(&searcher->object, globset_bytes(paths), paths_len,
-                                              ends ? ends : globset_no_indexes, count, answers ? answers : &none, count);
-}
-
-static inline globset_status globset_searcher_can_match_below(globset_searcher *searcher, const void *folder,
-                                                              size_t folder_len) {
-    return globset_raw_searcher_can_match_below(&searcher->object, globset_bytes(folder), folder_len);
-}
-
-static inline globset_status globset_escape(const void *text, size_t text_len, char *room, size_t room_len, size_t *needed) {
-    uint8_t none = 0;
-    return globset_raw_escape(globset_bytes(text), text_len, room ? (uint8_t *)room : &none, room_len, needed);
-}
 
 #ifdef __cplusplus
 }

@@ -1,9 +1,10 @@
-/* Each call once or more, on each kind of object, with each status that it has. memory.c is for GLOBSET_OUT_OF_MEMORY. */
-#include "check.h"
+/* Each function of globset.h once or more, with each result that it has. misuse.c is for null and for objects of a
+ * wrong kind, memory.c for GLOBSET_ENOMEM. */
+#include "objects.h"
 
 static void versions(void) {
     CHECK(globset_version() == GLOBSET_VERSION && GLOBSET_VERSION == 4021);
-    CHECK(globset_interface() == GLOBSET_INTERFACE);
+    CHECK(globset_interface() == GLOBSET_INTERFACE && GLOBSET_INTERFACE == 1);
 }
 
 /* Texts that are refused, with the kind and the characters of the first error, and what it says. */
@@ -25,36 +26,37 @@ static void refused(void) {
     };
     for (size_t i = 0; i < sizeof rows / sizeof *rows; i++) {
         globset_error error = {77, 78, 79};
-        globset_glob glob = {{&error}};
-        char room[200];
-        size_t needed = 1000;
-        CHECK(globset_glob_new(TEXT(rows[i].text), 0, &error, &glob) == GLOBSET_REJECTED);
+        globset_glob *glob = (globset_glob *)&error;
+        char buffer[200];
+        size_t length = 1000, needed = strlen(rows[i].says);
+        CHECK(globset_glob_new(TEXT(rows[i].text), 0, &error, &glob) == GLOBSET_EGLOB && glob == NULL);
         CHECK(error.kind == rows[i].kind && error.start == rows[i].start && error.end == rows[i].end);
-        CHECK(glob.object.at == &error);
-        memset(room, '#', sizeof room);
-        CHECK(globset_error_text(TEXT(rows[i].text), 0, room, sizeof room, &needed) == GLOBSET_DONE);
-        CHECK(needed == strlen(rows[i].says) && memcmp(room, rows[i].says, needed) == 0 && room[needed] == '#');
-        needed = 1000;
-        CHECK(globset_error_text(TEXT(rows[i].text), 0, NULL, 0, &needed) == GLOBSET_TOO_SMALL);
-        CHECK(needed == strlen(rows[i].says));
+        memset(buffer, '#', sizeof buffer);
+        CHECK(globset_error_text(TEXT(rows[i].text), 0, buffer, needed, &length) == GLOBSET_EBUFFER);
+        CHECK(length == needed && buffer[0] == '#' && buffer[needed] == '#');
+        CHECK(globset_error_text(TEXT(rows[i].text), 0, NULL, 0, &length) == GLOBSET_EBUFFER && length == needed);
+        CHECK(globset_error_text(TEXT(rows[i].text), 0, buffer, needed + 1, &length) == GLOBSET_OK);
+        CHECK(length == needed && strcmp(buffer, rows[i].says) == 0 && buffer[needed + 1] == '#');
+        CHECK(globset_error_text(TEXT(rows[i].text), 0, buffer, sizeof buffer, NULL) == GLOBSET_OK);
     }
 }
 
-/* The other statuses of a text: each leaves what was there. */
+/* The other results of a text. */
 static void not_read(void) {
     globset_error error = {77, 78, 79};
-    globset_glob glob = {{&error}};
-    char room[8] = "#######";
-    size_t needed = 1000;
-    CHECK(globset_glob_new("\xff", 1, 0, &error, &glob) == GLOBSET_NOT_UTF8);
-    CHECK(globset_glob_new("a", 1, 64, &error, &glob) == GLOBSET_UNKNOWN_OPTION);
-    CHECK(globset_glob_new("\xff", 1, UINT32_MAX, &error, &glob) == GLOBSET_UNKNOWN_OPTION);
-    CHECK(error.kind == 77 && error.start == 78 && error.end == 79 && glob.object.at == &error);
-    CHECK(globset_error_text("\xff", 1, 0, room, 8, &needed) == GLOBSET_NOT_UTF8);
-    CHECK(globset_error_text("a[", 2, 64, room, 8, &needed) == GLOBSET_UNKNOWN_OPTION);
-    CHECK(globset_error_text("*.c", 3, 0, room, 8, &needed) == GLOBSET_NO);
-    CHECK(globset_error_text("a[", 2, GLOBSET_ALLOW_UNCLOSED_CLASS, room, 8, &needed) == GLOBSET_NO);
-    CHECK(memcmp(room, "#######", 8) == 0);
+    globset_glob *glob = (globset_glob *)&error;
+    char buffer[8] = "#######";
+    size_t length = 1000;
+    CHECK(globset_glob_new("\xff", 1, 0, &error, &glob) == GLOBSET_EUTF8 && glob == NULL);
+    CHECK(error.kind == 0 && error.start == 0 && error.end == 0);
+    CHECK(globset_glob_new("a", 1, 64, &error, &glob) == GLOBSET_EOPTIONS);
+    CHECK(globset_glob_new("\xff", 1, UINT32_MAX, NULL, &glob) == GLOBSET_EOPTIONS);
+    CHECK(globset_error_text("\xff", 1, 0, buffer, 8, &length) == GLOBSET_EUTF8 && length == 0);
+    CHECK(globset_error_text("a[", 2, 64, buffer, 8, &length) == GLOBSET_EOPTIONS);
+    length = 1000;
+    CHECK(globset_error_text("*.c", 3, 0, buffer, 8, &length) == GLOBSET_ENONE && length == 0);
+    CHECK(globset_error_text("a[", 2, GLOBSET_ALLOW_UNCLOSED_CLASS, buffer, 8, NULL) == GLOBSET_ENONE);
+    CHECK(memcmp(buffer, "#######", 8) == 0);
 }
 
 /* Each option decides one path, which the default decides otherwise. */
@@ -64,199 +66,189 @@ static void options(void) {
         const char *text, *path;
         int by_default, with;
     } rows[] = {
-        {GLOBSET_CASE_INSENSITIVE, "a.C", "A.c", 0, 1},   {GLOBSET_LITERAL_SEPARATOR, "*.c", "a/b.c", 1, 0},
+        {GLOBSET_CASE_INSENSITIVE, "a.C", "A.c", 0, 1},      {GLOBSET_LITERAL_SEPARATOR, "*.c", "a/b.c", 1, 0},
         {GLOBSET_NO_BACKSLASH_ESCAPE, "a\\*", "a\\b", 0, 1}, {GLOBSET_EMPTY_ALTERNATES, "a{,b}", "a", 0, 1},
         {GLOBSET_WHOLE_CHARACTER, "?", "\xc3\xa9", 0, 1},
     };
-    globset_work work;
-    CHECK(globset_work_new(&work) == GLOBSET_DONE);
+    globset_glob *glob;
     for (size_t i = 0; i < sizeof rows / sizeof *rows; i++) {
         for (int with = 0; with < 2; with++) {
-            globset_glob glob = glob_of(rows[i].text, with ? rows[i].bits : 0);
-            globset_matcher matcher;
-            CHECK(globset_matcher_new(glob, &matcher) == GLOBSET_DONE);
-            globset_glob_free(glob);
+            uint32_t bits = with ? rows[i].bits : 0;
+            globset_matcher *matcher;
+            globset_set *set;
             int wanted = with ? rows[i].with : rows[i].by_default;
-            CHECK(globset_matcher_is_match(matcher, &work, TEXT(rows[i].path)) == (wanted ? GLOBSET_YES : GLOBSET_NO));
+            glob = glob_of(rows[i].text, bits);
+            CHECK(globset_matcher_new(glob, &matcher) == GLOBSET_OK);
+            globset_glob_free(glob);
+            CHECK(globset_matcher_is_match(matcher, TEXT(rows[i].path)) == wanted);
             globset_matcher_free(matcher);
+            CHECK(globset_set_new(&rows[i].text, NULL, &bits, 1, NULL, NULL, &set) == GLOBSET_OK);
+            CHECK(globset_set_is_match(set, TEXT(rows[i].path)) == wanted);
+            globset_set_free(set);
         }
     }
-    globset_error error;
-    globset_glob glob = glob_of("a[*", GLOBSET_ALLOW_UNCLOSED_CLASS), none;
-    CHECK(globset_glob_new("a[*", 3, 0, &error, &none) == GLOBSET_REJECTED);
-    globset_glob_free(glob);
-    glob = glob_of("x", 63);
-    globset_glob_free(glob);
-    globset_work_free(work);
+    CHECK(globset_glob_new("a[*", 3, 0, NULL, &glob) == GLOBSET_EGLOB);
+    globset_glob_free(glob_of("a[*", GLOBSET_ALLOW_UNCLOSED_CLASS));
+    globset_glob_free(glob_of("x", 63));
 }
 
-/* A text and paths with NULs, and paths that are not UTF-8. */
+/* A text and paths with NULs, paths that are not UTF-8, and strings that end in NUL. */
 static void bytes(void) {
-    globset_error error;
-    globset_glob glob;
-    globset_matcher matcher;
-    globset_work work;
-    CHECK(globset_work_new(&work) == GLOBSET_DONE);
-    CHECK(globset_glob_new("a\0*", 3, 0, &error, &glob) == GLOBSET_DONE);
-    CHECK(globset_matcher_new(glob, &matcher) == GLOBSET_DONE);
-    CHECK(globset_matcher_is_match(matcher, &work, "a\0\0b", 4) == GLOBSET_YES);
-    CHECK(globset_matcher_is_match(matcher, &work, "a\0\xff", 3) == GLOBSET_YES);
-    CHECK(globset_matcher_is_match(matcher, &work, "a", 1) == GLOBSET_NO);
+    globset_glob *glob;
+    globset_matcher *matcher;
+    CHECK(globset_glob_new("a\0*", 3, 0, NULL, &glob) == GLOBSET_OK);
+    CHECK(globset_matcher_new(glob, &matcher) == GLOBSET_OK);
+    CHECK(globset_matcher_is_match(matcher, "a\0\0b", 4) == 1);
+    CHECK(globset_matcher_is_match(matcher, "a\0\xff", 3) == 1);
+    CHECK(globset_matcher_is_match(matcher, "a", 1) == 0);
     globset_glob_free(glob);
     globset_matcher_free(matcher);
-    CHECK(globset_glob_new(NULL, 0, 0, &error, &glob) == GLOBSET_DONE);
-    CHECK(globset_matcher_new(glob, &matcher) == GLOBSET_DONE);
-    CHECK(globset_matcher_is_match(matcher, &work, NULL, 0) == GLOBSET_YES);
-    CHECK(globset_matcher_is_match(matcher, &work, "a", 1) == GLOBSET_NO);
+    CHECK(globset_glob_new(NULL, 0, 0, NULL, &glob) == GLOBSET_OK);
+    CHECK(globset_matcher_new(glob, &matcher) == GLOBSET_OK);
+    CHECK(globset_matcher_is_match(matcher, NULL, 0) == 1);
+    CHECK(globset_matcher_is_match(matcher, "", GLOBSET_ZERO_TERMINATED) == 1);
+    CHECK(globset_matcher_is_match(matcher, "a", 1) == 0);
     globset_glob_free(glob);
     globset_matcher_free(matcher);
-    globset_work_free(work);
+    CHECK(globset_glob_new("*.c", GLOBSET_ZERO_TERMINATED, 0, NULL, &glob) == GLOBSET_OK);
+    CHECK(globset_matcher_new(glob, &matcher) == GLOBSET_OK);
+    CHECK(globset_matcher_is_match(matcher, "a.c\0x", GLOBSET_ZERO_TERMINATED) == 1);
+    CHECK(globset_matcher_is_match(matcher, "a.c\0x", 5) == 0);
+    globset_glob_free(glob);
+    globset_matcher_free(matcher);
 }
 
 static void texts(void) {
-    char room[64];
-    size_t needed = 0;
-    globset_glob glob = glob_of("*.{c,h}", 0);
     static const char regex[] = "(?-u)^.*\\.(?:c|h)$";
-    memset(room, '#', sizeof room);
-    CHECK(globset_glob_regex(glob, room, sizeof room, &needed) == GLOBSET_DONE);
-    CHECK(needed == strlen(regex) && memcmp(room, regex, needed) == 0 && room[needed] == '#');
-    CHECK(globset_glob_regex(glob, room, needed, &needed) == GLOBSET_DONE);
-    CHECK(globset_glob_regex(glob, NULL, 0, &needed) == GLOBSET_TOO_SMALL && needed == strlen(regex));
+    char buffer[64];
+    size_t length = 0, needed = strlen(regex);
+    globset_glob *glob = glob_of("*.{c,h}", 0);
+    memset(buffer, '#', sizeof buffer);
+    CHECK(globset_glob_regex(glob, NULL, 0, &length) == GLOBSET_EBUFFER && length == needed);
+    length = 0;
+    CHECK(globset_glob_regex(glob, buffer, needed, &length) == GLOBSET_EBUFFER && length == needed && buffer[0] == '#');
+    CHECK(globset_glob_regex(glob, buffer, needed + 1, &length) == GLOBSET_OK && length == needed);
+    CHECK(strcmp(buffer, regex) == 0 && buffer[needed + 1] == '#');
     globset_glob_free(glob);
-    memset(room, '#', sizeof room);
-    CHECK(globset_escape("a[1]*", 5, room, 3, &needed) == GLOBSET_TOO_SMALL && needed == 11 && room[0] == '#');
-    CHECK(globset_escape("a[1]*", 5, room, 11, &needed) == GLOBSET_DONE && needed == 11);
-    CHECK(memcmp(room, "a[[]1[]][*]#", 12) == 0);
-    CHECK(globset_escape("\0", 1, room, 1, &needed) == GLOBSET_DONE && needed == 1 && room[0] == '\0');
-    CHECK(globset_escape(NULL, 0, NULL, 0, &needed) == GLOBSET_DONE && needed == 0);
-    CHECK(globset_escape("\xff", 1, room, 64, &needed) == GLOBSET_NOT_UTF8);
+    memset(buffer, '#', sizeof buffer);
+    CHECK(globset_escape("a[1]*", 5, buffer, 3, &length) == GLOBSET_EBUFFER && length == 11 && buffer[0] == '#');
+    CHECK(globset_escape("a[1]*", 5, buffer, 12, &length) == GLOBSET_OK && length == 11);
+    CHECK(memcmp(buffer, "a[[]1[]][*]\0#", 13) == 0);
+    CHECK(globset_escape("\0", 1, buffer, 2, &length) == GLOBSET_OK && length == 1 && buffer[0] == '\0');
+    length = 7;
+    CHECK(globset_escape(NULL, 0, NULL, 0, &length) == GLOBSET_EBUFFER && length == 0);
+    buffer[0] = '#';
+    CHECK(globset_escape(NULL, 0, buffer, 1, &length) == GLOBSET_OK && length == 0 && buffer[0] == '\0');
+    CHECK(globset_escape("\xff", 1, buffer, 64, &length) == GLOBSET_EUTF8 && length == 0);
 }
 
-static void sets(void) {
-    static const char *const globs[] = {"*.c", "src/*", "**/..", "*a*b*"};
-    globset_set set = set_of(globs, 4), empty = set_of(globs, 0), some = set_of(globs, 2);
-    globset_work work;
-    globset_indexes found;
-    CHECK(globset_work_new(&work) == GLOBSET_DONE);
-    CHECK(globset_set_len(set) == 4 && globset_set_len(empty) == 0);
-    CHECK(globset_set_is_match(empty, &work, TEXT("a.c")) == GLOBSET_NO);
-    CHECK(globset_set_matches_all(empty, &work, TEXT("a.c")) == GLOBSET_YES);
-    CHECK(globset_set_is_match(set, &work, TEXT("a.c")) == GLOBSET_YES);
-    CHECK(globset_set_is_match(set, &work, TEXT("x/..")) == GLOBSET_NO);
-    CHECK(globset_set_matches_all(set, &work, TEXT("src/ab.c")) == GLOBSET_NO);
-    CHECK(globset_set_matches_all(some, &work, TEXT("src/x.c")) == GLOBSET_YES);
-    CHECK(globset_set_matches_all(some, &work, TEXT("x.c")) == GLOBSET_NO);
-    CHECK(globset_set_matches(set, &work, TEXT("src/ab.c"), &found) == GLOBSET_DONE);
-    CHECK(found.count == 3 && found.at[0] == 0 && found.at[1] == 1 && found.at[2] == 3);
-    CHECK(globset_set_matches(set, &work, TEXT("x"), &found) == GLOBSET_DONE && found.count == 0);
-    CHECK(globset_set_matches(some, &work, TEXT("src/ab"), &found) == GLOBSET_DONE && found.count == 1 && found.at[0] == 1);
-    CHECK(globset_set_matches(empty, &work, TEXT("x"), &found) == GLOBSET_DONE && found.count == 0);
-    CHECK(globset_work_fit_set(&work, set) == GLOBSET_DONE);
-    globset_work_free(work);
+/* Sets of many texts, and which text is wrong. */
+static void compiled(void) {
+    static const char *const globs[] = {"*.c", "src/*", "a\0b", "[z-a]", "{"};
+    static const size_t lengths[] = {3, 5, 3, 5, 1};
+    static const uint32_t bits[] = {0, GLOBSET_LITERAL_SEPARATOR, 0, 64, 0};
+    static const char *const not_utf8[] = {"a", "b", "\xff"};
+    globset_error error = {77, 78, 79};
+    globset_set *set = (globset_set *)&error;
+    size_t index = 99;
+    CHECK(globset_set_new(globs, lengths, bits, 3, &error, &index, &set) == GLOBSET_OK);
+    CHECK(error.kind == 0 && error.start == 0 && globset_set_length(set) == 3);
+    CHECK(globset_set_is_match(set, "a\0b", 3) == 1 && globset_set_is_match(set, "a", 1) == 0);
+    CHECK(globset_set_is_match(set, "src/a", 5) == 1 && globset_set_is_match(set, "src/a/b", 7) == 0);
     globset_set_free(set);
-    globset_set_free(empty);
-    globset_set_free(some);
+    CHECK(globset_set_new(globs, lengths, bits, 5, &error, &index, &set) == GLOBSET_EOPTIONS && index == 3);
+    CHECK(set == NULL && error.kind == 0);
+    CHECK(globset_set_new(globs, lengths, NULL, 5, &error, &index, &set) == GLOBSET_EGLOB && index == 3);
+    CHECK(set == NULL && error.kind == GLOBSET_INVALID_RANGE && error.start == 'z' && error.end == 'a');
+    CHECK(globset_set_new(globs + 4, NULL, NULL, 1, &error, &index, &set) == GLOBSET_EGLOB && index == 0);
+    CHECK(error.kind == GLOBSET_UNCLOSED_ALTERNATES);
+    CHECK(globset_set_new(not_utf8, NULL, NULL, 3, &error, &index, &set) == GLOBSET_EUTF8 && index == 2 && set == NULL);
+    CHECK(globset_set_new(NULL, NULL, NULL, 0, NULL, NULL, &set) == GLOBSET_OK && globset_set_length(set) == 0);
+    CHECK(globset_set_is_match(set, NULL, 0) == 0);
+    globset_set_free(set);
 }
 
 /* A builder that is built twice: the globs go into the first set. */
 static void builders(void) {
-    globset_builder builder;
-    globset_set first, second;
-    globset_glob glob = glob_of("*.c", 0);
-    CHECK(globset_builder_new(&builder) == GLOBSET_DONE);
-    CHECK(globset_builder_add(&builder, glob) == GLOBSET_DONE && globset_builder_add(&builder, glob) == GLOBSET_DONE);
-    CHECK(globset_builder_build(&builder, &first) == GLOBSET_DONE && globset_set_len(first) == 2);
-    CHECK(globset_builder_add(&builder, glob) == GLOBSET_DONE);
-    CHECK(globset_builder_build(&builder, &second) == GLOBSET_DONE && globset_set_len(second) == 1);
+    globset_builder *builder;
+    globset_set *first, *second, *third;
+    globset_glob *glob = glob_of("*.c", 0);
+    CHECK(globset_builder_new(&builder) == GLOBSET_OK);
+    CHECK(globset_builder_add(builder, glob) == GLOBSET_OK && globset_builder_add(builder, glob) == GLOBSET_OK);
+    CHECK(globset_builder_build(builder, &first) == GLOBSET_OK && globset_set_length(first) == 2);
+    CHECK(globset_builder_add(builder, glob) == GLOBSET_OK);
     globset_glob_free(glob);
+    CHECK(globset_builder_build(builder, &second) == GLOBSET_OK && globset_set_length(second) == 1);
+    CHECK(globset_builder_build(builder, &third) == GLOBSET_OK && globset_set_length(third) == 0);
     globset_builder_free(builder);
+    CHECK(globset_set_is_match(second, "a.c", 3) == 1 && globset_set_is_match(third, "a.c", 3) == 0);
     globset_set_free(first);
     globset_set_free(second);
+    globset_set_free(third);
 }
 
-static void many(void) {
-    static const char *const globs[] = {"*.c", "*a*b*"};
-    globset_set set = set_of(globs, 2);
-    globset_work work;
-    uint8_t answers[5];
-    static const char paths[] = "x.cx.hab\xff.c#";
-    static const size_t ends[] = {3, 6, 6, 8, 11};
-    static const uint8_t wanted[] = {1, 0, 0, 1, 1};
-    CHECK(globset_work_new(&work) == GLOBSET_DONE);
-    CHECK(globset_set_is_match_many(set, &work, paths, 11, ends, answers, 5) == GLOBSET_DONE);
-    CHECK(memcmp(answers, wanted, 5) == 0);
-    CHECK(globset_set_is_match_many(set, &work, NULL, 0, NULL, NULL, 0) == GLOBSET_DONE);
-    memset(answers, 7, 5);
-    CHECK(globset_set_is_match_many(set, &work, paths, 10, ends, answers, 5) == GLOBSET_BAD_ENDS);
-    static const size_t descending[] = {3, 2};
-    CHECK(globset_set_is_match_many(set, &work, paths, 11, descending, answers, 2) == GLOBSET_BAD_ENDS);
-    globset_lent lent = globset_lend(set.object);
-    CHECK(globset_raw_set_is_match_many(&lent, &work.object, (const uint8_t *)paths, 11, ends, 5, answers, 4) ==
-          GLOBSET_BAD_ENDS);
-    CHECK(answers[0] == 7 && answers[1] == 7 && answers[4] == 7);
-    globset_searcher searcher;
-    CHECK(globset_searcher_new(set, &searcher) == GLOBSET_DONE);
-    CHECK(globset_searcher_is_match_many(&searcher, paths, 10, ends, answers, 5) == GLOBSET_BAD_ENDS);
-    CHECK(globset_searcher_is_match_many(&searcher, paths, 11, descending, answers, 2) == GLOBSET_BAD_ENDS);
-    CHECK(globset_raw_searcher_is_match_many(&searcher.object, (const uint8_t *)paths, 11, ends, 5, answers, 4) ==
-          GLOBSET_BAD_ENDS);
-    CHECK(answers[0] == 7 && answers[1] == 7 && answers[4] == 7);
-    CHECK(globset_searcher_is_match_many(&searcher, paths, 11, ends, answers, 5) == GLOBSET_DONE);
-    CHECK(memcmp(answers, wanted, 5) == 0);
-    CHECK(globset_searcher_is_match_many(&searcher, NULL, 0, NULL, NULL, 0) == GLOBSET_DONE);
-    globset_searcher_free(searcher);
-    globset_work_free(work);
-    globset_set_free(set);
-}
-
-/* Searchers answer as their sets do, also after these were freed, and keep what they found until they find again. */
+/* Searchers keep what they need after their sets were freed. */
 static void searchers(void) {
     static const char *const globs[] = {"*.c", "src/*", "**/..", "*a*b*"};
-    globset_set set = set_of(globs, 4), empty = set_of(globs, 0), some = set_of(globs, 2);
-    globset_searcher searcher, of_empty, of_some;
-    globset_indexes found, again;
-    size_t count = 9;
-    CHECK(globset_searcher_new(set, &searcher) == GLOBSET_DONE && globset_searcher_new(empty, &of_empty) == GLOBSET_DONE);
-    CHECK(globset_searcher_new(some, &of_some) == GLOBSET_DONE);
-    globset_set_free(set);
-    globset_set_free(empty);
-    CHECK(globset_searcher_found(&searcher, &found) == GLOBSET_DONE && found.count == 0);
-    CHECK(globset_searcher_is_match(&of_empty, TEXT("a.c")) == GLOBSET_NO);
-    CHECK(globset_searcher_matches_all(&of_empty, TEXT("a.c")) == GLOBSET_YES);
-    CHECK(globset_searcher_can_match_below(&of_empty, TEXT("a")) == GLOBSET_NO);
-    CHECK(globset_searcher_find(&of_empty, TEXT("a.c"), &count) == GLOBSET_DONE && count == 0);
-    CHECK(globset_searcher_is_match(&searcher, TEXT("a.c")) == GLOBSET_YES);
-    CHECK(globset_searcher_is_match(&searcher, TEXT("x/..")) == GLOBSET_NO);
-    CHECK(globset_searcher_matches_all(&searcher, TEXT("src/ab.c")) == GLOBSET_NO);
-    CHECK(globset_searcher_matches_all(&of_some, TEXT("src/x.c")) == GLOBSET_YES);
-    CHECK(globset_searcher_matches_all(&of_some, TEXT("x.c")) == GLOBSET_NO);
-    CHECK(globset_searcher_find(&searcher, TEXT("src/ab.c"), &count) == GLOBSET_DONE && count == 3);
-    CHECK(globset_searcher_is_match(&searcher, TEXT("x")) == GLOBSET_NO);
-    CHECK(globset_searcher_found(&searcher, &found) == GLOBSET_DONE);
-    CHECK(found.count == 3 && found.at[0] == 0 && found.at[1] == 1 && found.at[2] == 3);
-    CHECK(globset_searcher_found(&searcher, &again) == GLOBSET_DONE && again.count == 3 && again.at[2] == 3);
-    CHECK(globset_searcher_matches(&of_some, TEXT("src/ab"), &found) == GLOBSET_DONE && found.count == 1 && found.at[0] == 1);
-    CHECK(globset_searcher_matches(&searcher, NULL, 0, &found) == GLOBSET_DONE && found.count == 0);
+    static const size_t three[] = {0, 1, 3}, one[] = {1};
+    globset_searcher *searcher = searcher_of(globs, 4), *empty = searcher_of(globs, 0), *some = searcher_of(globs, 2);
+    CHECK(globset_searcher_is_match(empty, TEXT("a.c")) == 0);
+    CHECK(globset_searcher_matches_all(empty, TEXT("a.c")) == 1);
+    CHECK(globset_searcher_can_match_below(empty, TEXT("a")) == 0);
+    CHECK(finds(empty, "a.c", NULL, 0));
+    CHECK(globset_searcher_is_match(searcher, TEXT("a.c")) == 1);
+    CHECK(globset_searcher_is_match(searcher, TEXT("x/..")) == 0);
+    CHECK(globset_searcher_matches_all(searcher, TEXT("src/ab.c")) == 0);
+    CHECK(globset_searcher_matches_all(some, TEXT("src/x.c")) == 1);
+    CHECK(globset_searcher_matches_all(some, TEXT("x.c")) == 0);
+    CHECK(finds(searcher, "src/ab.c", three, 3) && finds(some, "src/ab", one, 1) && finds(searcher, "x", NULL, 0));
+    CHECK(finds(searcher, "", NULL, 0));
     globset_searcher_free(searcher);
-    globset_searcher_free(of_empty);
-    CHECK(globset_set_len(some) == 2);
-    globset_set_free(some);
-    globset_searcher_free(of_some);
+    globset_searcher_free(empty);
+    globset_searcher_free(some);
+}
+
+/* A searcher of a set and a matcher differ in one glob, which a set leaves out. */
+static void excluded(void) {
+    static const char *const text = "**/..";
+    globset_glob *glob = glob_of(text, 0);
+    globset_matcher *matcher;
+    globset_searcher *searcher = searcher_of(&text, 1);
+    CHECK(globset_matcher_new(glob, &matcher) == GLOBSET_OK);
+    CHECK(globset_matcher_is_match(matcher, TEXT("x/..")) == 1);
+    CHECK(globset_searcher_is_match(searcher, TEXT("x/..")) == 0);
+    globset_glob_free(glob);
+    globset_matcher_free(matcher);
+    globset_searcher_free(searcher);
 }
 
 /* Whether a path below a folder can match. */
 static void folders(void) {
     static const char *const globs[] = {"src/**", "doc/*.txt"};
-    globset_set set = set_of(globs, 2);
-    globset_searcher searcher;
-    CHECK(globset_searcher_new(set, &searcher) == GLOBSET_DONE);
-    CHECK(globset_searcher_can_match_below(&searcher, TEXT("src")) == GLOBSET_YES);
-    CHECK(globset_searcher_can_match_below(&searcher, TEXT("src/a/b")) == GLOBSET_YES);
-    CHECK(globset_searcher_can_match_below(&searcher, TEXT("doc")) == GLOBSET_YES);
-    CHECK(globset_searcher_can_match_below(&searcher, TEXT("target")) == GLOBSET_NO);
+    globset_searcher *searcher = searcher_of(globs, 2);
+    CHECK(globset_searcher_can_match_below(searcher, TEXT("src")) == 1);
+    CHECK(globset_searcher_can_match_below(searcher, TEXT("src/a/b")) == 1);
+    CHECK(globset_searcher_can_match_below(searcher, TEXT("doc")) == 1);
+    CHECK(globset_searcher_can_match_below(searcher, TEXT("target")) == 0);
     globset_searcher_free(searcher);
-    globset_set_free(set);
+}
+
+static void many(void) {
+    static const char *const globs[] = {"*.c", "*a*b*"};
+    static const char paths[] = "x.cx.hab\xff.c#";
+    static const size_t ends[] = {3, 6, 6, 8, 11}, descending[] = {3, 2};
+    static const uint8_t wanted[] = {1, 0, 0, 1, 1};
+    uint8_t answers[5];
+    globset_searcher *searcher = searcher_of(globs, 2);
+    memset(answers, 7, 5);
+    CHECK(globset_searcher_is_match_many(searcher, paths, 10, ends, 5, answers) == GLOBSET_EOFFSETS);
+    CHECK(globset_searcher_is_match_many(searcher, paths, 11, descending, 2, answers) == GLOBSET_EOFFSETS);
+    CHECK(globset_searcher_is_match_many(searcher, NULL, 0, ends, 1, answers) == GLOBSET_EOFFSETS);
+    CHECK(answers[0] == 7 && answers[1] == 7 && answers[4] == 7);
+    CHECK(globset_searcher_is_match_many(searcher, paths, 11, ends, 5, answers) == GLOBSET_OK);
+    CHECK(memcmp(answers, wanted, 5) == 0);
+    CHECK(globset_searcher_is_match_many(searcher, NULL, 0, NULL, 0, NULL) == GLOBSET_OK);
+    globset_searcher_free(searcher);
 }
 
 /* A hundred globs for which a searcher keeps rows of an automaton: it answers as the set does, whatever came before. */
@@ -264,108 +256,29 @@ static void many_globs(void) {
     enum { GLOBS = 100, PATHS = 500 };
     static char texts[GLOBS][32];
     static const char *globs[GLOBS];
+    uint32_t seed = 1;
+    size_t all = 0;
     for (int i = 0; i < GLOBS; i++) {
         snprintf(texts[i], sizeof texts[i], "*%c*%c*%c*", 'a' + i % 26, 'a' + i / 4, 'a' + i % 7);
         globs[i] = texts[i];
     }
-    globset_set set = set_of(globs, GLOBS);
-    globset_work work;
-    globset_searcher searcher;
-    globset_indexes by_set, by_searcher;
-    uint32_t seed = 1;
-    size_t all = 0;
-    CHECK(globset_work_new(&work) == GLOBSET_DONE && globset_searcher_new(set, &searcher) == GLOBSET_DONE);
+    globset_set *set = set_of(globs, GLOBS);
+    globset_searcher *searcher = searcher_of(globs, GLOBS);
     for (int i = 0; i < PATHS; i++) {
         char path[40];
-        size_t len = (size_t)i % sizeof path;
-        for (size_t k = 0; k < len; k++) path[k] = (char)('a' + (seed = seed * 1664525 + 1013904223) / 65536 % 26);
-        CHECK(globset_set_matches(set, &work, path, len, &by_set) == GLOBSET_DONE);
-        CHECK(globset_searcher_matches(&searcher, path, len, &by_searcher) == GLOBSET_DONE);
-        CHECK(by_set.count == by_searcher.count);
-        CHECK(memcmp(by_set.at, by_searcher.at, by_set.count * sizeof *by_set.at) == 0);
-        CHECK(globset_searcher_is_match(&searcher, path, len) == (by_set.count > 0 ? GLOBSET_YES : GLOBSET_NO));
-        all += by_set.count;
+        const size_t *indexes;
+        size_t length = (size_t)i % sizeof path, count;
+        for (size_t k = 0; k < length; k++) path[k] = (char)('a' + (seed = seed * 1664525 + 1013904223) / 65536 % 26);
+        CHECK(globset_searcher_matches(searcher, path, length, &indexes, &count) == GLOBSET_OK);
+        for (size_t k = 1; k < count; k++) CHECK(indexes[k - 1] < indexes[k]);
+        CHECK(count == 0 || indexes[count - 1] < GLOBS);
+        CHECK(globset_searcher_is_match(searcher, path, length) == (count > 0));
+        CHECK(globset_set_is_match(set, path, length) == (count > 0));
+        all += count;
     }
     CHECK(all > PATHS);
     globset_searcher_free(searcher);
-    globset_work_free(work);
     globset_set_free(set);
-}
-
-/* An object that is no searcher, in the place of one. Results are as they were. */
-static void no_searcher(globset_owned *object) {
-    static const size_t indexes[1] = {7};
-    const uint8_t *path = (const uint8_t *)"a.c";
-    const size_t end = 3;
-    globset_indexes found = {indexes, 1};
-    uint8_t byte = 9;
-    size_t count = 9;
-    CHECK(globset_raw_searcher_is_match(object, path, 3) == GLOBSET_WRONG_KIND);
-    CHECK(globset_raw_searcher_matches_all(object, path, 3) == GLOBSET_WRONG_KIND);
-    CHECK(globset_raw_searcher_can_match_below(object, path, 3) == GLOBSET_WRONG_KIND);
-    CHECK(globset_raw_searcher_find(object, path, 3, &count) == GLOBSET_WRONG_KIND && count == 9);
-    CHECK(globset_raw_searcher_found(object, &found) == GLOBSET_WRONG_KIND && found.count == 0);
-    CHECK(globset_raw_searcher_is_match_many(object, path, 3, &end, 1, &byte, 1) == GLOBSET_WRONG_KIND && byte == 9);
-}
-
-/* Objects of the wrong kind, each in each place. They are as they were. No object is lent and owned in one call. */
-static void wrong_kinds(void) {
-    static const char *const globs[] = {"*.c"};
-    globset_glob glob = glob_of("*.c", 0);
-    globset_matcher matcher;
-    globset_builder builder;
-    globset_set set = set_of(globs, 1);
-    globset_work work;
-    globset_searcher searcher;
-    CHECK(globset_matcher_new(glob, &matcher) == GLOBSET_DONE && globset_searcher_new(set, &searcher) == GLOBSET_DONE);
-    CHECK(globset_builder_new(&builder) == GLOBSET_DONE && globset_work_new(&work) == GLOBSET_DONE);
-    globset_owned *const objects[6] = {&glob.object, &matcher.object, &builder.object,
-                                       &set.object,  &work.object,    &searcher.object};
-    const uint8_t *path = (const uint8_t *)"a.c";
-    for (int i = 0; i < 6; i++) {
-        globset_lent lent = globset_lend(*objects[i]);
-        globset_owned out = {&lent};
-        uint8_t byte = 9;
-        size_t size = 9;
-        const size_t end = 3;
-        globset_indexes found = {globset_no_indexes, 0};
-        CHECK(i == 0 || globset_raw_glob_regex(&lent, &byte, 1, &size) == GLOBSET_WRONG_KIND);
-        CHECK(i == 0 || globset_raw_matcher_new(&lent, &out) == GLOBSET_WRONG_KIND);
-        CHECK(i == 0 || i == 2 || globset_raw_builder_add(&builder.object, &lent) == GLOBSET_WRONG_KIND);
-        CHECK(i == 1 || i == 4 || globset_raw_matcher_is_match(&lent, &work.object, path, 3) == GLOBSET_WRONG_KIND);
-        CHECK(i == 3 || globset_raw_set_len(&lent, &size) == GLOBSET_WRONG_KIND);
-        CHECK(i == 3 || globset_raw_searcher_new(&lent, &out) == GLOBSET_WRONG_KIND);
-        if (i < 3 || i == 5) {
-            CHECK(globset_raw_set_is_match(&lent, &work.object, path, 3) == GLOBSET_WRONG_KIND);
-            CHECK(globset_raw_set_matches_all(&lent, &work.object, path, 3) == GLOBSET_WRONG_KIND);
-            CHECK(globset_raw_set_matches(&lent, &work.object, path, 3, &found) == GLOBSET_WRONG_KIND && found.count == 0);
-            CHECK(globset_raw_set_is_match_many(&lent, &work.object, path, 3, &end, 1, &byte, 1) == GLOBSET_WRONG_KIND);
-        }
-        CHECK(i == 1 || i == 3 || i == 4 || globset_raw_work_fit(&work.object, &lent) == GLOBSET_WRONG_KIND);
-        CHECK(byte == 9 && size == 9 && out.at == &lent);
-        globset_lent lent_set = globset_lend(set.object);
-        CHECK(i == 3 || i == 4 || globset_raw_set_is_match(&lent_set, objects[i], path, 3) == GLOBSET_WRONG_KIND);
-        CHECK(i == 3 || i == 4 || globset_raw_set_matches_all(&lent_set, objects[i], path, 3) == GLOBSET_WRONG_KIND);
-        CHECK(i == 3 || i == 4 || globset_raw_set_matches(&lent_set, objects[i], path, 3, &found) == GLOBSET_WRONG_KIND);
-        CHECK(i == 3 || i == 4 ||
-              globset_raw_set_is_match_many(&lent_set, objects[i], path, 3, &end, 1, &byte, 1) == GLOBSET_WRONG_KIND);
-        CHECK(i == 3 || i == 4 || globset_raw_work_fit(objects[i], &lent_set) == GLOBSET_WRONG_KIND);
-        CHECK(i == 2 || globset_raw_builder_build(objects[i], &out) == GLOBSET_WRONG_KIND);
-        if (i < 5) no_searcher(objects[i]);
-    }
-    globset_lent lent_glob = globset_lend(glob.object);
-    globset_owned out = {&lent_glob};
-    CHECK(globset_raw_builder_add(&set.object, &lent_glob) == GLOBSET_WRONG_KIND);
-    CHECK(globset_raw_builder_build(&set.object, &out) == GLOBSET_WRONG_KIND && out.at == &lent_glob);
-    CHECK(globset_set_is_match(set, &work, "a.c", 3) == GLOBSET_YES);
-    CHECK(globset_matcher_is_match(matcher, &work, "a.c", 3) == GLOBSET_YES);
-    CHECK(globset_searcher_is_match(&searcher, "a.c", 3) == GLOBSET_YES);
-    globset_glob_free(glob);
-    globset_matcher_free(matcher);
-    globset_builder_free(builder);
-    globset_set_free(set);
-    globset_work_free(work);
-    globset_searcher_free(searcher);
 }
 
 int main(void) {
@@ -375,13 +288,13 @@ int main(void) {
     options();
     bytes();
     texts();
-    sets();
+    compiled();
     builders();
-    many();
     searchers();
+    excluded();
     folders();
+    many();
     many_globs();
-    wrong_kinds();
     puts("calls: passed");
     return 0;
 }

@@ -1,4 +1,4 @@
-"""The C library by ctypes: the numbers, types and functions of globset.h, and the memory that calls use."""
+"""The C library by ctypes: the numbers, types and functions of globset_raw.h, and the memory that calls use."""
 
 from __future__ import annotations
 

@@ -1,6 +1,6 @@
 //! The C library behind the crate. All `unsafe` of the crate is in this file.
 //!
-//! Each `SAFETY` comment cites, in quotation marks, the sentence of `globset.h` on which the block rests. Four promises of a
+//! Each `SAFETY` comment cites, in quotation marks, the sentence of `globset_raw.h` on which the block rests. Four promises of a
 //! caller hold in every call here, and are not repeated:
 //!
 //! - "Each pointer and the length beside it are one array that stays allocated, and that nobody else writes, during the call.

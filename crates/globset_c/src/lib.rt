@@ -1,4 +1,4 @@
-//! Globs and sets of globs for C. `bindings/c/globset.h` says what C has to promise, function by function.
+//! Globs and sets of globs for C. `bindings/c/globset_raw.h` says what C has to promise, function by function.
 //!
 //! Each function that C calls is safe code. The memory behind what C owns and lends is reached by [`owned`] and [`lent`] alone.
 #![tactic(auto)]

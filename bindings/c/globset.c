@@ -1,0 +1,369 @@
+/* globset.c: the functions of globset.h, over the proved ones of globset_raw.h. This file is read and tested, and not
+ * proved.
+ *
+ * It tests pointers for null, passes texts and objects on, and turns statuses into results. A pointer to a glob, a set,
+ * a builder or a searcher is the address in the raw handle of the object. That address stays the same: globs and sets
+ * are lent alone, and the calls on builders and searchers reach the object through the handle, which they do not write
+ * (`Owned::as_mut` in crates/globset_c). Only calls that take a work write a handle, so a matcher is a struct that
+ * keeps the handles of its two objects. */
+#include "globset_raw.h"
+
+#include "allocator.h"
+
+#include <stdbool.h>
+#include <string.h>
+
+/* What is passed on in place of null: an address of bytes and of indexes, of which none are read or written. */
+static const size_t no_items[1];
+static uint8_t no_room[1];
+
+/* ---- Results ---- */
+
+const char *globset_status_text(int status) {
+    static const char *const errors[] = {
+        "the call did what it is for, or the answer is no",
+        "a pointer is null that must not be",
+        "memory ran out",
+        "the text is no glob",
+        "the text of a glob is not UTF-8",
+        "the options have an unknown bit",
+        "an end offset is below the one before it, or beyond the bytes",
+        "the buffer is too small",
+        "an object is of another kind than its pointer says",
+        "the text is a glob, so it has no error",
+    };
+    static const int count = sizeof errors / sizeof *errors;
+    if (status == 1) return "the answer is yes";
+    return status <= 0 && status > -count ? errors[-status] : "no result of this library";
+}
+
+static int result_of(globset_status status) {
+    switch (status) {
+    case GLOBSET_DONE: return GLOBSET_OK;
+    case GLOBSET_NO: return 0;
+    case GLOBSET_YES: return 1;
+    case GLOBSET_OUT_OF_MEMORY: return GLOBSET_ENOMEM;
+    case GLOBSET_REJECTED: return GLOBSET_EGLOB;
+    case GLOBSET_NOT_UTF8: return GLOBSET_EUTF8;
+    case GLOBSET_UNKNOWN_OPTION: return GLOBSET_EOPTIONS;
+    case GLOBSET_BAD_ENDS: return GLOBSET_EOFFSETS;
+    case GLOBSET_TOO_SMALL: return GLOBSET_EBUFFER;
+    default: return GLOBSET_EKIND;
+    }
+}
+
+/* ---- Texts and objects ---- */
+
+/* The bytes that a caller passes. The address is never null. */
+struct bytes {
+    const uint8_t *at;
+    size_t length;
+};
+
+/* Finds the bytes that a pointer and a length stand for. Returns false if the pointer is null and must not be. */
+static bool find_bytes(const char *at, size_t length, struct bytes *bytes) {
+    if (at == NULL) {
+        bytes->at = (const uint8_t *)no_items;
+        bytes->length = 0;
+        return length == 0;
+    }
+    bytes->at = (const uint8_t *)at;
+    bytes->length = length == GLOBSET_ZERO_TERMINATED ? strlen(at) : length;
+    return true;
+}
+
+static uint8_t *room_in(char *buffer) { return buffer != NULL ? (uint8_t *)buffer : no_room; }
+
+/* How many bytes of a buffer are left beside the NUL. */
+static size_t room_of(size_t size) { return size > 0 ? size - 1 : 0; }
+
+/* Ends a call that wrote a text of `needed` bytes into a buffer, or found that it has no room for it. */
+static int end_text(globset_status status, char *buffer, size_t size, size_t needed, size_t *length) {
+    bool has_text = status == GLOBSET_DONE || status == GLOBSET_TOO_SMALL;
+    if (length != NULL) *length = has_text ? needed : 0;
+    if (status != GLOBSET_DONE) return result_of(status);
+    if (size == 0) return GLOBSET_EBUFFER;
+    buffer[needed] = '\0';
+    return GLOBSET_OK;
+}
+
+/* Ends a call on a buffer before it began, since a pointer is null. */
+static int end_null(size_t *length) {
+    if (length != NULL) *length = 0;
+    return GLOBSET_ENULL;
+}
+
+static globset_lent lend(const void *object) {
+    globset_lent lent;
+    lent.at = object;
+    return lent;
+}
+
+static globset_owned own(void *object) {
+    globset_owned owned;
+    owned.at = object;
+    return owned;
+}
+
+static void free_object(void *object) {
+    if (object != NULL) globset_raw_free(own(object));
+}
+
+/* ---- Errors of globs ---- */
+
+int globset_error_text(const char *text, size_t text_length, uint32_t options, char *buffer, size_t size,
+                       size_t *length) {
+    struct bytes bytes;
+    size_t needed = 0;
+    globset_status status;
+    if (!find_bytes(text, text_length, &bytes) || (buffer == NULL && size > 0)) return end_null(length);
+    status = globset_raw_error_text(bytes.at, bytes.length, options, room_in(buffer), room_of(size), &needed);
+    if (status != GLOBSET_NO) return end_text(status, buffer, size, needed, length);
+    if (length != NULL) *length = 0;
+    return GLOBSET_ENONE;
+}
+
+int globset_escape(const char *text, size_t text_length, char *buffer, size_t size, size_t *length) {
+    struct bytes bytes;
+    size_t needed = 0;
+    globset_status status;
+    if (!find_bytes(text, text_length, &bytes) || (buffer == NULL && size > 0)) return end_null(length);
+    status = globset_raw_escape(bytes.at, bytes.length, room_in(buffer), room_of(size), &needed);
+    return end_text(status, buffer, size, needed, length);
+}
+
+/* ---- Globs ---- */
+
+int globset_glob_new(const char *text, size_t length, uint32_t options, globset_error *error, globset_glob **glob) {
+    globset_error found = {0, 0, 0};
+    globset_owned made = own(NULL);
+    struct bytes bytes;
+    globset_status status;
+    if (error != NULL) *error = found;
+    if (glob == NULL) return GLOBSET_ENULL;
+    *glob = NULL;
+    if (!find_bytes(text, length, &bytes)) return GLOBSET_ENULL;
+    status = globset_raw_glob_new(bytes.at, bytes.length, options, &found, &made);
+    if (error != NULL) *error = found;
+    *glob = made.at;
+    return result_of(status);
+}
+
+int globset_glob_regex(const globset_glob *glob, char *buffer, size_t size, size_t *length) {
+    globset_lent lent = lend(glob);
+    size_t needed = 0;
+    globset_status status;
+    if (glob == NULL || (buffer == NULL && size > 0)) return end_null(length);
+    status = globset_raw_glob_regex(&lent, room_in(buffer), room_of(size), &needed);
+    return end_text(status, buffer, size, needed, length);
+}
+
+void globset_glob_free(globset_glob *glob) { free_object(glob); }
+
+/* ---- Matchers ---- */
+
+/* The first word tells a matcher from the objects of the library, which begin with a small number. */
+struct globset_matcher {
+    uint64_t kind;
+    globset_owned matcher;
+    globset_owned work;
+};
+static const uint64_t MATCHER_KIND = UINT64_C(0xf1f2f3f4f5f6f7f8);
+
+static int fill_matcher(globset_matcher *matcher, const globset_glob *glob) {
+    globset_lent lent = lend(glob);
+    globset_status status = globset_raw_matcher_new(&lent, &matcher->matcher);
+    if (status == GLOBSET_DONE) status = globset_raw_work_new(&matcher->work);
+    if (status != GLOBSET_DONE) return result_of(status);
+    lent = lend(matcher->matcher.at);
+    return result_of(globset_raw_work_fit(&matcher->work, &lent));
+}
+
+int globset_matcher_new(const globset_glob *glob, globset_matcher **matcher) {
+    struct rattle_block block;
+    globset_matcher *made;
+    int result;
+    if (matcher == NULL) return GLOBSET_ENULL;
+    *matcher = NULL;
+    if (glob == NULL) return GLOBSET_ENULL;
+    block = rattle_alloc(sizeof *made, sizeof(uint64_t));
+    if (!block.ok) return GLOBSET_ENOMEM;
+    made = block.at;
+    made->kind = MATCHER_KIND;
+    made->matcher = own(NULL);
+    made->work = own(NULL);
+    result = fill_matcher(made, glob);
+    if (result == GLOBSET_OK)
+        *matcher = made;
+    else
+        globset_matcher_free(made);
+    return result;
+}
+
+int globset_matcher_is_match(globset_matcher *matcher, const char *path, size_t length) {
+    struct bytes bytes;
+    globset_lent lent;
+    if (matcher == NULL || !find_bytes(path, length, &bytes)) return GLOBSET_ENULL;
+    if (matcher->kind != MATCHER_KIND) return GLOBSET_EKIND;
+    lent = lend(matcher->matcher.at);
+    return result_of(globset_raw_matcher_is_match(&lent, &matcher->work, bytes.at, bytes.length));
+}
+
+void globset_matcher_free(globset_matcher *matcher) {
+    if (matcher == NULL) return;
+    free_object(matcher->matcher.at);
+    free_object(matcher->work.at);
+    rattle_dealloc(matcher);
+}
+
+/* ---- Builders ---- */
+
+int globset_builder_new(globset_builder **builder) {
+    globset_owned made = own(NULL);
+    globset_status status;
+    if (builder == NULL) return GLOBSET_ENULL;
+    status = globset_raw_builder_new(&made);
+    *builder = made.at;
+    return result_of(status);
+}
+
+int globset_builder_add(globset_builder *builder, const globset_glob *glob) {
+    globset_owned owned = own(builder);
+    globset_lent lent = lend(glob);
+    if (builder == NULL || glob == NULL) return GLOBSET_ENULL;
+    return result_of(globset_raw_builder_add(&owned, &lent));
+}
+
+int globset_builder_build(globset_builder *builder, globset_set **set) {
+    globset_owned owned = own(builder), made = own(NULL);
+    globset_status status;
+    if (set == NULL) return GLOBSET_ENULL;
+    *set = NULL;
+    if (builder == NULL) return GLOBSET_ENULL;
+    status = globset_raw_builder_build(&owned, &made);
+    *set = made.at;
+    return result_of(status);
+}
+
+void globset_builder_free(globset_builder *builder) { free_object(builder); }
+
+/* ---- Sets ---- */
+
+static int add_text(globset_builder *builder, const char *text, size_t length, uint32_t options, globset_error *error) {
+    globset_glob *glob;
+    int result = globset_glob_new(text, length, options, error, &glob);
+    if (result == GLOBSET_OK) result = globset_builder_add(builder, glob);
+    globset_glob_free(glob);
+    return result;
+}
+
+int globset_set_new(const char *const *texts, const size_t *lengths, const uint32_t *options, size_t count,
+                    globset_error *error, size_t *index, globset_set **set) {
+    static const globset_error none = {0, 0, 0};
+    globset_builder *builder = NULL;
+    int result;
+    if (error != NULL) *error = none;
+    if (index != NULL) *index = 0;
+    if (set == NULL) return GLOBSET_ENULL;
+    *set = NULL;
+    if (texts == NULL && count > 0) return GLOBSET_ENULL;
+    result = globset_builder_new(&builder);
+    for (size_t i = 0; i < count && result == GLOBSET_OK; i++) {
+        size_t length = lengths != NULL ? lengths[i] : GLOBSET_ZERO_TERMINATED;
+        if (index != NULL) *index = i;
+        result = add_text(builder, texts[i], length, options != NULL ? options[i] : 0, error);
+    }
+    if (result == GLOBSET_OK) result = globset_builder_build(builder, set);
+    globset_builder_free(builder);
+    return result;
+}
+
+size_t globset_set_length(const globset_set *set) {
+    globset_lent lent = lend(set);
+    size_t length = 0;
+    if (set != NULL) (void)globset_raw_set_len(&lent, &length);
+    return length;
+}
+
+int globset_set_is_match(const globset_set *set, const char *path, size_t length) {
+    globset_lent lent = lend(set);
+    globset_owned work = own(NULL);
+    struct bytes bytes;
+    globset_status status;
+    if (set == NULL || !find_bytes(path, length, &bytes)) return GLOBSET_ENULL;
+    status = globset_raw_work_new(&work);
+    if (status != GLOBSET_DONE) return result_of(status);
+    status = globset_raw_set_is_match(&lent, &work, bytes.at, bytes.length);
+    globset_raw_free(work);
+    return result_of(status);
+}
+
+void globset_set_free(globset_set *set) { free_object(set); }
+
+/* ---- Searchers ---- */
+
+int globset_searcher_new(const globset_set *set, globset_searcher **searcher) {
+    globset_lent lent = lend(set);
+    globset_owned made = own(NULL);
+    globset_status status;
+    if (searcher == NULL) return GLOBSET_ENULL;
+    *searcher = NULL;
+    if (set == NULL) return GLOBSET_ENULL;
+    status = globset_raw_searcher_new(&lent, &made);
+    *searcher = made.at;
+    return result_of(status);
+}
+
+int globset_searcher_is_match(globset_searcher *searcher, const char *path, size_t length) {
+    globset_owned owned = own(searcher);
+    struct bytes bytes;
+    if (searcher == NULL || !find_bytes(path, length, &bytes)) return GLOBSET_ENULL;
+    return result_of(globset_raw_searcher_is_match(&owned, bytes.at, bytes.length));
+}
+
+int globset_searcher_matches_all(globset_searcher *searcher, const char *path, size_t length) {
+    globset_owned owned = own(searcher);
+    struct bytes bytes;
+    if (searcher == NULL || !find_bytes(path, length, &bytes)) return GLOBSET_ENULL;
+    return result_of(globset_raw_searcher_matches_all(&owned, bytes.at, bytes.length));
+}
+
+int globset_searcher_matches(globset_searcher *searcher, const char *path, size_t length, const size_t **indexes,
+                             size_t *count) {
+    globset_owned owned = own(searcher);
+    globset_indexes found = {no_items, 0};
+    struct bytes bytes;
+    globset_status status;
+    size_t number = 0;
+    if (indexes != NULL) *indexes = NULL;
+    if (count != NULL) *count = 0;
+    if (searcher == NULL || indexes == NULL || count == NULL) return GLOBSET_ENULL;
+    if (!find_bytes(path, length, &bytes)) return GLOBSET_ENULL;
+    status = globset_raw_searcher_find(&owned, bytes.at, bytes.length, &number);
+    if (status == GLOBSET_DONE) status = globset_raw_searcher_found(&owned, &found);
+    if (status != GLOBSET_DONE) return result_of(status);
+    *indexes = found.at;
+    *count = found.count;
+    return GLOBSET_OK;
+}
+
+int globset_searcher_can_match_below(globset_searcher *searcher, const char *folder, size_t length) {
+    globset_owned owned = own(searcher);
+    struct bytes bytes;
+    if (searcher == NULL || !find_bytes(folder, length, &bytes)) return GLOBSET_ENULL;
+    return result_of(globset_raw_searcher_can_match_below(&owned, bytes.at, bytes.length));
+}
+
+int globset_searcher_is_match_many(globset_searcher *searcher, const char *paths, size_t length,
+                                   const size_t *end_offsets, size_t count, uint8_t *answers) {
+    globset_owned owned = own(searcher);
+    struct bytes bytes;
+    if (searcher == NULL || !find_bytes(paths, length, &bytes)) return GLOBSET_ENULL;
+    if (count > 0 && (end_offsets == NULL || answers == NULL)) return GLOBSET_ENULL;
+    if (end_offsets == NULL) end_offsets = no_items;
+    if (answers == NULL) answers = no_room;
+    return result_of(
+        globset_raw_searcher_is_match_many(&owned, bytes.at, bytes.length, end_offsets, count, answers, count));
+}
+
+void globset_searcher_free(globset_searcher *searcher) { free_object(searcher); }

@@ -1,0 +1,211 @@
+/* globset_raw.h: the proved functions, as bindings of other languages call them. Programs in C and C++ call those of
+ * globset.h, which are made of these (globset.c).
+ *
+ * The functions are written in Rattle. Each has a contract that the checker proves: it says what the function returns
+ * and leaves if its caller keeps the promises below. Parameters are pointers, lengths and structs of one pointer, and
+ * no pointer is null. The bits of options, the kinds of errors and the two numbers of the version are those of
+ * globset.h.
+ *
+ * Objects. A glob, a matcher, a builder, a set, a work and a searcher are objects on the heap. A handle is a struct of
+ * one pointer.
+ *
+ *  - Who has an object *owns* it: `globset_owned`. An owned object is in one call at a time. It is freed once, by
+ *    `globset_raw_free`, and its handle is not used after that. It may go to another thread, which then uses and frees
+ *    it, if what the first thread did with it comes before, by a lock, or by the start or the end of a thread.
+ *  - A glob, a matcher and a set may be *lent*: `globset_lent` has the same address. Lent objects are only read, so one
+ *    object may be lent to any number of calls at once, in any threads. Each call gets a `globset_lent` of its own (the
+ *    struct, not the object). While an object is lent, from before the call until it has returned, nobody passes it to
+ *    a call as `globset_owned`: it is not freed, for instance.
+ *  - A work is the memory that one thread matches with. It serves any number of sets and matchers, and grows with them.
+ *    It belongs to one thread at a time.
+ *  - A searcher is a set with all the memory that one thread matches with. It shares what the set matches with, and so
+ *    may be used after the set was freed. It belongs to one thread at a time, and several threads make a searcher each.
+ *    A question about one path takes no memory and cannot fail. A program that asks a set about many paths asks a
+ *    searcher of it.
+ *
+ * Texts and paths are bytes with a length. They need no NUL at the end and may have NULs inside. A path is any bytes.
+ * The text of a glob has to be UTF-8, and the library tests that.
+ *
+ * What the caller promises in every call:
+ *
+ *  - Each pointer and the length beside it are one array that stays allocated, and that nobody else writes, during the
+ *    call. At the exported functions it is never null, at length 0 too. A pointer to a result points to memory that
+ *    nobody else uses during the call, and that overlaps no other argument.
+ *  - A handle is one that a call of this library wrote, or a copy of that. The caller neither reads nor writes through
+ *    `at`. A call that is passed the address of a handle of an owned object may write the handle: the one that is there
+ *    afterwards counts.
+ *  - No call is made from a signal handler, nor in the child of a `fork` of a process with several threads.
+ *  - There is stack for a call. What it takes does not grow with texts, paths or the depth of braces.
+ *
+ * What the library promises in every call: it reads and writes nothing else, it returns, it never ends the process, and
+ * it keeps nothing of its arguments but what is said below. Running out of memory is the status GLOBSET_OUT_OF_MEMORY;
+ * all objects then hold what they held before the call, but that a work may have grown, and can be used on. After any
+ * status but GLOBSET_DONE, GLOBSET_NO and GLOBSET_YES no new object was made, and each result that has no sentence of
+ * its own is as it was.
+ */
+#ifndef GLOBSET_RAW_H
+#define GLOBSET_RAW_H
+
+#include "globset.h"
+
+#ifdef __cplusplus
+extern "C" {
+#endif
+
+/* ---- Numbers ---- */
+
+/* What a call returns. A number means the same in all calls. */
+typedef uint32_t globset_status;
+enum {
+    GLOBSET_DONE = 0,           /* the call did what it is for */
+    GLOBSET_NO = 1,             /* the answer is no */
+    GLOBSET_YES = 2,            /* the answer is yes */
+    GLOBSET_OUT_OF_MEMORY = 3,  /* memory ran out */
+    GLOBSET_REJECTED = 4,       /* the text is no glob: it has an error */
+    GLOBSET_NOT_UTF8 = 5,       /* the text is not UTF-8 */
+    GLOBSET_UNKNOWN_OPTION = 6, /* the options have a bit that is none of those of globset.h */
+    GLOBSET_WRONG_KIND = 7,     /* an object is not of the kind that is asked for, as a glob in place of a set */
+    GLOBSET_BAD_ENDS = 8,       /* an end of a path is below the one before it, or beyond the bytes, or has no answer */
+    GLOBSET_TOO_SMALL = 9       /* the text is longer than the room for it */
+};
+
+/* ---- Types ---- */
+
+/* An object that the caller owns. Before a call that makes an object, `at` may be anything. */
+typedef struct globset_owned {
+    void *at;
+} globset_owned;
+
+/* An object that is lent: `at` is that of the `globset_owned`. */
+typedef struct globset_lent {
+    const void *at;
+} globset_lent;
+
+/* Indexes that a work or a searcher lends. Before a call that writes them they have to be valid: with the count 0 `at`
+ * is any address of a size_t. */
+typedef struct globset_indexes {
+    const size_t *at;
+    size_t count;
+} globset_indexes;
+
+/* ---- Exported functions ---- */
+
+/* Reads a glob. GLOBSET_DONE: `out` owns the glob of exactly this text and these options. GLOBSET_REJECTED: `error` is
+ * the text's first error. GLOBSET_NOT_UTF8, GLOBSET_UNKNOWN_OPTION, GLOBSET_OUT_OF_MEMORY. */
+globset_status globset_raw_glob_new(const uint8_t *text, size_t text_len, uint32_t options, globset_error *error,
+                                    globset_owned *out);
+
+/* Writes what the error of a text says, for people, in UTF-8: "error parsing glob '[a': unclosed character class;
+ * missing ']'". GLOBSET_DONE: the first `*needed` bytes of `room` are the text, and the others are as they were.
+ * GLOBSET_TOO_SMALL: `room` is as it was, and `*needed` is the length of the text. GLOBSET_NO: the text is a glob, so
+ * it has no error. GLOBSET_NOT_UTF8, GLOBSET_UNKNOWN_OPTION, GLOBSET_OUT_OF_MEMORY. */
+globset_status globset_raw_error_text(const uint8_t *text, size_t text_len, uint32_t options, uint8_t *room,
+                                      size_t room_len, size_t *needed);
+
+/* Writes a regular expression that matches the paths that the glob matches. GLOBSET_DONE and GLOBSET_TOO_SMALL as at
+ * globset_raw_error_text. GLOBSET_WRONG_KIND, GLOBSET_OUT_OF_MEMORY. */
+globset_status globset_raw_glob_regex(globset_lent *glob, uint8_t *room, size_t room_len, size_t *needed);
+
+/* Makes a matcher of one glob. It keeps a copy of the glob, which may be freed. GLOBSET_DONE, GLOBSET_WRONG_KIND,
+ * GLOBSET_OUT_OF_MEMORY. */
+globset_status globset_raw_matcher_new(globset_lent *glob, globset_owned *out);
+
+/* Whether the matcher's glob matches the path: GLOBSET_YES or GLOBSET_NO. If the work does not fit the matcher, it is
+ * grown first, and only that can end in GLOBSET_OUT_OF_MEMORY. GLOBSET_WRONG_KIND. */
+globset_status globset_raw_matcher_is_match(globset_lent *matcher, globset_owned *work, const uint8_t *path,
+                                            size_t path_len);
+
+/* Makes a builder without globs. GLOBSET_DONE, GLOBSET_OUT_OF_MEMORY. */
+globset_status globset_raw_builder_new(globset_owned *out);
+
+/* Adds a copy of a glob after those that the builder has. GLOBSET_DONE; GLOBSET_WRONG_KIND and GLOBSET_OUT_OF_MEMORY,
+ * and then the builder has the globs that it had. */
+globset_status globset_raw_builder_add(globset_owned *builder, globset_lent *glob);
+
+/* Makes the set of the builder's globs, in the order in which they were added: the first has index 0. GLOBSET_DONE: the
+ * builder has no globs any more, and their memory is given back; the set has what it needs to match. GLOBSET_WRONG_KIND
+ * and GLOBSET_OUT_OF_MEMORY, and then the builder has the globs that it had. */
+globset_status globset_raw_builder_build(globset_owned *builder, globset_owned *out);
+
+/* The number of globs of a set. GLOBSET_DONE: it is in `len`. GLOBSET_WRONG_KIND. It takes no memory. */
+globset_status globset_raw_set_len(globset_lent *set, size_t *len);
+
+/* Makes a work. It fits a set without globs, and is grown as it is used. GLOBSET_DONE, GLOBSET_OUT_OF_MEMORY. */
+globset_status globset_raw_work_new(globset_owned *out);
+
+/* Grows a work, if need be, so that it fits this set or matcher, and all that it fitted before. GLOBSET_DONE;
+ * GLOBSET_WRONG_KIND and GLOBSET_OUT_OF_MEMORY, and then the work fits what it fitted before. With a work that fits, no
+ * question about one path takes memory or can end in GLOBSET_OUT_OF_MEMORY. */
+globset_status globset_raw_work_fit(globset_owned *work, globset_lent *set_or_matcher);
+
+/* Whether some glob of the set matches the path: GLOBSET_YES or GLOBSET_NO. A glob that is read as `**` followed by
+ * `/..` matches no path in a set. If the work does not fit the set, it is grown first, and only that can end in
+ * GLOBSET_OUT_OF_MEMORY. GLOBSET_WRONG_KIND. */
+globset_status globset_raw_set_is_match(globset_lent *set, globset_owned *work, const uint8_t *path, size_t path_len);
+
+/* Whether all globs of the set match the path: GLOBSET_YES or GLOBSET_NO. Otherwise as globset_raw_set_is_match. */
+globset_status globset_raw_set_matches_all(globset_lent *set, globset_owned *work, const uint8_t *path,
+                                           size_t path_len);
+
+/* Finds the indexes of the globs of the set that match the path, ascending. GLOBSET_DONE: `indexes` lends them; they
+ * may be read until the next call that the work is passed to, globset_raw_free too. The caller writes nothing there.
+ * Otherwise `indexes` has the count 0. If the work does not fit the set, or has no room for as many indexes as the set
+ * has globs, it is grown first, and only that can end in GLOBSET_OUT_OF_MEMORY. GLOBSET_WRONG_KIND. */
+globset_status globset_raw_set_matches(globset_lent *set, globset_owned *work, const uint8_t *path, size_t path_len,
+                                       globset_indexes *indexes);
+
+/* Asks globset_raw_set_is_match of many paths. Path number i is the bytes from ends[i - 1] (from 0 for the first) up to
+ * ends[i], without that one. GLOBSET_DONE: answers[i] is 1 if some glob matches path number i, and else 0. Otherwise no
+ * answer was written: GLOBSET_BAD_ENDS, GLOBSET_WRONG_KIND, GLOBSET_OUT_OF_MEMORY: the call takes a byte for each path,
+ * and gives it back. Bytes after the last end belong to no path. */
+globset_status globset_raw_set_is_match_many(globset_lent *set, globset_owned *work, const uint8_t *paths,
+                                             size_t paths_len, const size_t *ends, size_t ends_len, uint8_t *answers,
+                                             size_t answers_len);
+
+/* Makes a searcher of a set. It shares what the set matches with, so the set may be freed. It takes the memory that
+ * questions about one path need: eight bytes for each glob, as much as a work that fits the set, and up to 16 MB more
+ * if several globs need an automaton. GLOBSET_DONE, GLOBSET_WRONG_KIND, GLOBSET_OUT_OF_MEMORY. */
+globset_status globset_raw_searcher_new(globset_lent *set, globset_owned *out);
+
+/* Whether some glob of the searcher's set matches the path: GLOBSET_YES or GLOBSET_NO, the same as of
+ * globset_raw_set_is_match. It takes no memory. GLOBSET_WRONG_KIND: the object is no searcher, and is as it was. */
+globset_status globset_raw_searcher_is_match(globset_owned *searcher, const uint8_t *path, size_t path_len);
+
+/* Whether all globs of the searcher's set match the path: GLOBSET_YES or GLOBSET_NO. Otherwise as
+ * globset_raw_searcher_is_match. */
+globset_status globset_raw_searcher_matches_all(globset_owned *searcher, const uint8_t *path, size_t path_len);
+
+/* Finds the indexes of the globs of the searcher's set that match the path, ascending. It takes no memory.
+ * GLOBSET_DONE: the searcher has them in place of those that it found before, and `count` tells how many they are.
+ * GLOBSET_WRONG_KIND: the object is no searcher, and is as it was. */
+globset_status globset_raw_searcher_find(globset_owned *searcher, const uint8_t *path, size_t path_len, size_t *count);
+
+/* Lends the indexes that the last globset_raw_searcher_find found, or none if there was no such call. It takes no
+ * memory. GLOBSET_DONE: they may be read until the next call that the searcher is passed to, globset_raw_free too. The
+ * caller writes nothing there. GLOBSET_WRONG_KIND: the object is no searcher, and `indexes` has the count 0. */
+globset_status globset_raw_searcher_found(globset_owned *searcher, globset_indexes *indexes);
+
+/* Asks globset_raw_searcher_is_match of many paths, as globset_raw_set_is_match_many asks of a set: with the same ends,
+ * answers and statuses. */
+globset_status globset_raw_searcher_is_match_many(globset_owned *searcher, const uint8_t *paths, size_t paths_len,
+                                                  const size_t *ends, size_t ends_len, uint8_t *answers,
+                                                  size_t answers_len);
+
+/* Whether some glob of the searcher's set matches some path below the folder, which is the folder, a `/`, and any
+ * bytes, perhaps none: GLOBSET_YES or GLOBSET_NO. A walk over folders need not open one that is answered by GLOBSET_NO.
+ * Otherwise as globset_raw_searcher_is_match. */
+globset_status globset_raw_searcher_can_match_below(globset_owned *searcher, const uint8_t *folder, size_t folder_len);
+
+/* Writes the text with each of `?`, `*`, `[`, `]`, `{` and `}` in brackets: a glob that matches this text and no other,
+ * if its options are the default and the text has no `\`. GLOBSET_DONE and GLOBSET_TOO_SMALL as at
+ * globset_raw_error_text. GLOBSET_NOT_UTF8, GLOBSET_OUT_OF_MEMORY. */
+globset_status globset_raw_escape(const uint8_t *text, size_t text_len, uint8_t *room, size_t room_len, size_t *needed);
+
+/* Frees an object of any kind. The caller owns it, it is lent to nobody, and what it lends is not read any more. */
+void globset_raw_free(globset_owned object);
+
+#ifdef __cplusplus
+}
+#endif
+
+#endif

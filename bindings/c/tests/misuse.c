@@ -1,0 +1,197 @@
+/* Null in each place of each function of globset.h, and objects of a wrong kind, as a cast makes them. Each ends in an
+ * error or does nothing, and leaves no object behind. */
+#include "objects.h"
+
+static void frees(void) {
+    globset_glob_free(NULL);
+    globset_matcher_free(NULL);
+    globset_builder_free(NULL);
+    globset_set_free(NULL);
+    globset_searcher_free(NULL);
+}
+
+/* A cleanup that frees all that a function made, whether it was made or not. */
+static void cleanup(void) {
+    globset_set *set = NULL;
+    globset_searcher *searcher = NULL;
+    const char *text = "[";
+    if (globset_set_new(&text, NULL, NULL, 1, NULL, NULL, &set) != GLOBSET_OK) goto end;
+    if (globset_searcher_new(set, &searcher) != GLOBSET_OK) goto end;
+    CHECK(0);
+end:
+    CHECK(set == NULL && searcher == NULL);
+    globset_searcher_free(searcher);
+    globset_set_free(set);
+}
+
+static void texts(void) {
+    globset_error error = {1, 2, 3};
+    globset_glob *glob = (globset_glob *)&error;
+    char buffer[4] = "###";
+    size_t length = 5;
+    CHECK(globset_glob_new(NULL, 1, 0, &error, &glob) == GLOBSET_ENULL && glob == NULL && error.kind == 0);
+    CHECK(globset_glob_new(NULL, GLOBSET_ZERO_TERMINATED, 0, &error, &glob) == GLOBSET_ENULL);
+    CHECK(globset_glob_new("a", 1, 0, &error, NULL) == GLOBSET_ENULL);
+    CHECK(globset_glob_new("[", 1, 0, NULL, &glob) == GLOBSET_EGLOB && glob == NULL);
+    CHECK(globset_error_text(NULL, 1, 0, buffer, 4, &length) == GLOBSET_ENULL && length == 0);
+    length = 5;
+    CHECK(globset_error_text("[", 1, 0, NULL, 4, &length) == GLOBSET_ENULL && length == 0);
+    CHECK(globset_error_text("[", 1, 0, NULL, 0, NULL) == GLOBSET_EBUFFER);
+    CHECK(globset_escape(NULL, 1, buffer, 4, &length) == GLOBSET_ENULL);
+    CHECK(globset_escape("a", 1, NULL, 4, &length) == GLOBSET_ENULL);
+    CHECK(globset_escape("a", 1, buffer, 4, NULL) == GLOBSET_OK && strcmp(buffer, "a") == 0);
+    CHECK(globset_glob_regex(NULL, buffer, 4, &length) == GLOBSET_ENULL && length == 0);
+    glob = glob_of("a", 0);
+    CHECK(globset_glob_regex(glob, NULL, 4, &length) == GLOBSET_ENULL);
+    CHECK(globset_glob_regex(glob, NULL, 0, NULL) == GLOBSET_EBUFFER);
+    globset_glob_free(glob);
+}
+
+static void makers(void) {
+    static const char *const globs[] = {"a", NULL};
+    static const size_t lengths[] = {1, 0}, wrong[] = {1, 1};
+    globset_builder *builder;
+    globset_glob *glob = glob_of("a", 0);
+    globset_set *set = (globset_set *)glob;
+    globset_matcher *matcher = (globset_matcher *)glob;
+    globset_searcher *searcher = (globset_searcher *)glob;
+    size_t index = 9;
+    CHECK(globset_builder_new(NULL) == GLOBSET_ENULL && globset_builder_new(&builder) == GLOBSET_OK);
+    CHECK(globset_builder_add(NULL, glob) == GLOBSET_ENULL && globset_builder_add(builder, NULL) == GLOBSET_ENULL);
+    CHECK(globset_builder_build(builder, NULL) == GLOBSET_ENULL);
+    CHECK(globset_builder_build(NULL, &set) == GLOBSET_ENULL && set == NULL);
+    CHECK(globset_matcher_new(NULL, &matcher) == GLOBSET_ENULL && matcher == NULL);
+    CHECK(globset_matcher_new(glob, NULL) == GLOBSET_ENULL);
+    CHECK(globset_searcher_new(NULL, &searcher) == GLOBSET_ENULL && searcher == NULL);
+    CHECK(globset_set_new(NULL, NULL, NULL, 1, NULL, NULL, &set) == GLOBSET_ENULL && set == NULL);
+    CHECK(globset_set_new(globs, NULL, NULL, 1, NULL, NULL, NULL) == GLOBSET_ENULL);
+    CHECK(globset_set_new(globs, NULL, NULL, 2, NULL, &index, &set) == GLOBSET_ENULL && index == 1 && set == NULL);
+    CHECK(globset_set_new(globs, wrong, NULL, 2, NULL, &index, &set) == GLOBSET_ENULL && index == 1 && set == NULL);
+    CHECK(globset_set_new(globs, lengths, NULL, 2, NULL, NULL, &set) == GLOBSET_OK && globset_set_length(set) == 2);
+    CHECK(globset_searcher_new(set, NULL) == GLOBSET_ENULL);
+    globset_set_free(set);
+    globset_glob_free(glob);
+    globset_builder_free(builder);
+}
+
+static void questions(void) {
+    static const char *const globs[] = {"a"};
+    static const size_t end = 1;
+    globset_glob *glob = glob_of("a", 0);
+    globset_set *set = set_of(globs, 1);
+    globset_searcher *searcher = searcher_of(globs, 1);
+    globset_matcher *matcher;
+    const size_t *indexes = &end;
+    size_t count = 7;
+    uint8_t answer = 7;
+    CHECK(globset_matcher_new(glob, &matcher) == GLOBSET_OK);
+    CHECK(globset_set_length(NULL) == 0);
+    CHECK(globset_set_is_match(NULL, "a", 1) == GLOBSET_ENULL && globset_set_is_match(set, NULL, 1) == GLOBSET_ENULL);
+    CHECK(globset_set_is_match(set, NULL, GLOBSET_ZERO_TERMINATED) == GLOBSET_ENULL);
+    CHECK(globset_matcher_is_match(NULL, "a", 1) == GLOBSET_ENULL);
+    CHECK(globset_matcher_is_match(matcher, NULL, 1) == GLOBSET_ENULL);
+    CHECK(globset_searcher_is_match(NULL, "a", 1) == GLOBSET_ENULL);
+    CHECK(globset_searcher_is_match(searcher, NULL, 1) == GLOBSET_ENULL);
+    CHECK(globset_searcher_matches_all(NULL, "a", 1) == GLOBSET_ENULL);
+    CHECK(globset_searcher_matches_all(searcher, NULL, 1) == GLOBSET_ENULL);
+    CHECK(globset_searcher_can_match_below(NULL, "a", 1) == GLOBSET_ENULL);
+    CHECK(globset_searcher_can_match_below(searcher, NULL, 1) == GLOBSET_ENULL);
+    CHECK(globset_searcher_matches(NULL, "a", 1, &indexes, &count) == GLOBSET_ENULL && indexes == NULL && count == 0);
+    CHECK(globset_searcher_matches(searcher, NULL, 1, &indexes, &count) == GLOBSET_ENULL);
+    CHECK(globset_searcher_matches(searcher, "a", 1, NULL, &count) == GLOBSET_ENULL);
+    CHECK(globset_searcher_matches(searcher, "a", 1, &indexes, NULL) == GLOBSET_ENULL);
+    CHECK(globset_searcher_is_match_many(NULL, "a", 1, &end, 1, &answer) == GLOBSET_ENULL);
+    CHECK(globset_searcher_is_match_many(searcher, NULL, 1, &end, 1, &answer) == GLOBSET_ENULL);
+    CHECK(globset_searcher_is_match_many(searcher, "a", 1, NULL, 1, &answer) == GLOBSET_ENULL && answer == 7);
+    CHECK(globset_searcher_is_match_many(searcher, "a", 1, &end, 1, NULL) == GLOBSET_ENULL);
+    globset_matcher_free(matcher);
+    globset_searcher_free(searcher);
+    globset_set_free(set);
+    globset_glob_free(glob);
+}
+
+/* An object that is no searcher, in the place of one. */
+static void no_searcher(void *object) {
+    static const size_t end = 1;
+    globset_searcher *searcher = (globset_searcher *)object;
+    const size_t *indexes = &end;
+    size_t count = 7;
+    uint8_t answer = 7;
+    CHECK(globset_searcher_is_match(searcher, "a", 1) == GLOBSET_EKIND);
+    CHECK(globset_searcher_matches_all(searcher, "a", 1) == GLOBSET_EKIND);
+    CHECK(globset_searcher_can_match_below(searcher, "a", 1) == GLOBSET_EKIND);
+    CHECK(globset_searcher_matches(searcher, "a", 1, &indexes, &count) == GLOBSET_EKIND && indexes == NULL &&
+          count == 0);
+    CHECK(globset_searcher_is_match_many(searcher, "a", 1, &end, 1, &answer) == GLOBSET_EKIND && answer == 7);
+}
+
+static void no_set(const void *object) {
+    const globset_set *set = (const globset_set *)object;
+    globset_searcher *searcher;
+    CHECK(globset_set_length(set) == 0);
+    CHECK(globset_set_is_match(set, "a", 1) == GLOBSET_EKIND);
+    CHECK(globset_searcher_new(set, &searcher) == GLOBSET_EKIND && searcher == NULL);
+}
+
+static void no_glob(const void *object, globset_builder *builder) {
+    const globset_glob *glob = (const globset_glob *)object;
+    globset_matcher *matcher;
+    size_t length = 7;
+    CHECK(globset_glob_regex(glob, NULL, 0, &length) == GLOBSET_EKIND && length == 0);
+    CHECK(globset_matcher_new(glob, &matcher) == GLOBSET_EKIND && matcher == NULL);
+    if (object != builder) CHECK(globset_builder_add(builder, glob) == GLOBSET_EKIND);
+}
+
+static void no_builder(void *object, const globset_glob *glob) {
+    globset_builder *builder = (globset_builder *)object;
+    globset_set *set;
+    if (object != glob) CHECK(globset_builder_add(builder, glob) == GLOBSET_EKIND);
+    CHECK(globset_builder_build(builder, &set) == GLOBSET_EKIND && set == NULL);
+}
+
+static void wrong_kinds(void) {
+    static const char *const globs[] = {"a"};
+    globset_glob *glob = glob_of("a", 0);
+    globset_set *set = set_of(globs, 1);
+    globset_searcher *searcher = searcher_of(globs, 1);
+    globset_builder *builder;
+    CHECK(globset_builder_new(&builder) == GLOBSET_OK);
+    void *const objects[4] = {glob, set, searcher, builder};
+    for (int i = 0; i < 4; i++) {
+        if (objects[i] != glob) no_glob(objects[i], builder);
+        if (objects[i] != set) no_set(objects[i]);
+        if (objects[i] != searcher) no_searcher(objects[i]);
+        if (objects[i] != builder) no_builder(objects[i], glob);
+        CHECK(globset_matcher_is_match((globset_matcher *)objects[i], "a", 1) == GLOBSET_EKIND);
+    }
+    CHECK(globset_searcher_is_match(searcher, "a", 1) == 1 && globset_set_is_match(set, "a", 1) == 1);
+    globset_glob_free(glob);
+    globset_set_free(set);
+    globset_searcher_free(searcher);
+    globset_builder_free(builder);
+}
+
+/* Each result has a text of its own, and a number that is none has one too. */
+static void status_texts(void) {
+    for (int status = 1; status >= GLOBSET_ENONE; status--)
+        for (int other = 1; other > status; other--)
+            CHECK(strcmp(globset_status_text(status), globset_status_text(other)) != 0);
+    CHECK(strcmp(globset_status_text(GLOBSET_ENOMEM), "memory ran out") == 0);
+    CHECK(strcmp(globset_status_text(GLOBSET_ENULL), "a pointer is null that must not be") == 0);
+    CHECK(strcmp(globset_status_text(GLOBSET_ENONE), "the text is a glob, so it has no error") == 0);
+    CHECK(strcmp(globset_status_text(GLOBSET_ENONE - 1), "no result of this library") == 0);
+    CHECK(strcmp(globset_status_text(2), globset_status_text(GLOBSET_ENONE - 1)) == 0);
+    CHECK(globset_status_text(-2147483647 - 1) != NULL && globset_status_text(2147483647) != NULL);
+}
+
+int main(void) {
+    frees();
+    cleanup();
+    texts();
+    makers();
+    questions();
+    wrong_kinds();
+    status_texts();
+    puts("misuse: passed");
+    return 0;
+}

@@ -1,0 +1,112 @@
+/* Memory that runs out: from the k-th allocation on, each fails, for k = 0, 1, 2, .. until none fails. Each call then
+ * ends in GLOBSET_OUT_OF_MEMORY, all objects are as they were and can be used on, and all memory is given back. */
+#include "raw.h"
+
+#include "../failing.h"
+
+static const char *const globs[] = {"a", "*.rs", "src/**/*.{c,h}", "*b*c*", "**/d.*", "[ab]*"};
+enum { GLOBS = sizeof globs / sizeof *globs };
+
+#define TRY(call, wanted, check) TRY_UNTIL(globset_status, GLOBSET_OUT_OF_MEMORY, call, wanted, check)
+
+static void try_texts(void) {
+    globset_error error = {77, 78, 79};
+    char room[256];
+    size_t needed;
+    raw_glob none = {{&error}};
+    TRY(raw_glob_new(TEXT("{a,b"), 0, &error, &none), GLOBSET_REJECTED,
+        CHECK(error.kind == 77 && none.object.at == &error && blocks == before));
+    TRY(raw_error_text(TEXT("{a,b"), 0, room, sizeof room, &needed), GLOBSET_DONE, CHECK(blocks == before));
+    TRY(raw_escape(TEXT("a*b"), room, sizeof room, &needed), GLOBSET_DONE, CHECK(blocks == before));
+}
+
+static raw_set try_making(raw_matcher *matcher) {
+    raw_builder builder;
+    raw_set set;
+    globset_error error;
+    char room[256];
+    size_t needed;
+    TRY(raw_builder_new(&builder), GLOBSET_DONE, CHECK(blocks == before));
+    for (int i = 0; i < GLOBS; i++) {
+        raw_glob glob;
+        TRY(raw_glob_new(TEXT(globs[i]), 0, &error, &glob), GLOBSET_DONE, CHECK(blocks == before));
+        TRY(raw_glob_regex(glob, room, sizeof room, &needed), GLOBSET_DONE, CHECK(blocks == before));
+        TRY(raw_builder_add(&builder, glob), GLOBSET_DONE, CHECK(blocks == before));
+        if (i == 3) TRY(raw_matcher_new(glob, matcher), GLOBSET_DONE, CHECK(blocks == before));
+        raw_glob_free(glob);
+    }
+    TRY(raw_builder_build(&builder, &set), GLOBSET_DONE, CHECK(blocks == before));
+    CHECK(raw_set_len(set) == GLOBS);
+    raw_builder_free(builder);
+    return set;
+}
+
+/* Each question first with a new work. Once the work fits, no question takes memory. */
+static void try_questions(raw_set set, raw_matcher matcher) {
+    const char *path = "src/a/b.c";
+    const size_t ends[] = {3, 9};
+    uint8_t answers[2];
+    globset_indexes found;
+    for (int question = 0; question < 6; question++) {
+        raw_work work;
+        TRY(raw_work_new(&work), GLOBSET_DONE, CHECK(blocks == before));
+        for (int again = 0; again < 2; again++) {
+            long before_all = failures;
+            switch (question) {
+            case 0: TRY(raw_set_is_match(set, &work, TEXT(path)), GLOBSET_YES, ); break;
+            case 1: TRY(raw_set_matches_all(set, &work, TEXT(path)), GLOBSET_NO, ); break;
+            case 2:
+                TRY(raw_set_matches(set, &work, TEXT(path), &found), GLOBSET_DONE, CHECK(found.count == 0));
+                CHECK(found.count == 2 && found.at[0] == 2 && found.at[1] == 3);
+                break;
+            case 3: TRY(raw_matcher_is_match(matcher, &work, TEXT("abc")), GLOBSET_YES, ); break;
+            case 4:
+                answers[0] = answers[1] = 7;
+                TRY(raw_set_is_match_many(set, &work, TEXT(path), ends, answers, 2), GLOBSET_DONE,
+                    CHECK(answers[0] == 7 && answers[1] == 7));
+                CHECK(answers[0] == 0 && answers[1] == 1);
+                break;
+            case 5:
+                TRY(raw_work_fit_set(&work, set), GLOBSET_DONE, );
+                TRY(raw_work_fit_matcher(&work, matcher), GLOBSET_DONE, );
+                break;
+            }
+            CHECK(again == 0 || question == 4 || failures == before_all);
+        }
+        raw_work_free(work);
+    }
+}
+
+/* Once a searcher is made, no question about one path takes memory. */
+static void try_searcher(raw_set set) {
+    raw_searcher searcher = {{&searcher}};
+    globset_indexes found;
+    TRY(raw_searcher_new(set, &searcher), GLOBSET_DONE, CHECK(blocks == before && searcher.object.at == &searcher));
+    left = 0;
+    CHECK(raw_searcher_is_match(&searcher, TEXT("src/a/b.c")) == GLOBSET_YES);
+    CHECK(raw_searcher_matches_all(&searcher, TEXT("src/a/b.c")) == GLOBSET_NO);
+    CHECK(raw_searcher_can_match_below(&searcher, TEXT("src/a")) == GLOBSET_YES);
+    CHECK(raw_searcher_matches(&searcher, TEXT("src/a/b.c"), &found) == GLOBSET_DONE);
+    CHECK(found.count == 2 && found.at[0] == 2 && found.at[1] == 3);
+    left = -1;
+    const size_t ends[] = {3, 9};
+    uint8_t answers[2] = {7, 7};
+    TRY(raw_searcher_is_match_many(&searcher, TEXT("src/a/b.c"), ends, answers, 2), GLOBSET_DONE,
+        CHECK(blocks == before && answers[0] == 7 && answers[1] == 7));
+    CHECK(answers[0] == 0 && answers[1] == 1);
+    raw_searcher_free(searcher);
+}
+
+int main(void) {
+    try_texts();
+    raw_matcher matcher;
+    raw_set set = try_making(&matcher);
+    try_questions(set, matcher);
+    try_searcher(set);
+    raw_matcher_free(matcher);
+    raw_set_free(set);
+    CHECK(blocks == 0);
+    CHECK(failures > 0);
+    printf("memory: passed, %ld failures of allocations\n", failures);
+    return 0;
+}

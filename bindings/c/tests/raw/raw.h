@@ -1,0 +1,204 @@
+/* Handles by kind over the functions of globset_raw.h, for the tests of these. A handle that is passed by value is lent
+ * to the call; one that is passed by address is in that call alone. */
+#include "../check.h"
+#include "globset_raw.h"
+
+typedef struct raw_glob {
+    globset_owned object;
+} raw_glob;
+typedef struct raw_matcher {
+    globset_owned object;
+} raw_matcher;
+typedef struct raw_builder {
+    globset_owned object;
+} raw_builder;
+typedef struct raw_set {
+    globset_owned object;
+} raw_set;
+typedef struct raw_work {
+    globset_owned object;
+} raw_work;
+typedef struct raw_searcher {
+    globset_owned object;
+} raw_searcher;
+
+/* A place that may be pointed to where there is nothing. */
+static const size_t raw_no_indexes[1] = {0};
+
+static inline globset_lent raw_lend(globset_owned object) {
+    globset_lent lent;
+    lent.at = object.at;
+    return lent;
+}
+
+static inline const uint8_t *raw_bytes(const void *bytes) {
+    return bytes ? (const uint8_t *)bytes : (const uint8_t *)raw_no_indexes;
+}
+
+static inline globset_status raw_glob_new(const void *text, size_t text_len, uint32_t options, globset_error *error,
+                                          raw_glob *out) {
+    return globset_raw_glob_new(raw_bytes(text), text_len, options, error, &out->object);
+}
+
+static inline void raw_glob_free(raw_glob glob) { globset_raw_free(glob.object); }
+
+static inline globset_status raw_error_text(const void *text, size_t text_len, uint32_t options, char *room,
+                                            size_t room_len, size_t *needed) {
+    uint8_t none = 0;
+    return globset_raw_error_text(raw_bytes(text), text_len, options, room ? (uint8_t *)room : &none, room_len, needed);
+}
+
+static inline globset_status raw_glob_regex(raw_glob glob, char *room, size_t room_len, size_t *needed) {
+    globset_lent lent = raw_lend(glob.object);
+    uint8_t none = 0;
+    return globset_raw_glob_regex(&lent, room ? (uint8_t *)room : &none, room_len, needed);
+}
+
+static inline globset_status raw_matcher_new(raw_glob glob, raw_matcher *out) {
+    globset_lent lent = raw_lend(glob.object);
+    return globset_raw_matcher_new(&lent, &out->object);
+}
+
+static inline void raw_matcher_free(raw_matcher matcher) { globset_raw_free(matcher.object); }
+
+static inline globset_status raw_matcher_is_match(raw_matcher matcher, raw_work *work, const void *path,
+                                                  size_t path_len) {
+    globset_lent lent = raw_lend(matcher.object);
+    return globset_raw_matcher_is_match(&lent, &work->object, raw_bytes(path), path_len);
+}
+
+static inline globset_status raw_builder_new(raw_builder *out) { return globset_raw_builder_new(&out->object); }
+
+static inline void raw_builder_free(raw_builder builder) { globset_raw_free(builder.object); }
+
+static inline globset_status raw_builder_add(raw_builder *builder, raw_glob glob) {
+    globset_lent lent = raw_lend(glob.object);
+    return globset_raw_builder_add(&builder->object, &lent);
+}
+
+static inline globset_status raw_builder_build(raw_builder *builder, raw_set *out) {
+    return globset_raw_builder_build(&builder->object, &out->object);
+}
+
+static inline void raw_set_free(raw_set set) { globset_raw_free(set.object); }
+
+static inline size_t raw_set_len(raw_set set) {
+    globset_lent lent = raw_lend(set.object);
+    size_t len = 0;
+    globset_raw_set_len(&lent, &len);
+    return len;
+}
+
+static inline globset_status raw_work_new(raw_work *out) { return globset_raw_work_new(&out->object); }
+
+static inline void raw_work_free(raw_work work) { globset_raw_free(work.object); }
+
+static inline globset_status raw_work_fit_set(raw_work *work, raw_set set) {
+    globset_lent lent = raw_lend(set.object);
+    return globset_raw_work_fit(&work->object, &lent);
+}
+
+static inline globset_status raw_work_fit_matcher(raw_work *work, raw_matcher matcher) {
+    globset_lent lent = raw_lend(matcher.object);
+    return globset_raw_work_fit(&work->object, &lent);
+}
+
+static inline globset_status raw_set_is_match(raw_set set, raw_work *work, const void *path, size_t path_len) {
+    globset_lent lent = raw_lend(set.object);
+    return globset_raw_set_is_match(&lent, &work->object, raw_bytes(path), path_len);
+}
+
+static inline globset_status raw_set_matches_all(raw_set set, raw_work *work, const void *path, size_t path_len) {
+    globset_lent lent = raw_lend(set.object);
+    return globset_raw_set_matches_all(&lent, &work->object, raw_bytes(path), path_len);
+}
+
+static inline globset_status raw_set_matches(raw_set set, raw_work *work, const void *path, size_t path_len,
+                                             globset_indexes *indexes) {
+    globset_lent lent = raw_lend(set.object);
+    indexes->at = raw_no_indexes;
+    indexes->count = 0;
+    return globset_raw_set_matches(&lent, &work->object, raw_bytes(path), path_len, indexes);
+}
+
+static inline globset_status raw_set_is_match_many(raw_set set, raw_work *work, const void *paths, size_t paths_len,
+                                                   const size_t *ends, uint8_t *answers, size_t count) {
+    globset_lent lent = raw_lend(set.object);
+    uint8_t none = 0;
+    return globset_raw_set_is_match_many(&lent, &work->object, raw_bytes(paths), paths_len,
+                                         ends ? ends : raw_no_indexes, count, answers ? answers : &none, count);
+}
+
+static inline globset_status raw_searcher_new(raw_set set, raw_searcher *out) {
+    globset_lent lent = raw_lend(set.object);
+    return globset_raw_searcher_new(&lent, &out->object);
+}
+
+static inline void raw_searcher_free(raw_searcher searcher) { globset_raw_free(searcher.object); }
+
+static inline globset_status raw_searcher_is_match(raw_searcher *searcher, const void *path, size_t path_len) {
+    return globset_raw_searcher_is_match(&searcher->object, raw_bytes(path), path_len);
+}
+
+static inline globset_status raw_searcher_matches_all(raw_searcher *searcher, const void *path, size_t path_len) {
+    return globset_raw_searcher_matches_all(&searcher->object, raw_bytes(path), path_len);
+}
+
+static inline globset_status raw_searcher_find(raw_searcher *searcher, const void *path, size_t path_len,
+                                               size_t *count) {
+    return globset_raw_searcher_find(&searcher->object, raw_bytes(path), path_len, count);
+}
+
+static inline globset_status raw_searcher_found(raw_searcher *searcher, globset_indexes *indexes) {
+    indexes->at = raw_no_indexes;
+    indexes->count = 0;
+    return globset_raw_searcher_found(&searcher->object, indexes);
+}
+
+/* raw_searcher_find, and then raw_searcher_found. */
+static inline globset_status raw_searcher_matches(raw_searcher *searcher, const void *path, size_t path_len,
+                                                  globset_indexes *indexes) {
+    size_t count = 0;
+    raw_searcher_find(searcher, path, path_len, &count);
+    return raw_searcher_found(searcher, indexes);
+}
+
+static inline globset_status raw_searcher_is_match_many(raw_searcher *searcher, const void *paths, size_t paths_len,
+                                                        const size_t *ends, uint8_t *answers, size_t count) {
+    uint8_t none = 0;
+    return globset_raw_searcher_is_match_many(&searcher->object, raw_bytes(paths), paths_len,
+                                              ends ? ends : raw_no_indexes, count, answers ? answers : &none, count);
+}
+
+static inline globset_status raw_searcher_can_match_below(raw_searcher *searcher, const void *folder,
+                                                          size_t folder_len) {
+    return globset_raw_searcher_can_match_below(&searcher->object, raw_bytes(folder), folder_len);
+}
+
+static inline globset_status raw_escape(const void *text, size_t text_len, char *room, size_t room_len,
+                                        size_t *needed) {
+    uint8_t none = 0;
+    return globset_raw_escape(raw_bytes(text), text_len, room ? (uint8_t *)room : &none, room_len, needed);
+}
+
+static inline raw_glob glob_of(const char *text, uint32_t options) {
+    raw_glob glob;
+    globset_error error = {0, 0, 0};
+    CHECK(raw_glob_new(TEXT(text), options, &error, &glob) == GLOBSET_DONE);
+    return glob;
+}
+
+/* The set of globs under the default options. */
+static inline raw_set set_of(const char *const *texts, size_t count) {
+    raw_builder builder;
+    raw_set set;
+    CHECK(raw_builder_new(&builder) == GLOBSET_DONE);
+    for (size_t i = 0; i < count; i++) {
+        raw_glob glob = glob_of(texts[i], 0);
+        CHECK(raw_builder_add(&builder, glob) == GLOBSET_DONE);
+        raw_glob_free(glob);
+    }
+    CHECK(raw_builder_build(&builder, &set) == GLOBSET_DONE);
+    raw_builder_free(builder);
+    return set;
+}
