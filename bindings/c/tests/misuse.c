@@ -55,6 +55,7 @@ static void makers(void) {
     globset_set *set = (globset_set *)glob;
     globset_matcher *matcher = (globset_matcher *)glob;
     globset_searcher *searcher = (globset_searcher *)glob;
+    globset_error error = {1, 2, 3};
     size_t index = 9;
     CHECK(globset_builder_new(NULL) == GLOBSET_ENULL && globset_builder_new(&builder) == GLOBSET_OK);
     CHECK(globset_builder_add(NULL, glob) == GLOBSET_ENULL && globset_builder_add(builder, NULL) == GLOBSET_ENULL);
@@ -63,7 +64,8 @@ static void makers(void) {
     CHECK(globset_matcher_new(NULL, &matcher) == GLOBSET_ENULL && matcher == NULL);
     CHECK(globset_matcher_new(glob, NULL) == GLOBSET_ENULL);
     CHECK(globset_searcher_new(NULL, &searcher) == GLOBSET_ENULL && searcher == NULL);
-    CHECK(globset_set_new(NULL, NULL, NULL, 1, NULL, NULL, &set) == GLOBSET_ENULL && set == NULL);
+    CHECK(globset_set_new(NULL, NULL, NULL, 1, &error, &index, &set) == GLOBSET_ENULL && set == NULL);
+    CHECK(error.kind == 0 && error.start == 0 && error.end == 0 && index == 0);
     CHECK(globset_set_new(globs, NULL, NULL, 1, NULL, NULL, NULL) == GLOBSET_ENULL);
     CHECK(globset_set_new(globs, NULL, NULL, 2, NULL, &index, &set) == GLOBSET_ENULL && index == 1 && set == NULL);
     CHECK(globset_set_new(globs, wrong, NULL, 2, NULL, &index, &set) == GLOBSET_ENULL && index == 1 && set == NULL);
@@ -155,20 +157,22 @@ static void wrong_kinds(void) {
     globset_set *set = set_of(globs, 1);
     globset_searcher *searcher = searcher_of(globs, 1);
     globset_builder *builder;
-    CHECK(globset_builder_new(&builder) == GLOBSET_OK);
-    void *const objects[4] = {glob, set, searcher, builder};
-    for (int i = 0; i < 4; i++) {
+    globset_matcher *matcher;
+    CHECK(globset_builder_new(&builder) == GLOBSET_OK && globset_matcher_new(glob, &matcher) == GLOBSET_OK);
+    void *const objects[5] = {glob, set, searcher, builder, matcher};
+    for (int i = 0; i < 5; i++) {
         if (objects[i] != glob) no_glob(objects[i], builder);
         if (objects[i] != set) no_set(objects[i]);
         if (objects[i] != searcher) no_searcher(objects[i]);
         if (objects[i] != builder) no_builder(objects[i], glob);
-        CHECK(globset_matcher_is_match((globset_matcher *)objects[i], "a", 1) == GLOBSET_EKIND);
+        CHECK(globset_matcher_is_match((globset_matcher *)objects[i], "a", 1) == (i == 4 ? 1 : GLOBSET_EKIND));
     }
     CHECK(globset_searcher_is_match(searcher, "a", 1) == 1 && globset_set_is_match(set, "a", 1) == 1);
     globset_glob_free(glob);
     globset_set_free(set);
     globset_searcher_free(searcher);
     globset_builder_free(builder);
+    globset_matcher_free(matcher);
 }
 
 /* Each result has a text of its own, and a number that is none has one too. */
