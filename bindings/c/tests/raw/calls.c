@@ -176,6 +176,33 @@ static void builders(void) {
     raw_set_free(second);
 }
 
+/* No call changes the address in the handle of a builder or a searcher, which globset.c relies on. */
+static void addresses(void) {
+    static const char *const globs[] = {"*.c"};
+    static const size_t end = 3;
+    raw_glob glob = glob_of("*.c", 0);
+    raw_set set = set_of(globs, 1), built;
+    raw_builder builder;
+    raw_searcher searcher;
+    globset_indexes found;
+    uint8_t answer = 0;
+    CHECK(raw_builder_new(&builder) == GLOBSET_DONE && raw_searcher_new(set, &searcher) == GLOBSET_DONE);
+    const void *builder_at = builder.object.at, *searcher_at = searcher.object.at;
+    CHECK(raw_builder_add(&builder, glob) == GLOBSET_DONE && builder.object.at == builder_at);
+    CHECK(raw_builder_build(&builder, &built) == GLOBSET_DONE && builder.object.at == builder_at);
+    CHECK(raw_searcher_is_match(&searcher, TEXT("a.c")) == GLOBSET_YES && searcher.object.at == searcher_at);
+    CHECK(raw_searcher_matches_all(&searcher, TEXT("a.c")) == GLOBSET_YES && searcher.object.at == searcher_at);
+    CHECK(raw_searcher_can_match_below(&searcher, TEXT("a")) == GLOBSET_YES && searcher.object.at == searcher_at);
+    CHECK(raw_searcher_matches(&searcher, TEXT("a.c"), &found) == GLOBSET_DONE && searcher.object.at == searcher_at);
+    CHECK(raw_searcher_is_match_many(&searcher, TEXT("a.c"), &end, &answer, 1) == GLOBSET_DONE);
+    CHECK(answer == 1 && searcher.object.at == searcher_at);
+    raw_glob_free(glob);
+    raw_builder_free(builder);
+    raw_searcher_free(searcher);
+    raw_set_free(set);
+    raw_set_free(built);
+}
+
 static void many(void) {
     static const char *const globs[] = {"*.c", "*a*b*"};
     raw_set set = set_of(globs, 2);
@@ -381,6 +408,7 @@ int main(void) {
     texts();
     sets();
     builders();
+    addresses();
     many();
     searchers();
     folders();
