@@ -11,8 +11,7 @@
  *
  * Results. A function that answers a question returns 1 for yes and 0 for no. One that does something returns
  * GLOBSET_OK, which is 0. An error is below 0, and globset_status_text says what it means. After an error no object was
- * made, and the pointer that was to point to it is null; every object holds what it held before the call, and can be
- * used on.
+ * made, and the pointer to it is null. Every object holds what it held before the call, and can still be used.
  *
  * Null. Each `_free` accepts null and does nothing. Where `error`, `index` or `length` points to a result, it may be
  * null, and then the result is not written. Bytes and arrays may be null if they have no members. Any other null
@@ -58,7 +57,7 @@ extern "C" {
 /* The length of a string that ends before its first NUL. */
 #define GLOBSET_ZERO_TERMINATED ((size_t)-1)
 
-/* Compilers that can do so warn if the result of such a function is not used. */
+/* Begins the declaration of a function whose result has to be used. Compilers that can do so warn if it is not. */
 #if defined(__GNUC__)
 #define GLOBSET_CHECKED __attribute__((warn_unused_result))
 #else
