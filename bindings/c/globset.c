@@ -15,7 +15,9 @@
 
 /* What is passed on in place of null: an address of bytes and of indexes, of which none are read or written. */
 static const size_t no_items[1];
+static size_t no_numbers[1];
 static uint8_t no_room[1];
+static const globset_error no_error = {0, 0, 0, 0};
 
 /* ---- Results ---- */
 
@@ -135,7 +137,7 @@ int globset_escape(const char *text, size_t text_length, char *buffer, size_t si
 /* ---- Globs ---- */
 
 int globset_glob_new(const char *text, size_t length, uint32_t options, globset_error *error, globset_glob **glob) {
-    globset_error found = {0, 0, 0};
+    globset_error found = no_error;
     globset_owned made = own(NULL);
     struct bytes bytes;
     globset_status status;
@@ -147,6 +149,22 @@ int globset_glob_new(const char *text, size_t length, uint32_t options, globset_
     if (error != NULL) *error = found;
     *glob = made.at;
     return result_of(status);
+}
+
+int globset_glob_text(const globset_glob *glob, char *buffer, size_t size, size_t *length) {
+    globset_lent lent = lend(glob);
+    size_t needed = 0;
+    globset_status status;
+    if (glob == NULL || (buffer == NULL && size > 0)) return end_null(length);
+    status = globset_raw_glob_text(&lent, room_in(buffer), room_of(size), &needed);
+    return end_text(status, buffer, size, needed, length);
+}
+
+uint32_t globset_glob_options(const globset_glob *glob) {
+    globset_lent lent = lend(glob);
+    uint32_t options = 0;
+    if (glob != NULL) (void)globset_raw_glob_options(&lent, &options);
+    return options;
 }
 
 int globset_glob_regex(const globset_glob *glob, char *buffer, size_t size, size_t *length) {
@@ -234,6 +252,12 @@ int globset_builder_add(globset_builder *builder, const globset_glob *glob) {
     return result_of(globset_raw_builder_add(&owned, &lent));
 }
 
+int globset_builder_set_dfa_size_limit(globset_builder *builder, size_t bytes) {
+    globset_owned owned = own(builder);
+    if (builder == NULL) return GLOBSET_ENULL;
+    return result_of(globset_raw_builder_set_dfa_size_limit(&owned, bytes));
+}
+
 int globset_builder_build(globset_builder *builder, globset_set **set) {
     globset_owned owned = own(builder), made = own(NULL);
     globset_status status;
@@ -259,10 +283,9 @@ static int add_text(globset_builder *builder, const char *text, size_t length, u
 
 int globset_set_new(const char *const *texts, const size_t *lengths, const uint32_t *options, size_t count,
                     globset_error *error, size_t *index, globset_set **set) {
-    static const globset_error none = {0, 0, 0};
     globset_builder *builder = NULL;
     int result;
-    if (error != NULL) *error = none;
+    if (error != NULL) *error = no_error;
     if (index != NULL) *index = 0;
     if (set == NULL) return GLOBSET_ENULL;
     *set = NULL;
@@ -364,6 +387,25 @@ int globset_searcher_is_match_many(globset_searcher *searcher, const char *paths
     if (answers == NULL) answers = no_room;
     return result_of(
         globset_raw_searcher_is_match_many(&owned, bytes.at, bytes.length, end_offsets, count, answers, count));
+}
+
+int globset_searcher_matches_many(globset_searcher *searcher, const char *paths, size_t length,
+                                  const size_t *end_offsets, size_t count, size_t *index_ends, size_t *indexes,
+                                  size_t size, size_t *index_count) {
+    globset_owned owned = own(searcher);
+    struct bytes bytes;
+    globset_status status;
+    if (index_count == NULL) return GLOBSET_ENULL;
+    *index_count = 0;
+    if (searcher == NULL || !find_bytes(paths, length, &bytes)) return GLOBSET_ENULL;
+    if ((count > 0 && (end_offsets == NULL || index_ends == NULL)) || (size > 0 && indexes == NULL))
+        return GLOBSET_ENULL;
+    if (end_offsets == NULL) end_offsets = no_items;
+    if (index_ends == NULL) index_ends = no_numbers;
+    if (indexes == NULL) indexes = no_numbers;
+    status = globset_raw_searcher_matches_many(&owned, bytes.at, bytes.length, end_offsets, count, index_ends, count,
+                                               indexes, size, index_count);
+    return result_of(status);
 }
 
 void globset_searcher_free(globset_searcher *searcher) { free_object(searcher); }

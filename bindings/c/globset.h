@@ -109,12 +109,16 @@ enum {
     GLOBSET_DANGLING_ESCAPE = 5
 };
 
-/* The error of a text. `start` and `end` are the characters (code points) of an invalid range, and 0 at other kinds. A
- * function that can write one writes all of it: where the result is not GLOBSET_EGLOB, each member is 0. */
+/* The error of a text. `start` and `end` are the characters (code points) of an invalid range, and 0 at other kinds.
+ * `offset` is the byte of the text at which the error stands, from 0: that of the `[` of an unclosed class or of one
+ * with an invalid range, of a `}` that closes nothing, of the last `\`, or of the outermost `{` that is open at the end
+ * of the text. A function that can write an error writes all of it: where the result is not GLOBSET_EGLOB, each member
+ * is 0. */
 typedef struct globset_error {
     uint32_t kind;
     uint32_t start;
     uint32_t end;
+    size_t offset;
 } globset_error;
 
 /* Writes what the error of a text says, for people, in UTF-8, such as
@@ -174,6 +178,16 @@ GLOBSET_CHECKED int globset_searcher_can_match_below(globset_searcher *searcher,
 GLOBSET_CHECKED int globset_searcher_is_match_many(globset_searcher *searcher, const char *paths, size_t length,
                                                    const size_t *end_offsets, size_t count, uint8_t *answers);
 
+/* Finds the globs that match each of `count` paths, which are passed as to globset_searcher_is_match_many. `indexes`
+ * has room for `size` numbers, and `index_count` is how many indexes there are. GLOBSET_OK: `indexes` has those of the
+ * first path first; those of path number i are from index_ends[i - 1], and from 0 for the first, up to index_ends[i],
+ * without that one. GLOBSET_EBUFFER: there is no room for so many, and `indexes` and `index_ends` are as they were.
+ * GLOBSET_EOFFSETS and GLOBSET_ENOMEM, and then `index_count` is 0: the call takes 8 bytes for each path and each
+ * index, and gives them back. */
+GLOBSET_CHECKED int globset_searcher_matches_many(globset_searcher *searcher, const char *paths, size_t length,
+                                                  const size_t *end_offsets, size_t count, size_t *index_ends,
+                                                  size_t *indexes, size_t size, size_t *index_count);
+
 void globset_searcher_free(globset_searcher *searcher);
 
 /* ---- One glob ---- */
@@ -182,6 +196,12 @@ void globset_searcher_free(globset_searcher *searcher);
  * GLOBSET_ENOMEM. */
 GLOBSET_CHECKED int globset_glob_new(const char *text, size_t length, uint32_t options, globset_error *error,
                                      globset_glob **glob);
+
+/* Writes the text that the glob was read from. GLOBSET_EBUFFER, GLOBSET_ENOMEM. */
+GLOBSET_CHECKED int globset_glob_text(const globset_glob *glob, char *buffer, size_t size, size_t *length);
+
+/* Returns the options that the glob was read under, and 0 for null. */
+uint32_t globset_glob_options(const globset_glob *glob);
 
 /* Writes a regular expression that matches the paths that the glob matches. GLOBSET_EBUFFER, GLOBSET_ENOMEM. */
 GLOBSET_CHECKED int globset_glob_regex(const globset_glob *glob, char *buffer, size_t size, size_t *length);
@@ -208,6 +228,11 @@ GLOBSET_CHECKED int globset_builder_new(globset_builder **builder);
 
 /* Adds a copy of a glob after those that the builder has. GLOBSET_ENOMEM. */
 GLOBSET_CHECKED int globset_builder_add(globset_builder *builder, const globset_glob *glob);
+
+/* Sets how many bytes the tables of a set may take, for the sets that the builder makes from then on. 16 MiB is the
+ * default. No answer depends on it: with fewer bytes a set takes less time and memory to make, and a question may take
+ * more time. With 0 there are no tables. */
+GLOBSET_CHECKED int globset_builder_set_dfa_size_limit(globset_builder *builder, size_t bytes);
 
 /* Makes the set of the builder's globs, in the order in which they were added: the first has index 0. Then the builder
  * has no globs, and can be used for another set. GLOBSET_ENOMEM. */

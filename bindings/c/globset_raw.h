@@ -66,7 +66,7 @@ enum {
     GLOBSET_UNKNOWN_OPTION = 6, /* the options have a bit that is none of those of globset.h */
     GLOBSET_WRONG_KIND = 7,     /* an object is not of the kind that is asked for, as a glob in place of a set */
     GLOBSET_BAD_ENDS = 8,       /* an end of a path is below the one before it, or beyond the bytes, or has no answer */
-    GLOBSET_TOO_SMALL = 9       /* the text is longer than the room for it */
+    GLOBSET_TOO_SMALL = 9       /* the text is longer than the room for it, or the indexes are more */
 };
 
 /* ---- Types ---- */
@@ -106,6 +106,14 @@ globset_status globset_raw_error_text(const uint8_t *text, size_t text_len, uint
  * globset_raw_error_text. GLOBSET_WRONG_KIND, GLOBSET_OUT_OF_MEMORY. */
 globset_status globset_raw_glob_regex(globset_lent *glob, uint8_t *room, size_t room_len, size_t *needed);
 
+/* Writes the text that the glob was read from. GLOBSET_DONE and GLOBSET_TOO_SMALL as at globset_raw_error_text.
+ * GLOBSET_WRONG_KIND, GLOBSET_OUT_OF_MEMORY. */
+globset_status globset_raw_glob_text(globset_lent *glob, uint8_t *room, size_t room_len, size_t *needed);
+
+/* The options that the glob was read under. GLOBSET_DONE: their bits are in `options`. GLOBSET_WRONG_KIND. It takes no
+ * memory. */
+globset_status globset_raw_glob_options(globset_lent *glob, uint32_t *options);
+
 /* Makes a matcher of one glob. It keeps a copy of the glob, which may be freed. GLOBSET_DONE, GLOBSET_WRONG_KIND,
  * GLOBSET_OUT_OF_MEMORY. */
 globset_status globset_raw_matcher_new(globset_lent *glob, globset_owned *out);
@@ -121,6 +129,11 @@ globset_status globset_raw_builder_new(globset_owned *out);
 /* Adds a copy of a glob after those that the builder has. GLOBSET_DONE; GLOBSET_WRONG_KIND and GLOBSET_OUT_OF_MEMORY,
  * and then the builder has the globs that it had. */
 globset_status globset_raw_builder_add(globset_owned *builder, globset_lent *glob);
+
+/* Sets how many bytes the tables of a set may take, for the sets that the builder makes from then on. 16 MiB is the
+ * default. No answer depends on it: with fewer bytes a set takes less time and memory to make, and a question may take
+ * more time. With 0 there are no tables. GLOBSET_DONE, GLOBSET_WRONG_KIND. It takes no memory. */
+globset_status globset_raw_builder_set_dfa_size_limit(globset_owned *builder, size_t bytes);
 
 /* Makes the set of the builder's globs, in the order in which they were added: the first has index 0. GLOBSET_DONE: the
  * builder has no globs any more, and their memory is given back; the set has what it needs to match. GLOBSET_WRONG_KIND
@@ -190,6 +203,18 @@ globset_status globset_raw_searcher_found(globset_owned *searcher, globset_index
 globset_status globset_raw_searcher_is_match_many(globset_owned *searcher, const uint8_t *paths, size_t paths_len,
                                                   const size_t *ends, size_t ends_len, uint8_t *answers,
                                                   size_t answers_len);
+
+/* Finds the indexes of each of many paths, as globset_raw_searcher_find finds those of one, with ends as at
+ * globset_raw_set_is_match_many. GLOBSET_DONE: the first `*needed` numbers of `room` are the indexes, those of the
+ * first path first, and the others are as they were; the indexes of path number i are those from index_ends[i - 1]
+ * (from 0 for the first) up to index_ends[i], without that one. GLOBSET_TOO_SMALL: `*needed` is how many indexes there
+ * are, and `room` and `index_ends` are as they were. GLOBSET_BAD_ENDS, also if `index_ends` has not one number for each
+ * path; GLOBSET_WRONG_KIND; GLOBSET_OUT_OF_MEMORY: the call takes 8 bytes for each path and each index, and gives them
+ * back. After GLOBSET_BAD_ENDS and GLOBSET_WRONG_KIND the object is as it was. Otherwise the searcher has the indexes
+ * of the last path, if there is one, in place of those that it found before. */
+globset_status globset_raw_searcher_matches_many(globset_owned *searcher, const uint8_t *paths, size_t paths_len,
+                                                 const size_t *ends, size_t ends_len, size_t *index_ends,
+                                                 size_t index_ends_len, size_t *room, size_t room_len, size_t *needed);
 
 /* Whether some glob of the searcher's set matches some path below the folder, which is the folder, a `/`, and any
  * bytes, perhaps none: GLOBSET_YES or GLOBSET_NO. A walk over folders need not open one that is answered by GLOBSET_NO.

@@ -7,30 +7,32 @@ static void versions(void) {
     CHECK(globset_interface() == GLOBSET_INTERFACE && GLOBSET_INTERFACE == 1);
 }
 
-/* Texts that are refused, with the kind and the characters of the first error, and what it says. */
+/* Texts that are refused, with the kind, the characters and the place of the first error, and what it says. */
 static void refused(void) {
     static const struct {
         const char *text;
         uint32_t kind, start, end;
+        size_t offset;
         const char *says;
     } rows[] = {
-        {"a[b", GLOBSET_UNCLOSED_CLASS, 0, 0, "error parsing glob 'a[b': unclosed character class; missing ']'"},
-        {"[z-a]", GLOBSET_INVALID_RANGE, 'z', 'a', "error parsing glob '[z-a]': invalid range; 'z' > 'a'"},
-        {"[\xc3\xa9-a]", GLOBSET_INVALID_RANGE, 0xe9, 'a',
+        {"a[b", GLOBSET_UNCLOSED_CLASS, 0, 0, 1, "error parsing glob 'a[b': unclosed character class; missing ']'"},
+        {"[z-a]", GLOBSET_INVALID_RANGE, 'z', 'a', 0, "error parsing glob '[z-a]': invalid range; 'z' > 'a'"},
+        {"[\xc3\xa9-a]", GLOBSET_INVALID_RANGE, 0xe9, 'a', 0,
          "error parsing glob '[\xc3\xa9-a]': invalid range; '\xc3\xa9' > 'a'"},
-        {"a}", GLOBSET_UNOPENED_ALTERNATES, 0, 0,
+        {"a}", GLOBSET_UNOPENED_ALTERNATES, 0, 0, 1,
          "error parsing glob 'a}': unopened alternate group; missing '{' (maybe escape '}' with '[}]'?)"},
-        {"{a,b", GLOBSET_UNCLOSED_ALTERNATES, 0, 0,
+        {"{a,b", GLOBSET_UNCLOSED_ALTERNATES, 0, 0, 0,
          "error parsing glob '{a,b': unclosed alternate group; missing '}' (maybe escape '{' with '[{]'?)"},
-        {"a\\", GLOBSET_DANGLING_ESCAPE, 0, 0, "error parsing glob 'a\\': dangling '\\'"},
+        {"a\\", GLOBSET_DANGLING_ESCAPE, 0, 0, 1, "error parsing glob 'a\\': dangling '\\'"},
     };
     for (size_t i = 0; i < sizeof rows / sizeof *rows; i++) {
-        globset_error error = {77, 78, 79};
+        globset_error error = {77, 78, 79, 80};
         globset_glob *glob = (globset_glob *)&error;
         char buffer[200];
         size_t length = 1000, needed = strlen(rows[i].says);
         CHECK(globset_glob_new(TEXT(rows[i].text), 0, &error, &glob) == GLOBSET_EGLOB && glob == NULL);
         CHECK(error.kind == rows[i].kind && error.start == rows[i].start && error.end == rows[i].end);
+        CHECK(error.offset == rows[i].offset);
         memset(buffer, '#', sizeof buffer);
         CHECK(globset_error_text(TEXT(rows[i].text), 0, buffer, needed, &length) == GLOBSET_EBUFFER);
         CHECK(length == needed && buffer[0] == '#' && buffer[needed] == '#');
@@ -43,12 +45,12 @@ static void refused(void) {
 
 /* The other results of a text. */
 static void not_read(void) {
-    globset_error error = {77, 78, 79};
+    globset_error error = {77, 78, 79, 80};
     globset_glob *glob = (globset_glob *)&error;
     char buffer[8] = "#######";
     size_t length = 1000;
     CHECK(globset_glob_new("\xff", 1, 0, &error, &glob) == GLOBSET_EUTF8 && glob == NULL);
-    CHECK(error.kind == 0 && error.start == 0 && error.end == 0);
+    CHECK(error.kind == 0 && error.start == 0 && error.end == 0 && error.offset == 0);
     CHECK(globset_glob_new("a", 1, 64, &error, &glob) == GLOBSET_EOPTIONS);
     CHECK(globset_glob_new("\xff", 1, UINT32_MAX, NULL, &glob) == GLOBSET_EOPTIONS);
     CHECK(globset_error_text("\xff", 1, 0, buffer, 8, &length) == GLOBSET_EUTF8 && length == 0);
@@ -142,13 +144,32 @@ static void texts(void) {
     CHECK(globset_escape("\xff", 1, buffer, 64, &length) == GLOBSET_EUTF8 && length == 0);
 }
 
+/* The text and the options of a glob, with each set of options. */
+static void parts(void) {
+    static const char text[] = "a\xc3\xa9\0*.{c,h}";
+    const size_t needed = sizeof text - 1;
+    for (uint32_t bits = 0; bits < 64; bits++) {
+        globset_glob *glob;
+        char buffer[16];
+        size_t length = 1000;
+        CHECK(globset_glob_new(text, needed, bits, NULL, &glob) == GLOBSET_OK);
+        CHECK(globset_glob_options(glob) == bits);
+        memset(buffer, '#', sizeof buffer);
+        CHECK(globset_glob_text(glob, buffer, needed, &length) == GLOBSET_EBUFFER && length == needed &&
+              buffer[0] == '#');
+        CHECK(globset_glob_text(glob, buffer, sizeof buffer, &length) == GLOBSET_OK && length == needed);
+        CHECK(memcmp(buffer, text, needed + 1) == 0 && buffer[needed + 1] == '#');
+        globset_glob_free(glob);
+    }
+}
+
 /* Sets of many texts, and which text is wrong. */
 static void compiled(void) {
     static const char *const globs[] = {"*.c", "src/*", "a\0b", "[z-a]", "{"};
     static const size_t lengths[] = {3, 5, 3, 5, 1};
     static const uint32_t bits[] = {0, GLOBSET_LITERAL_SEPARATOR, 0, 64, 0};
     static const char *const not_utf8[] = {"a", "b", "\xff"};
-    globset_error error = {77, 78, 79};
+    globset_error error = {77, 78, 79, 80};
     globset_set *set = (globset_set *)&error;
     size_t index = 99;
     CHECK(globset_set_new(globs, lengths, bits, 3, &error, &index, &set) == GLOBSET_OK);
@@ -185,6 +206,30 @@ static void builders(void) {
     globset_set_free(first);
     globset_set_free(second);
     globset_set_free(third);
+}
+
+/* Under each limit of the tables a set answers the same. A builder keeps its limit after a set was made. */
+static void limits(void) {
+    static const size_t limits[] = {0, 1, 4096, SIZE_MAX};
+    globset_glob *glob = glob_of("src/**/*a?[bc]", 0);
+    for (size_t i = 0; i < sizeof limits / sizeof *limits; i++) {
+        globset_builder *builder;
+        CHECK(globset_builder_new(&builder) == GLOBSET_OK && globset_builder_add(builder, glob) == GLOBSET_OK);
+        CHECK(globset_builder_set_dfa_size_limit(builder, limits[i]) == GLOBSET_OK);
+        for (size_t count = 2; count > 0; count--) {
+            globset_set *set;
+            globset_searcher *searcher;
+            CHECK(globset_builder_add(builder, glob) == GLOBSET_OK);
+            CHECK(globset_builder_build(builder, &set) == GLOBSET_OK && globset_set_length(set) == count);
+            CHECK(globset_searcher_new(set, &searcher) == GLOBSET_OK);
+            CHECK(globset_searcher_is_match(searcher, TEXT("src/x/axb")) == 1);
+            CHECK(globset_searcher_is_match(searcher, TEXT("src/x/ab")) == 0);
+            globset_searcher_free(searcher);
+            globset_set_free(set);
+        }
+        globset_builder_free(builder);
+    }
+    globset_glob_free(glob);
 }
 
 /* Searchers keep what they need after their sets were freed. */
@@ -251,6 +296,34 @@ static void many(void) {
     globset_searcher_free(searcher);
 }
 
+/* The indexes of many paths in one list. */
+static void indexes_of_many(void) {
+    static const char *const globs[] = {"*.c", "src/*", "**/..", "*a*b*"};
+    static const char paths[] = "a.csrc/ab.cxsrc/h#";
+    static const size_t ends[] = {3, 11, 11, 12, 17}, descending[] = {3, 2};
+    static const size_t wanted[] = {0, 0, 1, 3, 1}, wanted_ends[] = {1, 4, 4, 4, 5};
+    globset_searcher *searcher = searcher_of(globs, 4), *empty = searcher_of(globs, 0);
+    size_t indexes[8] = {7, 7, 7, 7, 7, 7, 7, 7}, index_ends[5] = {7, 7, 7, 7, 7}, count = 1000;
+    CHECK(globset_searcher_matches_many(searcher, paths, 16, ends, 5, index_ends, indexes, 8, &count) ==
+          GLOBSET_EOFFSETS);
+    CHECK(count == 0);
+    CHECK(globset_searcher_matches_many(searcher, paths, 17, descending, 2, index_ends, indexes, 8, &count) ==
+          GLOBSET_EOFFSETS);
+    CHECK(globset_searcher_matches_many(searcher, paths, 17, ends, 5, index_ends, NULL, 0, &count) == GLOBSET_EBUFFER);
+    CHECK(count == 5);
+    CHECK(globset_searcher_matches_many(searcher, paths, 17, ends, 5, index_ends, indexes, 4, &count) ==
+          GLOBSET_EBUFFER);
+    CHECK(count == 5 && indexes[0] == 7 && indexes[3] == 7 && index_ends[0] == 7 && index_ends[4] == 7);
+    CHECK(globset_searcher_matches_many(searcher, paths, 17, ends, 5, index_ends, indexes, 8, &count) == GLOBSET_OK);
+    CHECK(count == 5 && memcmp(indexes, wanted, sizeof wanted) == 0 && indexes[5] == 7 && indexes[7] == 7);
+    CHECK(memcmp(index_ends, wanted_ends, sizeof wanted_ends) == 0);
+    CHECK(globset_searcher_matches_many(searcher, NULL, 0, NULL, 0, NULL, NULL, 0, &count) == GLOBSET_OK && count == 0);
+    CHECK(globset_searcher_matches_many(empty, paths, 17, ends, 5, index_ends, NULL, 0, &count) == GLOBSET_OK);
+    CHECK(count == 0 && index_ends[0] == 0 && index_ends[4] == 0);
+    globset_searcher_free(searcher);
+    globset_searcher_free(empty);
+}
+
 /* A hundred globs for which a searcher keeps rows of an automaton: it answers as the set does, whatever came before. */
 static void many_globs(void) {
     enum { GLOBS = 100, PATHS = 500 };
@@ -288,12 +361,15 @@ int main(void) {
     options();
     bytes();
     texts();
+    parts();
     compiled();
     builders();
+    limits();
     searchers();
     excluded();
     folders();
     many();
+    indexes_of_many();
     many_globs();
     puts("calls: passed");
     return 0;

@@ -6,6 +6,7 @@
 
 static long left = -1; /* how many allocations succeed from here on; below 0 all do */
 static long blocks;    /* how many blocks are allocated */
+static size_t asked;   /* how many bytes were asked for */
 static long failures;  /* how many allocations failed */
 
 static char nothing;
@@ -20,6 +21,7 @@ static bool fails(void) {
 struct rattle_block rattle_alloc(size_t size, size_t align) {
     struct rattle_block block = {0, &nothing};
     if (fails()) return block;
+    asked += size;
     block.at = malloc(size != 0 ? size : align);
     CHECK(block.at != NULL);
     block.ok = 1;
@@ -31,6 +33,7 @@ struct rattle_block rattle_realloc(void *at, size_t kept, size_t size, size_t al
     struct rattle_block block = {0, &nothing};
     (void)kept;
     if (fails()) return block;
+    asked += size;
     block.at = realloc(at, size != 0 ? size : align);
     CHECK(block.at != NULL);
     block.ok = 1;

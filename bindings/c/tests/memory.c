@@ -8,7 +8,7 @@ static const char *const globs[] = {"a", "*.rs", "src/**/*.{c,h}", "*b*c*", "**/
 enum { GLOBS = sizeof globs / sizeof *globs };
 
 static void try_texts(void) {
-    globset_error error = {77, 78, 79};
+    globset_error error = {77, 78, 79, 80};
     char buffer[256];
     size_t length = 9;
     globset_glob *glob = (globset_glob *)&error;
@@ -20,6 +20,7 @@ static void try_texts(void) {
         CHECK(blocks == before && length == 0));
     TRY(globset_glob_new(TEXT("*.rs"), 0, &error, &glob), GLOBSET_OK, CHECK(glob == NULL && blocks == before));
     TRY(globset_glob_regex(glob, buffer, sizeof buffer, &length), GLOBSET_OK, CHECK(blocks == before && length == 0));
+    TRY(globset_glob_text(glob, buffer, sizeof buffer, &length), GLOBSET_OK, CHECK(blocks == before && length == 0));
     globset_glob_free(glob);
 }
 
@@ -86,10 +87,33 @@ static void try_searcher(const globset_set *set) {
     TRY(globset_searcher_is_match_many(searcher, TEXT("src/a/b.c"), ends, 2, answers), GLOBSET_OK,
         CHECK(blocks == before && answers[0] == 7 && answers[1] == 7));
     CHECK(answers[0] == 0 && answers[1] == 1);
+    const size_t both[] = {9, 9};
+    size_t index_ends[2] = {7, 7}, found[2] = {7, 7};
+    TRY(globset_searcher_matches_many(searcher, TEXT("src/a/b.c"), both, 2, index_ends, found, 2, &count), GLOBSET_OK,
+        CHECK(blocks == before && count == 0 && index_ends[0] == 7 && index_ends[1] == 7 && found[0] == 7));
+    CHECK(count == 2 && index_ends[0] == 2 && index_ends[1] == 2 && found[0] == 2 && found[1] == 3);
     globset_searcher_free(searcher);
 }
 
+/* How many bytes were asked for while a set with tables of at most so many bytes was made. */
+static size_t bytes_of_set(size_t limit) {
+    globset_builder *builder;
+    globset_set *set;
+    globset_glob *glob;
+    CHECK(globset_glob_new(TEXT("src/**/*a*b?[bc]*"), 0, NULL, &glob) == GLOBSET_OK);
+    CHECK(globset_builder_new(&builder) == GLOBSET_OK && globset_builder_add(builder, glob) == GLOBSET_OK);
+    CHECK(globset_builder_set_dfa_size_limit(builder, limit) == GLOBSET_OK);
+    size_t before = asked;
+    CHECK(globset_builder_build(builder, &set) == GLOBSET_OK);
+    size_t bytes = asked - before;
+    globset_glob_free(glob);
+    globset_builder_free(builder);
+    globset_set_free(set);
+    return bytes;
+}
+
 int main(void) {
+    CHECK(bytes_of_set(0) < bytes_of_set(1 << 20));
     try_texts();
     try_builder();
     try_matcher();

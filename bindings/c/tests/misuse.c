@@ -25,7 +25,7 @@ end:
 }
 
 static void texts(void) {
-    globset_error error = {1, 2, 3};
+    globset_error error = {1, 2, 3, 4};
     globset_glob *glob = (globset_glob *)&error;
     char buffer[4] = "###";
     size_t length = 5;
@@ -41,7 +41,11 @@ static void texts(void) {
     CHECK(globset_escape("a", 1, NULL, 4, &length) == GLOBSET_ENULL);
     CHECK(globset_escape("a", 1, buffer, 4, NULL) == GLOBSET_OK && strcmp(buffer, "a") == 0);
     CHECK(globset_glob_regex(NULL, buffer, 4, &length) == GLOBSET_ENULL && length == 0);
+    length = 5;
+    CHECK(globset_glob_text(NULL, buffer, 4, &length) == GLOBSET_ENULL && length == 0);
+    CHECK(globset_glob_options(NULL) == 0);
     glob = glob_of("a", 0);
+    CHECK(globset_glob_text(glob, NULL, 4, &length) == GLOBSET_ENULL);
     CHECK(globset_glob_regex(glob, NULL, 4, &length) == GLOBSET_ENULL);
     CHECK(globset_glob_regex(glob, NULL, 0, NULL) == GLOBSET_EBUFFER);
     globset_glob_free(glob);
@@ -55,17 +59,18 @@ static void makers(void) {
     globset_set *set = (globset_set *)glob;
     globset_matcher *matcher = (globset_matcher *)glob;
     globset_searcher *searcher = (globset_searcher *)glob;
-    globset_error error = {1, 2, 3};
+    globset_error error = {1, 2, 3, 4};
     size_t index = 9;
     CHECK(globset_builder_new(NULL) == GLOBSET_ENULL && globset_builder_new(&builder) == GLOBSET_OK);
     CHECK(globset_builder_add(NULL, glob) == GLOBSET_ENULL && globset_builder_add(builder, NULL) == GLOBSET_ENULL);
     CHECK(globset_builder_build(builder, NULL) == GLOBSET_ENULL);
+    CHECK(globset_builder_set_dfa_size_limit(NULL, 1) == GLOBSET_ENULL);
     CHECK(globset_builder_build(NULL, &set) == GLOBSET_ENULL && set == NULL);
     CHECK(globset_matcher_new(NULL, &matcher) == GLOBSET_ENULL && matcher == NULL);
     CHECK(globset_matcher_new(glob, NULL) == GLOBSET_ENULL);
     CHECK(globset_searcher_new(NULL, &searcher) == GLOBSET_ENULL && searcher == NULL);
     CHECK(globset_set_new(NULL, NULL, NULL, 1, &error, &index, &set) == GLOBSET_ENULL && set == NULL);
-    CHECK(error.kind == 0 && error.start == 0 && error.end == 0 && index == 0);
+    CHECK(error.kind == 0 && error.start == 0 && error.end == 0 && error.offset == 0 && index == 0);
     CHECK(globset_set_new(globs, NULL, NULL, 1, NULL, NULL, NULL) == GLOBSET_ENULL);
     CHECK(globset_set_new(globs, NULL, NULL, 2, NULL, &index, &set) == GLOBSET_ENULL && index == 1 && set == NULL);
     CHECK(globset_set_new(globs, wrong, NULL, 2, NULL, &index, &set) == GLOBSET_ENULL && index == 1 && set == NULL);
@@ -112,6 +117,22 @@ static void questions(void) {
     globset_glob_free(glob);
 }
 
+static void many(void) {
+    static const char *const globs[] = {"a"};
+    static const size_t end = 1;
+    globset_searcher *searcher = searcher_of(globs, 1);
+    size_t index_end = 7, index = 7, count = 7;
+    CHECK(globset_searcher_matches_many(NULL, "a", 1, &end, 1, &index_end, &index, 1, &count) == GLOBSET_ENULL);
+    CHECK(count == 0);
+    CHECK(globset_searcher_matches_many(searcher, NULL, 1, &end, 1, &index_end, &index, 1, &count) == GLOBSET_ENULL);
+    CHECK(globset_searcher_matches_many(searcher, "a", 1, NULL, 1, &index_end, &index, 1, &count) == GLOBSET_ENULL);
+    CHECK(globset_searcher_matches_many(searcher, "a", 1, &end, 1, NULL, &index, 1, &count) == GLOBSET_ENULL);
+    CHECK(globset_searcher_matches_many(searcher, "a", 1, &end, 1, &index_end, NULL, 1, &count) == GLOBSET_ENULL);
+    CHECK(globset_searcher_matches_many(searcher, "a", 1, &end, 1, &index_end, &index, 1, NULL) == GLOBSET_ENULL);
+    CHECK(index_end == 7 && index == 7);
+    globset_searcher_free(searcher);
+}
+
 /* An object that is no searcher, in the place of one. */
 static void no_searcher(void *object) {
     static const size_t end = 1;
@@ -125,6 +146,9 @@ static void no_searcher(void *object) {
     CHECK(globset_searcher_matches(searcher, "a", 1, &indexes, &count) == GLOBSET_EKIND && indexes == NULL &&
           count == 0);
     CHECK(globset_searcher_is_match_many(searcher, "a", 1, &end, 1, &answer) == GLOBSET_EKIND && answer == 7);
+    size_t index_end = 7, index = 7;
+    CHECK(globset_searcher_matches_many(searcher, "a", 1, &end, 1, &index_end, &index, 1, &count) == GLOBSET_EKIND);
+    CHECK(index_end == 7 && index == 7 && count == 0);
 }
 
 static void no_set(const void *object) {
@@ -140,6 +164,7 @@ static void no_glob(const void *object, globset_builder *builder) {
     globset_matcher *matcher;
     size_t length = 7;
     CHECK(globset_glob_regex(glob, NULL, 0, &length) == GLOBSET_EKIND && length == 0);
+    CHECK(globset_glob_text(glob, NULL, 0, &length) == GLOBSET_EKIND && globset_glob_options(glob) == 0);
     CHECK(globset_matcher_new(glob, &matcher) == GLOBSET_EKIND && matcher == NULL);
     if (object != builder) CHECK(globset_builder_add(builder, glob) == GLOBSET_EKIND);
 }
@@ -148,6 +173,7 @@ static void no_builder(void *object, const globset_glob *glob) {
     globset_builder *builder = (globset_builder *)object;
     globset_set *set;
     if (object != glob) CHECK(globset_builder_add(builder, glob) == GLOBSET_EKIND);
+    CHECK(globset_builder_set_dfa_size_limit(builder, 1) == GLOBSET_EKIND);
     CHECK(globset_builder_build(builder, &set) == GLOBSET_EKIND && set == NULL);
 }
 
@@ -194,6 +220,7 @@ int main(void) {
     texts();
     makers();
     questions();
+    many();
     wrong_kinds();
     status_texts();
     puts("misuse: passed");

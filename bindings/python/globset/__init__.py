@@ -83,28 +83,36 @@ class GlobError(ValueError):
     """A text is no glob. The first error in the text counts.
 
     ``glob`` is the text, and ``kind`` why it is none. ``start`` and ``end`` are the characters of an invalid range, and
-    ``None`` at other kinds.
+    ``None`` at other kinds. The error stands at ``glob[offset]``: at the ``[`` of an unclosed class or of one with an invalid
+    range, at a ``}`` that closes nothing, at the last ``\\``, or at the outermost ``{`` that is open at the end of the text.
 
     >>> try:
     ...     Glob("[z-a]")
     ... except GlobError as error:
     ...     print(error)
-    ...     print(error.glob, error.kind.name, error.start, error.end)
+    ...     print(error.glob, error.kind.name, error.start, error.end, error.offset)
     error parsing glob '[z-a]': invalid range; 'z' > 'a'
-    [z-a] INVALID_RANGE z a
+    [z-a] INVALID_RANGE z a 0
     """
 
     def __init__(
-        self, message: str, glob: str, kind: ErrorKind, start: Optional[str] = None, end: Optional[str] = None
+        self,
+        message: str,
+        glob: str,
+        kind: ErrorKind,
+        start: Optional[str] = None,
+        end: Optional[str] = None,
+        offset: Optional[int] = None,
     ) -> None:
         super().__init__(message)
         self.glob = glob
         self.kind = kind
         self.start = start
         self.end = end
+        self.offset = offset
 
     def __reduce__(self) -> Tuple[Any, ...]:
-        return GlobError, (str(self), self.glob, self.kind, self.start, self.end)
+        return GlobError, (str(self), self.glob, self.kind, self.start, self.end, self.offset)
 
 
 class Glob:
@@ -367,9 +375,10 @@ def _read(pattern: str, options: int) -> Object:
     if status == _library.REJECTED:
         message = _library.text_of(_library.error_text, data, len(data), options)
         kind = ErrorKind(error.kind)
-        if kind is ErrorKind.INVALID_RANGE:
-            raise GlobError(message, pattern, kind, chr(error.start), chr(error.end))
-        raise GlobError(message, pattern, kind)
+        is_range = kind is ErrorKind.INVALID_RANGE
+        start, end = (chr(error.start), chr(error.end)) if is_range else (None, None)
+        # The library counts bytes, and an index of a `str` counts characters.
+        raise GlobError(message, pattern, kind, start, end, len(data[: error.offset].decode()))
     _library.raise_unless_done(status)
     return glob
 

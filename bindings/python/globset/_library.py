@@ -30,7 +30,12 @@ class Lent(ctypes.Structure):
 class Error(ctypes.Structure):
     """globset_error: the error of a text."""
 
-    _fields_ = [("kind", ctypes.c_uint32), ("start", ctypes.c_uint32), ("end", ctypes.c_uint32)]
+    _fields_ = [
+        ("kind", ctypes.c_uint32),
+        ("start", ctypes.c_uint32),
+        ("end", ctypes.c_uint32),
+        ("offset", ctypes.c_size_t),
+    ]
 
 
 class Indexes(ctypes.Structure):

@@ -173,6 +173,14 @@ class Errors(unittest.TestCase):
         for made in [copy.copy(error), pickle.loads(pickle.dumps(error))]:
             self.assertEqual(str(made), str(error))
             self.assertEqual((made.glob, made.kind, made.start, made.end), ("[z-a]", ErrorKind.INVALID_RANGE, "z", "a"))
+            self.assertEqual(made.offset, 0)
+
+    def test_offsets(self):
+        rows = [("a[b", 1), ("é[a-z][z-a][y-b]", 6), ("é{a,b}}", 6), ("😀/{*.c,*.{h,hpp}", 2), ("é\\", 1)]
+        for text, offset in rows:
+            with self.subTest(text=text), self.assertRaises(GlobError) as raised:
+                Glob(text)
+            self.assertEqual(raised.exception.offset, offset)
 
     def test_options_of_an_error(self):
         with self.assertRaises(GlobError):

@@ -13,15 +13,21 @@ use std::fmt;
 /// assert_eq!(error.kind(), &ErrorKind::UnclosedClass);
 /// assert_eq!(error.to_string(), "error parsing glob 'src/[a-z': unclosed character class; missing ']'");
 /// ```
-#[derive(Clone, Debug, Eq, PartialEq)]
+#[derive(Clone)]
 pub struct Error {
     glob: Option<String>,
     kind: ErrorKind,
+    /// Shown by [`ext::offset`](crate::ext::offset) alone: the crate that this one replaces does not have it.
+    offset: usize,
 }
 
 impl Error {
-    pub(crate) fn new(glob: &str, kind: ErrorKind) -> Error {
-        Error { glob: Some(glob.to_string()), kind }
+    pub(crate) fn new(glob: &str, kind: ErrorKind, offset: usize) -> Error {
+        Error { glob: Some(glob.to_string()), kind, offset }
+    }
+
+    pub(crate) fn offset(&self) -> usize {
+        self.offset
     }
 
     /// The text that is no glob.
@@ -48,6 +54,20 @@ impl Error {
     /// ```
     pub fn kind(&self) -> &ErrorKind {
         &self.kind
+    }
+}
+
+impl Eq for Error {}
+
+impl PartialEq for Error {
+    fn eq(&self, other: &Error) -> bool {
+        self.glob == other.glob && self.kind == other.kind
+    }
+}
+
+impl fmt::Debug for Error {
+    fn fmt(&self, f: &mut fmt::Formatter<'_>) -> fmt::Result {
+        f.debug_struct("Error").field("glob", &self.glob).field("kind", &self.kind).finish()
     }
 }
 
@@ -155,9 +175,16 @@ mod tests {
     #[test]
     fn an_error_shows_its_glob_where_it_has_one() {
         for (kind, text) in kinds() {
-            assert_eq!(Error::new("a", kind.clone()).to_string(), format!("error parsing glob 'a': {text}"));
-            assert_eq!(Error { glob: None, kind }.to_string(), text);
+            assert_eq!(Error::new("a", kind.clone(), 0).to_string(), format!("error parsing glob 'a': {text}"));
+            assert_eq!(Error { glob: None, kind, offset: 0 }.to_string(), text);
         }
+    }
+
+    #[test]
+    fn offsets_are_not_compared_or_shown() {
+        let [error, other] = [0, 1].map(|offset| Error::new("a", ErrorKind::UnclosedClass, offset));
+        assert_eq!(error, other);
+        assert_eq!(format!("{error:?}"), format!("{other:?}"));
     }
 
     #[test]
@@ -165,9 +192,9 @@ mod tests {
     fn an_error_is_described_by_its_kind() {
         use std::error::Error as _;
 
-        let error = Error::new("a\\", ErrorKind::DanglingEscape);
+        let error = Error::new("a\\", ErrorKind::DanglingEscape, 1);
         assert_eq!((error.description(), error.source().is_none()), ("dangling '\\'", true));
-        let range = Error::new("[b-a]", ErrorKind::InvalidRange('b', 'a'));
+        let range = Error::new("[b-a]", ErrorKind::InvalidRange('b', 'a'), 0);
         assert_eq!(range.description(), "invalid character range");
     }
 }

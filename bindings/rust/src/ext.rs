@@ -2,7 +2,129 @@
 
 use std::{fmt, path::Path};
 
-use crate::{ffi, Candidate, GlobSet};
+use crate::{ffi, Candidate, Error, GlobSet, GlobSetBuilder};
+
+/// The byte of a rejected text at which its first error stands, from 0. It is an addition to the crate globset.
+///
+/// It is that of the `[` of an unclosed class or of one with an invalid range, of a `}` that closes nothing, of the last `\`, or
+/// of the outermost `{` that is open at the end of the text.
+///
+/// # Examples
+///
+/// ```
+/// use globset::{ext, Glob};
+///
+/// let error = Glob::new("é/{*.c,*.{h,hpp}").unwrap_err();
+/// assert_eq!(ext::offset(&error), 3);
+/// ```
+pub fn offset(error: &Error) -> usize {
+    error.offset()
+}
+
+/// Makes the set of a builder's globs, as [`GlobSetBuilder::build`] does, with tables that take at most `dfa_size_limit` bytes.
+/// It is an addition to the crate globset.
+///
+/// No answer depends on the limit. With fewer bytes a set takes less time and memory to make, and a question may take more time.
+/// With 0 there are no tables. [`GlobSetBuilder::build`] allows 16 MiB.
+///
+/// # Examples
+///
+/// ```
+/// use globset::{ext, Glob, GlobSetBuilder};
+///
+/// let mut builder = GlobSetBuilder::new();
+/// builder.add(Glob::new("src/**/*.rs")?);
+/// let set = ext::build_with_dfa_size_limit(&builder, 0);
+/// assert!(set.is_match("src/a/lib.rs") && !set.is_match("src/a/lib.c"));
+/// # Ok::<(), globset::Error>(())
+/// ```
+pub fn build_with_dfa_size_limit(builder: &GlobSetBuilder, dfa_size_limit: usize) -> GlobSet {
+    builder.build_with_limit(dfa_size_limit)
+}
+
+/// The indexes of many paths, as [`Searcher::matches_many`] finds them. It is an addition to the crate globset.
+///
+/// # Examples
+///
+/// ```
+/// use globset::{ext::Searcher, Glob, GlobSet};
+///
+/// let mut searcher = Searcher::new(&GlobSet::new([Glob::new("*.c")?, Glob::new("a*")?])?);
+/// let found = searcher.matches_many(["a.c", "b.h", "b.c"]);
+/// assert_eq!(found.len(), 3);
+/// let by_path: Vec<&[usize]> = found.iter().collect();
+/// assert_eq!(by_path, [&[0, 1][..], &[], &[0]]);
+/// # Ok::<(), globset::Error>(())
+/// ```
+#[derive(Clone, Debug, Eq, PartialEq)]
+pub struct Matches {
+    indexes: Vec<usize>,
+    /// For each path where its indexes end. They begin where those of the path before it end.
+    ends: Vec<usize>,
+}
+
+impl Matches {
+    /// The number of paths.
+    ///
+    /// # Examples
+    ///
+    /// ```
+    /// use globset::{ext::Searcher, GlobSet};
+    ///
+    /// assert_eq!(Searcher::new(&GlobSet::empty()).matches_many(["a", "b"]).len(), 2);
+    /// ```
+    pub fn len(&self) -> usize {
+        self.ends.len()
+    }
+
+    /// Whether there are no paths.
+    ///
+    /// # Examples
+    ///
+    /// ```
+    /// use globset::{ext::Searcher, GlobSet};
+    ///
+    /// let none: [&str; 0] = [];
+    /// assert!(Searcher::new(&GlobSet::empty()).matches_many(none).is_empty());
+    /// ```
+    pub fn is_empty(&self) -> bool {
+        self.ends.is_empty()
+    }
+
+    /// The indexes of the globs that match this path, ascending, or `None` if there are fewer paths. The first path has number 0.
+    ///
+    /// # Examples
+    ///
+    /// ```
+    /// use globset::{ext::Searcher, Glob, GlobSet};
+    ///
+    /// let mut searcher = Searcher::new(&GlobSet::new([Glob::new("*.c")?])?);
+    /// let found = searcher.matches_many(["a.h", "a.c"]);
+    /// assert_eq!((found.get(1), found.get(2)), (Some(&[0][..]), None));
+    /// # Ok::<(), globset::Error>(())
+    /// ```
+    pub fn get(&self, path: usize) -> Option<&[usize]> {
+        let end = *self.ends.get(path)?;
+        let start = path.checked_sub(1).map_or(0, |before| self.ends[before]);
+        Some(&self.indexes[start..end])
+    }
+
+    /// The indexes of each path, in the order of the paths.
+    ///
+    /// # Examples
+    ///
+    /// ```
+    /// use globset::{ext::Searcher, Glob, GlobSet};
+    ///
+    /// let mut searcher = Searcher::new(&GlobSet::new([Glob::new("*.c")?])?);
+    /// let found = searcher.matches_many(["a.h", "a.c"]);
+    /// assert_eq!(found.iter().map(<[usize]>::len).collect::<Vec<_>>(), [0, 1]);
+    /// # Ok::<(), globset::Error>(())
+    /// ```
+    pub fn iter(&self) -> impl Iterator<Item = &[usize]> + '_ {
+        (0..self.len()).filter_map(|path| self.get(path))
+    }
+}
 
 /// A set with all the memory that one thread matches with. It is an addition to the crate globset.
 ///
@@ -142,6 +264,35 @@ impl Searcher {
     /// ```
     pub fn matches_candidate(&mut self, path: &Candidate<'_>) -> &[usize] {
         self.raw.as_mut().map_or(&[], |searcher| searcher.matches(path.path()))
+    }
+
+    /// The indexes of the globs that match each path, by one call of the library for all paths.
+    ///
+    /// # Examples
+    ///
+    /// ```
+    /// use globset::{ext::Searcher, Glob, GlobSet};
+    ///
+    /// let mut searcher = Searcher::new(&GlobSet::new([Glob::new("*.c")?, Glob::new("a*")?])?);
+    /// let found = searcher.matches_many(["a.c", "b.h"]);
+    /// assert_eq!((found.get(0), found.get(1)), (Some(&[0, 1][..]), Some(&[][..])));
+    /// # Ok::<(), globset::Error>(())
+    /// ```
+    pub fn matches_many<P, I>(&mut self, paths: I) -> Matches
+    where
+        P: AsRef<Path>,
+        I: IntoIterator<Item = P>,
+    {
+        let (mut bytes, mut ends) = (Vec::new(), Vec::new());
+        for path in paths {
+            bytes.extend_from_slice(Candidate::new(path.as_ref()).path());
+            ends.push(bytes.len());
+        }
+        let (indexes, ends) = match &mut self.raw {
+            Some(searcher) => searcher.matches_many(&bytes, &ends),
+            None => (Vec::new(), vec![0; ends.len()]),
+        };
+        Matches { indexes, ends }
     }
 
     /// Whether some glob matches some path below the folder: the folder, a `/`, and any bytes, perhaps none. A walk over folders

@@ -48,6 +48,7 @@ struct RawError {
     kind: u32,
     start: u32,
     end: u32,
+    offset: usize,
 }
 
 /// `globset_owned`.
@@ -82,6 +83,7 @@ extern "C" {
     fn globset_raw_matcher_is_match(matcher: *mut Lent, work: *mut Owned, path: *const u8, path_len: usize) -> Status;
     fn globset_raw_builder_new(out: *mut Owned) -> Status;
     fn globset_raw_builder_add(builder: *mut Owned, glob: *mut Lent) -> Status;
+    fn globset_raw_builder_set_dfa_size_limit(builder: *mut Owned, bytes: usize) -> Status;
     fn globset_raw_builder_build(builder: *mut Owned, out: *mut Owned) -> Status;
     fn globset_raw_work_new(out: *mut Owned) -> Status;
     fn globset_raw_set_is_match(set: *mut Lent, work: *mut Owned, path: *const u8, path_len: usize) -> Status;
@@ -98,6 +100,18 @@ extern "C" {
     fn globset_raw_searcher_matches_all(searcher: *mut Owned, path: *const u8, path_len: usize) -> Status;
     fn globset_raw_searcher_find(searcher: *mut Owned, path: *const u8, path_len: usize, count: *mut usize) -> Status;
     fn globset_raw_searcher_found(searcher: *mut Owned, indexes: *mut Indexes) -> Status;
+    fn globset_raw_searcher_matches_many(
+        searcher: *mut Owned,
+        paths: *const u8,
+        paths_len: usize,
+        ends: *const usize,
+        ends_len: usize,
+        index_ends: *mut usize,
+        index_ends_len: usize,
+        room: *mut usize,
+        room_len: usize,
+        needed: *mut usize,
+    ) -> Status;
     fn globset_raw_searcher_can_match_below(searcher: *mut Owned, folder: *const u8, folder_len: usize) -> Status;
     fn globset_raw_escape(
         text: *const u8,
@@ -184,8 +198,13 @@ impl Drop for Shared {
     }
 }
 
-/// Why a text is no glob.
-pub(crate) enum ParseError {
+/// Why a text is no glob, and the byte of the text at which this error stands.
+pub(crate) struct ParseError {
+    pub(crate) kind: ParseErrorKind,
+    pub(crate) offset: usize,
+}
+
+pub(crate) enum ParseErrorKind {
     UnclosedClass,
     InvalidRange(char, char),
     UnopenedAlternates,
@@ -196,14 +215,15 @@ pub(crate) enum ParseError {
 impl ParseError {
     fn of(error: &RawError) -> ParseError {
         let char = |code| char::from_u32(code).expect("an end of a range is a character");
-        match error.kind {
-            1 => ParseError::UnclosedClass,
-            2 => ParseError::InvalidRange(char(error.start), char(error.end)),
-            3 => ParseError::UnopenedAlternates,
-            4 => ParseError::UnclosedAlternates,
-            5 => ParseError::DanglingEscape,
+        let kind = match error.kind {
+            1 => ParseErrorKind::UnclosedClass,
+            2 => ParseErrorKind::InvalidRange(char(error.start), char(error.end)),
+            3 => ParseErrorKind::UnopenedAlternates,
+            4 => ParseErrorKind::UnclosedAlternates,
+            5 => ParseErrorKind::DanglingEscape,
             kind => panic!("globset: the C library returned the kind of error {kind}, which its header does not have"),
-        }
+        };
+        ParseError { kind, offset: error.offset }
     }
 }
 
@@ -395,6 +415,38 @@ impl Searcher {
         // as they are. They are as many as the call before told, which is not 0.
         unsafe { slice::from_raw_parts(indexes.at, indexes.count) }
     }
+
+    /// The indexes of many paths, those of the first path first, and for each path where its indexes end. The paths are the bytes
+    /// up to each end, which have to be in order.
+    pub(crate) fn matches_many(&mut self, paths: &[u8], ends: &[usize]) -> (Vec<usize>, Vec<usize>) {
+        let (mut room, mut index_ends) = (vec![0; ends.len()], vec![0; ends.len()]);
+        loop {
+            let mut needed = 0;
+            // SAFETY: "Finds the indexes of each of many paths".
+            let status = unsafe {
+                globset_raw_searcher_matches_many(
+                    &mut self.0,
+                    paths.as_ptr(),
+                    paths.len(),
+                    ends.as_ptr(),
+                    ends.len(),
+                    index_ends.as_mut_ptr(),
+                    index_ends.len(),
+                    room.as_mut_ptr(),
+                    room.len(),
+                    &mut needed,
+                )
+            };
+            match status {
+                DONE => {
+                    room.truncate(needed);
+                    return (room, index_ends);
+                }
+                TOO_SMALL => room = vec![0; needed],
+                status => unexpected(status),
+            }
+        }
+    }
 }
 
 impl Drop for Searcher {
@@ -419,6 +471,11 @@ impl Builder {
         // SAFETY: "Adds a copy of a glob after those that the builder has." The builder is borrowed exclusively: "An owned
         // object is in one call at a time."
         done(unsafe { globset_raw_builder_add(&mut self.0, &mut glob.0.lend()) })
+    }
+
+    pub(crate) fn set_dfa_size_limit(&mut self, bytes: usize) {
+        // SAFETY: "Sets how many bytes the tables of a set may take, for the sets that the builder makes from then on."
+        done(unsafe { globset_raw_builder_set_dfa_size_limit(&mut self.0, bytes) })
     }
 
     pub(crate) fn build(mut self) -> Set {

@@ -9,7 +9,7 @@ use std::{
 };
 
 use crate::{
-    ffi::{self, options, ParseError},
+    ffi::{self, options, ParseErrorKind},
     Candidate, Error, ErrorKind,
 };
 
@@ -205,7 +205,8 @@ impl<'a> GlobBuilder<'a> {
     /// assert!(GlobBuilder::new("a[").allow_unclosed_class(true).build().is_ok());
     /// ```
     pub fn build(&self) -> Result<Glob, Error> {
-        let raw = ffi::Glob::new(self.glob, self.options).map_err(|error| Error::new(self.glob, error.into()))?;
+        let raw = ffi::Glob::new(self.glob, self.options)
+            .map_err(|error| Error::new(self.glob, error.kind.into(), error.offset))?;
         let (text, options, regex) = (self.glob.to_string(), self.options, OnceLock::new());
         Ok(Glob(Arc::new(Read { text, options, regex, raw })))
     }
@@ -334,14 +335,14 @@ impl fmt::Debug for Options {
     }
 }
 
-impl From<ParseError> for ErrorKind {
-    fn from(error: ParseError) -> ErrorKind {
-        match error {
-            ParseError::UnclosedClass => ErrorKind::UnclosedClass,
-            ParseError::InvalidRange(start, end) => ErrorKind::InvalidRange(start, end),
-            ParseError::UnopenedAlternates => ErrorKind::UnopenedAlternates,
-            ParseError::UnclosedAlternates => ErrorKind::UnclosedAlternates,
-            ParseError::DanglingEscape => ErrorKind::DanglingEscape,
+impl From<ParseErrorKind> for ErrorKind {
+    fn from(kind: ParseErrorKind) -> ErrorKind {
+        match kind {
+            ParseErrorKind::UnclosedClass => ErrorKind::UnclosedClass,
+            ParseErrorKind::InvalidRange(start, end) => ErrorKind::InvalidRange(start, end),
+            ParseErrorKind::UnopenedAlternates => ErrorKind::UnopenedAlternates,
+            ParseErrorKind::UnclosedAlternates => ErrorKind::UnclosedAlternates,
+            ParseErrorKind::DanglingEscape => ErrorKind::DanglingEscape,
         }
     }
 }

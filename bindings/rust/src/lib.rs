@@ -52,7 +52,7 @@
 //!
 //! # Additions
 //!
-//! [`GlobBuilder::whole_character`] is an option that globset does not have, and [`ext`] has a type more.
+//! [`GlobBuilder::whole_character`] is an option that globset does not have, and [`ext`] has the other additions.
 
 #![deny(missing_docs, unsafe_code, unsafe_op_in_unsafe_fn, clippy::undocumented_unsafe_blocks)]
 

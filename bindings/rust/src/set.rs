@@ -250,17 +250,29 @@ impl GlobSet {
         I: IntoIterator<Item = G>,
         G: AsRef<Glob>,
     {
+        Ok(GlobSet::with_limit(globs, None))
+    }
+
+    /// The set of globs, whose tables take at most so many bytes, or by default as many as the library allows.
+    fn with_limit<I, G>(globs: I, dfa_size_limit: Option<usize>) -> GlobSet
+    where
+        I: IntoIterator<Item = G>,
+        G: AsRef<Glob>,
+    {
         let mut globs = globs.into_iter().peekable();
         if globs.peek().is_none() {
-            return Ok(GlobSet::empty());
+            return GlobSet::empty();
         }
         let mut builder = ffi::Builder::new();
+        if let Some(bytes) = dfa_size_limit {
+            builder.set_dfa_size_limit(bytes);
+        }
         let mut len = 0;
         for glob in globs {
             builder.add(glob.as_ref().raw());
             len += 1;
         }
-        Ok(GlobSet { len, raw: Some(Arc::new(builder.build())) })
+        GlobSet { len, raw: Some(Arc::new(builder.build())) }
     }
 }
 
@@ -328,6 +340,10 @@ impl GlobSetBuilder {
     /// ```
     pub fn build(&self) -> Result<GlobSet, Error> {
         GlobSet::new(&self.pats)
+    }
+
+    pub(crate) fn build_with_limit(&self, dfa_size_limit: usize) -> GlobSet {
+        GlobSet::with_limit(&self.pats, Some(dfa_size_limit))
     }
 
     /// Adds a glob after those that the builder has.

@@ -2,7 +2,7 @@
 
 use std::{ffi::OsStr, path::Path, path::PathBuf, sync::Arc, thread};
 
-use globset::{escape, ext::Searcher, Candidate, Error, ErrorKind, Glob, GlobBuilder, GlobSet, GlobSetBuilder};
+use globset::{escape, ext, ext::Searcher, Candidate, Error, ErrorKind, Glob, GlobBuilder, GlobSet, GlobSetBuilder};
 
 fn set(texts: &[&str]) -> GlobSet {
     let globs: Vec<Glob> = texts.iter().map(|text| Glob::new(text).expect("a glob")).collect();
@@ -101,6 +101,54 @@ fn errors_have_their_kind_and_their_glob() {
         assert_eq!(error.to_string(), format!("error parsing glob '{text}': {kind}"));
         assert_eq!(error, text.parse::<Glob>().unwrap_err());
     }
+}
+
+#[test]
+fn errors_have_their_place() {
+    let rows = [
+        ("a[b", 1),
+        ("é[a-z][z-a][y-b]", 7),
+        ("é{a,b}}", 7),
+        ("é/{*.c,*.{h,hpp}", 3),
+        ("é\\", 2),
+    ];
+    for (text, offset) in rows {
+        assert_eq!(ext::offset(&Glob::new(text).unwrap_err()), offset, "{text}");
+    }
+    let open = GlobBuilder::new("[a{").allow_unclosed_class(true).build().unwrap_err();
+    assert_eq!(ext::offset(&open), 2);
+}
+
+#[test]
+fn many_paths_have_the_indexes_of_each() {
+    let texts = ["*.c", "src/*", "**/..", "*a*b*", "*"];
+    let globs: Vec<Glob> = texts.iter().map(|text| Glob::new(text).expect("a glob")).collect();
+    let paths = ["", "a.c", "src/ab.c", "x/..", "src/h", ""];
+    for count in 0..=globs.len() {
+        let set = GlobSet::new(&globs[..count]).expect("a set");
+        let found = Searcher::new(&set).matches_many(paths);
+        assert_eq!((found.len(), found.is_empty(), found.get(paths.len())), (paths.len(), false, None));
+        for (number, path) in paths.iter().enumerate() {
+            assert_eq!(found.get(number), Some(&set.matches(path)[..]));
+        }
+        assert!(found.iter().eq(paths.iter().enumerate().filter_map(|(number, _)| found.get(number))));
+    }
+}
+
+#[test]
+fn a_limit_changes_no_answer() {
+    let mut builder = GlobSetBuilder::new();
+    for text in ["src/**/*a?[bc]", "*a*b*", "*.c"] {
+        builder.add(Glob::new(text).expect("a glob"));
+    }
+    let set = builder.build().expect("a set");
+    for limit in [0, 1, 4096, usize::MAX] {
+        let limited = ext::build_with_dfa_size_limit(&builder, limit);
+        for path in ["src/x/axb", "src/x/ab.c", "axb", "b"] {
+            assert_eq!(limited.matches(path), set.matches(path), "{limit} {path}");
+        }
+    }
+    assert!(ext::build_with_dfa_size_limit(&GlobSetBuilder::new(), 0).is_empty());
 }
 
 #[test]

@@ -1,6 +1,7 @@
 -- What C is told of errors.
-use Rattle.std.specs.Prelude.{◌≡◌, ℕ, List, Option, Some, None}
+use Rattle.std.specs.Prelude.{◌≡◌, ℕ, List, Option, Some, None, option_and_then}
 use Rattle.std.specs.Str.{chars}
+use Rattle.glob_syntax.specs.ErrorOffset.{error_offset}
 use Rattle.glob_syntax.specs.Reading.{HasParseError}
 use Rattle.glob_syntax.specs.declared.parse_error_kind.ParseErrorKind.{ParseErrorKind}
 use Rattle.glob_text.specs.Errors.{kind_of, parse_error, error_text}
@@ -9,21 +10,22 @@ use Rattle.glob_text.specs.declared.error.kind.ErrorKind.TheVariants as kinds
 use Rattle.globset_c.specs.Options.{options_of}
 use Rattle.globset_c.specs.declared.error.TextError.{TextError}
 
--- What C is told of an error of this kind. The other kinds are no errors of a text.
-abbrev pub told : ErrorKind → Option TextError
-told kinds.UnclosedClass = Some (record { kind = 1; start = 0; end = 0 })
-told (kinds.InvalidRange start end) = Some (record { kind = 2; start = start; end = end })
-told kinds.UnopenedAlternates = Some (record { kind = 3; start = 0; end = 0 })
-told kinds.UnclosedAlternates = Some (record { kind = 4; start = 0; end = 0 })
-told kinds.DanglingEscape = Some (record { kind = 5; start = 0; end = 0 })
-told kinds.OutOfMemory = None
-told kinds.InvalidRecursive = None
-told kinds.NestedAlternates = None
-told (kinds.Regex text) = None
+-- What C is told of an error of this kind at this offset. The other kinds are no errors of a text.
+abbrev pub told : ErrorKind → ℕ → Option TextError
+told kinds.UnclosedClass at = Some (record { kind = 1; start = 0; end = 0; offset = at })
+told (kinds.InvalidRange start end) at = Some (record { kind = 2; start = start; end = end; offset = at })
+told kinds.UnopenedAlternates at = Some (record { kind = 3; start = 0; end = 0; offset = at })
+told kinds.UnclosedAlternates at = Some (record { kind = 4; start = 0; end = 0; offset = at })
+told kinds.DanglingEscape at = Some (record { kind = 5; start = 0; end = 0; offset = at })
+told kinds.OutOfMemory at = None
+told kinds.InvalidRecursive at = None
+told kinds.NestedAlternates at = None
+told (kinds.Regex text) at = None
 
--- The text is no glob under these options, and its first error is told.
+-- The text is no glob under these options, and its first error is told, with where it stands.
 abbrev pub IsErrorOf : List ℕ → ℕ → TextError → Type 0
-IsErrorOf text options e = (f : ParseErrorKind) × HasParseError (options_of options) (chars text) f × (told (kind_of f) ≡ Some e)
+IsErrorOf text options e = (f : ParseErrorKind) × HasParseError (options_of options) (chars text) f
+    × (option_and_then (told (kind_of f)) (error_offset (options_of options) (chars text)) ≡ Some e)
 
 -- The text is no glob under these options, and P holds of what its first error displays.
 abbrev pub IfRejected : List ℕ → ℕ → (List ℕ → Type 0) → Type 0

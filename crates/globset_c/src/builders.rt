@@ -54,7 +54,7 @@ fn copy_of(object: &Object) -> Result<Glob, Failure>
     let Object::Glob(glob) = object else {
         return Err(Failure::WrongKind);
     };
-    match glob.clone() {
+    match glob.glob().clone() {
         Ok(copy) => Ok(copy),
         Err(_) => Err(Failure::OutOfMemory),
     }
@@ -121,5 +121,36 @@ fn build(object: &mut Object) -> Result<GlobSet, Failure>
     match builder.take_set() {
         Ok(set) => Ok(set),
         Err(_) => Err(Failure::OutOfMemory),
+    }
+}
+
+/// Sets how many bytes the tables of the sets that a builder makes from then on may take.
+#[unsafe(no_mangle)]
+pub extern "C" fn globset_raw_builder_set_dfa_size_limit(
+    builder: &mut Owned,
+    bytes: usize,
+) -> Status
+    requires owned { IsSome builder.old.object }
+    // The limit changes no answer, and contracts do not see it: it is no part of what a set is.
+    ensures same_globs { builder.new.object ≡ builder.old.object }
+    ensures right_kind { IsBuilder builder.old.object → result ≡ DONE }
+    ensures other_kind { result ≡ DONE → IsBuilder builder.old.object }
+    ensures statuses { IsOneOf (DONE ∷ WRONG_KIND ∷ []) result }
+{
+    set_limit(builder.as_mut(), bytes)
+}
+
+fn set_limit(object: &mut Object, bytes: usize) -> Status
+    ensures same_globs { object.new ≡ object.old }
+    ensures right_kind { IsBuilder (Some object.old) → result ≡ DONE }
+    ensures other_kind { result ≡ DONE → IsBuilder (Some object.old) }
+    ensures statuses { IsOneOf (DONE ∷ WRONG_KIND ∷ []) result }
+{
+    match object {
+        Object::Builder(builder) => {
+            builder.dfa_size_limit(bytes);
+            DONE
+        }
+        _ => WRONG_KIND,
     }
 }

@@ -21,8 +21,9 @@ pub extern "C" fn globset_raw_escape(
     ensures done { result ≡ DONE → IsWritten (escaped text.now) room.old room.new needed.new }
     ensures too_small { result ≡ TOO_SMALL → IsTooLong (escaped text.now) room.old room.new needed.new }
     ensures not_utf8 { result ≡ NOT_UTF8 → ¬ (IsUtf8 text.now) }
-    ensures refused { result ≡ NOT_UTF8 → room.new ≡ room.old }
-    ensures out_of_memory { result ≡ OUT_OF_MEMORY → room.new ≡ room.old }
+    ensures utf8 { result ≢ NOT_UTF8 → IsUtf8 text.now }
+    ensures refused { result ≢ DONE → room.new ≡ room.old }
+    ensures same_needed { result ≢ DONE → result ≢ TOO_SMALL → needed.new ≡ needed.old }
     ensures statuses { IsOneOf (DONE ∷ OUT_OF_MEMORY ∷ NOT_UTF8 ∷ TOO_SMALL ∷ []) result }
 {
     let Ok(text) = std::str::from_utf8(text) else {

@@ -1,6 +1,6 @@
 //! Globs.
 
-ghost use Rattle.std.specs.Prelude.{◌≡◌, ◌≢◌, Some, [], ◌∷◌, IfOk, IfErr, string_bytes};
+ghost use Rattle.std.specs.Prelude.{◌≡◌, ◌≢◌, Some, [], ◌∷◌, IfOk, IfErr, OnOk, string_bytes};
 ghost use Rattle.std.specs.Str.{IsUtf8};
 ghost use Rattle.glob_text.specs.Errors.{IsParseErrorOf, error_text, out_of_memory};
 ghost use Rattle.glob_text.specs.GlobMatches.{tokens_of_glob, IsRead};
@@ -19,6 +19,7 @@ use crate::making::hand_out;
 use crate::object::{Failure, Object};
 use crate::options::{are_known, builder_of};
 use crate::owned::Owned;
+use crate::read_glob::ReadGlob;
 use crate::status::{
     DONE, NO, NOT_UTF8, OUT_OF_MEMORY, REJECTED, Status, TOO_SMALL, UNKNOWN_OPTION, WRONG_KIND,
 };
@@ -37,9 +38,10 @@ enum Unread {
 fn read(alloc: Global, text: &[u8], options: u32) -> Result<Result<Glob, Error>, Unread>
     ensures made { IfOk result (λ read. IfOk read (λ g. (g ≡ glob_of text.now options) × IsRead g)) }
     ensures rejected { IfOk result (λ read. IfErr read (IsParseErrorOf (options_of options) text.now)) }
-    ensures known { IfOk result (λ read. IsKnown options) }
+    ensures known { OnOk result (IsKnown options) }
+    ensures utf8 { OnOk result (IsUtf8 text.now) }
     ensures unknown { IfErr result (λ why. why ≡ UnknownOption → ¬ (IsKnown options)) }
-    ensures not_utf8 { IfErr result (λ why. why ≡ NotUtf8 → ¬ (IsUtf8 text.now)) }
+    ensures not_utf8 { IfErr result (λ why. why ≡ NotUtf8 → IsKnown options × (¬ (IsUtf8 text.now))) }
 {
     if !are_known(options) {
         return Err(Unread::UnknownOption);
@@ -60,16 +62,19 @@ pub extern "C" fn globset_raw_glob_new(
     out: &mut Owned,
 ) -> Status
     ensures made { result ≡ DONE → IfGlob out.new.object (λ g. g ≡ glob_of text.now options) }
-    ensures known { result ≡ DONE → IsKnown options }
+    ensures no_error { result ≡ DONE → IsRead (glob_of text.now options) }
     ensures rejected { result ≡ REJECTED → IsErrorOf text.now options error.new }
-    ensures not_utf8 { result ≡ NOT_UTF8 → ¬ (IsUtf8 text.now) }
+    // The options are looked at first, and then the bytes.
     ensures unknown { result ≡ UNKNOWN_OPTION → ¬ (IsKnown options) }
+    ensures known { result ≢ UNKNOWN_OPTION → IsKnown options }
+    ensures not_utf8 { result ≡ NOT_UTF8 → ¬ (IsUtf8 text.now) }
+    ensures utf8 { result ≢ UNKNOWN_OPTION → result ≢ NOT_UTF8 → IsUtf8 text.now }
     ensures refused { result ≢ DONE → out.new ≡ out.old }
     ensures same_error { result ≢ REJECTED → error.new ≡ error.old }
     ensures statuses { IsOneOf (DONE ∷ OUT_OF_MEMORY ∷ REJECTED ∷ NOT_UTF8 ∷ UNKNOWN_OPTION ∷ []) result }
 {
     match read(alloc, text, options) {
-        Ok(Ok(glob)) => match hand_out(alloc, Object::Glob(glob), out) {
+        Ok(Ok(glob)) => match hand_out(alloc, Object::Glob(ReadGlob::of(glob, options)), out) {
             Ok(()) => DONE,
             Err(_) => OUT_OF_MEMORY,
         },
@@ -97,9 +102,13 @@ pub extern "C" fn globset_raw_error_text(
     ensures done { result ≡ DONE → IfRejected text.now options (λ said. IsWritten said room.old room.new needed.new) }
     ensures too_small { result ≡ TOO_SMALL → IfRejected text.now options (λ said. IsTooLong said room.old room.new needed.new) }
     ensures no_error { result ≡ NO → IsRead (glob_of text.now options) }
-    ensures not_utf8 { result ≡ NOT_UTF8 → ¬ (IsUtf8 text.now) }
+    // The options are looked at first, and then the bytes.
     ensures unknown { result ≡ UNKNOWN_OPTION → ¬ (IsKnown options) }
+    ensures known { result ≢ UNKNOWN_OPTION → IsKnown options }
+    ensures not_utf8 { result ≡ NOT_UTF8 → ¬ (IsUtf8 text.now) }
+    ensures utf8 { result ≢ UNKNOWN_OPTION → result ≢ NOT_UTF8 → IsUtf8 text.now }
     ensures refused { result ≢ DONE → room.new ≡ room.old }
+    ensures same_needed { result ≢ DONE → result ≢ TOO_SMALL → needed.new ≡ needed.old }
     ensures statuses { IsOneOf (DONE ∷ NO ∷ OUT_OF_MEMORY ∷ NOT_UTF8 ∷ UNKNOWN_OPTION ∷ TOO_SMALL ∷ []) result }
 {
     match read(alloc, text, options) {
@@ -115,6 +124,7 @@ fn say(alloc: Global, parse_error: &Error, room: &mut [u8], needed: &mut usize) 
     ensures done { result ≡ DONE → IsWritten (error_text parse_error.now) room.old room.new needed.new }
     ensures too_small { result ≡ TOO_SMALL → IsTooLong (error_text parse_error.now) room.old room.new needed.new }
     ensures refused { result ≢ DONE → room.new ≡ room.old }
+    ensures same_needed { result ≢ DONE → result ≢ TOO_SMALL → needed.new ≡ needed.old }
     ensures of_text { result ≢ OUT_OF_MEMORY → parse_error.now ≢ out_of_memory }
     ensures statuses { IsOneOf (DONE ∷ OUT_OF_MEMORY ∷ TOO_SMALL ∷ []) result }
 {
@@ -141,6 +151,7 @@ pub extern "C" fn globset_raw_glob_regex(
     ensures too_small { result ≡ TOO_SMALL → IfGlob (Some glob.old.object) (λ g.
         IsTooLong (regex_text g.options (tokens_of_glob g)) room.old room.new needed.new) }
     ensures refused { result ≢ DONE → room.new ≡ room.old }
+    ensures same_needed { result ≢ DONE → result ≢ TOO_SMALL → needed.new ≡ needed.old }
     ensures right_kind { IsGlob (Some glob.old.object) → result ≢ WRONG_KIND }
     ensures statuses { IsOneOf (DONE ∷ OUT_OF_MEMORY ∷ WRONG_KIND ∷ TOO_SMALL ∷ []) result }
 {
@@ -158,7 +169,7 @@ fn regex_of(alloc: Global, object: &Object) -> Result<String, Failure>
     let Object::Glob(glob) = object else {
         return Err(Failure::WrongKind);
     };
-    match String::from_str(alloc, glob.regex()) {
+    match String::from_str(alloc, glob.glob().regex()) {
         Ok(regex) => Ok(regex),
         Err(_) => Err(Failure::OutOfMemory),
     }

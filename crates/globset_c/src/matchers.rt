@@ -37,7 +37,7 @@ fn matcher_of(object: &Object) -> Result<Object, Failure>
     let Object::Glob(glob) = object else {
         return Err(Failure::WrongKind);
     };
-    match glob.compile_matcher() {
+    match glob.glob().compile_matcher() {
         Ok(matcher) => Ok(Object::Matcher(matcher)),
         Err(_) => Err(Failure::OutOfMemory),
     }

@@ -1,6 +1,7 @@
 //! What C can own.
 
-use globset::{Glob, GlobMatcher, GlobSet, GlobSetBuilder, Scratch, Searcher};
+use crate::read_glob::ReadGlob;
+use globset::{GlobMatcher, GlobSet, GlobSetBuilder, Scratch, Searcher};
 
 /// What a thread keeps between calls: memory to match with, and the indexes of the last call.
 #[derive(Drop)]
@@ -12,7 +13,7 @@ pub struct Work {
 /// An object of one of the kinds that C can own.
 #[derive(Drop)]
 pub enum Object {
-    Glob(Glob),
+    Glob(ReadGlob),
     Matcher(GlobMatcher),
     Builder(GlobSetBuilder),
     Set(GlobSet),

@@ -30,5 +30,5 @@ pub const WRONG_KIND: Status = 7;
 /// The ends of paths are out of order, lie beyond the bytes, or are not one for each answer.
 pub const BAD_ENDS: Status = 8;
 
-/// The text is longer than the room for it.
+/// The text is longer than the room for it, or the indexes are more.
 pub const TOO_SMALL: Status = 9;

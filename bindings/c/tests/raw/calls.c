@@ -1,5 +1,5 @@
-/* Each call once or more, on each kind of object, with each status that it has. memory.c is for GLOBSET_OUT_OF_MEMORY.
- */
+/* Each call once or more, on each kind of object, with each status that it has. memory.c is for
+ * GLOBSET_OUT_OF_MEMORY. */
 #include "raw.h"
 
 static void versions(void) {
@@ -7,30 +7,37 @@ static void versions(void) {
     CHECK(globset_interface() == GLOBSET_INTERFACE);
 }
 
-/* Texts that are refused, with the kind and the characters of the first error, and what it says. */
+/* Texts that are refused, with the kind, the characters and the place of the first error, and what it says. */
 static void refused(void) {
     static const struct {
         const char *text;
         uint32_t kind, start, end;
+        size_t offset;
         const char *says;
     } rows[] = {
-        {"a[b", GLOBSET_UNCLOSED_CLASS, 0, 0, "error parsing glob 'a[b': unclosed character class; missing ']'"},
-        {"[z-a]", GLOBSET_INVALID_RANGE, 'z', 'a', "error parsing glob '[z-a]': invalid range; 'z' > 'a'"},
-        {"[\xc3\xa9-a]", GLOBSET_INVALID_RANGE, 0xe9, 'a',
+        {"a[b", GLOBSET_UNCLOSED_CLASS, 0, 0, 1, "error parsing glob 'a[b': unclosed character class; missing ']'"},
+        {"[z-a]", GLOBSET_INVALID_RANGE, 'z', 'a', 0, "error parsing glob '[z-a]': invalid range; 'z' > 'a'"},
+        {"[\xc3\xa9-a]", GLOBSET_INVALID_RANGE, 0xe9, 'a', 0,
          "error parsing glob '[\xc3\xa9-a]': invalid range; '\xc3\xa9' > 'a'"},
-        {"a}", GLOBSET_UNOPENED_ALTERNATES, 0, 0,
+        {"\xc3\xa9[z-a][y-b]", GLOBSET_INVALID_RANGE, 'z', 'a', 2,
+         "error parsing glob '\xc3\xa9[z-a][y-b]': invalid range; 'z' > 'a'"},
+        {"a}", GLOBSET_UNOPENED_ALTERNATES, 0, 0, 1,
          "error parsing glob 'a}': unopened alternate group; missing '{' (maybe escape '}' with '[}]'?)"},
-        {"{a,b", GLOBSET_UNCLOSED_ALTERNATES, 0, 0,
+        {"{a,b", GLOBSET_UNCLOSED_ALTERNATES, 0, 0, 0,
          "error parsing glob '{a,b': unclosed alternate group; missing '}' (maybe escape '{' with '[{]'?)"},
-        {"a\\", GLOBSET_DANGLING_ESCAPE, 0, 0, "error parsing glob 'a\\': dangling '\\'"},
+        {"\xc3\xa9/{*.c,*.{h,hpp}", GLOBSET_UNCLOSED_ALTERNATES, 0, 0, 3,
+         "error parsing glob '\xc3\xa9/{*.c,*.{h,hpp}': unclosed alternate group; missing '}' (maybe escape '{' with "
+         "'[{]'?)"},
+        {"a\\", GLOBSET_DANGLING_ESCAPE, 0, 0, 1, "error parsing glob 'a\\': dangling '\\'"},
     };
     for (size_t i = 0; i < sizeof rows / sizeof *rows; i++) {
-        globset_error error = {77, 78, 79};
+        globset_error error = {77, 78, 79, 80};
         raw_glob glob = {{&error}};
         char room[200];
         size_t needed = 1000;
         CHECK(raw_glob_new(TEXT(rows[i].text), 0, &error, &glob) == GLOBSET_REJECTED);
         CHECK(error.kind == rows[i].kind && error.start == rows[i].start && error.end == rows[i].end);
+        CHECK(error.offset == rows[i].offset);
         CHECK(glob.object.at == &error);
         memset(room, '#', sizeof room);
         CHECK(raw_error_text(TEXT(rows[i].text), 0, room, sizeof room, &needed) == GLOBSET_DONE);
@@ -43,19 +50,24 @@ static void refused(void) {
 
 /* The other statuses of a text: each leaves what was there. */
 static void not_read(void) {
-    globset_error error = {77, 78, 79};
+    globset_error error = {77, 78, 79, 80};
     raw_glob glob = {{&error}};
     char room[8] = "#######";
     size_t needed = 1000;
     CHECK(raw_glob_new("\xff", 1, 0, &error, &glob) == GLOBSET_NOT_UTF8);
     CHECK(raw_glob_new("a", 1, 64, &error, &glob) == GLOBSET_UNKNOWN_OPTION);
     CHECK(raw_glob_new("\xff", 1, UINT32_MAX, &error, &glob) == GLOBSET_UNKNOWN_OPTION);
-    CHECK(error.kind == 77 && error.start == 78 && error.end == 79 && glob.object.at == &error);
+    CHECK(raw_glob_new("[", 1, 64, &error, &glob) == GLOBSET_UNKNOWN_OPTION);
+    CHECK(raw_glob_new("[\xff", 2, 0, &error, &glob) == GLOBSET_NOT_UTF8);
+    CHECK(error.kind == 77 && error.start == 78 && error.end == 79 && error.offset == 80 && glob.object.at == &error);
     CHECK(raw_error_text("\xff", 1, 0, room, 8, &needed) == GLOBSET_NOT_UTF8);
     CHECK(raw_error_text("a[", 2, 64, room, 8, &needed) == GLOBSET_UNKNOWN_OPTION);
     CHECK(raw_error_text("*.c", 3, 0, room, 8, &needed) == GLOBSET_NO);
     CHECK(raw_error_text("a[", 2, GLOBSET_ALLOW_UNCLOSED_CLASS, room, 8, &needed) == GLOBSET_NO);
-    CHECK(memcmp(room, "#######", 8) == 0);
+    CHECK(raw_error_text("[\xff", 2, 64, room, 8, &needed) == GLOBSET_UNKNOWN_OPTION);
+    CHECK(raw_error_text("[\xff", 2, 0, room, 8, &needed) == GLOBSET_NOT_UTF8);
+    CHECK(raw_escape("[\xff", 2, room, 8, &needed) == GLOBSET_NOT_UTF8);
+    CHECK(memcmp(room, "#######", 8) == 0 && needed == 1000);
 }
 
 /* Each option decides one path, which the default decides otherwise. */
@@ -134,6 +146,30 @@ static void texts(void) {
     CHECK(raw_escape("\xff", 1, room, 64, &needed) == GLOBSET_NOT_UTF8);
 }
 
+/* The text and the options of a glob, with each set of options. */
+static void parts(void) {
+    for (uint32_t options = 0; options < 64; options++) {
+        static const char text[] = "a\xc3\xa9\0*.{c,h}";
+        const size_t len = sizeof text - 1;
+        globset_error error;
+        raw_glob glob;
+        char room[16];
+        size_t needed = 1000;
+        CHECK(raw_glob_new(text, len, options, &error, &glob) == GLOBSET_DONE);
+        CHECK(raw_glob_options(glob) == options);
+        memset(room, '#', sizeof room);
+        CHECK(raw_glob_text(glob, room, len - 1, &needed) == GLOBSET_TOO_SMALL && needed == len && room[0] == '#');
+        CHECK(raw_glob_text(glob, NULL, 0, &needed) == GLOBSET_TOO_SMALL && needed == len);
+        CHECK(raw_glob_text(glob, room, sizeof room, &needed) == GLOBSET_DONE && needed == len);
+        CHECK(memcmp(room, text, len) == 0 && room[len] == '#');
+        raw_glob_free(glob);
+    }
+    raw_glob empty = glob_of("", GLOBSET_CASE_INSENSITIVE);
+    size_t needed = 1000;
+    CHECK(raw_glob_text(empty, NULL, 0, &needed) == GLOBSET_DONE && needed == 0);
+    raw_glob_free(empty);
+}
+
 static void sets(void) {
     static const char *const globs[] = {"*.c", "src/*", "**/..", "*a*b*"};
     raw_set set = set_of(globs, 4), empty = set_of(globs, 0), some = set_of(globs, 2);
@@ -176,6 +212,30 @@ static void builders(void) {
     raw_set_free(second);
 }
 
+/* Under each limit of the tables a set answers the same. A builder keeps its limit after a set was made. */
+static void limits(void) {
+    static const size_t limits[] = {0, 1, 4096, SIZE_MAX};
+    for (size_t i = 0; i < sizeof limits / sizeof *limits; i++) {
+        raw_builder builder;
+        raw_glob glob = glob_of("src/**/*a?[bc]", 0);
+        CHECK(raw_builder_new(&builder) == GLOBSET_DONE && raw_builder_add(&builder, glob) == GLOBSET_DONE);
+        raw_builder_set_dfa_size_limit(&builder, limits[i]);
+        for (int again = 0; again < 2; again++) {
+            raw_set set;
+            raw_searcher searcher;
+            CHECK(raw_builder_add(&builder, glob) == GLOBSET_DONE);
+            CHECK(raw_builder_build(&builder, &set) == GLOBSET_DONE && raw_set_len(set) == (again ? 1 : 2));
+            CHECK(raw_searcher_new(set, &searcher) == GLOBSET_DONE);
+            CHECK(raw_searcher_is_match(&searcher, TEXT("src/x/axb")) == GLOBSET_YES);
+            CHECK(raw_searcher_is_match(&searcher, TEXT("src/x/ab")) == GLOBSET_NO);
+            raw_searcher_free(searcher);
+            raw_set_free(set);
+        }
+        raw_glob_free(glob);
+        raw_builder_free(builder);
+    }
+}
+
 /* No call changes the address in the handle of a builder or a searcher, which globset.c relies on. */
 static void addresses(void) {
     static const char *const globs[] = {"*.c"};
@@ -189,6 +249,8 @@ static void addresses(void) {
     CHECK(raw_builder_new(&builder) == GLOBSET_DONE && raw_searcher_new(set, &searcher) == GLOBSET_DONE);
     const void *builder_at = builder.object.at, *searcher_at = searcher.object.at;
     CHECK(raw_builder_add(&builder, glob) == GLOBSET_DONE && builder.object.at == builder_at);
+    CHECK(globset_raw_builder_set_dfa_size_limit(&builder.object, 0) == GLOBSET_DONE &&
+          builder.object.at == builder_at);
     CHECK(raw_builder_build(&builder, &built) == GLOBSET_DONE && builder.object.at == builder_at);
     CHECK(raw_searcher_is_match(&searcher, TEXT("a.c")) == GLOBSET_YES && searcher.object.at == searcher_at);
     CHECK(raw_searcher_matches_all(&searcher, TEXT("a.c")) == GLOBSET_YES && searcher.object.at == searcher_at);
@@ -196,6 +258,9 @@ static void addresses(void) {
     CHECK(raw_searcher_matches(&searcher, TEXT("a.c"), &found) == GLOBSET_DONE && searcher.object.at == searcher_at);
     CHECK(raw_searcher_is_match_many(&searcher, TEXT("a.c"), &end, &answer, 1) == GLOBSET_DONE);
     CHECK(answer == 1 && searcher.object.at == searcher_at);
+    size_t index_end = 0, index = 1, needed = 0;
+    CHECK(raw_searcher_matches_many(&searcher, TEXT("a.c"), &end, &index_end, 1, &index, 1, &needed) == GLOBSET_DONE);
+    CHECK(index_end == 1 && index == 0 && needed == 1 && searcher.object.at == searcher_at);
     raw_glob_free(glob);
     raw_builder_free(builder);
     raw_searcher_free(searcher);
@@ -236,6 +301,50 @@ static void many(void) {
     raw_searcher_free(searcher);
     raw_work_free(work);
     raw_set_free(set);
+}
+
+/* The indexes of many paths in one list. */
+static void indexes_of_many(void) {
+    static const char *const globs[] = {"*.c", "src/*", "**/..", "*a*b*"};
+    static const char paths[] = "a.csrc/ab.cxsrc/h#";
+    static const size_t ends[] = {3, 11, 11, 12, 17}, descending[] = {3, 2};
+    static const size_t wanted[] = {0, 0, 1, 3, 1}, wanted_ends[] = {1, 4, 4, 4, 5};
+    raw_set set = set_of(globs, 4), empty = set_of(globs, 0);
+    raw_searcher searcher, of_empty;
+    globset_indexes found;
+    size_t room[8], index_ends[5], needed = 1000;
+    CHECK(raw_searcher_new(set, &searcher) == GLOBSET_DONE && raw_searcher_new(empty, &of_empty) == GLOBSET_DONE);
+    CHECK(raw_searcher_matches(&searcher, TEXT("x.c"), &found) == GLOBSET_DONE && found.count == 1);
+    memset(room, 7, sizeof room);
+    memset(index_ends, 7, sizeof index_ends);
+    const size_t sevens = room[0];
+    /* Refused: all is as it was. */
+    CHECK(raw_searcher_matches_many(&searcher, paths, 16, ends, index_ends, 5, room, 8, &needed) == GLOBSET_BAD_ENDS);
+    CHECK(raw_searcher_matches_many(&searcher, paths, 17, descending, index_ends, 2, room, 8, &needed) ==
+          GLOBSET_BAD_ENDS);
+    CHECK(globset_raw_searcher_matches_many(&searcher.object, (const uint8_t *)paths, 17, ends, 5, index_ends, 4, room,
+                                            8, &needed) == GLOBSET_BAD_ENDS);
+    CHECK(needed == 1000 && room[0] == sevens && index_ends[0] == sevens && index_ends[4] == sevens);
+    CHECK(raw_searcher_found(&searcher, &found) == GLOBSET_DONE && found.count == 1 && found.at[0] == 0);
+    /* Too little room, and then enough. */
+    CHECK(raw_searcher_matches_many(&searcher, paths, 17, ends, index_ends, 5, room, 4, &needed) == GLOBSET_TOO_SMALL);
+    CHECK(needed == 5 && room[0] == sevens && room[3] == sevens && index_ends[0] == sevens && index_ends[4] == sevens);
+    CHECK(raw_searcher_found(&searcher, &found) == GLOBSET_DONE && found.count == 1 && found.at[0] == 1);
+    CHECK(raw_searcher_matches_many(&searcher, paths, 17, ends, index_ends, 5, NULL, 0, &needed) == GLOBSET_TOO_SMALL);
+    CHECK(raw_searcher_matches_many(&searcher, paths, 17, ends, index_ends, 5, room, 8, &needed) == GLOBSET_DONE);
+    CHECK(needed == 5 && memcmp(room, wanted, sizeof wanted) == 0 && room[5] == sevens && room[7] == sevens);
+    CHECK(memcmp(index_ends, wanted_ends, sizeof wanted_ends) == 0);
+    CHECK(raw_searcher_found(&searcher, &found) == GLOBSET_DONE && found.count == 1 && found.at[0] == 1);
+    /* No paths, and no globs. */
+    CHECK(raw_searcher_matches_many(&searcher, NULL, 0, NULL, NULL, 0, NULL, 0, &needed) == GLOBSET_DONE &&
+          needed == 0);
+    CHECK(raw_searcher_found(&searcher, &found) == GLOBSET_DONE && found.count == 1);
+    CHECK(raw_searcher_matches_many(&of_empty, paths, 17, ends, index_ends, 5, NULL, 0, &needed) == GLOBSET_DONE);
+    CHECK(needed == 0 && index_ends[0] == 0 && index_ends[4] == 0);
+    raw_searcher_free(searcher);
+    raw_searcher_free(of_empty);
+    raw_set_free(set);
+    raw_set_free(empty);
 }
 
 /* Searchers answer as their sets do, also after these were freed, and keep what they found until they find again. */
@@ -335,6 +444,10 @@ static void no_searcher(globset_owned *object) {
     CHECK(globset_raw_searcher_find(object, path, 3, &count) == GLOBSET_WRONG_KIND && count == 9);
     CHECK(globset_raw_searcher_found(object, &found) == GLOBSET_WRONG_KIND && found.count == 0);
     CHECK(globset_raw_searcher_is_match_many(object, path, 3, &end, 1, &byte, 1) == GLOBSET_WRONG_KIND && byte == 9);
+    size_t index_end = 9, room = 9;
+    CHECK(globset_raw_searcher_matches_many(object, path, 3, &end, 1, &index_end, 1, &room, 1, &count) ==
+          GLOBSET_WRONG_KIND);
+    CHECK(index_end == 9 && room == 9 && count == 9);
 }
 
 /* Objects of the wrong kind, each in each place. They are as they were. No object is lent and owned in one call. */
@@ -358,7 +471,10 @@ static void wrong_kinds(void) {
         size_t size = 9;
         const size_t end = 3;
         globset_indexes found = {raw_no_indexes, 0};
+        uint32_t options = 9;
         CHECK(i == 0 || globset_raw_glob_regex(&lent, &byte, 1, &size) == GLOBSET_WRONG_KIND);
+        CHECK(i == 0 || globset_raw_glob_text(&lent, &byte, 1, &size) == GLOBSET_WRONG_KIND);
+        CHECK(i == 0 || (globset_raw_glob_options(&lent, &options) == GLOBSET_WRONG_KIND && options == 9));
         CHECK(i == 0 || globset_raw_matcher_new(&lent, &out) == GLOBSET_WRONG_KIND);
         CHECK(i == 0 || i == 2 || globset_raw_builder_add(&builder.object, &lent) == GLOBSET_WRONG_KIND);
         CHECK(i == 1 || i == 4 || globset_raw_matcher_is_match(&lent, &work.object, path, 3) == GLOBSET_WRONG_KIND);
@@ -382,6 +498,7 @@ static void wrong_kinds(void) {
               globset_raw_set_is_match_many(&lent_set, objects[i], path, 3, &end, 1, &byte, 1) == GLOBSET_WRONG_KIND);
         CHECK(i == 3 || i == 4 || globset_raw_work_fit(objects[i], &lent_set) == GLOBSET_WRONG_KIND);
         CHECK(i == 2 || globset_raw_builder_build(objects[i], &out) == GLOBSET_WRONG_KIND);
+        CHECK(globset_raw_builder_set_dfa_size_limit(objects[i], 0) == (i == 2 ? GLOBSET_DONE : GLOBSET_WRONG_KIND));
         if (i < 5) no_searcher(objects[i]);
     }
     globset_lent lent_glob = raw_lend(glob.object);
@@ -406,10 +523,13 @@ int main(void) {
     options();
     bytes();
     texts();
+    parts();
     sets();
     builders();
+    limits();
     addresses();
     many();
+    indexes_of_many();
     searchers();
     folders();
     many_globs();

@@ -10,7 +10,7 @@ enum { GLOBS = sizeof globs / sizeof *globs };
 #define TRY(call, wanted, check) TRY_UNTIL(globset_status, GLOBSET_OUT_OF_MEMORY, call, wanted, check)
 
 static void try_texts(void) {
-    globset_error error = {77, 78, 79};
+    globset_error error = {77, 78, 79, 80};
     char room[256];
     size_t needed;
     raw_glob none = {{&error}};
@@ -31,6 +31,7 @@ static raw_set try_making(raw_matcher *matcher) {
         raw_glob glob;
         TRY(raw_glob_new(TEXT(globs[i]), 0, &error, &glob), GLOBSET_DONE, CHECK(blocks == before));
         TRY(raw_glob_regex(glob, room, sizeof room, &needed), GLOBSET_DONE, CHECK(blocks == before));
+        TRY(raw_glob_text(glob, room, sizeof room, &needed), GLOBSET_DONE, CHECK(blocks == before));
         TRY(raw_builder_add(&builder, glob), GLOBSET_DONE, CHECK(blocks == before));
         if (i == 3) TRY(raw_matcher_new(glob, matcher), GLOBSET_DONE, CHECK(blocks == before));
         raw_glob_free(glob);
@@ -94,10 +95,35 @@ static void try_searcher(raw_set set) {
     TRY(raw_searcher_is_match_many(&searcher, TEXT("src/a/b.c"), ends, answers, 2), GLOBSET_DONE,
         CHECK(blocks == before && answers[0] == 7 && answers[1] == 7));
     CHECK(answers[0] == 0 && answers[1] == 1);
+    size_t index_ends[2] = {7, 7}, room[2] = {7, 7}, needed = 7;
+    TRY(raw_searcher_matches_many(&searcher, TEXT("src/a/b.c"), (const size_t[]){9, 9}, index_ends, 2, room, 2,
+                                  &needed),
+        GLOBSET_DONE,
+        CHECK(blocks == before && index_ends[0] == 7 && index_ends[1] == 7 && room[0] == 7 && room[1] == 7 &&
+              needed == 7);
+        CHECK(raw_searcher_found(&searcher, &found) == GLOBSET_DONE && found.count == 0));
+    CHECK(index_ends[0] == 2 && index_ends[1] == 2 && room[0] == 2 && room[1] == 3 && needed == 2);
     raw_searcher_free(searcher);
 }
 
+/* How many bytes were asked for while a set with tables of at most so many bytes was made. */
+static size_t bytes_of_set(size_t limit) {
+    raw_builder builder;
+    raw_set set;
+    raw_glob glob = glob_of("src/**/*a*b?[bc]*", 0);
+    CHECK(raw_builder_new(&builder) == GLOBSET_DONE && raw_builder_add(&builder, glob) == GLOBSET_DONE);
+    raw_builder_set_dfa_size_limit(&builder, limit);
+    size_t before = asked;
+    CHECK(raw_builder_build(&builder, &set) == GLOBSET_DONE);
+    size_t bytes = asked - before;
+    raw_glob_free(glob);
+    raw_builder_free(builder);
+    raw_set_free(set);
+    return bytes;
+}
+
 int main(void) {
+    CHECK(bytes_of_set(0) < bytes_of_set(1 << 20));
     try_texts();
     raw_matcher matcher;
     raw_set set = try_making(&matcher);

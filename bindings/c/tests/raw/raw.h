@@ -54,6 +54,19 @@ static inline globset_status raw_glob_regex(raw_glob glob, char *room, size_t ro
     return globset_raw_glob_regex(&lent, room ? (uint8_t *)room : &none, room_len, needed);
 }
 
+static inline globset_status raw_glob_text(raw_glob glob, char *room, size_t room_len, size_t *needed) {
+    globset_lent lent = raw_lend(glob.object);
+    uint8_t none = 0;
+    return globset_raw_glob_text(&lent, room ? (uint8_t *)room : &none, room_len, needed);
+}
+
+static inline uint32_t raw_glob_options(raw_glob glob) {
+    globset_lent lent = raw_lend(glob.object);
+    uint32_t options = 0;
+    globset_raw_glob_options(&lent, &options);
+    return options;
+}
+
 static inline globset_status raw_matcher_new(raw_glob glob, raw_matcher *out) {
     globset_lent lent = raw_lend(glob.object);
     return globset_raw_matcher_new(&lent, &out->object);
@@ -74,6 +87,10 @@ static inline void raw_builder_free(raw_builder builder) { globset_raw_free(buil
 static inline globset_status raw_builder_add(raw_builder *builder, raw_glob glob) {
     globset_lent lent = raw_lend(glob.object);
     return globset_raw_builder_add(&builder->object, &lent);
+}
+
+static inline void raw_builder_set_dfa_size_limit(raw_builder *builder, size_t bytes) {
+    globset_raw_builder_set_dfa_size_limit(&builder->object, bytes);
 }
 
 static inline globset_status raw_builder_build(raw_builder *builder, raw_set *out) {
@@ -170,6 +187,15 @@ static inline globset_status raw_searcher_is_match_many(raw_searcher *searcher, 
                                               ends ? ends : raw_no_indexes, count, answers ? answers : &none, count);
 }
 
+static inline globset_status raw_searcher_matches_many(raw_searcher *searcher, const void *paths, size_t paths_len,
+                                                       const size_t *ends, size_t *index_ends, size_t count,
+                                                       size_t *room, size_t room_len, size_t *needed) {
+    size_t none = 0;
+    return globset_raw_searcher_matches_many(&searcher->object, raw_bytes(paths), paths_len,
+                                             ends ? ends : raw_no_indexes, count, index_ends ? index_ends : &none,
+                                             count, room ? room : &none, room_len, needed);
+}
+
 static inline globset_status raw_searcher_can_match_below(raw_searcher *searcher, const void *folder,
                                                           size_t folder_len) {
     return globset_raw_searcher_can_match_below(&searcher->object, raw_bytes(folder), folder_len);
@@ -183,7 +209,7 @@ static inline globset_status raw_escape(const void *text, size_t text_len, char 
 
 static inline raw_glob glob_of(const char *text, uint32_t options) {
     raw_glob glob;
-    globset_error error = {0, 0, 0};
+    globset_error error = {0, 0, 0, 0};
     CHECK(raw_glob_new(TEXT(text), options, &error, &glob) == GLOBSET_DONE);
     return glob;
 }
