@@ -8,7 +8,7 @@ ghost use Rattle.byte_nfa.specs.Steps.{IsReached};
 ghost use Rattle.byte_nfa.specs.Runs.{size, AcceptsFrom};
 ghost use Rattle.byte_dfa.specs.inner.Classes.{IsDivision};
 ghost use Rattle.byte_dfa.specs.inner.Building.{half};
-ghost use Rattle.lazy_dfa.specs.inner.Rows.{AcceptsRow, HasEnds, HasMarks, GoesTo, IsDeadBy, IsNext, IsEnd, IsEntry, IsSound, AreListed, KeepsRows, HasSpace, states_of, place_of, max_entries, marked, BeginsAt, IsAt, IsStep};
+ghost use Rattle.lazy_dfa.specs.inner.Rows.{AcceptsRow, HasEnds, HasMarks, GoesTo, IsDeadBy, IsNext, IsEnd, IsEntry, IsSound, AreListed, KeepsRows, HasSpace, states_of, place_of, max_entries, marked, BeginsAt, IsAt, IsStep, IsPlainStep};
 
 use crate::lists::{extend_within, list_indexes, list_of, push_within, states_at, zeros_within};
 use crate::pass::read;
@@ -210,6 +210,23 @@ impl Rows {
         Step {
             next: next_of(entry),
             has_marks: false,
+        }
+    }
+
+    /// Returns the place of the row that a byte leads to from the row at a place, if that is known and the row has no marks. Otherwise
+    /// [`Rows::step`] tells. It reads one entry.
+    #[inline(always)]
+    pub fn plain_next(&self, automaton: &Draft, place: usize, byte: u8) -> Option<usize>
+        requires sound { IsSound automaton.now self.now }
+        requires row { (i : ℕ) × IsAt self.now i place }
+        ensures { (i : ℕ) → IsAt self.now i place → IfSome result (IsPlainStep automaton.now self.now i byte) }
+    {
+        let _automaton = automaton;
+        let entry = entry_at(&self.entries, place, self.class_of[byte as usize] as usize);
+        if entry >= FIRST && entry < MARKED {
+            Some((entry - FIRST) as usize)
+        } else {
+            None
         }
     }
 

@@ -38,6 +38,11 @@ impl Rows {
         let half = automaton.index_count() / 2;
         let mut place = self.start(automaton);
         for byte in text {
+            if let Some(next) = self.plain_next(automaton, place, *byte) {
+                visits.tick();
+                place = next;
+                continue;
+            }
             let step = self.step(automaton, place, *byte, visits);
             self.tell_marks(step.has_marks, half, found);
             let Some(next) = step.next else {
@@ -64,6 +69,11 @@ impl Rows {
         }
         let mut place = self.start(automaton);
         for byte in text {
+            if let Some(next) = self.plain_next(automaton, place, *byte) {
+                visits.tick();
+                place = next;
+                continue;
+            }
             let step = self.step(automaton, place, *byte, visits);
             if step.has_marks {
                 return true;

@@ -68,6 +68,10 @@ pub record IsStep (m : Machine) (old : Rows) (i b : ℕ) (step : Step) (new : Ro
   pub marks : IsTrue step.has_marks ↔ HasMarks m old i
   pub ends : IsTrue step.has_marks → HasEnds m old i new.ends
 
+-- the row of number i has no marks, and the byte leads from it to the row at the place p
+abbrev pub IsPlainStep : Machine → Rows → ℕ → ℕ → ℕ → Type 0
+IsPlainStep m rows i b p = (HasMarks m rows i → ⊥) × GoesTo m rows i b rows p
+
 -- what an entry without marks says of a byte: it is 1 where nothing follows, and otherwise 2 more than the place of a row
 pub record IsNext (m : Machine) (rows : Rows) (i b e : ℕ) : Type 0 where
   pub dead : e ≡ 1 → IsDeadBy m rows i b

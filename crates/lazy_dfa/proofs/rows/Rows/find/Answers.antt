@@ -7,7 +7,7 @@ use Rattle.byte_nfa.specs.Steps.{IsReached}
 use Rattle.byte_nfa.proofs.lemmas.Pass.{iff_trans}
 use Rattle.byte_dfa.specs.inner.Building.{half}
 use Rattle.lazy_dfa.specs.inner.Rows.{AcceptsRow}
-use Rattle.lazy_dfa.proofs.lemmas.Finding.{iff_beside, finds_same, next_found, dead_found, last_found, none_last, visits_more, visits_within}
+use Rattle.lazy_dfa.proofs.lemmas.Finding.{iff_beside, finds_same, at_quiet, next_found, dead_found, last_found, none_last, visits_more, visits_within}
 use Rattle.lazy_dfa.proofs.lemmas.Rows.{none_reached}
 use Rattle.lazy_dfa.proofs.rows.Rows.find.Goals as goal
 
@@ -33,6 +33,28 @@ loop-byte-init c = record {
   counted = omega arith;
 }
 
+pub loop-byte-preserved-in-Some : goal.loop-byte-preserved-in-Some
+loop-byte-preserved-in-Some c =
+    let m = c.args.automaton.now in
+    let text = c.args.text.now in
+    let l = c.loop-byte in
+    let inv = l.invariant in
+    let i = l.byte-index in
+    let lt : i < length text = c.loop-byte-test.true in
+    let b : ℕ = get_or text i 0 in
+    let rest = drop (i + 1) text in
+    let more : drop i text ≡ b ∷ rest = drop_more text i 0 lt in
+    let (j, at, finds) = inv.runs in
+    let (quiet, (n, there, goes)) = rw c.in-Some.is at c.plain_next.ensures j at in
+    let next = (λ (k : ℕ). at_quiet (half m) (AcceptsRow m l.self j) (AcceptsRow m l.self n) b goes (λ d low a. quiet (d, low, a)) rest k) in
+    record {
+      sound = inv.sound;
+      room = inv.room;
+      runs = (n, there, λ k. iff_trans (iff_beside (next k)) (rw more at finds k));
+      visits = visits_more c.args.visits.now l.visits c.tick.new.self i (size m) inv.visits (omega (arith, c.tick.ensures, c.state_count.ensures, c.if-state_count-eq0.false));
+      counted = omega (arith, c.tick.ensures, inv.counted);
+    }
+
 pub loop-byte-preserved : goal.loop-byte-preserved
 loop-byte-preserved c =
     let m = c.args.automaton.now in
@@ -46,7 +68,7 @@ loop-byte-preserved c =
     let more : drop i text ≡ b ∷ rest = drop_more text i 0 lt in
     let (j, at, finds) = inv.runs in
     let step = c.step-step.ensures.step j at in
-    let (next, there, goes) = rw c.in-Some.is at step.next in
+    let (next, there, goes) = rw c.in-Some-next.is at step.next in
     let h = half m in
     let told = rw c.index_count-half.ensures at c.tell_marks.ensures.has in
     record {
@@ -62,8 +84,8 @@ loop-byte-preserved c =
       counted = omega (arith, c.step-step.ensures.counted, inv.counted);
     }
 
-pub returns-in_default-clause-found : goal.returns-in_default-clause-found
-returns-in_default-clause-found c = λ k.
+pub returns-in_default-next-clause-found : goal.returns-in_default-next-clause-found
+returns-in_default-next-clause-found c = λ k.
     let m = c.args.automaton.now in
     let text = c.args.text.now in
     let l = c.loop-byte in
@@ -74,13 +96,13 @@ returns-in_default-clause-found c = λ k.
     let more : drop i text ≡ b ∷ rest = drop_more text i 0 lt in
     let (j, at, finds) = l.invariant.runs in
     let step = c.step-step.ensures.step j at in
-    let dead = rw c.in_default.is at step.next in
+    let dead = rw c.in_default-next.is at step.next in
     let told = rw c.index_count-half.ensures at c.tell_marks.ensures.has in
     dead_found (half m) (AcceptsRow m l.self j) c.step-step.result.has_marks (has_index c.step-step.new.self.ends) step.marks step.ends
     b dead rest k (has_index l.found k) (has_index c.tell_marks.new.found k) _ (told k) (rw more at finds k)
 
-pub returns-in_default-clause-visits : goal.returns-in_default-clause-visits
-returns-in_default-clause-visits c =
+pub returns-in_default-next-clause-visits : goal.returns-in_default-next-clause-visits
+returns-in_default-next-clause-visits c =
     let l = c.loop-byte in
     visits_within c.args.visits.now l.visits c.step-step.new.visits l.byte-index (length c.args.text.now) (size c.args.automaton.now) (omega arith) l.invariant.visits c.step-step.ensures.visits
 

@@ -39,8 +39,8 @@ returns-then-step-clause-visits c =
     let l = c.loop-byte in
     visits_within c.args.visits.now l.visits c.step-step.new.visits l.byte-index (length c.args.text.now) (size c.args.automaton.now) (omega arith) l.invariant.visits c.step-step.ensures.visits
 
-pub returns-in_default-clause-some : goal.returns-in_default-clause-some
-returns-in_default-clause-some c =
+pub returns-in_default-next-clause-some : goal.returns-in_default-next-clause-some
+returns-in_default-next-clause-some c =
     let m = c.args.automaton.now in
     let text = c.args.text.now in
     let l = c.loop-byte in
@@ -51,17 +51,38 @@ returns-in_default-clause-some c =
     let more : drop i text ≡ b ∷ rest = drop_more text i 0 lt in
     let (j, at, finds) = l.invariant.runs in
     let step = c.step-step.ensures.step j at in
-    let dead = rw c.in_default.is at step.next in (
+    let dead = rw c.in_default-next.is at step.next in (
       λ off. absurd (true≢false (sym off)),
       λ (k, found).
           let (low, a) = (at_dead (half m) (AcceptsRow m l.self j) b dead rest k).0 ((rw more at finds k).1 found) in
           absurd (true≢false (sym (step.marks.1 (k, low, a)) ∙ c.if-step.false)),
     )
 
-pub returns-in_default-clause-visits : goal.returns-in_default-clause-visits
-returns-in_default-clause-visits c =
+pub returns-in_default-next-clause-visits : goal.returns-in_default-next-clause-visits
+returns-in_default-next-clause-visits c =
     let l = c.loop-byte in
     visits_within c.args.visits.now l.visits c.step-step.new.visits l.byte-index (length c.args.text.now) (size c.args.automaton.now) (omega arith) l.invariant.visits c.step-step.ensures.visits
+
+pub loop-byte-preserved-in-Some : goal.loop-byte-preserved-in-Some
+loop-byte-preserved-in-Some c =
+    let m = c.args.automaton.now in
+    let text = c.args.text.now in
+    let l = c.loop-byte in
+    let inv = l.invariant in
+    let i = l.byte-index in
+    let lt : i < length text = c.loop-byte-test.true in
+    let b : ℕ = get_or text i 0 in
+    let rest = drop (i + 1) text in
+    let more : drop i text ≡ b ∷ rest = drop_more text i 0 lt in
+    let (j, at, finds) = inv.runs in
+    let (quiet, (n, there, goes)) = rw c.in-Some.is at c.plain_next.ensures j at in
+    let next = (λ (k : ℕ). at_quiet (half m) (AcceptsRow m l.self j) (AcceptsRow m l.self n) b goes (λ d low a. quiet (d, low, a)) rest k) in
+    record {
+      sound = inv.sound;
+      runs = (n, there, λ k. iff_trans (next k) (rw more at finds k));
+      visits = visits_more c.args.visits.now l.visits c.tick.new.self i (size m) inv.visits (omega (arith, c.tick.ensures, c.state_count.ensures, c.if-state_count-eq0.false));
+      counted = omega (arith, c.tick.ensures, inv.counted);
+    }
 
 pub loop-byte-preserved : goal.loop-byte-preserved
 loop-byte-preserved c =
@@ -75,7 +96,7 @@ loop-byte-preserved c =
     let more : drop i text ≡ b ∷ rest = drop_more text i 0 lt in
     let (n, at, finds) = l.invariant.runs in
     let step = c.step-step.ensures.step n at in
-    let (next, there, goes) = rw c.in-Some.is at step.next in
+    let (next, there, goes) = rw c.in-Some-next.is at step.next in
     record {
       sound = c.step-step.ensures.sound;
       runs = (
