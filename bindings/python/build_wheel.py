@@ -1,11 +1,12 @@
 #!/usr/bin/env python3
-"""Makes the wheel of the module globset for Linux, and prints its name.
+"""Makes a wheel of the module globset for Linux, and prints its name.
 
 Usage: build_wheel.py LIBRARY FOLDER
 
-LIBRARY is the shared library libglobset.so, which the wheel holds with the file NOTICE beside it. FOLDER is where the wheel is put.
-The same files give the same wheel, byte by byte; its files have the time SOURCE_DATE_EPOCH, or 1980. It needs `readelf`, to find
-what the library needs of the C library, and nothing else beside Python.
+LIBRARY is what the wheel holds beside the module, with the file NOTICE in the same folder: the extension _extension.abi3.so, for a
+wheel for Python 3.10 and later, or the shared library libglobset.so, for one for Python 3.8 and later. FOLDER is where the wheel
+is put. The same files give the same wheel, byte by byte; its files have the time SOURCE_DATE_EPOCH, or 1980. It needs `readelf`,
+to find what the library needs of the C library, and nothing else beside Python.
 """
 
 import base64
@@ -19,7 +20,10 @@ import zipfile
 
 HERE = os.path.dirname(os.path.realpath(__file__))
 TOP = os.path.dirname(os.path.dirname(HERE))
-MODULE = ("__init__.py", "_library.py", "py.typed")
+MODULE = ("__init__.py", "_by_ctypes.py", "_choice.py", "_errors.py", "_library.py", "_walk.py", "py.typed")
+EXTENSION = "_extension.abi3.so"
+# The least Python and the tag of a wheel with the extension, and of one without it.
+WITH_EXTENSION, WITHOUT = (("3.10", "cp310-abi3"), ("3.8", "py3-none"))
 LICENSES = ("COPYING", "LICENSE-MIT", "UNLICENSE")
 # The parts of the GNU C library, which every Linux that a tag `manylinux` names has.
 C_LIBRARY = {"libc.so.6", "libm.so.6", "libpthread.so.0", "libdl.so.2", "ld-linux-x86-64.so.2", "libgcc_s.so.1"}
@@ -35,7 +39,7 @@ Classifier: License :: OSI Approved :: The Unlicense (Unlicense)
 Classifier: Operating System :: POSIX :: Linux
 Classifier: Programming Language :: Python :: 3
 Classifier: Typing :: Typed
-Requires-Python: >=3.8
+Requires-Python: >={least}
 Description-Content-Type: text/markdown
 
 {description}"""
@@ -54,6 +58,11 @@ def read(path):
 def version():
     """Returns the version that the module has."""
     return re.search(r'(?m)^__version__ = "([^"]+)"$', read(f"{HERE}/globset/__init__.py").decode())[1]
+
+
+def name_of(library):
+    """Returns the name of a library in the wheel."""
+    return EXTENSION if os.path.basename(library) == EXTENSION else "libglobset.so"
 
 
 def readelf(option, library):
@@ -75,21 +84,22 @@ def platforms(library):
     return [f"manylinux_2_{least}_x86_64"] + ["manylinux2014_x86_64"] * (least == 17)
 
 
-def files(library, tags):
+def files(library, least, tags):
     """Returns the files of the wheel without RECORD, by name."""
     info = f"globset-{version()}.dist-info"
     metadata = METADATA.format(
         version=version(),
+        least=least,
         licenses="".join(f"License-File: {name}\n" for name in (*LICENSES, "NOTICE")),
         description=read(f"{HERE}/README.md").decode(),
     )
     return {
         **{f"globset/{name}": read(f"{HERE}/globset/{name}") for name in MODULE},
-        "globset/libglobset.so": read(library),
+        f"globset/{name_of(library)}": read(library),
         **{f"{info}/licenses/{name}": read(f"{TOP}/{name}") for name in LICENSES},
         f"{info}/licenses/NOTICE": read(f"{os.path.dirname(os.path.abspath(library))}/NOTICE"),
         f"{info}/METADATA": metadata.encode(),
-        f"{info}/WHEEL": WHEEL.format(tags="".join(f"Tag: py3-none-{tag}\n" for tag in tags)).encode(),
+        f"{info}/WHEEL": WHEEL.format(tags="".join(f"Tag: {tag}\n" for tag in tags)).encode(),
     }
 
 
@@ -117,10 +127,11 @@ def main():
     if len(sys.argv) != 3:
         raise SystemExit("Usage: build_wheel.py LIBRARY FOLDER")
     library, folder = sys.argv[1:]
-    tags = platforms(library)
-    contents = files(library, tags)
+    least, python = WITH_EXTENSION if name_of(library) == EXTENSION else WITHOUT
+    systems = platforms(library)
+    contents = files(library, least, [f"{python}-{system}" for system in systems])
     contents[f"globset-{version()}.dist-info/RECORD"] = record(contents).encode()
-    name = f"globset-{version()}-py3-none-{'.'.join(tags)}.whl"
+    name = f"globset-{version()}-{python}-{'.'.join(systems)}.whl"
     write(os.path.join(folder, name), contents)
     print(name)
 

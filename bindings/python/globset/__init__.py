@@ -8,6 +8,8 @@ True
 [0, 1]
 >>> sources.match_many(["Makefile", "README.md"])
 [True, False]
+>>> sources.filter(["Makefile", "README.md"])
+['Makefile']
 
 A path is ``str``, ``bytes`` or ``os.PathLike``, and is matched as its bytes: ``str`` is encoded by ``os.fsencode``. A glob
 matches whole paths, ``/`` is the only separator, and no path is changed before it is matched.
@@ -27,27 +29,34 @@ Pattern    Matches
 ``\\*``     the character after ``\\``, taken literally
 ========== ====================================================================
 
-All objects may be used by several threads at the same time. Every call may raise ``MemoryError``, and all objects can be used
-on after it.
+All objects may be used by several threads at the same time. Calls about many paths release the interpreter's lock while they
+match. Every call may raise ``MemoryError``, and all objects can be used on after it.
+
+The C library is called by an extension, or by ``ctypes`` where the extension is not there. The environment variable
+``GLOBSET_BINDING`` chooses one of them, by the value ``extension`` or ``ctypes``.
 """
 
 from __future__ import annotations
 
-import ctypes
-import enum
 import os
-from array import array
-from collections import deque
-from itertools import accumulate
-from typing import Any, Deque, Dict, Iterable, List, Optional, Tuple, Type, Union
+from typing import TYPE_CHECKING, Any, AnyStr, Callable, Dict, Iterable, Iterator, Optional, Tuple, Type, TypeVar, Union
 
-from . import _library
-from ._library import Lent, Object, Searcher, put_back, take_work
+from . import _walk
+from ._errors import ErrorKind, GlobError, surrogate_error
 
-__all__ = ["ErrorKind", "Glob", "GlobError", "GlobSet", "escape"]
+if TYPE_CHECKING:
+    from . import _by_ctypes as _binding
+    from ._by_ctypes import GlobBase, GlobSetBase, escape
+else:
+    from ._choice import binding as _binding
+
+    GlobBase, GlobSetBase, escape = _binding.GlobBase, _binding.GlobSetBase, _binding.escape
+
+__all__ = ["ErrorKind", "Glob", "GlobError", "GlobSet", "escape", "walk"]
 __version__ = "0.4.21"
 
-_Path = Union[str, bytes, "os.PathLike[str]", "os.PathLike[bytes]"]
+_AnyGlob = TypeVar("_AnyGlob", bound="Glob")
+_AnySet = TypeVar("_AnySet", bound="GlobSet")
 
 # The options: a name, the bit that stands for the value that is not the default, and the default.
 _OPTIONS = (
@@ -60,62 +69,7 @@ _OPTIONS = (
 )
 
 
-class ErrorKind(enum.Enum):
-    """Why a text is no glob.
-
-    >>> ErrorKind.UNCLOSED_CLASS.name
-    'UNCLOSED_CLASS'
-    """
-
-    #: A ``[`` without ``]``.
-    UNCLOSED_CLASS = 1
-    #: A range in a class that goes down, as ``[z-a]``.
-    INVALID_RANGE = 2
-    #: A ``}`` without ``{``.
-    UNOPENED_ALTERNATES = 3
-    #: A ``{`` without ``}``.
-    UNCLOSED_ALTERNATES = 4
-    #: A ``\\`` at the end, with nothing to escape.
-    DANGLING_ESCAPE = 5
-
-
-class GlobError(ValueError):
-    """A text is no glob. The first error in the text counts.
-
-    ``glob`` is the text, and ``kind`` why it is none. ``start`` and ``end`` are the characters of an invalid range, and
-    ``None`` at other kinds. The error stands at ``glob[offset]``: at the ``[`` of an unclosed class or of one with an invalid
-    range, at a ``}`` that closes nothing, at the last ``\\``, or at the outermost ``{`` that is open at the end of the text.
-
-    >>> try:
-    ...     Glob("[z-a]")
-    ... except GlobError as error:
-    ...     print(error)
-    ...     print(error.glob, error.kind.name, error.start, error.end, error.offset)
-    error parsing glob '[z-a]': invalid range; 'z' > 'a'
-    [z-a] INVALID_RANGE z a 0
-    """
-
-    def __init__(
-        self,
-        message: str,
-        glob: str,
-        kind: ErrorKind,
-        start: Optional[str] = None,
-        end: Optional[str] = None,
-        offset: Optional[int] = None,
-    ) -> None:
-        super().__init__(message)
-        self.glob = glob
-        self.kind = kind
-        self.start = start
-        self.end = end
-        self.offset = offset
-
-    def __reduce__(self) -> Tuple[Any, ...]:
-        return GlobError, (str(self), self.glob, self.kind, self.start, self.end, self.offset)
-
-
-class Glob:
+class Glob(GlobBase):
     """A glob.
 
     The options, of which all but ``backslash_escape`` are off by default:
@@ -127,19 +81,21 @@ class Glob:
     - ``allow_unclosed_class``: a ``[`` without ``]`` matches itself;
     - ``whole_character``: ``?`` matches all bytes of one character in UTF-8.
 
-    Raises ``GlobError``, which is a ``ValueError``, if the text is no glob, and ``UnicodeEncodeError``, which is one too, if
-    it has a surrogate.
+    Raises ``GlobError``, which is a ``ValueError``, if the text is no glob.
 
-    A glob does not change. Globs are equal if their patterns and all options are.
+    A glob does not change. Globs are equal if their patterns and all options are. They can be copied and pickled.
 
     >>> Glob("*.PY", case_insensitive=True).match("setup.py")
     True
     """
 
-    __slots__ = ("_pattern", "_options", "_glob", "_matcher", "__weakref__")
+    __slots__ = ("_pattern", "_options", "__weakref__")
 
-    def __init__(
-        self,
+    _pattern: str
+    _options: int
+
+    def __new__(
+        cls: Type[_AnyGlob],
         pattern: str,
         *,
         case_insensitive: bool = False,
@@ -148,7 +104,7 @@ class Glob:
         empty_alternates: bool = False,
         allow_unclosed_class: bool = False,
         whole_character: bool = False,
-    ) -> None:
+    ) -> _AnyGlob:
         if not isinstance(pattern, str):
             raise TypeError(f"a pattern is str, not {type(pattern).__name__}")
         values = (
@@ -159,10 +115,14 @@ class Glob:
             allow_unclosed_class,
             whole_character,
         )
+        options = sum(bit for (_, bit, default), value in zip(_OPTIONS, values) if bool(value) != default)
+        try:
+            self = super().__new__(cls, pattern, options)
+        except UnicodeEncodeError:
+            raise surrogate_error(pattern) from None
         self._pattern = pattern
-        self._options = sum(bit for (_, bit, default), value in zip(_OPTIONS, values) if bool(value) != default)
-        self._matcher: Optional[Object] = None
-        self._glob = _read(pattern, self._options)
+        self._options = options
+        return self
 
     @property
     def pattern(self) -> str:
@@ -172,41 +132,6 @@ class Glob:
         '*.py'
         """
         return self._pattern
-
-    @property
-    def regex(self) -> str:
-        """A regular expression over bytes that matches the paths that the glob matches.
-
-        It is in the syntax of the Rust crate ``regex``, where ``(?-u)`` turns Unicode off, and a ``.`` in it is any byte. The
-        module ``re`` reads what follows ``(?-u)``, with the flag ``re.DOTALL``.
-
-        >>> Glob("*.py").regex
-        '(?-u)^.*\\\\.py$'
-        """
-        return _library.text_of(_library.glob_regex, ctypes.byref(Lent(self._glob.at)))
-
-    def match(self, path: _Path) -> bool:
-        """Returns whether the glob matches the path.
-
-        >>> Glob("src/**/*.py").match("src/a/b.py")
-        True
-        """
-        data = os.fsencode(path)
-        matcher = self._matcher
-        if matcher is None:
-            matcher = self._make_matcher()
-        work = take_work()
-        work.lent.at = matcher.at
-        status = _library.matcher_is_match(work.lent_at, work.at, data, len(data))
-        put_back(work)
-        return _library.answer(status)
-
-    def _make_matcher(self) -> Object:
-        """Makes the matcher. If threads do so at the same time, the last one's stays, and each uses its own."""
-        matcher = Object()
-        _library.raise_unless_done(_library.matcher_new(ctypes.byref(Lent(self._glob.at)), ctypes.byref(matcher)))
-        self._matcher = matcher
-        return matcher
 
     def _changed_options(self) -> Dict[str, bool]:
         """Returns the options that do not have their defaults."""
@@ -222,48 +147,43 @@ class Glob:
 
     def __repr__(self) -> str:
         options = "".join(f", {name}={value}" for name, value in self._changed_options().items())
-        return f"Glob({self._pattern!r}{options})"
+        return f"{type(self).__name__}({self._pattern!r}{options})"
 
     def __reduce__(self) -> Tuple[Any, ...]:
         return _make_glob, (type(self), self._pattern, self._changed_options())
 
-    def __copy__(self) -> Glob:
+    def __copy__(self: _AnyGlob) -> _AnyGlob:
         return self
 
-    def __deepcopy__(self, memo: Dict[int, Any]) -> Glob:
+    def __deepcopy__(self: _AnyGlob, memo: Dict[int, Any]) -> _AnyGlob:
         return self
 
 
-class GlobSet:
+class GlobSet(GlobSetBase):
     """A set of globs, which is asked about all of them at once.
 
     It is made from an iterable of ``str`` and ``Glob``, whose first glob has index 0. A ``str`` is read under the default
     options; it raises the exceptions that ``Glob`` raises for it. A glob that reads as ``**/..``, and is not case-insensitive,
     matches nothing in a set.
 
-    A set does not change. It keeps memory for as many calls as were made at the same time, which it takes at the first of them.
+    A set does not change. Sets are equal if they have equal globs in the same order. They can be copied and pickled. A set
+    keeps memory for as many calls as were made at the same time, which it takes at the first of them.
 
     >>> GlobSet(["*.py", Glob("*.C", case_insensitive=True)]).matches("main.c")
     [1]
     """
 
-    __slots__ = ("_globs", "_set", "_at", "_searchers", "__weakref__")
+    __slots__ = ("_globs", "__weakref__")
 
-    def __init__(self, globs: Iterable[Union[str, Glob]]) -> None:
+    _globs: Tuple[Glob, ...]
+
+    def __new__(cls: Type[_AnySet], globs: Iterable[Union[str, Glob]]) -> _AnySet:
         if isinstance(globs, (str, bytes, Glob)):
             raise TypeError(f"the globs of a set are an iterable of them, not one {type(globs).__name__}")
-        self._globs = tuple(glob if isinstance(glob, Glob) else Glob(glob) for glob in globs)
-        builder, lent = Object(), Lent()
-        builder_at, lent_at = ctypes.addressof(builder), ctypes.addressof(lent)
-        _library.raise_unless_done(_library.builder_new(builder_at))
-        for glob in self._globs:
-            lent.at = glob._glob.at
-            _library.raise_unless_done(_library.builder_add(builder_at, lent_at))
-        self._set = Object()
-        _library.raise_unless_done(_library.builder_build(builder_at, ctypes.byref(self._set)))
-        self._at = self._set.at
-        # The searchers that no call uses.
-        self._searchers: Deque[Searcher] = deque()
+        read = tuple(glob if isinstance(glob, Glob) else Glob(glob) for glob in globs)
+        self = super().__new__(cls, read)
+        self._globs = read
+        return self
 
     @property
     def globs(self) -> Tuple[Glob, ...]:
@@ -274,115 +194,66 @@ class GlobSet:
         """
         return self._globs
 
-    def match(self, path: _Path) -> bool:
-        """Returns whether some glob of the set matches the path.
-
-        >>> GlobSet(["*.py", "*.c"]).match("main.c")
-        True
-        """
-        data = os.fsencode(path)
-        searcher = self._take_searcher()
-        status = _library.searcher_is_match(searcher.at, data, len(data))
-        self._searchers.append(searcher)
-        return _library.answer(status)
-
-    def matches(self, path: _Path) -> List[int]:
-        """Returns the indexes of the globs that match the path, in ascending order.
-
-        >>> GlobSet(["*.py", "*.c", "main.*"]).matches("main.c")
-        [1, 2]
-        """
-        data = os.fsencode(path)
-        searcher = self._take_searcher()
-        indexes = searcher.matches(data)
-        self._searchers.append(searcher)
-        return indexes
-
-    def matches_all(self, path: _Path) -> bool:
-        """Returns whether all globs of the set match the path.
-
-        >>> GlobSet(["*.c", "main.*"]).matches_all("main.c")
-        True
-        """
-        data = os.fsencode(path)
-        searcher = self._take_searcher()
-        status = _library.searcher_matches_all(searcher.at, data, len(data))
-        self._searchers.append(searcher)
-        return _library.answer(status)
-
-    def match_many(self, paths: Iterable[_Path]) -> List[bool]:
-        """Returns for each path whether some glob of the set matches it, which takes less time than a call for each.
-
-        >>> GlobSet(["*.py", "*.c"]).match_many(["main.c", "README", "run.py"])
-        [True, False, True]
-        """
-        if isinstance(paths, (str, bytes)):
-            raise TypeError(f"paths are an iterable of them, not one {type(paths).__name__}")
-        parts = [os.fsencode(path) for path in paths]
-        count = len(parts)
-        if count == 0:
-            return []
-        data = b"".join(parts)
-        # A `size_t` has 8 bytes, as a `Q` has, where there is a library.
-        ends = array("Q", accumulate(map(len, parts)))
-        answers = ctypes.create_string_buffer(count)
-        ends_at, _ = ends.buffer_info()
-        searcher = self._take_searcher()
-        status = _library.searcher_is_match_many(searcher.at, data, len(data), ends_at, count, answers, count)
-        self._searchers.append(searcher)
-        _library.raise_unless_done(status)
-        return [byte == 1 for byte in answers.raw]
-
-    def _take_searcher(self) -> Searcher:
-        """Returns a searcher of the set that no other call uses."""
-        try:
-            return self._searchers.pop()
-        except IndexError:
-            return Searcher(self._at)
-
     def __len__(self) -> int:
         return len(self._globs)
 
+    def __eq__(self, other: object) -> bool:
+        if not isinstance(other, GlobSet):
+            return NotImplemented
+        return self._globs == other._globs
+
+    def __hash__(self) -> int:
+        return hash(self._globs)
+
     def __repr__(self) -> str:
-        return f"GlobSet([{', '.join(map(repr, self._globs))}])"
+        return f"{type(self).__name__}([{', '.join(map(repr, self._globs))}])"
 
     def __reduce__(self) -> Tuple[Any, ...]:
         return type(self), (list(self._globs),)
 
-    def __copy__(self) -> GlobSet:
+    def __copy__(self: _AnySet) -> _AnySet:
         return self
 
-    def __deepcopy__(self, memo: Dict[int, Any]) -> GlobSet:
+    def __deepcopy__(self: _AnySet, memo: Dict[int, Any]) -> _AnySet:
         return self
 
 
-def escape(text: str) -> str:
-    """Returns the text with each of ``?``, ``*``, ``[``, ``]``, ``{`` and ``}`` in brackets.
+_Globs = Union[GlobSet, Iterable[Union[str, Glob]]]
 
-    As a glob with the default options it matches this text and nothing else, if the text has no ``\\``.
 
-    >>> escape("what?.txt")
-    'what[?].txt'
+def walk(
+    top: Union[AnyStr, "os.PathLike[AnyStr]"],
+    globs: _Globs,
+    *,
+    ignored: _Globs = (),
+    on_error: Optional[Callable[[OSError], object]] = None,
+) -> Iterator[AnyStr]:
+    """Yields the paths of the files below ``top`` that some glob matches, relative to ``top``, with ``/`` between names.
+
+    ``globs`` is a ``GlobSet`` or what one is made from, and so is ``ignored``. A folder is opened only if some path below it
+    can match a glob, and ``ignored`` does not match the folder itself. A file that ``ignored`` matches is left out. Symbolic
+    links below ``top`` are not followed: they are files, whatever they name.
+
+    The files of a folder come before what is in its folders, both in the order of their names. The paths are ``bytes`` if
+    ``top`` is. If a folder cannot be read, ``on_error`` is called with the ``OSError``, and the walk goes on after it; without
+    ``on_error`` the exception is raised.
+
+    >>> import os, tempfile
+    >>> with tempfile.TemporaryDirectory() as top:
+    ...     os.makedirs(os.path.join(top, "src", "tool"))
+    ...     for name in ["setup.py", "src/run.c", "src/run.py", "src/tool/old.py"]:
+    ...         open(os.path.join(top, name), "w").close()
+    ...     list(walk(top, ["src/**/*.py"], ignored=["**/old.*"]))
+    ['src/run.py']
     """
-    data = text.encode()
-    return _library.text_of(_library.escape, data, len(data))
+    wanted, unwanted = _set_of(globs), _set_of(ignored)
+    return _walk.files(os.fspath(top), wanted, unwanted if len(unwanted) > 0 else None, on_error)
 
 
-def _read(pattern: str, options: int) -> Object:
-    """Returns the library's glob of a text, or raises an exception."""
-    data, error, glob = pattern.encode(), _library.Error(), Object()
-    status = _library.glob_new(data, len(data), options, ctypes.byref(error), ctypes.byref(glob))
-    if status == _library.REJECTED:
-        message = _library.text_of(_library.error_text, data, len(data), options)
-        kind = ErrorKind(error.kind)
-        is_range = kind is ErrorKind.INVALID_RANGE
-        start, end = (chr(error.start), chr(error.end)) if is_range else (None, None)
-        # The library counts bytes, and an index of a `str` counts characters.
-        raise GlobError(message, pattern, kind, start, end, len(data[: error.offset].decode()))
-    _library.raise_unless_done(status)
-    return glob
+def _set_of(globs: _Globs) -> GlobSet:
+    return globs if isinstance(globs, GlobSet) else GlobSet(globs)
 
 
-def _make_glob(kind: Type[Glob], pattern: str, options: Dict[str, bool]) -> Glob:
+def _make_glob(kind: Type[_AnyGlob], pattern: str, options: Dict[str, bool]) -> _AnyGlob:
     """Makes a glob again from what ``pickle`` has of it."""
     return kind(pattern, **options)

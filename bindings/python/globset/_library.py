@@ -82,6 +82,7 @@ searcher_found = _declare("raw_searcher_found", _OWNED, _INDEXES)
 searcher_is_match_many = _declare(
     "raw_searcher_is_match_many", _OWNED, _BYTES, _SIZE, ctypes.c_void_p, _SIZE, ctypes.c_void_p, _SIZE
 )
+searcher_can_match_below = _declare("raw_searcher_can_match_below", _OWNED, _BYTES, _SIZE)
 escape = _declare("raw_escape", _BYTES, _SIZE, *_ROOM)
 version = _declare("version")
 _work_new = _declare("raw_work_new", _OWNED)

@@ -3,6 +3,8 @@
 import copy
 import doctest
 import gc
+import importlib
+import inspect
 import os
 import pathlib
 import pickle
@@ -48,6 +50,9 @@ ERRORS = [
     ("{a,b", ErrorKind.UNCLOSED_ALTERNATES, None, None, "unclosed alternate group; missing '}' (maybe escape '{' with '[{]'?)"),
     ("a\\", ErrorKind.DANGLING_ESCAPE, None, None, "dangling '\\'"),
 ]
+
+
+IS_CTYPES = globset._binding.__name__.endswith("_by_ctypes")
 
 
 class TextPath:
@@ -149,14 +154,51 @@ class Globs(unittest.TestCase):
         self.assertTrue(Glob("*" + "a" * 100_000).match("a" * 200_000))
         self.assertEqual(GlobSet(["a" * 100_000, "*"]).matches("a" * 100_000), [0, 1])
 
+    def test_many(self):
+        glob = Glob("src/*.c", literal_separator=True)
+        self.assertEqual(glob.match_many(["src/a.c", b"src/a/b.c", TextPath("src/b.c")]), [True, False, True])
+        self.assertEqual(glob.match_many(iter([])), [])
+        paths = [f"src/{number}.{'c' if number % 3 == 0 else 'h'}" for number in range(5000)]
+        self.assertEqual(glob.match_many(paths), [number % 3 == 0 for number in range(5000)])
+        self.assertEqual(glob.filter(path for path in paths), paths[::3])
+
     def test_version(self):
         self.assertEqual(globset.__version__, "0.4.21")
-        self.assertEqual(globset._library.version(), 4021)
+        self.assertEqual(globset._binding.version(), 4021)
+
+    def test_binding(self):
+        chosen = os.environ.get("GLOBSET_BINDING", "")
+        if chosen:
+            self.assertEqual(globset._binding.__name__, {"extension": "globset._extension", "ctypes": "globset._by_ctypes"}[chosen])
+        ran = run_python("import os; os.environ['GLOBSET_BINDING'] = 'c'; import globset")
+        self.assertEqual(ran.returncode, 1)
+        self.assertIn(b"ImportError: GLOBSET_BINDING is extension or ctypes, not 'c'", ran.stderr)
+
+    @unittest.skipIf(IS_CTYPES, "they are written in Python")
+    def test_bases(self):
+        """What the classes are made of refuses what they never pass."""
+        for call in [
+            lambda: globset.GlobBase("a"),
+            lambda: globset.GlobBase("a", "b"),
+            lambda: globset.GlobBase(),
+            lambda: globset.GlobSetBase(),
+            lambda: globset.GlobSetBase(["a"]),
+            lambda: globset.GlobSetBase(("a",)),
+            lambda: globset.GlobSetBase((7,)),
+            lambda: Glob.__new__(Glob),
+            lambda: GlobSet.__new__(GlobSet),
+            lambda: object.__new__(Glob).match("a"),
+            lambda: object.__new__(GlobSet).match("a"),
+        ]:
+            with self.assertRaises((TypeError, AttributeError, OverflowError)):
+                call()
+        with self.assertRaises(RuntimeError):
+            globset.GlobBase("a", 64)
 
 
 class Errors(unittest.TestCase):
     def test_each_kind(self):
-        self.assertEqual({kind for _, kind, _, _, _ in ERRORS}, set(ErrorKind))
+        self.assertEqual({kind for _, kind, _, _, _ in ERRORS} | {ErrorKind.SURROGATE}, set(ErrorKind))
         for text, kind, start, end, said in ERRORS:
             for make in [Glob, lambda text: GlobSet(["a", text])]:
                 with self.subTest(text=text), self.assertRaises(GlobError) as raised:
@@ -191,8 +233,16 @@ class Errors(unittest.TestCase):
         Glob("[a\\", backslash_escape=False, allow_unclosed_class=True)
 
     def test_surrogate(self):
-        with self.assertRaises(ValueError):
-            Glob("a\udc80")
+        for make in [Glob, lambda text: GlobSet(["a", text])]:
+            for text in ["a\udc80", "\ud800", "[\udc80"]:
+                with self.assertRaises(GlobError) as raised:
+                    make(text)
+                error = raised.exception
+                self.assertEqual((error.glob, error.kind, error.start, error.end), (text, ErrorKind.SURROGATE, None, None))
+                str(error).encode()
+                self.assertEqual(pickle.loads(pickle.dumps(error)).glob, text)
+        with self.assertRaises(UnicodeEncodeError):
+            escape("\udc80")
 
     def test_types(self):
         for call in [
@@ -208,10 +258,22 @@ class Errors(unittest.TestCase):
             lambda: GlobSet(["a"]).matches(7),
             lambda: GlobSet(["a"]).match_many("a"),
             lambda: GlobSet(["a"]).match_many(["a", 7]),
+            lambda: GlobSet(["a"]).match_many(7),
+            lambda: GlobSet(["a"]).matches_many(b"a"),
+            lambda: GlobSet(["a"]).matches_many([None]),
+            lambda: GlobSet(["a"]).filter("a"),
+            lambda: GlobSet(["a"]).filter([7]),
+            lambda: GlobSet(["a"]).can_match_below(7),
+            lambda: Glob("a").match_many("a"),
+            lambda: Glob("a").filter(["a", 7]),
+            lambda: GlobSet(["a"]).match(TextPath(7)),
+            lambda: escape(b"a"),
+            lambda: escape(7),
         ]:
             with self.assertRaises(TypeError):
                 call()
 
+    @unittest.skipUnless(IS_CTYPES, "the functions of the library are no objects")
     def test_statuses(self):
         library, globs, glob = globset._library, GlobSet(["a"]), Glob("a")
         for name, call in [
@@ -221,6 +283,7 @@ class Errors(unittest.TestCase):
             ("searcher_found", lambda: globs.matches("a")),
             ("searcher_matches_all", lambda: globs.matches_all("a")),
             ("searcher_is_match_many", lambda: globs.match_many(["a"])),
+            ("searcher_can_match_below", lambda: globs.can_match_below("a")),
             ("matcher_new", lambda: glob.match("a")),
             ("glob_regex", lambda: glob.regex),
             ("escape", lambda: escape("a")),
@@ -279,6 +342,16 @@ class Paths(unittest.TestCase):
         self.assertTrue(Glob("").match(""))
         self.assertTrue(Glob("é").match("é"))
 
+    def test_surrogates(self):
+        globs = GlobSet(["a?b", "\u00e9*"])
+        self.assertEqual(globs.matches("a\udcffb"), [0])
+        self.assertEqual(globs.matches(TextPath("\udcc3\udca9x")), [1])
+        self.assertEqual(globs.match_many(["a\udcffb", "\udcff"]), [True, False])
+        self.assertEqual(globs.filter(["\udcff", "a\udcffb"]), ["a\udcffb"])
+        for call in [globs.match, globs.matches, Glob("*").match, globs.can_match_below, lambda path: globs.filter([path])]:
+            with self.assertRaises(UnicodeEncodeError):
+                call("a\ud800")
+
     def test_many(self):
         globs = GlobSet(["*.c", ""])
         self.assertEqual(globs.match_many([]), [])
@@ -303,6 +376,54 @@ class Sets(unittest.TestCase):
     def test_all(self):
         self.assertTrue(GlobSet(["*.c", "a*"]).matches_all("a.c"))
         self.assertFalse(GlobSet(["*.c", "a*"]).matches_all("b.c"))
+
+    def test_matches_many(self):
+        globs = GlobSet(["*.c", "", "a*"])
+        self.assertEqual(globs.matches_many([]), [])
+        self.assertEqual(globs.matches_many(["", b"a.c", TextPath("x"), "b.c"]), [[1], [0, 2], [], [0]])
+        paths = [f"{'ab'[number % 2]}{number}.{'ch'[number % 3 == 0]}" for number in range(5000)]
+        self.assertEqual(globs.matches_many(iter(paths)), [globs.matches(path) for path in paths])
+        many = GlobSet(["*"] * 300)
+        self.assertEqual(many.matches_many(["a"] * 1500), [list(range(300))] * 1500)
+
+    def test_filter(self):
+        globs = GlobSet(["*.c", "a*"])
+        paths = ["b.c", b"a", TextPath("c.c"), pathlib.PurePosixPath("x"), "h"]
+        kept = globs.filter(paths)
+        self.assertEqual(len(kept), 3)
+        for one, other in zip(kept, paths):
+            self.assertIs(one, other)
+        self.assertEqual(globs.filter([]), [])
+        self.assertEqual(globs.filter(f"{number}.c" for number in range(3000)), [f"{number}.c" for number in range(3000)])
+
+    def test_can_match_below(self):
+        globs = GlobSet(["src/**/*.py", Glob("docs/*.md", literal_separator=True)])
+        for folder, wanted in [("src", True), (b"src/a/b", True), ("docs", True), ("docs/a", False), (TextPath("lib"), False)]:
+            self.assertIs(globs.can_match_below(folder), wanted, folder)
+        self.assertFalse(GlobSet([]).can_match_below("a"))
+
+    def test_equality_and_hash(self):
+        one, other = GlobSet(["a", Glob("b", whole_character=True)]), GlobSet(["a", Glob("b", whole_character=True)])
+        self.assertEqual(one, other)
+        self.assertEqual(hash(one), hash(other))
+        self.assertNotEqual(one, GlobSet(["a", "b"]))
+        self.assertNotEqual(one, GlobSet([Glob("b", whole_character=True), "a"]))
+        self.assertNotEqual(one, ["a"])
+        self.assertEqual(len({one, other, GlobSet([])}), 2)
+
+    def test_subclasses(self):
+        class Named(GlobSet):
+            def __new__(cls, globs, name=""):
+                self = super().__new__(cls, globs)
+                self.name = name
+                return self
+
+        class Text(str):
+            pass
+
+        named = Named(["*.c"], name="c")
+        self.assertEqual((named.name, named.matches("a.c"), repr(named)), ("c", [0], "Named([Glob('*.c')])"))
+        self.assertEqual(GlobSet([Text("*.c")]).filter([Text("a.c")]), ["a.c"])
 
     def test_no_globs(self):
         globs = GlobSet([])
@@ -365,7 +486,77 @@ class Use(unittest.TestCase):
 
         self.assertEqual(globs.matches(Asks()), [0])
         self.assertEqual(globs.match_many([Asks(), "x", Asks()]), [True, False, True])
-        self.assertEqual(inner, [[1]] * 3)
+        self.assertEqual(globs.matches_many([Asks(), Asks()]), [[0], [0]])
+        self.assertEqual(len(globs.filter(Asks() for _ in range(1100))), 1100)
+        self.assertEqual(inner, [[1]] * 1105)
+
+    def test_a_path_that_ends_what_is_used(self):
+        class Ends:
+            def __init__(self, at):
+                self.at = at
+
+            def __fspath__(self):
+                holder.clear()
+                paths.clear()
+                gc.collect()
+                return f"{self.at}.c"
+
+        for call in ["match", "matches", "matches_all", "can_match_below"]:
+            holder, paths = [GlobSet(["*.c"])], []
+            self.assertIn(getattr(holder[0], call)(Ends(1)), (True, False, [0]))
+        for call in ["match_many", "matches_many", "filter"]:
+            holder, paths = [GlobSet(["*.c"])], [Ends(1), Ends(2), Ends(3)]
+            self.assertIn(len(getattr(holder[0], call)(paths)), (1, 3))
+        for call in ["match_many", "filter"]:
+            holder, paths = [Glob("*.c")], [Ends(1), Ends(2)]
+            self.assertIn(len(getattr(holder[0], call)(paths)), (1, 2))
+
+    def test_an_iterator_that_fails(self):
+        def paths():
+            yield from ["a.c"] * 1500
+            raise LookupError
+
+        globs = GlobSet(["*.c"])
+        for call in [globs.match_many, globs.matches_many, globs.filter, Glob("*").match_many, Glob("*").filter]:
+            with self.assertRaises(LookupError):
+                call(paths())
+
+    def test_the_lock_is_released(self):
+        globs, paths = GlobSet(["*a*b*c", "*[ab]*d"]), [b"ab" * 100_000] * 100
+        times, is_over = [], threading.Event()
+
+        def count():
+            while not is_over.is_set():
+                times.append(time.monotonic())
+                time.sleep(0.0005)
+
+        thread = threading.Thread(target=count)
+        thread.start()
+        start = time.monotonic()
+        for call in [globs.match_many, globs.matches_many, globs.filter, globs.globs[0].match_many]:
+            call(paths)
+        end = time.monotonic()
+        is_over.set()
+        thread.join()
+        between = [start, *(moment for moment in times if start < moment < end), end]
+        if end - start > 0.05:
+            self.assertLess(max(later - sooner for sooner, later in zip(between, between[1:])), (end - start) / 2)
+
+    @unittest.skipIf(IS_CTYPES, "all paths are made before any is matched")
+    def test_keyboard_interrupt(self):
+        ran = run_python(
+            """
+import itertools, signal
+from globset import GlobSet
+signal.setitimer(signal.ITIMER_REAL, 0.1)
+signal.signal(signal.SIGALRM, signal.default_int_handler)
+try:
+    GlobSet(["*.c"]).filter(itertools.repeat("a"))
+except KeyboardInterrupt:
+    print("interrupted")
+"""
+        )
+        self.assertEqual((ran.returncode, ran.stdout, ran.stderr), (0, b"interrupted\n", b""))
 
     def test_signals(self):
         globs, handled = GlobSet(["a*", "*b", "*c*"]), []
@@ -434,9 +625,32 @@ time.sleep(0.05)
         self.assertTrue(os.path.isfile(os.path.join(os.path.dirname(globset.__file__), "py.typed")))
 
     def test_examples_of_the_documentation(self):
-        ran = doctest.testmod(globset)
-        self.assertEqual(ran.failed, 0)
-        self.assertGreaterEqual(ran.attempted, 15)
+        names = {name: getattr(globset, name) for name in globset.__all__}
+        finder, runner = doctest.DocTestFinder(recurse=False), doctest.DocTestRunner()
+        documented = [globset, *names.values()]
+        documented += [value for owner in [Glob, GlobSet] for name, value in inspect.getmembers(owner) if not name.startswith("_")]
+        for value in documented:
+            for example in finder.find(value, name=repr(value), module=False, globs={"globset": globset, **names}):
+                runner.run(example)
+        self.assertEqual(runner.failures, 0)
+        self.assertGreaterEqual(runner.tries, 25)
+
+    def test_documentation_of_both(self):
+        """The extension has the documentation and the parameters of the module over ctypes."""
+        try:
+            one, other = [importlib.import_module(f"globset.{name}") for name in ["_extension", "_by_ctypes"]]
+        except (ImportError, OSError):
+            self.skipTest("one of them is not there")
+        pairs = [(getattr(one, name), getattr(other, name)) for name in ["GlobBase", "GlobSetBase", "escape", "version"]]
+        for first, second in pairs[:2]:
+            names = [name for name in dir(second) if not name.startswith("_")]
+            self.assertEqual([name for name in dir(first) if not name.startswith("_")], names)
+            pairs += [(getattr(first, name), getattr(second, name)) for name in names]
+        for first, second in pairs:
+            self.assertEqual(inspect.getdoc(first), inspect.getdoc(second))
+            if inspect.isfunction(second):
+                names = [list(inspect.signature(function).parameters) for function in (first, second)]
+                self.assertEqual(*names)
 
     def test_examples_of_the_documents(self):
         count = 0
@@ -451,7 +665,7 @@ time.sleep(0.05)
 
     def test_each_name_has_an_example(self):
         for owner in [Glob, GlobSet]:
-            for name, value in vars(owner).items():
+            for name, value in inspect.getmembers(owner):
                 if not name.startswith("_"):
                     self.assertIn(">>>", value.__doc__, name)
         for name in globset.__all__:

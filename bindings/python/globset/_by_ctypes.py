@@ -1,0 +1,244 @@
+"""What ``Glob`` and ``GlobSet`` are made of, over ctypes. ``_extension.c`` has the same, with the documentation that stands here."""
+
+from __future__ import annotations
+
+import ctypes
+import os
+from array import array
+from collections import deque
+from itertools import accumulate, compress
+from typing import Deque, Iterable, List, Tuple, Type, TypeVar, Union
+
+from . import _library
+from ._errors import glob_error
+from ._library import Lent, Object, Searcher, put_back, take_work
+
+Path = Union[str, bytes, "os.PathLike[str]", "os.PathLike[bytes]"]
+
+_AnyPath = TypeVar("_AnyPath", bound=Path)
+_AnyGlob = TypeVar("_AnyGlob", bound="GlobBase")
+_AnySet = TypeVar("_AnySet", bound="GlobSetBase")
+
+
+class GlobBase:
+    """A glob of a text and the bits of its options."""
+
+    __slots__ = ("_glob", "_matcher")
+
+    _glob: Object
+    _matcher: Object
+
+    def __new__(cls: Type[_AnyGlob], pattern: str, options: int, /) -> _AnyGlob:
+        self = object.__new__(cls)
+        data, error, glob = pattern.encode(), _library.Error(), Object()
+        status = _library.glob_new(data, len(data), options, ctypes.byref(error), ctypes.byref(glob))
+        if status == _library.REJECTED:
+            message = _library.text_of(_library.error_text, data, len(data), options)
+            raise glob_error(message, pattern, error.kind, error.start, error.end)
+        _library.raise_unless_done(status)
+        self._glob = glob
+        self._matcher = Object()
+        return self
+
+    @property
+    def regex(self) -> str:
+        """A regular expression over bytes that matches the paths that the glob matches.
+
+        It is in the syntax of the Rust crate ``regex``, where ``(?-u)`` turns Unicode off, and a ``.`` in it is any byte. The
+        module ``re`` reads what follows ``(?-u)``, with the flag ``re.DOTALL``.
+
+        >>> Glob("*.py").regex
+        '(?-u)^.*\\\\.py$'
+        """
+        return _library.text_of(_library.glob_regex, ctypes.byref(Lent(self._glob.at)))
+
+    def match(self, path: Path, /) -> bool:
+        """Returns whether the glob matches the path.
+
+        >>> Glob("src/**/*.py").match("src/a/b.py")
+        True
+        """
+        data = os.fsencode(path)
+        matcher = self._matcher
+        if not matcher.at:
+            matcher = self._make_matcher()
+        work = take_work()
+        work.lent.at = matcher.at
+        status = _library.matcher_is_match(work.lent_at, work.at, data, len(data))
+        put_back(work)
+        return _library.answer(status)
+
+    def match_many(self, paths: Iterable[Path], /) -> List[bool]:
+        """Returns for each path whether the glob matches it, in less time than a call for each takes.
+
+        >>> Glob("*.py").match_many(["main.c", "run.py"])
+        [False, True]
+        """
+        return [self.match(path) for path in _many(paths)]
+
+    def filter(self, paths: Iterable[_AnyPath], /) -> List[_AnyPath]:
+        """Returns the paths that the glob matches, in order.
+
+        >>> Glob("*.py").filter(["main.c", "run.py", "a/b.py"])
+        ['run.py', 'a/b.py']
+        """
+        return [path for path in _many(paths) if self.match(path)]
+
+    def _make_matcher(self) -> Object:
+        """Makes the matcher. If threads do so at the same time, the last one's stays, and each uses its own."""
+        matcher = Object()
+        _library.raise_unless_done(_library.matcher_new(ctypes.byref(Lent(self._glob.at)), ctypes.byref(matcher)))
+        self._matcher = matcher
+        return matcher
+
+
+class GlobSetBase:
+    """A set of the globs of a tuple."""
+
+    __slots__ = ("_set", "_at", "_searchers")
+
+    _set: Object
+    _at: int
+    # The searchers that no call uses.
+    _searchers: Deque[Searcher]
+
+    def __new__(cls: Type[_AnySet], globs: Tuple[GlobBase, ...], /) -> _AnySet:
+        self = object.__new__(cls)
+        builder, lent = Object(), Lent()
+        builder_at, lent_at = ctypes.addressof(builder), ctypes.addressof(lent)
+        _library.raise_unless_done(_library.builder_new(builder_at))
+        for glob in globs:
+            lent.at = glob._glob.at
+            _library.raise_unless_done(_library.builder_add(builder_at, lent_at))
+        self._set = Object()
+        _library.raise_unless_done(_library.builder_build(builder_at, ctypes.byref(self._set)))
+        self._at = self._set.at
+        self._searchers = deque()
+        return self
+
+    def match(self, path: Path, /) -> bool:
+        """Returns whether some glob of the set matches the path.
+
+        >>> GlobSet(["*.py", "*.c"]).match("main.c")
+        True
+        """
+        data = os.fsencode(path)
+        searcher = self._take_searcher()
+        status = _library.searcher_is_match(searcher.at, data, len(data))
+        self._searchers.append(searcher)
+        return _library.answer(status)
+
+    def matches(self, path: Path, /) -> List[int]:
+        """Returns the indexes of the globs that match the path, in ascending order.
+
+        >>> GlobSet(["*.py", "*.c", "main.*"]).matches("main.c")
+        [1, 2]
+        """
+        data = os.fsencode(path)
+        searcher = self._take_searcher()
+        indexes = searcher.matches(data)
+        self._searchers.append(searcher)
+        return indexes
+
+    def matches_all(self, path: Path, /) -> bool:
+        """Returns whether all globs of the set match the path.
+
+        >>> GlobSet(["*.c", "main.*"]).matches_all("main.c")
+        True
+        """
+        data = os.fsencode(path)
+        searcher = self._take_searcher()
+        status = _library.searcher_matches_all(searcher.at, data, len(data))
+        self._searchers.append(searcher)
+        return _library.answer(status)
+
+    def match_many(self, paths: Iterable[Path], /) -> List[bool]:
+        """Returns for each path whether some glob of the set matches it, in less time than a call for each takes.
+
+        >>> GlobSet(["*.py", "*.c"]).match_many(["main.c", "README", "run.py"])
+        [True, False, True]
+        """
+        return [byte == 1 for byte in self._ask_many([os.fsencode(path) for path in _many(paths)])]
+
+    def matches_many(self, paths: Iterable[Path], /) -> List[List[int]]:
+        """Returns for each path the indexes of the globs that match it, in less time than a call for each takes.
+
+        >>> GlobSet(["*.py", "*.c", "main.*"]).matches_many(["main.c", "README", "run.py"])
+        [[1, 2], [], [0]]
+        """
+        parts = [os.fsencode(path) for path in _many(paths)]
+        searcher = self._take_searcher()
+        indexes = [searcher.matches(data) for data in parts]
+        self._searchers.append(searcher)
+        return indexes
+
+    def filter(self, paths: Iterable[_AnyPath], /) -> List[_AnyPath]:
+        """Returns the paths that some glob of the set matches, in order.
+
+        >>> GlobSet(["*.py", "*.c"]).filter(["main.c", "README", "run.py"])
+        ['main.c', 'run.py']
+        """
+        asked = list(_many(paths))
+        return list(compress(asked, self._ask_many([os.fsencode(path) for path in asked])))
+
+    def can_match_below(self, folder: Path, /) -> bool:
+        """Returns whether some path below the folder can match: the folder, a ``/``, and any bytes, perhaps none.
+
+        >>> sources = GlobSet(["src/**/*.py"])
+        >>> sources.can_match_below("src/tool"), sources.can_match_below("docs")
+        (True, False)
+        """
+        data = os.fsencode(folder)
+        searcher = self._take_searcher()
+        status = _library.searcher_can_match_below(searcher.at, data, len(data))
+        self._searchers.append(searcher)
+        return _library.answer(status)
+
+    def _ask_many(self, parts: List[bytes]) -> bytes:
+        """Returns a byte for each path: 1 if some glob matches it, and else 0."""
+        count = len(parts)
+        if count == 0:
+            return b""
+        data = b"".join(parts)
+        # A `size_t` has 8 bytes, as a `Q` has, where there is a library.
+        ends = array("Q", accumulate(map(len, parts)))
+        answers = ctypes.create_string_buffer(count)
+        ends_at, _ = ends.buffer_info()
+        searcher = self._take_searcher()
+        status = _library.searcher_is_match_many(searcher.at, data, len(data), ends_at, count, answers, count)
+        self._searchers.append(searcher)
+        _library.raise_unless_done(status)
+        return answers.raw
+
+    def _take_searcher(self) -> Searcher:
+        """Returns a searcher of the set that no other call uses."""
+        try:
+            return self._searchers.pop()
+        except IndexError:
+            return Searcher(self._at)
+
+
+def escape(text: str, /) -> str:
+    """Returns the text with each of ``?``, ``*``, ``[``, ``]``, ``{`` and ``}`` in brackets.
+
+    As a glob with the default options it matches this text and nothing else, if the text has no ``\\``.
+
+    >>> escape("what?.txt")
+    'what[?].txt'
+    """
+    if not isinstance(text, str):
+        raise TypeError("a text is str")
+    data = text.encode()
+    return _library.text_of(_library.escape, data, len(data))
+
+
+def version() -> int:
+    """Returns the version of the library, as 1,000,000 times the first number, 1,000 times the second, and the third."""
+    return int(_library.version())
+
+
+def _many(paths: Iterable[_AnyPath]) -> Iterable[_AnyPath]:
+    """Returns the paths, which are not one path."""
+    if isinstance(paths, (str, bytes)):
+        raise TypeError(f"paths are an iterable of them, not one {'str' if isinstance(paths, str) else 'bytes'}")
+    return paths

@@ -1,0 +1,71 @@
+"""The exception of texts that are no globs."""
+
+from __future__ import annotations
+
+import enum
+from typing import Any, Optional, Tuple
+
+__all__ = ["ErrorKind", "GlobError"]
+
+
+class ErrorKind(enum.Enum):
+    """Why a text is no glob.
+
+    >>> ErrorKind.UNCLOSED_CLASS.name
+    'UNCLOSED_CLASS'
+    """
+
+    #: A surrogate, which is no character.
+    SURROGATE = 0
+    #: A ``[`` without ``]``.
+    UNCLOSED_CLASS = 1
+    #: A range in a class that goes down, as ``[z-a]``.
+    INVALID_RANGE = 2
+    #: A ``}`` without ``{``.
+    UNOPENED_ALTERNATES = 3
+    #: A ``{`` without ``}``.
+    UNCLOSED_ALTERNATES = 4
+    #: A ``\\`` at the end, with nothing to escape.
+    DANGLING_ESCAPE = 5
+
+
+class GlobError(ValueError):
+    """A text is no glob. The first error in the text counts, and a surrogate before all others.
+
+    ``glob`` is the text, and ``kind`` why it is none. ``start`` and ``end`` are the characters of an invalid range, and
+    ``None`` at other kinds.
+
+    >>> try:
+    ...     Glob("[z-a]")
+    ... except GlobError as error:
+    ...     print(error)
+    ...     print(error.glob, error.kind.name, error.start, error.end)
+    error parsing glob '[z-a]': invalid range; 'z' > 'a'
+    [z-a] INVALID_RANGE z a
+    """
+
+    def __init__(
+        self, message: str, glob: str, kind: ErrorKind, start: Optional[str] = None, end: Optional[str] = None
+    ) -> None:
+        super().__init__(message)
+        self.glob = glob
+        self.kind = kind
+        self.start = start
+        self.end = end
+
+    def __reduce__(self) -> Tuple[Any, ...]:
+        return type(self), (str(self), self.glob, self.kind, self.start, self.end)
+
+
+def glob_error(message: str, glob: str, number: int, start: int, end: int) -> GlobError:
+    """Returns the exception of what the library says of a text."""
+    kind = ErrorKind(number)
+    if kind is ErrorKind.INVALID_RANGE:
+        return GlobError(message, glob, kind, chr(start), chr(end))
+    return GlobError(message, glob, kind)
+
+
+def surrogate_error(glob: str) -> GlobError:
+    """Returns the exception of a text that has a surrogate, and so cannot be encoded."""
+    shown = glob.encode("utf-8", "backslashreplace").decode()
+    return GlobError(f"error parsing glob '{shown}': a surrogate is no character", glob, ErrorKind.SURROGATE)

@@ -1,0 +1,220 @@
+#!/usr/bin/env python3
+"""Makes 10,000 random calls that nobody should make, in 8 threads at a time: each has to end in an answer or an exception.
+
+Usage: misuse.py [SEED [CALLS]]
+
+Arguments are of any type; paths run code of Python while they are read, which makes further calls, drops the objects that are in
+use, and changes the lists that are read. After it all sets have to answer as at first. A crash ends the interpreter, so the program
+is worth most over an extension that was built with sanitizers.
+"""
+
+import copy
+import gc
+import os
+import pathlib
+import pickle
+import random
+import sys
+import threading
+import weakref
+
+import globset
+from globset import Glob, GlobError, GlobSet, escape
+
+PATTERNS = ["*.py", "src/**", "{a,b}*", "[a-c]?", "**", "a\\*", "é*", "*a*b*c", "", "x" * 300, "**/..", "[!x]*"]
+REJECTED = ["[a", "[z-a]", "a}", "{a", "\\", "\udc80", "a\ud800"]
+PATHS = ["a.py", "src/a", "", "b", "abc", "a\0b", "é", "a/b/c/d.py", "\udcff", "\ud800", b"a.py", b"\xff\0", b"", "a" * 5000]
+METHODS = ["match", "matches", "matches_all", "match_many", "matches_many", "filter", "can_match_below", "regex", "pattern", "globs"]
+THREADS = 8
+# How deep calls within calls go.
+DEPTH = 3
+
+
+class Misuse:
+    """The random calls of one thread, on objects that all threads share."""
+
+    def __init__(self, seed, shared):
+        self.rng = random.Random(seed)
+        self.shared = shared
+        self.depth = 0
+        self.answers = self.exceptions = 0
+
+    def chance(self, part):
+        return self.rng.random() < part
+
+    def path(self):
+        """Returns what may stand where a path is wanted."""
+        if self.chance(0.5):
+            return self.rng.choice(PATHS)
+        return self.rng.choice(
+            [
+                lambda: pathlib.PurePosixPath("src/a.py"),
+                lambda: Hostile(self),
+                lambda: Hostile(self),
+                lambda: Subclass("a.py"),
+                lambda: bytearray(b"a"),
+                lambda: memoryview(b"a"),
+                lambda: self.rng.choice([None, 7, 2**80, 1.5, (), [], {}, object, Ellipsis, int, GlobSet, self.one()]),
+            ]
+        )()
+
+    def paths(self):
+        """Returns what may stand where paths are wanted."""
+        many = [self.path() if self.chance(0.1) else self.rng.choice(PATHS) for _ in range(self.rng.choice([0, 1, 5, 40, 1100]))]
+        return self.rng.choice(
+            [lambda: many, lambda: tuple(many), lambda: iter(many), lambda: Changing(self, many), lambda: failing(many), self.path]
+        )()
+
+    def one(self):
+        """Returns an object of those that are shared, or a new one."""
+        try:
+            return self.rng.choice(self.shared)
+        except IndexError:
+            return GlobSet(["*"])
+
+    def call(self):
+        """Makes one call."""
+        if self.depth >= DEPTH:
+            return
+        self.depth += 1
+        try:
+            self.rng.choice([self.ask, self.ask, self.ask, self.ask, self.ask, self.make, self.make, self.drop, self.wrong])()
+            self.answers += 1
+        except RecursionError:
+            raise
+        except Exception:
+            self.exceptions += 1
+        finally:
+            self.depth -= 1
+
+    def ask(self):
+        name = self.rng.choice(METHODS)
+        value = getattr(self.one(), name)
+        if callable(value):
+            is_many = name in ("match_many", "matches_many", "filter")
+            value(*([self.paths() if is_many else self.path()] if self.chance(0.95) else [self.path()] * self.rng.randrange(3)))
+
+    def make(self):
+        text = self.rng.choice(PATTERNS) if self.chance(0.8) else self.rng.choice([*REJECTED, self.path()])
+        if self.chance(0.3):
+            self.shared.append(Glob(text, case_insensitive=self.chance(0.5), backslash_escape=self.chance(0.5)))
+        elif self.chance(0.8):
+            self.shared.append(GlobSet(self.rng.choice([text, self.one()]) if self.chance(0.1) else p for p in PATTERNS[: self.rng.randrange(9)]))
+        elif self.chance(0.5):
+            globset.GlobBase(*[self.path() for _ in range(self.rng.randrange(4))])
+        else:
+            globset.GlobSetBase(*[(self.one(), self.path())[: self.rng.randrange(3)] for _ in range(self.rng.randrange(3))])
+
+    def drop(self):
+        if self.shared and self.chance(0.7):
+            del self.shared[self.rng.randrange(len(self.shared))]
+        else:
+            gc.collect(self.rng.randrange(2))
+
+    def wrong(self):
+        """Makes a call that is none of those of the documentation."""
+        one, path = self.one(), self.path()
+        self.rng.choice(
+            [
+                lambda: GlobSet.match(Glob("a"), path),
+                lambda: Glob.match(GlobSet([]), path),
+                lambda: globset.GlobSetBase.filter(path, path),
+                lambda: type(one).__new__(type(one)),
+                lambda: object.__new__(type(one)).match(path),
+                lambda: globset.GlobBase.__new__(GlobSet, "a", 0),
+                lambda: one.__init__(path),
+                lambda: setattr(one, "_globs", path),
+                lambda: setattr(one, "_pattern", path),
+                lambda: delattr(one, "_pattern"),
+                lambda: setattr(one, "__class__", self.rng.choice([Glob, GlobSet])),
+                lambda: pickle.loads(pickle.dumps(one)),
+                lambda: copy.deepcopy([one, one]),
+                lambda: weakref.ref(one)(),
+                lambda: (one == path, hash(one), repr(one)),
+                lambda: escape(path),
+                lambda: one.__reduce_ex__(4),
+                lambda: one.__setstate__({}),
+                lambda: one.match(path=path),
+                lambda: type(one)(path, path),
+            ]
+        )()
+
+
+class Hostile:
+    """A path that runs other code while it is read."""
+
+    def __init__(self, misuse):
+        self.misuse = misuse
+
+    def __fspath__(self):
+        misuse = self.misuse
+        if misuse.chance(0.5):
+            misuse.call()
+        if misuse.chance(0.1):
+            misuse.shared.clear()
+        if misuse.chance(0.1):
+            raise LookupError
+        return misuse.rng.choice([*PATHS, None, 7, self, Subclass("b")])
+
+    def __del__(self):
+        self.misuse.call()
+
+
+class Changing:
+    """Paths whose list changes while they are read."""
+
+    def __init__(self, misuse, paths):
+        self.misuse, self.paths = misuse, paths
+
+    def __iter__(self):
+        for path in self.paths:
+            if self.misuse.chance(0.02):
+                self.misuse.call()
+                self.paths.clear()
+            yield path
+
+
+class Subclass(str):
+    __slots__ = ()
+
+    def __eq__(self, other):
+        raise LookupError
+
+    __hash__ = str.__hash__
+
+
+def failing(paths):
+    yield from paths
+    raise LookupError
+
+
+def main():
+    seed, calls = [*map(int, sys.argv[1:]), 1, 10_000][:2] if len(sys.argv) < 3 else map(int, sys.argv[1:3])
+    shared = []
+    kept = GlobSet(PATTERNS)
+    expected = [kept.matches(path) for path in PATHS if path != "\ud800"]
+    misuses = [Misuse(f"{seed}.{number}", shared) for number in range(THREADS)]
+
+    def work(misuse):
+        for _ in range(calls // THREADS):
+            misuse.call()
+            if misuse.chance(0.05):
+                kept.matches_many(["a.py", "src/a"] * 600)
+                shared.append(kept)
+
+    sys.setswitchinterval(1e-5)
+    threads = [threading.Thread(target=work, args=[misuse]) for misuse in misuses]
+    for thread in threads:
+        thread.start()
+    for thread in threads:
+        thread.join()
+    shared.clear()
+    gc.collect()
+    assert [kept.matches(path) for path in PATHS if path != "\ud800"] == expected
+    answers, exceptions = [sum(getattr(misuse, name) for misuse in misuses) for name in ("answers", "exceptions")]
+    assert answers + exceptions >= calls // THREADS * THREADS, (answers, exceptions)
+    print(f"misuse: {answers} answers and {exceptions} exceptions by {os.path.basename(globset._binding.__file__)}")
+
+
+if __name__ == "__main__":
+    main()
