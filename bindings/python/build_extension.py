@@ -1,15 +1,15 @@
 #!/usr/bin/env python3
-"""Builds the extension of the module globset: _extension.abi3.so, for Python 3.10 and every later one.
+"""Builds the extension module of the package globset: _extension.abi3.so, for Python 3.10 and every later one.
 
 Usage: build_extension.py LIBRARY FOLDER
        build_extension.py --check
 
-LIBRARY is the folder that bindings/c/build filled: the extension is linked with libglobset.a in it. FOLDER is where the extension
-is put, with the file NOTICE beside it. It needs a C compiler (CC, else cc) and the header Python.h of Python 3.10 or later, of this
-Python or of one in /usr/include. CFLAGS are more arguments for the compiler. With --check the exit status says whether the header is
-there.
+LIBRARY is the folder that bindings/c/build filled, and libglobset.a in it is linked in. FOLDER is where the extension module is
+put, with the file NOTICE beside it. It needs a C compiler (CC, else cc) and the header Python.h of Python 3.10 or later, of this
+Python or of one in /usr/include. CFLAGS are more arguments for the compiler. With --check the exit status says whether the
+header is there.
 
-The documentation of the extension is that of globset/_by_ctypes.py.
+The documentation in it is that of globset/_by_ctypes.py.
 """
 
 import ast
@@ -23,7 +23,7 @@ import sysconfig
 import tempfile
 
 HERE = os.path.dirname(os.path.realpath(__file__))
-FLAGS = "-std=c11 -O2 -fPIC -shared -fvisibility=hidden -Wall -Wextra -Wconversion -Wno-missing-field-initializers".split()
+FLAGS = "-std=c11 -O2 -fPIC -shared -fvisibility=hidden -Wall -Wextra -Wconversion".split()
 # What the macros of the documentation begin with, for each class.
 CLASSES = {"GlobBase": "GLOB", "GlobSetBase": "SET"}
 
@@ -51,7 +51,7 @@ def c_text(text):
 
 def macros(tree):
     """Yields the name and the text of each piece of documentation, of a function with its parameters."""
-    yield "MODULE", "What globset._by_ctypes has, as an extension."
+    yield "MODULE", "What globset._by_ctypes has, as an extension module."
     owners = [(CLASSES[node.name], node) for node in tree.body if isinstance(node, ast.ClassDef)]
     for name, node in owners:
         yield name, ast.get_docstring(node)
@@ -87,7 +87,7 @@ def main():
         more = shlex.split(os.environ.get("CFLAGS", ""))
         command = [*compiler, *FLAGS, *more, *folders, source, *linked, "-o", built]
         if subprocess.run(command).returncode:
-            raise SystemExit("build_extension.py: the extension cannot be built")
+            raise SystemExit("build_extension.py: the extension module cannot be built")
     if os.path.realpath(library) != os.path.realpath(folder):
         shutil.copy(f"{library}/NOTICE", f"{folder}/NOTICE")
 

@@ -3,10 +3,10 @@
 
 Usage: build_wheel.py LIBRARY FOLDER
 
-LIBRARY is what the wheel holds beside the module, with the file NOTICE in the same folder: the extension _extension.abi3.so, for a
-wheel for Python 3.10 and later, or the shared library libglobset.so, for one for Python 3.8 and later. FOLDER is where the wheel
-is put. The same files give the same wheel, byte by byte; its files have the time SOURCE_DATE_EPOCH, or 1980. It needs `readelf`,
-to find what the library needs of the C library, and nothing else beside Python.
+LIBRARY is what the wheel holds beside the module, with the file NOTICE in the same folder: the extension module
+_extension.abi3.so, for a wheel for Python 3.10 and later, or the shared library libglobset.so, for one for Python 3.8 and later.
+FOLDER is where the wheel is put. The same files give the same wheel, byte by byte; its files have the time SOURCE_DATE_EPOCH, or
+1980. It needs `readelf`, to find what the library needs of the C library, and nothing else beside Python.
 """
 
 import base64
@@ -22,7 +22,7 @@ HERE = os.path.dirname(os.path.realpath(__file__))
 TOP = os.path.dirname(os.path.dirname(HERE))
 MODULE = ("__init__.py", "_by_ctypes.py", "_choice.py", "_errors.py", "_library.py", "_walk.py", "py.typed")
 EXTENSION = "_extension.abi3.so"
-# The least Python and the tag of a wheel with the extension, and of one without it.
+# The least Python and the tag of a wheel with the extension module, and of one without it.
 WITH_EXTENSION, WITHOUT = (("3.10", "cp310-abi3"), ("3.8", "py3-none"))
 LICENSES = ("COPYING", "LICENSE-MIT", "UNLICENSE")
 # The parts of the GNU C library, which every Linux that a tag `manylinux` names has.

@@ -32,7 +32,7 @@ Pattern    Matches
 All objects may be used by several threads at the same time. Calls about many paths release the interpreter's lock while they
 match. Every call may raise ``MemoryError``, and all objects can be used on after it.
 
-The C library is called by an extension, or by ``ctypes`` where the extension is not there. The environment variable
+The C library is called by an extension module, or by ``ctypes`` where there is none. The environment variable
 ``GLOBSET_BINDING`` chooses one of them, by the value ``extension`` or ``ctypes``.
 """
 

@@ -1,4 +1,4 @@
-"""What ``Glob`` and ``GlobSet`` are made of, over ctypes. ``_extension.c`` has the same, with the documentation that stands here."""
+"""What ``Glob`` and ``GlobSet`` are derived from, over ctypes. ``_extension.c`` has the same, with this documentation."""
 
 from __future__ import annotations
 

@@ -1,4 +1,4 @@
-"""The module that calls the C library: the extension, or the one over ctypes."""
+"""The module that calls the C library: the extension module, or the one over ctypes."""
 
 from __future__ import annotations
 
@@ -10,7 +10,7 @@ _MODULES = {"extension": "._extension", "ctypes": "._by_ctypes"}
 
 
 def _load() -> ModuleType:
-    """Returns the module that the environment names, or else the extension, if it can be loaded."""
+    """Returns the module that the environment names, or else the extension module, if it can be loaded."""
     chosen = os.environ.get("GLOBSET_BINDING", "")
     if chosen:
         if chosen not in _MODULES:

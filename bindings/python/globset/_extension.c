@@ -1,9 +1,9 @@
-/* globset._extension: what globset/_by_ctypes.py has, as an extension over the limited API of Python 3.10. It is linked with the
- * static library, and calls the proved functions (`globset_raw_..`).
+/* globset._extension: what globset/_by_ctypes.py has, as an extension module over the limited API of Python 3.10. It is linked
+ * with the static library, and calls the proved functions (`globset_raw_..`).
  *
  * Threads. The interpreter's lock is held in every function here, but where it says that it is released. A call takes a work or
- * a searcher that no other call uses out of a pool, and puts it back. Where other code of Python can run, nothing of an object is
- * half made: a path's `__fspath__`, an iterator, a finalizer or another thread may call anything. */
+ * a searcher that no other call uses out of a pool, and puts it back. Where other code of Python can run, nothing of an object
+ * is half made: a path's `__fspath__`, an iterator, a finalizer or another thread may call anything. */
 #define Py_LIMITED_API 0x030A0000
 #define PY_SSIZE_T_CLEAN
 #include <Python.h>
@@ -212,7 +212,8 @@ static int ask_all(PyObject *self, PyObject *iterator, struct block *block, ask_
 
 static PyObject *ask_many(PyObject *self, PyObject *paths, ask_block *ask, add_block *add) {
     if (PyUnicode_Check(paths) || PyBytes_Check(paths)) {
-        return PyErr_Format(PyExc_TypeError, "paths are an iterable of them, not one %s", PyUnicode_Check(paths) ? "str" : "bytes");
+        return PyErr_Format(PyExc_TypeError, "paths are an iterable of them, not one %s",
+                            PyUnicode_Check(paths) ? "str" : "bytes");
     }
     PyObject *iterator = PyObject_GetIter(paths);
     if (!iterator) return NULL;
@@ -591,7 +592,9 @@ static int set_find_block(PyObject *object, struct block *block) {
 
 static PyObject *set_match_many(PyObject *self, PyObject *paths) { return ask_many(self, paths, set_ask_block, add_answers); }
 
-static PyObject *set_matches_many(PyObject *self, PyObject *paths) { return ask_many(self, paths, set_find_block, add_indexes); }
+static PyObject *set_matches_many(PyObject *self, PyObject *paths) {
+    return ask_many(self, paths, set_find_block, add_indexes);
+}
 
 static PyObject *set_filter(PyObject *self, PyObject *paths) { return ask_many(self, paths, set_ask_block, add_matching); }
 
@@ -648,8 +651,12 @@ static PyMethodDef functions[] = {
 };
 
 static PyType_Slot glob_slots[] = {
-    {Py_tp_doc, GLOB}, {Py_tp_new, glob_new}, {Py_tp_dealloc, glob_dealloc},
-    {Py_tp_methods, glob_methods}, {Py_tp_getset, glob_properties}, {0, NULL},
+    {Py_tp_doc, GLOB},
+    {Py_tp_new, glob_new},
+    {Py_tp_dealloc, glob_dealloc},
+    {Py_tp_methods, glob_methods},
+    {Py_tp_getset, glob_properties},
+    {0, NULL},
 };
 
 static PyType_Slot set_slots[] = {
@@ -657,11 +664,17 @@ static PyType_Slot set_slots[] = {
 };
 
 static PyType_Spec glob_spec = {
-    "globset._extension.GlobBase", sizeof(struct glob), 0, Py_TPFLAGS_DEFAULT | Py_TPFLAGS_BASETYPE, glob_slots,
+    .name = "globset._extension.GlobBase",
+    .basicsize = sizeof(struct glob),
+    .flags = Py_TPFLAGS_DEFAULT | Py_TPFLAGS_BASETYPE,
+    .slots = glob_slots,
 };
 
 static PyType_Spec set_spec = {
-    "globset._extension.GlobSetBase", sizeof(struct set), 0, Py_TPFLAGS_DEFAULT | Py_TPFLAGS_BASETYPE, set_slots,
+    .name = "globset._extension.GlobSetBase",
+    .basicsize = sizeof(struct set),
+    .flags = Py_TPFLAGS_DEFAULT | Py_TPFLAGS_BASETYPE,
+    .slots = set_slots,
 };
 
 /* The state of a module is its class GlobBase. */
@@ -697,8 +710,15 @@ static void free_module(void *module) { clear_module((PyObject *)module); }
 static PyModuleDef_Slot module_slots[] = {{Py_mod_exec, execute}, {0, NULL}};
 
 static struct PyModuleDef definition = {
-    PyModuleDef_HEAD_INIT, "globset._extension", MODULE, sizeof(PyTypeObject *), functions, module_slots, traverse,
-    clear_module, free_module,
+    .m_base = PyModuleDef_HEAD_INIT,
+    .m_name = "globset._extension",
+    .m_doc = MODULE,
+    .m_size = sizeof(PyTypeObject *),
+    .m_methods = functions,
+    .m_slots = module_slots,
+    .m_traverse = traverse,
+    .m_clear = clear_module,
+    .m_free = free_module,
 };
 
 PyMODINIT_FUNC PyInit__extension(void) { return PyModuleDef_Init(&definition); }

@@ -1,5 +1,5 @@
 #!/usr/bin/env python3
-"""Makes each allocation of each call fail, one after another, over an extension that is linked with failing_malloc.c.
+"""Makes each allocation of each call fail, one after another, over an extension module that is linked with failing_malloc.c.
 
 Each call has to raise MemoryError or to answer as it does otherwise, and all objects have to answer after it.
 """

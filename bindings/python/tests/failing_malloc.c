@@ -1,4 +1,4 @@
-/* Memory that runs out where a test says so. It is linked into the extension with --wrap=malloc and --wrap=realloc.
+/* Memory that runs out where a test says so. It is linked into the extension module with --wrap=malloc and --wrap=realloc.
  *
  * While the environment variable GLOBSET_FAILED is a number, allocation number so many fails, and with a number below 0 that
  * one and all after it. Allocations are counted from the moment on at which the variable was set after it was empty. */

@@ -5,7 +5,7 @@ Usage: misuse.py [SEED [CALLS]]
 
 Arguments are of any type; paths run code of Python while they are read, which makes further calls, drops the objects that are in
 use, and changes the lists that are read. After it all sets have to answer as at first. A crash ends the interpreter, so the program
-is worth most over an extension that was built with sanitizers.
+is worth most over an extension module that was built with sanitizers.
 """
 
 import copy
@@ -24,7 +24,8 @@ from globset import Glob, GlobError, GlobSet, escape
 PATTERNS = ["*.py", "src/**", "{a,b}*", "[a-c]?", "**", "a\\*", "é*", "*a*b*c", "", "x" * 300, "**/..", "[!x]*"]
 REJECTED = ["[a", "[z-a]", "a}", "{a", "\\", "\udc80", "a\ud800"]
 PATHS = ["a.py", "src/a", "", "b", "abc", "a\0b", "é", "a/b/c/d.py", "\udcff", "\ud800", b"a.py", b"\xff\0", b"", "a" * 5000]
-METHODS = ["match", "matches", "matches_all", "match_many", "matches_many", "filter", "can_match_below", "regex", "pattern", "globs"]
+MANY = ["match_many", "matches_many", "filter"]
+METHODS = ["match", "matches", "matches_all", "can_match_below", *MANY, "regex", "pattern", "globs"]
 THREADS = 8
 # How deep calls within calls go.
 DEPTH = 3
@@ -60,7 +61,8 @@ class Misuse:
 
     def paths(self):
         """Returns what may stand where paths are wanted."""
-        many = [self.path() if self.chance(0.1) else self.rng.choice(PATHS) for _ in range(self.rng.choice([0, 1, 5, 40, 1100]))]
+        count = self.rng.choice([0, 1, 5, 40, 1100])
+        many = [self.path() if self.chance(0.1) else self.rng.choice(PATHS) for _ in range(count)]
         return self.rng.choice(
             [lambda: many, lambda: tuple(many), lambda: iter(many), lambda: Changing(self, many), lambda: failing(many), self.path]
         )()
@@ -91,15 +93,16 @@ class Misuse:
         name = self.rng.choice(METHODS)
         value = getattr(self.one(), name)
         if callable(value):
-            is_many = name in ("match_many", "matches_many", "filter")
-            value(*([self.paths() if is_many else self.path()] if self.chance(0.95) else [self.path()] * self.rng.randrange(3)))
+            argument = self.paths() if name in MANY else self.path()
+            value(*([argument] if self.chance(0.95) else [argument] * self.rng.choice([0, 2])))
 
     def make(self):
         text = self.rng.choice(PATTERNS) if self.chance(0.8) else self.rng.choice([*REJECTED, self.path()])
         if self.chance(0.3):
             self.shared.append(Glob(text, case_insensitive=self.chance(0.5), backslash_escape=self.chance(0.5)))
         elif self.chance(0.8):
-            self.shared.append(GlobSet(self.rng.choice([text, self.one()]) if self.chance(0.1) else p for p in PATTERNS[: self.rng.randrange(9)]))
+            texts = PATTERNS[: self.rng.randrange(9)]
+            self.shared.append(GlobSet(self.rng.choice([text, self.one()]) if self.chance(0.1) else each for each in texts))
         elif self.chance(0.5):
             globset.GlobBase(*[self.path() for _ in range(self.rng.randrange(4))])
         else:
@@ -189,7 +192,8 @@ def failing(paths):
 
 
 def main():
-    seed, calls = [*map(int, sys.argv[1:]), 1, 10_000][:2] if len(sys.argv) < 3 else map(int, sys.argv[1:3])
+    seed = int(sys.argv[1]) if len(sys.argv) > 1 else 1
+    calls = int(sys.argv[2]) if len(sys.argv) > 2 else 10_000
     shared = []
     kept = GlobSet(PATTERNS)
     expected = [kept.matches(path) for path in PATHS if path != "\ud800"]

@@ -636,7 +636,7 @@ time.sleep(0.05)
         self.assertGreaterEqual(runner.tries, 25)
 
     def test_documentation_of_both(self):
-        """The extension has the documentation and the parameters of the module over ctypes."""
+        """The extension module has the documentation and the parameters of the module over ctypes."""
         try:
             one, other = [importlib.import_module(f"globset.{name}") for name in ["_extension", "_by_ctypes"]]
         except (ImportError, OSError):
