@@ -16,6 +16,7 @@ import sys
 import threading
 import time
 import unittest
+from contextlib import suppress
 from unittest import mock
 
 import globset
@@ -590,6 +591,32 @@ except KeyboardInterrupt:
         use()
         after = resource.getrusage(resource.RUSAGE_SELF).ru_maxrss
         self.assertLess(after - before, 4_000, "in KiB")
+
+    def test_references(self):
+        """No call keeps a reference to what it was passed, also if it raises an exception."""
+        glob, globs = Glob("*.c"), GlobSet(["*.c", "a*"])
+        paths = [TextPath("".join(["a", ".c"])), "".join(["x", ".c"]), bytes([97, 98]), TextPath(7), "".join(["\ud800"])]
+        watched = [Glob, GlobSet, TextPath, glob, globs, *paths, paths]
+
+        def use():
+            for call in [glob.match, globs.match, globs.matches, globs.matches_all, globs.can_match_below]:
+                for path in paths:
+                    with suppress(TypeError, UnicodeEncodeError):
+                        call(path)
+            for call in [glob.match_many, glob.filter, globs.match_many, globs.matches_many, globs.filter]:
+                for several in [paths, paths[:3], paths[:2] * 600, iter(paths), paths[0]]:
+                    with suppress(TypeError, UnicodeEncodeError):
+                        call(several)
+            for text in ["a", "[", 7, "\ud800"]:
+                with suppress(TypeError, GlobError):
+                    GlobSet([glob, text]).match(Glob(text).pattern)
+
+        use()
+        gc.collect()
+        before = [sys.getrefcount(value) for value in watched]
+        use()
+        gc.collect()
+        self.assertEqual([sys.getrefcount(value) for value in watched], before)
 
     def test_end_of_the_interpreter(self):
         ran = run_python(
