@@ -12,11 +12,7 @@
 #include <stdlib.h>
 #include <string.h>
 
-#if __has_include(<globset_raw.h>)
 #include <globset_raw.h>
-#else
-#include <globset.h>
-#endif
 
 /* How many paths are asked about without the lock before it is taken again. */
 enum { BLOCK = 1024 };
