@@ -64,14 +64,14 @@ class TextPath:
         return self.path
 
 
-def run_python(program, *arguments):
-    """Runs a program in an interpreter of its own, which finds the same module."""
+def run_python(program, *arguments, **variables):
+    """Runs a program in an interpreter of its own, which finds the same module, with these variables of the environment."""
     folder = os.path.dirname(os.path.dirname(globset.__file__))
     return subprocess.run(
         [sys.executable, "-X", "dev", *arguments, "-c", program],
         stdout=subprocess.PIPE,
         stderr=subprocess.PIPE,
-        env={**os.environ, "PYTHONPATH": folder, "PYTHONDONTWRITEBYTECODE": "1"},
+        env={**os.environ, "PYTHONPATH": folder, "PYTHONDONTWRITEBYTECODE": "1", **variables},
         timeout=60,
     )
 
@@ -362,6 +362,27 @@ class Paths(unittest.TestCase):
         answers = globs.match_many(paths)
         self.assertEqual(answers, [number % 3 == 0 for number in range(10_000)])
         self.assertEqual({type(answer) for answer in answers}, {bool})
+
+
+    def test_another_encoding_of_names(self):
+        """Where names of files are not encoded in UTF-8, paths are as `os.fsencode` makes them."""
+        program = """
+import os, sys
+from globset import Glob, GlobSet
+assert Glob("a?b").match(os.fsdecode(b"a\\xffb")) and GlobSet(["a?b", "ab"]).matches("ab") == [1]
+try:
+    data = os.fsencode("\\xe9")
+except UnicodeEncodeError:
+    data = None
+try:
+    assert GlobSet(["?"]).match("\\xe9") == (len(data) == 1)
+except UnicodeEncodeError:
+    assert data is None
+print(sys.getfilesystemencoding())
+"""
+        for locale in ["C", "C.UTF-8"]:
+            ran = run_python(program, PYTHONUTF8="0", PYTHONCOERCECLOCALE="0", LC_ALL=locale)
+            self.assertEqual((ran.returncode, ran.stderr), (0, b""))
 
 
 class Sets(unittest.TestCase):
