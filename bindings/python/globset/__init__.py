@@ -39,7 +39,8 @@ The C library is called by an extension module, or by ``ctypes`` where there is 
 from __future__ import annotations
 
 import os
-from typing import TYPE_CHECKING, Any, AnyStr, Callable, Dict, Iterable, Iterator, Optional, Tuple, Type, TypeVar, Union
+import sys
+from typing import TYPE_CHECKING, Any, AnyStr, Callable, Dict, Iterable, Iterator, List, Optional, Tuple, Type, TypeVar, Union
 
 from . import _walk
 from ._errors import ErrorKind, GlobError, surrogate_error
@@ -118,8 +119,8 @@ class Glob(GlobBase):
         options = sum(bit for (_, bit, default), value in zip(_OPTIONS, values) if bool(value) != default)
         try:
             self = super().__new__(cls, pattern, options)
-        except UnicodeEncodeError:
-            raise surrogate_error(pattern) from None
+        except UnicodeEncodeError as error:
+            raise surrogate_error(pattern, error.start) from None
         self._pattern = pattern
         self._options = options
         return self
@@ -169,20 +170,29 @@ class GlobSet(GlobSetBase):
     A set does not change. Sets are equal if they have equal globs in the same order. They can be copied and pickled. A set
     keeps memory for as many calls as were made at the same time, which it takes at the first of them.
 
+    ``dfa_size_limit`` is how many bytes the tables of a set may take, by default 16 MiB. No answer depends on it: with fewer
+    bytes a set takes less time and memory to make, and a question may take more time.
+
     >>> GlobSet(["*.py", Glob("*.C", case_insensitive=True)]).matches("main.c")
     [1]
     """
 
-    __slots__ = ("_globs", "__weakref__")
+    __slots__ = ("_globs", "_limit", "__weakref__")
 
     _globs: Tuple[Glob, ...]
+    _limit: Optional[int]
 
-    def __new__(cls: Type[_AnySet], globs: Iterable[Union[str, Glob]]) -> _AnySet:
+    def __new__(
+        cls: Type[_AnySet], globs: Iterable[Union[str, Glob]], *, dfa_size_limit: Optional[int] = None
+    ) -> _AnySet:
         if isinstance(globs, (str, bytes, Glob)):
             raise TypeError(f"the globs of a set are an iterable of them, not one {type(globs).__name__}")
         read = tuple(glob if isinstance(glob, Glob) else Glob(glob) for glob in globs)
-        self = super().__new__(cls, read)
+        if dfa_size_limit is not None and dfa_size_limit < 0:
+            raise ValueError("a limit is not negative")
+        self = super().__new__(cls, read, -1 if dfa_size_limit is None else min(dfa_size_limit, sys.maxsize))
         self._globs = read
+        self._limit = dfa_size_limit
         return self
 
     @property
@@ -206,10 +216,11 @@ class GlobSet(GlobSetBase):
         return hash(self._globs)
 
     def __repr__(self) -> str:
-        return f"{type(self).__name__}([{', '.join(map(repr, self._globs))}])"
+        limit = "" if self._limit is None else f", dfa_size_limit={self._limit}"
+        return f"{type(self).__name__}([{', '.join(map(repr, self._globs))}]{limit})"
 
     def __reduce__(self) -> Tuple[Any, ...]:
-        return type(self), (list(self._globs),)
+        return _make_set, (type(self), list(self._globs), self._limit)
 
     def __copy__(self: _AnySet) -> _AnySet:
         return self
@@ -252,6 +263,11 @@ def walk(
 
 def _set_of(globs: _Globs) -> GlobSet:
     return globs if isinstance(globs, GlobSet) else GlobSet(globs)
+
+
+def _make_set(kind: Type[_AnySet], globs: List[Glob], limit: Optional[int]) -> _AnySet:
+    """Makes a set again from what ``pickle`` has of it."""
+    return kind(globs) if limit is None else kind(globs, dfa_size_limit=limit)
 
 
 def _make_glob(kind: Type[_AnyGlob], pattern: str, options: Dict[str, bool]) -> _AnyGlob:

@@ -34,7 +34,7 @@ class GlobBase:
         status = _library.glob_new(data, len(data), options, ctypes.byref(error), ctypes.byref(glob))
         if status == _library.REJECTED:
             message = _library.text_of(_library.error_text, data, len(data), options)
-            raise glob_error(message, pattern, error.kind, error.start, error.end)
+            raise glob_error(message, pattern, error.kind, error.start, error.end, error.offset)
         _library.raise_unless_done(status)
         self._glob = glob
         self._matcher = Object()
@@ -93,7 +93,7 @@ class GlobBase:
 
 
 class GlobSetBase:
-    """A set of the globs of a tuple."""
+    """A set of the globs of a tuple, and how many bytes its tables may take, or -1."""
 
     __slots__ = ("_set", "_at", "_searchers")
 
@@ -102,11 +102,13 @@ class GlobSetBase:
     # The searchers that no call uses.
     _searchers: Deque[Searcher]
 
-    def __new__(cls: Type[_AnySet], globs: Tuple[GlobBase, ...], /) -> _AnySet:
+    def __new__(cls: Type[_AnySet], globs: Tuple[GlobBase, ...], limit: int, /) -> _AnySet:
         self = object.__new__(cls)
         builder, lent = Object(), Lent()
         builder_at, lent_at = ctypes.addressof(builder), ctypes.addressof(lent)
         _library.raise_unless_done(_library.builder_new(builder_at))
+        if limit >= 0:
+            _library.raise_unless_done(_library.builder_set_dfa_size_limit(builder_at, limit))
         for glob in globs:
             lent.at = glob._glob.at
             _library.raise_unless_done(_library.builder_add(builder_at, lent_at))

@@ -275,7 +275,8 @@ static void raise_rejected(PyObject *pattern, struct source *source, const globs
     PyObject *message = errors ? text_of(write_error, source) : NULL;
     PyObject *raised = NULL;
     if (message) {
-        raised = PyObject_CallMethod(errors, "glob_error", "OOIII", message, pattern, error->kind, error->start, error->end);
+        raised = PyObject_CallMethod(errors, "glob_error", "OOIIIn", message, pattern, error->kind, error->start, error->end,
+                                     (Py_ssize_t)error->offset);
     }
     if (raised) PyErr_SetObject((PyObject *)Py_TYPE(raised), raised);
     Py_XDECREF(raised);
@@ -441,15 +442,16 @@ static int add_globs(globset_owned *builder, PyObject *globs, PyTypeObject *glob
 }
 
 /* Makes the library's set. It releases the lock while the set is built: nobody else has the builder. */
-static int build(globset_owned *set, PyObject *globs, PyTypeObject *glob_type) {
+static int build(globset_owned *set, PyObject *globs, Py_ssize_t limit, PyTypeObject *glob_type) {
     globset_owned builder, built;
     globset_status status = globset_raw_builder_new(&builder);
     if (status != GLOBSET_DONE) {
         raise_status(status);
         return -1;
     }
-    int added = add_globs(&builder, globs, glob_type);
-    if (added == 0) {
+    if (limit >= 0) status = globset_raw_builder_set_dfa_size_limit(&builder, (size_t)limit);
+    int added = status == GLOBSET_DONE ? add_globs(&builder, globs, glob_type) : 0;
+    if (status == GLOBSET_DONE && added == 0) {
         Py_BEGIN_ALLOW_THREADS
         status = globset_raw_builder_build(&builder, &built);
         Py_END_ALLOW_THREADS
@@ -465,13 +467,14 @@ static int build(globset_owned *set, PyObject *globs, PyTypeObject *glob_type) {
 }
 
 static PyObject *set_new(PyTypeObject *type, PyObject *arguments, PyObject *keywords) {
-    static char *names[] = {"", NULL};
+    static char *names[] = {"", "", NULL};
     PyObject *globs;
-    if (!PyArg_ParseTupleAndKeywords(arguments, keywords, "O!:GlobSetBase", names, &PyTuple_Type, &globs)) return NULL;
+    Py_ssize_t limit;
+    if (!PyArg_ParseTupleAndKeywords(arguments, keywords, "O!n:GlobSetBase", names, &PyTuple_Type, &globs, &limit)) return NULL;
     PyTypeObject *glob_type = glob_type_of(type);
     if (!glob_type) return NULL;
     struct set *self = (struct set *)new_object(type);
-    if (self && build(&self->set, globs, glob_type) < 0) Py_CLEAR(self);
+    if (self && build(&self->set, globs, limit, glob_type) < 0) Py_CLEAR(self);
     return (PyObject *)self;
 }
 

@@ -183,9 +183,12 @@ class Globs(unittest.TestCase):
             lambda: globset.GlobBase("a", "b"),
             lambda: globset.GlobBase(),
             lambda: globset.GlobSetBase(),
-            lambda: globset.GlobSetBase(["a"]),
-            lambda: globset.GlobSetBase(("a",)),
-            lambda: globset.GlobSetBase((7,)),
+            lambda: globset.GlobSetBase(()),
+            lambda: globset.GlobSetBase(["a"], 0),
+            lambda: globset.GlobSetBase(("a",), 0),
+            lambda: globset.GlobSetBase((7,), 0),
+            lambda: globset.GlobSetBase((), "a"),
+            lambda: globset.GlobSetBase((), 2**70),
             lambda: Glob.__new__(Glob),
             lambda: GlobSet.__new__(GlobSet),
             lambda: object.__new__(Glob).match("a"),
@@ -219,7 +222,7 @@ class Errors(unittest.TestCase):
             self.assertEqual(made.offset, 0)
 
     def test_offsets(self):
-        rows = [("a[b", 1), ("é[a-z][z-a][y-b]", 6), ("é{a,b}}", 6), ("😀/{*.c,*.{h,hpp}", 2), ("é\\", 1)]
+        rows = [("a[b", 1), ("é[a-z][z-a][y-b]", 6), ("é{a,b}}", 6), ("😀/{*.c,*.{h,hpp}", 2), ("é\\", 1), ("é[\udc80", 2)]
         for text, offset in rows:
             with self.subTest(text=text), self.assertRaises(GlobError) as raised:
                 Glob(text)
@@ -268,6 +271,8 @@ class Errors(unittest.TestCase):
             lambda: Glob("a").match_many("a"),
             lambda: Glob("a").filter(["a", 7]),
             lambda: GlobSet(["a"]).match(TextPath(7)),
+            lambda: GlobSet(["a"], dfa_size_limit="a"),
+            lambda: GlobSet(["a"], 7),
             lambda: escape(b"a"),
             lambda: escape(7),
         ]:
@@ -432,6 +437,19 @@ class Sets(unittest.TestCase):
         self.assertNotEqual(one, GlobSet([Glob("b", whole_character=True), "a"]))
         self.assertNotEqual(one, ["a"])
         self.assertEqual(len({one, other, GlobSet([])}), 2)
+
+    def test_dfa_size_limit(self):
+        globs = [f"*{one}*{other}*" for one in "abc" for other in "def"]
+        paths = ["a-e", "bcd", "", "cabf", "x" * 50 + "ad"]
+        expected = GlobSet(globs).matches_many(paths)
+        for limit in [0, 1, 5000, 2**40, 2**80]:
+            made = GlobSet(globs, dfa_size_limit=limit)
+            self.assertEqual(made.matches_many(paths), expected)
+            self.assertEqual(made, GlobSet(globs))
+            self.assertEqual(repr(made)[-len(f", dfa_size_limit={limit})") :], f", dfa_size_limit={limit})")
+            self.assertEqual(repr(pickle.loads(pickle.dumps(made))), repr(made))
+        with self.assertRaises(ValueError):
+            GlobSet(globs, dfa_size_limit=-1)
 
     def test_subclasses(self):
         class Named(GlobSet):
