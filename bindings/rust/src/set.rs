@@ -117,6 +117,7 @@ impl GlobSet {
     /// assert!(set.is_match_candidate(&Candidate::new("a.c")));
     /// # Ok::<(), globset::Error>(())
     /// ```
+    #[inline]
     pub fn is_match_candidate(&self, path: &Candidate<'_>) -> bool {
         self.raw.as_ref().is_some_and(|set| set.is_match(path.path()))
     }
@@ -219,7 +220,7 @@ impl GlobSet {
         into.clear();
         match &self.raw {
             // Whether some glob matches is told faster than which ones do.
-            Some(set) if self.len == 1 => into.extend(set.is_match(path.path()).then_some(0)),
+            Some(_) if self.len == 1 => into.extend(self.is_match_candidate(path).then_some(0)),
             Some(set) => set.matches(path.path(), into),
             None => {}
         }
