@@ -562,25 +562,29 @@ class Use(unittest.TestCase):
                 call(paths())
 
     def test_the_lock_is_released(self):
-        globs, paths = GlobSet(["*a*b*c", "*[ab]*d"]), [b"ab" * 100_000] * 100
+        """Another thread runs during a call about many paths. On a busy machine it may take several calls until it does."""
+        globs, paths = GlobSet(["*a*[xy]*c", "*[xy]*a*c"]), [b"ab" * 100_000 + b"c"] * 50
         times, is_over = [], threading.Event()
 
-        def count():
+        def note_times():
             while not is_over.is_set():
                 times.append(time.monotonic())
                 time.sleep(0.0005)
 
-        thread = threading.Thread(target=count)
-        thread.start()
-        start = time.monotonic()
-        for call in [globs.match_many, globs.matches_many, globs.filter, globs.globs[0].match_many]:
+        def runs_during(call):
+            start = time.monotonic()
             call(paths)
-        end = time.monotonic()
-        is_over.set()
-        thread.join()
-        between = [start, *(moment for moment in times if start < moment < end), end]
-        if end - start > 0.05:
-            self.assertLess(max(later - sooner for sooner, later in zip(between, between[1:])), (end - start) / 2)
+            end = time.monotonic()
+            return sum(start < moment < end for moment in times[-10_000:]) > 2
+
+        thread = threading.Thread(target=note_times)
+        thread.start()
+        try:
+            for call in [globs.match_many, globs.matches_many, globs.filter, globs.globs[0].match_many, globs.globs[1].filter]:
+                self.assertTrue(any(runs_during(call) for _ in range(20)), call)
+        finally:
+            is_over.set()
+            thread.join()
 
     @unittest.skipIf(IS_CTYPES, "all paths are made before any is matched")
     def test_keyboard_interrupt(self):
