@@ -575,7 +575,7 @@ class Use(unittest.TestCase):
             start = time.monotonic()
             call(paths)
             end = time.monotonic()
-            return sum(start < moment < end for moment in times[-10_000:]) > 2
+            return sum(start < moment < end for moment in times[-10_000:]) > 10
 
         thread = threading.Thread(target=note_times)
         thread.start()
