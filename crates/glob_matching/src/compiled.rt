@@ -350,6 +350,31 @@ impl Compiled {
             Strategy::Filtered(filtered) => filtered.can_match_after(text, byte, sets, visits),
         }
     }
+
+    /// The same as [`Compiled::can_match_after`], by the rows of a cache if there is one.
+    ///
+    /// It takes memory, and so returns an error if it runs out, only if the sets of states have no room for all states.
+    pub fn can_match_after_with(
+        &self,
+        text: &[u8],
+        byte: u8,
+        sets: &mut StateSets,
+        cache: &mut Option<RowCache>,
+        visits: &mut Visits,
+    ) -> Result<bool, AllocError>
+        requires { IfSome cache.old (λ c. c ≡ self.now) }
+        ensures cache { cache.new ≡ cache.old }
+        ensures some { IfOk result (λ yes. (xs : List IndexedTokens) → IsFor self.now xs → IsTrue yes ↔ SomeMeanAfter xs (text.now ++ byte ∷ [])) }
+        ensures kept { sets_capacity sets.old ≤ sets_capacity sets.new }
+        ensures memory { size self.now ≤ sets_capacity sets.old → IsOk result }
+        ensures visits { visits.new ≤ visits.old + (length text.now + 2) * size self.now }
+        ensures counted { visits.old ≤ visits.new }
+    {
+        match cache {
+            Some(rows) => Ok(rows.can_match_after(text, byte, visits)),
+            None => self.can_match_after(text, byte, sets, visits),
+        }
+    }
 }
 
 /// An automaton with more starts than these is not divided, if a filter can name those that are run.

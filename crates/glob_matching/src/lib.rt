@@ -12,6 +12,7 @@ mod partition;
 mod parts;
 mod rows;
 mod simulation;
+mod turns;
 
 pub use budget::{Budget, DEFAULT_DFA_SIZE_LIMIT};
 pub use compiled::Compiled;

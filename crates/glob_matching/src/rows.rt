@@ -1,11 +1,13 @@
 //! Automata whose tables are made row by row, as texts need them.
 
-ghost use Rattle.std.specs.Prelude.{◌≡◌, ◌+◌, ◌*◌, ◌≤◌, length, IfOk, IfSome};
+ghost use Rattle.std.specs.Prelude.{◌≡◌, ◌+◌, ◌*◌, ◌≤◌, ◌↔◌, ◌++◌, ◌∷◌, [], length, IsTrue, IfOk, IfSome};
+ghost use Rattle.byte_nfa.specs.Live.{MatchesAfter};
 ghost use Rattle.byte_nfa.specs.Runs.{size};
 ghost use Rattle.bit_sets.specs.Indexes.{index_capacity};
 ghost use Rattle.glob_matching.specs.Matching.{AddsMatches, TellsMatch};
 ghost use Rattle.nfa_sharing.specs.Sharing.{Shares};
 
+use crate::turns::Turns;
 use bit_sets::IndexSet;
 use byte_nfa::Draft;
 use lazy_dfa::{Cache, LazyDfa};
@@ -53,10 +55,8 @@ impl Model for RowSource {
 pub struct RowCache {
     dfa: Arc<LazyDfa>,
     cache: Cache,
-    /// How many texts are run by rows before a filter is asked again, since it marked many starts each time it was asked last.
-    left: u32,
-    /// How many these were at first.
-    pause: u32,
+    /// Whether a filter is asked before rows are used.
+    turns: Turns,
     made_for: Snapshot<RowSource>,
 }
 
@@ -66,8 +66,7 @@ impl Drop for RowCache {
         let RowCache {
             dfa: _,
             cache: _,
-            left: _,
-            pause: _,
+            turns: _,
             made_for: _,
         } = self;
     }
@@ -112,7 +111,7 @@ impl RowSource {
         requires { Shares automaton.now sharing.now }
         ensures { IfOk result (λ made. IfSome made (λ rows. rows ≡ automaton.now)) }
     {
-        let Some(dfa) = LazyDfa::new(sharing)? else {
+        let Some(dfa) = LazyDfa::new(alloc, sharing)? else {
             return Ok(None);
         };
         Ok(Some(RowSource {
@@ -130,8 +129,7 @@ impl RowSource {
         Ok(RowCache {
             dfa: Arc::try_clone(&self.dfa)?,
             cache,
-            left: 0,
-            pause: 0,
+            turns: Turns::new(),
             made_for: Snapshot::of(self),
         })
     }
@@ -144,31 +142,15 @@ impl RowCache {
     }
 
     /// Returns whether a filter should be asked before rows.
-    pub fn asks_filter(&mut self) -> bool
-        ensures { self.new ≡ self.old }
-    {
-        match self.left.checked_sub(1) {
-            Some(left) => {
-                self.left = left;
-                false
-            }
-            None => true,
-        }
+    pub fn asks_filter(&self) -> bool {
+        self.turns.is_filters()
     }
 
-    /// Keeps whether a filter marked few starts when it was asked. Each time that it did not, it is asked half as often.
+    /// Keeps whether a filter marked few starts when it was asked.
     pub fn keep_answer(&mut self, few: bool)
         ensures { self.new ≡ self.old }
     {
-        self.pause = if few {
-            0
-        } else {
-            self.pause
-                .saturating_mul(2)
-                .saturating_add(1)
-                .min(MOST_PAUSE)
-        };
-        self.left = self.pause;
+        self.turns.keep_answer(few);
     }
 
     /// Puts the indexes of the tokens that match a text into a set, beside what it holds.
@@ -182,7 +164,9 @@ impl RowCache {
         ensures visits { visits.new ≤ visits.old + (length text.now + 1) * size self.old }
         ensures counted { visits.old ≤ visits.new }
     {
+        let before = self.cache.read_count();
         self.cache.find(&self.dfa, text, found, visits);
+        self.keep_made(before);
     }
 
     /// Returns whether tokens match a text.
@@ -194,12 +178,32 @@ impl RowCache {
         ensures visits { visits.new ≤ visits.old + (length text.now + 1) * size self.old }
         ensures counted { visits.old ≤ visits.new }
     {
-        self.cache.is_match(&self.dfa, text, visits)
+        let before = self.cache.read_count();
+        let is_match = self.cache.is_match(&self.dfa, text, visits);
+        self.keep_made(before);
+        is_match
+    }
+
+    /// Returns whether some tokens match a text that begins with `text` and then `byte`.
+    ///
+    /// It is at most `(text bytes + 2) * states` visits. It takes no memory.
+    pub fn can_match_after(&mut self, text: &[u8], byte: u8, visits: &mut Visits) -> bool
+        ensures same { self.new ≡ self.old }
+        ensures some { IsTrue result ↔ MatchesAfter self.old (text.now ++ byte ∷ []) }
+        ensures visits { visits.new ≤ visits.old + (length text.now + 2) * size self.old }
+        ensures counted { visits.old ≤ visits.new }
+    {
+        self.cache.can_match_after(&self.dfa, text, byte, visits)
+    }
+
+    /// Keeps how many entries were made for a text, by the count before it.
+    fn keep_made(&mut self, before: usize)
+        ensures { self.new ≡ self.old }
+    {
+        let made = self.cache.read_count().wrapping_sub(before);
+        self.turns.keep_made(made);
     }
 }
-
-/// A filter is asked for one of so many texts, and one, at least.
-const MOST_PAUSE: u32 = 63;
 
 /// How many bytes a cache has for each state. With fewer, rows are forgotten so often that texts make many of theirs anew.
 const BYTES_PER_STATE: usize = 1 << 11;

@@ -1,3 +1,4 @@
 pub mod Unique
 pub mod Finding
 pub mod Rows
+pub mod After

@@ -4,9 +4,10 @@ ghost use Rattle.std.specs.Prelude.{◌≡◌, IfOk, IfSome};
 ghost use Rattle.byte_nfa.specs.Steps.{Machine};
 ghost use Rattle.lazy_dfa.specs.inner.Sources.{IsMadeOf};
 
+use bit_sets::StateSet;
 use byte_dfa::ByteClasses;
 use byte_nfa::Draft;
-use std::alloc::AllocError;
+use std::alloc::{AllocError, Global};
 use std::marker::Model;
 use std::snapshot::Snapshot;
 
@@ -16,6 +17,8 @@ pub struct LazyDfa {
     /// takes no state any more.
     pub(crate) automaton: Draft,
     pub(crate) classes: ByteClasses,
+    /// The states from which some bytes lead to an end.
+    pub(crate) live: StateSet,
     pub(crate) source: Snapshot<Draft>,
 }
 
@@ -25,6 +28,7 @@ impl Drop for LazyDfa {
         let LazyDfa {
             automaton: _,
             classes: _,
+            live: _,
             source: _,
         } = self;
     }
@@ -35,7 +39,7 @@ impl Model for LazyDfa {
 
     ghost view = { λ d. d.source.value };
 
-    ghost invariant = { λ d. IsMadeOf d.source.value d.automaton d.classes };
+    ghost invariant = { λ d. IsMadeOf d.source.value d.automaton d.classes d.live };
 }
 
 impl LazyDfa {
@@ -43,16 +47,19 @@ impl LazyDfa {
     ///
     /// It reads each state, and takes about as much memory as the automaton. Returns `None` if twice as many indexes are too many
     /// for a `usize`, and an error if memory runs out.
-    pub fn new(automaton: &Draft) -> Result<Option<LazyDfa>, AllocError>
+    pub fn new(alloc: Global, automaton: &Draft) -> Result<Option<LazyDfa>, AllocError>
         ensures { IfOk result (λ made. IfSome made (λ dfa. dfa ≡ automaton.now)) }
     {
         let Some(early_match) = automaton.with_early_matches()? else {
             return Ok(None);
         };
         let classes = ByteClasses::new(&early_match);
+        let mut live = StateSet::new(alloc, early_match.state_count())?;
+        early_match.live(&mut live);
         Ok(Some(LazyDfa {
             automaton: early_match,
             classes,
+            live,
             source: Snapshot::of(automaton),
         }))
     }

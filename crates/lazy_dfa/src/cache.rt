@@ -1,7 +1,8 @@
 //! The memory of one thread, and what it answers.
 
-ghost use Rattle.std.specs.Prelude.{◌≡◌, ℕ, ◌+◌, ◌*◌, ◌≤◌, ◌⊎◌, ◌↔◌, length, IsTrue, IfOk};
+ghost use Rattle.std.specs.Prelude.{◌≡◌, ℕ, ◌+◌, ◌*◌, ◌≤◌, ◌⊎◌, ◌↔◌, ◌++◌, ◌∷◌, [], length, IsTrue, IfOk};
 ghost use Rattle.bit_sets.specs.Indexes.{has_index, index_capacity};
+ghost use Rattle.byte_nfa.specs.Live.{MatchesAfter};
 ghost use Rattle.byte_nfa.specs.Runs.{size};
 ghost use Rattle.byte_nfa.specs.Steps.{Machine, IsReached};
 ghost use Rattle.lazy_dfa.specs.inner.Rows.{IsCacheOf};
@@ -90,5 +91,30 @@ impl Cache {
         ensures counted { visits.old ≤ visits.new }
     {
         self.rows.is_match(&dfa.automaton, text, visits)
+    }
+    /// Returns whether some text that begins with `text` and then `byte` leads to some end.
+    ///
+    /// It is as many visits for each byte as [`Cache::find`] makes, and at most one more for each state. It takes no memory.
+    pub fn can_match_after(
+        &mut self,
+        dfa: &LazyDfa,
+        text: &[u8],
+        byte: u8,
+        visits: &mut Visits,
+    ) -> bool
+        requires { dfa.now ≡ self.old }
+        ensures same { self.new ≡ self.old }
+        ensures some { IsTrue result ↔ MatchesAfter self.old (text.now ++ byte ∷ []) }
+        ensures visits { visits.new ≤ visits.old + (length text.now + 2) * size self.old }
+        ensures counted { visits.old ≤ visits.new }
+    {
+        self.rows
+            .can_match_after(&dfa.automaton, &dfa.live, text, byte, visits)
+    }
+
+    /// Returns how many times it read the states of a row so far, since an entry was not known. It counts on from 0 after the highest
+    /// number.
+    pub fn read_count(&self) -> usize {
+        self.rows.read_count()
     }
 }

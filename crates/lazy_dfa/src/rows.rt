@@ -4,6 +4,8 @@ ghost use Rattle.std.specs.Prelude.{◌≡◌, ℕ, ◌+◌, ◌-◌, ◌*◌, �
 ghost use Rattle.bit_sets.specs.Indexes.{has_index, index_capacity};
 ghost use Rattle.bit_sets.specs.StateSets.{has_state, state_capacity};
 ghost use Rattle.bit_sets.specs.Numbers.{is_reported, AreBelow};
+ghost use Rattle.bit_sets.specs.Texts.{AllBytes};
+ghost use Rattle.byte_nfa.specs.Live.{AreLive};
 ghost use Rattle.byte_nfa.specs.Steps.{IsReached};
 ghost use Rattle.byte_nfa.specs.Runs.{size, AcceptsFrom};
 ghost use Rattle.byte_dfa.specs.inner.Classes.{IsDivision};
@@ -89,6 +91,8 @@ pub struct Rows {
     list: Vec<usize>,
     /// The list of the indexes in `ends`.
     told: Vec<usize>,
+    /// How many times the states of a row were read.
+    read_count: usize,
 }
 
 impl Drop for Rows {
@@ -107,6 +111,7 @@ impl Drop for Rows {
             ends: _,
             list: _,
             told: _,
+            read_count: _,
         } = self;
     }
 }
@@ -146,6 +151,7 @@ impl Rows {
             ends: IndexSet::new(alloc, automaton.index_count())?,
             list: Vec::with_capacity(alloc, states)?,
             told: Vec::with_capacity(alloc, automaton.index_count())?,
+            read_count: 0,
         })
     }
 
@@ -164,6 +170,11 @@ impl Rows {
         entries
             .saturating_mul(mem::size_of::<u32>())
             .saturating_add(numbers.saturating_mul(mem::size_of::<usize>()))
+    }
+
+    /// Returns how many times the states of a row were read. It counts on from 0 after the highest number.
+    pub fn read_count(&self) -> usize {
+        self.read_count
     }
 
     /// Returns the place of the row that a run begins in.
@@ -279,6 +290,32 @@ impl Rows {
             next: next_of(entry),
             has_marks: true,
         }
+    }
+
+    /// Returns whether some bytes lead from the row at a place to an end. `live` has the states from which some do. It reads states of
+    /// the row until it comes to one of these, and each is one visit.
+    pub fn is_live(
+        &self,
+        automaton: &Draft,
+        place: usize,
+        live: &StateSet,
+        visits: &mut Visits,
+    ) -> bool
+        requires sound { IsSound automaton.now self.now }
+        requires row { (i : ℕ) × IsAt self.now i place }
+        requires live { AreLive automaton.now live.now }
+        requires room { size automaton.now ≤ state_capacity live.now }
+        ensures some { (i : ℕ) → IsAt self.now i place → IsTrue result ↔ ((k : ℕ) × (y : List ℕ) × AllBytes y × AcceptsRow automaton.now self.now i y k) }
+        ensures visits { visits.new ≤ visits.old + size automaton.now }
+        ensures counted { visits.old ≤ visits.new }
+    {
+        let _automaton = automaton;
+        for state in states_at(&self.starts, &self.lists, self.row_at(place)) {
+            if live.has(*state, visits) {
+                return true;
+            }
+        }
+        false
     }
 
     /// Returns whether the row at a place leads to some end without a byte. If it does, `ends` has afterwards the indexes of these.
@@ -434,6 +471,7 @@ impl Rows {
         ensures visits { visits.new ≤ visits.old + size automaton.now }
         ensures counted { visits.old ≤ visits.new }
     {
+        self.read_count = self.read_count.wrapping_add(1);
         self.from.clear();
         self.from.put_all(states_at(&self.starts, &self.lists, row));
         read(

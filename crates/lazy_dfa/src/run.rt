@@ -1,17 +1,33 @@
 //! Runs over texts.
 
-ghost use Rattle.std.specs.Prelude.{◌≡◌, ℕ, ◌+◌, ◌*◌, ◌<◌, ◌≤◌, ◌^◌, ◌⊎◌, ◌↔◌, length, IsTrue};
+ghost use Rattle.std.specs.Prelude.{◌≡◌, ℕ, ◌+◌, ◌*◌, ◌<◌, ◌≤◌, ◌^◌, ◌⊎◌, ◌↔◌, ◌++◌, ◌∷◌, List, length, IsTrue};
 ghost use Rattle.bit_sets.specs.Indexes.{has_index, index_capacity};
-ghost use Rattle.byte_nfa.specs.Steps.{IsReached};
+ghost use Rattle.bit_sets.specs.StateSets.{state_capacity};
+ghost use Rattle.bit_sets.specs.Texts.{AllBytes};
+ghost use Rattle.byte_nfa.specs.EarlyMatches.{EndsAtEarlyMatches};
+ghost use Rattle.byte_nfa.specs.Live.{AreLive};
+ghost use Rattle.byte_nfa.specs.Steps.{Machine, IsReached};
 ghost use Rattle.byte_nfa.specs.Runs.{size};
 ghost use Rattle.byte_dfa.specs.inner.Building.{half};
 ghost use Rattle.lazy_dfa.specs.inner.Rows.{IsSound, FindsBy};
+ghost use Rattle.lazy_dfa.specs.inner.Reached.{IsWhere};
 
 use crate::lists::put_lowered;
 use crate::rows::Rows;
-use bit_sets::IndexSet;
+use bit_sets::{IndexSet, StateSet};
 use byte_nfa::Draft;
 use visits::Visits;
+
+/// Where a text leads.
+#[derive(Clone, Copy)]
+pub enum Reached {
+    /// A beginning of it decides an index.
+    Decided,
+    /// Neither it nor a text that begins with it leads to an end.
+    Nothing,
+    /// To the row at a place.
+    Row(usize),
+}
 
 impl Rows {
     /// Puts the index of each end that a text leads to, and each index that is decided in it, into a set, beside what it holds.
@@ -67,6 +83,60 @@ impl Rows {
         if automaton.state_count() == 0 {
             return false;
         }
+        match self.read(automaton, text, visits) {
+            Reached::Decided => true,
+            Reached::Nothing => false,
+            Reached::Row(place) => self.finish(automaton, place, visits),
+        }
+    }
+
+    /// Returns whether some text that begins with `text` and then `byte` leads to some end, or to an index that is decided. `live` has
+    /// the states from which some bytes lead to an end.
+    pub fn can_match_after(
+        &mut self,
+        automaton: &Draft,
+        live: &StateSet,
+        text: &[u8],
+        byte: u8,
+        visits: &mut Visits,
+    ) -> bool
+        requires sound { IsSound automaton.now self.old }
+        requires early { (source : Machine) × EndsAtEarlyMatches source automaton.now }
+        requires live { AreLive automaton.now live.now }
+        requires room { size automaton.now ≤ state_capacity live.now }
+        ensures sound { IsSound automaton.now self.new }
+        ensures some { IsTrue result ↔ ((k : ℕ) × (y : List ℕ) × AllBytes y × FindsBy (half automaton.now) (IsReached automaton.now) (text.now ++ byte ∷ y) k) }
+        ensures visits { visits.new ≤ visits.old + (length text.now + 2) * size automaton.now }
+        ensures counted { visits.old ≤ visits.new }
+    {
+        if automaton.state_count() == 0 {
+            return false;
+        }
+        let place = match self.read(automaton, text, visits) {
+            Reached::Decided => return true,
+            Reached::Nothing => return false,
+            Reached::Row(place) => place,
+        };
+        let step = self.step(automaton, place, byte, visits);
+        if step.has_marks {
+            return true;
+        }
+        match step.next {
+            Some(next) => self.is_live(automaton, next, live, visits),
+            None => false,
+        }
+    }
+
+    /// Reads a text from its beginning, up to the first index that is decided.
+    #[inline(always)]
+    fn read(&mut self, automaton: &Draft, text: &[u8], visits: &mut Visits) -> Reached
+        requires sound { IsSound automaton.now self.old }
+        requires some { 0 < size automaton.now }
+        ensures sound { IsSound automaton.now self.new }
+        ensures reached { IsWhere automaton.now self.new text.now result }
+        ensures visits { visits.new ≤ visits.old + length text.now * size automaton.now }
+        ensures counted { visits.old ≤ visits.new }
+    {
         let mut place = self.start(automaton);
         for byte in text {
             if let Some(next) = self.plain_next(automaton, place, *byte) {
@@ -76,14 +146,14 @@ impl Rows {
             }
             let step = self.step(automaton, place, *byte, visits);
             if step.has_marks {
-                return true;
+                return Reached::Decided;
             }
             let Some(next) = step.next else {
-                return false;
+                return Reached::Nothing;
             };
             place = next;
         }
-        self.finish(automaton, place, visits)
+        Reached::Row(place)
     }
 
     /// Puts what the ends of a row that was left say is decided into a set, if the row has marks.

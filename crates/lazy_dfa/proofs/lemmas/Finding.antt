@@ -150,3 +150,6 @@ visits_more first old new i size le more = omega arith
 
 pub visits_within : (first old new i n size : ℕ) → i ≤ n → old ≤ first + i * size → new ≤ old + size → new ≤ first + (n + 1) * size
 visits_within first old new i n size le before more = let h = mul-le i size n size le (omega arith) in omega (arith, h)
+
+pub visits_before : (first old new i n size : ℕ) → i < n → old ≤ first + i * size → new ≤ old + size → new ≤ first + n * size
+visits_before first old new i n size lt before more = let h = mul-le (i + 1) size n size (omega (arith, lt)) (omega arith) in omega (arith, h)

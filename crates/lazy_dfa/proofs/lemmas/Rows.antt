@@ -149,6 +149,7 @@ begun_sound m old new is entries room begins sound = record {
   few = rw is.starts sound.few;
   small = rw entries sound.small;
   lists = rw (is.starts, is.lists) sound.lists;
+  counts = rw (is.starts, is.lists) sound.counts;
   len = rw (is.starts, is.class_count, entries) sound.len;
   known = λ i c lt hc some.
       let same : slice_index new.entries.items (place_of new i c) ≡ slice_index old.entries.items (place_of old i c) = rw (is.class_count, entries) refl in
@@ -251,8 +252,8 @@ module _ (m : Machine) (old new : Rows) (list : List ℕ) (is : HasAdded old new
     below = subst (λ l. (x : ℕ) → x < length l → slice_index l x < size m) (sym last_list) below;
   }
 
-  pub added_sound : AreBelow (size m) list → length old.starts.items < max_entries → length old.entries.items + old.class_count < max_entries → HasRoomFor m new → IsSound m new
-  added_sound below few small room = record {
+  pub added_sound : AreBelow (size m) list → length list ≤ size m → length old.starts.items < max_entries → length old.entries.items + old.class_count < max_entries → HasRoomFor m new → IsSound m new
+  added_sound below short few small room = record {
     room = room;
     representatives = sound.representatives;
     classes = rw (is.class_of, is.class_count) sound.classes;
@@ -265,6 +266,11 @@ module _ (m : Machine) (old new : Rows) (list : List ℕ) (is : HasAdded old new
         (λ before. rw (is.lists, is.starts) (list_kept old.lists.items (length list ∷ list) old.starts.items (length old.lists.items ∷ []) (size m) i before (sound.lists i before)).1)
         (λ past. let this : i ≡ length old.starts.items = omega (arith, more_starts) in
         subst (IsList new.lists.items (size m)) (sym (ap (slice_index new.starts.items) this ∙ last_start)) (new_list below))
+        (cases_lt i (length old.starts.items));
+    counts = λ i lt. ⊎_elim {C = length (states_of new i) ≤ size m}
+        (λ before. subst (λ l. length l ≤ size m) (sym (added_keeps.states i before)) (sound.counts i before))
+        (λ past. let this : i ≡ length old.starts.items = omega (arith, more_starts) in
+        subst (λ l. length l ≤ size m) (sym (ap (states_of new) this ∙ added_states)) short)
         (cases_lt i (length old.starts.items));
     len =
         let both = ap length is.entries ∙ length-append old.entries.items (replicate (old.class_count + 1) 0) in
@@ -302,6 +308,7 @@ written_sound m old new row column e is entries begin room here short entry soun
   few = rw is.starts sound.few;
   small = let len = ap length entries ∙ length-set old.entries.items (place_of old row column) e in let before = sound.small in omega (arith, len, before);
   lists = rw (is.starts, is.lists) sound.lists;
+  counts = rw (is.starts, is.lists) sound.counts;
   len = rw (is.starts, is.class_count, entries) (length-set old.entries.items (place_of old row column) e ∙ sound.len);
   known = λ i c lt hc some.
       let w = old.class_count in
@@ -433,6 +440,8 @@ module _ (m : Machine) (old new : Rows) (row : ℕ) (list : List ℕ) (is : HasL
     small = let len = ap length is.entries ∙ length-set old.entries.items (place_of old row old.class_count) (length old.lists.items + 2) in let before = sound.small in omega (arith, len, before);
     lists = λ i lt. let before : i < length old.starts.items = rw is.starts at lt in
         rw (is.lists, is.starts) ((keeps_lists old.lists.items (length list ∷ list)).1 (size m) (slice_index old.starts.items i) (sound.lists i before)).0;
+    counts = λ i lt. let before : i < length old.starts.items = rw is.starts at lt in
+        subst (λ l. length l ≤ size m) (sym (listed_keeps.states i before)) (sound.counts i before);
     len = rw (is.starts, is.class_count, is.entries) (length-set old.entries.items (place_of old row old.class_count) (length old.lists.items + 2) ∙ sound.len);
     known = λ i c lt hc known.
         let w = old.class_count in

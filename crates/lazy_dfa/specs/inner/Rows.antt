@@ -122,6 +122,7 @@ pub record IsSound (m : Machine) (rows : Rows) : Type 0 where
   pub few : length rows.starts.items ≤ max_entries
   pub small : length rows.entries.items ≤ max_entries
   pub lists : (i : ℕ) → i < length rows.starts.items → IsList rows.lists.items (size m) (slice_index rows.starts.items i)
+  pub counts : (i : ℕ) → i < length rows.starts.items → length (states_of rows i) ≤ size m
   pub len : length rows.entries.items ≡ length rows.starts.items * (rows.class_count + 1)
   pub known : (i c : ℕ) → i < length rows.starts.items → c ≤ rows.class_count → 0 < slice_index rows.entries.items (place_of rows i c)
       → IsEntry m rows i c (slice_index rows.entries.items (place_of rows i c))

@@ -33,7 +33,7 @@ returns-clause-sound c =
       class_of = refl;
       class_count = refl;
       begin = refl;
-    } c.requires.sound c.requires.below c.requires.space.few c.requires.space.small record {
+    } c.requires.sound c.requires.below c.requires.few c.requires.space.few c.requires.space.small record {
       from = room.from;
       next = room.next;
       ends = room.ends;

@@ -1,118 +1,31 @@
-use Rattle.std.proofs.Common.{◌≡◌, ℕ, ◌+◌, ◌<◌, ◌∷◌, [], inr, true≢false, drop, length, get_or, refl, arith, sym, ◌∙◌}
-use Rattle.std.proofs.lemmas.List.{drop_more, drop_all}
-use Rattle.byte_nfa.specs.Runs.{size}
-use Rattle.byte_nfa.specs.Steps.{IsReached}
+use Rattle.std.proofs.Common.{[], refl, true≢false, sym, subst, append-nil}
+use Rattle.std.specs.Prelude.{◌↔◌}
 use Rattle.byte_nfa.proofs.lemmas.Pass.{iff_trans}
+use Rattle.byte_nfa.specs.Steps.{IsReached}
 use Rattle.byte_dfa.specs.inner.Building.{half}
-use Rattle.lazy_dfa.specs.inner.Rows.{AcceptsRow}
-use Rattle.lazy_dfa.proofs.lemmas.Finding.{finds_same, at_quiet, at_dead, some_last, some_same, visits_more, visits_within}
+use Rattle.lazy_dfa.specs.inner.Rows.{AcceptsRow, FindsBy}
+use Rattle.lazy_dfa.proofs.lemmas.Finding.{some_last, some_same}
 use Rattle.lazy_dfa.proofs.rows.Rows.is_match.Goals as goal
 
-pub loop-byte-init : goal.loop-byte-init
-loop-byte-init c = record {
-  sound = c.start-place.ensures.sound;
-  runs =
-      let m = c.args.automaton.now in
-      let (j, at, begins) = c.start-place.ensures.begins in
-      (j, at, λ k. finds_same (half m) (AcceptsRow m c.start-place.new.self j) (IsReached m) begins c.args.text.now k);
-  visits = omega arith;
-  counted = omega arith;
-}
-
-pub returns-then-step-clause-some : goal.returns-then-step-clause-some
-returns-then-step-clause-some c =
+pub returns-in-Decided-clause-some : goal.returns-in-Decided-clause-some
+returns-in-Decided-clause-some c =
     let m = c.args.automaton.now in
-    let text = c.args.text.now in
-    let l = c.loop-byte in
-    let i = l.byte-index in
-    let lt : i < length text = c.loop-byte-test.true in
-    let b : ℕ = get_or text i 0 in
-    let rest = drop (i + 1) text in
-    let more : drop i text ≡ b ∷ rest = drop_more text i 0 lt in
-    let (j, at, finds) = l.invariant.runs in
-    let step = c.step-step.ensures.step j at in
-    let (k, low, a) = step.marks.0 c.if-step.true in
-    (λ _. (k, (rw more at finds k).0 (low, inr ([], b ∷ rest, refl, a))), λ _. refl)
+    let found = rw c.in-Decided.is at c.read.ensures.reached in
+    let (k, finds) = found [] in
+    (λ _. (k, subst (λ y. FindsBy (half m) (IsReached m) y k) (append-nil c.args.text.now) finds), λ _. refl)
 
-pub returns-then-step-clause-visits : goal.returns-then-step-clause-visits
-returns-then-step-clause-visits c =
-    let l = c.loop-byte in
-    visits_within c.args.visits.now l.visits c.step-step.new.visits l.byte-index (length c.args.text.now) (size c.args.automaton.now) (omega arith) l.invariant.visits c.step-step.ensures.visits
-
-pub returns-in_default-next-clause-some : goal.returns-in_default-next-clause-some
-returns-in_default-next-clause-some c =
+pub returns-in-Nothing-clause-some : goal.returns-in-Nothing-clause-some
+returns-in-Nothing-clause-some c =
     let m = c.args.automaton.now in
-    let text = c.args.text.now in
-    let l = c.loop-byte in
-    let i = l.byte-index in
-    let lt : i < length text = c.loop-byte-test.true in
-    let b : ℕ = get_or text i 0 in
-    let rest = drop (i + 1) text in
-    let more : drop i text ≡ b ∷ rest = drop_more text i 0 lt in
-    let (j, at, finds) = l.invariant.runs in
-    let step = c.step-step.ensures.step j at in
-    let dead = rw c.in_default-next.is at step.next in (
+    let none = rw c.in-Nothing.is at c.read.ensures.reached in (
       λ off. absurd (true≢false (sym off)),
-      λ (k, found).
-          let (low, a) = (at_dead (half m) (AcceptsRow m l.self j) b dead rest k).0 ((rw more at finds k).1 found) in
-          absurd (true≢false (sym (step.marks.1 (k, low, a)) ∙ c.if-step.false)),
+      λ (k, finds). absurd (none [] k (subst (λ y. FindsBy (half m) (IsReached m) y k) (sym (append-nil c.args.text.now)) finds)),
     )
 
-pub returns-in_default-next-clause-visits : goal.returns-in_default-next-clause-visits
-returns-in_default-next-clause-visits c =
-    let l = c.loop-byte in
-    visits_within c.args.visits.now l.visits c.step-step.new.visits l.byte-index (length c.args.text.now) (size c.args.automaton.now) (omega arith) l.invariant.visits c.step-step.ensures.visits
-
-pub loop-byte-preserved-in-Some : goal.loop-byte-preserved-in-Some
-loop-byte-preserved-in-Some c =
+pub returns-in-Row-clause-some : goal.returns-in-Row-clause-some
+returns-in-Row-clause-some c =
     let m = c.args.automaton.now in
-    let text = c.args.text.now in
-    let l = c.loop-byte in
-    let inv = l.invariant in
-    let i = l.byte-index in
-    let lt : i < length text = c.loop-byte-test.true in
-    let b : ℕ = get_or text i 0 in
-    let rest = drop (i + 1) text in
-    let more : drop i text ≡ b ∷ rest = drop_more text i 0 lt in
-    let (j, at, finds) = inv.runs in
-    let (quiet, (n, there, goes)) = rw c.in-Some.is at c.plain_next.ensures j at in
-    let next = (λ (k : ℕ). at_quiet (half m) (AcceptsRow m l.self j) (AcceptsRow m l.self n) b goes (λ d low a. quiet (d, low, a)) rest k) in
-    record {
-      sound = inv.sound;
-      runs = (n, there, λ k. iff_trans (next k) (rw more at finds k));
-      visits = visits_more c.args.visits.now l.visits c.tick.new.self i (size m) inv.visits (omega (arith, c.tick.ensures, c.state_count.ensures, c.if-state_count-eq0.false));
-      counted = omega (arith, c.tick.ensures, inv.counted);
-    }
-
-pub loop-byte-preserved : goal.loop-byte-preserved
-loop-byte-preserved c =
-    let m = c.args.automaton.now in
-    let text = c.args.text.now in
-    let l = c.loop-byte in
-    let i = l.byte-index in
-    let lt : i < length text = c.loop-byte-test.true in
-    let b : ℕ = get_or text i 0 in
-    let rest = drop (i + 1) text in
-    let more : drop i text ≡ b ∷ rest = drop_more text i 0 lt in
-    let (n, at, finds) = l.invariant.runs in
-    let step = c.step-step.ensures.step n at in
-    let (next, there, goes) = rw c.in-Some-next.is at step.next in
-    record {
-      sound = c.step-step.ensures.sound;
-      runs = (
-        next,
-        there,
-        λ k. iff_trans (at_quiet (half m) (AcceptsRow m l.self n) (AcceptsRow m c.step-step.new.self next) b goes
-            (λ j low a. true≢false (sym (step.marks.1 (j, low, a)) ∙ c.if-step.false)) rest k) (rw more at finds k),
-      );
-      visits = visits_more c.args.visits.now l.visits c.step-step.new.visits i (size m) l.invariant.visits c.step-step.ensures.visits;
-      counted = omega (arith, c.step-step.ensures.counted, l.invariant.counted);
-    }
-
-pub returns-clause-some : goal.returns-clause-some
-returns-clause-some c =
-    let m = c.args.automaton.now in
-    let l = c.loop-byte in
-    let past : drop l.byte-index c.args.text.now ≡ [] = drop_all l.byte-index c.args.text.now c.loop-byte-test.false in
-    let (j, at, finds) = l.invariant.runs in
-    iff_trans (c.finish.ensures.some j at) (iff_trans (some_last (half m) (AcceptsRow m l.self j)) (some_same (λ k. rw past at finds k)))
+    let rows = c.read.new.self in
+    let (i, at, finds) = rw c.in-Row.is at c.read.ensures.reached in
+    iff_trans (c.finish.ensures.some i at) (iff_trans (some_last (half m) (AcceptsRow m rows i))
+    (some_same (λ k. subst (λ y. FindsBy (half m) (AcceptsRow m rows i) [] k ↔ FindsBy (half m) (IsReached m) y k) (append-nil c.args.text.now) (finds [] k))))

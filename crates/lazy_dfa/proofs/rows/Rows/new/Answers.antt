@@ -26,6 +26,7 @@ returns c =
       few = omega (arith, starts);
       small = omega (arith, entries);
       lists = λ i lt. absurd (omega (arith, starts));
+      counts = λ i lt. absurd (omega (arith, starts));
       len = rw (starts, entries) (omega arith);
       known = λ i col lt hc some. absurd (omega (arith, starts));
       begins = λ j at. absurd (cc);

@@ -1,4 +1,4 @@
-use Rattle.std.proofs.Common.{◌+◌, slice_index, arith, ap, subst, sym, ◌∙◌}
+use Rattle.std.proofs.Common.{◌+◌, slice_index, arith, ap, ◌∙◌}
 use Rattle.lazy_dfa.proofs.lemmas.Rows.{read_entry}
 use Rattle.lazy_dfa.proofs.rows.Rows.plain_next.Goals as goal
 

@@ -1,0 +1,78 @@
+//! Whether a filter or rows are tried first, in turn.
+//!
+//! A text takes the least time by rows whose entries are all known. But where texts need new entries again and again, a filter that
+//! marks few starts takes less: to make an entry takes longer than to ask a filter. Which it is shows only when rows are used. So a
+//! filter is asked for a number of texts, then rows are used until a number of entries was made, and so on. Both numbers grow, that of
+//! texts faster: rows that always lack entries take a smaller part of the time with each turn, and rows that become complete come to
+//! be used for all texts.
+
+/// How long the turns are, for the texts of one thread.
+#[derive(Clone, Copy)]
+pub struct Turns {
+    /// For how many texts a filter is asked before rows have their turn. 0 while they have it.
+    texts: u32,
+    /// How many entries may be made before a filter has its turn.
+    entries: usize,
+    /// What `texts` is in the filter's next turn.
+    next_texts: u32,
+    /// What `entries` is in the next turn of rows.
+    next_entries: usize,
+}
+
+/// A filter's first turn is for so many texts, and each is four times as long as the one before.
+const FIRST_TEXTS: u32 = 64;
+
+/// A filter's turn is for at most so many texts.
+const MOST_TEXTS: u32 = 1 << 16;
+
+/// So many entries may be made in the first turn of rows, and twice as many in each as in the one before.
+const FIRST_ENTRIES: usize = 1 << 8;
+
+/// At most so many entries may be made in a turn of rows.
+const MOST_ENTRIES: usize = 1 << 13;
+
+impl Turns {
+    /// Returns the turns of a thread that has matched no text. The first is the filter's.
+    pub fn new() -> Turns {
+        Turns {
+            texts: FIRST_TEXTS,
+            entries: 0,
+            next_texts: FIRST_TEXTS * 4,
+            next_entries: FIRST_ENTRIES,
+        }
+    }
+
+    /// Returns whether it is the filter's turn.
+    pub fn is_filters(&self) -> bool {
+        self.texts > 0
+    }
+
+    /// Keeps whether the filter marked few starts of a text. If not, it was asked in vain, and half of its turn is lost.
+    pub fn keep_answer(&mut self, few: bool) {
+        self.texts = if few {
+            self.texts.saturating_sub(1)
+        } else {
+            self.texts / 2
+        };
+        if self.texts == 0 {
+            self.entries = self.next_entries;
+            self.next_entries = self.next_entries.saturating_mul(2).min(MOST_ENTRIES);
+        }
+    }
+
+    /// Keeps how many entries were made for a text. A text for which none was made gives back one.
+    pub fn keep_made(&mut self, made: usize) {
+        if self.is_filters() {
+            return;
+        }
+        if made == 0 {
+            self.entries = self.entries.saturating_add(1).min(MOST_ENTRIES);
+            return;
+        }
+        self.entries = self.entries.saturating_sub(made);
+        if self.entries == 0 {
+            self.texts = self.next_texts;
+            self.next_texts = self.next_texts.saturating_mul(4).min(MOST_TEXTS);
+        }
+    }
+}

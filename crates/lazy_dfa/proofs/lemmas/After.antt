@@ -1,0 +1,93 @@
+-- What is found after a text, whatever follows it.
+use Rattle.std.proofs.Common.{◌≡◌, ℕ, zero, suc, ◌+◌, ◌-◌, ◌<◌, ◌==◌, inl, inr, false, true≢false, List, [], ◌∷◌, ◌++◌, length, slice_index, append-nil, IsTrue, refl, sym, subst, ◌∙◌, arith}
+use Rattle.std.specs.Prelude.{◌↔◌}
+use Rattle.std.proofs.lemmas.Bool.{cases_lt, eqb-true, eq-eqb, or_cases}
+use Rattle.std.proofs.Math.Logic.{⊎_elim}
+use Rattle.bit_sets.specs.Numbers.{is_reported, AreBelow}
+use Rattle.bit_sets.specs.StateSets.{has_state}
+use Rattle.bit_sets.specs.Texts.{AllBytes}
+use Rattle.bit_sets.specs.declared.state_set.StateSet.{StateSet}
+use Rattle.byte_nfa.proofs.lemmas.Live.{after_byte}
+use Rattle.byte_nfa.proofs.lemmas.Pass.{or_first, or_second}
+use Rattle.byte_nfa.specs.EarlyMatches.{IsAtEarlyMatch, EndsAtEarlyMatches}
+use Rattle.byte_nfa.specs.Live.{AreLive, MatchesAfter}
+use Rattle.byte_nfa.specs.Runs.{size}
+use Rattle.byte_nfa.specs.Steps.{Machine, state, final, Accepts, IsReached, ends, by_byte, by_skip, by_out, by_stay}
+use Rattle.byte_dfa.proofs.lemmas.After.{both_bytes}
+use Rattle.byte_dfa.specs.inner.Building.{half}
+use Rattle.lazy_dfa.specs.inner.Rows.{AcceptsIn, FindsBy}
+use Rattle.lazy_dfa.proofs.lemmas.Finding.{found_is}
+
+-- an item of a list
+reported_at : (list : List ℕ) (n : ℕ) → n < length list → IsTrue (is_reported (slice_index list n) list)
+reported_at [] n lt = absurd (omega (arith, lt))
+reported_at (x ∷ xs) zero lt = or_first (x == x) (is_reported x xs) (eq-eqb x x refl)
+reported_at (x ∷ xs) (suc n) lt = or_second (slice_index xs n == x) (is_reported (slice_index xs n) xs) (reported_at xs n (omega (arith, lt)))
+
+at_reported : (t : ℕ) (list : List ℕ) → IsTrue (is_reported t list) → (n : ℕ) × (n < length list) × (slice_index list n ≡ t)
+at_reported t [] at = absurd (true≢false (sym at))
+at_reported t (x ∷ xs) at = ⊎_elim {C = (n : ℕ) × (n < length (x ∷ xs)) × (slice_index (x ∷ xs) n ≡ t)}
+    (λ same. (0, omega arith, sym (eqb-true t x same)))
+    (λ rest. let (n, lt, is) = at_reported t xs rest in (suc n, omega (arith, lt), is))
+    (or_cases (t == x) (is_reported t xs) at)
+
+module _ (m : Machine) (live : StateSet) (are : AreLive m live) (list : List ℕ) (below : AreBelow (size m) list) where
+  -- a live state is in the list
+  pub some_live : (n : ℕ) → n < length list → IsTrue (has_state live (slice_index list n)) → (k : ℕ) × (y : List ℕ) × AllBytes y × AcceptsIn m list y k
+  some_live n lt has = let (k, y, all, a) = (are (slice_index list n) (below n lt)).0 has in (k, y, all, (slice_index list n, reported_at list n lt, a))
+
+  -- none is
+  pub none_live : ((n : ℕ) → n < length list → has_state live (slice_index list n) ≡ false) → (k : ℕ) × (y : List ℕ) × AllBytes y × AcceptsIn m list y k → ⊥
+  none_live none (k, y, all, (t, at, a)) =
+      let (n, lt, is) = at_reported t list at in
+      let lives = (are (slice_index list n) (below n lt)).1 (k, y, all, subst (λ s. Accepts m.states k s y) (sym is) a) in
+      true≢false (sym lives ∙ none n lt)
+
+-- each index of the automaton with early matches is below twice the old number
+pub index_below : (old m : Machine) → EndsAtEarlyMatches old m → (k s : ℕ) (y : List ℕ) → Accepts m.states k s y → k < half m + half m
+index_below old m made k s y (ends s' e) = ended (made.states s)
+  where
+    ended : IsAtEarlyMatch old.states old.index_count s (state m.states s) → k < half m + half m
+    ended (inl (j, (w, t, e', every, g), f)) =
+        let both : final k ≡ final (old.index_count + j) = sym e ∙ f in
+        let is : k ≡ old.index_count + j = cc in
+        let lt = made.below t j g in
+        let two = made.index_count in
+        omega arith
+    ended (inr (none, f)) = let lt = made.below s k (sym f ∙ e) in let two = made.index_count in omega arith
+index_below old m made k s y (by_byte s' t c z w e has rest) = index_below old m made k t z rest
+index_below old m made k s y (by_skip s' t z ts e at rest) = index_below old m made k t z rest
+index_below old m made k s y (by_out s' t z w ts e at rest) = index_below old m made k t z rest
+index_below old m made k s y (by_stay s' c z w ts e has rest) = index_below old m made k s z rest
+
+first_bytes : (p q : List ℕ) → AllBytes (p ++ q) → AllBytes p
+first_bytes [] q all = tt
+first_bytes (c ∷ p) q all = (all.0, first_bytes p q all.1)
+
+-- some bytes, by the same facts
+pub some_after : {A B : List ℕ → ℕ → Type 0} → ((y : List ℕ) (k : ℕ) → A y k ↔ B y k) → ((k : ℕ) × (y : List ℕ) × AllBytes y × A y k) ↔ ((k : ℕ) × (y : List ℕ) × AllBytes y × B y k)
+some_after same = (λ (k, y, all, a). (k, y, all, (same y k).0 a), λ (k, y, all, b). (k, y, all, (same y k).1 b))
+
+-- some bytes lead to an end exactly if some index is found by some bytes
+pub live_finds : (n : ℕ) (P : List ℕ → ℕ → Type 0) → ((y : List ℕ) (k : ℕ) → P y k → k < n + n)
+    → ((k : ℕ) × (y : List ℕ) × AllBytes y × P y k) ↔ ((k : ℕ) × (y : List ℕ) × AllBytes y × FindsBy n P y k)
+live_finds n P below = (there, back)
+  where
+    there : (k : ℕ) × (y : List ℕ) × AllBytes y × P y k → (k : ℕ) × (y : List ℕ) × AllBytes y × FindsBy n P y k
+    there (k, y, all, a) = ⊎_elim {C = (k : ℕ) × (y : List ℕ) × AllBytes y × FindsBy n P y k}
+        (λ low. (k, y, all, (low, inl a)))
+        (λ high. let lt = below y k a in let is : k ≡ n + (k - n) = omega arith in
+        (k - n, y, all, (omega arith, inr (y, [], sym (append-nil y), subst (P y) is a))))
+        (cases_lt k n)
+
+    back : (k : ℕ) × (y : List ℕ) × AllBytes y × FindsBy n P y k → (k : ℕ) × (y : List ℕ) × AllBytes y × P y k
+    back (k, y, all, (lt, inl a)) = (k, y, all, a)
+    back (k, y, all, (lt, inr (p, q, e, a))) = (n + k, p, first_bytes p q (subst AllBytes e all), a)
+
+-- what the automaton with early matches finds after a text, the other automaton matches
+pub after_is : (old m : Machine) → EndsAtEarlyMatches old m → (text : List ℕ) (byte : ℕ) → AllBytes text → byte < 256
+    → ((k : ℕ) × (y : List ℕ) × AllBytes y × FindsBy (half m) (IsReached m) (text ++ byte ∷ y) k) ↔ MatchesAfter old (text ++ byte ∷ [])
+after_is old m made text byte bytes small = (
+  λ (k, y, all, h). (k, y, all, subst (λ z. IsReached old z k) (sym (after_byte text y byte)) ((found_is old m made (text ++ byte ∷ y) (both_bytes text (byte ∷ y) bytes (small, all)) k).0 h)),
+  λ (k, y, all, r). (k, y, all, (found_is old m made (text ++ byte ∷ y) (both_bytes text (byte ∷ y) bytes (small, all)) k).1 (subst (λ z. IsReached old z k) (after_byte text y byte) r)),
+)
