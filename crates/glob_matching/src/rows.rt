@@ -1,9 +1,9 @@
 //! Automata whose tables are made row by row, as texts need them.
 
-ghost use Rattle.std.specs.Prelude.{◌≡◌, ◌+◌, ◌*◌, ◌≤◌, ◌↔◌, ◌++◌, ◌∷◌, [], length, IsTrue, IfOk, IfSome};
-ghost use Rattle.byte_nfa.specs.Live.{MatchesAfter};
+ghost use Rattle.std.specs.Prelude.{◌≡◌, ◌+◌, ◌*◌, ◌≤◌, ◌↔◌, ◌++◌, ◌∷◌, [], List, length, IsTrue, IfOk, IfSome};
 ghost use Rattle.byte_nfa.specs.Runs.{size};
 ghost use Rattle.bit_sets.specs.Indexes.{index_capacity};
+ghost use Rattle.glob_nfa.specs.IndexedTokens.{IndexedTokens, IsFor, SomeMeanAfter};
 ghost use Rattle.glob_matching.specs.Matching.{AddsMatches, TellsMatch};
 ghost use Rattle.nfa_sharing.specs.Sharing.{Shares};
 
@@ -189,7 +189,7 @@ impl RowCache {
     /// It is at most `(text bytes + 2) * states` visits. It takes no memory.
     pub fn can_match_after(&mut self, text: &[u8], byte: u8, visits: &mut Visits) -> bool
         ensures same { self.new ≡ self.old }
-        ensures some { IsTrue result ↔ MatchesAfter self.old (text.now ++ byte ∷ []) }
+        ensures some { (xs : List IndexedTokens) → IsFor self.old xs → IsTrue result ↔ SomeMeanAfter xs (text.now ++ byte ∷ []) }
         ensures visits { visits.new ≤ visits.old + (length text.now + 2) * size self.old }
         ensures counted { visits.old ≤ visits.new }
     {

@@ -1,7 +1,8 @@
 -- What is found by an automaton that another one stands for.
-use Rattle.std.proofs.Common.{ℕ, ◌⊎◌, inl, inr, List}
+use Rattle.std.proofs.Common.{ℕ, ◌⊎◌, inl, inr, List, [], ◌∷◌, ◌++◌}
 use Rattle.std.specs.Prelude.{◌↔◌}
 use Rattle.std.proofs.Math.Logic.{⊎_elim}
+use Rattle.byte_nfa.specs.Live.{MatchesAfter}
 use Rattle.byte_nfa.specs.Steps.{Machine, IsReached}
 use Rattle.nfa_sharing.specs.Sharing.{Shares}
 
@@ -19,3 +20,10 @@ module _ (m sharing : Machine) (shares : Shares m sharing) (y : List ℕ) where
     λ h. let (k, at) = some.0 h in (k, (shares.reached y k).0 at),
     λ (k, at). some.1 (k, (shares.reached y k).1 at),
   )
+
+-- whether the text can go on
+pub after_by : (m sharing : Machine) → Shares m sharing → (text : List ℕ) (byte : ℕ) → {Some : Type 0} → Some ↔ MatchesAfter sharing (text ++ byte ∷ []) → Some ↔ MatchesAfter m (text ++ byte ∷ [])
+after_by m sharing shares text byte some = (
+  λ h. let (k, rest, all, at) = some.0 h in (k, rest, all, (shares.reached ((text ++ byte ∷ []) ++ rest) k).0 at),
+  λ (k, rest, all, at). some.1 (k, rest, all, (shares.reached ((text ++ byte ∷ []) ++ rest) k).1 at),
+)

@@ -11,4 +11,4 @@ returns-clause-some c = λ xs is.
     let text = c.args.text.now in
     let (shares, same) = c.self.invariant in
     let here : Shares m c.self.inside.cache = subst (λ (x : Machine). Shares x c.self.inside.cache) c.self.view_is (subst (λ (x : Machine). Shares c.self.inside.made_for.value x) same shares) in
-    has_matches m xs text (λ i. omega (arith, c.type_inv.text i)) (some_by m c.self.inside.cache here text c.is_match.ensures.some) is
+    has_matches m xs text (λ i. omega (arith, c.type_inv.text i)) (some_by m c.self.inside.cache here text c.is_match-is_match.ensures.some) is
