@@ -116,7 +116,7 @@ impl StoredSearcher {
         ensures counted { visits.old ≤ visits.new }
     {
         self.shared
-            .can_match_below(folder, &mut self.sets, visits)
+            .can_match_below(folder, &mut self.sets, &mut self.caches, visits)
             .unwrap()
     }
 }

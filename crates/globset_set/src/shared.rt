@@ -156,8 +156,11 @@ impl Shared {
         &self,
         folder: &Candidate<'_>,
         sets: &mut MatchingSets,
+        caches: &mut Caches,
         visits: &mut Visits,
     ) -> Result<bool, Error>
+        requires { AreCachesOf self.now.automata caches.old }
+        ensures caches { caches.new ≡ caches.old }
         ensures ok { IfOk result (λ yes. IsTrue yes ↔ MatchesBelow (set_globs self.now.set) folder.now) }
         ensures err { IfErr result (λ e. e ≡ out_of_memory) }
         ensures kept { KeepsCapacity sets.old sets.new }
@@ -166,7 +169,9 @@ impl Shared {
         ensures visits { visits.new ≤ visits.old + max_set_visits_below (set_globs self.now.set) folder.now }
         ensures counted { visits.old ≤ visits.new }
     {
-        Ok(self.matcher().can_match_below(folder.path(), sets, visits)?)
+        Ok(self
+            .matcher()
+            .can_match_below(folder.path(), sets, caches, visits)?)
     }
 
     /// Returns whether every glob matches the path and none is excluded.

@@ -156,7 +156,8 @@ impl Stored {
         ensures visits { visits.new ≤ visits.old + max_set_visits_below (set_globs self.now) folder.now }
         ensures counted { visits.old ≤ visits.new }
     {
-        self.shared.can_match_below(folder, sets, visits)
+        self.shared
+            .can_match_below(folder, sets, &mut Caches::none(), visits)
     }
 
     /// Returns whether every glob matches the path and none is excluded.

@@ -3,8 +3,10 @@
 ghost use Rattle.std.specs.Prelude.{◌≡◌, ◌+◌, ◌≤◌, ◌↔◌, IfOk, IsOk, IsTrue};
 ghost use Rattle.set_matcher.specs.Below.{SomeReportedBelow, load_below, max_visits_below};
 ghost use Rattle.set_matcher.specs.SetMatcherValue.{matcher_globs};
+ghost use Rattle.set_matcher.specs.inner.Caches.{AreCachesOf};
 ghost use Rattle.set_matcher.specs.inner.Capacity.{HasCapacity, KeepsCapacity};
 
+use crate::caches::Caches;
 use crate::matcher::SetMatcher;
 use crate::matching_sets::MatchingSets;
 use std::alloc::AllocError;
@@ -19,8 +21,11 @@ impl SetMatcher {
         &self,
         folder: &[u8],
         sets: &mut MatchingSets,
+        caches: &mut Caches,
         visits: &mut Visits,
     ) -> Result<bool, AllocError>
+        requires { AreCachesOf self.now.automata caches.old }
+        ensures caches { caches.new ≡ caches.old }
         ensures some { IfOk result (λ yes. IsTrue yes ↔ SomeReportedBelow (matcher_globs self.now) folder.now) }
         ensures kept { KeepsCapacity sets.old sets.new }
         ensures room { HasCapacity sets.old self.now.states self.now.index_count → IsOk result }
@@ -32,6 +37,6 @@ impl SetMatcher {
             return Ok(true);
         }
         self.automata
-            .can_match_below(folder, &mut sets.states, visits)
+            .can_match_below(folder, &mut sets.states, caches, visits)
     }
 }

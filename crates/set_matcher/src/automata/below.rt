@@ -4,8 +4,10 @@ ghost use Rattle.std.specs.Prelude.{◌≡◌, ◌+◌, ◌*◌, ◌≤◌, ◌�
 ghost use Rattle.byte_nfa.specs.Live.{MatchesAfter};
 ghost use Rattle.nfa_simulation.specs.Sets.{sets_capacity};
 ghost use Rattle.set_matcher.specs.inner.Automata.{AreForLists, AreFoundBelow, TokenLists, folder_reads, max_states};
+ghost use Rattle.set_matcher.specs.inner.Caches.{AreCachesOf};
 
 use crate::automata::Automata;
+use crate::caches::Caches;
 use bit_sets::StateSet;
 use byte_nfa::Draft;
 use nfa_simulation::StateSets;
@@ -16,14 +18,17 @@ impl Automata {
     /// Returns whether tokens match the part that they are run on of some path below a folder.
     ///
     /// A path below the folder may have any last component, so no automaton is run for that. It may have any extension, so the
-    /// automata of all extensions are run over the folder. The sets get room for each state of a part that is simulated. Returns an
-    /// error if memory runs out.
+    /// automata of all extensions are run over the folder. That for whole paths is run by the rows of its cache if there is one. The
+    /// sets get room for each state of a part that is simulated. Returns an error if memory runs out.
     pub fn can_match_below(
         &self,
         folder: &[u8],
         sets: &mut StateSets,
+        caches: &mut Caches,
         visits: &mut Visits,
     ) -> Result<bool, AllocError>
+        requires { AreCachesOf self.now caches.old }
+        ensures caches { caches.new ≡ caches.old }
         ensures some { IfOk result (λ yes. (t : TokenLists) → AreForLists self.now t → IsTrue yes ↔ AreFoundBelow self.now.extensions t folder.now) }
         ensures kept { sets_capacity sets.old ≤ sets_capacity sets.new }
         ensures memory { folder_reads self.now ≡ 0 → IsOk result }
@@ -34,7 +39,11 @@ impl Automata {
         if self.has_component {
             return Ok(true);
         }
-        if self.by_path.can_match_after(folder, b'/', sets, visits)? {
+        let cache = &mut caches.by_path;
+        if self
+            .by_path
+            .can_match_after_with(folder, b'/', sets, cache, visits)?
+        {
             return Ok(true);
         }
         self.extensions.can_match_after(folder, b'/', sets, visits)

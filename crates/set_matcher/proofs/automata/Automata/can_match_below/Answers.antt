@@ -15,12 +15,12 @@ returns-then-self-clause-some c = λ t are.
 pub returns-then-branch-clause-some : goal.returns-then-branch-clause-some
 returns-then-branch-clause-some c = λ t are.
     let inside = subst (λ (a : AutomataParts). AreForLists a t) (sym c.self.view_is) are in
-    (λ yes. inr (inl ((c.in_ok-can_match_after.ensures.some t.by_path inside.path).0 c.if-branch.true)), λ found. refl)
+    (λ yes. inr (inl ((c.in_ok-can_match_after_with.ensures.some t.by_path inside.path).0 c.if-branch.true)), λ found. refl)
 
 pub returns-clause-some : goal.returns-clause-some
 returns-clause-some c =
     let folder = c.args.folder.now in
-    IfOk-weaker c.can_match_after-2.result
+    IfOk-weaker c.can_match_after.result
     (λ yes. (by_slot : ℕ → List IndexedTokens) → AreFor c.self.inside.extensions.machines by_slot → IsTrue yes ↔ SomeExtensionAfter (length c.self.inside.extensions.machines) by_slot (folder_start folder))
     (λ yes. (t : TokenLists) → AreForLists c.args.self.now t → IsTrue yes ↔ AreFoundBelow c.args.self.now.extensions t folder)
     (λ yes tells t are.
@@ -28,12 +28,12 @@ returns-clause-some c =
     subst (λ (a : AutomataParts). IsTrue yes ↔ AreFoundBelow a.extensions t folder) c.self.view_is
     (last_of_three
     (λ found. true≢false (sym (c.self.invariant.component.1 ((some_text c.self.inside.by_component t.by_component inside.component).1 found)) ∙ c.if-self.false))
-    (λ found. true≢false (sym ((c.in_ok-can_match_after.ensures.some t.by_path inside.path).1 found) ∙ c.if-branch.false))
+    (λ found. true≢false (sym ((c.in_ok-can_match_after_with.ensures.some t.by_path inside.path).1 found) ∙ c.if-branch.false))
     (tells t.by_slot inside.matchers)))
-    c.can_match_after-2.ensures.some
+    c.can_match_after.ensures.some
 
 pub returns-clause-memory : goal.returns-clause-memory
 returns-clause-memory c = λ none.
     let reads = ap (λ (a : AutomataParts). total_reads a.extensions.machines) c.self.view_is in
     let few = max_within c.self.inside.extensions.machines in
-    c.can_match_after-2.ensures.room (omega (arith, none, reads, few))
+    c.can_match_after.ensures.room (omega (arith, none, reads, few))
