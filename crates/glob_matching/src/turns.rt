@@ -11,6 +11,8 @@
 pub struct Turns {
     /// For how many texts a filter is asked before rows have their turn. 0 while they have it.
     texts: u32,
+    /// For how many texts fewer it is asked if it marks many starts of the next one.
+    loss: u32,
     /// How many entries may be made before a filter has its turn.
     entries: usize,
     /// What `texts` is in the filter's next turn.
@@ -21,6 +23,10 @@ pub struct Turns {
 
 /// A filter's first turn is for so many texts, and each is four times as long as the one before.
 const FIRST_TEXTS: u32 = 64;
+
+/// A text of which a filter marks many starts takes so many texts from its turn, and each that follows at once twice as many as the
+/// one before.
+const FIRST_LOSS: u32 = 8;
 
 /// A filter's turn is for at most so many texts.
 const MOST_TEXTS: u32 = 1 << 16;
@@ -36,6 +42,7 @@ impl Turns {
     pub fn new() -> Turns {
         Turns {
             texts: FIRST_TEXTS,
+            loss: FIRST_LOSS,
             entries: 0,
             next_texts: FIRST_TEXTS * 4,
             next_entries: FIRST_ENTRIES,
@@ -47,13 +54,15 @@ impl Turns {
         self.texts > 0
     }
 
-    /// Keeps whether the filter marked few starts of a text. If not, it was asked in vain, and half of its turn is lost.
+    /// Keeps whether the filter marked few starts of a text. If not, it was asked in vain.
     pub fn keep_answer(&mut self, few: bool) {
-        self.texts = if few {
-            self.texts.saturating_sub(1)
+        if few {
+            self.texts = self.texts.saturating_sub(1);
+            self.loss = FIRST_LOSS;
         } else {
-            self.texts / 2
-        };
+            self.texts = self.texts.saturating_sub(self.loss);
+            self.loss = self.loss.saturating_mul(2);
+        }
         if self.texts == 0 {
             self.entries = self.next_entries;
             self.next_entries = self.next_entries.saturating_mul(2).min(MOST_ENTRIES);
