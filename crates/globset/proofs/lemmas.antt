@@ -1,5 +1,4 @@
 pub mod Answer
-pub mod Scratches
 pub mod Laws
 pub mod SetFromValue
 pub mod WalkNames

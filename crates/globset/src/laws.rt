@@ -7,10 +7,10 @@ ghost use Rattle.globset.specs.SetValue.{builder_globs};
 
 use crate::builder::GlobSetBuilder;
 use crate::searcher::Searcher;
-use crate::set::{GlobSet, Scratch};
+use crate::set::GlobSet;
 use globset_glob::{
-    Candidate, Error, ErrorKind, Glob, GlobBuilder, GlobMatcher, MatcherSearcher, ValueError,
-    ValueErrorKind, Visits,
+    Candidate, Error, ErrorKind, Glob, GlobBuilder, GlobMatcher, MatcherSearcher, Scratch,
+    ValueError, ValueErrorKind, Visits,
 };
 
 /// One more glob after the others adds at most its own index, at the end of the indexes. The others stay as they are.

@@ -112,7 +112,7 @@ mod set;
 pub use builder::GlobSetBuilder;
 pub use globset_glob::{
     AsPath, Candidate, DEFAULT_DFA_SIZE_LIMIT, Error, ErrorKind, Glob, GlobBuilder, GlobMatcher,
-    MatcherScratch, MatcherSearcher, ValueError, ValueErrorKind, Visits, escape,
+    MatcherSearcher, NeedsScratch, Scratch, ValueError, ValueErrorKind, Visits, escape,
 };
 pub use searcher::Searcher;
-pub use set::{GlobSet, Scratch};
+pub use set::GlobSet;

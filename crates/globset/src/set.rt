@@ -11,7 +11,6 @@ mod all;
 mod any;
 mod below;
 mod matches;
-mod scratch;
 mod storing;
 mod value;
 mod with;
@@ -20,7 +19,6 @@ use crate::builder::GlobSetBuilder;
 use crate::set::storing::{stored_of_globs, stored_of_references, stored_of_slice};
 use globset_glob::{Error, Glob};
 use globset_set::Stored;
-pub use scratch::Scratch;
 use std::alloc::{AllocError, Global};
 use std::fmt;
 use std::marker::Model;
@@ -105,16 +103,6 @@ impl GlobSet {
     {
         match &self.stored {
             Some(stored) => stored.len(),
-            None => 0,
-        }
-    }
-
-    /// Returns the number of states of the largest automaton.
-    fn max_states(&self) -> usize
-        ensures { result ≡ set_states self.now }
-    {
-        match &self.stored {
-            Some(stored) => stored.max_states(),
             None => 0,
         }
     }

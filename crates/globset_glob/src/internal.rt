@@ -1,6 +1,6 @@
 //! Calls for the crates that match many globs, which users need not.
 
-ghost use Rattle.std.specs.Prelude.{◌≡◌, ◌≤◌, ◌*◌, ◌^◌, MatchOption, Ok, length, string_bytes};
+ghost use Rattle.std.specs.Prelude.{◌≡◌, ◌≤◌, ◌*◌, Ok, length, string_bytes};
 ghost use Rattle.std.specs.Str.{chars};
 ghost use Rattle.glob_syntax.specs.Reading.{reading};
 ghost use Rattle.glob_text.specs.GlobMatches.{tokens_of_glob};
@@ -8,10 +8,8 @@ ghost use Rattle.glob_syntax.specs.FlatTokens.{IsNested};
 ghost use Rattle.glob_syntax.specs.StatesPerByte.{states_per_byte};
 ghost use Rattle.glob_syntax.specs.Views.{flats, tokens_of};
 ghost use Rattle.glob_syntax.specs.inner.Weight.{weight};
-ghost use Rattle.glob_text.specs.Cost.{cost};
 
 use crate::glob::Glob;
-use crate::matcher::GlobMatcher;
 use glob_syntax::{Options, Token};
 
 /// Returns the tokens that the glob's text was read as under its options.
@@ -37,17 +35,4 @@ pub fn options_of(glob: &Glob) -> Options
     ensures { result ≡ glob.now.options }
 {
     glob.options()
-}
-
-/// Returns the most states that the automaton of a matcher may have, or `None` if a `usize` is too small for the number.
-pub fn max_states_of(matcher: &GlobMatcher) -> Option<usize>
-    ensures { MatchOption result (2 ^ 64 ≤ cost matcher.now) (λ n. n ≡ cost matcher.now) }
-{
-    let glob = matcher.glob();
-    let per_byte: usize = if glob.options().whole_character {
-        16
-    } else {
-        4
-    };
-    per_byte.checked_mul(glob.glob().len())?.checked_add(4)
 }

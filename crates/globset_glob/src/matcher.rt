@@ -2,19 +2,19 @@
 
 ghost use Rattle.std.specs.Prelude.{◌≡◌, ◌+◌, ◌≤◌, ◌↔◌, IfOk, IfErr, IsOk, IsTrue};
 ghost use Rattle.nfa_simulation.specs.Sets.{sets_capacity};
+ghost use Rattle.glob_scratch.specs.ScratchValue.{FitsMatcher};
 ghost use Rattle.glob_text.specs.Errors.{out_of_memory};
 ghost use Rattle.glob_text.specs.Cost.{cost, max_visits, max_visits_below};
 ghost use Rattle.globset_glob.specs.GlobBelow.{GlobMatchesBelow};
 
-mod scratch;
 mod searcher;
 mod strategy;
 
 use crate::glob::Glob;
 use glob_path::{AsPath, Candidate};
+use glob_scratch::{NeedsScratch, Scratch};
 use glob_text::Error;
 use nfa_simulation::StateSets;
-pub use scratch::MatcherScratch;
 pub use searcher::MatcherSearcher;
 use std::alloc::AllocError;
 use std::fmt;
@@ -153,19 +153,19 @@ impl GlobMatcher {
     /// assert!(rt; matcher.is_match_with(&Candidate::new("a/foo"), &mut scratch, &mut visits));
     /// assert!(rt; !matcher.is_match_with(&Candidate::new("a/fo"), &mut scratch, &mut visits));
     /// ```
-    pub fn is_match_with<S: MatcherScratch>(
+    pub fn is_match_with(
         &self,
         path: &Candidate<'_>,
-        scratch: &mut S,
+        scratch: &mut Scratch,
         visits: &mut Visits,
     ) -> bool
-        requires { cost self.now ≤ S.states scratch.old }
+        requires { FitsMatcher scratch.old self.now }
         ensures matches { result ≡ glob_matches self.now path.now }
         ensures kept { scratch.new ≡ scratch.old }
         ensures visits { visits.new ≤ visits.old + max_visits self.now path.now }
         ensures counted { visits.old ≤ visits.new }
     {
-        self.strategy.is_match_with(path, scratch, visits)
+        self.is_match_in(path, &mut scratch.sets, visits).unwrap()
     }
 
     /// Returns whether the glob matches some path below a folder, or an error if memory runs out.
@@ -245,6 +245,25 @@ impl GlobMatcher {
         let glob = self.glob.clone()?;
         let strategy = self.strategy.copy_for(&glob)?;
         Ok(GlobMatcher { glob, strategy })
+    }
+}
+
+impl NeedsScratch for GlobMatcher {
+    ghost states = { λ g. cost g };
+
+    ghost indexes = { λ _. 0 };
+
+    fn states_needed(&self) -> Option<usize> {
+        let per_byte: usize = if self.glob.options().whole_character {
+            16
+        } else {
+            4
+        };
+        per_byte.checked_mul(self.glob.glob().len())?.checked_add(4)
+    }
+
+    fn indexes_needed(&self) -> usize {
+        0
     }
 }
 

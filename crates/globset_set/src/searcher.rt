@@ -10,8 +10,9 @@ ghost use Rattle.set_matcher.specs.Indexes.{ContainsAllBelow};
 
 use crate::shared::Shared;
 use glob_path::Candidate;
+use glob_scratch::Scratch;
 use glob_text::Error;
-use set_matcher::{Caches, MatchingSets};
+use set_matcher::Caches;
 use std::alloc::Global;
 use std::marker::Model;
 use visits::Visits;
@@ -20,7 +21,7 @@ use visits::Visits;
 /// rows from one path to the next, so that few have to be simulated. Contracts see what they see of the set.
 pub struct StoredSearcher {
     shared: Shared,
-    sets: MatchingSets,
+    scratch: Scratch,
     caches: Caches,
 }
 
@@ -29,7 +30,7 @@ impl Drop for StoredSearcher {
     fn drop(self) {
         let StoredSearcher {
             shared: _,
-            sets: _,
+            scratch: _,
             caches: _,
         } = self;
     }
@@ -37,15 +38,15 @@ impl Drop for StoredSearcher {
 
 impl Model for StoredSearcher {
     ghost use Rattle.std.specs.Prelude.{length};
+    ghost use Rattle.glob_scratch.specs.ScratchValue.{HasCapacity};
     ghost use Rattle.globset_set.specs.SetValue.{SetValue, set_globs, set_states};
     ghost use Rattle.set_matcher.specs.inner.Caches.{AreCachesOf};
-    ghost use Rattle.set_matcher.specs.inner.Capacity.{HasCapacity};
 
     ghost Value = { SetValue };
 
     ghost view = { λ s. s.shared.set };
 
-    ghost invariant = { λ s. HasCapacity s.sets (set_states s.shared.set) (length (set_globs s.shared.set)) × AreCachesOf s.shared.automata s.caches };
+    ghost invariant = { λ s. HasCapacity s.scratch (set_states s.shared.set) (length (set_globs s.shared.set)) × AreCachesOf s.shared.automata s.caches };
 }
 
 impl StoredSearcher {
@@ -55,11 +56,11 @@ impl StoredSearcher {
         ensures err { IfErr result (λ e. e ≡ out_of_memory) }
     {
         let shared = shared.clone()?;
-        let sets = MatchingSets::with_capacity_for(alloc, shared.max_states(), shared.len())?;
+        let scratch = Scratch::new(alloc, &shared)?;
         let caches = shared.new_caches(alloc)?;
         Ok(StoredSearcher {
             shared,
-            sets,
+            scratch,
             caches,
         })
     }
@@ -80,7 +81,7 @@ impl StoredSearcher {
         ensures counted { visits.old ≤ visits.new }
     {
         self.shared
-            .find(path, &mut self.sets, &mut self.caches, into, visits)
+            .find(path, &mut self.scratch, &mut self.caches, into, visits)
             .unwrap();
     }
 
@@ -92,7 +93,7 @@ impl StoredSearcher {
         ensures counted { visits.old ≤ visits.new }
     {
         self.shared
-            .is_match(path, &mut self.sets, &mut self.caches, visits)
+            .is_match(path, &mut self.scratch, &mut self.caches, visits)
             .unwrap()
     }
 
@@ -104,7 +105,7 @@ impl StoredSearcher {
         ensures counted { visits.old ≤ visits.new }
     {
         self.shared
-            .matches_all(path, &mut self.sets, &mut self.caches, visits)
+            .matches_all(path, &mut self.scratch, &mut self.caches, visits)
             .unwrap()
     }
 
@@ -116,7 +117,7 @@ impl StoredSearcher {
         ensures counted { visits.old ≤ visits.new }
     {
         self.shared
-            .can_match_below(folder, &mut self.sets, &mut self.caches, visits)
+            .can_match_below(folder, &mut self.scratch, &mut self.caches, visits)
             .unwrap()
     }
 }

@@ -1,6 +1,7 @@
 //! What a set shares with its clones and its searchers.
 
 ghost use Rattle.std.specs.Prelude.{◌≡◌, ◌≢◌, ◌↔◌, [], ℕ, ◌+◌, ◌≤◌, All, IfOk, IfErr, IsOk, OnOk, OnErr, IsTrue, length, vec_capacity};
+ghost use Rattle.glob_scratch.specs.ScratchValue.{HasCapacity};
 ghost use Rattle.glob_text.specs.Errors.{out_of_memory};
 ghost use Rattle.glob_text.specs.GlobMatches.{IsRead};
 ghost use Rattle.globset_set.specs.Answer.{matching_indexes};
@@ -10,11 +11,11 @@ ghost use Rattle.globset_set.specs.Work.{load, load_below, max_set_visits, max_s
 ghost use Rattle.globset_set.specs.inner.StoredGlobs.{AreStored};
 ghost use Rattle.set_matcher.specs.Indexes.{ContainsAllBelow};
 ghost use Rattle.set_matcher.specs.inner.Caches.{AreCachesOf};
-ghost use Rattle.set_matcher.specs.inner.Capacity.{HasCapacity, KeepsCapacity};
 
 use glob_path::Candidate;
+use glob_scratch::{NeedsScratch, Scratch};
 use glob_text::{Error, GivenGlobs};
-use set_matcher::{Caches, MatchingSets, SetMatcher};
+use set_matcher::{Caches, SetMatcher};
 use std::alloc::{AllocError, Global};
 use std::marker::Model;
 use std::sync::Arc;
@@ -106,7 +107,7 @@ impl Shared {
     pub fn find(
         &self,
         path: &Candidate<'_>,
-        sets: &mut MatchingSets,
+        scratch: &mut Scratch,
         caches: &mut Caches,
         into: &mut Vec<usize>,
         visits: &mut Visits,
@@ -116,13 +117,13 @@ impl Shared {
         ensures ok { OnOk result (into.new.items ≡ matching_indexes (set_globs self.now.set) path.now) }
         ensures err { IfErr result (λ e. e ≡ out_of_memory) }
         ensures cleared { OnErr result (into.new.items ≡ []) }
-        ensures kept { KeepsCapacity sets.old sets.new }
-        ensures room { HasCapacity sets.old (set_states self.now.set) (length (set_globs self.now.set)) → length (set_globs self.now.set) ≤ vec_capacity into.old → IsOk result }
+        ensures kept { scratch.new ≡ scratch.old }
+        ensures room { HasCapacity scratch.old (set_states self.now.set) (length (set_globs self.now.set)) → length (set_globs self.now.set) ≤ vec_capacity into.old → IsOk result }
         ensures capacity { vec_capacity into.old ≤ vec_capacity into.new }
         ensures visits { visits.new ≤ visits.old + max_set_visits (set_globs self.now.set) path.now }
         ensures counted { visits.old ≤ visits.new }
     {
-        self.matcher().find(path, sets, caches, into, visits)?;
+        self.matcher().find(path, scratch, caches, into, visits)?;
         Ok(())
     }
 
@@ -132,7 +133,7 @@ impl Shared {
     pub fn is_match(
         &self,
         path: &Candidate<'_>,
-        sets: &mut MatchingSets,
+        scratch: &mut Scratch,
         caches: &mut Caches,
         visits: &mut Visits,
     ) -> Result<bool, Error>
@@ -140,13 +141,13 @@ impl Shared {
         ensures caches { caches.new ≡ caches.old }
         ensures ok { IfOk result (λ yes. IsTrue yes ↔ (matching_indexes (set_globs self.now.set) path.now ≢ [])) }
         ensures err { IfErr result (λ e. e ≡ out_of_memory) }
-        ensures kept { KeepsCapacity sets.old sets.new }
-        ensures room { HasCapacity sets.old (set_states self.now.set) (length (set_globs self.now.set)) → IsOk result }
+        ensures kept { scratch.new ≡ scratch.old }
+        ensures room { HasCapacity scratch.old (set_states self.now.set) (length (set_globs self.now.set)) → IsOk result }
         ensures succeeds_without_automata { load (set_globs self.now.set) path.now ≡ 0 → IsOk result }
         ensures visits { visits.new ≤ visits.old + max_set_visits (set_globs self.now.set) path.now }
         ensures counted { visits.old ≤ visits.new }
     {
-        Ok(self.matcher().is_match(path, sets, caches, visits)?)
+        Ok(self.matcher().is_match(path, scratch, caches, visits)?)
     }
 
     /// Returns whether some glob that is not excluded matches some path below a folder.
@@ -155,7 +156,7 @@ impl Shared {
     pub fn can_match_below(
         &self,
         folder: &Candidate<'_>,
-        sets: &mut MatchingSets,
+        scratch: &mut Scratch,
         caches: &mut Caches,
         visits: &mut Visits,
     ) -> Result<bool, Error>
@@ -163,15 +164,15 @@ impl Shared {
         ensures caches { caches.new ≡ caches.old }
         ensures ok { IfOk result (λ yes. IsTrue yes ↔ MatchesBelow (set_globs self.now.set) folder.now) }
         ensures err { IfErr result (λ e. e ≡ out_of_memory) }
-        ensures kept { KeepsCapacity sets.old sets.new }
-        ensures room { HasCapacity sets.old (set_states self.now.set) (length (set_globs self.now.set)) → IsOk result }
+        ensures kept { scratch.new ≡ scratch.old }
+        ensures room { HasCapacity scratch.old (set_states self.now.set) (length (set_globs self.now.set)) → IsOk result }
         ensures succeeds_without_automata { load_below (set_globs self.now.set) ≡ 0 → IsOk result }
         ensures visits { visits.new ≤ visits.old + max_set_visits_below (set_globs self.now.set) folder.now }
         ensures counted { visits.old ≤ visits.new }
     {
         Ok(self
             .matcher()
-            .can_match_below(folder.path(), sets, caches, visits)?)
+            .can_match_below(folder.path(), scratch, caches, visits)?)
     }
 
     /// Returns whether every glob matches the path and none is excluded.
@@ -180,7 +181,7 @@ impl Shared {
     pub fn matches_all(
         &self,
         path: &Candidate<'_>,
-        sets: &mut MatchingSets,
+        scratch: &mut Scratch,
         caches: &mut Caches,
         visits: &mut Visits,
     ) -> Result<bool, Error>
@@ -188,13 +189,13 @@ impl Shared {
         ensures caches { caches.new ≡ caches.old }
         ensures ok { IfOk result (λ yes. IsTrue yes ↔ ContainsAllBelow (matching_indexes (set_globs self.now.set) path.now) (length (set_globs self.now.set))) }
         ensures err { IfErr result (λ e. e ≡ out_of_memory) }
-        ensures kept { KeepsCapacity sets.old sets.new }
-        ensures room { HasCapacity sets.old (set_states self.now.set) (length (set_globs self.now.set)) → IsOk result }
+        ensures kept { scratch.new ≡ scratch.old }
+        ensures room { HasCapacity scratch.old (set_states self.now.set) (length (set_globs self.now.set)) → IsOk result }
         ensures succeeds_without_automata { load (set_globs self.now.set) path.now ≡ 0 → IsOk result }
         ensures visits { visits.new ≤ visits.old + max_set_visits (set_globs self.now.set) path.now }
         ensures counted { visits.old ≤ visits.new }
     {
-        Ok(self.matcher().matches_all(path, sets, caches, visits)?)
+        Ok(self.matcher().matches_all(path, scratch, caches, visits)?)
     }
 
     /// Returns an equal value, which shares the matcher. It takes no memory. Returns an error if 2^63 values share it, and in no
@@ -208,5 +209,19 @@ impl Shared {
             globs: self.globs.copy(),
             matcher,
         })
+    }
+}
+
+impl NeedsScratch for Shared {
+    ghost states = { λ s. set_states s.set };
+
+    ghost indexes = { λ s. length (set_globs s.set) };
+
+    fn states_needed(&self) -> Option<usize> {
+        Some(self.max_states())
+    }
+
+    fn indexes_needed(&self) -> usize {
+        self.len()
     }
 }

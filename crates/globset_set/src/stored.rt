@@ -1,6 +1,7 @@
 //! What a set stores.
 
 ghost use Rattle.std.specs.Prelude.{◌≡◌, ◌≢◌, ◌↔◌, [], ℕ, ◌+◌, ◌≤◌, All, IfOk, IfErr, IsOk, OnOk, OnErr, IsTrue, length, vec_capacity};
+ghost use Rattle.glob_scratch.specs.ScratchValue.{HasCapacity};
 ghost use Rattle.glob_text.specs.Errors.{out_of_memory};
 ghost use Rattle.glob_text.specs.GlobMatches.{IsRead};
 ghost use Rattle.globset_set.specs.Answer.{matching_indexes};
@@ -9,13 +10,13 @@ ghost use Rattle.globset_set.specs.Below.{MatchesBelow};
 ghost use Rattle.globset_set.specs.Work.{load, load_below, max_set_visits, max_set_visits_below};
 ghost use Rattle.globset_set.specs.inner.StoredGlobs.{AreStored};
 ghost use Rattle.set_matcher.specs.Indexes.{ContainsAllBelow};
-ghost use Rattle.set_matcher.specs.inner.Capacity.{HasCapacity, KeepsCapacity};
 
 use crate::searcher::StoredSearcher;
 use crate::shared::Shared;
 use glob_path::Candidate;
+use glob_scratch::Scratch;
 use glob_text::{Error, GivenGlobs};
-use set_matcher::{Caches, MatchingSets, SetMatcher};
+use set_matcher::{Caches, SetMatcher};
 use std::alloc::{AllocError, Global};
 use std::fmt;
 use std::marker::Model;
@@ -90,9 +91,9 @@ impl Stored {
         self.shared.table_bytes()
     }
 
-    /// Returns sets without room, to match with. It allocates nothing.
-    pub fn new_sets(&self) -> MatchingSets {
-        MatchingSets::new(self.alloc)
+    /// Returns a scratch without room, to match with. It allocates nothing.
+    pub fn new_scratch(&self) -> Scratch {
+        Scratch::empty(self.alloc)
     }
 
     /// Replaces the vector's items by the indexes, ascending, of the globs that are not excluded and match the path.
@@ -101,21 +102,21 @@ impl Stored {
     pub fn find(
         &self,
         path: &Candidate<'_>,
-        sets: &mut MatchingSets,
+        scratch: &mut Scratch,
         into: &mut Vec<usize>,
         visits: &mut Visits,
     ) -> Result<(), Error>
         ensures ok { OnOk result (into.new.items ≡ matching_indexes (set_globs self.now) path.now) }
         ensures err { IfErr result (λ e. e ≡ out_of_memory) }
         ensures cleared { OnErr result (into.new.items ≡ []) }
-        ensures kept { KeepsCapacity sets.old sets.new }
-        ensures room { HasCapacity sets.old (set_states self.now) (length (set_globs self.now)) → length (set_globs self.now) ≤ vec_capacity into.old → IsOk result }
+        ensures kept { scratch.new ≡ scratch.old }
+        ensures room { HasCapacity scratch.old (set_states self.now) (length (set_globs self.now)) → length (set_globs self.now) ≤ vec_capacity into.old → IsOk result }
         ensures capacity { vec_capacity into.old ≤ vec_capacity into.new }
         ensures visits { visits.new ≤ visits.old + max_set_visits (set_globs self.now) path.now }
         ensures counted { visits.old ≤ visits.new }
     {
         self.shared
-            .find(path, sets, &mut Caches::none(), into, visits)
+            .find(path, scratch, &mut Caches::none(), into, visits)
     }
 
     /// Returns whether some glob that is not excluded matches the path.
@@ -124,19 +125,19 @@ impl Stored {
     pub fn is_match(
         &self,
         path: &Candidate<'_>,
-        sets: &mut MatchingSets,
+        scratch: &mut Scratch,
         visits: &mut Visits,
     ) -> Result<bool, Error>
         ensures ok { IfOk result (λ yes. IsTrue yes ↔ (matching_indexes (set_globs self.now) path.now ≢ [])) }
         ensures err { IfErr result (λ e. e ≡ out_of_memory) }
-        ensures kept { KeepsCapacity sets.old sets.new }
-        ensures room { HasCapacity sets.old (set_states self.now) (length (set_globs self.now)) → IsOk result }
+        ensures kept { scratch.new ≡ scratch.old }
+        ensures room { HasCapacity scratch.old (set_states self.now) (length (set_globs self.now)) → IsOk result }
         ensures succeeds_without_automata { load (set_globs self.now) path.now ≡ 0 → IsOk result }
         ensures visits { visits.new ≤ visits.old + max_set_visits (set_globs self.now) path.now }
         ensures counted { visits.old ≤ visits.new }
     {
         self.shared
-            .is_match(path, sets, &mut Caches::none(), visits)
+            .is_match(path, scratch, &mut Caches::none(), visits)
     }
 
     /// Returns whether some glob that is not excluded matches some path below a folder.
@@ -145,19 +146,19 @@ impl Stored {
     pub fn can_match_below(
         &self,
         folder: &Candidate<'_>,
-        sets: &mut MatchingSets,
+        scratch: &mut Scratch,
         visits: &mut Visits,
     ) -> Result<bool, Error>
         ensures ok { IfOk result (λ yes. IsTrue yes ↔ MatchesBelow (set_globs self.now) folder.now) }
         ensures err { IfErr result (λ e. e ≡ out_of_memory) }
-        ensures kept { KeepsCapacity sets.old sets.new }
-        ensures room { HasCapacity sets.old (set_states self.now) (length (set_globs self.now)) → IsOk result }
+        ensures kept { scratch.new ≡ scratch.old }
+        ensures room { HasCapacity scratch.old (set_states self.now) (length (set_globs self.now)) → IsOk result }
         ensures succeeds_without_automata { load_below (set_globs self.now) ≡ 0 → IsOk result }
         ensures visits { visits.new ≤ visits.old + max_set_visits_below (set_globs self.now) folder.now }
         ensures counted { visits.old ≤ visits.new }
     {
         self.shared
-            .can_match_below(folder, sets, &mut Caches::none(), visits)
+            .can_match_below(folder, scratch, &mut Caches::none(), visits)
     }
 
     /// Returns whether every glob matches the path and none is excluded.
@@ -166,19 +167,19 @@ impl Stored {
     pub fn matches_all(
         &self,
         path: &Candidate<'_>,
-        sets: &mut MatchingSets,
+        scratch: &mut Scratch,
         visits: &mut Visits,
     ) -> Result<bool, Error>
         ensures ok { IfOk result (λ yes. IsTrue yes ↔ ContainsAllBelow (matching_indexes (set_globs self.now) path.now) (length (set_globs self.now))) }
         ensures err { IfErr result (λ e. e ≡ out_of_memory) }
-        ensures kept { KeepsCapacity sets.old sets.new }
-        ensures room { HasCapacity sets.old (set_states self.now) (length (set_globs self.now)) → IsOk result }
+        ensures kept { scratch.new ≡ scratch.old }
+        ensures room { HasCapacity scratch.old (set_states self.now) (length (set_globs self.now)) → IsOk result }
         ensures succeeds_without_automata { load (set_globs self.now) path.now ≡ 0 → IsOk result }
         ensures visits { visits.new ≤ visits.old + max_set_visits (set_globs self.now) path.now }
         ensures counted { visits.old ≤ visits.new }
     {
         self.shared
-            .matches_all(path, sets, &mut Caches::none(), visits)
+            .matches_all(path, scratch, &mut Caches::none(), visits)
     }
 
     /// Returns an equal value, which shares the matcher. It takes no memory. Returns an error if 2^63 values share it, and in no

@@ -3,6 +3,5 @@ pub mod GivenGlobs
 pub mod GivenTokens
 pub mod PathPart
 pub mod SetMatcher
-pub mod Capacity
 pub mod ExtensionSlots
 pub mod Caches

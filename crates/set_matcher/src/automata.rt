@@ -13,7 +13,6 @@ ghost use Rattle.glob_syntax.specs.Views.{flats, tokens_of};
 ghost use Rattle.glob_syntax.specs.inner.Weight.{weight};
 ghost use Rattle.set_matcher.specs.inner.Caches.{AreCachesOf};
 ghost use Rattle.set_matcher.specs.inner.PathPart.{part_of};
-ghost use Rattle.set_matcher.specs.inner.Capacity.{HasCapacity, KeepsCapacity};
 ghost use Rattle.set_matcher.specs.inner.Automata.{AddsTokens, AreFor, AreForLists, AreFound, AreIdle, IsFoundSet, TokenLists, before_extension, machine_under, max_size, max_states, reads_for, states_for, tokens_under, total_reads};
 
 mod below;
@@ -21,8 +20,8 @@ mod matchers;
 mod slots;
 
 use crate::caches::Caches;
-use crate::matching_sets::MatchingSets;
 use below::has_text;
+use bit_sets::IndexSet;
 use byte_nfa::Builder;
 use glob_matching::{Budget, Compiled, RowCache};
 use glob_nfa::{add_tokens, new_builder};
@@ -111,23 +110,26 @@ impl Automata {
     pub fn mark(
         &self,
         path: &[u8],
-        sets: &mut MatchingSets,
+        sets: &mut StateSets,
+        marks: &mut IndexSet,
         caches: &mut Caches,
         visits: &mut Visits,
     ) -> Result<(), AllocError>
         requires { AreCachesOf self.now caches.old }
         ensures caches { caches.new ≡ caches.old }
-        ensures room { OnOk result (self.now.extensions.index_count ≤ index_capacity sets.new.marks) }
-        ensures marked { OnOk result ((t : TokenLists) → AreForLists self.now t → (k : ℕ) → IsTrue (has_index sets.new.marks k) ↔ AreFound self.now.extensions.matchers t path.now k) }
-        ensures kept { KeepsCapacity sets.old sets.new }
-        ensures memory { HasCapacity sets.old (max_states self.now) self.now.extensions.index_count → IsOk result }
+        ensures room { OnOk result (self.now.extensions.index_count ≤ index_capacity marks.new) }
+        ensures marked { OnOk result ((t : TokenLists) → AreForLists self.now t → (k : ℕ) → IsTrue (has_index marks.new k) ↔ AreFound self.now.extensions.matchers t path.now k) }
+        ensures kept { sets_capacity sets.old ≤ sets_capacity sets.new }
+        ensures marks { index_capacity marks.old ≤ index_capacity marks.new }
+        ensures memory { max_states self.now ≤ sets_capacity sets.old → self.now.extensions.index_count ≤ index_capacity marks.old → IsOk result }
         ensures visits { visits.new ≤ visits.old + (1 + (length path.now + 1) * reads_for self.now path.now) }
         ensures counted { visits.old ≤ visits.new }
     {
-        if self.find(path, sets, caches, visits)? {
+        if self.find(path, sets, marks, caches, visits)? {
             return Ok(());
         }
-        sets.clear_marks(self.index_count())
+        marks.clear();
+        marks.reserve(self.index_count())
     }
 
     /// Returns whether an automaton has to be run, and if so, marks the indexes of the globs that match the path, and no others. If
@@ -137,17 +139,19 @@ impl Automata {
     pub fn find(
         &self,
         path: &[u8],
-        sets: &mut MatchingSets,
+        sets: &mut StateSets,
+        marks: &mut IndexSet,
         caches: &mut Caches,
         visits: &mut Visits,
     ) -> Result<bool, AllocError>
         requires { AreCachesOf self.now caches.old }
         ensures caches { caches.new ≡ caches.old }
-        ensures found { IfOk result (λ some. some ≡ true → IsFoundSet self.now path.now sets.new.marks) }
+        ensures found { IfOk result (λ some. some ≡ true → IsFoundSet self.now path.now marks.new) }
         ensures idle { IfOk result (λ some. some ≡ false → AreIdle self.now path.now) }
-        ensures kept { KeepsCapacity sets.old sets.new }
+        ensures kept { sets_capacity sets.old ≤ sets_capacity sets.new }
+        ensures marks { index_capacity marks.old ≤ index_capacity marks.new }
         ensures memory { states_for self.now path.now ≡ 0 → IsOk result }
-        ensures room { HasCapacity sets.old (max_states self.now) self.now.extensions.index_count → IsOk result }
+        ensures room { max_states self.now ≤ sets_capacity sets.old → self.now.extensions.index_count ≤ index_capacity marks.old → IsOk result }
         ensures visits { visits.new ≤ visits.old + (1 + (length path.now + 1) * reads_for self.now path.now) }
         ensures counted { visits.old ≤ visits.new }
     {
@@ -155,13 +159,15 @@ impl Automata {
         if self.is_idle(by_extension) {
             return Ok(false);
         }
-        sets.clear_marks(self.index_count())?;
+        marks.clear();
+        marks.reserve(self.index_count())?;
         run(
             Part::Path,
             &self.by_path,
             path,
             sets,
             &mut caches.by_path,
+            marks,
             visits,
         )?;
         run(
@@ -170,6 +176,7 @@ impl Automata {
             path,
             sets,
             &mut caches.by_component,
+            marks,
             visits,
         )?;
         run(
@@ -178,6 +185,7 @@ impl Automata {
             path,
             sets,
             &mut None,
+            marks,
             visits,
         )?;
         Ok(true)
@@ -287,16 +295,18 @@ fn run(
     part: Part,
     automaton: &Compiled,
     path: &[u8],
-    sets: &mut MatchingSets,
+    sets: &mut StateSets,
     cache: &mut Option<RowCache>,
+    marks: &mut IndexSet,
     visits: &mut Visits,
 ) -> Result<(), AllocError>
-    requires count { automaton.now.index_count ≤ index_capacity sets.old.marks }
+    requires count { automaton.now.index_count ≤ index_capacity marks.old }
     requires cache { IfSome cache.old (λ c. c ≡ automaton.now) }
     ensures cache { cache.new ≡ cache.old }
-    ensures found { OnOk result (AddsMatches automaton.now (part_of part path.now) sets.old.marks sets.new.marks) }
-    ensures kept { KeepsCapacity sets.old sets.new }
-    ensures memory { size automaton.now ≤ sets_capacity sets.old.states → IsOk result }
+    ensures room { index_capacity marks.new ≡ index_capacity marks.old }
+    ensures found { OnOk result (AddsMatches automaton.now (part_of part path.now) marks.old marks.new) }
+    ensures kept { sets_capacity sets.old ≤ sets_capacity sets.new }
+    ensures memory { size automaton.now ≤ sets_capacity sets.old → IsOk result }
     ensures visits { visits.new ≤ visits.old + (length path.now + 1) * max_reads automaton.now }
     ensures counted { visits.old ≤ visits.new }
 {
@@ -304,7 +314,7 @@ fn run(
         return Ok(());
     }
     let text = part.of(path);
-    automaton.find_with(text, &mut sets.states, cache, &mut sets.marks, visits)
+    automaton.find_with(text, sets, cache, marks, visits)
 }
 
 /// Returns whether a part of the path matches tokens. The part is only searched for if there are states.

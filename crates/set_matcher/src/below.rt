@@ -1,34 +1,34 @@
 //! Whether some glob of a list matches some path below a folder.
 
 ghost use Rattle.std.specs.Prelude.{◌≡◌, ◌+◌, ◌≤◌, ◌↔◌, IfOk, IsOk, IsTrue};
+ghost use Rattle.glob_scratch.specs.ScratchValue.{HasCapacity};
 ghost use Rattle.set_matcher.specs.Below.{SomeReportedBelow, load_below, max_visits_below};
 ghost use Rattle.set_matcher.specs.SetMatcherValue.{matcher_globs};
 ghost use Rattle.set_matcher.specs.inner.Caches.{AreCachesOf};
-ghost use Rattle.set_matcher.specs.inner.Capacity.{HasCapacity, KeepsCapacity};
 
 use crate::caches::Caches;
 use crate::matcher::SetMatcher;
-use crate::matching_sets::MatchingSets;
+use glob_scratch::Scratch;
 use std::alloc::AllocError;
 use visits::Visits;
 
 impl SetMatcher {
     /// Returns whether some glob that is not excluded matches some path below a folder: the folder, a `/`, and any bytes, perhaps none.
     ///
-    /// The sets get room for each state of a part that is simulated. Returns an error if memory runs out, and so none if they
-    /// have that room, or if each glob is direct.
+    /// The scratch gets room for each state of a part that is simulated. Returns an error if memory runs out, and so none if it
+    /// has that room, or if each glob is direct.
     pub fn can_match_below(
         &self,
         folder: &[u8],
-        sets: &mut MatchingSets,
+        scratch: &mut Scratch,
         caches: &mut Caches,
         visits: &mut Visits,
     ) -> Result<bool, AllocError>
         requires { AreCachesOf self.now.automata caches.old }
         ensures caches { caches.new ≡ caches.old }
         ensures some { IfOk result (λ yes. IsTrue yes ↔ SomeReportedBelow (matcher_globs self.now) folder.now) }
-        ensures kept { KeepsCapacity sets.old sets.new }
-        ensures room { HasCapacity sets.old self.now.states self.now.index_count → IsOk result }
+        ensures kept { scratch.new ≡ scratch.old }
+        ensures room { HasCapacity scratch.old self.now.states self.now.index_count → IsOk result }
         ensures memory { load_below (matcher_globs self.now) ≡ 0 → IsOk result }
         ensures visits { visits.new ≤ visits.old + max_visits_below (matcher_globs self.now) folder.now }
         ensures counted { visits.old ≤ visits.new }
@@ -37,6 +37,6 @@ impl SetMatcher {
             return Ok(true);
         }
         self.automata
-            .can_match_below(folder, &mut sets.states, caches, visits)
+            .can_match_below(folder, &mut scratch.sets, caches, visits)
     }
 }

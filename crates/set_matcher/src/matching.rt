@@ -1,17 +1,20 @@
 //! Which globs of a list match a path.
 
 ghost use Rattle.std.specs.Prelude.{◌≡◌, ◌≢◌, ◌+◌, ◌≤◌, ◌↔◌, [], ℕ, IfOk, IsOk, OnOk, OnErr, IsTrue, length, vec_capacity};
-ghost use Rattle.bit_sets.specs.Indexes.{has_index};
+ghost use Rattle.bit_sets.specs.Indexes.{has_index, index_capacity};
+ghost use Rattle.nfa_simulation.specs.Sets.{sets_capacity};
+ghost use Rattle.glob_scratch.specs.ScratchValue.{HasCapacity};
 ghost use Rattle.set_matcher.specs.Globs.{is_reported_at, reported_indexes, load, max_visits};
 ghost use Rattle.set_matcher.specs.SetMatcherValue.{matcher_globs};
 ghost use Rattle.set_matcher.specs.Indexes.{ContainsAllBelow};
 ghost use Rattle.set_matcher.specs.inner.Caches.{AreCachesOf};
-ghost use Rattle.set_matcher.specs.inner.Capacity.{HasCapacity, KeepsCapacity};
 
 use crate::caches::Caches;
 use crate::matcher::SetMatcher;
-use crate::matching_sets::MatchingSets;
+use bit_sets::IndexSet;
 use glob_path::Candidate;
+use glob_scratch::Scratch;
+use nfa_simulation::StateSets;
 use std::alloc::{AllocError, Global};
 use visits::Visits;
 
@@ -44,13 +47,13 @@ impl SetMatcher {
 
     /// Replaces the vector's items by the indexes, ascending, of the globs that are not excluded and match the path.
     ///
-    /// The sets get room for each index, and for each state of a part that is simulated; the vector grows for the indexes. Returns
-    /// an error if memory runs out, and so none if the sets have that room and the vector a capacity for all indexes. After an
+    /// The scratch gets room for each index, and for each state of a part that is simulated; the vector grows for the indexes.
+    /// Returns an error if memory runs out, and so none if it has that room and the vector a capacity for all indexes. After an
     /// error the vector is empty.
     pub fn find(
         &self,
         path: &Candidate<'_>,
-        sets: &mut MatchingSets,
+        scratch: &mut Scratch,
         caches: &mut Caches,
         into: &mut Vec<usize>,
         visits: &mut Visits,
@@ -59,15 +62,15 @@ impl SetMatcher {
         ensures caches { caches.new ≡ caches.old }
         ensures ok { OnOk result (into.new.items ≡ reported_indexes (matcher_globs self.now) path.now) }
         ensures cleared { OnErr result (into.new.items ≡ []) }
-        ensures kept { KeepsCapacity sets.old sets.new }
-        ensures room { HasCapacity sets.old self.now.states self.now.index_count → length (matcher_globs self.now) ≤ vec_capacity into.old → IsOk result }
+        ensures kept { scratch.new ≡ scratch.old }
+        ensures room { HasCapacity scratch.old self.now.states self.now.index_count → length (matcher_globs self.now) ≤ vec_capacity into.old → IsOk result }
         ensures capacity { vec_capacity into.old ≤ vec_capacity into.new }
         ensures visits { visits.new ≤ visits.old + max_visits (matcher_globs self.now) path.now }
         ensures counted { visits.old ≤ visits.new }
     {
         into.clear();
-        self.mark(path, sets, caches, visits)?;
-        if let Err(error) = sets.marks.push_below(self.len(), into) {
+        self.mark(path, &mut scratch.sets, &mut scratch.marks, caches, visits)?;
+        if let Err(error) = scratch.marks.push_below(self.len(), into) {
             into.clear();
             return Err(error);
         }
@@ -76,20 +79,20 @@ impl SetMatcher {
 
     /// Returns whether some glob that is not excluded matches the path.
     ///
-    /// The sets get room for each state of a part that is simulated. Returns an error if memory runs out, and so none if they
-    /// have that room, or if no glob needs an automaton for the path.
+    /// The scratch gets room for each state of a part that is simulated. Returns an error if memory runs out, and so none if it
+    /// has that room, or if no glob needs an automaton for the path.
     pub fn is_match(
         &self,
         path: &Candidate<'_>,
-        sets: &mut MatchingSets,
+        scratch: &mut Scratch,
         caches: &mut Caches,
         visits: &mut Visits,
     ) -> Result<bool, AllocError>
         requires { AreCachesOf self.now.automata caches.old }
         ensures caches { caches.new ≡ caches.old }
         ensures some { IfOk result (λ yes. IsTrue yes ↔ (reported_indexes (matcher_globs self.now) path.now ≢ [])) }
-        ensures kept { KeepsCapacity sets.old sets.new }
-        ensures room { HasCapacity sets.old self.now.states self.now.index_count → IsOk result }
+        ensures kept { scratch.new ≡ scratch.old }
+        ensures room { HasCapacity scratch.old self.now.states self.now.index_count → IsOk result }
         ensures memory { load (matcher_globs self.now) path.now ≡ 0 → IsOk result }
         ensures visits { visits.new ≤ visits.old + max_visits (matcher_globs self.now) path.now }
         ensures counted { visits.old ≤ visits.new }
@@ -98,32 +101,36 @@ impl SetMatcher {
             return Ok(true);
         }
         self.automata
-            .is_match(path, &mut sets.states, caches, visits)
+            .is_match(path, &mut scratch.sets, caches, visits)
     }
 
     /// Returns whether every glob matches the path and none is excluded.
     ///
-    /// If an automaton has to be run, the sets get room for each index, and for each state of a part that is simulated. Returns
-    /// an error if memory runs out, and so none if they have that room, or if no glob needs an automaton for the path.
+    /// If an automaton has to be run, the scratch gets room for each index, and for each state of a part that is simulated.
+    /// Returns an error if memory runs out, and so none if it has that room, or if no glob needs an automaton for the path.
     pub fn matches_all(
         &self,
         path: &Candidate<'_>,
-        sets: &mut MatchingSets,
+        scratch: &mut Scratch,
         caches: &mut Caches,
         visits: &mut Visits,
     ) -> Result<bool, AllocError>
         requires { AreCachesOf self.now.automata caches.old }
         ensures caches { caches.new ≡ caches.old }
         ensures all { IfOk result (λ yes. IsTrue yes ↔ ContainsAllBelow (reported_indexes (matcher_globs self.now) path.now) (length (matcher_globs self.now))) }
-        ensures kept { KeepsCapacity sets.old sets.new }
-        ensures room { HasCapacity sets.old self.now.states self.now.index_count → IsOk result }
+        ensures kept { scratch.new ≡ scratch.old }
+        ensures room { HasCapacity scratch.old self.now.states self.now.index_count → IsOk result }
         ensures memory { load (matcher_globs self.now) path.now ≡ 0 → IsOk result }
         ensures visits { visits.new ≤ visits.old + max_visits (matcher_globs self.now) path.now }
         ensures counted { visits.old ≤ visits.new }
     {
-        if self.automata.find(path.path(), sets, caches, visits)? {
-            self.keys.find(path, &mut sets.marks, visits);
-            return Ok(sets.marks.has_all_below(self.len()));
+        let marks = &mut scratch.marks;
+        if self
+            .automata
+            .find(path.path(), &mut scratch.sets, marks, caches, visits)?
+        {
+            self.keys.find(path, marks, visits);
+            return Ok(marks.has_all_below(self.len()));
         }
         Ok(self.keys.count_found(path, visits) == Some(self.len()))
     }
@@ -133,20 +140,23 @@ impl SetMatcher {
     fn mark(
         &self,
         path: &Candidate<'_>,
-        sets: &mut MatchingSets,
+        sets: &mut StateSets,
+        marks: &mut IndexSet,
         caches: &mut Caches,
         visits: &mut Visits,
     ) -> Result<(), AllocError>
         requires { AreCachesOf self.now.automata caches.old }
         ensures caches { caches.new ≡ caches.old }
-        ensures marked { OnOk result ((k : ℕ) → IsTrue (has_index sets.new.marks k) ↔ IsTrue (is_reported_at (matcher_globs self.now) path.now k)) }
-        ensures kept { KeepsCapacity sets.old sets.new }
-        ensures room { HasCapacity sets.old self.now.states self.now.index_count → IsOk result }
+        ensures marked { OnOk result ((k : ℕ) → IsTrue (has_index marks.new k) ↔ IsTrue (is_reported_at (matcher_globs self.now) path.now k)) }
+        ensures kept { sets_capacity sets.old ≤ sets_capacity sets.new }
+        ensures marks { index_capacity marks.old ≤ index_capacity marks.new }
+        ensures room { self.now.states ≤ sets_capacity sets.old → self.now.index_count ≤ index_capacity marks.old → IsOk result }
         ensures visits { visits.new ≤ visits.old + max_visits (matcher_globs self.now) path.now }
         ensures counted { visits.old ≤ visits.new }
     {
-        self.automata.mark(path.path(), sets, caches, visits)?;
-        self.keys.find(path, &mut sets.marks, visits);
+        self.automata
+            .mark(path.path(), sets, marks, caches, visits)?;
+        self.keys.find(path, marks, visits);
         Ok(())
     }
 }

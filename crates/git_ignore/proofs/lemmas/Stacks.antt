@@ -205,7 +205,7 @@ level_pushed folder more files l ls e n i h =
 -- ---- scratches
 
 pub fit_still : (old new : ScratchValue) (files : List FolderRules) → FitsAsBefore old new → FitAll old files → FitAll new files
-fit_still old new files h all k d within = h.sets (get_or files k d).rules.set (all k d within)
+fit_still old new files h all k d within = h _ _ (all k d within)
 
 fit_one : (scratch : ScratchValue) (f : FolderRules) → FitsRules scratch f.rules → FitAll scratch (f ∷ [])
 fit_one scratch f h zero d within = h

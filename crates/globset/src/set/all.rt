@@ -71,6 +71,6 @@ impl GlobSet {
         let Some(stored) = &self.stored else {
             return Ok(true);
         };
-        stored.matches_all(path, &mut stored.new_sets(), visits)
+        stored.matches_all(path, &mut stored.new_scratch(), visits)
     }
 }

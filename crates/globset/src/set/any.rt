@@ -65,6 +65,6 @@ impl GlobSet {
         let Some(stored) = &self.stored else {
             return Ok(false);
         };
-        stored.is_match(path, &mut stored.new_sets(), visits)
+        stored.is_match(path, &mut stored.new_scratch(), visits)
     }
 }

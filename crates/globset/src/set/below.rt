@@ -6,8 +6,8 @@ ghost use Rattle.globset_set.specs.Below.{MatchesBelow};
 ghost use Rattle.globset.specs.SetValue.{Fits, set_globs};
 ghost use Rattle.globset_set.specs.Work.{load_below, max_set_visits_below};
 
-use crate::set::{GlobSet, Scratch};
-use globset_glob::{AsPath, Candidate, Error, Visits};
+use crate::set::GlobSet;
+use globset_glob::{AsPath, Candidate, Error, Scratch, Visits};
 
 impl GlobSet {
     /// Returns whether some glob that is not excluded matches some path below a folder. A program that walks over a tree of folders
@@ -79,7 +79,7 @@ impl GlobSet {
         let Some(stored) = &self.stored else {
             return Ok(false);
         };
-        stored.can_match_below(folder, &mut stored.new_sets(), visits)
+        stored.can_match_below(folder, &mut stored.new_scratch(), visits)
     }
 
     /// The same as [`GlobSet::can_match_below_visits`], with a scratch: it takes no memory, and cannot fail.
@@ -117,8 +117,6 @@ impl GlobSet {
         let Some(stored) = &self.stored else {
             return false;
         };
-        stored
-            .can_match_below(folder, &mut scratch.sets, visits)
-            .unwrap()
+        stored.can_match_below(folder, scratch, visits).unwrap()
     }
 }

@@ -110,6 +110,6 @@ impl GlobSet {
         let Some(stored) = &self.stored else {
             return Ok(());
         };
-        stored.find(path, &mut stored.new_sets(), into, visits)
+        stored.find(path, &mut stored.new_scratch(), into, visits)
     }
 }

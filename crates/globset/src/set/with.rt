@@ -4,11 +4,28 @@ ghost use Rattle.std.specs.Prelude.{◌≡◌, ◌≢◌, ◌+◌, ◌≤◌, �
 ghost use Rattle.globset_glob.specs.Errors.{out_of_memory};
 ghost use Rattle.globset_set.specs.Answer.{matching_indexes};
 ghost use Rattle.set_matcher.specs.Indexes.{ContainsAllBelow};
-ghost use Rattle.globset.specs.SetValue.{Fits, set_globs};
+ghost use Rattle.globset.specs.SetValue.{Fits, set_globs, set_states};
 ghost use Rattle.globset_set.specs.Work.{max_set_visits};
 
-use crate::set::{GlobSet, Scratch};
-use globset_glob::{Candidate, Error, Visits};
+use crate::set::GlobSet;
+use globset_glob::{Candidate, Error, NeedsScratch, Scratch, Visits};
+
+impl NeedsScratch for GlobSet {
+    ghost states = { λ s. set_states s };
+
+    ghost indexes = { λ s. length (set_globs s) };
+
+    fn states_needed(&self) -> Option<usize> {
+        match &self.stored {
+            Some(stored) => Some(stored.max_states()),
+            None => Some(0),
+        }
+    }
+
+    fn indexes_needed(&self) -> usize {
+        self.len()
+    }
+}
 
 impl GlobSet {
     /// The same as [`GlobSet::is_match_visits`], with a scratch: it takes no memory, and cannot fail.
@@ -34,7 +51,7 @@ impl GlobSet {
         let Some(stored) = &self.stored else {
             return false;
         };
-        stored.is_match(path, &mut scratch.sets, visits).unwrap()
+        stored.is_match(path, scratch, visits).unwrap()
     }
 
     /// The same as [`GlobSet::matches_all_visits`], with a scratch: it takes no memory, and cannot fail.
@@ -61,7 +78,7 @@ impl GlobSet {
         let Some(stored) = &self.stored else {
             return true;
         };
-        stored.matches_all(path, &mut scratch.sets, visits).unwrap()
+        stored.matches_all(path, scratch, visits).unwrap()
     }
 
     /// The same as [`GlobSet::matches_visits`], with a scratch: only the vector may take memory.
@@ -96,6 +113,6 @@ impl GlobSet {
         let Some(stored) = &self.stored else {
             return Ok(());
         };
-        stored.find(path, &mut scratch.sets, into, visits)
+        stored.find(path, scratch, into, visits)
     }
 }

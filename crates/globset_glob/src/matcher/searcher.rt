@@ -6,12 +6,11 @@ ghost use Rattle.glob_text.specs.Errors.{out_of_memory};
 ghost use Rattle.glob_text.specs.GlobMatches.{glob_matches};
 ghost use Rattle.globset_glob.specs.GlobBelow.{GlobMatchesBelow};
 
-use crate::internal::max_states_of;
 use crate::matcher::GlobMatcher;
 use glob_path::Candidate;
+use glob_scratch::Scratch;
 use glob_text::Error;
-use nfa_simulation::StateSets;
-use std::alloc::{AllocError, Global};
+use std::alloc::Global;
 use std::marker::Model;
 use visits::Visits;
 
@@ -30,7 +29,7 @@ use visits::Visits;
 /// ```
 pub struct MatcherSearcher {
     matcher: GlobMatcher,
-    sets: StateSets,
+    scratch: Scratch,
 }
 
 impl Drop for MatcherSearcher {
@@ -38,22 +37,20 @@ impl Drop for MatcherSearcher {
     fn drop(self) {
         let MatcherSearcher {
             matcher: _,
-            sets: _,
+            scratch: _,
         } = self;
     }
 }
 
 impl Model for MatcherSearcher {
-    ghost use Rattle.std.specs.Prelude.{◌≤◌};
-    ghost use Rattle.nfa_simulation.specs.Sets.{sets_capacity};
-    ghost use Rattle.glob_text.specs.Cost.{cost};
+    ghost use Rattle.glob_scratch.specs.ScratchValue.{FitsMatcher};
     ghost use Rattle.glob_text.specs.GlobMatches.{GlobValue};
 
     ghost Value = { GlobValue };
 
     ghost view = { λ s. s.matcher };
 
-    ghost invariant = { λ s. cost s.matcher ≤ sets_capacity s.sets };
+    ghost invariant = { λ s. FitsMatcher s.scratch s.matcher };
 }
 
 impl MatcherSearcher {
@@ -65,12 +62,10 @@ impl MatcherSearcher {
         ensures ok { IfOk result (λ s. s ≡ matcher.now) }
         ensures err { IfErr result (λ e. e ≡ out_of_memory) }
     {
-        let states = max_states_of(matcher).ok_or(AllocError)?;
-        let mut sets = StateSets::new(alloc);
-        sets.reserve(states)?;
+        let scratch = Scratch::new(alloc, matcher)?;
         Ok(MatcherSearcher {
             matcher: matcher.clone()?,
-            sets,
+            scratch,
         })
     }
 
@@ -98,9 +93,7 @@ impl MatcherSearcher {
         ensures visits { visits.new ≤ visits.old + max_visits self.old path.now }
         ensures counted { visits.old ≤ visits.new }
     {
-        self.matcher
-            .is_match_in(path, &mut self.sets, visits)
-            .unwrap()
+        self.matcher.is_match_with(path, &mut self.scratch, visits)
     }
 
     /// Returns whether the glob matches some path below a candidate's path, as [`GlobMatcher::can_match_below_candidate`] does.
@@ -129,8 +122,9 @@ impl MatcherSearcher {
         ensures visits { visits.new ≤ visits.old + max_visits_below self.old folder.now }
         ensures counted { visits.old ≤ visits.new }
     {
+        let scratch = &mut self.scratch;
         self.matcher
-            .can_match_below_in(folder, &mut self.sets, visits)
+            .can_match_below_in(folder, &mut scratch.sets, visits)
             .unwrap()
     }
 }

@@ -8,7 +8,6 @@ ghost use Rattle.glob_text.specs.GlobMatches.{GlobValue, glob_matches};
 ghost use Rattle.globset_glob.specs.inner.GlobNfa.{IsAutomatonOf, IsStrategyOfMatcher, form_states};
 
 use crate::glob::Glob;
-use crate::matcher::scratch::MatcherScratch;
 use glob_matching::{Budget, Compiled, DEFAULT_DFA_SIZE_LIMIT};
 use glob_nfa::{add_tokens, new_builder};
 use glob_path::{Candidate, Key};
@@ -73,28 +72,6 @@ impl Strategy {
                 Ok(key.matches(path))
             }
             Strategy::Nfa(automaton) => automaton.is_match(path.path(), sets, visits),
-        }
-    }
-
-    /// Returns whether the glob matches a path, in the caller's memory. It takes none.
-    pub fn is_match_with<S: MatcherScratch>(
-        &self,
-        path: &Candidate<'_>,
-        scratch: &mut S,
-        visits: &mut Visits,
-    ) -> bool
-        requires { form_states self.now ≤ S.states scratch.old }
-        ensures some { (g : GlobValue) → IsStrategyOfMatcher g self.now → result ≡ glob_matches g path.now }
-        ensures kept { scratch.new ≡ scratch.old }
-        ensures visits { (g : GlobValue) → IsStrategyOfMatcher g self.now → visits.new ≤ visits.old + max_visits g path.now }
-        ensures counted { visits.old ≤ visits.new }
-    {
-        match self {
-            Strategy::Key(key) => {
-                visits.tick();
-                key.matches(path)
-            }
-            Strategy::Nfa(automaton) => scratch.run(automaton, path.path(), visits),
         }
     }
 

@@ -14,9 +14,8 @@ use Rattle.globset_set.specs.Excluded.{excluded, is_reported}
 use Rattle.globset_set.specs.Answer.{matching_indexes}
 use Rattle.globset_set.specs.Below.{MatchesBelow}
 use Rattle.globset_set.specs.Work.{load, load_below, max_set_visits, max_set_visits_below}
-use Rattle.set_matcher.specs.declared.matching_sets.MatchingSets.{MatchingSets}
 use Rattle.set_matcher.specs.SetMatcherValue.{SetMatcherValue, matcher_globs}
-use Rattle.set_matcher.specs.inner.Capacity.{HasCapacity}
+use Rattle.glob_scratch.specs.ScratchValue.{HasCapacity, ScratchValue}
 use Rattle.globset_set.specs.SetValue.{SetValue, set_globs, set_states}
 use Rattle.globset_set.specs.inner.StoredGlobs.{AreStored, by_tokens}
 
@@ -80,9 +79,9 @@ no_load set g path are none =
     let stored = ap (λ gs. tokens.load gs path) are.added.matcher in omega (arith, few, stored, none)
 
 -- room for the set is room for the matcher
-pub capacity_stored : (set : SetValue) (g : SetMatcherValue) (sets : MatchingSets) → AreStored (set_globs set) g → g.states ≡ set_states set
-    → HasCapacity sets (set_states set) (length (set_globs set)) → HasCapacity sets g.states g.index_count
-capacity_stored set g sets are states room = record {
+pub capacity_stored : (set : SetValue) (g : SetMatcherValue) (scratch : ScratchValue) → AreStored (set_globs set) g → g.states ≡ set_states set
+    → HasCapacity scratch (set_states set) (length (set_globs set)) → HasCapacity scratch g.states g.index_count
+capacity_stored set g scratch are states room = record {
   for_states = omega (arith, room.for_states, states);
   for_indexes = omega (arith, room.for_indexes, are.count);
 }

@@ -16,12 +16,12 @@ returns-then-state_count-eq0-clause-found c = λ xs is k.
     let path = c.args.path.now in
     let bytes = part_bytes c.args.part path (all_bytes path (λ i. omega (arith, c.type_inv.path i))) in (
       λ old. inr old,
-      λ h. ⊎_elim {C = IsTrue (has_index c.args.sets.now.marks k)} (λ some. absurd (no_matches c.args.automaton.now xs (part_of c.args.part path) k none is bytes some)) (λ old. old) h,
+      λ h. ⊎_elim {C = IsTrue (has_index c.args.marks.now k)} (λ some. absurd (no_matches c.args.automaton.now xs (part_of c.args.part path) k none is bytes some)) (λ old. old) h,
     )
 
 pub returns-clause-found : goal.returns-clause-found
 returns-clause-found c =
-    subst (λ text. OnOk c.find_with.result (AddsMatches c.args.automaton.now text c.args.sets.now.marks c.find_with.new.found)) c.of-text.ensures c.find_with.ensures.found
+    subst (λ text. OnOk c.find_with.result (AddsMatches c.args.automaton.now text c.args.marks.now c.find_with.new.found)) c.of-text.ensures c.find_with.ensures.found
 
 pub returns-clause-visits : goal.returns-clause-visits
 returns-clause-visits c =

@@ -1,10 +1,9 @@
 use Rattle.std.proofs.Common.{◌≡◌, [], IfOk, IsTrue, ap, sym, subst, ◌∙◌}
 use Rattle.std.specs.Prelude.{◌≢◌, ◌↔◌}
 use Rattle.globset_set.specs.Answer.{matching_indexes}
-use Rattle.globset.specs.SetValue.{SetValue, set_globs}
+use Rattle.globset.specs.SetValue.{Fits, SetValue, set_globs}
 use Rattle.globset.specs.inner.StoredSet.{stored_set}
 use Rattle.globset.proofs.lemmas.Answer.{none_of_none}
-use Rattle.globset.proofs.lemmas.Scratches.{has_capacity, keeps_capacity}
 use Rattle.globset.proofs.set.GlobSet.is_match_with.Goals as goal
 
 pub returns-then-is_empty-clause-some : goal.returns-then-is_empty-clause-some
@@ -16,10 +15,7 @@ returns-in_default-clause-some c = none_of_none (set_globs c.args.self.now) c.ar
 pub unwrap-requires : goal.unwrap-requires
 unwrap-requires c =
     let same : c.in-Some.stored ≡ c.args.self.now = sym (ap stored_set c.in-Some.is) ∙ c.self.view_is in
-    c.is_match.ensures.room (has_capacity c.scratch.inside.sets c.scratch.inside.states c.scratch.inside.indexes c.args.scratch.now c.args.self.now c.in-Some.stored c.scratch.invariant c.scratch.view_is same c.requires)
-
-pub invariant_of-scratch : goal.invariant_of-scratch
-invariant_of-scratch c = keeps_capacity c.scratch.inside.sets c.is_match.new.sets c.scratch.inside.states c.scratch.inside.indexes c.is_match.ensures.kept c.scratch.invariant
+    c.is_match.ensures.room (subst (λ (s : SetValue). Fits c.args.scratch.now s) (sym same) c.requires)
 
 pub returns-clause-some : goal.returns-clause-some
 returns-clause-some c =

@@ -2,18 +2,14 @@ use Rattle.std.proofs.Common.{◌≡◌, IfOk, IsTrue, length, ap, sym, subst, �
 use Rattle.std.specs.Prelude.{◌↔◌}
 use Rattle.set_matcher.specs.Indexes.{ContainsAllBelow}
 use Rattle.globset_set.specs.Answer.{matching_indexes}
-use Rattle.globset.specs.SetValue.{SetValue, set_globs}
+use Rattle.globset.specs.SetValue.{Fits, SetValue, set_globs}
 use Rattle.globset.specs.inner.StoredSet.{stored_set}
-use Rattle.globset.proofs.lemmas.Scratches.{has_capacity, keeps_capacity}
 use Rattle.globset.proofs.set.GlobSet.matches_all_with.Goals as goal
 
 pub unwrap-requires : goal.unwrap-requires
 unwrap-requires c =
     let same : c.in-Some.stored ≡ c.args.self.now = sym (ap stored_set c.in-Some.is) ∙ c.self.view_is in
-    c.matches_all.ensures.room (has_capacity c.scratch.inside.sets c.scratch.inside.states c.scratch.inside.indexes c.args.scratch.now c.args.self.now c.in-Some.stored c.scratch.invariant c.scratch.view_is same c.requires)
-
-pub invariant_of-scratch : goal.invariant_of-scratch
-invariant_of-scratch c = keeps_capacity c.scratch.inside.sets c.matches_all.new.sets c.scratch.inside.states c.scratch.inside.indexes c.matches_all.ensures.kept c.scratch.invariant
+    c.matches_all.ensures.room (subst (λ (s : SetValue). Fits c.args.scratch.now s) (sym same) c.requires)
 
 pub returns-clause-all : goal.returns-clause-all
 returns-clause-all c =

@@ -29,7 +29,7 @@ returns-in_err-can_match_below-clause-visits c =
 pub returns-in_err-can_match_below-clause-room : goal.returns-in_err-can_match_below-clause-room
 returns-in_err-can_match_below-clause-room c = λ room.
     let p = err_from_is_err_and c.from_residual.result c.from_residual.ensures.1 in
-    rw p.1 (c.in_err-can_match_below.ensures.room (capacity_stored c.args.self.now.set c.matcher.result.now c.args.sets.now c.matcher.ensures.stored c.matcher.ensures.states room))
+    rw p.1 (c.in_err-can_match_below.ensures.room (capacity_stored c.args.self.now.set c.matcher.result.now c.args.scratch.now c.matcher.ensures.stored c.matcher.ensures.states room))
 
 pub returns-in_err-can_match_below-clause-succeeds_without_automata : goal.returns-in_err-can_match_below-clause-succeeds_without_automata
 returns-in_err-can_match_below-clause-succeeds_without_automata c = λ none.

@@ -22,4 +22,4 @@ pub returns-in_err-find-clause-room : goal.returns-in_err-find-clause-room
 returns-in_err-find-clause-room c = λ room fits.
     let p = err_from_is_err_and c.from_residual.result c.from_residual.ensures.1 in
     let stored = ap length c.matcher.ensures.stored.added.matcher ∙ length-map (set_globs c.args.self.now.set) by_tokens in
-    rw p.1 (c.in_err-find.ensures.room (capacity_stored c.args.self.now.set c.matcher.result.now c.args.sets.now c.matcher.ensures.stored c.matcher.ensures.states room) (omega (arith, fits, stored)))
+    rw p.1 (c.in_err-find.ensures.room (capacity_stored c.args.self.now.set c.matcher.result.now c.args.scratch.now c.matcher.ensures.stored c.matcher.ensures.states room) (omega (arith, fits, stored)))

@@ -9,15 +9,7 @@ use Rattle.glob_path.specs.PathParts.{last_component, component_extension, last_
 use Rattle.set_matcher.specs.inner.Automata.{AutomataParts, before_extension, machine_under, max_states, tokens_under}
 use Rattle.set_matcher.proofs.lemmas.Automata.{before_bytes, bytes_after, no_matches, three_runs}
 use Rattle.set_matcher.proofs.lemmas.Visits.{looked_runs}
-use Rattle.set_matcher.specs.inner.Capacity.{KeepsCapacity}
-use Rattle.set_matcher.specs.declared.matching_sets.MatchingSets.{MatchingSets}
 use Rattle.set_matcher.proofs.automata.Automata.find.Goals as goal
-
-kept_then : {old between new : MatchingSets} → KeepsCapacity old between → KeepsCapacity between new → KeepsCapacity old new
-kept_then p q = record {
-  states = omega (arith, p.states, q.states);
-  indexes = omega (arith, p.indexes, q.indexes);
-}
 
 pub returns-then-is_idle-clause-idle : goal.returns-then-is_idle-clause-idle
 returns-then-is_idle-clause-idle c = λ off.
@@ -42,14 +34,14 @@ returns-clause-found c = λ on. record {
       let last = ap size c.by_extension-by_extension.ensures.automaton in
       let some : (size c.args.self.now.by_path + (size c.args.self.now.by_component + size c.by_extension-by_extension.result.now) ≡ 0) → ⊥ = (λ nil. true≢false (sym (c.is_idle.ensures.1 nil) ∙ c.if-is_idle.false)) in
       omega (arith, last, same, some);
-  room = omega (arith, c.in_ok-clear_marks.ensures.room, c.index_count.ensures, c.in_ok-run.ensures.kept.indexes, c.in_ok-run-2.ensures.kept.indexes, c.in_ok-run-3.ensures.kept.indexes);
+  room = omega (arith, c.in_ok-reserve.ensures.ok, c.index_count.ensures, c.in_ok-run.ensures.room, c.in_ok-run-2.ensures.room, c.in_ok-run-3.ensures.room);
   same = λ t are k.
       let extension_tokens = tokens_under t.by_slot c.args.self.now.extensions.matchers (component_extension c.args.path.now) in
       let one = c.in_ok-run.ensures.found t.by_path (subst (λ (a : AutomataParts). IsFor a.by_path t.by_path) (sym c.self.view_is) are.path) k in
       let two = c.in_ok-run-2.ensures.found t.by_component (subst (λ (a : AutomataParts). IsFor a.by_component t.by_component) (sym c.self.view_is) are.component) k in
       let are_for = subst (λ p. IsFor c.by_extension-by_extension.result.now (tokens_under t.by_slot c.args.self.now.extensions.matchers (component_extension p))) c.from_bytes.ensures (c.by_extension-by_extension.ensures.tokens t.by_slot are.matchers) in
       let three = c.in_ok-run-3.ensures.found extension_tokens are_for k in
-      let empty = c.in_ok-clear_marks.ensures.none k in three_runs (λ h. true≢false (sym h ∙ empty)) one two three;
+      let empty = c.in_ok-reserve.ensures.has k ∙ c.clear.ensures.none k in three_runs (λ h. true≢false (sym h ∙ empty)) one two three;
 }
 
 pub returns-in_err-run-clause-visits : goal.returns-in_err-run-clause-visits
@@ -97,8 +89,8 @@ returns-clause-visits c =
     (subst (λ (m : Machine). c.run-3.new.visits ≤ c.run-2.new.visits + (n + 1) * max_reads m)
     (c.by_extension-by_extension.ensures.automaton ∙ ap (λ p. machine_under a.extensions (component_extension p)) c.from_bytes.ensures) c.run-3.ensures.visits)
 
-pub returns-in_err-clear_marks-clause-memory : goal.returns-in_err-clear_marks-clause-memory
-returns-in_err-clear_marks-clause-memory c = λ none.
+pub returns-in_err-reserve-clause-memory : goal.returns-in_err-reserve-clause-memory
+returns-in_err-reserve-clause-memory c = λ none.
     let same = ap (λ p. size (machine_under c.args.self.now.extensions (component_extension p))) c.from_bytes.ensures in
     let last = ap size c.by_extension-by_extension.ensures.automaton in
     let on = c.is_idle.ensures.1 (omega (arith, none, last, same)) in absurd (true≢false (sym on ∙ c.if-is_idle.false))
@@ -121,34 +113,20 @@ returns-in_err-run-3-clause-memory c = λ none.
     let last = ap size c.by_extension-by_extension.ensures.automaton in
     let on = c.is_idle.ensures.1 (omega (arith, none, last, same)) in absurd (true≢false (sym on ∙ c.if-is_idle.false))
 
-pub returns-in_err-clear_marks-clause-room : goal.returns-in_err-clear_marks-clause-room
-returns-in_err-clear_marks-clause-room c = λ has.
-    absurd (true≢false (sym (c.in_err-clear_marks.ensures.memory (omega (arith, has.for_indexes, c.index_count.ensures)))))
+pub returns-in_err-reserve-clause-room : goal.returns-in_err-reserve-clause-room
+returns-in_err-reserve-clause-room c = λ _ indexes.
+    absurd (true≢false (sym (c.in_err-reserve.ensures.memory (omega (arith, indexes, c.index_count.ensures, c.clear.ensures.room)))))
 
 pub returns-in_err-run-clause-room : goal.returns-in_err-run-clause-room
-returns-in_err-run-clause-room c = λ has.
-    let states = subst (λ (p : AutomataParts). max_states p ≤ sets_capacity c.args.sets.now.states) (sym c.self.view_is) has.for_states in
-    absurd (true≢false (sym (c.in_err-run.ensures.memory (omega (arith, states, c.in_ok-clear_marks.ensures.kept.states)))))
+returns-in_err-run-clause-room c = λ has _.
+    let states = subst (λ (p : AutomataParts). max_states p ≤ sets_capacity c.args.sets.now) (sym c.self.view_is) has in
+    absurd (true≢false (sym (c.in_err-run.ensures.memory (omega (arith, states)))))
 
 pub returns-in_err-run-2-clause-room : goal.returns-in_err-run-2-clause-room
-returns-in_err-run-2-clause-room c = λ has.
-    let states = subst (λ (p : AutomataParts). max_states p ≤ sets_capacity c.args.sets.now.states) (sym c.self.view_is) has.for_states in
-    absurd (true≢false (sym (c.in_err-run-2.ensures.memory (omega (arith, states, c.in_ok-clear_marks.ensures.kept.states, c.in_ok-run.ensures.kept.states)))))
+returns-in_err-run-2-clause-room c = λ has _.
+    let states = subst (λ (p : AutomataParts). max_states p ≤ sets_capacity c.args.sets.now) (sym c.self.view_is) has in
+    absurd (true≢false (sym (c.in_err-run-2.ensures.memory (omega (arith, states, c.in_ok-run.ensures.kept)))))
 
 pub returns-in_err-run-3-clause-room : goal.returns-in_err-run-3-clause-room
-returns-in_err-run-3-clause-room c = λ has.
-    absurd (true≢false (sym (c.in_err-run-3.ensures.memory (omega (arith, has.for_states, c.by_extension-by_extension.ensures.maximum, c.in_ok-clear_marks.ensures.kept.states, c.in_ok-run.ensures.kept.states, c.in_ok-run-2.ensures.kept.states)))))
-
-pub returns-in_err-run-clause-kept : goal.returns-in_err-run-clause-kept
-returns-in_err-run-clause-kept c = kept_then c.in_ok-clear_marks.ensures.kept c.run.ensures.kept
-
-pub returns-in_err-run-2-clause-kept : goal.returns-in_err-run-2-clause-kept
-returns-in_err-run-2-clause-kept c = kept_then c.in_ok-clear_marks.ensures.kept (kept_then c.run.ensures.kept c.run-2.ensures.kept)
-
-pub returns-in_err-run-3-clause-kept : goal.returns-in_err-run-3-clause-kept
-returns-in_err-run-3-clause-kept c =
-    kept_then c.in_ok-clear_marks.ensures.kept (kept_then c.run.ensures.kept (kept_then c.run-2.ensures.kept c.run-3.ensures.kept))
-
-pub returns-clause-kept : goal.returns-clause-kept
-returns-clause-kept c =
-    kept_then c.in_ok-clear_marks.ensures.kept (kept_then c.run.ensures.kept (kept_then c.run-2.ensures.kept c.run-3.ensures.kept))
+returns-in_err-run-3-clause-room c = λ has _.
+    absurd (true≢false (sym (c.in_err-run-3.ensures.memory (omega (arith, has, c.by_extension-by_extension.ensures.maximum, c.in_ok-run.ensures.kept, c.in_ok-run-2.ensures.kept)))))

@@ -8,4 +8,4 @@ returns-then-branch-clause-marked c = λ t are k. (c.in_ok-find.ensures.found c.
 pub returns-clause-marked : goal.returns-clause-marked
 returns-clause-marked c =
     let idle = c.in_ok-find.ensures.idle c.if-branch.false in
-    on_ok_weaker c.clear_marks.result (λ none t are k. (λ yes. absurd (true≢false (sym yes ∙ none k)), λ found. absurd (idle.none t are k found))) c.clear_marks.ensures.none
+    on_ok_weaker c.reserve.result (λ _ t are k. (λ yes. absurd (true≢false (sym yes ∙ c.reserve.ensures.has k ∙ c.clear.ensures.none k)), λ found. absurd (idle.none t are k found))) c.reserve.ensures.ok

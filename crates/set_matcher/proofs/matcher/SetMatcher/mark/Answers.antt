@@ -14,10 +14,10 @@ returns-clause-marked c =
     let globs = token_globs c.self.inside.globs in
     let g = set_matcher_parts c.self.inside.keys c.self.inside.automata in
     let matcher = c.self.invariant.matcher in
-    let fits : length globs ≤ index_capacity c.mark.new.sets.marks = omega (arith, globs_count c.self.inside.globs, c.self.invariant.counted, c.self.invariant.indexed, c.in_ok-mark.ensures.room) in
+    let fits : length globs ≤ index_capacity c.mark.new.marks = omega (arith, globs_count c.self.inside.globs, c.self.invariant.counted, c.self.invariant.indexed, c.in_ok-mark.ensures.room) in
     subst (λ (gs : List TokenGlob). (k : ℕ) → IsTrue (has_index c.find.new.found k) ↔ IsTrue (is_reported_at gs c.args.path.now k)) (ap matcher_globs c.self.view_is)
-    (marked_listed globs g c.args.path.now (index_capacity c.mark.new.sets.marks) (has_index c.mark.new.sets.marks) (has_index c.find.new.found) matcher fits
-    (λ k. subst (λ p. IsTrue (has_index c.mark.new.sets.marks k) ↔ AreFound g.automata.extensions.matchers matcher.tokens p k) c.path.ensures (c.in_ok-mark.ensures.marked matcher.tokens matcher.are_for k))
+    (marked_listed globs g c.args.path.now (index_capacity c.mark.new.marks) (has_index c.mark.new.marks) (has_index c.find.new.found) matcher fits
+    (λ k. subst (λ p. IsTrue (has_index c.mark.new.marks k) ↔ AreFound g.automata.extensions.matchers matcher.tokens p k) c.path.ensures (c.in_ok-mark.ensures.marked matcher.tokens matcher.are_for k))
     c.find.ensures.found)
 
 pub returns-in_err-mark-clause-visits : goal.returns-in_err-mark-clause-visits

@@ -18,9 +18,9 @@ returns-then-branch-clause-all c =
     let matcher = c.self.invariant.matcher in
     let count = ap (λ (v : SetMatcherValue). length (matcher_globs v)) c.self.view_is in
     let n : length globs ≡ c.len.result = omega (arith, count, c.len.ensures) in
-    let by_automata = subst (λ p. IsFoundSet c.self.inside.automata p c.find.new.sets.marks) c.path.ensures (c.in_ok-find.ensures.found c.if-branch.true) in
-    let fits : length globs ≤ index_capacity c.find.new.sets.marks = omega (arith, globs_count c.self.inside.globs, c.self.invariant.counted, c.self.invariant.indexed, by_automata.room) in
-    let marked = marked_listed globs g path (index_capacity c.find.new.sets.marks) (has_index c.find.new.sets.marks) (has_index c.find-then-branch.new.found) matcher fits (by_automata.same matcher.tokens matcher.are_for) c.find-then-branch.ensures.found in
+    let by_automata = subst (λ p. IsFoundSet c.self.inside.automata p c.find.new.marks) c.path.ensures (c.in_ok-find.ensures.found c.if-branch.true) in
+    let fits : length globs ≤ index_capacity c.find.new.marks = omega (arith, globs_count c.self.inside.globs, c.self.invariant.counted, c.self.invariant.indexed, by_automata.room) in
+    let marked = marked_listed globs g path (index_capacity c.find.new.marks) (has_index c.find.new.marks) (has_index c.find-then-branch.new.found) matcher fits (by_automata.same matcher.tokens matcher.are_for) c.find-then-branch.ensures.found in
     let all = all_marked globs path c.len.result (has_index c.find-then-branch.new.found) n marked in
     subst (λ (gs : List TokenGlob). IsTrue c.has_all_below.result ↔ ContainsAllBelow (reported_indexes gs path) (length gs)) (ap matcher_globs c.self.view_is)
     (λ yes. all.0 (c.has_all_below.ensures.0 yes), λ every. c.has_all_below.ensures.1 (all.1 every))

@@ -1,0 +1,233 @@
+//! Memory of the caller, in which globs are matched.
+
+ghost use Rattle.std.specs.Prelude.{◌≡◌, ◌≤◌, ◌^◌, ◌↔◌, ℕ, MatchOption, IfOk, IfErr, IsOk, OnOk, OnErr, IsTrue};
+ghost use Rattle.glob_text.specs.Errors.{out_of_memory};
+ghost use Rattle.glob_scratch.specs.ScratchValue.{FitsAsBefore, HasCapacity, raised};
+
+use bit_sets::IndexSet;
+use glob_text::Error;
+use nfa_simulation::StateSets;
+use std::alloc::{AllocError, Global};
+use std::marker::Model;
+
+/// What is matched in a [`Scratch`]: a `GlobSet` or a `GlobMatcher`.
+///
+/// Contracts see two numbers: of states, and of indexes.
+pub trait NeedsScratch {
+    ghost states: { Self → ℕ };
+
+    ghost indexes: { Self → ℕ };
+
+    /// Returns the most states that an automaton may have, or `None` if a `usize` is too small for the number.
+    fn states_needed(&self) -> Option<usize>
+        ensures { MatchOption result (2 ^ 64 ≤ states self.now) (λ n. n ≡ states self.now) };
+
+    /// Returns the number of globs of a set, and 0 for a matcher.
+    fn indexes_needed(&self) -> usize
+        ensures { result ≡ indexes self.now };
+}
+
+/// All the memory that sets and matchers need to match a path. A set needs two bits for each state of its largest automaton,
+/// and one for each glob; a matcher a byte for each byte of its glob's text and one more, or four times as much under
+/// `whole_character`.
+///
+/// With a scratch that fits the set, `GlobSet::is_match_with` and `GlobSet::matches_all_with` cannot fail, and nor can
+/// `GlobSet::matches_into_with` if the vector has a capacity of `GlobSet::len`. With one that fits the matcher,
+/// `GlobMatcher::is_match_with` cannot fail. What earlier calls left in a scratch has no effect. It can be used with each set
+/// and each matcher that it fits, and [`Scratch::fit`] and [`Scratch::fit_matcher`] make it fit one more.
+///
+/// Contracts see two numbers: of states, and of indexes.
+///
+/// ```rust
+/// use globset::{Candidate, Glob, GlobSet, Scratch, Visits};
+///
+/// let globs = [Glob::new(alloc, "*.c")?, Glob::new(alloc, "src/*")?];
+/// let set = GlobSet::new(alloc, &globs)?;
+/// let mut scratch = Scratch::new(alloc, &set)?;
+/// let mut indexes = Vec::with_capacity(alloc, set.len())?;
+/// let mut visits = Visits::new();
+///
+/// let path = Candidate::new("src/a.c");
+/// assert!(rt; set.is_match_with(&path, &mut scratch, &mut visits));
+/// set.matches_into_with(&path, &mut scratch, &mut indexes, &mut visits)?;
+/// assert_eq!(rt; indexes.as_slice(), [0, 1].as_slice());
+///
+/// let path = Candidate::new("a.c");
+/// assert!(rt; !set.matches_all_with(&path, &mut scratch, &mut visits));
+/// ```
+pub struct Scratch {
+    states: usize,
+    indexes: usize,
+    /// The states that a simulated automaton is in, for the calls that match.
+    pub sets: StateSets,
+    /// The indexes that are found, which are marked here, for the calls that match.
+    pub marks: IndexSet,
+}
+
+impl Drop for Scratch {
+    // One call wherever a value is dropped, which keeps proofs short.
+    fn drop(self) {
+        let Scratch {
+            states: _,
+            indexes: _,
+            sets: _,
+            marks: _,
+        } = self;
+    }
+}
+
+impl Model for Scratch {
+    ghost use Rattle.std.specs.Prelude.{◌≤◌};
+    ghost use Rattle.bit_sets.specs.Indexes.{index_capacity};
+    ghost use Rattle.nfa_simulation.specs.Sets.{sets_capacity};
+    ghost use Rattle.glob_scratch.specs.ScratchValue.{ScratchValue};
+
+    ghost Value = { ScratchValue };
+
+    ghost view = { λ s. record {
+      states = s.states;
+      indexes = s.indexes;
+    } };
+
+    ghost invariant = { λ s. (s.states ≤ sets_capacity s.sets) × (s.indexes ≤ index_capacity s.marks) };
+}
+
+impl Scratch {
+    /// Returns a scratch without room. It allocates nothing.
+    pub fn empty(alloc: Global) -> Scratch
+        ensures states { result.states ≡ 0 }
+        ensures indexes { result.indexes ≡ 0 }
+    {
+        Scratch {
+            states: 0,
+            indexes: 0,
+            sets: StateSets::new(alloc),
+            marks: IndexSet::empty(alloc),
+        }
+    }
+
+    /// Returns a scratch that fits the set. It takes two bits of memory for each state of the set's largest automaton, and one
+    /// for each glob.
+    ///
+    /// Returns an error if memory runs out, and no other.
+    pub fn new<S: NeedsScratch>(alloc: Global, set: &S) -> Result<Scratch, Error>
+        ensures states { IfOk result (λ scratch. scratch.states ≡ S.states set.now) }
+        ensures indexes { IfOk result (λ scratch. scratch.indexes ≡ S.indexes set.now) }
+        ensures fits { IfOk result (λ scratch. HasCapacity scratch (S.states set.now) (S.indexes set.now)) }
+        ensures err { IfErr result (λ e. e ≡ out_of_memory) }
+    {
+        let mut scratch = Scratch::empty(alloc);
+        scratch.fit(set)?;
+        Ok(scratch)
+    }
+
+    /// Returns a scratch that fits the matcher. It takes a byte of memory for each byte of the glob's text and one more, or
+    /// four times as much under `whole_character`.
+    ///
+    /// Returns an error if memory runs out, and no other.
+    pub fn for_matcher<M: NeedsScratch>(alloc: Global, matcher: &M) -> Result<Scratch, Error>
+        ensures states { IfOk result (λ scratch. scratch.states ≡ M.states matcher.now) }
+        ensures indexes { IfOk result (λ scratch. scratch.indexes ≡ M.indexes matcher.now) }
+        ensures fits { IfOk result (λ scratch. HasCapacity scratch (M.states matcher.now) (M.indexes matcher.now)) }
+        ensures err { IfErr result (λ e. e ≡ out_of_memory) }
+    {
+        Scratch::new(alloc, matcher)
+    }
+
+    /// Makes the scratch fit one more set. It takes memory for what the scratch has too little of: two bits for each state of
+    /// the set's largest automaton, and one for each glob; and none if the scratch fits the set already.
+    ///
+    /// Returns an error if memory runs out, and no other. In both cases the scratch fits each set and each matcher that it
+    /// fitted before.
+    ///
+    /// ```rust
+    /// use globset::{Candidate, Glob, GlobSet, Scratch, Visits};
+    ///
+    /// let sources = GlobSet::new(alloc, [&Glob::new(alloc, "*.c")?])?;
+    /// let tests = GlobSet::new(alloc, [&Glob::new(alloc, "*test*")?, &Glob::new(alloc, "*check*")?])?;
+    /// let mut scratch = Scratch::new(alloc, &sources)?;
+    /// scratch.fit(&tests)?;
+    /// let mut visits = Visits::new();
+    /// let path = Candidate::new("checks.c");
+    /// assert!(rt; sources.is_match_with(&path, &mut scratch, &mut visits));
+    /// assert!(rt; tests.is_match_with(&path, &mut scratch, &mut visits));
+    /// ```
+    pub fn fit<S: NeedsScratch>(&mut self, set: &S) -> Result<(), Error>
+        ensures raised { OnOk result (self.new ≡ raised self.old (S.states set.now) (S.indexes set.now)) }
+        ensures fits { OnOk result (HasCapacity self.new (S.states set.now) (S.indexes set.now)) }
+        ensures kept { OnErr result (self.new ≡ self.old) }
+        ensures others { FitsAsBefore self.old self.new }
+        ensures succeeds_if_fits { HasCapacity self.old (S.states set.now) (S.indexes set.now) → IsOk result }
+        ensures err { IfErr result (λ e. e ≡ out_of_memory) }
+    {
+        let states = self.states.max(set.states_needed().ok_or(AllocError)?);
+        let indexes = self.indexes.max(set.indexes_needed());
+        self.sets.reserve(states)?;
+        self.marks.reserve(indexes)?;
+        self.states = states;
+        self.indexes = indexes;
+        Ok(())
+    }
+
+    /// Makes the scratch fit one more matcher. It takes memory for what the scratch has too little of: at most a byte for each
+    /// byte of the glob's text and one more, or four times as much under `whole_character`; and none if the scratch fits the
+    /// matcher already.
+    ///
+    /// Returns an error if memory runs out, and no other. In both cases the scratch fits each set and each matcher that it
+    /// fitted before.
+    ///
+    /// ```rust
+    /// use globset::{Candidate, Glob, GlobSet, Scratch, Visits};
+    ///
+    /// let set = GlobSet::new(alloc, [&Glob::new(alloc, "*.c")?])?;
+    /// let except = Glob::new(alloc, "*{test,check}*")?.compile_matcher()?;
+    /// let mut scratch = Scratch::new(alloc, &set)?;
+    /// scratch.fit_matcher(&except)?;
+    /// let mut visits = Visits::new();
+    /// let path = Candidate::new("checks.c");
+    /// assert!(rt; set.is_match_with(&path, &mut scratch, &mut visits));
+    /// assert!(rt; except.is_match_with(&path, &mut scratch, &mut visits));
+    /// ```
+    pub fn fit_matcher<M: NeedsScratch>(&mut self, matcher: &M) -> Result<(), Error>
+        ensures raised { OnOk result (self.new ≡ raised self.old (M.states matcher.now) (M.indexes matcher.now)) }
+        ensures fits { OnOk result (HasCapacity self.new (M.states matcher.now) (M.indexes matcher.now)) }
+        ensures kept { OnErr result (self.new ≡ self.old) }
+        ensures others { FitsAsBefore self.old self.new }
+        ensures succeeds_if_fits { HasCapacity self.old (M.states matcher.now) (M.indexes matcher.now) → IsOk result }
+        ensures err { IfErr result (λ e. e ≡ out_of_memory) }
+    {
+        self.fit(matcher)
+    }
+
+    /// Returns whether the scratch fits the set: whether neither of its numbers is below the set's. It fits the set that it was
+    /// made for.
+    ///
+    /// ```rust
+    /// use globset::{Candidate, Glob, GlobSet, Scratch, Visits};
+    ///
+    /// let small = GlobSet::new(alloc, [&Glob::new(alloc, "*.c")?])?;
+    /// let large = GlobSet::new(alloc, [&Glob::new(alloc, "*a*")?, &Glob::new(alloc, "*b*")?])?;
+    /// let mut scratch = Scratch::new(alloc, &small)?;
+    /// if !scratch.fits(&large) {
+    ///     scratch = Scratch::new(alloc, &large)?;
+    /// }
+    /// assert!(rt; large.is_match_with(&Candidate::new("cab"), &mut scratch, &mut Visits::new()));
+    /// ```
+    pub fn fits<S: NeedsScratch>(&self, set: &S) -> bool
+        ensures { IsTrue result ↔ HasCapacity self.now (S.states set.now) (S.indexes set.now) }
+    {
+        let room = self.states;
+        match set.states_needed() {
+            Some(states) => states <= room && set.indexes_needed() <= self.indexes,
+            None => false,
+        }
+    }
+
+    /// Returns whether the scratch fits the matcher: whether its number of states is not below the most that the matcher's
+    /// automaton may have. It fits the matcher that it was made for.
+    pub fn fits_matcher<M: NeedsScratch>(&self, matcher: &M) -> bool
+        ensures { IsTrue result ↔ HasCapacity self.now (M.states matcher.now) (M.indexes matcher.now) }
+    {
+        self.fits(matcher)
+    }
+}
