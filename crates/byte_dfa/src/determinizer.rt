@@ -2,7 +2,8 @@
 
 ghost use Rattle.std.specs.Prelude.{◌≡◌, ℕ, ◌+◌, ◌*◌, ◌<◌, ◌≤◌, ◌↔◌, ◌⊎◌, [], ◌∷◌, List, length, slice_get, slice_index, Some, false, IsTrue, OnOk, IfOk, IfSome};
 ghost use Rattle.byte_nfa.specs.Runs.{size, AcceptsFrom, AreAccepting};
-ghost use Rattle.byte_nfa.specs.ByteSteps.{step_capacity, LeadsAsEvery};
+ghost use Rattle.byte_nfa.specs.ByteSteps.{step_capacity, LeadAlike, LeadsAsEvery};
+ghost use Rattle.bit_sets.specs.Bytes.{has_byte};
 ghost use Rattle.bit_sets.specs.Indexes.{has_index};
 ghost use Rattle.bit_sets.specs.StateSets.{has_state, state_capacity};
 ghost use Rattle.byte_dfa.specs.inner.Building.{AreFoundSets, AreAllAccepting, IsEntryTo, IsBase, IsCellOf, IsRowOf, IsSound, IsNumbered, KeepsFound, Grows, HasCapacityFor, BeginsAt, IsComplete, AreLiveSets, total};
@@ -10,7 +11,8 @@ ghost use Rattle.byte_dfa.specs.inner.Tables.{special};
 
 use crate::classes::ByteClasses;
 use crate::lists::push_list;
-use bit_sets::{IndexSet, StateSet};
+use crate::made::MadeEntries;
+use bit_sets::{ByteSet, IndexSet, StateSet};
 use byte_nfa::{ByteSteps, Draft};
 use std::alloc::{AllocError, Global};
 use std::collections::HashMap;
@@ -171,6 +173,7 @@ impl Determinizer {
             steps,
             every: false,
         };
+        let mut made = MadeEntries::new();
         let maximum = max_waiting(automaton);
         let mut row = 0;
         while row < self.found.len() {
@@ -178,7 +181,7 @@ impl Determinizer {
                 return Ok(false);
             }
             self.read_row(automaton, row, &mut current)?;
-            let fits = self.write_row(automaton, classes, &current, states)?;
+            let fits = self.write_row(automaton, classes, &current, &mut made, states)?;
             if !fits {
                 return Ok(false);
             }
@@ -270,10 +273,11 @@ impl Determinizer {
         requires accepting { AreAllAccepting automaton.now self.now.accepting }
         ensures { IfOk result (λ set. (k : ℕ) → IsTrue (has_index set k) ↔ AcceptsFrom automaton.now states.now [] k) }
     {
-        let mut set = IndexSet::new(*self.lists.allocator(), automaton.index_count())?;
+        let alloc = *self.lists.allocator();
         if states.is_disjoint(&self.accepting) {
-            return Ok(set);
+            return Ok(IndexSet::empty(alloc));
         }
+        let mut set = IndexSet::new(alloc, automaton.index_count())?;
         // The others lead to no end without a byte.
         let mut from = states.clone()?;
         from.keep(&self.accepting);
@@ -327,6 +331,7 @@ impl Determinizer {
         automaton: &Draft,
         classes: &ByteClasses,
         row: &Row,
+        made: &mut MadeEntries,
         to: &mut StateSet,
     ) -> Result<bool, AllocError>
         requires room { HasCapacityFor automaton.now to.old }
@@ -343,11 +348,9 @@ impl Determinizer {
         ensures place { IfOk result (λ fits. IsTrue fits → length self.new.rows.items ≡ (row.now.number + 1) * (classes.now.count + 2)) }
     {
         let some = row.steps.some_bytes();
-        // A class that leads only where every byte does, once its entry is written: most classes of a row lead there.
-        let mut common = None;
+        made.clear();
         for class in 0..classes.count {
-            let is_common = !some.has(classes.representatives[class]);
-            match self.shared_entry(automaton, classes, row, is_common, common, class) {
+            match self.shared_entry(automaton, classes, row, &some, made, class) {
                 Some(transition) => {
                     self.rows.push(transition)?;
                 }
@@ -359,24 +362,21 @@ impl Determinizer {
                     self.rows.push(transition)?;
                 }
             }
-            if is_common {
-                common = Some(class);
-            }
         }
         self.rows.push(self.found[row.number].on_entry as u32)?;
         self.rows.push(self.found[row.number].at_end as u32)?;
         Ok(true)
     }
 
-    /// Returns the entry of a class that leads only where every byte does, if an entry that is written leads there: that of the
-    /// base, or that of a class before.
+    /// Returns the entry of a class, if an entry that is written leads there: that of the base, if no step does, or that of a class
+    /// before. Otherwise the class is put among those whose entries are made.
     fn shared_entry(
         &self,
         automaton: &Draft,
         classes: &ByteClasses,
         row: &Row,
-        is_common: bool,
-        common: Option<usize>,
+        some: &ByteSet,
+        made: &mut MadeEntries,
         class: usize,
     ) -> Option<u32>
         requires sound { IsSound automaton.now classes.now self.now }
@@ -385,23 +385,27 @@ impl Determinizer {
         requires row { IsRowOf automaton.now self.now.found.items row.now }
         requires place { length self.now.rows.items ≡ row.now.number * (classes.now.count + 2) + class }
         requires class { class < classes.now.count }
-        requires byte { slice_index classes.now.representatives class < 256 }
-        requires this { IsTrue is_common → LeadsAsEvery row.now.steps (slice_index classes.now.representatives class) }
-        requires common { (written : ℕ) → common ≡ Some written → (written < class) × (slice_index classes.now.representatives written < 256) × LeadsAsEvery row.now.steps (slice_index classes.now.representatives written) }
+        requires some { (b : ℕ) → has_byte some.now b ≡ false → LeadsAsEvery row.now.steps b }
         ensures { IfSome result (λ transition. IsCellOf automaton.now classes.now self.now row.now.number class transition) }
     {
-        if !is_common {
-            return None;
-        }
         let stride = classes.count + 2;
+        let byte = classes.representatives[class];
         let under = self.entry_under(row.base, stride, class);
-        if !row.every {
+        let is_common = !some.has(byte);
+        if is_common && !row.every {
             return Some(under);
         }
-        let Some(written) = common else {
-            return None;
+        let kind = if is_common {
+            0
+        } else {
+            row.steps.kind_of(byte)
         };
+        let written = made.find_or_put(class, under, kind)?;
+        let other = classes.representatives[written];
         if self.entry_under(row.base, stride, written) != under {
+            return None;
+        }
+        if !are_alike(row, some, other, byte) {
             return None;
         }
         Some(self.rows[row.number * stride + written])
@@ -528,6 +532,15 @@ impl Determinizer {
 fn max_waiting(automaton: &Draft) -> usize {
     let starts = automaton.starts().len();
     starts.saturating_add(WAITING.max(starts / 2))
+}
+
+/// Returns whether the steps of a row lead to the same states by two bytes. `some` has the bytes of its steps by some bytes.
+fn are_alike(row: &Row, some: &ByteSet, first: u8, second: u8) -> bool
+    requires { (b : ℕ) → has_byte some.now b ≡ false → LeadsAsEvery row.now.steps b }
+    ensures { IsTrue result → LeadAlike row.now.steps first second }
+{
+    let are_common = !some.has(first) && !some.has(second);
+    are_common || row.steps.lead_alike(first, second)
 }
 
 /// Returns the number of the state that an entry leads to.

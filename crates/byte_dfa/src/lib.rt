@@ -8,6 +8,7 @@ mod classes;
 mod determinizer;
 mod dfa;
 mod lists;
+mod made;
 
 pub use classes::ByteClasses;
 pub use dfa::Dfa;

@@ -30,6 +30,10 @@ is_by_some steps b = is_some_byte steps.by_some.items b
 abbrev pub LeadsAsEvery : ByteSteps → ℕ → Type 0
 LeadsAsEvery steps b = (t : ℕ) → leads_to steps b t ≡ has_state steps.by_every t
 
+-- two bytes lead to the same states
+abbrev pub LeadAlike : ByteSteps → ℕ → ℕ → Type 0
+LeadAlike steps a b = (t : ℕ) → leads_to steps a t ≡ leads_to steps b t
+
 -- steps have room for the states below this
 abbrev pub step_capacity : ByteSteps → ℕ
 step_capacity steps = state_capacity steps.by_every

@@ -29,13 +29,13 @@ pub struct ByteSteps {
 }
 
 impl ByteSteps {
-    ghost use Rattle.std.specs.Prelude.{◌≡◌, ℕ, ◌+◌, ◌<◌, ◌≤◌, ◌&&◌, ◌||◌, ◌==◌, ◌↔◌, ◌∷◌, List, false, IsFalse, IfOk, OnOk};
+    ghost use Rattle.std.specs.Prelude.{◌≡◌, ℕ, ◌+◌, ◌<◌, ◌≤◌, ◌&&◌, ◌||◌, ◌==◌, ◌↔◌, ◌∷◌, List, false, IsFalse, IsTrue, IfOk, OnOk};
     ghost use Rattle.bit_sets.specs.Bytes.{has_byte};
     ghost use Rattle.bit_sets.specs.StateSets.{has_state};
     ghost use Rattle.byte_nfa.specs.Steps.{Machine};
     ghost use Rattle.byte_nfa.specs.Runs.{AcceptsFrom};
     ghost use Rattle.bit_sets.specs.declared.state_set.StateSet.{StateSet};
-    ghost use Rattle.byte_nfa.specs.ByteSteps.{is_by_some, leads_to, step_capacity, AreStepsOf, LeadsAsEvery};
+    ghost use Rattle.byte_nfa.specs.ByteSteps.{is_by_some, leads_to, step_capacity, AreStepsOf, LeadAlike, LeadsAsEvery};
 
     /// Returns no steps, with room for so many states. It takes a bit of memory for each. Returns an error if memory runs
     /// out.
@@ -89,6 +89,31 @@ impl ByteSteps {
         ensures { IsFalse result → (t : ℕ) → has_state self.now.by_every t ≡ false }
     {
         !self.by_every.is_empty()
+    }
+
+    /// Returns whether the steps by some bytes have both of two bytes or none. If so, both lead to the same states.
+    pub fn lead_alike(&self, first: u8, second: u8) -> bool
+        ensures { IsTrue result → LeadAlike self.now first second }
+    {
+        for step in &self.by_some {
+            if step.bytes.has(first) != step.bytes.has(second) {
+                return false;
+            }
+        }
+        true
+    }
+
+    /// Returns a number that tells bytes apart which lead to different states, unless there are more than 64 steps by some bytes.
+    pub fn kind_of(&self, byte: u8) -> u64 {
+        let mut kind = 0;
+        let mut bit = 1u64;
+        for step in &self.by_some {
+            if step.bytes.has(byte) {
+                kind |= bit;
+            }
+            bit = bit.rotate_left(1);
+        }
+        kind
     }
 
     /// Puts the states that a byte leads to into a set, beside those that it has.

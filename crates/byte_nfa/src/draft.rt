@@ -164,6 +164,33 @@ impl Draft {
         changes
     }
 
+    /// Returns whether each set of bytes that a state reads has both of two bytes or neither. If so, what follows either byte leads
+    /// to the same ends.
+    pub fn reads_alike(&self, first: u8, second: u8) -> bool
+        ensures { IsTrue result → AreEquivalent self.now.states first second }
+    {
+        for set in &self.sets {
+            if set.has(first) != set.has(second) {
+                return false;
+            }
+        }
+        true
+    }
+
+    /// Returns a number that is the same for bytes that are read alike, and mostly another one for others: a bit for each set of
+    /// bytes that has the byte, where one of 64 bits may stand for several sets.
+    pub fn kind_of(&self, byte: u8) -> u64 {
+        let mut kind = 0;
+        let mut bit = 1u64;
+        for set in &self.sets {
+            if set.has(byte) {
+                kind |= bit;
+            }
+            bit = bit.rotate_left(1);
+        }
+        kind
+    }
+
     /// Puts what a state of `from` goes on to without a byte into `from`, and its step by a byte into `into`. Returns an error
     /// if memory runs out.
     pub(crate) fn put_steps(

@@ -4,7 +4,7 @@ use Rattle.std.specs.Prelude.{◌↔◌, ◌&&◌, ◌||◌, slice_get}
 use Rattle.std.proofs.lemmas.Bool.{cases_lt, or_cases}
 use Rattle.std.proofs.lemmas.Option.{slice_get_within}
 use Rattle.std.proofs.Math.Logic.{⊎_elim}
-use Rattle.byte_nfa.specs.ByteSteps.{leads_to, LeadsAsEvery}
+use Rattle.byte_nfa.specs.ByteSteps.{leads_to, LeadAlike, LeadsAsEvery}
 use Rattle.byte_nfa.specs.Runs.{AcceptsFrom}
 use Rattle.bit_sets.specs.StateSets.{has_state}
 use Rattle.byte_nfa.specs.Steps.{Machine}
@@ -72,12 +72,12 @@ module _ (m : Machine) where
       λ a. (beside b byte y k).1 (inl ((goes y k).1 a)),
     )
 
-    -- by bytes that lead to one set from the base, and only where every byte does beside it
-    pub equivalent : (below : StateSet) (a b : ℕ) → a < 256 → b < 256 → GoesTo m base a below → GoesTo m base b below → LeadsAsEvery steps a → LeadsAsEvery steps b
+    -- by bytes that lead to one set from the base, and to the same states beside it
+    pub equivalent : (below : StateSet) (a b : ℕ) → a < 256 → b < 256 → GoesTo m base a below → GoesTo m base b below → LeadAlike steps a b
         → (y : List ℕ) (k : ℕ) → AcceptsFrom m from (a ∷ y) k ↔ AcceptsFrom m from (b ∷ y) k
-    equivalent below a b la lb goes goes' every every' y k = iff_trans (beside a la y k) (iff_trans (either (iff_trans (goes y k) (iff_sym (goes' y k))) (
-      λ (t, lt, at, h). (t, lt, every' t ∙ sym (every t) ∙ at, h),
-      λ (t, lt, at, h). (t, lt, every t ∙ sym (every' t) ∙ at, h),
+    equivalent below a b la lb goes goes' alike y k = iff_trans (beside a la y k) (iff_trans (either (iff_trans (goes y k) (iff_sym (goes' y k))) (
+      λ (t, lt, at, h). (t, lt, sym (alike t) ∙ at, h),
+      λ (t, lt, at, h). (t, lt, alike t ∙ at, h),
     )) (iff_sym (beside b lb y k)))
 
   pub row_kept : (old new : List Found) (row : Row) → KeepsFound old new → IsRowOf m old row → IsRowOf m new row

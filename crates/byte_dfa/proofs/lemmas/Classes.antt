@@ -13,22 +13,22 @@ divided_first a class_of representatives zero_of zero_first b lt =
     subst (λ x. (slice_index class_of x ≤ 0) × AreEquivalent a (slice_index representatives (slice_index class_of x)) x) (sym is)
     (rw zero_of (omega arith), λ s. rw (zero_of, zero_first) refl)
 
--- a byte that is read as the one before it, whose class is the last
-pub equivalent_next : (a : List State) (class_of representatives : List ℕ) (last i : ℕ) → 0 < i → IsDivided a class_of representatives last i → slice_index class_of (i - 1) ≡ last
-    → AreEquivalent a (i - 1) (i - 1 + 1) → AreEquivalent a (slice_index representatives last) i
-equivalent_next a class_of representatives last i some old is same =
+-- a byte that is read as the one before it, with the class of that one
+pub equivalent_next : (a : List State) (class_of representatives : List ℕ) (last class i : ℕ) → 0 < i → IsDivided a class_of representatives last i → slice_index class_of (i - 1) ≡ class
+    → AreEquivalent a (i - 1) (i - 1 + 1) → (class ≤ last) × AreEquivalent a (slice_index representatives class) i
+equivalent_next a class_of representatives last class i some old is same =
     let one : i - 1 + 1 ≡ i = omega arith in
-    let before : AreEquivalent a (slice_index representatives last) (i - 1) = subst (λ c. AreEquivalent a (slice_index representatives c) (i - 1)) is (old (i - 1) (omega arith)).1 in
-    subst (AreEquivalent a (slice_index representatives last)) one (λ s. before s ∙ same s)
+    let (le, before) : (class ≤ last) × AreEquivalent a (slice_index representatives class) (i - 1) = subst (λ c. (c ≤ last) × AreEquivalent a (slice_index representatives c) (i - 1)) is (old (i - 1) (omega arith)) in
+    (le, subst (AreEquivalent a (slice_index representatives class)) one (λ s. before s ∙ same s))
 
 module _ (a : List State) (class_of representatives : List ℕ) (last i : ℕ) (old : IsDivided a class_of representatives last i) (room : i < length class_of) where
-  -- a byte more, in the last class
-  pub divided_same : AreEquivalent a (slice_index representatives last) i → IsDivided a (slice_set class_of i last) representatives last (i + 1)
-  divided_same equivalent b lt = ⊎_elim {C = (slice_index (slice_set class_of i last) b ≤ last) × AreEquivalent a (slice_index representatives (slice_index (slice_set class_of i last) b)) b}
-      (λ low. let ne : b ≢ i = omega arith in let same : slice_index (slice_set class_of i last) b ≡ slice_index class_of b = get_or-set_other class_of i b last 0 ne in
+  -- a byte more, in a class that is there
+  pub divided_same : (class : ℕ) → (class ≤ last) × AreEquivalent a (slice_index representatives class) i → IsDivided a (slice_set class_of i class) representatives last (i + 1)
+  divided_same class equivalent b lt = ⊎_elim {C = (slice_index (slice_set class_of i class) b ≤ last) × AreEquivalent a (slice_index representatives (slice_index (slice_set class_of i class) b)) b}
+      (λ low. let ne : b ≢ i = omega arith in let same : slice_index (slice_set class_of i class) b ≡ slice_index class_of b = get_or-set_other class_of i b class 0 ne in
       subst (λ c. (c ≤ last) × AreEquivalent a (slice_index representatives c) b) (sym same) (old b low))
-      (λ past. let is : b ≡ i = omega arith in let here : slice_index (slice_set class_of i last) b ≡ last = ap (slice_index (slice_set class_of i last)) is ∙ get_or-set_same class_of i last 0 room in
-      subst (λ c. (c ≤ last) × AreEquivalent a (slice_index representatives c) b) (sym here) (omega arith, subst (AreEquivalent a (slice_index representatives last)) (sym is) equivalent))
+      (λ past. let is : b ≡ i = omega arith in let here : slice_index (slice_set class_of i class) b ≡ class = ap (slice_index (slice_set class_of i class)) is ∙ get_or-set_same class_of i class 0 room in
+      subst (λ c. (c ≤ last) × AreEquivalent a (slice_index representatives c) b) (sym here) (equivalent.0, subst (AreEquivalent a (slice_index representatives class)) (sym is) equivalent.1))
       (cases_lt b i)
 
   -- the first byte of a class

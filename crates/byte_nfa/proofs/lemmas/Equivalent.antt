@@ -1,5 +1,5 @@
 -- Bytes that states read alike lead to the same ends.
-use Rattle.std.proofs.Common.{◌≡◌, ℕ, ◌+◌, ◌<◌, Bool, true, false, true≢false, ◌||◌, List, ◌∷◌, IsTrue, arith, refl, ap, sym, subst, ◌∙◌, below_more}
+use Rattle.std.proofs.Common.{◌≡◌, ℕ, zero, suc, get_or, length, [], ◌+◌, ◌<◌, Bool, true, false, true≢false, ◌||◌, List, ◌∷◌, IsTrue, arith, refl, ap, sym, subst, ◌∙◌, below_more}
 use Rattle.std.specs.Prelude.{◌↔◌, IsFalse}
 use Rattle.bit_sets.specs.declared.byte_set.ByteSet.{ByteSet}
 use Rattle.bit_sets.specs.declared.state_set.StateSet.{StateSet}
@@ -7,6 +7,9 @@ use Rattle.bit_sets.specs.Bytes.{has_byte, differ}
 use Rattle.byte_nfa.specs.Steps.{State, reads, stays, state, Machine, Accepts, ends, by_byte, by_skip, by_out, by_stay}
 use Rattle.byte_nfa.specs.Runs.{AcceptsFrom}
 use Rattle.byte_nfa.specs.Equivalent.{reads_byte, AreEquivalent}
+use Rattle.byte_nfa.specs.inner.Views.{set_at, of_state, of_states, IsHeld, AreHeld}
+use Rattle.byte_nfa.specs.declared.state.State as declared
+use Rattle.byte_nfa.specs.declared.state.State.TheVariants.{Bytes, Union, Loop, Match}
 use Rattle.byte_nfa.proofs.lemmas.Pass.{or_none}
 
 -- one state more: those so far read both bytes or neither exactly if the test fails
@@ -57,3 +60,22 @@ from_equivalent m set b c z k equivalent = (
   λ (t, lt, at, h). (t, lt, at, accepts_equivalent m.states k b c z equivalent t (b ∷ z) h refl),
   λ (t, lt, at, h). (t, lt, at, accepts_equivalent m.states k c b z (λ s. sym (equivalent s)) t (c ∷ z) h refl),
 )
+
+-- where each set has both bytes or neither, each state reads both or neither
+
+pub set_read : (sets : List ByteSet) (n : ℕ) (d : ByteSet) → n < length sets → get_or sets n d ≡ set_at sets n
+set_read [] n d lt = absurd (omega arith)
+set_read (x ∷ xs) zero d lt = refl
+set_read (x ∷ xs) (suc n) d lt = set_read xs n d (omega arith)
+
+module _ (sets : List ByteSet) (targets : List ℕ) (a b : ℕ) (alike : (n : ℕ) → n < length sets → has_byte (set_at sets n) a ≡ has_byte (set_at sets n) b) where
+  alike_state : (x : declared.State) → IsHeld sets targets x → reads_byte (of_state sets targets x) a ≡ reads_byte (of_state sets targets x) b
+  alike_state (Bytes n t) held = alike n held
+  alike_state (Union at) held = refl
+  alike_state (Loop n t) held = alike n held
+  alike_state (Match k) held = refl
+
+  pub alike_states : (xs : List declared.State) → AreHeld sets targets xs → AreEquivalent (of_states sets targets xs) a b
+  alike_states [] held s = refl
+  alike_states (x ∷ xs) held zero = alike_state x held.0
+  alike_states (x ∷ xs) held (suc s) = alike_states xs held.1 s

@@ -7,6 +7,7 @@ invariant-loop-i l = record {
   classes_len : length l.class_of ≡ 256;
   representatives_len : length l.representatives ≡ 256;
   few : l.last < l.i;
-  last : slice_index l.class_of (l.i - 1) ≡ l.last;
+  kinds_len : length l.kinds ≡ 256;
+  class : slice_index l.class_of (l.i - 1) ≡ l.class;
   divided : IsDivided l.automaton.states l.class_of l.representatives l.last l.i;
 }

@@ -1,4 +1,4 @@
-use Rattle.std.proofs.Common.{◌≡◌, ◌+◌, ◌*◌, ◌<◌, ◌≤◌, length, slice_index, refl, subst, arith}
+use Rattle.std.proofs.Common.{◌≡◌, ◌+◌, ◌*◌, ◌<◌, ◌≤◌, length, slice_index, refl, sym, ◌∙◌, subst, arith}
 use Rattle.std.proofs.lemmas.Option.{get_or_from_slice_get, slice_get_read}
 use Rattle.byte_dfa.specs.declared.determinizer.Found.{Found}
 use Rattle.byte_dfa.specs.inner.Building.{GoesTo, IsCell, IsEntryTo}
@@ -13,18 +13,7 @@ entry_under-requires c = λ some.
     let w = c.args.classes.now.count in
     let rows = c.args.self.now.rows.items in
     let row = c.args.row.now in
-    let (before, byte, every) = c.requires.common c.in-Some.written c.in-Some.is in
-    base_place row w c.in-Some.written (length rows) c.requires.row.written (omega (arith, c.requires.place)) (omega (arith, before, c.requires.class)) some
-
-pub overflow_add-row : goal.overflow_add-row
-overflow_add-row c =
-    let (before, byte, every) = c.requires.common c.in-Some.written c.in-Some.is in
-    omega (arith, before, c.requires.place, c.args.self.now.rows.ok.0)
-
-pub index-requires : goal.index-requires
-index-requires c =
-    let (before, byte, every) = c.requires.common c.in-Some.written c.in-Some.is in
-    omega (arith, before, c.requires.place, c.args.self.now.rows.ok.0)
+    base_place row w c.in_ok-written.written (length rows) c.requires.row.written (omega (arith, c.requires.place)) (omega (arith, c.requires.class, c.in_ok-written.ensures)) some
 
 pub returns-then-not-row : goal.returns-then-not-row
 returns-then-not-row c =
@@ -44,7 +33,7 @@ returns-then-not-row c =
     let place : row.number * (w + 2) ≤ length rows = omega (arith, c.requires.place) in
     let (j, h, at, goes, leads) = under_row m representatives w found lists rows sound.sets sound.cells row c.requires.row col u.result g there place c.requires.class u.ensures.dead u.ensures.written in
     cell_goes m representatives w found lists row.number col u.result j f h here at c.requires.class
-    (goes_same m f.states g.states steps (c.requires.row.beside f g here there) h.states (slice_index representatives col) c.requires.byte goes (c.requires.this c.if-not-is_common.false) (c.requires.row.every c.if-not-row.true))
+    (goes_same m f.states g.states steps (c.requires.row.beside f g here there) h.states (slice_index representatives col) (omega arith) goes (c.requires.some (slice_index representatives col) (sym c.has-is_common.ensures ∙ c.if-is_common.true)) (c.requires.row.every c.if-not-row.true))
     leads
 
 pub returns : goal.returns
@@ -59,8 +48,8 @@ returns c =
     let steps = c.args.row.now.steps in
     let col = c.args.class in
     let sound = c.requires.sound in
-    let written = c.in-Some.written in
-    let (before, byte', every') = c.requires.common written c.in-Some.is in
+    let written = c.in_ok-written.written in
+    let before = c.in_ok-written.ensures in
     let short : written < w = omega (arith, before, c.requires.class) in
     let u = c.entry_under-under in
     let v = c.entry_under in
@@ -75,7 +64,7 @@ returns c =
     let one : j ≡ j' = one_target lists w j j' h h' u.result (low_place found w j h at few) (low_place found w j' h' at' few) leads leads'' in
     let one_set : h' ≡ h = cc (one, at, at') in
     let goes'' : GoesTo m g.states (slice_index representatives written) h.states = subst (λ (x : Found). GoesTo m g.states (slice_index representatives written) x.states) one_set goes' in
-    let both = equivalent m f.states g.states steps (c.requires.row.beside f g here there) h.states (slice_index representatives col) (slice_index representatives written) c.requires.byte byte' goes goes'' (c.requires.this c.if-not-is_common.false) every' in
+    let both = equivalent m f.states g.states steps (c.requires.row.beside f g here there) h.states (slice_index representatives col) (slice_index representatives written) (omega arith) (omega arith) goes goes'' (λ t. sym (c.are_alike.ensures c.if-not-are_alike.false t)) in
     let e = c.index.result.now in
     let read : slice_index rows (row.number * (w + 2) + written) ≡ e =
     get_or_from_slice_get rows (row.number * (w + 2) + written) e 0 (slice_get_read rows (length rows) (row.number * (w + 2) + written) e refl (omega (arith, c.requires.place, before)) c.index.ensures) in

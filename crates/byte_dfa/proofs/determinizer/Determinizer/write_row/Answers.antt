@@ -1,14 +1,12 @@
-use Rattle.std.proofs.Common.{◌≡◌, ℕ, ◌+◌, ◌*◌, ◌<◌, ◌∷◌, [], ◌++◌, Some, length, slice_index, refl, ap, sym, ◌∙◌, subst, arith, length-append, true≢false}
+use Rattle.std.proofs.Common.{◌≡◌, ℕ, ◌+◌, ◌*◌, ◌<◌, ◌∷◌, [], ◌++◌, Some, length, refl, ap, sym, ◌∙◌, arith, length-append, true≢false}
 use Rattle.std.specs.Prelude.{slice_get}
-use Rattle.std.proofs.lemmas.Bool.{not-true}
 use Rattle.std.proofs.lemmas.Option.{slice_get_read}
 use Rattle.std.proofs.lemmas.Result.{IfOk-from_err}
-use Rattle.byte_nfa.specs.ByteSteps.{LeadsAsEvery}
 use Rattle.byte_dfa.proofs.lemmas.Bases.{row_kept}
 use Rattle.byte_dfa.proofs.lemmas.Found.{keeps_trans}
 use Rattle.byte_dfa.proofs.lemmas.Cells.{cell_entry, cell_end, cells_push}
 use Rattle.byte_dfa.proofs.determinizer.Determinizer.write_row.Goals as goal
-use Rattle.byte_dfa.proofs.determinizer.Determinizer.write_row.Goals.{in-Some+in_ok-push-in-Some, in-None+in_ok-made-in-None+in-Some-made+in_ok-push-in-None, then-is_common, else-is_common}
+use Rattle.byte_dfa.proofs.determinizer.Determinizer.write_row.Goals.{in-Some+in_ok-push-in-Some, in-None+in_ok-made-in-None+in-Some-made+in_ok-push-in-None}
 
 pub loop-class-init : goal.loop-class-init
 loop-class-init c = record {
@@ -17,7 +15,6 @@ loop-class-init c = record {
   few = omega arith;
   keeps = (omega arith, λ i f at. at);
   place = omega (arith, c.requires.place);
-  common = λ written is. cc;
 }
 
 pub shared_entry-requires : goal.shared_entry-requires
@@ -30,9 +27,7 @@ shared_entry-requires c =
       row = row_kept c.args.automaton.now c.args.self.now.found.items c.loop-class.self.found.items c.args.row.now inv.keeps c.requires.row;
       place = inv.place;
       class = omega arith;
-      byte = omega arith;
-      this = λ yes. c.some_bytes-some.ensures.others (slice_index c.args.classes.now.representatives c.loop-class.class) (sym c.has-is_common.ensures ∙ not-true c.has-is_common.result yes);
-      common = inv.common;
+      some = c.some_bytes-some.ensures.others;
     }
 
 pub returns-in_err-push-in-Some-clause-sound : goal.returns-in_err-push-in-Some-clause-sound
@@ -93,16 +88,6 @@ loop-class-preserved c =
     let l = c.loop-class in
     let inv = l.invariant in
     let row = c.args.row.now.number in
-    let steps = c.args.row.now.steps in
-    let byte : slice_index representatives l.class < 256 = omega arith in
-    let common : (written : ℕ) → c.if-is_common.common ≡ Some written → (written < l.class + 1) × (slice_index representatives written < 256) × LeadsAsEvery steps (slice_index representatives written) =
-    λ written is. elim c.if-is_common.branch [
-      | then-is_common w ↦
-          let this_one : l.class ≡ written = cc (is, w.common-is) in
-          let every = c.some_bytes-some.ensures.others (slice_index representatives l.class) (sym c.has-is_common.ensures ∙ w.if-is_common.true) in
-          (omega arith, subst (λ i. slice_index representatives i < 256) this_one byte, subst (λ i. LeadsAsEvery steps (slice_index representatives i)) this_one every)
-      | else-is_common w ↦ let (before, byte', every) = inv.common written (sym w.common-is ∙ is) in (omega arith, byte', every)
-    ] in
     elim c.match-shared_entry.branch [
       | in-Some+in_ok-push-in-Some w ↦
           let rows = l.self.rows.items in
@@ -116,7 +101,6 @@ loop-class-preserved c =
             few = inv.few;
             keeps = inv.keeps;
             place = rw w.in_ok-push-in-Some.ensures.items (omega (arith, place, length-append rows (e ∷ [])));
-            common = common;
           }
       | in-None+in_ok-made-in-None+in-Some-made+in_ok-push-in-None w ↦
           let grows = rw w.in-Some-made.is at w.in_ok-made-in-None.ensures.grows in
@@ -132,7 +116,6 @@ loop-class-preserved c =
             few = let few = grows.few in omega (arith, inv.few);
             keeps = keeps_trans c.args.self.now.found.items l.self.found.items new.found.items inv.keeps grows.keeps;
             place = rw w.in_ok-push-in-None.ensures.items (omega (arith, place, length-append new.rows.items (e ∷ [])));
-            common = common;
           }
     ]
 

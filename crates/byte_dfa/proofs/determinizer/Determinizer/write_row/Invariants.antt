@@ -1,6 +1,5 @@
-use Rattle.std.proofs.Common.{◌≡◌, ℕ, ◌+◌, ◌*◌, ◌<◌, ◌≤◌, Some, length, slice_index}
+use Rattle.std.proofs.Common.{◌≡◌, ◌+◌, ◌*◌, ◌≤◌, length}
 use Rattle.bit_sets.specs.StateSets.{state_capacity}
-use Rattle.byte_nfa.specs.ByteSteps.{LeadsAsEvery}
 use Rattle.byte_dfa.specs.inner.Building.{IsSound, KeepsFound, total}
 use Rattle.byte_dfa.proofs.determinizer.Determinizer.write_row.Given as goal
 
@@ -11,5 +10,4 @@ invariant-loop-class l = record {
   few : total l.classes l.self ≤ total l.classes l.fn.self;
   keeps : KeepsFound l.fn.self.found.items l.self.found.items;
   place : length l.self.rows.items ≡ l.row.number * (l.classes.count + 2) + l.class;
-  common : (written : ℕ) → l.common ≡ Some written → (written < l.class) × (slice_index l.classes.representatives written < 256) × LeadsAsEvery l.row.steps (slice_index l.classes.representatives written);
 }
