@@ -1,4 +1,6 @@
 pub mod Entries
+pub mod FileValue
 pub mod FolderParts
 pub mod Stacks
 pub mod StackParts
+pub mod StoredValue

@@ -1,7 +1,7 @@
 //! What is kept of a rule beside its glob.
 
 ghost use Rattle.std.specs.Prelude.{◌≡◌, ◌∷◌, None, Some, length, slice_get};
-ghost use Rattle.git_ignore.specs.inner.Entries.{chosen, decision_of, is_for, last_chosen};
+ghost use Rattle.git_ignore.specs.inner.Entries.{chosen, decision_of, is_for, last_chosen, line_of_entry};
 
 use crate::decision::Decision;
 
@@ -31,6 +31,26 @@ impl RuleEntry {
         } else {
             Decision::Ignored
         }
+    }
+}
+
+/// Returns what is said of a path by the last entry that applies to it, if one does.
+pub fn decision_by(last: Option<RuleEntry>) -> Decision
+    ensures { result ≡ decision_of last }
+{
+    match last {
+        Some(entry) => entry.decision(),
+        None => Decision::Undecided,
+    }
+}
+
+/// Returns the number of the line of an entry, if there is one.
+pub fn line_by(last: Option<RuleEntry>) -> Option<usize>
+    ensures { result ≡ line_of_entry last }
+{
+    match last {
+        Some(entry) => Some(entry.line),
+        None => None,
     }
 }
 

@@ -6,10 +6,12 @@ ghost use Rattle.globset.specs.Errors.{out_of_memory};
 ghost use Rattle.globset.specs.SetValue.{FitsAsBefore};
 ghost use Rattle.git_ignore.specs.Folders.{file_decision, files_decision, ignores, is_below_ignored, decision_below};
 ghost use Rattle.git_ignore.specs.RulesValue.{FitsRules};
+ghost use Rattle.git_ignore.specs.inner.FileValue.{file_value};
 ghost use Rattle.git_ignore.specs.inner.FolderParts.{AreOfFiles, IsFileAdded};
 ghost use Rattle.git_ignore.specs.inner.Stacks.{FitAll, file_of, files_of};
 
 use crate::decision::Decision;
+use crate::file_rules::FileRules;
 use crate::rules::Rules;
 use crate::scratch::IgnoreScratch;
 use globset::Error;
@@ -23,7 +25,7 @@ const FEW_FOLDERS: usize = 256;
 pub struct FolderRules {
     /// The path of the folder: empty for the top folder, and otherwise with `/` at its end.
     folder: Vec<u8>,
-    rules: Rules,
+    rules: FileRules,
 }
 
 impl Drop for FolderRules {
@@ -37,28 +39,34 @@ impl Drop for FolderRules {
 }
 
 impl FolderRules {
-    /// Reads an ignore file of a folder, and makes the scratch fit its rules. Returns an error if memory runs out, and no other.
+    /// Reads an ignore file of a folder, and makes the scratch fit its rules. A searcher of them is made if it takes at most
+    /// `most_bytes`. Returns an error if memory runs out, and no other.
     pub fn new(
         alloc: Global,
         folder: &[u8],
         file: &[u8],
+        most_bytes: usize,
         scratch: &mut IgnoreScratch,
     ) -> Result<FolderRules, Error>
         ensures file { IfOk result (λ r. file_of r ≡ record { folder = folder.now; bytes = file.now }) }
-        ensures fits { IfOk result (λ r. FitsRules scratch.new r.rules) }
+        ensures fits { IfOk result (λ r. FitsRules scratch.new (file_value r.rules)) }
         ensures others { FitsAsBefore scratch.old scratch.new }
         ensures err { IfErr result (λ e. e ≡ out_of_memory) }
     {
         let rules = Rules::new(alloc, file)?;
         let folder = folder.to_vec(alloc)?;
         scratch.fit(&rules)?;
-        Ok(FolderRules { folder, rules })
+        Ok(FolderRules {
+            folder,
+            rules: FileRules::new(alloc, rules, most_bytes),
+        })
     }
 
     /// Returns what the file says of a path, which begins in the top folder.
-    fn decide(&self, path: &[u8], is_folder: bool, scratch: &mut IgnoreScratch) -> Decision
-        requires { FitsRules scratch.old self.now.rules }
-        ensures decision { result ≡ file_decision path.now is_folder (file_of self.now) }
+    fn decide(&mut self, path: &[u8], is_folder: bool, scratch: &mut IgnoreScratch) -> Decision
+        requires { FitsRules scratch.old (file_value self.old.rules) }
+        ensures decision { result ≡ file_decision path.now is_folder (file_of self.old) }
+        ensures kept { self.new ≡ self.old }
         ensures scratch { scratch.new ≡ scratch.old }
     {
         match path.strip_prefix(self.folder.as_slice()) {
@@ -69,9 +77,10 @@ impl FolderRules {
 
     /// Puts what the file says of each folder above a path, which begins in the top folder, at the index of the `/` after the
     /// folder, unless there is a decision already. All other items stay as they are. Returns an error if memory runs out.
-    fn decide_folders(&self, path: &[u8], decisions: &mut [Decision]) -> Result<(), Error>
+    fn decide_folders(&mut self, path: &[u8], decisions: &mut [Decision]) -> Result<(), Error>
         requires { length path.now ≤ length decisions.old }
-        ensures added { OnOk result (IsFileAdded (file_of self.now) path.now decisions.old decisions.new) }
+        ensures added { OnOk result (IsFileAdded (file_of self.old) path.now decisions.old decisions.new) }
+        ensures kept { self.new ≡ self.old }
         ensures err { IfErr result (λ e. e ≡ out_of_memory) }
     {
         match path.strip_prefix(self.folder.as_slice()) {
@@ -85,13 +94,14 @@ impl FolderRules {
 
 /// Returns what files say of a path, which begins in the top folder; a later file goes before an earlier one.
 fn decide_alone(
-    files: &[FolderRules],
+    files: &mut [FolderRules],
     path: &[u8],
     is_folder: bool,
     scratch: &mut IgnoreScratch,
 ) -> Decision
-    requires { FitAll scratch.old files.now }
-    ensures decision { result ≡ files_decision (files_of files.now) path.now is_folder }
+    requires { FitAll scratch.old files.old }
+    ensures decision { result ≡ files_decision (files_of files.old) path.now is_folder }
+    ensures files { files.new ≡ files.old }
     ensures scratch { scratch.new ≡ scratch.old }
 {
     let mut count = files.len();
@@ -109,16 +119,17 @@ fn decide_alone(
 /// before `start` is ignored. Returns an error if memory runs out.
 pub fn decide_below(
     alloc: Global,
-    files: &[FolderRules],
+    files: &mut [FolderRules],
     path: &[u8],
     start: usize,
     is_folder: bool,
     scratch: &mut IgnoreScratch,
 ) -> Result<Decision, Error>
-    requires fits { FitAll scratch.old files.now }
+    requires fits { FitAll scratch.old files.old }
     requires within { start ≤ length path.now }
-    requires above { is_below_ignored (files_of files.now) (take start path.now) ≡ false }
-    ensures decision { IfOk result (λ d. d ≡ decision_below (files_of files.now) path.now is_folder) }
+    requires above { is_below_ignored (files_of files.old) (take start path.now) ≡ false }
+    ensures decision { IfOk result (λ d. d ≡ decision_below (files_of files.old) path.now is_folder) }
+    ensures files { files.new ≡ files.old }
     ensures scratch { scratch.new ≡ scratch.old }
     ensures err { IfErr result (λ e. e ≡ out_of_memory) }
 {
@@ -132,15 +143,16 @@ pub fn decide_below(
 /// ignored. Returns an error if memory runs out.
 fn ignores_above(
     alloc: Global,
-    files: &[FolderRules],
+    files: &mut [FolderRules],
     path: &[u8],
     start: usize,
     scratch: &mut IgnoreScratch,
 ) -> Result<bool, Error>
-    requires fits { FitAll scratch.old files.now }
+    requires fits { FitAll scratch.old files.old }
     requires within { start ≤ length path.now }
-    requires above { is_below_ignored (files_of files.now) (take start path.now) ≡ false }
-    ensures ignored { IfOk result (λ ignored. ignored ≡ is_below_ignored (files_of files.now) path.now) }
+    requires above { is_below_ignored (files_of files.old) (take start path.now) ≡ false }
+    ensures ignored { IfOk result (λ ignored. ignored ≡ is_below_ignored (files_of files.old) path.now) }
+    ensures files { files.new ≡ files.old }
     ensures scratch { scratch.new ≡ scratch.old }
     ensures err { IfErr result (λ e. e ≡ out_of_memory) }
 {
@@ -174,15 +186,16 @@ fn end_of_few(path: &[u8], start: usize) -> usize
 
 /// The same as [`ignores_above`], by a pass over the path of each folder. It takes no memory.
 fn ignores_above_one_by_one(
-    files: &[FolderRules],
+    files: &mut [FolderRules],
     path: &[u8],
     start: usize,
     scratch: &mut IgnoreScratch,
 ) -> bool
-    requires fits { FitAll scratch.old files.now }
+    requires fits { FitAll scratch.old files.old }
     requires within { start ≤ length path.now }
-    requires above { is_below_ignored (files_of files.now) (take start path.now) ≡ false }
-    ensures ignored { result ≡ is_below_ignored (files_of files.now) path.now }
+    requires above { is_below_ignored (files_of files.old) (take start path.now) ≡ false }
+    ensures ignored { result ≡ is_below_ignored (files_of files.old) path.now }
+    ensures files { files.new ≡ files.old }
     ensures scratch { scratch.new ≡ scratch.old }
 {
     for end in start..path.len() {
@@ -195,14 +208,15 @@ fn ignores_above_one_by_one(
 
 /// Returns whether a `/` is at this place of a path, and files ignore the folder before it.
 fn ignores_folder(
-    files: &[FolderRules],
+    files: &mut [FolderRules],
     path: &[u8],
     end: usize,
     scratch: &mut IgnoreScratch,
 ) -> bool
-    requires fits { FitAll scratch.old files.now }
+    requires fits { FitAll scratch.old files.old }
     requires within { end < length path.now }
-    ensures ignored { result ≡ (slice_index path.now end == 47 && ignores (files_decision (files_of files.now) (take end path.now) true)) }
+    ensures ignored { result ≡ (slice_index path.now end == 47 && ignores (files_decision (files_of files.old) (take end path.now) true)) }
+    ensures files { files.new ≡ files.old }
     ensures scratch { scratch.new ≡ scratch.old }
 {
     path[end] == b'/' && decide_alone(files, &path[..end], true, scratch).is_ignored()
@@ -211,13 +225,14 @@ fn ignores_folder(
 /// The same as [`ignores_above`], by one pass over the path for each file.
 fn ignores_above_at_once(
     alloc: Global,
-    files: &[FolderRules],
+    files: &mut [FolderRules],
     path: &[u8],
     start: usize,
 ) -> Result<bool, Error>
     requires within { start ≤ length path.now }
-    requires above { is_below_ignored (files_of files.now) (take start path.now) ≡ false }
-    ensures ignored { IfOk result (λ ignored. ignored ≡ is_below_ignored (files_of files.now) path.now) }
+    requires above { is_below_ignored (files_of files.old) (take start path.now) ≡ false }
+    ensures ignored { IfOk result (λ ignored. ignored ≡ is_below_ignored (files_of files.old) path.now) }
+    ensures files { files.new ≡ files.old }
     ensures err { IfErr result (λ e. e ≡ out_of_memory) }
 {
     let decisions = decide_folders(alloc, files, path)?;
@@ -241,9 +256,14 @@ fn is_ignored_at(path: &[u8], decisions: &[Decision], end: usize) -> bool
 /// Returns what files say of each folder above a path, which begins in the top folder: at the index of the `/` after the folder.
 /// There are as many decisions as the path has bytes, and those at other bytes are [`Decision::Undecided`]. Returns an error if
 /// memory runs out.
-fn decide_folders(alloc: Global, files: &[FolderRules], path: &[u8]) -> Result<Vec<Decision>, Error>
+fn decide_folders(
+    alloc: Global,
+    files: &mut [FolderRules],
+    path: &[u8],
+) -> Result<Vec<Decision>, Error>
     ensures count { IfOk result (λ decisions. length decisions.items ≡ length path.now) }
-    ensures decisions { IfOk result (λ decisions. AreOfFiles (files_of files.now) path.now decisions.items) }
+    ensures decisions { IfOk result (λ decisions. AreOfFiles (files_of files.old) path.now decisions.items) }
+    ensures files { files.new ≡ files.old }
     ensures err { IfErr result (λ e. e ≡ out_of_memory) }
 {
     let mut decisions = vec![in alloc; Decision::Undecided; path.len()]?;
@@ -253,4 +273,13 @@ fn decide_folders(alloc: Global, files: &[FolderRules], path: &[u8]) -> Result<V
         files[count].decide_folders(path, &mut decisions)?;
     }
     Ok(decisions)
+}
+
+/// Returns how many bytes the searchers of files take together.
+pub fn searcher_bytes(files: &[FolderRules]) -> usize {
+    let mut bytes: usize = 0;
+    for file in files {
+        bytes = bytes.saturating_add(file.rules.searcher_bytes());
+    }
+    bytes
 }

@@ -1,38 +1,36 @@
 //! What the rules of a file say of all folders above a path, in one pass over it.
 
-ghost use Rattle.std.specs.Prelude.{◌≡◌, ℕ, List, OnOk, OnErr};
+ghost use Rattle.std.specs.Prelude.{◌≡◌, ℕ, List};
 ghost use Rattle.glob_prefixes.specs.Prefixes.{FitsPrefixes, IsAfter};
 ghost use Rattle.git_ignore.specs.FolderDecisions.{ArePut};
 ghost use Rattle.git_ignore.specs.inner.FolderParts.{put_at, said_of_folder};
 
 use crate::decision::Decision;
-use crate::entry::{RuleEntry, last_entry_for};
+use crate::entry::{RuleEntry, decision_by, last_entry_for};
 use glob_prefixes::{PrefixMatcher, PrefixStates};
 use globset::Visits;
-use std::alloc::{AllocError, Global};
 
 /// Puts what entries say of each folder above a path, at the index of the `/` after it, unless there is a decision already.
 ///
-/// The globs are matched with the path from `start` on, and folders that end before it are left out. Returns an error if memory runs
-/// out; nothing is put then.
+/// The globs are matched with the path from `start` on, and folders that end before it are left out. What the states held has no
+/// effect.
 pub fn put_decisions(
-    alloc: Global,
     prefixes: &PrefixMatcher,
     entries: &[RuleEntry],
+    states: &mut PrefixStates,
     path: &[u8],
     start: usize,
     decisions: &mut [Decision],
-) -> Result<(), AllocError>
-    ensures put { OnOk result (ArePut (said_of_folder prefixes.now.globs entries.now) path.now start decisions.old decisions.new) }
-    ensures kept { OnErr result (decisions.new ≡ decisions.old) }
+)
+    requires { FitsPrefixes states.old prefixes.now }
+    ensures put { ArePut (said_of_folder prefixes.now.globs entries.now) path.now start decisions.old decisions.new }
+    ensures fits { FitsPrefixes states.new prefixes.now }
 {
-    let mut states = PrefixStates::new(alloc, prefixes)?;
-    prefixes.start(&mut states);
+    prefixes.start(states);
     for at in start..path.len().min(decisions.len()) {
-        decisions[at] = next_decision(prefixes, entries, &mut states, path[at], decisions[at]);
-        prefixes.push(path[at], &mut states, &mut Visits::new());
+        decisions[at] = next_decision(prefixes, entries, states, path[at], decisions[at]);
+        prefixes.push(path[at], states, &mut Visits::new());
     }
-    Ok(())
 }
 
 /// Returns the decision at a byte, before which a path was read: what entries say of the path as a folder, if the byte is `/` and
@@ -56,8 +54,5 @@ fn next_decision(
         return before;
     }
     prefixes.matches(states, &mut Visits::new());
-    match last_entry_for(entries, states.matching(), true) {
-        Some(entry) => entry.decision(),
-        None => Decision::Undecided,
-    }
+    decision_by(last_entry_for(entries, states.matching(), true))
 }

@@ -24,6 +24,18 @@
 //! assert_eq!(rt; decisions[3], Decision::Ignored);
 //! ```
 //!
+//! [`RulesSearcher`] is rules with all the memory that one thread needs, to ask about many paths. Its calls cannot fail:
+//!
+//! ```rust
+//! use git_ignore::{Decision, Rules, RulesSearcher};
+//!
+//! let mut searcher = RulesSearcher::new(alloc, &Rules::new(alloc, b"*.o\n!a.o\n")?)?;
+//! for (path, line) in [(b"b.o", 1), (b"a.o", 2), (b"b.o", 1)] {
+//!     assert_eq!(rt; searcher.deciding_line(path, false), Some(line));
+//! }
+//! assert_eq!(rt; searcher.decide(b"a.c", false), Decision::Undecided);
+//! ```
+//!
 //! [`IgnoreStack`] has the files of nested folders, as a walk comes by them:
 //!
 //! ```rust
@@ -61,14 +73,18 @@
 
 mod decision;
 mod entry;
+mod file_rules;
 mod folder_rules;
 mod folders;
 mod reading;
 mod rules;
 mod scratch;
+mod searcher;
 mod stack;
+mod stored;
 
 pub use decision::Decision;
 pub use rules::Rules;
 pub use scratch::IgnoreScratch;
+pub use searcher::RulesSearcher;
 pub use stack::IgnoreStack;

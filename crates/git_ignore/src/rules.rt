@@ -1,63 +1,53 @@
 //! The rules of an ignore file.
 
+ghost use Rattle.std.specs.Arc.{arc_value};
 ghost use Rattle.std.specs.Prelude.{◌≡◌, true, IfOk, IfErr, OnOk, OnErr};
 ghost use Rattle.globset.specs.Errors.{out_of_memory};
 ghost use Rattle.git_ignore.specs.FolderDecisions.{ArePut};
 ghost use Rattle.git_ignore.specs.Rules.{deciding_line, decision, last_rule, rules_of};
 ghost use Rattle.git_ignore.specs.RulesValue.{FitsRules};
-ghost use Rattle.git_ignore.specs.inner.Entries.{AreEntriesOf, entry_of_rule};
+ghost use Rattle.git_ignore.specs.inner.Entries.{entry_of_rule};
+ghost use Rattle.git_ignore.specs.inner.StoredValue.{rules_value};
 
 use crate::decision::Decision;
-use crate::entry::{RuleEntry, last_entry_for};
-use crate::folders::put_decisions;
-use crate::reading::{RulesBuilder, after_mark, prefix_matcher, set_of};
+use crate::entry::{RuleEntry, decision_by, line_by};
+use crate::reading::{RulesBuilder, after_mark};
 use crate::scratch::IgnoreScratch;
-use glob_prefixes::PrefixMatcher;
+use crate::stored::StoredRules;
 use globset::{Candidate, Error, GlobSet, Visits};
-use std::alloc::Global;
+use std::alloc::{AllocError, Global};
 use std::marker::Model;
+use std::sync::Arc;
 
 /// The rules of an ignore file.
 ///
+/// To decide about many paths, make a [`crate::RulesSearcher`] of them.
+///
 /// Contracts see the bytes of the file, and the set of the globs of its rules.
 pub struct Rules {
-    /// The globs of the rules, without those that match nothing.
-    set: GlobSet,
-    /// The same globs, for all prefixes of a path.
-    prefixes: PrefixMatcher,
-    /// For each glob what its rule says.
-    entries: Vec<RuleEntry>,
+    /// Searchers share it.
+    stored: Arc<StoredRules>,
     unread: Vec<usize>,
-    file: Vec<u8>,
 }
 
 impl Drop for Rules {
     // One call wherever a value is dropped, which keeps proofs short.
     fn drop(self) {
         let Rules {
-            set: _,
-            prefixes: _,
-            entries: _,
+            stored: _,
             unread: _,
-            file: _,
         } = self;
     }
 }
 
 impl Model for Rules {
-    ghost use Rattle.globset.specs.SetValue.{set_globs};
-    ghost use Rattle.git_ignore.specs.Rules.{rules_of};
+    ghost use Rattle.std.specs.Arc.{arc_value};
     ghost use Rattle.git_ignore.specs.RulesValue.{RulesValue};
-    ghost use Rattle.git_ignore.specs.inner.Entries.{AreStored};
+    ghost use Rattle.git_ignore.specs.inner.StoredValue.{rules_value};
 
     ghost Value = { RulesValue };
 
-    ghost view = { λ r. record {
-      file = r.file.items;
-      set = r.set;
-    } };
-
-    ghost invariant = { λ r. AreStored (rules_of r.file.items) (set_globs r.set) r.prefixes r.entries.items };
+    ghost view = { λ r. rules_value (arc_value r.stored) };
 }
 
 impl Rules {
@@ -71,26 +61,9 @@ impl Rules {
     {
         let mut builder = RulesBuilder::new(alloc);
         builder.push_lines(alloc, after_mark(file))?;
-        Rules::finish(alloc, builder, file)
-    }
-
-    /// Returns the rules that were read from a file.
-    fn finish(alloc: Global, builder: RulesBuilder, file: &[u8]) -> Result<Rules, Error>
-        requires { AreEntriesOf (rules_of file.now) builder.globs.items builder.entries.items }
-        ensures file { IfOk result (λ r. r.file ≡ file.now) }
-        ensures err { IfErr result (λ e. e ≡ out_of_memory) }
-    {
         let (globs, entries, unread) = builder.into_parts();
-        let prefixes = prefix_matcher(alloc, &globs)?;
-        let set = set_of(alloc, globs)?;
-        let file = file.to_vec(alloc)?;
-        Ok(Rules {
-            set,
-            prefixes,
-            entries,
-            unread,
-            file,
-        })
+        let stored = Arc::new(alloc, StoredRules::new(alloc, globs, entries, file)?)?;
+        Ok(Rules { stored, unread })
     }
 
     /// Returns what the file says of a path below its folder: what the last rule that applies says.
@@ -102,10 +75,7 @@ impl Rules {
         ensures decision { result ≡ decision self.now.file path.now is_folder }
         ensures scratch { scratch.new ≡ scratch.old }
     {
-        match self.last_entry(path, is_folder, scratch) {
-            Some(entry) => entry.decision(),
-            None => Decision::Undecided,
-        }
+        decision_by(self.last_entry(path, is_folder, scratch))
     }
 
     /// Returns the number of the line, counted from 1, that has the last rule that applies to a path; `None` if no rule does.
@@ -119,10 +89,7 @@ impl Rules {
         ensures line { result ≡ deciding_line self.now.file path.now is_folder }
         ensures scratch { scratch.new ≡ scratch.old }
     {
-        match self.last_entry(path, is_folder, scratch) {
-            Some(entry) => Some(entry.line),
-            None => None,
-        }
+        line_by(self.last_entry(path, is_folder, scratch))
     }
 
     /// The same as [`Rules::decide`], with a scratch of its own. Returns an error if memory runs out, and no other.
@@ -130,7 +97,7 @@ impl Rules {
         ensures decision { IfOk result (λ d. d ≡ decision self.now.file path.now is_folder) }
         ensures err { IfErr result (λ e. e ≡ out_of_memory) }
     {
-        let mut scratch = IgnoreScratch::new(*self.file.allocator(), self)?;
+        let mut scratch = IgnoreScratch::new(self.stored.allocator(), self)?;
         Ok(self.decide(path, is_folder, &mut scratch))
     }
 
@@ -139,7 +106,7 @@ impl Rules {
         ensures line { IfOk result (λ n. n ≡ deciding_line self.now.file path.now is_folder) }
         ensures err { IfErr result (λ e. e ≡ out_of_memory) }
     {
-        let mut scratch = IgnoreScratch::new(*self.file.allocator(), self)?;
+        let mut scratch = IgnoreScratch::new(self.stored.allocator(), self)?;
         Ok(self.deciding_line(path, is_folder, &mut scratch))
     }
 
@@ -162,8 +129,9 @@ impl Rules {
         ensures kept { OnErr result (decisions.new ≡ decisions.old) }
         ensures err { IfErr result (λ e. e ≡ out_of_memory) }
     {
-        let alloc = *self.file.allocator();
-        put_decisions(alloc, &self.prefixes, &self.entries, path, start, decisions)?;
+        let mut states = self.stored.new_states(self.stored.allocator())?;
+        self.stored
+            .put_decisions(&mut states, path, start, decisions);
         Ok(())
     }
 
@@ -185,7 +153,7 @@ impl Rules {
         ensures scratch { scratch.new ≡ scratch.old }
     {
         let path = Candidate::from_bytes(path);
-        self.set
+        self.set()
             .matches_into_with(
                 &path,
                 &mut scratch.scratch,
@@ -193,13 +161,20 @@ impl Rules {
                 &mut Visits::new(),
             )
             .unwrap();
-        last_entry_for(&self.entries, &scratch.matching, is_folder)
+        self.stored.last_entry(&scratch.matching, is_folder)
     }
 
     /// Returns the set of the globs.
     pub(crate) fn set(&self) -> &GlobSet
         ensures { result.now ≡ self.now.set }
     {
-        &self.set
+        self.stored.set()
+    }
+
+    /// Returns what searchers share with the rules. Returns an error if 2^63 values share it, and in no other case.
+    pub(crate) fn share(&self) -> Result<Arc<StoredRules>, AllocError>
+        ensures { IfOk result (λ stored. rules_value (arc_value stored) ≡ self.now) }
+    {
+        Arc::try_clone(&self.stored)
     }
 }

@@ -6,11 +6,14 @@ ghost use Rattle.git_ignore.specs.Folders.{decision_below, ignores, is_below_ign
 ghost use Rattle.git_ignore.specs.StackValue.{at_top, entered, left, with_file};
 
 use crate::decision::Decision;
-use crate::folder_rules::{FolderRules, decide_below};
+use crate::folder_rules::{FolderRules, decide_below, searcher_bytes};
 use crate::scratch::IgnoreScratch;
 use globset::{Error, GlobSet};
 use std::alloc::{AllocError, Global};
 use std::marker::Model;
+
+/// How many bytes the searchers of a stack take together, at most.
+const MOST_SEARCHER_BYTES: usize = 1 << 23;
 
 /// A folder above the one that a walk is in.
 #[derive(Clone, Copy)]
@@ -34,6 +37,9 @@ pub struct FolderLevel {
 /// above it. A path below folders that were not entered costs such a pass for each of the first 256 of these too, and for the others
 /// together one further pass for each file: so the cost is linear in the bytes of the path, however many folders it has. The further
 /// pass takes memory for a decision at each byte of the path, and for the states of an automaton of the file's globs.
+///
+/// A file is asked by a [`crate::RulesSearcher`] if there is memory for it, and the searchers of all files take at most 8 MB together,
+/// as [`crate::RulesSearcher::bytes`] counts. Other files are asked with an [`IgnoreScratch`] that all of them share.
 pub struct IgnoreStack {
     alloc: Global,
     /// The path of the folder: empty for the top folder, and otherwise with `/` at its end.
@@ -106,13 +112,22 @@ impl IgnoreStack {
 
     /// Reads an ignore file of the folder that the walk is in, given by its bytes. It goes before the files that are there already.
     ///
+    /// A searcher of its rules is made first, of up to 16 MB, and dropped if that is more than there is room for.
+    ///
     /// Returns an error if memory runs out, and no other; nothing changed then.
     pub fn add_file(&mut self, file: &[u8]) -> Result<(), Error>
         ensures added { OnOk result (self.new ≡ with_file self.old file.now) }
         ensures kept { OnErr result (self.new ≡ self.old) }
         ensures err { IfErr result (λ e. e ≡ out_of_memory) }
     {
-        let rules = FolderRules::new(self.alloc, &self.folder, file, &mut self.scratch)?;
+        let most_bytes = MOST_SEARCHER_BYTES.saturating_sub(searcher_bytes(&self.files));
+        let rules = FolderRules::new(
+            self.alloc,
+            &self.folder,
+            file,
+            most_bytes,
+            &mut self.scratch,
+        )?;
         self.files.push(rules)?;
         Ok(())
     }
@@ -159,7 +174,7 @@ impl IgnoreStack {
         self.folder.extend_from_slice(path)?;
         let decision = decide_below(
             self.alloc,
-            &self.files,
+            &mut self.files,
             &self.folder,
             start,
             is_folder,

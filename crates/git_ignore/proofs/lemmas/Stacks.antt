@@ -1,10 +1,10 @@
 -- The folders above paths, and what the files of several folders say.
 use Rattle.std.proofs.Common.{◌≡◌, ℕ, zero, suc, ◌+◌, ◌-◌, ◌<◌, ◌≤◌, List, [], ◌∷◌, ◌++◌, length, take, drop, get_or, Bool, true, false, refl, ap, sym, subst, ◌∙◌, arith, length-append, append-nil, append_assoc}
-use Rattle.std.specs.Prelude.{◌==◌, ◌&&◌, ◌||◌, if◌then◌else◌, map, reverse}
+use Rattle.std.specs.Prelude.{◌==◌, ◌&&◌, ◌||◌, if◌then◌else◌, map, reverse, slice_set}
 use Rattle.std.specs.List.{list_any}
 use Rattle.std.specs.Str.{bytes_eq}
 use Rattle.std.proofs.lemmas.Bool.{false_from_ne_true}
-use Rattle.std.proofs.lemmas.List.{map-append, length-map, take_more, take-append-drop, take-append-le, length-take, reverse-append, take-map}
+use Rattle.std.proofs.lemmas.List.{map-append, length-map, take_more, take-append-drop, take-append-le, length-take, reverse-append, take-map, set-get_or}
 use Rattle.std.proofs.lemmas.List.Elements.{All-append, All-take}
 use Rattle.std.proofs.lemmas.List.Folds.{list_any-append}
 use Rattle.std.proofs.lemmas.Slice.Eq.{bytes_eq-Decides}
@@ -18,6 +18,7 @@ use Rattle.git_ignore.specs.declared.decision.Decision.{Decision}
 use Rattle.git_ignore.specs.declared.decision.Decision.TheVariants.{Ignored, Kept, Undecided}
 use Rattle.git_ignore.specs.declared.folder_rules.FolderRules.{FolderRules}
 use Rattle.git_ignore.specs.declared.stack.FolderLevel.{FolderLevel}
+use Rattle.git_ignore.specs.inner.FileValue.{file_value}
 use Rattle.git_ignore.specs.inner.Stacks.{file_of, files_of, FitAll, level_of, AreLevels}
 use Rattle.git_ignore.specs.inner.StackParts.{IsStack, stack_value}
 
@@ -207,11 +208,18 @@ level_pushed folder more files l ls e n i h =
 pub fit_still : (old new : ScratchValue) (files : List FolderRules) → FitsAsBefore old new → FitAll old files → FitAll new files
 fit_still old new files h all k d within = h _ _ (all k d within)
 
-fit_one : (scratch : ScratchValue) (f : FolderRules) → FitsRules scratch f.rules → FitAll scratch (f ∷ [])
+fit_one : (scratch : ScratchValue) (f : FolderRules) → FitsRules scratch (file_value f.rules) → FitAll scratch (f ∷ [])
 fit_one scratch f h zero d within = h
 fit_one scratch f h (suc k) d within = absurd (omega (arith, within))
 
+pub fit_still_there : (old scratch : ScratchValue) (files now : List FolderRules) → FitAll old files → scratch ≡ old → now ≡ files → FitAll scratch now
+fit_still_there old scratch files now all held same = subst (λ (fs : List FolderRules). FitAll scratch fs) (sym same) (subst (λ (s : ScratchValue). FitAll s files) (sym held) all)
+
 -- ---- files from the last to the first
+
+-- a file that was asked stays as it was, and so do the files
+pub asked : (files : List FolderRules) (i : ℕ) (f after : FolderRules) → after ≡ get_or files i f → slice_set files i after ≡ files
+asked files i f after kept = ap (slice_set files i) kept ∙ set-get_or files i f
 
 pub or_else_decided : (d e : Decision) → (d ≡ Undecided → ⊥) → or_else d e ≡ d
 or_else_decided Undecided e n = absurd (n refl)
@@ -248,7 +256,7 @@ one_reversed ls l = reverse-append ls (l ∷ [])
 -- an ignore file of the folder is added
 pub file_added : (folder shown bytes : List ℕ) (b : Bool) (files all : List FolderRules) (levels : List FolderLevel) (old new : ScratchValue) (r : FolderRules)
     → IsStack folder b files levels old → all ≡ files ++ r ∷ [] → file_of r ≡ record { folder = shown; bytes = bytes } → shown ≡ folder
-    → FitsAsBefore old new → FitsRules new r.rules → IsStack folder b all levels new
+    → FitsAsBefore old new → FitsRules new (file_value r.rules) → IsStack folder b all levels new
 file_added folder shown bytes b files all levels old new r h put is same before fits =
     let place : (file_of r).folder ≡ folder = ap (λ (f : IgnoreFile). f.folder) is ∙ same in
     let more : files_of all ≡ files_of files ++ file_of r ∷ [] = ap files_of put ∙ map-append file_of files (r ∷ []) in
@@ -258,7 +266,7 @@ file_added folder shown bytes b files all levels old new r h put is same before 
           ∙ ap (λ (fs : List IgnoreFile). is_below_ignored fs folder) (sym more);
       above = subst (λ (fs : List IgnoreFile). AreLevels folder fs (reverse levels)) (sym more) (levels_kept folder (files_of files) (file_of r ∷ []) (reverse levels) h.above);
       fits = subst (λ (fs : List FolderRules). FitAll new fs) (sym put)
-          (All-append (λ (f : FolderRules). FitsRules new f.rules) files (r ∷ []) (fit_still old new files before h.fits) (fit_one new r fits));
+          (All-append (λ (f : FolderRules). FitsRules new (file_value f.rules)) files (r ∷ []) (fit_still old new files before h.fits) (fit_one new r fits));
     }
 
 -- a folder is entered
@@ -286,7 +294,7 @@ folder_left folder shorter_folder b files fewer levels rest scratch l h popped c
     record {
       ignored = all.0.ignored ∙ (λ k. is_below_ignored (sym few k) (sym cut k));
       above = subst (λ (fs : List IgnoreFile). AreLevels shorter_folder fs (reverse rest)) (sym few) (subst (λ (p : List ℕ). AreLevels p (take l.files (files_of files)) (reverse rest)) (sym cut) all.1);
-      fits = subst (λ (fs : List FolderRules). FitAll scratch fs) (sym cut_files) (All-take (λ (f : FolderRules). FitsRules scratch f.rules) l.files files h.fits);
+      fits = subst (λ (fs : List FolderRules). FitAll scratch fs) (sym cut_files) (All-take (λ (f : FolderRules). FitsRules scratch (file_value f.rules)) l.files files h.fits);
     }
 
 pub left_value : (folder shorter_folder : List ℕ) (files fewer : List FolderRules) (levels rest : List FolderLevel) (l : FolderLevel)

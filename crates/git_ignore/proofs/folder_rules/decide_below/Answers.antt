@@ -1,4 +1,6 @@
-use Rattle.std.proofs.Common.{sym, ◌∙◌}
+use Rattle.std.proofs.Common.{List, ap, sym, ◌∙◌}
+use Rattle.git_ignore.specs.Folders.{files_decision}
+use Rattle.git_ignore.specs.declared.folder_rules.FolderRules.{FolderRules}
 use Rattle.git_ignore.specs.inner.Stacks.{files_of}
 use Rattle.git_ignore.proofs.lemmas.Stacks.{ignored_above, not_below_ignored}
 use Rattle.git_ignore.proofs.folder_rules.decide_below.Goals as goal
@@ -9,4 +11,6 @@ returns-then-branch-clause-decision c =
 
 pub returns-clause-decision : goal.returns-clause-decision
 returns-clause-decision c =
-    c.decide_alone.ensures.decision ∙ not_below_ignored (files_of c.args.files.now) c.args.path.now c.args.is_folder (sym c.in_ok-ignores_above.ensures.ignored ∙ c.if-branch.false)
+    c.decide_alone.ensures.decision
+    ∙ ap (λ (fs : List FolderRules). files_decision (files_of fs) c.args.path.now c.args.is_folder) c.ignores_above.ensures.files
+    ∙ not_below_ignored (files_of c.args.files.now) c.args.path.now c.args.is_folder (sym c.in_ok-ignores_above.ensures.ignored ∙ c.if-branch.false)
