@@ -82,10 +82,10 @@ static bool add_lines(struct globs *globs, const char *name) {
 }
 
 /* Says why the glob number `index` was refused. */
-static void say_refused(const struct globs *globs, size_t index, int result) {
+static void say_refused(const struct globs *globs, size_t index, const globset_error *error, int result) {
     char text[1000];
     if (result == GLOBSET_EGLOB &&
-        globset_error_text(globs->texts[index], globs->lengths[index], 0, text, sizeof text, NULL) == GLOBSET_OK) {
+        globset_error_text(error, globs->texts[index], globs->lengths[index], text, sizeof text, NULL) == GLOBSET_OK) {
         fprintf(stderr, "example: glob %zu: %s\n", index + 1, text);
     } else {
         fprintf(stderr, "example: glob %zu: %s\n", index + 1, globset_status_text(result));
@@ -95,11 +95,12 @@ static void say_refused(const struct globs *globs, size_t index, int result) {
 static globset_searcher *searcher_of(const struct globs *globs) {
     globset_set *set;
     globset_searcher *searcher;
+    globset_error error;
     size_t index;
     int result =
-        globset_set_new((const char *const *)globs->texts, globs->lengths, NULL, globs->count, NULL, &index, &set);
+        globset_set_new((const char *const *)globs->texts, globs->lengths, NULL, globs->count, &error, &index, &set);
     if (result != GLOBSET_OK) {
-        say_refused(globs, index, result);
+        say_refused(globs, index, &error, result);
         return NULL;
     }
     result = globset_searcher_new(set, &searcher);

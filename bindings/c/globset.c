@@ -32,7 +32,7 @@ const char *globset_status_text(int status) {
         "an end offset is below the one before it, or beyond the bytes",
         "the buffer is too small",
         "an object is of another kind than its pointer says",
-        "the text is a glob, so it has no error",
+        "the error is none, so it says nothing",
     };
     static const int count = sizeof errors / sizeof *errors;
     if (status == 1) return "the answer is yes";
@@ -113,13 +113,14 @@ static void free_object(void *object) {
 
 /* ---- Errors of globs ---- */
 
-int globset_error_text(const char *text, size_t text_length, uint32_t options, char *buffer, size_t size,
+int globset_error_text(const globset_error *error, const char *text, size_t text_length, char *buffer, size_t size,
                        size_t *length) {
     struct bytes bytes;
     size_t needed = 0;
     globset_status status;
-    if (!find_bytes(text, text_length, &bytes) || (buffer == NULL && size > 0)) return end_null(length);
-    status = globset_raw_error_text(bytes.at, bytes.length, options, room_in(buffer), room_of(size), &needed);
+    if (error == NULL || !find_bytes(text, text_length, &bytes) || (buffer == NULL && size > 0))
+        return end_null(length);
+    status = globset_raw_error_text(error, bytes.at, bytes.length, room_in(buffer), room_of(size), &needed);
     if (status != GLOBSET_NO) return end_text(status, buffer, size, needed, length);
     if (length != NULL) *length = 0;
     return GLOBSET_ENONE;

@@ -82,7 +82,7 @@ enum {
     GLOBSET_EOFFSETS = -6, /* an end offset is below the one before it, or beyond the bytes */
     GLOBSET_EBUFFER = -7,  /* the buffer is too small */
     GLOBSET_EKIND = -8,    /* an object is of another kind than its pointer says, as after a cast */
-    GLOBSET_ENONE = -9     /* the text is a glob, so it has no error */
+    GLOBSET_ENONE = -9     /* the error is none: its kind is none of those below */
 };
 
 /* Returns what a result means, for people: "memory ran out" and the like. The text is static and never null. */
@@ -121,11 +121,11 @@ typedef struct globset_error {
     size_t offset;
 } globset_error;
 
-/* Writes what the error of a text says, for people, in UTF-8, such as
+/* Writes what an error of a text says, for people, in UTF-8, such as
  * "error parsing glob '[a': unclosed character class; missing ']'".
- * The text and the options are those that were refused; they are read again. GLOBSET_ENONE: the text is a glob under
- * these options. GLOBSET_EUTF8, GLOBSET_EOPTIONS, GLOBSET_EBUFFER, GLOBSET_ENOMEM. */
-GLOBSET_CHECKED int globset_error_text(const char *text, size_t text_length, uint32_t options, char *buffer,
+ * The text is the one that was refused with this error. It is not read as a glob again. GLOBSET_ENONE: the kind of the
+ * error is none of those above, as where a text was not refused. GLOBSET_EUTF8, GLOBSET_EBUFFER, GLOBSET_ENOMEM. */
+GLOBSET_CHECKED int globset_error_text(const globset_error *error, const char *text, size_t text_length, char *buffer,
                                        size_t size, size_t *length);
 
 /* ---- Sets ---- */

@@ -39,9 +39,10 @@
  *
  * What the library promises in every call: it reads and writes nothing else, it returns, it never ends the process, and
  * it keeps nothing of its arguments but what is said below. Running out of memory is the status GLOBSET_OUT_OF_MEMORY;
- * all objects then hold what they held before the call, but that a work may have grown, and can be used on. After any
- * status but GLOBSET_DONE, GLOBSET_NO and GLOBSET_YES no new object was made, and each result that has no sentence of
- * its own is as it was.
+ * all objects then hold what they held before the call, but that a work may have grown, and can be used on. The status
+ * GLOBSET_WRONG_KIND comes exactly if an object is of another kind than the call asks for, and all objects are then as
+ * they were; where a call takes ends of paths, these are looked at first. After any status but GLOBSET_DONE, GLOBSET_NO
+ * and GLOBSET_YES no new object was made, and each result that has no sentence of its own is as it was.
  */
 #ifndef GLOBSET_RAW_H
 #define GLOBSET_RAW_H
@@ -95,11 +96,12 @@ typedef struct globset_indexes {
 globset_status globset_raw_glob_new(const uint8_t *text, size_t text_len, uint32_t options, globset_error *error,
                                     globset_owned *out);
 
-/* Writes what the error of a text says, for people, in UTF-8: "error parsing glob '[a': unclosed character class;
- * missing ']'". GLOBSET_DONE: the first `*needed` bytes of `room` are the text, and the others are as they were.
- * GLOBSET_TOO_SMALL: `room` is as it was, and `*needed` is the length of the text. GLOBSET_NO: the text is a glob, so
- * it has no error. GLOBSET_NOT_UTF8, GLOBSET_UNKNOWN_OPTION, GLOBSET_OUT_OF_MEMORY. */
-globset_status globset_raw_error_text(const uint8_t *text, size_t text_len, uint32_t options, uint8_t *room,
+/* Writes what an error of a text says, for people, in UTF-8: "error parsing glob '[a': unclosed character class;
+ * missing ']'". The error is one that globset_raw_glob_new told of this text, which is not read as a glob again.
+ * GLOBSET_DONE: the first `*needed` bytes of `room` are what it says, and the others are as they were.
+ * GLOBSET_TOO_SMALL: `room` is as it was, and `*needed` is the length of what it says. GLOBSET_NO: the kind is none of
+ * globset.h, or the ends of a range are no characters. GLOBSET_NOT_UTF8, GLOBSET_OUT_OF_MEMORY. */
+globset_status globset_raw_error_text(const globset_error *error, const uint8_t *text, size_t text_len, uint8_t *room,
                                       size_t room_len, size_t *needed);
 
 /* Writes a regular expression that matches the paths that the glob matches. GLOBSET_DONE and GLOBSET_TOO_SMALL as at
@@ -140,6 +142,12 @@ globset_status globset_raw_builder_set_dfa_size_limit(globset_owned *builder, si
  * and GLOBSET_OUT_OF_MEMORY, and then the builder has the globs that it had. */
 globset_status globset_raw_builder_build(globset_owned *builder, globset_owned *out);
 
+/* Makes the set of globs that are lent, in their order: the first has index 0. Each element of the array is the handle
+ * of one glob, and several may be of the same. The globs are read, and not copied: they may be freed, and the set has
+ * what it needs to match. Its tables may take 16 MiB. GLOBSET_DONE: `out` owns the set. GLOBSET_WRONG_KIND: an object
+ * is no glob. GLOBSET_OUT_OF_MEMORY. */
+globset_status globset_raw_set_of_globs(globset_lent *globs, size_t globs_len, globset_owned *out);
+
 /* The number of globs of a set. GLOBSET_DONE: it is in `len`. GLOBSET_WRONG_KIND. It takes no memory. */
 globset_status globset_raw_set_len(globset_lent *set, size_t *len);
 
@@ -160,12 +168,17 @@ globset_status globset_raw_set_is_match(globset_lent *set, globset_owned *work, 
 globset_status globset_raw_set_matches_all(globset_lent *set, globset_owned *work, const uint8_t *path,
                                            size_t path_len);
 
-/* Finds the indexes of the globs of the set that match the path, ascending. GLOBSET_DONE: `indexes` lends them; they
- * may be read until the next call that the work is passed to, globset_raw_free too. The caller writes nothing there.
- * Otherwise `indexes` has the count 0. If the work does not fit the set, or has no room for as many indexes as the set
- * has globs, it is grown first, and only that can end in GLOBSET_OUT_OF_MEMORY. GLOBSET_WRONG_KIND. */
-globset_status globset_raw_set_matches(globset_lent *set, globset_owned *work, const uint8_t *path, size_t path_len,
-                                       globset_indexes *indexes);
+/* Finds the indexes of the globs of the set that match the path, ascending. GLOBSET_DONE: the work has them in place of
+ * those that it found before, and `count` tells how many they are. If the work does not fit the set, or has no room for
+ * as many indexes as the set has globs, it is grown first, and only that can end in GLOBSET_OUT_OF_MEMORY.
+ * GLOBSET_WRONG_KIND. After these two the work has the indexes that it found before. */
+globset_status globset_raw_set_find(globset_lent *set, globset_owned *work, const uint8_t *path, size_t path_len,
+                                    size_t *count);
+
+/* Lends the indexes that the last globset_raw_set_find with this work found, or none if there was no such call. It
+ * takes no memory. GLOBSET_DONE: they may be read until the next call that the work is passed to, globset_raw_free too.
+ * The caller writes nothing there. GLOBSET_WRONG_KIND: the object is no work, and `indexes` has the count 0. */
+globset_status globset_raw_work_found(globset_owned *work, globset_indexes *indexes);
 
 /* Asks globset_raw_set_is_match of many paths. Path number i is the bytes from ends[i - 1] (from 0 for the first) up to
  * ends[i], without that one. GLOBSET_DONE: answers[i] is 1 if some glob matches path number i, and else 0. Otherwise no

@@ -34,12 +34,12 @@ static void refused(void) {
         CHECK(error.kind == rows[i].kind && error.start == rows[i].start && error.end == rows[i].end);
         CHECK(error.offset == rows[i].offset);
         memset(buffer, '#', sizeof buffer);
-        CHECK(globset_error_text(TEXT(rows[i].text), 0, buffer, needed, &length) == GLOBSET_EBUFFER);
+        CHECK(globset_error_text(&error, TEXT(rows[i].text), buffer, needed, &length) == GLOBSET_EBUFFER);
         CHECK(length == needed && buffer[0] == '#' && buffer[needed] == '#');
-        CHECK(globset_error_text(TEXT(rows[i].text), 0, NULL, 0, &length) == GLOBSET_EBUFFER && length == needed);
-        CHECK(globset_error_text(TEXT(rows[i].text), 0, buffer, needed + 1, &length) == GLOBSET_OK);
+        CHECK(globset_error_text(&error, TEXT(rows[i].text), NULL, 0, &length) == GLOBSET_EBUFFER && length == needed);
+        CHECK(globset_error_text(&error, TEXT(rows[i].text), buffer, needed + 1, &length) == GLOBSET_OK);
         CHECK(length == needed && strcmp(buffer, rows[i].says) == 0 && buffer[needed + 1] == '#');
-        CHECK(globset_error_text(TEXT(rows[i].text), 0, buffer, sizeof buffer, NULL) == GLOBSET_OK);
+        CHECK(globset_error_text(&error, TEXT(rows[i].text), buffer, sizeof buffer, NULL) == GLOBSET_OK);
     }
 }
 
@@ -53,11 +53,12 @@ static void not_read(void) {
     CHECK(error.kind == 0 && error.start == 0 && error.end == 0 && error.offset == 0);
     CHECK(globset_glob_new("a", 1, 64, &error, &glob) == GLOBSET_EOPTIONS);
     CHECK(globset_glob_new("\xff", 1, UINT32_MAX, NULL, &glob) == GLOBSET_EOPTIONS);
-    CHECK(globset_error_text("\xff", 1, 0, buffer, 8, &length) == GLOBSET_EUTF8 && length == 0);
-    CHECK(globset_error_text("a[", 2, 64, buffer, 8, &length) == GLOBSET_EOPTIONS);
+    CHECK(globset_error_text(&error, "a", 1, buffer, 8, &length) == GLOBSET_ENONE && length == 0);
+    error.kind = GLOBSET_UNCLOSED_CLASS;
     length = 1000;
-    CHECK(globset_error_text("*.c", 3, 0, buffer, 8, &length) == GLOBSET_ENONE && length == 0);
-    CHECK(globset_error_text("a[", 2, GLOBSET_ALLOW_UNCLOSED_CLASS, buffer, 8, NULL) == GLOBSET_ENONE);
+    CHECK(globset_error_text(&error, "\xff", 1, buffer, 8, &length) == GLOBSET_EUTF8 && length == 0);
+    error.kind = GLOBSET_DANGLING_ESCAPE + 1;
+    CHECK(globset_error_text(&error, "a", 1, buffer, 8, NULL) == GLOBSET_ENONE);
     CHECK(memcmp(buffer, "#######", 8) == 0);
 }
 

@@ -14,7 +14,7 @@ static void try_texts(void) {
     globset_glob *glob = (globset_glob *)&error;
     TRY(globset_glob_new(TEXT("{a,b"), 0, &error, &glob), GLOBSET_EGLOB,
         CHECK(error.kind == 0 && glob == NULL && blocks == before));
-    TRY(globset_error_text(TEXT("{a,b"), 0, buffer, sizeof buffer, &length), GLOBSET_OK,
+    TRY(globset_error_text(&error, TEXT("{a,b"), buffer, sizeof buffer, &length), GLOBSET_OK,
         CHECK(blocks == before && length == 0));
     TRY(globset_escape(TEXT("a*b"), buffer, sizeof buffer, &length), GLOBSET_OK,
         CHECK(blocks == before && length == 0));

@@ -33,10 +33,13 @@ static void texts(void) {
     CHECK(globset_glob_new(NULL, GLOBSET_ZERO_TERMINATED, 0, &error, &glob) == GLOBSET_ENULL);
     CHECK(globset_glob_new("a", 1, 0, &error, NULL) == GLOBSET_ENULL);
     CHECK(globset_glob_new("[", 1, 0, NULL, &glob) == GLOBSET_EGLOB && glob == NULL);
-    CHECK(globset_error_text(NULL, 1, 0, buffer, 4, &length) == GLOBSET_ENULL && length == 0);
+    error.kind = GLOBSET_UNCLOSED_CLASS;
+    CHECK(globset_error_text(&error, NULL, 1, buffer, 4, &length) == GLOBSET_ENULL && length == 0);
     length = 5;
-    CHECK(globset_error_text("[", 1, 0, NULL, 4, &length) == GLOBSET_ENULL && length == 0);
-    CHECK(globset_error_text("[", 1, 0, NULL, 0, NULL) == GLOBSET_EBUFFER);
+    CHECK(globset_error_text(&error, "[", 1, NULL, 4, &length) == GLOBSET_ENULL && length == 0);
+    length = 5;
+    CHECK(globset_error_text(NULL, "[", 1, buffer, 4, &length) == GLOBSET_ENULL && length == 0);
+    CHECK(globset_error_text(&error, "[", 1, NULL, 0, NULL) == GLOBSET_EBUFFER);
     CHECK(globset_escape(NULL, 1, buffer, 4, &length) == GLOBSET_ENULL);
     CHECK(globset_escape("a", 1, NULL, 4, &length) == GLOBSET_ENULL);
     CHECK(globset_escape("a", 1, buffer, 4, NULL) == GLOBSET_OK && strcmp(buffer, "a") == 0);
@@ -208,7 +211,7 @@ static void status_texts(void) {
             CHECK(strcmp(globset_status_text(status), globset_status_text(other)) != 0);
     CHECK(strcmp(globset_status_text(GLOBSET_ENOMEM), "memory ran out") == 0);
     CHECK(strcmp(globset_status_text(GLOBSET_ENULL), "a pointer is null that must not be") == 0);
-    CHECK(strcmp(globset_status_text(GLOBSET_ENONE), "the text is a glob, so it has no error") == 0);
+    CHECK(strcmp(globset_status_text(GLOBSET_ENONE), "the error is none, so it says nothing") == 0);
     CHECK(strcmp(globset_status_text(GLOBSET_ENONE - 1), "no result of this library") == 0);
     CHECK(strcmp(globset_status_text(2), globset_status_text(GLOBSET_ENONE - 1)) == 0);
     CHECK(globset_status_text(-2147483647 - 1) != NULL && globset_status_text(2147483647) != NULL);

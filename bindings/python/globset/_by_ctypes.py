@@ -33,7 +33,7 @@ class GlobBase:
         data, error, glob = pattern.encode(), _library.Error(), Object()
         status = _library.glob_new(data, len(data), options, ctypes.byref(error), ctypes.byref(glob))
         if status == _library.REJECTED:
-            message = _library.text_of(_library.error_text, data, len(data), options)
+            message = _library.text_of(_library.error_text, ctypes.byref(error), data, len(data))
             raise glob_error(message, pattern, error.kind, error.start, error.end, error.offset)
         _library.raise_unless_done(status)
         self._glob = glob

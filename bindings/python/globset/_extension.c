@@ -236,14 +236,14 @@ static PyObject *ask_many(PyObject *self, PyObject *paths, ask_block *ask, add_b
 struct source {
     const uint8_t *text;
     size_t length;
-    uint32_t options;
+    const globset_error *error;
     globset_lent glob;
 };
 
 typedef globset_status write_text(struct source *source, uint8_t *room, size_t size, size_t *needed);
 
 static globset_status write_error(struct source *source, uint8_t *room, size_t size, size_t *needed) {
-    return globset_raw_error_text(source->text, source->length, source->options, room, size, needed);
+    return globset_raw_error_text(source->error, source->text, source->length, room, size, needed);
 }
 
 static globset_status write_regex(struct source *source, uint8_t *room, size_t size, size_t *needed) {
@@ -270,7 +270,8 @@ static PyObject *text_of(write_text *write, struct source *source) {
 }
 
 /* Raises the GlobError of a text. */
-static void raise_rejected(PyObject *pattern, struct source *source, const globset_error *error) {
+static void raise_rejected(PyObject *pattern, struct source *source) {
+    const globset_error *error = source->error;
     PyObject *errors = PyImport_ImportModule("globset._errors");
     PyObject *message = errors ? text_of(write_error, source) : NULL;
     PyObject *raised = NULL;
@@ -316,8 +317,8 @@ static PyObject *glob_new(PyTypeObject *type, PyObject *arguments, PyObject *key
     if (!text) return NULL;
     struct glob *self = (struct glob *)new_object(type);
     if (!self) return NULL;
-    struct source source = {(const uint8_t *)text, (size_t)length, options, {NULL}};
     globset_error error;
+    struct source source = {(const uint8_t *)text, (size_t)length, &error, {NULL}};
     globset_owned glob;
     globset_status status = globset_raw_glob_new(source.text, source.length, options, &error, &glob);
     if (status == GLOBSET_DONE) {
@@ -325,7 +326,7 @@ static PyObject *glob_new(PyTypeObject *type, PyObject *arguments, PyObject *key
         return (PyObject *)self;
     }
     if (status == GLOBSET_REJECTED) {
-        raise_rejected(pattern, &source, &error);
+        raise_rejected(pattern, &source);
     } else {
         raise_status(status);
     }
@@ -396,7 +397,7 @@ static PyObject *glob_filter(PyObject *self, PyObject *paths) { return ask_many(
 
 static PyObject *glob_regex(PyObject *object, void *unused) {
     (void)unused;
-    struct source source = {NULL, 0, 0, {((struct glob *)object)->glob.at}};
+    struct source source = {NULL, 0, NULL, {((struct glob *)object)->glob.at}};
     return text_of(write_regex, &source);
 }
 
@@ -608,7 +609,7 @@ static PyObject *escape(PyObject *module, PyObject *text) {
     Py_ssize_t length;
     const char *at = PyUnicode_AsUTF8AndSize(text, &length);
     if (!at) return NULL;
-    struct source source = {(const uint8_t *)at, (size_t)length, 0, {NULL}};
+    struct source source = {(const uint8_t *)at, (size_t)length, NULL, {NULL}};
     return text_of(write_escaped, &source);
 }
 

@@ -67,7 +67,7 @@ def _declare(name: str, *types: Any, result: Any = ctypes.c_uint32) -> Callable[
 
 
 glob_new = _declare("raw_glob_new", _BYTES, _SIZE, ctypes.c_uint32, _ERROR, _OWNED)
-error_text = _declare("raw_error_text", _BYTES, _SIZE, ctypes.c_uint32, *_ROOM)
+error_text = _declare("raw_error_text", _ERROR, _BYTES, _SIZE, *_ROOM)
 glob_regex = _declare("raw_glob_regex", _LENT, *_ROOM)
 matcher_new = _declare("raw_matcher_new", _LENT, _OWNED)
 matcher_is_match = _declare("raw_matcher_is_match", _LENT, _OWNED, _BYTES, _SIZE)

@@ -88,13 +88,15 @@ extern "C" {
     fn globset_raw_work_new(out: *mut Owned) -> Status;
     fn globset_raw_set_is_match(set: *mut Lent, work: *mut Owned, path: *const u8, path_len: usize) -> Status;
     fn globset_raw_set_matches_all(set: *mut Lent, work: *mut Owned, path: *const u8, path_len: usize) -> Status;
-    fn globset_raw_set_matches(
+    fn globset_raw_set_of_globs(globs: *mut Lent, globs_len: usize, out: *mut Owned) -> Status;
+    fn globset_raw_set_find(
         set: *mut Lent,
         work: *mut Owned,
         path: *const u8,
         path_len: usize,
-        indexes: *mut Indexes,
+        count: *mut usize,
     ) -> Status;
+    fn globset_raw_work_found(work: *mut Owned, indexes: *mut Indexes) -> Status;
     fn globset_raw_searcher_new(set: *mut Lent, out: *mut Owned) -> Status;
     fn globset_raw_searcher_is_match(searcher: *mut Owned, path: *const u8, path_len: usize) -> Status;
     fn globset_raw_searcher_matches_all(searcher: *mut Owned, path: *const u8, path_len: usize) -> Status;
@@ -295,6 +297,13 @@ impl Set {
         Set { shared: Shared(owned), searchers: PerThread::new() }
     }
 
+    /// The set of these globs, in their order.
+    pub(crate) fn of_globs<'g>(globs: impl Iterator<Item = &'g Glob>) -> Set {
+        let mut lent: Vec<Lent> = globs.map(|glob| glob.0.lend()).collect();
+        // SAFETY: "Makes the set of globs that are lent, in their order: the first has index 0." The globs are borrowed.
+        Set::new(Owned::made(|out| unsafe { globset_raw_set_of_globs(lent.as_mut_ptr(), lent.len(), out) }))
+    }
+
     #[cold]
     pub(crate) fn searcher(&self) -> Searcher {
         // SAFETY: "Makes a searcher of a set. It shares what the set matches with, so the set may be freed."
@@ -352,15 +361,18 @@ impl Set {
     #[cold]
     fn matches_by_work(&self, path: &[u8], into: &mut Vec<usize>) {
         with_work(|work| {
-            let mut indexes = Indexes::none();
-            // SAFETY: "Finds the indexes of the globs of the set that match the path, ascending." The indexes handed in are
-            // valid, since there are none. The work is this thread's.
+            let mut count = 0;
+            // SAFETY: "Finds the indexes of the globs of the set that match the path, ascending." The work is this thread's.
             done(unsafe {
-                globset_raw_set_matches(&mut self.shared.lend(), &mut work.0, path.as_ptr(), path.len(), &mut indexes)
+                globset_raw_set_find(&mut self.shared.lend(), &mut work.0, path.as_ptr(), path.len(), &mut count)
             });
-            if indexes.count > 0 {
-                // SAFETY: "`indexes` lends them; they may be read until the next call that the work is passed to". The work
-                // is borrowed until the indexes have been copied.
+            if count > 0 {
+                let mut indexes = Indexes::none();
+                // SAFETY: "Lends the indexes that the last globset_raw_set_find with this work found". The indexes handed in
+                // are valid, since there are none.
+                done(unsafe { globset_raw_work_found(&mut work.0, &mut indexes) });
+                // SAFETY: "they may be read until the next call that the work is passed to". The work is borrowed until the
+                // indexes have been copied. They are as many as the call before told, which is not 0.
                 into.extend_from_slice(unsafe { slice::from_raw_parts(indexes.at, indexes.count) });
             }
         })

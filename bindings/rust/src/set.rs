@@ -251,29 +251,26 @@ impl GlobSet {
         I: IntoIterator<Item = G>,
         G: AsRef<Glob>,
     {
-        Ok(GlobSet::with_limit(globs, None))
+        // All are kept until the set is made, which reads them where they are.
+        let globs: Vec<G> = globs.into_iter().collect();
+        if globs.is_empty() {
+            return Ok(GlobSet::empty());
+        }
+        let raw = ffi::Set::of_globs(globs.iter().map(|glob| glob.as_ref().raw()));
+        Ok(GlobSet { len: globs.len(), raw: Some(Arc::new(raw)) })
     }
 
-    /// The set of globs, whose tables take at most so many bytes, or by default as many as the library allows.
-    fn with_limit<I, G>(globs: I, dfa_size_limit: Option<usize>) -> GlobSet
-    where
-        I: IntoIterator<Item = G>,
-        G: AsRef<Glob>,
-    {
-        let mut globs = globs.into_iter().peekable();
-        if globs.peek().is_none() {
+    /// The set of globs, whose tables take at most so many bytes.
+    fn with_limit(globs: &[Glob], dfa_size_limit: usize) -> GlobSet {
+        if globs.is_empty() {
             return GlobSet::empty();
         }
         let mut builder = ffi::Builder::new();
-        if let Some(bytes) = dfa_size_limit {
-            builder.set_dfa_size_limit(bytes);
-        }
-        let mut len = 0;
+        builder.set_dfa_size_limit(dfa_size_limit);
         for glob in globs {
-            builder.add(glob.as_ref().raw());
-            len += 1;
+            builder.add(glob.raw());
         }
-        GlobSet { len, raw: Some(Arc::new(builder.build())) }
+        GlobSet { len: globs.len(), raw: Some(Arc::new(builder.build())) }
     }
 }
 
@@ -344,7 +341,7 @@ impl GlobSetBuilder {
     }
 
     pub(crate) fn build_with_limit(&self, dfa_size_limit: usize) -> GlobSet {
-        GlobSet::with_limit(&self.pats, Some(dfa_size_limit))
+        GlobSet::with_limit(&self.pats, dfa_size_limit)
     }
 
     /// Adds a glob after those that the builder has.

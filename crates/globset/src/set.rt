@@ -152,6 +152,15 @@ impl GlobSet {
         })
     }
 
+    /// Returns the set that stores this: for a crate that makes what a set stores glob by glob, as `globset_c` does.
+    pub fn of_stored(stored: Stored) -> GlobSet
+        ensures { result ≡ stored }
+    {
+        GlobSet {
+            stored: Some(stored),
+        }
+    }
+
     /// Returns the set of these globs, in order. The tables of deterministic automata take at most `dfa_size_limit` bytes. Returns an
     /// error if memory runs out, and no other.
     pub(crate) fn of_slice(

@@ -1,10 +1,11 @@
 -- What C is told of errors.
 use Rattle.std.specs.Prelude.{◌≡◌, ℕ, List, Option, Some, None, option_and_then}
+use Rattle.std.specs.Char.{IsScalar}
 use Rattle.std.specs.Str.{chars}
 use Rattle.glob_syntax.specs.ErrorOffset.{error_offset}
 use Rattle.glob_syntax.specs.Reading.{HasParseError}
 use Rattle.glob_syntax.specs.declared.parse_error_kind.ParseErrorKind.{ParseErrorKind}
-use Rattle.glob_text.specs.Errors.{kind_of, parse_error, error_text}
+use Rattle.glob_text.specs.Errors.{kind_of, kind_text, text_with}
 use Rattle.glob_text.specs.declared.error.kind.ErrorKind.{ErrorKind}
 use Rattle.glob_text.specs.declared.error.kind.ErrorKind.TheVariants as kinds
 use Rattle.globset_c.specs.Options.{options_of}
@@ -27,6 +28,15 @@ abbrev pub IsErrorOf : List ℕ → ℕ → TextError → Type 0
 IsErrorOf text options e = (f : ParseErrorKind) × HasParseError (options_of options) (chars text) f
     × (option_and_then (told (kind_of f)) (error_offset (options_of options) (chars text)) ≡ Some e)
 
--- The text is no glob under these options, and P holds of what its first error displays.
-abbrev pub IfRejected : List ℕ → ℕ → (List ℕ → Type 0) → Type 0
-IfRejected text options P = (f : ParseErrorKind) × HasParseError (options_of options) (chars text) f × P (error_text (parse_error (options_of options) text f))
+-- The numbers tell of an error of this kind. Those of a range are its characters.
+abbrev pub IsTold : TextError → ErrorKind → Type 0
+IsTold e kinds.UnclosedClass = e.kind ≡ 1
+IsTold e (kinds.InvalidRange start end) = (e.kind ≡ 2) × (e.start ≡ start) × (e.end ≡ end) × IsScalar start × IsScalar end
+IsTold e kinds.UnopenedAlternates = e.kind ≡ 3
+IsTold e kinds.UnclosedAlternates = e.kind ≡ 4
+IsTold e kinds.DanglingEscape = e.kind ≡ 5
+IsTold e _ = ⊥
+
+-- The numbers tell of an error, and P holds of what such an error of the text displays.
+abbrev pub IfTold : TextError → List ℕ → (List ℕ → Type 0) → Type 0
+IfTold e text P = (k : ErrorKind) × IsTold e k × P (text_with (Some text) (kind_text k))

@@ -4,6 +4,7 @@ pub mod Allocation
 pub mod Held
 pub mod Kinds
 pub mod Lending
+pub mod LentGlobs
 pub mod LentAt
 pub mod Options
 pub mod Paths

@@ -29,7 +29,10 @@ pub extern "C" fn globset_raw_set_matches_all(
     ensures fits { IfSet (Some set.old.object) (λ s. IfWork work.old.object (λ w. Fits w.scratch s)) →
         (result ≡ YES) ⊎ (result ≡ NO) }
     ensures grown { IsGrown work.old.object work.new.object }
+    ensures same_of_wrong_kind { result ≡ WRONG_KIND → work.new.object ≡ work.old.object }
     ensures right_kind { IsSet (Some set.old.object) → IsWork work.old.object → result ≢ WRONG_KIND }
+    ensures other_kind { ¬ (IsSet (Some set.old.object)) → result ≡ WRONG_KIND }
+    ensures no_work { ¬ (IsWork work.old.object) → result ≡ WRONG_KIND }
     ensures statuses { IsOneOf (NO ∷ YES ∷ OUT_OF_MEMORY ∷ WRONG_KIND ∷ []) result }
 {
     let boxed = work.take();
@@ -46,7 +49,10 @@ fn matches_all_of(object: &Object, boxed: Box<Object>, path: &[u8]) -> (Box<Obje
     ensures fits { IfSet (Some object.now) (λ s. IfWork (Some boxed.value) (λ w. Fits w.scratch s)) →
         (result.1 ≡ YES) ⊎ (result.1 ≡ NO) }
     ensures grown { IsGrown (Some boxed.value) (Some result.0.value) }
+    ensures same_of_wrong_kind { result.1 ≡ WRONG_KIND → result.0.value ≡ boxed.value }
     ensures right_kind { IsSet (Some object.now) → IsWork (Some boxed.value) → result.1 ≢ WRONG_KIND }
+    ensures other_kind { ¬ (IsSet (Some object.now)) → result.1 ≡ WRONG_KIND }
+    ensures no_work { ¬ (IsWork (Some boxed.value)) → result.1 ≡ WRONG_KIND }
     ensures statuses { IsOneOf (NO ∷ YES ∷ OUT_OF_MEMORY ∷ WRONG_KIND ∷ []) result.1 }
 {
     let Object::Set(set) = object else {
@@ -65,6 +71,7 @@ fn matches_all_in(set: &GlobSet, work: &mut Work, path: &[u8]) -> Status
     ensures no { result ≡ NO → ¬ (IsAll set.now path.now) }
     ensures fits { Fits work.old.scratch set.now → (result ≡ YES) ⊎ (result ≡ NO) }
     ensures others { FitsAsBefore work.old.scratch work.new.scratch }
+    ensures same_found { work.new.found ≡ work.old.found }
     ensures statuses { IsOneOf (NO ∷ YES ∷ OUT_OF_MEMORY ∷ []) result }
 {
     if fit(work, set).is_err() {

@@ -1,6 +1,6 @@
 //! Builders of sets.
 
-ghost use Rattle.std.specs.Prelude.{◌≡◌, ◌≢◌, Some, [], ◌∷◌, ◌++◌, IfOk, IfErr, IsSome, OnOk, OnErr};
+ghost use Rattle.std.specs.Prelude.{◌≡◌, ◌≢◌, ◌↔◌, Some, Err, [], ◌∷◌, ◌++◌, IfOk, IfErr, IsSome, IsTrue, OnOk, OnErr};
 ghost use Rattle.globset.specs.SetValue.{builder_globs, set_globs};
 ghost use Rattle.globset_c.specs.Kinds.{IfBuilder, IfGlob, IfSet, IsBuilder, IsGlob};
 ghost use Rattle.globset_c.specs.Statuses.{IsOneOf};
@@ -38,8 +38,14 @@ pub extern "C" fn globset_raw_builder_add(builder: &mut Owned, glob: &mut Lent) 
         IfBuilder builder.new.object (λ c. builder_globs c ≡ builder_globs b ++ g ∷ []))) }
     ensures kept { result ≢ DONE → builder.new.object ≡ builder.old.object }
     ensures right_kind { IsBuilder builder.old.object → IsGlob (Some glob.old.object) → result ≢ WRONG_KIND }
+    ensures other_kind { ¬ (IsGlob (Some glob.old.object)) → result ≡ WRONG_KIND }
+    ensures no_builder { ¬ (IsBuilder builder.old.object) → result ≡ WRONG_KIND }
     ensures statuses { IsOneOf (DONE ∷ OUT_OF_MEMORY ∷ WRONG_KIND ∷ []) result }
 {
+    // Before the glob is copied, so that memory does not run out for a builder that is none.
+    if !is_builder(builder.as_mut()) {
+        return WRONG_KIND;
+    }
     match glob.read((), |object, ()| copy_of(object)) {
         Ok(copy) => add(builder.as_mut(), copy),
         Err(Failure::OutOfMemory) => OUT_OF_MEMORY,
@@ -47,9 +53,17 @@ pub extern "C" fn globset_raw_builder_add(builder: &mut Owned, glob: &mut Lent) 
     }
 }
 
+fn is_builder(object: &mut Object) -> bool
+    ensures same { object.new ≡ object.old }
+    ensures answer { IsTrue result ↔ IsBuilder (Some object.old) }
+{
+    matches!(object, Object::Builder(_))
+}
+
 fn copy_of(object: &Object) -> Result<Glob, Failure>
     ensures copied { IfOk result (λ copy. IfGlob (Some object.now) (λ g. copy ≡ g)) }
     ensures wrong_kind { IfErr result (λ why. why ≡ WrongKind → ¬ (IsGlob (Some object.now))) }
+    ensures other_kind { ¬ (IsGlob (Some object.now)) → result ≡ Err WrongKind }
 {
     let Object::Glob(glob) = object else {
         return Err(Failure::WrongKind);
@@ -91,8 +105,12 @@ pub extern "C" fn globset_raw_builder_build(
     ensures kept { result ≢ DONE → builder.new.object ≡ builder.old.object }
     ensures refused { result ≢ DONE → out.new ≡ out.old }
     ensures right_kind { IsBuilder builder.old.object → result ≢ WRONG_KIND }
+    ensures other_kind { ¬ (IsBuilder builder.old.object) → result ≡ WRONG_KIND }
     ensures statuses { IsOneOf (DONE ∷ OUT_OF_MEMORY ∷ WRONG_KIND ∷ []) result }
 {
+    if !is_builder(builder.as_mut()) {
+        return WRONG_KIND;
+    }
     // The set's place is made first, so that the globs are not lost if there is no memory for it.
     let Ok(boxed) = Box::new(alloc, Object::Set(GlobSet::empty())) else {
         return OUT_OF_MEMORY;

@@ -1,6 +1,6 @@
 //! The text and the options of a glob.
 
-ghost use Rattle.std.specs.Prelude.{◌≡◌, ◌≢◌, Some, None, [], ◌∷◌, IfOk, IfErr, IfSome, string_bytes};
+ghost use Rattle.std.specs.Prelude.{◌≡◌, ◌≢◌, Some, None, Err, [], ◌∷◌, IfOk, IfErr, IfSome, string_bytes};
 ghost use Rattle.globset_c.specs.Capacity.{IsWritten, IsTooLong};
 ghost use Rattle.globset_c.specs.Kinds.{IfGlob, IsGlob};
 ghost use Rattle.globset_c.specs.Options.{IsKnown, options_of};
@@ -27,6 +27,7 @@ pub extern "C" fn globset_raw_glob_text(
     ensures refused { result ≢ DONE → room.new ≡ room.old }
     ensures same_needed { result ≢ DONE → result ≢ TOO_SMALL → needed.new ≡ needed.old }
     ensures right_kind { IsGlob (Some glob.old.object) → result ≢ WRONG_KIND }
+    ensures other_kind { ¬ (IsGlob (Some glob.old.object)) → result ≡ WRONG_KIND }
     ensures statuses { IsOneOf (DONE ∷ OUT_OF_MEMORY ∷ WRONG_KIND ∷ TOO_SMALL ∷ []) result }
 {
     match glob.read(alloc, |object, alloc| text_of(alloc, object)) {
@@ -39,6 +40,7 @@ pub extern "C" fn globset_raw_glob_text(
 fn text_of(alloc: Global, object: &Object) -> Result<String, Failure>
     ensures text { IfOk result (λ s. IfGlob (Some object.now) (λ g. string_bytes s ≡ g.text)) }
     ensures wrong_kind { IfErr result (λ why. why ≡ WrongKind → ¬ (IsGlob (Some object.now))) }
+    ensures other_kind { ¬ (IsGlob (Some object.now)) → result ≡ Err WrongKind }
 {
     let Object::Glob(glob) = object else {
         return Err(Failure::WrongKind);

@@ -1,11 +1,11 @@
 //! Globs.
 
-ghost use Rattle.std.specs.Prelude.{◌≡◌, ◌≢◌, Some, [], ◌∷◌, IfOk, IfErr, OnOk, string_bytes};
+ghost use Rattle.std.specs.Prelude.{◌≡◌, ◌≢◌, Some, Err, [], ◌∷◌, IfOk, IfErr, OnOk, string_bytes};
 ghost use Rattle.std.specs.Str.{IsUtf8};
-ghost use Rattle.glob_text.specs.Errors.{IsParseErrorOf, error_text, out_of_memory};
+ghost use Rattle.glob_text.specs.Errors.{IsParseErrorOf};
 ghost use Rattle.glob_text.specs.GlobMatches.{tokens_of_glob, IsRead};
 ghost use Rattle.glob_text.specs.RegexText.{regex_text};
-ghost use Rattle.globset_c.specs.Errors.{IsErrorOf, IfRejected};
+ghost use Rattle.globset_c.specs.Errors.{IsErrorOf};
 ghost use Rattle.globset_c.specs.Kinds.{IfGlob, IsGlob};
 ghost use Rattle.globset_c.specs.Options.{glob_of, options_of, IsKnown};
 ghost use Rattle.globset_c.specs.Capacity.{IsWritten, IsTooLong};
@@ -21,12 +21,11 @@ use crate::options::{are_known, builder_of};
 use crate::owned::Owned;
 use crate::read_glob::ReadGlob;
 use crate::status::{
-    DONE, NO, NOT_UTF8, OUT_OF_MEMORY, REJECTED, Status, TOO_SMALL, UNKNOWN_OPTION, WRONG_KIND,
+    DONE, NOT_UTF8, OUT_OF_MEMORY, REJECTED, Status, TOO_SMALL, UNKNOWN_OPTION, WRONG_KIND,
 };
 use crate::text;
 use globset::{Error, Glob};
 use std::alloc::Global;
-use std::string::ToString;
 
 /// Why a text was not read.
 enum Unread {
@@ -90,53 +89,6 @@ pub extern "C" fn globset_raw_glob_new(
     }
 }
 
-/// Writes what the error of a text says.
-#[unsafe(no_mangle)]
-pub extern "C" fn globset_raw_error_text(
-    alloc: Global,
-    text: &[u8],
-    options: u32,
-    room: &mut [u8],
-    needed: &mut usize,
-) -> Status
-    ensures done { result ≡ DONE → IfRejected text.now options (λ said. IsWritten said room.old room.new needed.new) }
-    ensures too_small { result ≡ TOO_SMALL → IfRejected text.now options (λ said. IsTooLong said room.old room.new needed.new) }
-    ensures no_error { result ≡ NO → IsRead (glob_of text.now options) }
-    // The options are looked at first, and then the bytes.
-    ensures unknown { result ≡ UNKNOWN_OPTION → ¬ (IsKnown options) }
-    ensures known { result ≢ UNKNOWN_OPTION → IsKnown options }
-    ensures not_utf8 { result ≡ NOT_UTF8 → ¬ (IsUtf8 text.now) }
-    ensures utf8 { result ≢ UNKNOWN_OPTION → result ≢ NOT_UTF8 → IsUtf8 text.now }
-    ensures refused { result ≢ DONE → room.new ≡ room.old }
-    ensures same_needed { result ≢ DONE → result ≢ TOO_SMALL → needed.new ≡ needed.old }
-    ensures statuses { IsOneOf (DONE ∷ NO ∷ OUT_OF_MEMORY ∷ NOT_UTF8 ∷ UNKNOWN_OPTION ∷ TOO_SMALL ∷ []) result }
-{
-    match read(alloc, text, options) {
-        Ok(Ok(_)) => NO,
-        Ok(Err(parse_error)) => say(alloc, &parse_error, room, needed),
-        Err(Unread::NotUtf8) => NOT_UTF8,
-        Err(Unread::UnknownOption) => UNKNOWN_OPTION,
-    }
-}
-
-/// Writes what an error of a text says.
-fn say(alloc: Global, parse_error: &Error, room: &mut [u8], needed: &mut usize) -> Status
-    ensures done { result ≡ DONE → IsWritten (error_text parse_error.now) room.old room.new needed.new }
-    ensures too_small { result ≡ TOO_SMALL → IsTooLong (error_text parse_error.now) room.old room.new needed.new }
-    ensures refused { result ≢ DONE → room.new ≡ room.old }
-    ensures same_needed { result ≢ DONE → result ≢ TOO_SMALL → needed.new ≡ needed.old }
-    ensures of_text { result ≢ OUT_OF_MEMORY → parse_error.now ≢ out_of_memory }
-    ensures statuses { IsOneOf (DONE ∷ OUT_OF_MEMORY ∷ TOO_SMALL ∷ []) result }
-{
-    if parse_error.glob().is_none() {
-        return OUT_OF_MEMORY;
-    }
-    match parse_error.to_string(alloc) {
-        Ok(said) => text::write(said.as_bytes(), room, needed),
-        Err(_) => OUT_OF_MEMORY,
-    }
-}
-
 /// Writes a regular expression that matches the paths that the glob matches.
 #[unsafe(no_mangle)]
 pub extern "C" fn globset_raw_glob_regex(
@@ -153,6 +105,7 @@ pub extern "C" fn globset_raw_glob_regex(
     ensures refused { result ≢ DONE → room.new ≡ room.old }
     ensures same_needed { result ≢ DONE → result ≢ TOO_SMALL → needed.new ≡ needed.old }
     ensures right_kind { IsGlob (Some glob.old.object) → result ≢ WRONG_KIND }
+    ensures other_kind { ¬ (IsGlob (Some glob.old.object)) → result ≡ WRONG_KIND }
     ensures statuses { IsOneOf (DONE ∷ OUT_OF_MEMORY ∷ WRONG_KIND ∷ TOO_SMALL ∷ []) result }
 {
     match glob.read(alloc, |object, alloc| regex_of(alloc, object)) {
@@ -165,6 +118,7 @@ pub extern "C" fn globset_raw_glob_regex(
 fn regex_of(alloc: Global, object: &Object) -> Result<String, Failure>
     ensures text { IfOk result (λ s. IfGlob (Some object.now) (λ g. string_bytes s ≡ regex_text g.options (tokens_of_glob g))) }
     ensures wrong_kind { IfErr result (λ why. why ≡ WrongKind → ¬ (IsGlob (Some object.now))) }
+    ensures other_kind { ¬ (IsGlob (Some object.now)) → result ≡ Err WrongKind }
 {
     let Object::Glob(glob) = object else {
         return Err(Failure::WrongKind);

@@ -6,6 +6,7 @@
 mod all;
 mod builders;
 mod error;
+mod error_texts;
 mod escaping;
 mod freeing;
 mod glob_parts;
@@ -18,12 +19,16 @@ mod matchers;
 mod object;
 mod options;
 mod owned;
+mod paths;
 mod read_glob;
 mod searcher_indexes;
 mod searcher_many;
 mod searchers;
+mod set_of_globs;
 mod sets;
 mod status;
+#[cfg(test)]
+mod tests;
 mod text;
 mod version;
 mod works;

@@ -1,6 +1,6 @@
 //! Matchers of one glob.
 
-ghost use Rattle.std.specs.Prelude.{◌≡◌, ◌≢◌, ◌⊎◌, Some, [], ◌∷◌, true, false, IfOk, IfErr, IsSome};
+ghost use Rattle.std.specs.Prelude.{◌≡◌, ◌≢◌, ◌⊎◌, Some, Err, [], ◌∷◌, true, false, IfOk, IfErr, IsSome};
 ghost use Rattle.glob_text.specs.GlobMatches.{glob_matches};
 ghost use Rattle.globset.specs.SetValue.{FitsAsBefore, FitsMatcher};
 ghost use Rattle.globset_c.specs.Allocation.{IsGrown};
@@ -24,6 +24,7 @@ pub extern "C" fn globset_raw_matcher_new(alloc: Global, glob: &mut Lent, out: &
     ensures made { result ≡ DONE → IfGlob (Some glob.old.object) (λ g. IfMatcher out.new.object (λ m. m ≡ g)) }
     ensures refused { result ≢ DONE → out.new ≡ out.old }
     ensures right_kind { IsGlob (Some glob.old.object) → result ≢ WRONG_KIND }
+    ensures other_kind { ¬ (IsGlob (Some glob.old.object)) → result ≡ WRONG_KIND }
     ensures statuses { IsOneOf (DONE ∷ OUT_OF_MEMORY ∷ WRONG_KIND ∷ []) result }
 {
     let made = glob.read((), |object, ()| matcher_of(object));
@@ -33,6 +34,7 @@ pub extern "C" fn globset_raw_matcher_new(alloc: Global, glob: &mut Lent, out: &
 fn matcher_of(object: &Object) -> Result<Object, Failure>
     ensures made { IfOk result (λ made. IfGlob (Some object.now) (λ g. IfMatcher (Some made) (λ m. m ≡ g))) }
     ensures wrong_kind { IfErr result (λ why. why ≡ WrongKind → ¬ (IsGlob (Some object.now))) }
+    ensures other_kind { ¬ (IsGlob (Some object.now)) → result ≡ Err WrongKind }
 {
     let Object::Glob(glob) = object else {
         return Err(Failure::WrongKind);
@@ -58,7 +60,10 @@ pub extern "C" fn globset_raw_matcher_is_match(
     ensures fits { IfMatcher (Some matcher.old.object) (λ m. IfWork work.old.object (λ w. FitsMatcher w.scratch m)) →
         (result ≡ YES) ⊎ (result ≡ NO) }
     ensures grown { IsGrown work.old.object work.new.object }
+    ensures same_of_wrong_kind { result ≡ WRONG_KIND → work.new.object ≡ work.old.object }
     ensures right_kind { IsMatcher (Some matcher.old.object) → IsWork work.old.object → result ≢ WRONG_KIND }
+    ensures other_kind { ¬ (IsMatcher (Some matcher.old.object)) → result ≡ WRONG_KIND }
+    ensures no_work { ¬ (IsWork work.old.object) → result ≡ WRONG_KIND }
     ensures statuses { IsOneOf (NO ∷ YES ∷ OUT_OF_MEMORY ∷ WRONG_KIND ∷ []) result }
 {
     let boxed = work.take();
@@ -75,7 +80,10 @@ fn is_match_of(object: &Object, boxed: Box<Object>, path: &[u8]) -> (Box<Object>
     ensures fits { IfMatcher (Some object.now) (λ m. IfWork (Some boxed.value) (λ w. FitsMatcher w.scratch m)) →
         (result.1 ≡ YES) ⊎ (result.1 ≡ NO) }
     ensures grown { IsGrown (Some boxed.value) (Some result.0.value) }
+    ensures same_of_wrong_kind { result.1 ≡ WRONG_KIND → result.0.value ≡ boxed.value }
     ensures right_kind { IsMatcher (Some object.now) → IsWork (Some boxed.value) → result.1 ≢ WRONG_KIND }
+    ensures other_kind { ¬ (IsMatcher (Some object.now)) → result.1 ≡ WRONG_KIND }
+    ensures no_work { ¬ (IsWork (Some boxed.value)) → result.1 ≡ WRONG_KIND }
     ensures statuses { IsOneOf (NO ∷ YES ∷ OUT_OF_MEMORY ∷ WRONG_KIND ∷ []) result.1 }
 {
     let Object::Matcher(matcher) = object else {
@@ -94,6 +102,7 @@ fn is_match_in(matcher: &GlobMatcher, work: &mut Work, path: &[u8]) -> Status
     ensures no { result ≡ NO → glob_matches matcher.now path.now ≡ false }
     ensures fits { FitsMatcher work.old.scratch matcher.now → (result ≡ YES) ⊎ (result ≡ NO) }
     ensures others { FitsAsBefore work.old.scratch work.new.scratch }
+    ensures same_found { work.new.found ≡ work.old.found }
     ensures statuses { IsOneOf (NO ∷ YES ∷ OUT_OF_MEMORY ∷ []) result }
 {
     if fit_matcher(work, matcher).is_err() {

@@ -8,6 +8,7 @@ ghost use Rattle.globset_c.specs.Held.{held, object_coded};
 
 mod parts;
 
+use crate::lent::Lent;
 use crate::object::Object;
 use parts::Parts;
 use std::alloc::Global;
@@ -32,15 +33,16 @@ impl Model for Owned {
 impl Owned {
     ghost use Rattle.std.specs.Borrow.{sem};
     ghost use Rattle.globset_c.specs.Lending.{LendsObject};
+    ghost use Rattle.globset_c.specs.declared.lent.Lent.{Lent};
 
-    /// Of this box.
+    /// Makes the owner of this box.
     pub fn of(object: Box<Object>) -> Owned
         ensures { result.object ≡ Some object.value }
     {
         Owned::of_parts(Parts::of(object))
     }
 
-    /// Of nothing.
+    /// Makes an owner of nothing.
     fn none(alloc: Global) -> Owned
         ensures { result.object ≡ None }
     {
@@ -50,13 +52,24 @@ impl Owned {
         }
     }
 
-    /// The object.
+    /// Returns the object.
     pub fn as_mut(&mut self) -> &mut Object
         requires owns { IsSome self.old.object }
         ensures* lends { sem 𝓛 (LendsObject self.entry result) }
         ensures value { self.old.object ≡ Some result.now }
     {
         unsafe { &mut *(self.at as *mut Object) }
+    }
+
+    /// Lends the object to `f`, which gives it back.
+    pub fn lend<X, R, F: FnOnce(Lent, X) -> (R, Lent)>(&mut self, x: X, f: F) -> R
+        requires owns { IsSome self.old.object }
+        requires asks { (l : Lent) → Some l.object ≡ self.old.object → F.pre f l x }
+        requires back { (l : Lent) → Some l.object ≡ self.old.object → (r : R) → (m : Lent) → F.post f l x (r, m) → m ≡ l }
+        ensures same { self.new.object ≡ self.old.object }
+        ensures answer { (l : Lent) × (Some l.object ≡ self.old.object) × F.post f l x (result, l) }
+    {
+        Lent::lend(self.as_mut(), x, f)
     }
 
     /// Takes the box out, so that nothing is owned until another is put in.
@@ -78,7 +91,7 @@ impl Owned {
         )
     }
 
-    /// The box again.
+    /// Returns the box.
     pub fn into_box(self) -> Box<Object>
         requires { IsSome self.object }
         ensures { self.object ≡ Some result.value }

@@ -28,7 +28,7 @@ impl ReadGlob {
     ghost use Rattle.std.specs.Prelude.{◌≡◌};
     ghost use Rattle.globset_c.specs.Options.{IsKnown, options_of};
 
-    /// Of a glob that was read under the options that the bits stand for.
+    /// Makes one of a glob that was read under the options that the bits stand for.
     pub fn of(glob: Glob, bits: u32) -> ReadGlob
         requires options { options_of bits ≡ glob.options }
         requires known { IsKnown bits }
@@ -37,14 +37,14 @@ impl ReadGlob {
         ReadGlob { glob, bits }
     }
 
-    /// The glob.
+    /// Returns the glob.
     pub fn glob(&self) -> &Glob
         ensures { result.now ≡ self.now }
     {
         &self.glob
     }
 
-    /// The bits of the options.
+    /// Returns the bits of the options.
     pub fn options(&self) -> u32
         ensures options { options_of result ≡ self.now.options }
         ensures known { IsKnown result }

@@ -1,6 +1,6 @@
 //! The indexes of many paths in one call to a searcher.
 
-ghost use Rattle.std.specs.Prelude.{◌≡◌, ◌≢◌, ◌⊎◌, ◌↔◌, Some, [], ◌∷◌, ◌++◌, IfErr, IfOk, IsSome, IsTrue, OnOk, length};
+ghost use Rattle.std.specs.Prelude.{◌≡◌, ◌≢◌, ◌⊎◌, Some, [], ◌∷◌, ◌++◌, IfErr, IfOk, IsSome, OnOk, length};
 ghost use Rattle.globset.specs.SetValue.{set_globs};
 ghost use Rattle.globset_c.specs.Capacity.{IsWritten, IsTooLong};
 ghost use Rattle.globset_c.specs.Kinds.{IfSearcher, IsSearcher};
@@ -10,6 +10,7 @@ ghost use Rattle.globset_c.specs.declared.object.Failure.TheVariants.{WrongKind}
 
 use crate::object::{Failure, Object};
 use crate::owned::Owned;
+use crate::paths::are_ends;
 use crate::status::{BAD_ENDS, DONE, OUT_OF_MEMORY, Status, TOO_SMALL, WRONG_KIND};
 use crate::text;
 use globset::{Candidate, Searcher};
@@ -94,23 +95,6 @@ fn find_of(
         },
         _ => Err(Failure::WrongKind),
     }
-}
-
-/// Returns whether these are ends of paths in so many bytes.
-#[tactic(auto, using(crate::proofs::Ends::ends_join, crate::proofs::Ends::ends_part, crate::proofs::Ends::no_ends_left))]
-fn are_ends(len: usize, ends: &[usize]) -> bool
-    ensures { IsTrue result ↔ AreEnds len 0 ends.now }
-{
-    let mut start = 0;
-    let mut rest = ends;
-    'each: while let Some((end, tail)) = rest.split_first() {
-        if start > *end || *end > len {
-            return false;
-        }
-        start = *end;
-        rest = tail;
-    }
-    true
 }
 
 /// Finds the indexes of each path, one path after another.

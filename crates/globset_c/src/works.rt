@@ -2,7 +2,7 @@
 
 ghost use Rattle.std.specs.Prelude.{◌≡◌, ◌≢◌, ◌⊎◌, ◌≤◌, Some, [], ◌∷◌, IsSome, IsOk, OnOk, OnErr, length, vec_capacity};
 ghost use Rattle.globset.specs.SetValue.{Fits, FitsAsBefore, FitsMatcher, set_globs};
-ghost use Rattle.globset_c.specs.Allocation.{as_object, IsFitFor, IsGrown, HoldsIndexesOf};
+ghost use Rattle.globset_c.specs.Allocation.{as_object, HasGrown, IsFitFor, IsGrown, HoldsIndexesOf};
 ghost use Rattle.globset_c.specs.Kinds.{IfWork, IsMatcher, IsSet, IsWork};
 ghost use Rattle.globset_c.specs.Statuses.{IsOneOf};
 
@@ -17,7 +17,7 @@ use std::alloc::{AllocError, Global};
 /// Makes a work, and lets the caller own it.
 #[unsafe(no_mangle)]
 pub extern "C" fn globset_raw_work_new(alloc: Global, out: &mut Owned) -> Status
-    ensures made { result ≡ DONE → IsWork out.new.object }
+    ensures made { result ≡ DONE → IfWork out.new.object (λ w. w.found.items ≡ []) }
     ensures refused { result ≢ DONE → out.new ≡ out.old }
     ensures statuses { IsOneOf (DONE ∷ OUT_OF_MEMORY ∷ []) result }
 {
@@ -43,8 +43,11 @@ pub extern "C" fn globset_raw_work_fit(work: &mut Owned, asked: &mut Lent) -> St
     ensures fits { result ≡ DONE → IsFitFor (Some asked.old.object) work.new.object }
     ensures grown { IsGrown work.old.object work.new.object }
     ensures succeeds_if_fits { IsFitFor (Some asked.old.object) work.old.object → result ≡ DONE }
+    ensures same_of_wrong_kind { result ≡ WRONG_KIND → work.new.object ≡ work.old.object }
     ensures right_kind { IsSet (Some asked.old.object) ⊎ IsMatcher (Some asked.old.object) → IsWork work.old.object →
         result ≢ WRONG_KIND }
+    ensures other_kind { ¬ (IsSet (Some asked.old.object)) → ¬ (IsMatcher (Some asked.old.object)) → result ≡ WRONG_KIND }
+    ensures no_work { ¬ (IsWork work.old.object) → result ≡ WRONG_KIND }
     ensures statuses { IsOneOf (DONE ∷ OUT_OF_MEMORY ∷ WRONG_KIND ∷ []) result }
 {
     let boxed = work.take();
@@ -57,8 +60,11 @@ fn fit_boxed(object: &Object, boxed: Box<Object>) -> (Box<Object>, Status)
     ensures fits { result.1 ≡ DONE → IsFitFor (Some object.now) (Some result.0.value) }
     ensures grown { IsGrown (Some boxed.value) (Some result.0.value) }
     ensures succeeds_if_fits { IsFitFor (Some object.now) (Some boxed.value) → result.1 ≡ DONE }
+    ensures same_of_wrong_kind { result.1 ≡ WRONG_KIND → result.0.value ≡ boxed.value }
     ensures right_kind { IsSet (Some object.now) ⊎ IsMatcher (Some object.now) → IsWork (Some boxed.value) →
         result.1 ≢ WRONG_KIND }
+    ensures other_kind { ¬ (IsSet (Some object.now)) → ¬ (IsMatcher (Some object.now)) → result.1 ≡ WRONG_KIND }
+    ensures no_work { ¬ (IsWork (Some boxed.value)) → result.1 ≡ WRONG_KIND }
     ensures statuses { IsOneOf (DONE ∷ OUT_OF_MEMORY ∷ WRONG_KIND ∷ []) result.1 }
 {
     let mut boxed = boxed;
@@ -71,9 +77,12 @@ fn fit_boxed(object: &Object, boxed: Box<Object>) -> (Box<Object>, Status)
 
 fn fit_object(object: &Object, work: &mut Work) -> Status
     ensures fits { result ≡ DONE → IsFitFor (Some object.now) (as_object work.new) }
-    ensures others { FitsAsBefore work.old.scratch work.new.scratch }
+    ensures others { HasGrown work.old work.new }
+    ensures same_found { work.new.found.items ≡ work.old.found.items }
+    ensures same_of_wrong_kind { result ≡ WRONG_KIND → work.new ≡ work.old }
     ensures succeeds_if_fits { IsFitFor (Some object.now) (as_object work.old) → result ≡ DONE }
     ensures right_kind { IsSet (Some object.now) ⊎ IsMatcher (Some object.now) → result ≢ WRONG_KIND }
+    ensures other_kind { ¬ (IsSet (Some object.now)) → ¬ (IsMatcher (Some object.now)) → result ≡ WRONG_KIND }
     ensures statuses { IsOneOf (DONE ∷ OUT_OF_MEMORY ∷ WRONG_KIND ∷ []) result }
 {
     let fitted = match object {
@@ -103,12 +112,16 @@ pub fn fit(work: &mut Work, set: &GlobSet) -> Result<(), AllocError>
 /// Makes a work fit one more set, with room for all of its indexes. It takes no memory if the work has them already.
 pub fn fit_indexes(work: &mut Work, set: &GlobSet) -> Result<(), AllocError>
     ensures fits { OnOk result (HoldsIndexesOf work.new set.now) }
-    ensures others { FitsAsBefore work.old.scratch work.new.scratch }
+    ensures others { HasGrown work.old work.new }
+    ensures same_found { work.new.found.items ≡ work.old.found.items }
     ensures succeeds_if_fits { HoldsIndexesOf work.old set.now → IsOk result }
 {
     fit(work, set)?;
-    work.found.clear();
-    work.found.reserve(set.len())
+    let len = set.len();
+    if work.found.capacity() >= len {
+        return Ok(());
+    }
+    work.found.reserve(len.saturating_sub(work.found.len()))
 }
 
 /// Makes a work fit one more matcher. It takes no memory if the work fits the matcher already.

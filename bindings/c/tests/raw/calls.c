@@ -40,10 +40,10 @@ static void refused(void) {
         CHECK(error.offset == rows[i].offset);
         CHECK(glob.object.at == &error);
         memset(room, '#', sizeof room);
-        CHECK(raw_error_text(TEXT(rows[i].text), 0, room, sizeof room, &needed) == GLOBSET_DONE);
+        CHECK(raw_error_text(&error, TEXT(rows[i].text), room, sizeof room, &needed) == GLOBSET_DONE);
         CHECK(needed == strlen(rows[i].says) && memcmp(room, rows[i].says, needed) == 0 && room[needed] == '#');
         needed = 1000;
-        CHECK(raw_error_text(TEXT(rows[i].text), 0, NULL, 0, &needed) == GLOBSET_TOO_SMALL);
+        CHECK(raw_error_text(&error, TEXT(rows[i].text), NULL, 0, &needed) == GLOBSET_TOO_SMALL);
         CHECK(needed == strlen(rows[i].says));
     }
 }
@@ -60,14 +60,30 @@ static void not_read(void) {
     CHECK(raw_glob_new("[", 1, 64, &error, &glob) == GLOBSET_UNKNOWN_OPTION);
     CHECK(raw_glob_new("[\xff", 2, 0, &error, &glob) == GLOBSET_NOT_UTF8);
     CHECK(error.kind == 77 && error.start == 78 && error.end == 79 && error.offset == 80 && glob.object.at == &error);
-    CHECK(raw_error_text("\xff", 1, 0, room, 8, &needed) == GLOBSET_NOT_UTF8);
-    CHECK(raw_error_text("a[", 2, 64, room, 8, &needed) == GLOBSET_UNKNOWN_OPTION);
-    CHECK(raw_error_text("*.c", 3, 0, room, 8, &needed) == GLOBSET_NO);
-    CHECK(raw_error_text("a[", 2, GLOBSET_ALLOW_UNCLOSED_CLASS, room, 8, &needed) == GLOBSET_NO);
-    CHECK(raw_error_text("[\xff", 2, 64, room, 8, &needed) == GLOBSET_UNKNOWN_OPTION);
-    CHECK(raw_error_text("[\xff", 2, 0, room, 8, &needed) == GLOBSET_NOT_UTF8);
     CHECK(raw_escape("[\xff", 2, room, 8, &needed) == GLOBSET_NOT_UTF8);
     CHECK(memcmp(room, "#######", 8) == 0 && needed == 1000);
+}
+
+/* Errors of which nothing is said: no error is told by such numbers, or the text is not UTF-8. */
+static void nothing_said(void) {
+    static const struct {
+        globset_error error;
+        const char *text;
+        globset_status status;
+    } rows[] = {
+        {{0, 0, 0, 0}, "a", GLOBSET_NO},
+        {{6, 0, 0, 0}, "a", GLOBSET_NO},
+        {{UINT32_MAX, 0, 0, 0}, "\xff", GLOBSET_NO},
+        {{GLOBSET_INVALID_RANGE, 0xd800, 'a', 0}, "a", GLOBSET_NO},
+        {{GLOBSET_INVALID_RANGE, 'z', 0x110000, 0}, "a", GLOBSET_NO},
+        {{GLOBSET_UNCLOSED_CLASS, 0, 0, 0}, "\xff", GLOBSET_NOT_UTF8},
+    };
+    for (size_t i = 0; i < sizeof rows / sizeof *rows; i++) {
+        char room[8] = "#######";
+        size_t needed = 1000;
+        CHECK(raw_error_text(&rows[i].error, TEXT(rows[i].text), room, 8, &needed) == rows[i].status);
+        CHECK(memcmp(room, "#######", 8) == 0 && needed == 1000);
+    }
 }
 
 /* Each option decides one path, which the default decides otherwise. */
@@ -194,6 +210,59 @@ static void sets(void) {
     raw_set_free(set);
     raw_set_free(empty);
     raw_set_free(some);
+}
+
+/* What a work has found stays until the next raw_set_find, whatever it is passed to. */
+static void found_by_works(void) {
+    static const char *const globs[] = {"*.c", "src/*", "*a*b*"};
+    raw_set set = set_of(globs, 3), other = set_of(globs, 1);
+    raw_work work;
+    globset_indexes found;
+    uint8_t answer;
+    const size_t end = 1;
+    size_t count = 9;
+    CHECK(raw_work_new(&work) == GLOBSET_DONE);
+    CHECK(raw_work_found(&work, &found) == GLOBSET_DONE && found.count == 0);
+    for (int again = 0; again < 2; again++) {
+        CHECK(raw_set_find(set, &work, TEXT("src/x.c"), &count) == GLOBSET_DONE && count == 2);
+        CHECK(raw_set_is_match(other, &work, TEXT("x")) == GLOBSET_NO);
+        CHECK(raw_set_matches_all(other, &work, TEXT("x")) == GLOBSET_NO);
+        CHECK(raw_set_is_match_many(other, &work, "x", 1, &end, &answer, 1) == GLOBSET_DONE && answer == 0);
+        CHECK(raw_work_fit_set(&work, other) == GLOBSET_DONE && raw_work_fit_set(&work, set) == GLOBSET_DONE);
+        for (int twice = 0; twice < 2; twice++) {
+            CHECK(raw_work_found(&work, &found) == GLOBSET_DONE);
+            CHECK(found.count == 2 && found.at[0] == 0 && found.at[1] == 1);
+        }
+        CHECK(raw_set_find(other, &work, TEXT("x"), &count) == GLOBSET_DONE && count == 0);
+        CHECK(raw_work_found(&work, &found) == GLOBSET_DONE && found.count == 0);
+    }
+    raw_work_free(work);
+    raw_set_free(set);
+    raw_set_free(other);
+}
+
+/* Sets of arrays of globs, one of which is there twice. The globs are freed before the set is asked. */
+static void sets_of_globs(void) {
+    raw_glob globs[4] = {glob_of("*.c", 0), glob_of("SRC/*", GLOBSET_CASE_INSENSITIVE), glob_of("**/..", 0), {{NULL}}};
+    raw_set set, empty, one;
+    raw_work work;
+    globset_indexes found;
+    globs[3] = globs[0];
+    CHECK(raw_work_new(&work) == GLOBSET_DONE);
+    CHECK(raw_set_of_globs(globs, 4, &set) == GLOBSET_DONE && raw_set_len(set) == 4);
+    CHECK(raw_set_of_globs(globs, 0, &empty) == GLOBSET_DONE && raw_set_len(empty) == 0);
+    CHECK(raw_set_of_globs(&globs[1], 1, &one) == GLOBSET_DONE && raw_set_len(one) == 1);
+    CHECK(raw_glob_options(globs[1]) == GLOBSET_CASE_INSENSITIVE);
+    for (int i = 0; i < 3; i++) raw_glob_free(globs[i]);
+    CHECK(raw_set_matches(set, &work, TEXT("src/x.c"), &found) == GLOBSET_DONE);
+    CHECK(found.count == 3 && found.at[0] == 0 && found.at[1] == 1 && found.at[2] == 3);
+    CHECK(raw_set_is_match(set, &work, TEXT("x/..")) == GLOBSET_NO);
+    CHECK(raw_set_is_match(empty, &work, TEXT("x.c")) == GLOBSET_NO);
+    CHECK(raw_set_is_match(one, &work, TEXT("Src/x")) == GLOBSET_YES);
+    raw_work_free(work);
+    raw_set_free(set);
+    raw_set_free(empty);
+    raw_set_free(one);
 }
 
 /* A builder that is built twice: the globs go into the first set. */
@@ -470,7 +539,7 @@ static void wrong_kinds(void) {
         uint8_t byte = 9;
         size_t size = 9;
         const size_t end = 3;
-        globset_indexes found = {raw_no_indexes, 0};
+        globset_indexes found = {raw_no_indexes, 1};
         uint32_t options = 9;
         CHECK(i == 0 || globset_raw_glob_regex(&lent, &byte, 1, &size) == GLOBSET_WRONG_KIND);
         CHECK(i == 0 || globset_raw_glob_text(&lent, &byte, 1, &size) == GLOBSET_WRONG_KIND);
@@ -483,8 +552,7 @@ static void wrong_kinds(void) {
         if (i < 3 || i == 5) {
             CHECK(globset_raw_set_is_match(&lent, &work.object, path, 3) == GLOBSET_WRONG_KIND);
             CHECK(globset_raw_set_matches_all(&lent, &work.object, path, 3) == GLOBSET_WRONG_KIND);
-            CHECK(globset_raw_set_matches(&lent, &work.object, path, 3, &found) == GLOBSET_WRONG_KIND &&
-                  found.count == 0);
+            CHECK(globset_raw_set_find(&lent, &work.object, path, 3, &size) == GLOBSET_WRONG_KIND);
             CHECK(globset_raw_set_is_match_many(&lent, &work.object, path, 3, &end, 1, &byte, 1) == GLOBSET_WRONG_KIND);
         }
         CHECK(i == 1 || i == 3 || i == 4 || globset_raw_work_fit(&work.object, &lent) == GLOBSET_WRONG_KIND);
@@ -492,8 +560,11 @@ static void wrong_kinds(void) {
         globset_lent lent_set = raw_lend(set.object);
         CHECK(i == 3 || i == 4 || globset_raw_set_is_match(&lent_set, objects[i], path, 3) == GLOBSET_WRONG_KIND);
         CHECK(i == 3 || i == 4 || globset_raw_set_matches_all(&lent_set, objects[i], path, 3) == GLOBSET_WRONG_KIND);
-        CHECK(i == 3 || i == 4 ||
-              globset_raw_set_matches(&lent_set, objects[i], path, 3, &found) == GLOBSET_WRONG_KIND);
+        CHECK(i == 3 || i == 4 || globset_raw_set_find(&lent_set, objects[i], path, 3, &size) == GLOBSET_WRONG_KIND);
+        CHECK(i == 4 || (globset_raw_work_found(objects[i], &found) == GLOBSET_WRONG_KIND && found.count == 0));
+        globset_lent globs_and_other[2] = {raw_lend(glob.object), lent};
+        CHECK(i == 0 || globset_raw_set_of_globs(globs_and_other, 2, &out) == GLOBSET_WRONG_KIND);
+        CHECK(size == 9 && out.at == &lent);
         CHECK(i == 3 || i == 4 ||
               globset_raw_set_is_match_many(&lent_set, objects[i], path, 3, &end, 1, &byte, 1) == GLOBSET_WRONG_KIND);
         CHECK(i == 3 || i == 4 || globset_raw_work_fit(objects[i], &lent_set) == GLOBSET_WRONG_KIND);
@@ -520,11 +591,14 @@ int main(void) {
     versions();
     refused();
     not_read();
+    nothing_said();
     options();
     bytes();
     texts();
     parts();
     sets();
+    found_by_works();
+    sets_of_globs();
     builders();
     limits();
     addresses();

@@ -16,7 +16,7 @@ static void try_texts(void) {
     raw_glob none = {{&error}};
     TRY(raw_glob_new(TEXT("{a,b"), 0, &error, &none), GLOBSET_REJECTED,
         CHECK(error.kind == 77 && none.object.at == &error && blocks == before));
-    TRY(raw_error_text(TEXT("{a,b"), 0, room, sizeof room, &needed), GLOBSET_DONE, CHECK(blocks == before));
+    TRY(raw_error_text(&error, TEXT("{a,b"), room, sizeof room, &needed), GLOBSET_DONE, CHECK(blocks == before));
     TRY(raw_escape(TEXT("a*b"), room, sizeof room, &needed), GLOBSET_DONE, CHECK(blocks == before));
 }
 
@@ -42,12 +42,24 @@ static raw_set try_making(raw_matcher *matcher) {
     return set;
 }
 
+/* The globs are as they were, and can be lent again. */
+static void try_set_of_globs(void) {
+    raw_glob made[GLOBS];
+    raw_set set = {{&set}};
+    for (int i = 0; i < GLOBS; i++) made[i] = glob_of(globs[i], 0);
+    TRY(raw_set_of_globs(made, GLOBS, &set), GLOBSET_DONE, CHECK(blocks == before && set.object.at == &set));
+    CHECK(raw_set_len(set) == GLOBS);
+    for (int i = 0; i < GLOBS; i++) raw_glob_free(made[i]);
+    raw_set_free(set);
+}
+
 /* Each question first with a new work. Once the work fits, no question takes memory. */
 static void try_questions(raw_set set, raw_matcher matcher) {
     const char *path = "src/a/b.c";
     const size_t ends[] = {3, 9};
     uint8_t answers[2];
     globset_indexes found;
+    size_t count;
     for (int question = 0; question < 6; question++) {
         raw_work work;
         TRY(raw_work_new(&work), GLOBSET_DONE, CHECK(blocks == before));
@@ -57,7 +69,10 @@ static void try_questions(raw_set set, raw_matcher matcher) {
             case 0: TRY(raw_set_is_match(set, &work, TEXT(path)), GLOBSET_YES, ); break;
             case 1: TRY(raw_set_matches_all(set, &work, TEXT(path)), GLOBSET_NO, ); break;
             case 2:
-                TRY(raw_set_matches(set, &work, TEXT(path), &found), GLOBSET_DONE, CHECK(found.count == 0));
+                count = 7;
+                TRY(raw_set_find(set, &work, TEXT(path), &count), GLOBSET_DONE,
+                    CHECK(count == 7 && raw_work_found(&work, &found) == GLOBSET_DONE && found.count == 0));
+                CHECK(count == 2 && raw_work_found(&work, &found) == GLOBSET_DONE);
                 CHECK(found.count == 2 && found.at[0] == 2 && found.at[1] == 3);
                 break;
             case 3: TRY(raw_matcher_is_match(matcher, &work, TEXT("abc")), GLOBSET_YES, ); break;
@@ -127,6 +142,7 @@ int main(void) {
     try_texts();
     raw_matcher matcher;
     raw_set set = try_making(&matcher);
+    try_set_of_globs();
     try_questions(set, matcher);
     try_searcher(set);
     raw_matcher_free(matcher);

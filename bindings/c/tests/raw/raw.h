@@ -42,10 +42,10 @@ static inline globset_status raw_glob_new(const void *text, size_t text_len, uin
 
 static inline void raw_glob_free(raw_glob glob) { globset_raw_free(glob.object); }
 
-static inline globset_status raw_error_text(const void *text, size_t text_len, uint32_t options, char *room,
+static inline globset_status raw_error_text(const globset_error *error, const void *text, size_t text_len, char *room,
                                             size_t room_len, size_t *needed) {
     uint8_t none = 0;
-    return globset_raw_error_text(raw_bytes(text), text_len, options, room ? (uint8_t *)room : &none, room_len, needed);
+    return globset_raw_error_text(error, raw_bytes(text), text_len, room ? (uint8_t *)room : &none, room_len, needed);
 }
 
 static inline globset_status raw_glob_regex(raw_glob glob, char *room, size_t room_len, size_t *needed) {
@@ -130,12 +130,35 @@ static inline globset_status raw_set_matches_all(raw_set set, raw_work *work, co
     return globset_raw_set_matches_all(&lent, &work->object, raw_bytes(path), path_len);
 }
 
-static inline globset_status raw_set_matches(raw_set set, raw_work *work, const void *path, size_t path_len,
-                                             globset_indexes *indexes) {
+static inline globset_status raw_set_find(raw_set set, raw_work *work, const void *path, size_t path_len,
+                                          size_t *count) {
     globset_lent lent = raw_lend(set.object);
+    return globset_raw_set_find(&lent, &work->object, raw_bytes(path), path_len, count);
+}
+
+static inline globset_status raw_work_found(raw_work *work, globset_indexes *indexes) {
     indexes->at = raw_no_indexes;
     indexes->count = 0;
-    return globset_raw_set_matches(&lent, &work->object, raw_bytes(path), path_len, indexes);
+    return globset_raw_work_found(&work->object, indexes);
+}
+
+/* raw_set_find, and then raw_work_found. */
+static inline globset_status raw_set_matches(raw_set set, raw_work *work, const void *path, size_t path_len,
+                                             globset_indexes *indexes) {
+    size_t count = 0;
+    globset_status status = raw_set_find(set, work, path, path_len, &count);
+    if (status != GLOBSET_DONE) return status;
+    status = raw_work_found(work, indexes);
+    CHECK(indexes->count == count);
+    return status;
+}
+
+/* The set of globs that are lent by an array of handles. */
+static inline globset_status raw_set_of_globs(const raw_glob *globs, size_t count, raw_set *out) {
+    globset_lent lents[16] = {{NULL}};
+    CHECK(count <= sizeof lents / sizeof *lents);
+    for (size_t i = 0; i < count; i++) lents[i] = raw_lend(globs[i].object);
+    return globset_raw_set_of_globs(lents, count, &out->object);
 }
 
 static inline globset_status raw_set_is_match_many(raw_set set, raw_work *work, const void *paths, size_t paths_len,

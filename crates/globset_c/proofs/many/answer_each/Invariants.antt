@@ -7,8 +7,7 @@ use Rattle.globset_c.proofs.many.answer_each.Given as goal
 abbrev pub invariant-each : goal.invariant-each
 invariant-each l =
     (l.answers.items ++ answers_for (set_globs l.set) l.paths l.start l.rest ≡ answers_for (set_globs l.set) l.paths 0 l.fn.ends)
-    × (AreEnds (length l.paths) l.start l.rest → AreEnds (length l.paths) 0 l.fn.ends)
-    × (AreEnds (length l.paths) 0 l.fn.ends → AreEnds (length l.paths) l.start l.rest)
+    × AreEnds (length l.paths) l.start l.rest
     × (length l.answers.items + length l.rest ≡ length l.fn.ends)
     × (l.scratch ≡ l.fn.scratch)
 

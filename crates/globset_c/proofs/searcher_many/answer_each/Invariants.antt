@@ -7,8 +7,7 @@ use Rattle.globset_c.proofs.searcher_many.answer_each.Given as goal
 abbrev pub invariant-each : goal.invariant-each
 invariant-each l =
     (l.answers.items ++ answers_for (set_globs l.fn.searcher.set) l.paths l.start l.rest ≡ answers_for (set_globs l.fn.searcher.set) l.paths 0 l.fn.ends)
-    × (AreEnds (length l.paths) l.start l.rest → AreEnds (length l.paths) 0 l.fn.ends)
-    × (AreEnds (length l.paths) 0 l.fn.ends → AreEnds (length l.paths) l.start l.rest)
+    × AreEnds (length l.paths) l.start l.rest
     × (length l.answers.items + length l.rest ≡ length l.fn.ends)
     × (l.searcher ≡ l.fn.searcher)
 

@@ -1,0 +1,100 @@
+//! Sets of globs that are lent.
+
+ghost use Rattle.std.specs.Prelude.{◌≡◌, ◌≢◌, ◌↔◌, ◌<◌, ◌++◌, Some, [], ◌∷◌, IfOk, IsTrue, length};
+ghost use Rattle.globset.specs.SetValue.{set_globs};
+ghost use Rattle.globset_c.specs.Kinds.{IfSet, IsGlob};
+ghost use Rattle.globset_c.specs.LentGlobs.{AreGlobs, glob_in, lent_globs};
+ghost use Rattle.globset_c.specs.Statuses.{IsOneOf};
+
+use crate::lent::Lent;
+use crate::making::hand_out;
+use crate::object::Object;
+use crate::owned::Owned;
+use crate::status::{DONE, OUT_OF_MEMORY, Status, WRONG_KIND};
+use globset::{DEFAULT_DFA_SIZE_LIMIT, GlobSet};
+use globset_glob::{options_of, text_of, tokens_of};
+use globset_set::StoredBuilder;
+use std::alloc::{AllocError, Global};
+
+/// Makes the set of globs that are lent, in their order, and lets the caller own it. The globs are read, and not copied.
+#[unsafe(no_mangle)]
+pub extern "C" fn globset_raw_set_of_globs(
+    alloc: Global,
+    globs: &mut [Lent],
+    out: &mut Owned,
+) -> Status
+    ensures same_globs { globs.new ≡ globs.old }
+    ensures made { result ≡ DONE → IfSet out.new.object (λ s. set_globs s ≡ lent_globs globs.old) }
+    ensures refused { result ≢ DONE → out.new ≡ out.old }
+    ensures right_kind { AreGlobs globs.old → result ≢ WRONG_KIND }
+    ensures other_kind { ¬ (AreGlobs globs.old) → result ≡ WRONG_KIND }
+    ensures statuses { IsOneOf (DONE ∷ OUT_OF_MEMORY ∷ WRONG_KIND ∷ []) result }
+{
+    if !are_globs(globs) {
+        return WRONG_KIND;
+    }
+    let Ok(set) = set_of(alloc, globs) else {
+        return OUT_OF_MEMORY;
+    };
+    match hand_out(alloc, Object::Set(set), out) {
+        Ok(()) => DONE,
+        Err(_) => OUT_OF_MEMORY,
+    }
+}
+
+/// Returns whether each lent object is a glob.
+#[tactic(auto, using(crate::proofs::LentGlobs::no_globs_yet, crate::proofs::LentGlobs::other_than_a_glob, crate::proofs::LentGlobs::all_are_globs))]
+fn are_globs(globs: &mut [Lent]) -> bool
+    ensures same { globs.new ≡ globs.old }
+    ensures answer { IsTrue result ↔ AreGlobs globs.old }
+{
+    for i in 0..globs.len() {
+        if !lends_glob(&mut globs[i]) {
+            return false;
+        }
+    }
+    true
+}
+
+fn lends_glob(lent: &mut Lent) -> bool
+    ensures same { lent.new ≡ lent.old }
+    ensures answer { IsTrue result ↔ IsGlob (Some lent.old.object) }
+{
+    lent.read((), |object, ()| is_glob(object))
+}
+
+fn is_glob(object: &Object) -> bool
+    ensures { IsTrue result ↔ IsGlob (Some object.now) }
+{
+    matches!(object, Object::Glob(_))
+}
+
+/// Returns the set of globs that are lent.
+#[tactic(auto, using(crate::proofs::LentGlobs::few_globs, crate::proofs::LentGlobs::as_many_globs, crate::proofs::LentGlobs::all_globs))]
+fn set_of(alloc: Global, globs: &mut [Lent]) -> Result<GlobSet, AllocError>
+    requires { AreGlobs globs.old }
+    ensures same { globs.new ≡ globs.old }
+    ensures made { IfOk result (λ s. set_globs s ≡ lent_globs globs.old) }
+{
+    // In a box, since it moves into and out of each call that reads a glob.
+    let mut builder = Box::new(alloc, StoredBuilder::new(alloc, globs.len()))?;
+    for i in 0..globs.len() {
+        builder = globs[i].read(builder, |object, builder| add(object, builder))?;
+    }
+    let stored = Box::into_inner(builder).finish(DEFAULT_DFA_SIZE_LIMIT)?;
+    Ok(GlobSet::of_stored(stored))
+}
+
+/// Adds the glob after those that were added, if the object is one.
+fn add(object: &Object, builder: Box<StoredBuilder>) -> Result<Box<StoredBuilder>, AllocError>
+    requires { length builder.value.given < builder.value.count }
+    ensures globs { IfOk result (λ b. b.value.given ≡ builder.value.given ++ glob_in object.now) }
+    ensures count { IfOk result (λ b. b.value.count ≡ builder.value.count) }
+{
+    let mut builder = builder;
+    if let Object::Glob(glob) = object {
+        let glob = glob.glob();
+        builder.add(text_of(glob), options_of(glob), tokens_of(glob))?;
+    }
+    Ok(builder)
+}
