@@ -331,9 +331,9 @@ fn fewer(count: usize, budget: usize) -> usize
 }
 
 /// Returns how many starts to try after a part with `count` of them, of which at most `maximum` were tried. It is twice as many
-/// if the part has at most half of the numbers that it may have.
+/// if the part has at most a quarter of the numbers that it may have.
 fn count_after(count: usize, maximum: usize, numbers: usize, budget: usize) -> usize {
-    if count < maximum || numbers > budget / 2 {
+    if count < maximum || numbers > budget / 4 {
         count
     } else {
         count.saturating_mul(2)
