@@ -107,8 +107,8 @@ fn ignored_folder(
         return Ok(ignored_one_by_one(files, path));
     }
     let mut decisions = vec![in alloc; Decision::Undecided; path.len()]?;
-    for file in files.iter().rev() {
-        file.decide_folders(path, &mut decisions)?;
+    for file in files.iter_mut().rev() {
+        file.decide_folders(path, &mut decisions);
     }
     Ok(decisions.iter().position(|decision| decision.is_ignored()))
 }

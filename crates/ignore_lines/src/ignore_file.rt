@@ -1,21 +1,17 @@
 //! An ignore file that is for the folder in which it is.
 
-ghost use Rattle.git_ignore.specs.RulesValue.{FitsRules};
-
 use example_io::{Fault, TextFile};
-use git_ignore::{Decision, IgnoreScratch, Rules};
+use git_ignore::{Decision, Rules, RulesSearcher};
 use memchr::{memchr, memrchr};
-use std::alloc::{AllocError, Global};
+use std::alloc::Global;
 
 /// What some editors put at the start of a text.
 const BYTE_ORDER_MARK: &[u8] = b"\xef\xbb\xbf";
 
-/// An ignore file, its rules, and the memory that they are matched with.
+/// An ignore file, and a searcher of its rules.
 pub struct IgnoreFile {
     text: TextFile,
-    rules: Rules,
-    scratch: IgnoreScratch,
-    ghost fits: { FitsRules scratch rules },
+    searcher: RulesSearcher,
 }
 
 impl Drop for IgnoreFile {
@@ -23,8 +19,7 @@ impl Drop for IgnoreFile {
     fn drop(self) {
         let IgnoreFile {
             text: _,
-            rules: _,
-            scratch: _,
+            searcher: _,
         } = self;
     }
 }
@@ -44,14 +39,10 @@ impl IgnoreFile {
         let Ok(rules) = Rules::new(alloc, text.bytes()) else {
             return Err(Fault::OutOfMemory);
         };
-        let Ok(scratch) = IgnoreScratch::new(alloc, &rules) else {
+        let Ok(searcher) = RulesSearcher::new(alloc, &rules) else {
             return Err(Fault::OutOfMemory);
         };
-        Ok(IgnoreFile {
-            text,
-            rules,
-            scratch,
-        })
+        Ok(IgnoreFile { text, searcher })
     }
 
     /// Returns the name of the file.
@@ -71,30 +62,20 @@ impl IgnoreFile {
     /// Returns the line that decides about a path, if the path is below the folder and a line does.
     pub fn deciding_line(&mut self, path: &[u8], is_folder: bool) -> Option<DecidingLine> {
         let below = path.strip_prefix(self.folder())?;
-        let number = self
-            .rules
-            .deciding_line(below, is_folder, &mut self.scratch)?;
-        let decision = self.rules.decide(below, is_folder, &mut self.scratch);
+        let number = self.searcher.deciding_line(below, is_folder)?;
+        let decision = self.searcher.decide(below, is_folder);
         Some(DecidingLine {
             number,
             ignores: decision == Decision::Ignored,
         })
     }
 
-    /// Decides about the folders above a path, as [`Rules::decide_folders`] does. Returns an error if memory runs out.
-    pub fn decide_folders(
-        &self,
-        path: &[u8],
-        decisions: &mut [Decision],
-    ) -> Result<(), AllocError> {
+    /// Decides about the folders above a path, as [`RulesSearcher::decide_folders`] does.
+    pub fn decide_folders(&mut self, path: &[u8], decisions: &mut [Decision]) {
         let folder = self.folder();
-        if !path.starts_with(folder) {
-            return Ok(());
-        }
-        match self.rules.decide_folders(path, folder.len(), decisions) {
-            Ok(()) => Ok(()),
-            // There is no other error than that memory ran out.
-            Err(_) => Err(AllocError),
+        if path.starts_with(folder) {
+            let start = folder.len();
+            self.searcher.decide_folders(path, start, decisions);
         }
     }
 
