@@ -75,9 +75,9 @@ module _ (m : Machine) where
     -- by bytes that lead to one set from the base, and to the same states beside it
     pub equivalent : (below : StateSet) (a b : ℕ) → a < 256 → b < 256 → GoesTo m base a below → GoesTo m base b below → LeadAlike steps a b
         → (y : List ℕ) (k : ℕ) → AcceptsFrom m from (a ∷ y) k ↔ AcceptsFrom m from (b ∷ y) k
-    equivalent below a b la lb goes goes' same y k = iff_trans (beside a la y k) (iff_trans (either (iff_trans (goes y k) (iff_sym (goes' y k))) (
-      λ (t, lt, at, h). (t, lt, sym (same t) ∙ at, h),
-      λ (t, lt, at, h). (t, lt, same t ∙ at, h),
+    equivalent below a b la lb goes goes' alike y k = iff_trans (beside a la y k) (iff_trans (either (iff_trans (goes y k) (iff_sym (goes' y k))) (
+      λ (t, lt, at, h). (t, lt, sym (alike t) ∙ at, h),
+      λ (t, lt, at, h). (t, lt, alike t ∙ at, h),
     )) (iff_sym (beside b lb y k)))
 
   pub row_kept : (old new : List Found) (row : Row) → KeepsFound old new → IsRowOf m old row → IsRowOf m new row
