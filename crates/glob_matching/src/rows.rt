@@ -166,7 +166,7 @@ impl RowCache {
     {
         let before = self.cache.read_count();
         self.cache.find(&self.dfa, text, found, visits);
-        self.keep_made(before);
+        self.keep_reads(before);
     }
 
     /// Returns whether tokens match a text.
@@ -180,7 +180,7 @@ impl RowCache {
     {
         let before = self.cache.read_count();
         let is_match = self.cache.is_match(&self.dfa, text, visits);
-        self.keep_made(before);
+        self.keep_reads(before);
         is_match
     }
 
@@ -196,12 +196,12 @@ impl RowCache {
         self.cache.can_match_after(&self.dfa, text, byte, visits)
     }
 
-    /// Keeps how many entries were made for a text, by the count before it.
-    fn keep_made(&mut self, before: usize)
+    /// Keeps how much was read for new entries of a text, by the count before it.
+    fn keep_reads(&mut self, before: usize)
         ensures { self.new ≡ self.old }
     {
-        let made = self.cache.read_count().wrapping_sub(before);
-        self.turns.keep_made(made);
+        let reads = self.cache.read_count().wrapping_sub(before);
+        self.turns.keep_reads(reads);
     }
 }
 

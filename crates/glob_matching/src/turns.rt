@@ -2,9 +2,9 @@
 //!
 //! A text takes the least time by rows whose entries are all known. But where texts need new entries again and again, a filter that
 //! marks few starts takes less: to make an entry takes longer than to ask a filter. Which it is shows only when rows are used. So a
-//! filter is asked for a number of texts, then rows are used until a number of entries was made, and so on. Both numbers grow, that of
-//! texts faster: rows that always lack entries take a smaller part of the time with each turn, and rows that become complete come to
-//! be used for all texts.
+//! filter is asked for a number of texts, then rows are used until their entries have cost a number of reads, and so on. Both numbers
+//! grow, that of texts faster: rows that always lack entries take a smaller part of the time with each turn, and rows that become
+//! complete come to be used for all texts.
 
 /// How long the turns are, for the texts of one thread.
 #[derive(Clone, Copy)]
@@ -13,29 +13,32 @@ pub struct Turns {
     texts: u32,
     /// For how many texts fewer it is asked if it marks many starts of the next one.
     loss: u32,
-    /// How many entries may be made before a filter has its turn.
-    entries: usize,
+    /// How much rows may read for new entries before a filter has its turn.
+    reads: usize,
     /// What `texts` is in the filter's next turn.
     next_texts: u32,
-    /// What `entries` is in the next turn of rows.
-    next_entries: usize,
+    /// What `reads` is in the next turn of rows.
+    next_reads: usize,
 }
 
 /// A filter's first turn is for so many texts, and each is four times as long as the one before.
 const FIRST_TEXTS: u32 = 64;
 
+/// A filter's turn is for at most so many texts.
+const MOST_TEXTS: u32 = 1 << 16;
+
 /// A text of which a filter marks many starts takes so many texts from its turn, and each that follows at once twice as many as the
 /// one before.
 const FIRST_LOSS: u32 = 8;
 
-/// A filter's turn is for at most so many texts.
-const MOST_TEXTS: u32 = 1 << 16;
+/// Rows may read so many states in their first turn, and twice as many in each as in the one before.
+const FIRST_READS: usize = 1 << 12;
 
-/// So many entries may be made in the first turn of rows, and twice as many in each as in the one before.
-const FIRST_ENTRIES: usize = 1 << 8;
+/// Rows may read at most so many states in a turn.
+const MOST_READS: usize = 1 << 17;
 
-/// At most so many entries may be made in a turn of rows.
-const MOST_ENTRIES: usize = 1 << 13;
+/// To ask a filter takes about as long as to read so many states, so each text gives these to rows.
+const READS_FOR_TEXT: usize = 16;
 
 impl Turns {
     /// Returns the turns of a thread that has matched no text. The first is the filter's.
@@ -43,9 +46,9 @@ impl Turns {
         Turns {
             texts: FIRST_TEXTS,
             loss: FIRST_LOSS,
-            entries: 0,
+            reads: 0,
             next_texts: FIRST_TEXTS * 4,
-            next_entries: FIRST_ENTRIES,
+            next_reads: FIRST_READS,
         }
     }
 
@@ -64,22 +67,22 @@ impl Turns {
             self.loss = self.loss.saturating_mul(2);
         }
         if self.texts == 0 {
-            self.entries = self.next_entries;
-            self.next_entries = self.next_entries.saturating_mul(2).min(MOST_ENTRIES);
+            self.reads = self.next_reads;
+            self.next_reads = self.next_reads.saturating_mul(2).min(MOST_READS);
         }
     }
 
-    /// Keeps how many entries were made for a text. A text for which none was made gives back one.
-    pub fn keep_made(&mut self, made: usize) {
+    /// Keeps how much rows read for new entries of a text.
+    pub fn keep_reads(&mut self, reads: usize) {
         if self.is_filters() {
             return;
         }
-        if made == 0 {
-            self.entries = self.entries.saturating_add(1).min(MOST_ENTRIES);
-            return;
-        }
-        self.entries = self.entries.saturating_sub(made);
-        if self.entries == 0 {
+        self.reads = self
+            .reads
+            .saturating_add(READS_FOR_TEXT)
+            .saturating_sub(reads)
+            .min(MOST_READS);
+        if self.reads == 0 {
             self.texts = self.next_texts;
             self.next_texts = self.next_texts.saturating_mul(4).min(MOST_TEXTS);
         }

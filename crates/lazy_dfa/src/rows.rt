@@ -91,7 +91,7 @@ pub struct Rows {
     list: Vec<usize>,
     /// The list of the indexes in `ends`.
     told: Vec<usize>,
-    /// How many times the states of a row were read.
+    /// How much was read where an entry was not known: the states of a row, and one more, each time.
     read_count: usize,
 }
 
@@ -172,7 +172,8 @@ impl Rows {
             .saturating_add(numbers.saturating_mul(mem::size_of::<usize>()))
     }
 
-    /// Returns how many times the states of a row were read. It counts on from 0 after the highest number.
+    /// Returns how much was read where an entry was not known: the states of a row, and one more, each time. It counts on from 0 after
+    /// the highest number.
     pub fn read_count(&self) -> usize {
         self.read_count
     }
@@ -471,9 +472,10 @@ impl Rows {
         ensures visits { visits.new ≤ visits.old + size automaton.now }
         ensures counted { visits.old ≤ visits.new }
     {
-        self.read_count = self.read_count.wrapping_add(1);
+        let states = states_at(&self.starts, &self.lists, row);
+        self.read_count = self.read_count.wrapping_add(states.len()).wrapping_add(1);
         self.from.clear();
-        self.from.put_all(states_at(&self.starts, &self.lists, row));
+        self.from.put_all(states);
         read(
             automaton,
             byte,

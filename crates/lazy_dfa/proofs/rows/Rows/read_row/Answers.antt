@@ -10,7 +10,7 @@ use Rattle.lazy_dfa.proofs.rows.Rows.read_row.Goals as goal
 pub put_all-requires : goal.put_all-requires
 put_all-requires c =
     let rows = c.args.self.now in
-    let same : c.states_at.result.now ≡ states_of rows c.args.row = rw (c.deref.ensures.value, c.deref-2.ensures.value) at c.states_at.ensures in
+    let same : c.states_at-states.result.now ≡ states_of rows c.args.row = rw (c.deref.ensures.value, c.deref-2.ensures.value) at c.states_at-states.ensures in
     subst (AreBelow (state_capacity c.clear.new.self)) (sym same)
     (λ i lt. let below = (c.requires.sound.lists c.args.row c.requires.row).below i lt in omega (arith, below, c.requires.sound.room.from, c.clear.ensures.room))
 
@@ -32,13 +32,13 @@ returns-clause-sound c =
 pub returns-clause-steps : goal.returns-clause-steps
 returns-clause-steps c = λ y k.
     let rows = c.args.self.now in
-    let same : c.states_at.result.now ≡ states_of rows c.args.row = rw (c.deref.ensures.value, c.deref-2.ensures.value) at c.states_at.ensures in
+    let same : c.states_at-states.result.now ≡ states_of rows c.args.row = rw (c.deref.ensures.value, c.deref-2.ensures.value) at c.states_at-states.ensures in
     iff_trans (accepts_loaded c.args.automaton.now c.clear.new.self c.put_all.new.self (states_of rows c.args.row) c.clear.ensures.none (rw same at c.put_all.ensures.has) (c.args.byte ∷ y) k)
     (c.read.ensures.steps y k)
 
 pub returns-clause-ends : goal.returns-clause-ends
 returns-clause-ends c = λ k _.
     let rows = c.args.self.now in
-    let same : c.states_at.result.now ≡ states_of rows c.args.row = rw (c.deref.ensures.value, c.deref-2.ensures.value) at c.states_at.ensures in
+    let same : c.states_at-states.result.now ≡ states_of rows c.args.row = rw (c.deref.ensures.value, c.deref-2.ensures.value) at c.states_at-states.ensures in
     iff_trans (c.read.ensures.ends k)
     (iff_sym (accepts_loaded c.args.automaton.now c.clear.new.self c.put_all.new.self (states_of rows c.args.row) c.clear.ensures.none (rw same at c.put_all.ensures.has) [] k))
