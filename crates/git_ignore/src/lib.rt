@@ -82,6 +82,8 @@ mod scratch;
 mod searcher;
 mod stack;
 mod stored;
+#[cfg(test)]
+mod tests;
 
 pub use decision::Decision;
 pub use rules::Rules;
