@@ -1,5 +1,5 @@
 -- Lent objects that are globs.
-use Rattle.std.proofs.Common.{◌≡◌, ◌+◌, ◌<◌, ◌≤◌, ℕ, List, [], ◌∷◌, ◌++◌, length, arith, subst, ap, refl}
+use Rattle.std.proofs.Common.{◌≡◌, ◌+◌, ◌<◌, ◌≤◌, ℕ, List, [], ◌∷◌, length, arith, subst, ap, refl}
 use Rattle.std.proofs.lemmas.List.{length-append, length-take-le, take_all}
 use Rattle.std.proofs.lemmas.List.Elements.{All-more, All-nil, All-tail}
 use Rattle.std.specs.Prelude.{Some, take, slice_index_or}

@@ -6,7 +6,7 @@ use crate::indexes::globset_raw_set_find;
 use crate::lent::Lent;
 use crate::object::{Object, Work};
 use crate::owned::Owned;
-use crate::status::{DONE, Status, WRONG_KIND};
+use crate::status::{DONE, Status};
 use globset::{Glob, GlobSet, Scratch};
 use std::test::Fail;
 
@@ -23,7 +23,7 @@ fn ask(lent: Lent, work: Owned, path: &[u8]) -> ((Owned, Status, usize), Lent)
     ((work, status, count), lent)
 }
 
-/// A set and a glob are lent again and again, and are there afterwards.
+/// A set is lent again and again, and is there afterwards.
 #[test]
 fn what_is_lent_is_asked_and_taken_back(rt: HostRuntime) -> Result<(), Fail> {
     let alloc = rt.alloc();

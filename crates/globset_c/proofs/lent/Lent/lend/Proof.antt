@@ -35,7 +35,7 @@ use denote.Param.Steps.{one_value}
 use denote.Param.Members.{once_call}
 use denote.Param.Call as called
 use denote.RawPtr.{Ptr, RawPtr, block_ptr, ptr_val, in_a_block}
-use denote.Ref.{Bor, ShrRef}
+use denote.Ref.{ShrRef}
 use denote.Signature.{plain, types_at}
 use denote.Struct.Owning as owning
 use denote.Struct.Struct.{within}
