@@ -170,9 +170,10 @@ impl Shared {
         ensures visits { visits.new ≤ visits.old + max_set_visits_below (set_globs self.now.set) folder.now }
         ensures counted { visits.old ≤ visits.new }
     {
-        Ok(self
-            .matcher()
-            .can_match_below(folder.path(), scratch, caches, visits)?)
+        Ok(
+            self.matcher()
+                .can_match_below(folder.path(), scratch, caches, visits)?,
+        )
     }
 
     /// Returns whether every glob matches the path and none is excluded.
