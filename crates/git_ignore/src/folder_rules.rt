@@ -40,7 +40,7 @@ impl Drop for FolderRules {
 
 impl FolderRules {
     /// Reads an ignore file of a folder, and makes the scratch fit its rules. A searcher of them is made if it takes at most
-    /// `most_bytes`. Returns an error if memory runs out, and no other.
+    /// `most_bytes`. Returns an error only if memory runs out.
     pub fn new(
         alloc: Global,
         folder: &[u8],

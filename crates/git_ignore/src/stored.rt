@@ -59,8 +59,8 @@ impl Model for StoredRules {
 }
 
 impl StoredRules {
-    /// Returns what is stored of rules with these globs and entries, which were read from a file. Returns an error if memory runs
-    /// out, and no other.
+    /// Returns what is stored of rules with these globs and entries, which were read from a file. Returns an error only if memory
+    /// runs out.
     pub fn new(
         alloc: Global,
         globs: Vec<Glob>,
