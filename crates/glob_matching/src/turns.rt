@@ -3,8 +3,10 @@
 //! A text takes the least time by rows whose entries are all known. But where texts need new entries again and again, a filter that
 //! marks few starts takes less: to make an entry takes longer than to ask a filter. Which it is shows only when rows are used. So a
 //! filter is asked for a number of texts, then rows are used until their entries have cost a number of reads, and so on. Both numbers
-//! grow, that of texts faster: rows that always lack entries take a smaller part of the time with each turn, and rows that become
-//! complete come to be used for all texts.
+//! grow up to a limit, that of texts faster, so that rows which become complete come to be used for all texts.
+//!
+//! An entry counts for the states that it reads alone, and each text is allowed some reads. So rows keep their turn where each text
+//! makes a few short entries, though a filter would take less time there: docs/DECISIONS.md has examples.
 
 /// How long the turns are, for the texts of one thread.
 #[derive(Clone, Copy)]
@@ -37,7 +39,7 @@ const FIRST_READS: usize = 1 << 12;
 /// Rows may read at most so many states in a turn.
 const MOST_READS: usize = 1 << 17;
 
-/// To ask a filter takes about as long as to read so many states, so each text gives these to rows.
+/// To ask a filter takes about as long as to read so many states, so rows may read these for each text without losing their turn.
 const READS_FOR_TEXT: usize = 16;
 
 impl Turns {
