@@ -1,5 +1,6 @@
 pub mod Walks
 pub mod Anchors
+pub mod NoTexts
 pub mod Ranges
 pub mod Children
 pub mod Spans

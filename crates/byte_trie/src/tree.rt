@@ -1,10 +1,11 @@
 //! The nodes of a trie, which only a counted call reads.
 
-ghost use Rattle.std.specs.Prelude.{◌≡◌, ◌+◌, ◌<◌, IfSome, option_and_then};
+ghost use Rattle.std.specs.Prelude.{◌≡◌, ◌+◌, ◌<◌, [], IfSome, option_and_then};
 ghost use Rattle.byte_trie.specs.inner.Nodes.{child_at, held_at, node_count, IsTree};
 
 mod build;
 
+use std::alloc::Global;
 use visits::Visits;
 
 /// A node: the ranges of its edges and of its indexes.
@@ -16,7 +17,7 @@ struct Node {
     indexes_end: usize,
 }
 
-/// Nodes, each for the texts that begin with the bytes on the way to it. The root is the node 0.
+/// Nodes, each for the texts that begin with the bytes on the way to it. The root is the node 0. For no texts there are no nodes.
 ///
 /// Edges lie in order of node and byte. Each leads to a node of its own, whose number is one more than the edge's.
 pub struct Tree {
@@ -46,6 +47,19 @@ pub struct Reading<'t> {
 }
 
 impl Tree {
+    /// Returns a tree of no nodes, which takes no memory.
+    pub fn nothing(alloc: Global) -> Tree
+        ensures nodes { result.nodes.items ≡ [] }
+        ensures bytes { result.bytes.items ≡ [] }
+        ensures indexes { result.indexes.items ≡ [] }
+    {
+        Tree {
+            nodes: Vec::new(alloc),
+            bytes: Vec::new(alloc),
+            indexes: Vec::new(alloc),
+        }
+    }
+
     /// Reads a node: its indexes, and the child that the next byte leads to. It is one visit.
     pub fn read(&self, node: usize, next: Option<u8>, visits: &mut Visits) -> Reading<'_>
         requires tree { IsTree self.now }

@@ -53,12 +53,21 @@ impl Model for Trie {
 impl Trie {
     /// Returns a trie of texts, which are looked for at a side of a path.
     ///
-    /// Returns an error if memory runs out. The time is linear in the bytes of all texts, except that the texts are sorted.
+    /// Returns an error if memory runs out. The time is linear in the bytes of all texts, except that the texts are sorted. With no
+    /// texts it allocates nothing.
     pub fn new(alloc: Global, anchor: Anchor, texts: Vec<Text>) -> Result<Trie, AllocError>
         ensures { IfOk result (λ t. t ≡ record { anchor = anchor; entries = map entry_of texts.items }) }
     {
         let count = texts.len();
         let entries = Snapshot::of(&texts);
+        if count == 0 {
+            return Ok(Trie {
+                tree: Tree::nothing(alloc),
+                anchor,
+                count,
+                entries,
+            });
+        }
         let sorted = sorted(anchor, texts)?;
         Ok(Trie {
             tree: Tree::build(alloc, &sorted)?,

@@ -15,6 +15,7 @@ ghost use Rattle.byte_trie.specs.inner.Building.{rests_of, next_of, IsOrdered, A
 use super::{Node, Tree};
 use crate::text::Text;
 use std::alloc::{AllocError, Global};
+use std::mem;
 
 /// The texts from one on and before another, which begin with the same bytes.
 #[derive(Clone, Copy)]
@@ -42,30 +43,32 @@ impl Tree {
             from: 0,
             to: texts.len(),
         })?;
+        let mut next = Vec::new(alloc);
         for depth in 0..longest + 1 {
-            level = tree.push_level(alloc, texts, depth, &level)?;
+            tree.push_level(texts, depth, &level, &mut next)?;
+            mem::swap(&mut level, &mut next);
         }
         Ok(tree)
     }
 
-    /// Adds the nodes of a level, and returns what the nodes of the next level stand for.
+    /// Adds the nodes of a level, and replaces the items of `next` by what the nodes of the next level stand for.
     fn push_level(
         &mut self,
-        alloc: Global,
         texts: &[Text],
         depth: usize,
         level: &[Span],
-    ) -> Result<Vec<Span>, AllocError>
+        next: &mut Vec<Span>,
+    ) -> Result<(), AllocError>
         requires stands { Stands texts.now self.old (map (rests_of texts.now depth) level.now) }
         requires spans { AreSpans texts.now depth level.now }
-        ensures stands { IfOk result (λ next. Stands texts.now self.new (map (rests_of texts.now (depth + 1)) next.items)) }
-        ensures spans { IfOk result (λ next. AreSpans texts.now (depth + 1) next.items) }
+        ensures stands { OnOk result (Stands texts.now self.new (map (rests_of texts.now (depth + 1)) next.new.items)) }
+        ensures spans { OnOk result (AreSpans texts.now (depth + 1) next.new.items) }
     {
-        let mut next = Vec::new(alloc);
+        next.clear();
         for span in level {
-            self.push_node(texts, depth, *span, &mut next)?;
+            self.push_node(texts, depth, *span, next)?;
         }
-        Ok(next)
+        Ok(())
     }
 
     /// Adds a node with its edges, and to `next` what its children stand for.

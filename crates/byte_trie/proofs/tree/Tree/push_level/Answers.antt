@@ -12,7 +12,7 @@ loop-span-init c =
     let ts = c.args.texts.now in
     let d = c.args.depth in
     let level = map (rests_of ts d) c.args.level.now in
-    let empty = sym c.new-next.ensures.items in
+    let empty = sym c.clear.ensures.items in
     record {
       stands = subst (λ xs. Stands ts c.args.self.now (level ++ map (rests_of ts (d + 1)) xs)) empty (subst (Stands ts c.args.self.now) (sym (append-nil level)) c.requires.stands);
       left = c.requires.spans;
