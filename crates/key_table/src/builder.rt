@@ -84,6 +84,25 @@ impl TableBuilder {
         Ok(())
     }
 
+    /// Adds an index under a key, as [`TableBuilder::insert`] does. The memory of the first key that is not empty becomes that of the
+    /// table, so nothing is copied for a table of one key.
+    pub fn insert_owned(&mut self, key: Vec<u8>, index: usize) -> Result<(), AllocError>
+        ensures ok { OnOk result (self.new ≡ self.old ++ entry key.items index ∷ []) }
+        ensures err { OnErr result (self.new ≡ self.old) }
+    {
+        if self.bytes.is_empty() {
+            self.pairs.push(Pair {
+                hash: hash(0, &key),
+                start: 0,
+                end: key.len(),
+                index,
+            })?;
+            self.bytes = key;
+            return Ok(());
+        }
+        self.insert(&key, index)
+    }
+
     /// Returns the table of the entries. Returns an error if memory runs out.
     ///
     /// The entries are sorted. The table's memory has no room for more.
