@@ -11,13 +11,31 @@ use crate::strategy::conditions::is_literal_except;
 use glob_syntax::Token;
 use std::alloc::{AllocError, Global};
 
-/// Returns the bytes of the tokens that are literals, in order.
+/// Returns the bytes of the tokens that are literals, in order. Its memory has no room for more.
 ///
 /// Returns an error if memory runs out, and no other.
 pub fn literal_text(alloc: Global, tokens: &[Token]) -> Result<Vec<u8>, AllocError>
     ensures { IfOk result (λ text. text.items ≡ literal_text (flats tokens.now)) }
 {
-    let mut text = String::new(alloc);
+    literal_text_in(alloc, literal_len(tokens), tokens)
+}
+
+/// Returns the bytes of the tokens that are literals, in order, and `/`. Its memory has no room for more.
+///
+/// Returns an error if memory runs out, and no other.
+pub fn literal_text_and_slash(alloc: Global, tokens: &[Token]) -> Result<Vec<u8>, AllocError>
+    ensures { IfOk result (λ text. text.items ≡ literal_text (flats tokens.now) ++ slash ∷ []) }
+{
+    let mut text = literal_text_in(alloc, literal_len(tokens).saturating_add(1), tokens)?;
+    text.push(b'/')?;
+    Ok(text)
+}
+
+/// Returns the bytes of the tokens that are literals, in order, in memory that has room for so many.
+fn literal_text_in(alloc: Global, capacity: usize, tokens: &[Token]) -> Result<Vec<u8>, AllocError>
+    ensures { IfOk result (λ text. text.items ≡ literal_text (flats tokens.now)) }
+{
+    let mut text = String::with_capacity(alloc, capacity)?;
     for token in tokens {
         if let Token::Literal(c) = token {
             text.push(*c)?;
@@ -26,15 +44,15 @@ pub fn literal_text(alloc: Global, tokens: &[Token]) -> Result<Vec<u8>, AllocErr
     Ok(text.into_bytes())
 }
 
-/// Returns the bytes of the tokens that are literals, in order, and `/`.
-///
-/// Returns an error if memory runs out, and no other.
-pub fn literal_text_and_slash(alloc: Global, tokens: &[Token]) -> Result<Vec<u8>, AllocError>
-    ensures { IfOk result (λ text. text.items ≡ literal_text (flats tokens.now) ++ slash ∷ []) }
-{
-    let mut text = literal_text(alloc, tokens)?;
-    text.push(b'/')?;
-    Ok(text)
+/// Returns how many bytes the tokens that are literals have.
+fn literal_len(tokens: &[Token]) -> usize {
+    let mut len: usize = 0;
+    for token in tokens {
+        if let Token::Literal(c) = token {
+            len = len.saturating_add(c.len_utf8());
+        }
+    }
+    len
 }
 
 /// Returns the tokens from the last literal `.` on if all tokens after it are literals other than `/`, and `None` otherwise. It

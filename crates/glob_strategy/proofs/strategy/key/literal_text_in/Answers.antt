@@ -6,8 +6,8 @@ use Rattle.glob_syntax.specs.declared.token.Token.TheVariants as held
 use Rattle.glob_syntax.specs.FlatTokens.{Flat}
 use Rattle.glob_syntax.specs.Views.{flat_of, flats}
 use Rattle.glob_strategy.specs.inner.FlatTests.{literal_text}
-use Rattle.glob_strategy.proofs.strategy.key.literal_text.Goals as goal
-use Rattle.glob_strategy.proofs.strategy.key.literal_text.Goals.{in-Literal+in_ok-push, in_default}
+use Rattle.glob_strategy.proofs.strategy.key.literal_text_in.Goals as goal
+use Rattle.glob_strategy.proofs.strategy.key.literal_text_in.Goals.{in-Literal+in_ok-push, in_default}
 
 -- the bytes so far, and those of the next token and of the tokens after it
 next : (ts : List Token) (i : ℕ) (t : Token) (text : List ℕ) → i < length ts → t ≡ get_or ts i t → text ++ literal_text (flats (drop i ts)) ≡ literal_text (flats ts)
@@ -28,7 +28,7 @@ no_literal held.Comma rest differs = refl
 no_literal held.Close rest differs = refl
 
 pub loop-token-init : goal.loop-token-init
-loop-token-init c = rw c.new-text.ensures.bytes
+loop-token-init c = rw c.in_ok-text.ensures.bytes
 
 pub loop-token-preserved : goal.loop-token-preserved
 loop-token-preserved c =

@@ -2,7 +2,7 @@ use Rattle.std.proofs.Common.{◌≡◌, ◌++◌, drop}
 use Rattle.std.specs.Prelude.{string_bytes}
 use Rattle.glob_syntax.specs.Views.{flats}
 use Rattle.glob_strategy.specs.inner.FlatTests.{literal_text}
-use Rattle.glob_strategy.proofs.strategy.key.literal_text.Given as goal
+use Rattle.glob_strategy.proofs.strategy.key.literal_text_in.Given as goal
 
 -- the text so far, and the bytes of the tokens that are left
 abbrev pub invariant-loop-token : goal.invariant-loop-token
