@@ -283,8 +283,8 @@ impl LiteralIndexBuilder {
     {
         match key {
             Key::WholePath(bytes) => self.put_path(bytes, index),
-            Key::Basename(bytes) => self.components.insert(&bytes, index),
-            Key::Extension(bytes) => self.extensions.insert(&bytes, index),
+            Key::Basename(bytes) => self.components.insert_owned(bytes, index),
+            Key::Extension(bytes) => self.extensions.insert_owned(bytes, index),
             Key::ComponentSuffix(bytes) => self.put_components(bytes, index),
             Key::Suffix(bytes) => self.put_end(bytes, index),
             Key::Prefix(bytes) => self.put_beginning(bytes, index),
@@ -319,7 +319,8 @@ impl LiteralIndexBuilder {
     fn put_components(&mut self, bytes: Vec<u8>, index: usize) -> Result<(), AllocError>
         ensures { OnOk result (self.new ≡ with_components self.old bytes.items index) }
     {
-        let mut end = Vec::new(*bytes.allocator());
+        let room = bytes.len().saturating_add(1);
+        let mut end = Vec::with_capacity(*bytes.allocator(), room)?;
         end.push(b'/')?;
         end.extend_from_slice(&bytes)?;
         self.put_path(bytes, index)?;
@@ -361,7 +362,8 @@ fn table_of(alloc: Global, texts: Vec<Text>) -> Result<Table, AllocError>
 {
     let mut table = TableBuilder::with_capacity(alloc, texts.len())?;
     for text in texts {
-        table.insert(&text.bytes, text.index)?;
+        let Text { bytes, index } = text;
+        table.insert_owned(bytes, index)?;
     }
     table.build()
 }
