@@ -112,6 +112,9 @@ impl TableBuilder {
         let entries = Snapshot::of(&self);
         let TableBuilder { mut bytes, pairs } = self;
         let alloc = *bytes.allocator();
+        if pairs.is_empty() {
+            return Ok(Table::nothing(alloc, entries));
+        }
         bytes.shrink_to_fit();
         let Arranged {
             pairs,

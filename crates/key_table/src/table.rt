@@ -11,6 +11,7 @@ use crate::directory::Directory;
 use crate::ends::Ends;
 use crate::parts::part;
 use crate::rows::{Row, find};
+use std::alloc::Global;
 use std::marker::Model;
 use std::snapshot::Snapshot;
 use visits::Visits;
@@ -73,6 +74,21 @@ impl Table {
             ends,
             directory,
             indexes,
+            entries,
+        }
+    }
+
+    /// Returns the table of a builder that has no entries. It allocates nothing.
+    pub(crate) fn nothing(alloc: Global, entries: Snapshot<TableBuilder>) -> Table
+        requires { entries.value ≡ [] }
+        ensures { result ≡ [] }
+    {
+        Table {
+            bytes: Vec::new(alloc),
+            rows: Vec::new(alloc),
+            ends: Ends::nothing(),
+            directory: Directory::new(alloc, 0),
+            indexes: Vec::new(alloc),
             entries,
         }
     }
