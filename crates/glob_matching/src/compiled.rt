@@ -99,6 +99,9 @@ impl Compiled {
     ) -> Result<Compiled, AllocError>
         ensures { IfOk result (λ c. c ≡ automaton) }
     {
+        if automaton.state_count() == 0 {
+            return Ok(Compiled::simulated(Nfa::new(automaton)));
+        }
         if !is_large(*budget, &automaton) {
             return Compiled::partitioned(alloc, budget, automaton, with_rows);
         }
