@@ -197,6 +197,6 @@ OTHERS = {
         lambda index, _: "**/" + word(index, 11) + "/" + code(index),
         lambda index, _: "src/" * 7 + word(index, 11) + "/" + code(index),
     ),
+    "rows, one place": rows_of_one_place,
 }
-OTHERS["rows, one place"] = rows_of_one_place
 ROWS = {**{f"tables: {name}": lists for name, lists in TABLES.items()}, **OTHERS}
