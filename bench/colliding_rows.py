@@ -1,7 +1,7 @@
 """Globs, and letters for paths, such that the rows of a searcher's cache are looked for at one place of its table.
 
 A row is found by the hash of the list of its states (`lazy_dfa`). The hasher is that of `colliding_keys`, so whoever chooses globs and
-paths can choose the hashes. What is said here of states and of places is what `glob_nfa`, `nfa_sharing` and `lazy_dfa` make.
+paths can choose the hashes, but for the seeds that follow when rows are forgotten. What is said here of states and of places is what `glob_nfa`, `nfa_sharing` and `lazy_dfa` make.
 """
 
 import functools
@@ -29,9 +29,9 @@ def states(globs):
 
 
 def hash_of(numbers):
-    """The hash of a list of numbers, each of which is hashed in a write of its own."""
+    """The hash of the first seed and a list of numbers, each of which is hashed in a write of its own."""
     state = colliding_keys.SEED
-    for number in numbers:
+    for number in [0, *numbers]:
         state = colliding_keys.fold(state ^ number, colliding_keys.MULTIPLIER ^ 16)
     return state
 

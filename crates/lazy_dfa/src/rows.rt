@@ -79,6 +79,9 @@ pub struct Rows {
     entries: Vec<u32>,
     /// The numbers of rows, and one more, at places by the hashes of their lists.
     table: Vec<u32>,
+    /// What is hashed before each list. It is another number each time that rows are forgotten, so that lists which had one place
+    /// have others then.
+    seed: usize,
     /// The place of the row that a run begins in, if it is made.
     begin: Option<usize>,
     /// The states that a pass takes.
@@ -105,6 +108,7 @@ impl Drop for Rows {
             lists: _,
             entries: _,
             table: _,
+            seed: _,
             begin: _,
             from: _,
             next: _,
@@ -145,6 +149,7 @@ impl Rows {
             lists: Vec::with_capacity(alloc, listed)?,
             entries: Vec::with_capacity(alloc, rows.saturating_mul(width))?,
             table,
+            seed: 0,
             begin: None,
             from: StateSet::new(alloc, states)?,
             next: StateSet::new(alloc, states)?,
@@ -529,11 +534,14 @@ impl Rows {
         ensures ends { self.new.ends ≡ self.old.ends }
     {
         list_of(&self.next, automaton.state_count(), &mut self.list);
-        let hash = hash_of(&self.list);
+        let mut hash = hash_of(self.seed, &self.list);
         if let Some(row) = self.known(hash) {
             return Found { row, is_kept: true };
         }
         let is_kept = self.make_room(automaton);
+        if !is_kept {
+            hash = hash_of(self.seed, &self.list);
+        }
         let row = self.add(automaton, hash);
         Found { row, is_kept }
     }
@@ -587,6 +595,7 @@ impl Rows {
         self.entries.clear();
         self.begin = None;
         self.table.fill(0);
+        self.seed = self.seed.wrapping_add(1);
         false
     }
 
@@ -669,9 +678,10 @@ fn place_of(hash: u64, probe: usize, count: usize) -> usize {
     (hash as usize).wrapping_add(probe) % count.max(1)
 }
 
-/// Returns the hash of a list of states.
-fn hash_of(list: &[usize]) -> u64 {
+/// Returns the hash of a seed and a list of states.
+fn hash_of(seed: usize, list: &[usize]) -> u64 {
     let mut hasher = FoldHasher::default();
+    hasher.write_usize(seed);
     for state in list {
         hasher.write_usize(*state);
     }
