@@ -112,17 +112,41 @@ impl Compiled {
                 rows: None,
             });
         }
-        let Some(filter) = filter_for(alloc, &automaton)? else {
-            // All starts together were just given up.
-            let maximum = count_after_joint(&automaton);
-            return Compiled::partitioned(alloc, budget, automaton, maximum, with_rows);
-        };
-        let rows = rows_if(alloc, with_rows, &automaton)?;
-        let filtered = Filtered::of(Nfa::with_blocks(automaton)?, filter);
-        Ok(Compiled {
-            strategy: Strategy::Filtered(Box::new(alloc, filtered)?),
-            rows,
-        })
+        Compiled::without_table(alloc, budget, automaton, with_rows)
+    }
+
+    /// Returns an automaton of many starts that is too large for one table: with a filter if one names few starts, or else to be
+    /// run by rows if these are wanted, or else in parts. Returns an error if memory runs out.
+    fn without_table(
+        alloc: Global,
+        budget: &mut Budget,
+        automaton: Draft,
+        with_rows: bool,
+    ) -> Result<Compiled, AllocError>
+        ensures { IfOk result (λ c. c ≡ automaton) }
+    {
+        match filter_for(alloc, &automaton)? {
+            Some(filter) => {
+                let rows = rows_if(alloc, with_rows, &automaton)?;
+                let filtered = Filtered::of(Nfa::with_blocks(automaton)?, filter);
+                Ok(Compiled {
+                    strategy: Strategy::Filtered(Box::new(alloc, filtered)?),
+                    rows,
+                })
+            }
+            None if with_rows => {
+                let rows = rows_if(alloc, true, &automaton)?;
+                Ok(Compiled {
+                    strategy: Strategy::Whole(Nfa::with_blocks(automaton)?),
+                    rows,
+                })
+            }
+            None => {
+                // All starts together were just given up.
+                let maximum = count_after_joint(&automaton);
+                Compiled::partitioned(alloc, budget, automaton, maximum, false)
+            }
+        }
     }
 
     /// Returns an automaton in parts, as far as the budget allows it deterministic ones, and if `with_rows` is set, what rows are

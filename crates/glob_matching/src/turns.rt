@@ -4,9 +4,6 @@
 //! marks few starts takes less: to make an entry takes longer than to ask a filter. Which it is shows only when rows are used. So a
 //! filter is asked for a number of texts, then rows are used until their entries have cost a number of reads, and so on. Both numbers
 //! grow up to a limit, that of texts faster, so that rows which become complete come to be used for all texts.
-//!
-//! An entry counts for the states that it reads alone, and each text is allowed some reads. So rows keep their turn where each text
-//! makes a few short entries, though a filter would take less time there: docs/DECISIONS.md has examples.
 
 /// How long the turns are, for the texts of one thread.
 #[derive(Clone, Copy)]
@@ -34,10 +31,10 @@ const MOST_TEXTS: u32 = 1 << 16;
 const FIRST_LOSS: u32 = 8;
 
 /// Rows may read so many states in their first turn, and twice as many in each as in the one before.
-const FIRST_READS: usize = 1 << 12;
+const FIRST_READS: usize = 1 << 13;
 
 /// Rows may read at most so many states in a turn.
-const MOST_READS: usize = 1 << 17;
+const MOST_READS: usize = 1 << 18;
 
 /// To ask a filter takes about as long as to read so many states, so rows may read these for each text without losing their turn.
 const READS_FOR_TEXT: usize = 16;

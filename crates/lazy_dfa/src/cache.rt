@@ -112,8 +112,8 @@ impl Cache {
             .can_match_after(&dfa.automaton, &dfa.live, text, byte, visits)
     }
 
-    /// Returns how much it read so far where an entry was not known: the states of a row, and one more, each time. It counts on from 0
-    /// after the highest number.
+    /// Returns about how much time it took so far where an entry was not known, as the number of states that are read in that time. It
+    /// counts on from 0 after the highest number.
     pub fn read_count(&self) -> usize {
         self.rows.read_count()
     }

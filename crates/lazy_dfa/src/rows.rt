@@ -94,7 +94,7 @@ pub struct Rows {
     list: Vec<usize>,
     /// The list of the indexes in `ends`.
     told: Vec<usize>,
-    /// How much was read where an entry was not known: the states of a row, and one more, each time.
+    /// How much time was taken where an entry was not known, as the number of states that are read in that time.
     read_count: usize,
 }
 
@@ -177,8 +177,8 @@ impl Rows {
             .saturating_add(numbers.saturating_mul(mem::size_of::<usize>()))
     }
 
-    /// Returns how much was read where an entry was not known: the states of a row, and one more, each time. It counts on from 0 after
-    /// the highest number.
+    /// Returns about how much time it took where an entry was not known, as the number of states that are read in that time. It counts
+    /// on from 0 after the highest number.
     pub fn read_count(&self) -> usize {
         self.read_count
     }
@@ -478,7 +478,7 @@ impl Rows {
         ensures counted { visits.old ≤ visits.new }
     {
         let states = states_at(&self.starts, &self.lists, row);
-        self.read_count = self.read_count.wrapping_add(states.len()).wrapping_add(1);
+        self.read_count = self.read_count.wrapping_add(reads_for_entry(states));
         self.from.clear();
         self.from.put_all(states);
         read(
@@ -640,6 +640,23 @@ fn remember(table: &mut [u32], hash: u64, row: usize)
     if let Some(number) = table.get_mut(place) {
         *number = row as u32 + 1;
     }
+}
+
+/// How many states are read in the time that a list takes to be hashed, looked for and kept.
+const READS_FOR_LIST: usize = 32;
+
+/// How many states of a set are passed over in the time that one is read.
+const PASSED_FOR_READ: usize = 32;
+
+/// Returns about how many states are read in the time that an entry takes for a row of these states, in descending order.
+fn reads_for_entry(states: &[usize]) -> usize {
+    let passed = match (states.first(), states.last()) {
+        (Some(highest), Some(lowest)) => highest.saturating_sub(*lowest),
+        _ => 0,
+    };
+    READS_FOR_LIST
+        .saturating_add(states.len())
+        .saturating_add(passed / PASSED_FOR_READ)
 }
 
 /// Returns what is added to the entries of a row that has marks, or has none.
