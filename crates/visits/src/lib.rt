@@ -10,13 +10,14 @@ use std::snapshot::Snapshot;
 enum Ticks {
     Start,
     After(Snapshot<Ticks>),
+    /// So many more.
+    More(Snapshot<Ticks>, Snapshot<u32>),
 }
 
 /// How many visits a match has made.
 ///
-/// A visit is one counted read, such as of a state of an automaton, of an entry of a table or of a node of a trie. Several
-/// states whose bits lie in one machine word can be read together, which is one visit. A function that makes visits takes a
-/// `&mut Visits`, and its contract says how many it makes at most and that it never sets the count back.
+/// A visit is one counted read, such as of a state of an automaton, of an entry of a table or of a node of a trie. A function
+/// that makes visits takes a `&mut Visits`, and its contract says how many it makes at most and that it never sets the count back.
 ///
 /// In a running program a count has no size, and counting takes no time. In contracts it is a number without an upper
 /// bound.
@@ -61,5 +62,12 @@ impl Visits {
     {
         let before = mem::replace(&mut self.ticks, Snapshot::of(&Ticks::Start));
         self.ticks = Snapshot::of(&Ticks::After(before));
+    }
+    /// Counts so many more visits.
+    pub fn add(&mut self, count: u32)
+        ensures { self.new ≡ self.old + count }
+    {
+        let before = mem::replace(&mut self.ticks, Snapshot::of(&Ticks::Start));
+        self.ticks = Snapshot::of(&Ticks::More(before, Snapshot::of(&count)));
     }
 }

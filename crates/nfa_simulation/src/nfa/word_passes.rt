@@ -1,6 +1,6 @@
 //! Passes that take the states of a block at once.
 
-ghost use Rattle.std.specs.Prelude.{◌≡◌, ℕ, ◌+◌, ◌<◌, ◌≤◌, ◌↔◌, ◌∷◌, List, IsTrue};
+ghost use Rattle.std.specs.Prelude.{◌≡◌, ℕ, ◌+◌, ◌<◌, ◌≤◌, ◌↔◌, ◌∷◌, List, IsTrue, max};
 ghost use Rattle.bit_sets.specs.StateSets.{has_state, state_capacity};
 ghost use Rattle.byte_nfa.specs.Spans.{IsClosed, IsFrom, IsWithin};
 ghost use Rattle.byte_nfa.specs.Runs.{size, AcceptsBelow, AcceptsFrom, HasSome};
@@ -45,7 +45,7 @@ impl Nfa {
         let mut some = false;
         let mut limit = high;
         while limit > low {
-            let taken = self.take_below(limit, byte, from, to, visits);
+            let taken = self.take_below(low, limit, byte, from, to, visits);
             if taken.some {
                 some = true;
             }
@@ -54,34 +54,35 @@ impl Nfa {
         some
     }
 
-    /// Takes the steps of the highest state of `from` below a bound, or of those of its block that are below the bound. It is at
-    /// most one visit.
+    /// Takes the steps of the highest state of `from` below a bound, or of those of its block that are below the bound. Each state
+    /// from `low` on that it takes or passes over is at most one visit.
     fn take_below(
         &self,
+        low: usize,
         limit: usize,
         byte: u8,
         from: &mut StateSet,
         to: &mut StateSet,
         visits: &mut Visits,
     ) -> Taken
-        requires some { 0 < limit }
+        requires some { low < limit }
         requires exist { limit ≤ size self.now }
         requires from_capacity { size self.now ≤ state_capacity from.old }
         requires to_capacity { size self.now ≤ state_capacity to.old }
         ensures from_capacity { state_capacity from.new ≡ state_capacity from.old }
         ensures to_capacity { state_capacity to.new ≡ state_capacity to.old }
         ensures taken { Takes self.now.states byte limit (has_state from.old) (has_state to.old) (has_state from.new) (has_state to.new) result.limit result.some }
-        ensures visits { visits.new ≤ visits.old + 1 }
+        ensures visits { visits.new + max low result.limit ≤ visits.old + limit }
         ensures counted { visits.old ≤ visits.new }
     {
-        let end = from.end_below(limit);
-        if end == 0 {
+        let end = from.end_below(limit, visits);
+        if end <= low {
             return Taken {
-                limit: 0,
+                limit: end,
                 some: false,
             };
         }
-        match self.blocks.take(end, byte, from, to, visits) {
+        match self.blocks.take(low, end, byte, from, to, visits) {
             Some(taken) => taken,
             None => self.take_highest(end, byte, from, to, visits),
         }

@@ -1,6 +1,6 @@
 use Rattle.std.proofs.Common.{◌≡◌, ℕ, ◌-◌, ◌/◌, ◌%◌, eqb, get_or, ap, sym, ◌∙◌, refl, arith}
 use Rattle.std.specs.Int.{bit_at}
-use Rattle.bit_sets.proofs.lemmas.Bits.{masked, kept_bit, cut_bit, bit_in, zero_bit, word_read}
+use Rattle.bit_sets.proofs.lemmas.Bits.{masked, kept_bit, cut_bit, bit_in, zero_bit, word_read, few_set}
 use Rattle.bit_sets.proofs.state_set.StateSet.read_word_below.Goals as goal
 
 pub returns-clause-below : goal.returns-clause-below
@@ -21,3 +21,11 @@ returns-clause-above c = λ s row le.
     let r : ℕ = (c.args.limit - 1) % 64 in
     let word = c.index.result.now in
     zero_bit (bit_at (masked word r (omega arith)) (s % 64)) (cut_bit word r (omega arith) (s % 64) (omega arith))
+
+pub returns-clause-few : goal.returns-clause-few
+unfolding masked
+returns-clause-few c =
+    let r : ℕ = (c.args.limit - 1) % 64 in
+    let l : ℕ = c.args.low % 64 in
+    let few = few_set c.index.result.now r (omega arith) l (omega (arith, c.requires.word, c.requires.some)) in
+    omega (arith, few, c.add.ensures, c.max.ensures, c.requires.word, c.requires.some)

@@ -37,3 +37,9 @@ returns-clause-taken c = λ a are.
     block_takes a b.low b.high c.args.limit c.args.byte b.place items c.read_word_below-states.result masks (omega arith) (omega arith) (omega arith) (has_state c.args.from.now)
     c.read_word_below-states.ensures.below c.read_word_below-states.ensures.above (has_state c.args.to.now) (has_state c.put_lowered.new.self) c.put_lowered.result
     (rw read at c.put_lowered.ensures.has) (rw read at c.put_lowered.ensures.some) (rw read at c.put_lowered.ensures.none)
+
+pub read_word_below-states-requires-clause-word : goal.read_word_below-states-requires-clause-word
+read_word_below-states-requires-clause-word c =
+    let (a, are) = c.requires.blocks in
+    let (row, masks) = are ((c.args.limit - 1) / 64) c.in_ok-block.block (sym c.in_ok-block.ensures) in
+    omega (arith, row, c.max.ensures, c.requires.some)
