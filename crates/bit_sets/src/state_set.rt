@@ -189,19 +189,33 @@ impl StateSet {
         hash_between(&self.words, self.first, self.last, hasher);
     }
 
-    /// Returns whether each state of the set is in another one, which has as much room.
-    pub fn is_within(&self, other: &StateSet) -> bool
+    /// Returns whether each state of the set is in another one, which has as much room. It is one visit for each state that
+    /// there is room for.
+    pub fn is_within(&self, other: &StateSet, visits: &mut Visits) -> bool
         requires { state_capacity other.now ≡ state_capacity self.now }
-        ensures { IsTrue result → (s : ℕ) → IsTrue (has_state self.now s) → IsTrue (has_state other.now s) }
+        ensures within { IsTrue result → (s : ℕ) → IsTrue (has_state self.now s) → IsTrue (has_state other.now s) }
+        ensures visits { visits.new ≡ visits.old + state_capacity self.now }
     {
+        self.count_all(visits);
         are_within(&self.words, &other.words)
     }
 
-    /// Returns whether no state is in both of two sets.
-    pub fn is_disjoint(&self, other: &StateSet) -> bool
-        ensures { IsTrue result ↔ ((s : ℕ) → IsTrue (has_state self.now s) → has_state other.now s ≡ false) }
+    /// Returns whether no state is in both of two sets. It is one visit for each state that there is room for.
+    pub fn is_disjoint(&self, other: &StateSet, visits: &mut Visits) -> bool
+        ensures disjoint { IsTrue result ↔ ((s : ℕ) → IsTrue (has_state self.now s) → has_state other.now s ≡ false) }
+        ensures visits { visits.new ≡ visits.old + state_capacity self.now }
     {
+        self.count_all(visits);
         are_disjoint(&self.words, &other.words)
+    }
+
+    /// Counts a visit for each state that there is room for.
+    fn count_all(&self, visits: &mut Visits)
+        ensures { visits.new ≡ visits.old + state_capacity self.now }
+    {
+        for _ in &self.words {
+            visits.add(64);
+        }
     }
 
     /// Reads the next state below a bound. This is the highest one that is in the set; or if the word before the bound has

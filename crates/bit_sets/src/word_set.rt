@@ -4,6 +4,8 @@ ghost use Rattle.std.specs.Prelude.{◌≡◌, ℕ, ◌+◌, ◌<◌, ◌≤◌,
 ghost use Rattle.bit_sets.specs.Numbers.{AreBelow, AreFrom, is_reported};
 ghost use Rattle.bit_sets.specs.WordSets.{has_in_word, AreInWordBelow};
 
+use visits::Visits;
+
 /// A set of numbers from `low` on and below `low + 64`, as a bit for each.
 #[derive(Clone, Copy)]
 pub struct WordSet {
@@ -49,15 +51,17 @@ impl WordSet {
         }
     }
 
-    /// Takes the highest number out, and returns it, or `None` if the set is empty.
-    pub fn take_highest(&mut self) -> Option<usize>
+    /// Takes the highest number out, and returns it, which is one visit, or `None` if the set is empty.
+    pub fn take_highest(&mut self, visits: &mut Visits) -> Option<usize>
         requires { AreInWordBelow 18446744073709551616 self.old }
         ensures low { self.new.low ≡ self.old.low }
         ensures highest { MatchOption result ((n : ℕ) → has_in_word self.old n ≡ false) (λ top. (has_in_word self.old top ≡ true) × ((n : ℕ) → top < n → has_in_word self.old n ≡ false) × ((n : ℕ) → has_in_word self.new n ≡ (not (n == top) && has_in_word self.old n))) }
+        ensures visits { MatchOption result (visits.new ≡ visits.old) (λ _. visits.new ≡ visits.old + 1) }
     {
         if self.word == 0 {
             return None;
         }
+        visits.tick();
         let highest = 63 - self.word.leading_zeros() as usize;
         self.word &= !(1u64 << highest);
         Some(self.low + highest)

@@ -17,6 +17,7 @@ use byte_nfa::{ByteSteps, Draft};
 use std::alloc::{AllocError, Global};
 use std::collections::HashMap;
 use std::hash::{FoldHasher, Hasher};
+use visits::Visits;
 
 /// An entry from here on leads to a state that is dead, or where indexes are found on entry.
 pub const SPECIAL: usize = 1 << 31;
@@ -274,7 +275,8 @@ impl Determinizer {
         ensures { IfOk result (λ set. (k : ℕ) → IsTrue (has_index set k) ↔ AcceptsFrom automaton.now states.now [] k) }
     {
         let alloc = *self.lists.allocator();
-        if states.is_disjoint(&self.accepting) {
+        // What is read while a table is made is no visit.
+        if states.is_disjoint(&self.accepting, &mut Visits::new()) {
             return Ok(IndexSet::empty(alloc));
         }
         let mut set = IndexSet::new(alloc, automaton.index_count())?;
@@ -506,9 +508,10 @@ impl Determinizer {
         if base == 0 || base >= number {
             return false;
         }
+        let states = &self.found[number].states;
         self.found[base]
             .states
-            .is_within(&self.found[number].states)
+            .is_within(states, &mut Visits::new())
     }
 
     /// Returns the entry that leads to a state.

@@ -30,8 +30,7 @@ impl Nfa {
         ensures counted { visits.old ≤ visits.new }
     {
         let mut left = self.run_in_word(span, text, visits);
-        while let Some(s) = left.take_highest() {
-            visits.tick();
+        while let Some(s) = left.take_highest(visits) {
             if let Some(index) = self.follow_epsilons_in_word(s, &mut left) {
                 into.put(index);
             }
@@ -48,8 +47,7 @@ impl Nfa {
         ensures counted { visits.old ≤ visits.new }
     {
         let mut left = self.run_in_word(span, text, visits);
-        while let Some(s) = left.take_highest() {
-            visits.tick();
+        while let Some(s) = left.take_highest(visits) {
             if self.follow_epsilons_in_word(s, &mut left).is_some() {
                 return true;
             }
@@ -89,8 +87,7 @@ impl Nfa {
     {
         let mut left = from;
         let mut to = WordSet::empty(span.low);
-        while let Some(s) = left.take_highest() {
-            visits.tick();
+        while let Some(s) = left.take_highest(visits) {
             self.take_steps_in_word(s, byte, &mut left, &mut to);
         }
         to

@@ -16,7 +16,7 @@ both_of false q h h' = absurd (true≢false (sym h))
 pub returns-then-is_disjoint : goal.returns-then-is_disjoint
 returns-then-is_disjoint c = λ k. (
   λ h. absurd (true≢false (sym h ∙ c.empty.ensures.none k)),
-  λ (t, lt, at, h). absurd (true≢false (sym ((c.requires.accepting.ends t lt).1 (k, h)) ∙ c.is_disjoint.ensures.0 c.if-is_disjoint.true t at)),
+  λ (t, lt, at, h). absurd (true≢false (sym ((c.requires.accepting.ends t lt).1 (k, h)) ∙ c.is_disjoint.ensures.disjoint.0 c.if-is_disjoint.true t at)),
 )
 
 pub keep-requires : goal.keep-requires

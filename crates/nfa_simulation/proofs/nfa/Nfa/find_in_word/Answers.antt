@@ -66,9 +66,9 @@ loop-s-preserved-in-Some-follow_epsilons_in_word c =
         λ t at. elim (cases_lt t s) [ inl less ↦ less | inr past ↦ absurd (true≢false (sym at ∙ none t past)) ],
         le,
         omega arith,
-        λ width less. let before = visits width less in omega (arith, before),
+        λ width less. let before = visits width less in omega (arith, before, c.in-Some.ensures.visits),
       );
-      counted = omega arith;
+      counted = omega (arith, c.in-Some.ensures.visits);
     }
 
 pub loop-s-preserved : goal.loop-s-preserved
@@ -97,13 +97,13 @@ loop-s-preserved c =
         λ t at. elim (cases_lt t s) [ inl less ↦ less | inr past ↦ absurd (true≢false (sym at ∙ none t past)) ],
         le,
         omega arith,
-        λ width less. let before = visits width less in omega (arith, before),
+        λ width less. let before = visits width less in omega (arith, before, c.in-Some.ensures.visits),
       );
-      counted = omega arith;
+      counted = omega (arith, c.in-Some.ensures.visits);
     }
 
 pub returns-clause-visits : goal.returns-clause-visits
 returns-clause-visits c = λ width wide.
     let (n, below, least, maximum, visits) = c.loop-s.invariant.bound in
     let before = visits width wide in
-    omega (arith, before)
+    omega (arith, before, c.in_default.ensures.visits)

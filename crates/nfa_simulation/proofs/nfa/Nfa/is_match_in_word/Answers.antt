@@ -36,7 +36,7 @@ returns-then-is_some-clause-visits c = λ width less.
     let from = bit_low c.loop-s.left.low c.loop-s.left.word s c.in-Some.ensures.highest.0 in
     let lt = below s c.in-Some.ensures.highest.0 in
     let before = visits width less in
-    omega (arith, before, c.loop-s.invariant.low)
+    omega (arith, before, c.loop-s.invariant.low, c.in-Some.ensures.visits)
 
 pub loop-s-smaller : goal.loop-s-smaller
 loop-s-smaller c =
@@ -73,13 +73,13 @@ loop-s-preserved c =
         λ t at. elim (cases_lt t s) [ inl less ↦ less | inr past ↦ absurd (true≢false (sym at ∙ none t past)) ],
         le,
         omega arith,
-        λ width less. let before = visits width less in omega (arith, before),
+        λ width less. let before = visits width less in omega (arith, before, c.in-Some.ensures.visits),
       );
-      counted = omega arith;
+      counted = omega (arith, c.in-Some.ensures.visits);
     }
 
 pub returns-clause-visits : goal.returns-clause-visits
 returns-clause-visits c = λ width wide.
     let (n, below, least, maximum, visits) = c.loop-s.invariant.bound in
     let before = visits width wide in
-    omega (arith, before)
+    omega (arith, before, c.in_default.ensures.visits)

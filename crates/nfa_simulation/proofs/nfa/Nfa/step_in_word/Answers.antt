@@ -73,8 +73,8 @@ loop-s-preserved c =
           (size m) k (c.args.byte ∷ y) (has_in_word c.loop-s.to) (λ _. false) (has_in_word c.take_steps_in_word.new.to) (λ _. false) exists has took.to (λ t. quiet_step st c.args.byte t));
       within = λ t at. (still_within c.args.span.low (c.args.span.start + 1) s c.args.byte st le (omega arith) (c.requires.span.closed s le (omega arith)) took.below
           (has_in_word c.loop-s.to) (has_in_word c.take_steps_in_word.new.to) took.to (λ u is. (let from = bit_low c.loop-s.to.low c.loop-s.to.word u is in omega (arith, inv.to_low), inv.within u is)) t at).1;
-      bound = (s, λ t at. elim (cases_lt t s) [ inl less ↦ less | inr past ↦ absurd (true≢false (sym at ∙ none t past)) ], le, omega arith, omega (arith, visits));
-      counted = omega arith;
+      bound = (s, λ t at. elim (cases_lt t s) [ inl less ↦ less | inr past ↦ absurd (true≢false (sym at ∙ none t past)) ], le, omega arith, omega (arith, visits, c.in-Some.ensures.visits));
+      counted = omega (arith, c.in-Some.ensures.visits);
     }
 
 pub returns-clause-steps : goal.returns-clause-steps
