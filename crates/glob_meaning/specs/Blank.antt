@@ -1,19 +1,13 @@
 -- Blank branches of groups, which match only under `empty_alternates`.
 use Rattle.std.specs.Prelude.{Bool, true, false, ◌&&◌, ◌||◌, not}
 use Rattle.glob_syntax.specs.declared.options.Options.{Options}
-use Rattle.glob_syntax.specs.Token.{Token, Literal, Any, ZeroOrMore, RecursivePrefix, RecursiveSuffix, RecursiveZeroOrMore, Class, Group, Tokens, end, and_then, Branches, none, branch}
+use Rattle.glob_syntax.specs.Token.{Token, Group, Tokens, end, and_then, Branches, none, branch}
 
 -- A branch is blank if each of its tokens is a group whose branches are all blank. An empty branch is blank.
 abbrev mutual
   pub is_blank_token : Token → Bool
   is_blank_token (Group bs) = are_blank bs
-  is_blank_token (Literal c) = false
-  is_blank_token Any = false
-  is_blank_token ZeroOrMore = false
-  is_blank_token RecursivePrefix = false
-  is_blank_token RecursiveSuffix = false
-  is_blank_token RecursiveZeroOrMore = false
-  is_blank_token (Class negated rs) = false
+  is_blank_token _ = false
 
   pub is_blank : Tokens → Bool
   is_blank end = true

@@ -1,25 +1,18 @@
 -- Which paths the tokens of a whole glob match. A path is a list of bytes.
 use Rattle.std.specs.Prelude.{ℕ, Bool, true, false, ◌||◌, List}
 use Rattle.glob_syntax.specs.declared.options.Options.{Options}
-use Rattle.glob_syntax.specs.Token.{Token, RecursivePrefix, Literal, Any, ZeroOrMore, RecursiveSuffix, RecursiveZeroOrMore, Class, Group, Tokens, end, and_then}
+use Rattle.glob_syntax.specs.Token.{Token, RecursivePrefix, Tokens, end, and_then}
 use Rattle.glob_meaning.specs.TokenMatches.{tokens_match_each}
 
 -- the token is RecursivePrefix
 abbrev pub is_prefix : Token → Bool
 is_prefix RecursivePrefix = true
-is_prefix (Literal c) = false
-is_prefix Any = false
-is_prefix ZeroOrMore = false
-is_prefix RecursiveSuffix = false
-is_prefix RecursiveZeroOrMore = false
-is_prefix (Class negated rs) = false
-is_prefix (Group bs) = false
+is_prefix _ = false
 
 -- RecursivePrefix is the only token
 abbrev pub is_prefix_alone : Tokens → Bool
-is_prefix_alone end = false
 is_prefix_alone (and_then t end) = is_prefix t
-is_prefix_alone (and_then t (and_then u ts)) = false
+is_prefix_alone _ = false
 
 -- The tokens of a whole glob match the path. RecursivePrefix alone, as in `**` and `**/`, matches every path. Other tokens
 -- match a path if they match it one after another.
