@@ -230,17 +230,25 @@ impl Rows {
         }
     }
 
-    /// Returns the place of the row that a byte leads to from the row at a place, if that is known and the row has no marks. Otherwise
-    /// [`Rows::step`] tells. It reads one entry.
+    /// Returns the place of the row that a byte leads to from the row at a place, if that is known and the row has no marks, which is
+    /// one visit. Otherwise [`Rows::step`] tells.
     #[inline(always)]
-    pub fn plain_next(&self, automaton: &Draft, place: usize, byte: u8) -> Option<usize>
+    pub fn plain_next(
+        &self,
+        automaton: &Draft,
+        place: usize,
+        byte: u8,
+        visits: &mut Visits,
+    ) -> Option<usize>
         requires sound { IsSound automaton.now self.now }
         requires row { (i : ℕ) × IsAt self.now i place }
-        ensures { (i : ℕ) → IsAt self.now i place → IfSome result (IsPlainStep automaton.now self.now i byte) }
+        ensures next { (i : ℕ) → IsAt self.now i place → IfSome result (IsPlainStep automaton.now self.now i byte) }
+        ensures visits { MatchOption result (visits.new ≡ visits.old) (λ _. visits.new ≡ visits.old + 1) }
     {
         let _automaton = automaton;
         let entry = entry_at(&self.entries, place, self.class_of[byte as usize] as usize);
         if entry >= FIRST && entry < MARKED {
+            visits.tick();
             Some((entry - FIRST) as usize)
         } else {
             None

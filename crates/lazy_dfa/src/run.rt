@@ -54,8 +54,7 @@ impl Rows {
         let half = automaton.index_count() / 2;
         let mut place = self.start(automaton);
         for byte in text {
-            if let Some(next) = self.plain_next(automaton, place, *byte) {
-                visits.tick();
+            if let Some(next) = self.plain_next(automaton, place, *byte, visits) {
                 place = next;
                 continue;
             }
@@ -139,8 +138,7 @@ impl Rows {
     {
         let mut place = self.start(automaton);
         for byte in text {
-            if let Some(next) = self.plain_next(automaton, place, *byte) {
-                visits.tick();
+            if let Some(next) = self.plain_next(automaton, place, *byte, visits) {
                 place = next;
                 continue;
             }

@@ -45,14 +45,14 @@ loop-byte-preserved-in-Some c =
     let rest = drop (i + 1) text in
     let more : drop i text ≡ b ∷ rest = drop_more text i 0 lt in
     let (j, at, finds) = inv.runs in
-    let (quiet, (n, there, goes)) = rw c.in-Some.is at c.plain_next.ensures j at in
+    let (quiet, (n, there, goes)) = rw c.in-Some.is at c.plain_next.ensures.next j at in
     let next = (λ (k : ℕ). at_quiet (half m) (AcceptsRow m l.self j) (AcceptsRow m l.self n) b goes (λ d low a. quiet (d, low, a)) rest k) in
     record {
       sound = inv.sound;
       room = inv.room;
       runs = (n, there, λ k. iff_trans (iff_beside (next k)) (rw more at finds k));
-      visits = visits_more c.args.visits.now l.visits c.tick.new.self i (size m) inv.visits (omega (arith, c.tick.ensures, c.state_count.ensures, c.if-state_count-eq0.false));
-      counted = omega (arith, c.tick.ensures, inv.counted);
+      visits = visits_more c.args.visits.now l.visits c.plain_next.new.visits i (size m) inv.visits (omega (arith, c.in-Some.ensures.visits, c.state_count.ensures, c.if-state_count-eq0.false));
+      counted = omega (arith, c.in-Some.ensures.visits, inv.counted);
     }
 
 pub loop-byte-preserved : goal.loop-byte-preserved
@@ -80,8 +80,8 @@ loop-byte-preserved c =
         λ k. next_found h (AcceptsRow m l.self j) c.step-step.result.has_marks (has_index c.step-step.new.self.ends) step.marks step.ends
             (AcceptsRow m c.step-step.new.self next) b goes rest k (has_index l.found k) (has_index c.tell_marks.new.found k) _ (told k) (rw more at finds k),
       );
-      visits = visits_more c.args.visits.now l.visits c.step-step.new.visits i (size m) inv.visits c.step-step.ensures.visits;
-      counted = omega (arith, c.step-step.ensures.counted, inv.counted);
+      visits = visits_more c.args.visits.now l.visits c.step-step.new.visits i (size m) inv.visits (omega (arith, c.step-step.ensures.visits, c.in_default.ensures.visits));
+      counted = omega (arith, c.step-step.ensures.counted, c.in_default.ensures.visits, inv.counted);
     }
 
 pub returns-in_default-next-clause-found : goal.returns-in_default-next-clause-found
@@ -104,7 +104,7 @@ returns-in_default-next-clause-found c = λ k.
 pub returns-in_default-next-clause-visits : goal.returns-in_default-next-clause-visits
 returns-in_default-next-clause-visits c =
     let l = c.loop-byte in
-    visits_within c.args.visits.now l.visits c.step-step.new.visits l.byte-index (length c.args.text.now) (size c.args.automaton.now) (omega arith) l.invariant.visits c.step-step.ensures.visits
+    visits_within c.args.visits.now l.visits c.step-step.new.visits l.byte-index (length c.args.text.now) (size c.args.automaton.now) (omega arith) l.invariant.visits (omega (arith, c.step-step.ensures.visits, c.in_default.ensures.visits))
 
 pub returns-then-finish-clause-found : goal.returns-then-finish-clause-found
 returns-then-finish-clause-found c = λ k.

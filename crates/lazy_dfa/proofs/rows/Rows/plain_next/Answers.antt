@@ -2,8 +2,8 @@ use Rattle.std.proofs.Common.{◌+◌, slice_index, arith, ap, ◌∙◌}
 use Rattle.lazy_dfa.proofs.lemmas.Rows.{read_entry}
 use Rattle.lazy_dfa.proofs.rows.Rows.plain_next.Goals as goal
 
-pub returns-then-entry-lt-MARKED : goal.returns-then-entry-lt-MARKED
-returns-then-entry-lt-MARKED c = λ i (lt, is).
+pub returns-then-entry-lt-MARKED-clause-next : goal.returns-then-entry-lt-MARKED-clause-next
+returns-then-entry-lt-MARKED-clause-next c = λ i (lt, is).
     let e = c.entry_at-entry.result in
     let at = c.entry_at-entry.ensures ∙ ap (λ l. slice_index l (c.args.place + slice_index c.args.self.now.class_of c.args.byte)) c.deref.ensures.value
     ∙ ap (λ p. slice_index c.args.self.now.entries.items (p + slice_index c.args.self.now.class_of c.args.byte)) is in

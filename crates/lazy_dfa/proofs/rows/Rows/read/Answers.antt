@@ -37,7 +37,7 @@ returns-then-step-clause-reached c = λ z.
 pub returns-then-step-clause-visits : goal.returns-then-step-clause-visits
 returns-then-step-clause-visits c =
     let l = c.loop-byte in
-    visits_before c.args.visits.now l.visits c.step-step.new.visits l.byte-index (length c.args.text.now) (size c.args.automaton.now) c.loop-byte-test.true l.invariant.visits c.step-step.ensures.visits
+    visits_before c.args.visits.now l.visits c.step-step.new.visits l.byte-index (length c.args.text.now) (size c.args.automaton.now) c.loop-byte-test.true l.invariant.visits (omega (arith, c.step-step.ensures.visits, c.in_default.ensures.visits))
 
 pub returns-in_default-next-clause-reached : goal.returns-in_default-next-clause-reached
 returns-in_default-next-clause-reached c = λ z k found.
@@ -58,7 +58,7 @@ returns-in_default-next-clause-reached c = λ z k found.
 pub returns-in_default-next-clause-visits : goal.returns-in_default-next-clause-visits
 returns-in_default-next-clause-visits c =
     let l = c.loop-byte in
-    visits_before c.args.visits.now l.visits c.step-step.new.visits l.byte-index (length c.args.text.now) (size c.args.automaton.now) c.loop-byte-test.true l.invariant.visits c.step-step.ensures.visits
+    visits_before c.args.visits.now l.visits c.step-step.new.visits l.byte-index (length c.args.text.now) (size c.args.automaton.now) c.loop-byte-test.true l.invariant.visits (omega (arith, c.step-step.ensures.visits, c.in_default.ensures.visits))
 
 pub loop-byte-preserved-in-Some : goal.loop-byte-preserved-in-Some
 loop-byte-preserved-in-Some c =
@@ -72,13 +72,13 @@ loop-byte-preserved-in-Some c =
     let rest = drop (i + 1) text in
     let more : drop i text ≡ b ∷ rest = drop_more text i 0 lt in
     let (j, at, finds) = inv.runs in
-    let (quiet, (n, there, goes)) = rw c.in-Some.is at c.plain_next.ensures j at in
+    let (quiet, (n, there, goes)) = rw c.in-Some.is at c.plain_next.ensures.next j at in
     let next = (λ (z : List ℕ) (k : ℕ). at_quiet (half m) (AcceptsRow m l.self j) (AcceptsRow m l.self n) b goes (λ d low a. quiet (d, low, a)) (rest ++ z) k) in
     record {
       sound = inv.sound;
       runs = (n, there, λ z k. iff_trans (next z k) (rw more at finds z k));
-      visits = visits_more c.args.visits.now l.visits c.tick.new.self i (size m) inv.visits (omega (arith, c.tick.ensures, c.requires.some));
-      counted = omega (arith, c.tick.ensures, inv.counted);
+      visits = visits_more c.args.visits.now l.visits c.plain_next.new.visits i (size m) inv.visits (omega (arith, c.in-Some.ensures.visits, c.requires.some));
+      counted = omega (arith, c.in-Some.ensures.visits, inv.counted);
     }
 
 pub loop-byte-preserved : goal.loop-byte-preserved
@@ -102,8 +102,8 @@ loop-byte-preserved c =
         λ z k. iff_trans (at_quiet (half m) (AcceptsRow m l.self n) (AcceptsRow m c.step-step.new.self next) b goes
             (λ j low a. true≢false (sym (step.marks.1 (j, low, a)) ∙ c.if-step.false)) (rest ++ z) k) (rw more at finds z k),
       );
-      visits = visits_more c.args.visits.now l.visits c.step-step.new.visits i (size m) l.invariant.visits c.step-step.ensures.visits;
-      counted = omega (arith, c.step-step.ensures.counted, l.invariant.counted);
+      visits = visits_more c.args.visits.now l.visits c.step-step.new.visits i (size m) l.invariant.visits (omega (arith, c.step-step.ensures.visits, c.in_default.ensures.visits));
+      counted = omega (arith, c.step-step.ensures.counted, c.in_default.ensures.visits, l.invariant.counted);
     }
 
 pub returns-clause-reached : goal.returns-clause-reached
