@@ -1,10 +1,10 @@
 -- Lists of numbers.
 use Rattle.std.specs.Prelude.{ℕ, ◌<◌, ◌≤◌, ◌||◌, ◌==◌, Bool, false, List, [], ◌∷◌, length, slice_index}
 
--- whether n is one of the numbers
-abbrev pub is_reported : ℕ → List ℕ → Bool
-is_reported n [] = false
-is_reported n (x ∷ xs) = (n == x) || is_reported n xs
+-- whether the list has the number n
+abbrev pub has_number : ℕ → List ℕ → Bool
+has_number n [] = false
+has_number n (x ∷ xs) = (n == x) || has_number n xs
 
 -- each of the numbers is below high
 abbrev pub AreBelow : ℕ → List ℕ → Type 0

@@ -47,7 +47,7 @@ impl Clone for StateSet {
 impl StateSet {
     ghost use Rattle.std.specs.Prelude.{◌≡◌, ℕ, ◌+◌, ◌<◌, ◌≤◌, ◌&&◌, ◌||◌, ◌==◌, ◌↔◌, not, false, IsTrue, IfOk, OnOk, IsOk};
     ghost use Rattle.bit_sets.specs.StateSets.{has_state, state_capacity, IsHighestBelow};
-    ghost use Rattle.bit_sets.specs.Numbers.{AreBelow, is_reported};
+    ghost use Rattle.bit_sets.specs.Numbers.{AreBelow, has_number};
 
     /// Returns an empty set with room for no state. It allocates nothing.
     pub fn empty(alloc: Global) -> StateSet
@@ -163,7 +163,7 @@ impl StateSet {
     pub fn put_all(&mut self, states: &[usize])
         requires { AreBelow (state_capacity self.old) states.now }
         ensures room { state_capacity self.new ≡ state_capacity self.old }
-        ensures has { (t : ℕ) → has_state self.new t ≡ (is_reported t states.now || has_state self.old t) }
+        ensures has { (t : ℕ) → has_state self.new t ≡ (has_number t states.now || has_state self.old t) }
     {
         for state in states {
             self.put(*state);

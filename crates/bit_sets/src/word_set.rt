@@ -1,7 +1,7 @@
 //! Sets of few numbers that are close to each other, as one machine word.
 
 ghost use Rattle.std.specs.Prelude.{◌≡◌, ℕ, ◌+◌, ◌<◌, ◌≤◌, ◌&&◌, ◌||◌, ◌==◌, not, false, true, IsTrue, MatchOption};
-ghost use Rattle.bit_sets.specs.Numbers.{AreBelow, AreFrom, is_reported};
+ghost use Rattle.bit_sets.specs.Numbers.{AreBelow, AreFrom, has_number};
 ghost use Rattle.bit_sets.specs.WordSets.{has_in_word, AreInWordBelow};
 
 use visits::Visits;
@@ -44,7 +44,7 @@ impl WordSet {
         requires from { AreFrom self.old.low numbers.now }
         requires within { AreBelow (self.old.low + 64) numbers.now }
         ensures low { self.new.low ≡ self.old.low }
-        ensures has { (n : ℕ) → has_in_word self.new n ≡ (is_reported n numbers.now || has_in_word self.old n) }
+        ensures has { (n : ℕ) → has_in_word self.new n ≡ (has_number n numbers.now || has_in_word self.old n) }
     {
         for number in numbers {
             self.put(*number);

@@ -2,7 +2,7 @@
 
 ghost use Rattle.std.specs.Prelude.{ℕ, ◌<◌, ◌≤◌, slice_index, IfSome};
 ghost use Rattle.byte_nfa.specs.Equivalent.{AreEquivalent};
-ghost use Rattle.byte_dfa.specs.inner.Classes.{IsDivision};
+ghost use Rattle.byte_dfa.specs.inner.Classes.{AreEquivalenceClasses};
 
 use byte_nfa::Draft;
 
@@ -21,7 +21,7 @@ impl ByteClasses {
     pub fn new(automaton: &Draft) -> ByteClasses
         ensures some { 0 < result.count }
         ensures few { result.count ≤ 256 }
-        ensures division { IsDivision automaton.now.states result.class_of result.representatives result.count }
+        ensures equivalence { AreEquivalenceClasses automaton.now.states result.class_of result.representatives result.count }
     {
         let changes = automaton.class_boundaries();
         let mut class_of = [0u8; 256];

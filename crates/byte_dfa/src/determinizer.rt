@@ -83,7 +83,7 @@ impl Drop for Determinizer {
 }
 
 impl Determinizer {
-    /// Returns a construction with all rows written, and the number of the state that a run begins in. `None` if there is no
+    /// Returns a determinizer with all rows written, and the number of the state that a run begins in. `None` if there is no
     /// room for so many numbers, or if too many states are found whose rows are not written yet.
     pub fn complete(
         alloc: Global,
@@ -206,7 +206,7 @@ impl Determinizer {
         Ok(rows)
     }
 
-    /// Returns a construction of no states, with room for so many numbers.
+    /// Returns a determinizer of no states, with room for so many numbers.
     fn new(alloc: Global, automaton: &Draft, room: usize) -> Result<Determinizer, AllocError>
         ensures found { IfOk result (λ c. c.found.items ≡ []) }
         ensures lists { IfOk result (λ c. c.lists.items ≡ 0 ∷ []) }

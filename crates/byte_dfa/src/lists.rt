@@ -2,7 +2,7 @@
 
 ghost use Rattle.std.specs.Prelude.{◌≡◌, ℕ, ◌+◌, ◌<◌, ◌≤◌, ◌^◌, ◌||◌, ◌↔◌, [], length, slice_index, IsTrue, IsFalse, OnOk, IfOk};
 ghost use Rattle.bit_sets.specs.Indexes.{has_index, index_capacity};
-ghost use Rattle.bit_sets.specs.Numbers.{is_reported};
+ghost use Rattle.bit_sets.specs.Numbers.{has_number};
 ghost use Rattle.byte_dfa.specs.inner.Lists.{list_at, IsList, IsListOf, KeepsLists, HasNoneFirst};
 
 use bit_sets::IndexSet;
@@ -12,7 +12,7 @@ use std::alloc::{AllocError, Global};
 pub fn put_listed(numbers: &[usize], place: usize, into: &mut IndexSet)
     requires { IsList numbers.now (index_capacity into.old) place }
     ensures room { index_capacity into.new ≡ index_capacity into.old }
-    ensures has { (k : ℕ) → has_index into.new k ≡ (is_reported k (list_at numbers.now place) || has_index into.old k) }
+    ensures has { (k : ℕ) → has_index into.new k ≡ (has_number k (list_at numbers.now place) || has_index into.old k) }
 {
     let count = numbers[place];
     for index in &numbers[place + 1..place + 1 + count] {
@@ -23,7 +23,7 @@ pub fn put_listed(numbers: &[usize], place: usize, into: &mut IndexSet)
 /// Returns whether a list has an index.
 pub fn has_some(numbers: &[usize], place: usize) -> bool
     requires { place + 1 + slice_index numbers.now place ≤ length numbers.now }
-    ensures some { IsTrue result → ((k : ℕ) × IsTrue (is_reported k (list_at numbers.now place))) }
+    ensures some { IsTrue result → ((k : ℕ) × IsTrue (has_number k (list_at numbers.now place))) }
     ensures none { IsFalse result → list_at numbers.now place ≡ [] }
 {
     numbers[place] > 0
@@ -63,7 +63,7 @@ fn indexes_from(
 ) -> Result<Vec<usize>, AllocError>
     requires { from + count < 2 ^ 64 }
     ensures below { IfOk result (λ list. (x : ℕ) → x < length list.items → slice_index list.items x < count) }
-    ensures has { IfOk result (λ list. (k : ℕ) → IsTrue (is_reported k list.items) ↔ ((k < count) × IsTrue (has_index set.now (from + k)))) }
+    ensures has { IfOk result (λ list. (k : ℕ) → IsTrue (has_number k list.items) ↔ ((k < count) × IsTrue (has_index set.now (from + k)))) }
 {
     let mut list = Vec::new(alloc);
     let mut at = from;

@@ -2,20 +2,20 @@
 use Rattle.std.specs.Prelude.{◌≡◌, ℕ, ◌+◌, ◌*◌, ◌<◌, ◌⊎◌, List, [], ◌∷◌, length}
 use Rattle.bit_sets.specs.declared.byte_set.ByteSet.{ByteSet}
 use Rattle.bit_sets.specs.Bytes.{HasEvery}
-use Rattle.byte_nfa.specs.Steps.{State, stays, final, state, Machine}
+use Rattle.byte_nfa.specs.Steps.{State, loop_state, match_state, state, Machine}
 
 -- the state s stays on every byte, and goes on to one state, which is an end of the index k
 abbrev pub Decides : List State → ℕ → ℕ → Type 0
-Decides a s k = (w : ByteSet) × (t : ℕ) × (state a s ≡ stays w (t ∷ [])) × HasEvery w × (state a t ≡ final k)
+Decides a s k = (w : ByteSet) × (t : ℕ) × (state a s ≡ loop_state w (t ∷ [])) × HasEvery w × (state a t ≡ match_state k)
 
 -- st is an end of the index n + k if the state s decides k, and otherwise the state s
 abbrev pub IsAtEarlyMatch : List State → ℕ → ℕ → State → Type 0
-IsAtEarlyMatch a n s st = ((k : ℕ) × Decides a s k × (st ≡ final (n + k))) ⊎ (((k : ℕ) → Decides a s k → ⊥) × (st ≡ state a s))
+IsAtEarlyMatch a n s st = ((k : ℕ) × Decides a s k × (st ≡ match_state (n + k))) ⊎ (((k : ℕ) → Decides a s k → ⊥) × (st ≡ state a s))
 
 -- the new automaton is the old one with an end in place of each state that decides an index; the indexes of these ends are
 -- above the old indexes
 pub record EndsAtEarlyMatches (old new : Machine) : Type 0 where
-  pub below : (s k : ℕ) → state old.states s ≡ final k → k < old.index_count
+  pub below : (s k : ℕ) → state old.states s ≡ match_state k → k < old.index_count
   pub states : (s : ℕ) → IsAtEarlyMatch old.states old.index_count s (state new.states s)
   pub len : length new.states ≡ length old.states
   pub starts : new.starts ≡ old.starts

@@ -1,14 +1,14 @@
 -- Bytes that states read alike.
 use Rattle.std.specs.Prelude.{◌≡◌, ℕ, Bool, false, List}
 use Rattle.bit_sets.specs.Bytes.{has_byte}
-use Rattle.byte_nfa.specs.Steps.{State, reads, skips, stays, final, state}
+use Rattle.byte_nfa.specs.Steps.{State, bytes_state, union_state, loop_state, match_state, state}
 
 -- the state reads the byte, or stays on it
 abbrev pub reads_byte : State → ℕ → Bool
-reads_byte (reads w t) c = has_byte w c
-reads_byte (skips us) c = false
-reads_byte (stays w us) c = has_byte w c
-reads_byte (final k) c = false
+reads_byte (bytes_state w t) c = has_byte w c
+reads_byte (union_state us) c = false
+reads_byte (loop_state w us) c = has_byte w c
+reads_byte (match_state k) c = false
 
 -- each state reads both bytes or neither
 abbrev pub AreEquivalent : List State → ℕ → ℕ → Type 0

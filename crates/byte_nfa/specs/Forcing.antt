@@ -2,12 +2,12 @@
 use Rattle.std.specs.Prelude.{◌≡◌, ℕ, ◌+◌}
 use Rattle.bit_sets.specs.declared.byte_set.ByteSet.{ByteSet}
 use Rattle.bit_sets.specs.Bytes.{AllFold}
-use Rattle.byte_nfa.specs.Steps.{State, reads, final}
+use Rattle.byte_nfa.specs.Steps.{State, bytes_state, match_state}
 
 -- the state s reads bytes that fold to this one, no others, and goes on to the state below
 abbrev pub Forces : State → ℕ → ℕ → Type 0
-Forces st s letter = (w : ByteSet) × (t : ℕ) × (st ≡ reads w t) × (t + 1 ≡ s) × AllFold w letter
+Forces st s letter = (w : ByteSet) × (t : ℕ) × (st ≡ bytes_state w t) × (t + 1 ≡ s) × AllFold w letter
 
 -- the state is not an end
 abbrev pub IsNoEnd : State → Type 0
-IsNoEnd st = (k : ℕ) → st ≡ final k → ⊥
+IsNoEnd st = (k : ℕ) → st ≡ match_state k → ⊥

@@ -1,7 +1,7 @@
 //! How an automaton is made.
 
 ghost use Rattle.std.specs.Prelude.{◌≡◌, ℕ, ◌<◌, ◌++◌, ◌∷◌, [], List, length, OnOk, OnErr, IfOk, IfSome};
-ghost use Rattle.byte_nfa.specs.Steps.{Machine, reads, skips, stays, final};
+ghost use Rattle.byte_nfa.specs.Steps.{Machine, bytes_state, union_state, loop_state, match_state};
 ghost use Rattle.bit_sets.specs.Numbers.{AreBelow};
 ghost use Rattle.byte_nfa.specs.Building.{Pushes};
 ghost use Rattle.byte_nfa.specs.Runs.{size};
@@ -94,7 +94,7 @@ impl Builder {
     /// Pushes a state that reads a byte of the set and goes on to a state. Returns its number.
     pub fn push_bytes(&mut self, bytes: ByteSet, next: usize) -> Result<usize, AllocError>
         requires { next < size self.old }
-        ensures pushed { IfOk result (λ s. Pushes self.old self.new s (reads bytes next)) }
+        ensures pushed { IfOk result (λ s. Pushes self.old self.new s (bytes_state bytes next)) }
         ensures unchanged { OnErr result (self.new ≡ self.old) }
     {
         let at = self.states.len();
@@ -106,7 +106,7 @@ impl Builder {
     /// Pushes a state that goes on to each of some states without a byte. Returns its number.
     pub fn push_union(&mut self, targets: &[usize]) -> Result<usize, AllocError>
         requires { AreBelow (size self.old) targets.now }
-        ensures pushed { IfOk result (λ s. Pushes self.old self.new s (skips targets.now)) }
+        ensures pushed { IfOk result (λ s. Pushes self.old self.new s (union_state targets.now)) }
         ensures unchanged { OnErr result (self.new ≡ self.old) }
     {
         let at = self.states.len();
@@ -118,7 +118,7 @@ impl Builder {
     /// Pushes a state that stays on each byte of the set, and goes on to a state without a byte. Returns its number.
     pub fn push_loop(&mut self, bytes: ByteSet, exit: usize) -> Result<usize, AllocError>
         requires { exit < size self.old }
-        ensures pushed { IfOk result (λ s. Pushes self.old self.new s (stays bytes (exit ∷ []))) }
+        ensures pushed { IfOk result (λ s. Pushes self.old self.new s (loop_state bytes (exit ∷ []))) }
         ensures unchanged { OnErr result (self.new ≡ self.old) }
     {
         let at = self.states.len();
@@ -130,7 +130,7 @@ impl Builder {
     /// Pushes an end, which names an index. Returns its number.
     pub fn push_match(&mut self, index: usize) -> Result<usize, AllocError>
         requires { index < self.old.index_count }
-        ensures pushed { IfOk result (λ s. Pushes self.old self.new s (final index)) }
+        ensures pushed { IfOk result (λ s. Pushes self.old self.new s (match_state index)) }
         ensures unchanged { OnErr result (self.new ≡ self.old) }
     {
         let at = self.states.len();

@@ -5,7 +5,7 @@ ghost use Rattle.bit_sets.specs.Bytes.{has_byte};
 ghost use Rattle.bit_sets.specs.Indexes.{has_index, index_capacity};
 ghost use Rattle.bit_sets.specs.Numbers.{AreBelow};
 ghost use Rattle.bit_sets.specs.StateSets.{has_state, state_capacity};
-ghost use Rattle.byte_nfa.specs.Steps.{Machine, IsReached, state, final};
+ghost use Rattle.byte_nfa.specs.Steps.{Machine, IsReached, state, match_state};
 ghost use Rattle.byte_nfa.specs.Equivalent.{AreEquivalent};
 ghost use Rattle.byte_nfa.specs.ByteSteps.{leads_to, step_capacity};
 ghost use Rattle.byte_nfa.specs.Runs.{size, AcceptsFrom};
@@ -105,7 +105,7 @@ impl Draft {
     /// Returns a number that the index of each end is below, as [`Draft::index_count`] does. Its contract says this of each end.
     pub fn index_bound(&self) -> usize
         ensures bound { result ≡ self.now.index_count }
-        ensures below { (s k : ℕ) → state self.now.states s ≡ final k → k < self.now.index_count }
+        ensures below { (s k : ℕ) → state self.now.states s ≡ match_state k → k < self.now.index_count }
     {
         self.index_count
     }

@@ -4,10 +4,10 @@ ghost use Rattle.std.specs.Prelude.{◌≡◌, ℕ, ◌+◌, ◌<◌, ◌≤◌,
 ghost use Rattle.bit_sets.specs.Bytes.{has_byte, differ};
 ghost use Rattle.bit_sets.specs.StateSets.{has_state, state_capacity};
 ghost use Rattle.bit_sets.specs.declared.byte_set.ByteSet.{ByteSet};
-ghost use Rattle.byte_nfa.specs.Steps.{final};
+ghost use Rattle.byte_nfa.specs.Steps.{match_state};
 ghost use Rattle.byte_nfa.specs.Equivalent.{reads_byte};
 ghost use Rattle.byte_nfa.specs.Forcing.{IsNoEnd};
-ghost use Rattle.bit_sets.specs.Numbers.{AreBelow, AreFrom, is_reported};
+ghost use Rattle.bit_sets.specs.Numbers.{AreBelow, AreFrom, has_number};
 ghost use Rattle.byte_nfa.specs.Parts.{GoesFrom};
 ghost use Rattle.byte_nfa.specs.ByteSteps.{leads_to, step_capacity};
 ghost use Rattle.byte_nfa.specs.inner.Exits.{StaysBefore};
@@ -125,7 +125,7 @@ impl State {
         requires room { s < state_capacity from.old }
         ensures room { state_capacity from.new ≡ state_capacity from.old }
         ensures from { (sets : List ByteSet) (t : ℕ) → has_state from.new t ≡ (goes_now (of_state sets targets.now self.now) t || has_state from.old t) }
-        ensures end { (sets : List ByteSet) → MatchOption result ((k : ℕ) → names (of_state sets targets.now self.now) None k ≡ false) (λ k. of_state sets targets.now self.now ≡ final k) }
+        ensures end { (sets : List ByteSet) → MatchOption result ((k : ℕ) → names (of_state sets targets.now self.now) None k ≡ false) (λ k. of_state sets targets.now self.now ≡ match_state k) }
     {
         match self {
             State::Bytes(_, _) => None,
@@ -220,7 +220,7 @@ impl State {
     /// Returns a number that nothing that a state goes on to is below, or `None` if it is an end.
     pub fn least_next(&self, s: usize, targets: &[usize]) -> Option<usize>
         requires below { (sets : List ByteSet) × IsHeld sets targets.now self.now × GoesBelow s (of_state sets targets.now self.now) }
-        ensures { (sets : List ByteSet) → MatchOption result ((k : ℕ) × (of_state sets targets.now self.now ≡ final k)) (λ low. GoesFrom low (of_state sets targets.now self.now) × IsNoEnd (of_state sets targets.now self.now)) }
+        ensures { (sets : List ByteSet) → MatchOption result ((k : ℕ) × (of_state sets targets.now self.now ≡ match_state k)) (λ low. GoesFrom low (of_state sets targets.now self.now) × IsNoEnd (of_state sets targets.now self.now)) }
     {
         match self {
             State::Bytes(_, next) => Some(*next),
@@ -259,7 +259,7 @@ pub fn is_in(set: &StateSet, state: usize) -> bool
 /// Returns whether one of several states is in a set.
 fn has_any(set: &StateSet, states: &[usize]) -> bool
     requires { AreBelow (state_capacity set.now) states.now }
-    ensures { IsTrue result ↔ ((t : ℕ) × IsTrue (is_reported t states.now) × IsTrue (has_state set.now t)) }
+    ensures { IsTrue result ↔ ((t : ℕ) × IsTrue (has_number t states.now) × IsTrue (has_state set.now t)) }
 {
     for state in states {
         if is_in(set, *state) {

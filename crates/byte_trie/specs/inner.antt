@@ -1,4 +1,4 @@
 pub mod Anchors
 pub mod Nodes
-pub mod PassInvariant
+pub mod IsTrieOf
 pub mod Building

@@ -43,11 +43,11 @@ impl Model for Trie {
 
     ghost Value = { Texts };
 
-    ghost use Rattle.byte_trie.specs.inner.PassInvariant.{PassInvariant};
+    ghost use Rattle.byte_trie.specs.inner.IsTrieOf.{IsTrieOf};
 
     ghost view = { λ t. record { anchor = t.anchor; entries = map entry_of t.entries.value.items } };
 
-    ghost invariant = { λ t. PassInvariant t.tree t.anchor t.count (map entry_of t.entries.value.items) };
+    ghost invariant = { λ t. IsTrieOf t.tree t.anchor t.count (map entry_of t.entries.value.items) };
 }
 
 impl Trie {

@@ -4,7 +4,7 @@ use Rattle.glob_syntax.specs.declared.options.Options.{Options}
 use Rattle.glob_syntax.specs.Token.{Tokens}
 use Rattle.glob_meaning.specs.TokensMatch.{tokens_match}
 use Rattle.glob_meaning.specs.After.{MeanAfter}
-use Rattle.byte_nfa.specs.Steps.{State, IsIn, Accepts, Machine}
+use Rattle.byte_nfa.specs.Steps.{State, HasNumber, Accepts, Machine}
 use Rattle.byte_nfa.specs.Building.{Agrees}
 use Rattle.bit_sets.specs.Texts.{AllBytes}
 
@@ -40,4 +40,4 @@ SomeMeanAfter (x ∷ xs) y = MeanAfter x.options x.tokens y ⊎ SomeMeanAfter xs
 -- the same starts that begins with these states.
 abbrev pub IsFor : Machine → List IndexedTokens → Type 0
 IsFor m xs = (a : List State) → Agrees a m.states 0 (length m.states) → (path : List ℕ) (k : ℕ) → AllBytes path
-    → ((s : ℕ) × IsIn s m.starts × Accepts a k s path) ↔ SomeMatches xs path k
+    → ((s : ℕ) × HasNumber s m.starts × Accepts a k s path) ↔ SomeMatches xs path k

@@ -1,7 +1,7 @@
 //! By what a set of globs decides each of its globs.
 #![tactic(auto)]
 
-mod silence;
+mod excluded;
 mod strategy;
 
 pub use strategy::{MatchStrategy, strategy_of, tokens_after_prefix, tokens_before_ending};

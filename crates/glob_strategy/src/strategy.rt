@@ -10,7 +10,7 @@ mod bytes;
 mod conditions;
 mod key;
 
-use crate::silence::{is_excluded, is_recursive_prefix};
+use crate::excluded::{is_excluded, is_recursive_prefix};
 use bytes::has_bytes;
 use conditions::{
     is_any_extension, is_beginning, is_below_folder, is_by_last_component, is_end,

@@ -4,7 +4,7 @@ ghost use Rattle.glob_syntax.specs.Laws.{ParseErrorsStay, ErrorsAgree};
 
 /// Without `allow_unclosed_class`, a text whose error is `InvalidRange` or `UnopenedAlternates` keeps that very error
 /// whatever text follows it.
-pub fn faults_stay()
+pub fn parse_errors_stay()
     ensures { ParseErrorsStay }
 {}
 

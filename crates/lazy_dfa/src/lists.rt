@@ -2,7 +2,7 @@
 
 ghost use Rattle.std.specs.Prelude.{◌≡◌, ℕ, ◌+◌, ◌<◌, ◌≤◌, ◌↔◌, ◌⊎◌, ◌^◌, ◌++◌, ◌∷◌, [], length, replicate, slice_index, vec_capacity, IsTrue};
 ghost use Rattle.bit_sets.specs.Indexes.{has_index, index_capacity};
-ghost use Rattle.bit_sets.specs.Numbers.{is_reported, AreBelow};
+ghost use Rattle.bit_sets.specs.Numbers.{has_number, AreBelow};
 ghost use Rattle.bit_sets.specs.StateSets.{has_state, state_capacity};
 ghost use Rattle.byte_dfa.specs.inner.Lists.{list_at};
 
@@ -26,7 +26,7 @@ pub fn list_of(set: &StateSet, limit: usize, list: &mut Vec<usize>)
     requires room { limit ≤ vec_capacity list.old }
     ensures below { AreBelow limit list.new.items }
     ensures few { length list.new.items ≤ limit }
-    ensures has { (t : ℕ) → IsTrue (is_reported t list.new.items) ↔ ((t < limit) × IsTrue (has_state set.now t)) }
+    ensures has { (t : ℕ) → IsTrue (has_number t list.new.items) ↔ ((t < limit) × IsTrue (has_state set.now t)) }
     ensures capacity { vec_capacity list.old ≤ vec_capacity list.new }
 {
     list.clear();
@@ -46,7 +46,7 @@ pub fn list_indexes(set: &IndexSet, limit: usize, list: &mut Vec<usize>)
     requires { limit ≤ vec_capacity list.old }
     ensures below { AreBelow limit list.new.items }
     ensures few { length list.new.items ≤ limit }
-    ensures has { (k : ℕ) → IsTrue (is_reported k list.new.items) ↔ ((k < limit) × IsTrue (has_index set.now k)) }
+    ensures has { (k : ℕ) → IsTrue (has_number k list.new.items) ↔ ((k < limit) × IsTrue (has_index set.now k)) }
     ensures capacity { vec_capacity list.old ≤ vec_capacity list.new }
 {
     list.clear();

@@ -3,12 +3,12 @@
 ghost use Rattle.std.specs.Prelude.{◌≡◌, ℕ, ◌+◌, ◌-◌, ◌*◌, ◌<◌, ◌≤◌, ◌⊎◌, ◌↔◌, ◌++◌, ◌∷◌, [], List, length, slice_index, replicate, vec_len, vec_capacity, Some, None, IsTrue, IsFalse, IfOk, IfSome, MatchOption};
 ghost use Rattle.bit_sets.specs.Indexes.{has_index, index_capacity};
 ghost use Rattle.bit_sets.specs.StateSets.{has_state, state_capacity};
-ghost use Rattle.bit_sets.specs.Numbers.{is_reported, AreBelow};
+ghost use Rattle.bit_sets.specs.Numbers.{has_number, AreBelow};
 ghost use Rattle.bit_sets.specs.Texts.{AllBytes};
 ghost use Rattle.byte_nfa.specs.Live.{AreLive};
 ghost use Rattle.byte_nfa.specs.Steps.{IsReached};
 ghost use Rattle.byte_nfa.specs.Runs.{size, AcceptsFrom};
-ghost use Rattle.byte_dfa.specs.inner.Classes.{IsDivision};
+ghost use Rattle.byte_dfa.specs.inner.Classes.{AreEquivalenceClasses};
 ghost use Rattle.byte_dfa.specs.inner.Building.{half};
 ghost use Rattle.lazy_dfa.specs.inner.Rows.{AcceptsRow, HasEnds, HasMarks, GoesTo, IsDeadBy, IsNext, IsEnd, IsEntry, IsSound, AreListed, KeepsRows, HasSpace, states_of, place_of, max_entries, marked, BeginsAt, IsAt, IsStep, IsPlainStep};
 
@@ -129,7 +129,7 @@ impl Rows {
         bytes: usize,
     ) -> Result<Rows, AllocError>
         requires few { classes.now.count ≤ 256 }
-        requires division { IsDivision automaton.now.states classes.now.class_of classes.now.representatives classes.now.count }
+        requires equivalence { AreEquivalenceClasses automaton.now.states classes.now.class_of classes.now.representatives classes.now.count }
         ensures { IfOk result (λ rows. IsSound automaton.now rows) }
     {
         let states = automaton.state_count();

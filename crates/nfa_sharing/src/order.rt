@@ -1,7 +1,7 @@
 //! The order of states in which those of one kind with the same bytes stand together.
 
 ghost use Rattle.std.specs.Prelude.{◌≡◌, ℕ, ◌↔◌, map, IfOk};
-ghost use Rattle.byte_nfa.specs.Steps.{IsIn};
+ghost use Rattle.byte_nfa.specs.Steps.{HasNumber};
 
 use crate::sets::SetNumbers;
 use byte_nfa::{Draft, StateRef};
@@ -25,7 +25,7 @@ pub fn ordered(
     states: &[usize],
     sets: &mut SetNumbers,
 ) -> Result<Vec<usize>, AllocError>
-    ensures { IfOk result (λ in_order. (s : ℕ) → IsIn s in_order.items ↔ IsIn s states.now) }
+    ensures { IfOk result (λ in_order. (s : ℕ) → HasNumber s in_order.items ↔ HasNumber s states.now) }
 {
     let mut keys = Vec::with_capacity(alloc, states.len())?;
     for s in states {

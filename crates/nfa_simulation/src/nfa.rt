@@ -3,7 +3,7 @@
 ghost use Rattle.std.specs.Prelude.{◌≡◌, ℕ, ◌+◌, ◌<◌, ◌≤◌, ◌||◌, ◌⊎◌, ◌↔◌, ◌∷◌, [], List, length, slice_index, false, Some, None, IsTrue, IsFalse, IfOk, MatchOption};
 ghost use Rattle.bit_sets.specs.Indexes.{has_index, index_capacity};
 ghost use Rattle.bit_sets.specs.StateSets.{has_state, state_capacity};
-ghost use Rattle.byte_nfa.specs.Steps.{Machine, IsReached, state, final};
+ghost use Rattle.byte_nfa.specs.Steps.{Machine, IsReached, state, match_state};
 ghost use Rattle.byte_nfa.specs.Runs.{size, AcceptsFrom, HasSome};
 ghost use Rattle.nfa_simulation.specs.inner.Blocks.{AreBlocks};
 ghost use Rattle.byte_nfa.specs.inner.Views.{GoesBelow};
@@ -188,7 +188,7 @@ impl Nfa {
         ensures room { state_capacity from.new ≡ state_capacity from.old }
         ensures from { (t : ℕ) → has_state from.new t ≡ (goes_now (state self.now.states s) t || has_state from.old t) }
         ensures below { GoesBelow s (state self.now.states s) }
-        ensures end { MatchOption result ((k : ℕ) → names (state self.now.states s) None k ≡ false) (λ k. (state self.now.states s ≡ final k) × (k < self.now.index_count)) }
+        ensures end { MatchOption result ((k : ℕ) → names (state self.now.states s) None k ≡ false) (λ k. (state self.now.states s ≡ match_state k) × (k < self.now.index_count)) }
     {
         self.draft.follow_epsilons(s, from)
     }

@@ -118,7 +118,7 @@ impl Automata {
         requires { AreCachesOf self.now caches.old }
         ensures caches { caches.new ≡ caches.old }
         ensures room { OnOk result (self.now.extensions.index_count ≤ index_capacity marks.new) }
-        ensures marked { OnOk result ((t : TokenLists) → AreForLists self.now t → (k : ℕ) → IsTrue (has_index marks.new k) ↔ AreFound self.now.extensions.matchers t path.now k) }
+        ensures marked { OnOk result ((t : TokenLists) → AreForLists self.now t → (k : ℕ) → IsTrue (has_index marks.new k) ↔ AreFound self.now.extensions.slots t path.now k) }
         ensures kept { sets_capacity sets.old ≤ sets_capacity sets.new }
         ensures marks { index_capacity marks.old ≤ index_capacity marks.new }
         ensures memory { max_states self.now ≤ sets_capacity sets.old → self.now.extensions.index_count ≤ index_capacity marks.old → IsOk result }
@@ -203,7 +203,7 @@ impl Automata {
     ) -> Result<bool, AllocError>
         requires { AreCachesOf self.now caches.old }
         ensures caches { caches.new ≡ caches.old }
-        ensures some { IfOk result (λ yes. (t : TokenLists) → AreForLists self.now t → IsTrue yes ↔ ((k : ℕ) × AreFound self.now.extensions.matchers t path.now k)) }
+        ensures some { IfOk result (λ yes. (t : TokenLists) → AreForLists self.now t → IsTrue yes ↔ ((k : ℕ) × AreFound self.now.extensions.slots t path.now k)) }
         ensures kept { sets_capacity sets.old ≤ sets_capacity sets.new }
         ensures memory { states_for self.now path.now ≡ 0 → IsOk result }
         ensures room { max_states self.now ≤ sets_capacity sets.old → IsOk result }
@@ -247,7 +247,7 @@ impl Automata {
         ensures automaton { result.now ≡ machine_under self.now.extensions (component_extension path.now) }
         ensures maximum { size result.now ≤ max_size self.now.extensions.machines }
         ensures count { result.now.index_count ≡ self.now.extensions.index_count }
-        ensures tokens { (by_slot : ℕ → List IndexedTokens) → AreFor self.now.extensions.machines by_slot → IsFor result.now (tokens_under by_slot self.now.extensions.matchers (component_extension path.now)) }
+        ensures tokens { (by_slot : ℕ → List IndexedTokens) → AreFor self.now.extensions.machines by_slot → IsFor result.now (tokens_under by_slot self.now.extensions.slots (component_extension path.now)) }
         ensures visits { visits.new ≤ visits.old + 1 }
         ensures counted { visits.old ≤ visits.new }
     {
@@ -387,7 +387,7 @@ impl AutomataBuilder {
     pub fn new(alloc: Global, index_count: usize) -> AutomataBuilder
         ensures path { IsFor result.by_path [] }
         ensures component { IsFor result.by_component [] }
-        ensures matchers { result.extensions.matchers ≡ [] }
+        ensures slots { result.extensions.slots ≡ [] }
         ensures machines { result.extensions.machines ≡ [] }
         ensures none { max_reads result.extensions.none ≡ 0 }
         ensures count { result.extensions.index_count ≡ index_count }

@@ -5,17 +5,17 @@ use Rattle.std.proofs.lemmas.Bool.{cases_lt, eq-eqb, eqb-true, or_cases}
 use Rattle.std.proofs.lemmas.List.{get_or_append_left, take-append-le, length-take-le, length-drop, drop-append-le, take_all, take_more}
 use Rattle.std.proofs.Math.Logic.{⊎_elim}
 use Rattle.std.proofs.Math.Seq.{get_or-append_seam}
-use Rattle.bit_sets.specs.Numbers.{is_reported}
+use Rattle.bit_sets.specs.Numbers.{has_number}
 use Rattle.byte_nfa.proofs.lemmas.Pass.{or_first, or_second}
 use Rattle.byte_dfa.specs.inner.Lists.{list_at, IsList, IsListOf, KeepsLists, HasNoneFirst}
 
-pub listed_push : (k x : ℕ) (xs : List ℕ) → is_reported k (xs ++ x ∷ []) ≡ (is_reported k xs || (k == x))
+pub listed_push : (k x : ℕ) (xs : List ℕ) → has_number k (xs ++ x ∷ []) ≡ (has_number k xs || (k == x))
 listed_push k x [] = swapped (k == x)
   where
     swapped : (p : Bool) → (p || false) ≡ (false || p)
     swapped true = refl
     swapped false = refl
-listed_push k x (y ∷ ys) = ap (λ b. (k == y) || b) (listed_push k x ys) ∙ regroup (k == y) (is_reported k ys) (k == x)
+listed_push k x (y ∷ ys) = ap (λ b. (k == y) || b) (listed_push k x ys) ∙ regroup (k == y) (has_number k ys) (k == x)
   where
     regroup : (p q r : Bool) → (p || (q || r)) ≡ ((p || q) || r)
     regroup true q r = refl
@@ -24,7 +24,7 @@ listed_push k x (y ∷ ys) = ap (λ b. (k == y) || b) (listed_push k x ys) ∙ r
 -- the list of the numbers below j that pass a test; they are below n
 pub record IsReportedTo (test : ℕ → Bool) (n j : ℕ) (list : List ℕ) : Type 0 where
   pub below : (x : ℕ) → x < length list → slice_index list x < n
-  pub has : (k : ℕ) → IsTrue (is_reported k list) ↔ ((k < j) × IsTrue (test k))
+  pub has : (k : ℕ) → IsTrue (has_number k list) ↔ ((k < j) × IsTrue (test k))
 
 pub listed_none : (test : ℕ → Bool) (n : ℕ) → IsReportedTo test n 0 []
 listed_none test n = record {
@@ -53,10 +53,10 @@ listed_more test n j list lt_n here is = record {
     λ h. ⊎_elim {C = (k < j + 1) × IsTrue (test k)}
         (λ old. let (lt, at) = (is.has k).0 old in (omega arith, at))
         (λ e. let is_j : k ≡ j = eqb-true k j e in (omega arith, subst (λ u. IsTrue (test u)) (sym is_j) here))
-        (or_cases (is_reported k list) (k == j) (sym (listed_push k j list) ∙ h)),
-    λ (lt, at). ⊎_elim {C = IsTrue (is_reported k (list ++ j ∷ []))}
-        (λ low. listed_push k j list ∙ or_first (is_reported k list) (k == j) ((is.has k).1 (low, at)))
-        (λ past. let e : k ≡ j = omega arith in listed_push k j list ∙ or_second (is_reported k list) (k == j) (eq-eqb k j e))
+        (or_cases (has_number k list) (k == j) (sym (listed_push k j list) ∙ h)),
+    λ (lt, at). ⊎_elim {C = IsTrue (has_number k (list ++ j ∷ []))}
+        (λ low. listed_push k j list ∙ or_first (has_number k list) (k == j) ((is.has k).1 (low, at)))
+        (λ past. let e : k ≡ j = omega arith in listed_push k j list ∙ or_second (has_number k list) (k == j) (eq-eqb k j e))
         (cases_lt k j),
   );
 }
@@ -95,24 +95,24 @@ keeps_then a b c f g = (
 pub list_kept : (old new : List ℕ) (n place : ℕ) (P : ℕ → Type 0) → KeepsLists old new → IsListOf old n place P → IsListOf new n place P
 list_kept old new n place P keeps is =
     let (list, same, count) = keeps.1 n place is.list in
-    record { list = list; has = λ k. subst (λ l. IsTrue (is_reported k l) ↔ ((k < n) × P k)) (sym same) (is.has k) }
+    record { list = list; has = λ k. subst (λ l. IsTrue (has_number k l) ↔ ((k < n) × P k)) (sym same) (is.has k) }
 
 -- the empty list, and one that was appended
 
 pub empty_at : (numbers : List ℕ) → HasNoneFirst numbers → list_at numbers 0 ≡ []
 empty_at numbers (some, zero_first) = ap (λ c. take c (drop 1 numbers)) zero_first
 
-pub list_empty : (numbers : List ℕ) (n : ℕ) (P : ℕ → Type 0) → HasNoneFirst numbers → ((k : ℕ) → IsTrue (is_reported k []) ↔ ((k < n) × P k)) → IsListOf numbers n 0 P
+pub list_empty : (numbers : List ℕ) (n : ℕ) (P : ℕ → Type 0) → HasNoneFirst numbers → ((k : ℕ) → IsTrue (has_number k []) ↔ ((k < n) × P k)) → IsListOf numbers n 0 P
 list_empty numbers n P none has =
     let is = empty_at numbers none in
     let (some, zero_first) = none in
     record {
       list = record { room = rw zero_first (omega arith); below = λ x lt. absurd (let len = ap length is in omega arith) };
-      has = λ k. subst (λ l. IsTrue (is_reported k l) ↔ ((k < n) × P k)) (sym is) (has k);
+      has = λ k. subst (λ l. IsTrue (has_number k l) ↔ ((k < n) × P k)) (sym is) (has k);
     }
 
 pub list_last : (numbers list : List ℕ) (n : ℕ) (P : ℕ → Type 0) → ((x : ℕ) → x < length list → slice_index list x < n)
-    → ((k : ℕ) → IsTrue (is_reported k list) ↔ ((k < n) × P k)) → IsListOf (numbers ++ length list ∷ list) n (length numbers) P
+    → ((k : ℕ) → IsTrue (has_number k list) ↔ ((k < n) × P k)) → IsListOf (numbers ++ length list ∷ list) n (length numbers) P
 list_last numbers list n P below has =
     let count : slice_index (numbers ++ length list ∷ list) (length numbers) ≡ length list = get_or-append_seam numbers (length list) list 0 in
     let len = length-append numbers (length list ∷ list) in
@@ -120,7 +120,7 @@ list_last numbers list n P below has =
     ap (λ c. take c (drop (length numbers + 1) (numbers ++ length list ∷ list))) count ∙ ap (take (length list)) (past numbers (length list) list) ∙ take_all (length list) list (omega arith) in
     record {
       list = record { room = rw count (omega arith); below = subst (λ l. (x : ℕ) → x < length l → slice_index l x < n) (sym same) below };
-      has = λ k. subst (λ l. IsTrue (is_reported k l) ↔ ((k < n) × P k)) (sym same) (has k);
+      has = λ k. subst (λ l. IsTrue (has_number k l) ↔ ((k < n) × P k)) (sym same) (has k);
     }
   where
     past : (xs : List ℕ) (x : ℕ) (ys : List ℕ) → drop (length xs + 1) (xs ++ x ∷ ys) ≡ ys
@@ -128,19 +128,19 @@ list_last numbers list n P below has =
     past (z ∷ xs) x ys = ap (λ n. drop n (z ∷ (xs ++ x ∷ ys))) (let e : suc (length xs) + 1 ≡ suc (length xs + 1) = omega arith in e) ∙ past xs x ys
 
 -- a list that is not empty has an index
-pub some_listed : (numbers : List ℕ) (place : ℕ) → place + 1 + slice_index numbers place ≤ length numbers → 0 < slice_index numbers place → ((k : ℕ) × IsTrue (is_reported k (list_at numbers place)))
+pub some_listed : (numbers : List ℕ) (place : ℕ) → place + 1 + slice_index numbers place ≤ length numbers → 0 < slice_index numbers place → ((k : ℕ) × IsTrue (has_number k (list_at numbers place)))
 some_listed numbers place room some = first (list_at numbers place) (let len = length-drop (place + 1) numbers in rw (length-take-le (slice_index numbers place) (drop (place + 1) numbers) (omega arith)) some)
   where
-    first : (l : List ℕ) → 0 < length l → (k : ℕ) × IsTrue (is_reported k l)
+    first : (l : List ℕ) → 0 < length l → (k : ℕ) × IsTrue (has_number k l)
     first [] h = absurd (omega arith)
-    first (x ∷ xs) h = (x, or_first (x == x) (is_reported x xs) (eq-eqb x x refl))
+    first (x ∷ xs) h = (x, or_first (x == x) (has_number x xs) (eq-eqb x x refl))
 
 -- one index of a list more was put into a set
-pub put_more : (k x i : ℕ) (xs : List ℕ) (before now new : Bool) → i < length xs → x ≡ slice_index xs i → now ≡ (is_reported k (take i xs) || before)
-    → new ≡ ((k == x) || now) → new ≡ (is_reported k (take (i + 1) xs) || before)
+pub put_more : (k x i : ℕ) (xs : List ℕ) (before now new : Bool) → i < length xs → x ≡ slice_index xs i → now ≡ (has_number k (take i xs) || before)
+    → new ≡ ((k == x) || now) → new ≡ (has_number k (take (i + 1) xs) || before)
 put_more k x i xs before now new lt is h put =
-    put ∙ ap (λ b. (k == x) || b) h ∙ swapped (k == x) (is_reported k (take i xs)) before
-    ∙ ap (λ b. b || before) (sym (ap (is_reported k) (take_more xs i 0 lt ∙ ap (λ u. take i xs ++ u ∷ []) (sym is)) ∙ listed_push k x (take i xs)))
+    put ∙ ap (λ b. (k == x) || b) h ∙ swapped (k == x) (has_number k (take i xs)) before
+    ∙ ap (λ b. b || before) (sym (ap (has_number k) (take_more xs i 0 lt ∙ ap (λ u. take i xs ++ u ∷ []) (sym is)) ∙ listed_push k x (take i xs)))
   where
     swapped : (p q r : Bool) → (p || (q || r)) ≡ ((q || p) || r)
     swapped true true r = refl

@@ -8,10 +8,10 @@ use Rattle.std.proofs.Math.Logic.{⊎_elim}
 use Rattle.std.proofs.Math.Nat.{add-mod_left, mul-div_cancel}
 use Rattle.byte_nfa.specs.EarlyMatches.{IsAtEarlyMatch, EndsAtEarlyMatches}
 use Rattle.byte_nfa.specs.Runs.{AcceptsFrom, HasLastBytes}
-use Rattle.byte_nfa.specs.Steps.{state, final, Machine, IsReached, Accepts, ends, by_byte, by_skip, by_out, by_stay}
+use Rattle.byte_nfa.specs.Steps.{state, match_state, Machine, IsReached, Accepts, ends, by_byte, by_skip, by_out, by_stay}
 use Rattle.bit_sets.specs.declared.byte_set.ByteSet.{ByteSet}
 use Rattle.bit_sets.specs.declared.state_set.StateSet.{StateSet}
-use Rattle.bit_sets.specs.Numbers.{is_reported}
+use Rattle.bit_sets.specs.Numbers.{has_number}
 use Rattle.bit_sets.specs.Texts.{AllBytes}
 use Rattle.byte_nfa.proofs.lemmas.Equivalent.{from_equivalent}
 use Rattle.byte_nfa.proofs.lemmas.Deciding.{reached_by}
@@ -19,7 +19,7 @@ use Rattle.byte_nfa.proofs.lemmas.Pass.{or_first, or_second}
 use Rattle.byte_dfa.specs.declared.classes.ByteClasses.{ByteClasses}
 use Rattle.byte_dfa.specs.declared.determinizer.Found.{Found}
 use Rattle.byte_dfa.specs.inner.Building.{half, IsLiveSet, AreLiveSets, GoesTo, IsEntryTo, IsCell, IsBuilt}
-use Rattle.byte_dfa.specs.inner.Classes.{IsDivision}
+use Rattle.byte_dfa.specs.inner.Classes.{AreEquivalenceClasses}
 use Rattle.byte_dfa.specs.inner.Lists.{list_at, IsList}
 use Rattle.byte_dfa.specs.inner.Tables.{Table, table_of, special, transition, after, on_entry, at_end, finds_from, IsRow, IsTable, IsTableOf, MatchesAfterFrom, AreLiveRows}
 use Rattle.byte_dfa.proofs.lemmas.Cells.{before_row}
@@ -56,12 +56,12 @@ nothing_after (c ∷ y) = ap (λ z. c ∷ z) (nothing_after y)
 abbrev Named : ℕ → ℕ → Type 0
 Named n k = (k < n) ⊎ ((j : ℕ) × (j < n) × (k ≡ n + j))
 
-end_named : (old m : Machine) (made : EndsAtEarlyMatches old m) (s k : ℕ) → state m.states s ≡ final k → Named old.index_count k
+end_named : (old m : Machine) (made : EndsAtEarlyMatches old m) (s k : ℕ) → state m.states s ≡ match_state k → Named old.index_count k
 end_named old m made s k e = by_case (made.states s)
   where
     by_case : IsAtEarlyMatch old.states old.index_count s (state m.states s) → Named old.index_count k
     by_case (inl (j, (w, t, at, every, is), early_match)) =
-        let both : final k ≡ final (old.index_count + j) = sym e ∙ early_match in
+        let both : match_state k ≡ match_state (old.index_count + j) = sym e ∙ early_match in
         inr (j, made.below t j is, cc)
     by_case (inr (none, same)) = inl (made.below s k (sym same ∙ e))
 
@@ -109,7 +109,7 @@ module _ (m : Machine) (n : ℕ) where
           let rest' : y ≡ p ++ q = cc in
           inr (lt, inr (p, q, rest', (goes p (n + k)).0 (subst (λ u. AcceptsFrom m set (u ∷ p) (n + k)) same a)))
 
-module _ (old m : Machine) (made : EndsAtEarlyMatches old m) (classes : ByteClasses) (division : IsDivision m.states classes.class_of classes.representatives classes.count)
+module _ (old m : Machine) (made : EndsAtEarlyMatches old m) (classes : ByteClasses) (equivalence : AreEquivalenceClasses m.states classes.class_of classes.representatives classes.count)
     (found : List Found) (lists rows : List ℕ) (accepting : StateSet) (built : IsBuilt m classes found lists rows accepting) (whole : length rows ≡ length found * (classes.count + 2))
     (few : length found * (classes.count + 2) ≤ special) (start : ℕ) where
   abbrev n : ℕ
@@ -137,17 +137,17 @@ module _ (old m : Machine) (made : EndsAtEarlyMatches old m) (classes : ByteClas
       let one = cell i (w + 1) (slice_get_within found i f at) (omega arith) in
       ap (slice_index rows) (let e : i * (w + 2) + w + 1 ≡ i * (w + 2) + (w + 1) = omega arith in e) ∙ one.at_end refl ∙ ap (λ (g : Found). g.at_end) (one_item found i one.this f one.row at)
 
-  told_is : (i : ℕ) (f : Found) (k : ℕ) → slice_get found i ≡ Some f → IsTrue (is_reported k (on_entry d (i * (w + 2)))) ↔ ((k < n) × AcceptsFrom m f.states [] (n + k))
+  told_is : (i : ℕ) (f : Found) (k : ℕ) → slice_get found i ≡ Some f → IsTrue (has_number k (on_entry d (i * (w + 2)))) ↔ ((k < n) × AcceptsFrom m f.states [] (n + k))
   told_is i f k at =
       let has = (built.sets.each i f at).on_entry.has k in
-      subst (λ h. IsTrue (is_reported k (on_entry d (i * (w + 2)))) ↔ ((k < h) × AcceptsFrom m f.states [] (h + k))) half_is
-      (subst (λ place. IsTrue (is_reported k (list_at lists place)) ↔ ((k < half m) × AcceptsFrom m f.states [] (half m + k))) (sym (entry_place i f at)) has)
+      subst (λ h. IsTrue (has_number k (on_entry d (i * (w + 2)))) ↔ ((k < h) × AcceptsFrom m f.states [] (h + k))) half_is
+      (subst (λ place. IsTrue (has_number k (list_at lists place)) ↔ ((k < half m) × AcceptsFrom m f.states [] (half m + k))) (sym (entry_place i f at)) has)
 
-  ended_is : (i : ℕ) (f : Found) (k : ℕ) → slice_get found i ≡ Some f → IsTrue (is_reported k (at_end d (i * (w + 2)))) ↔ ((k < n) × AcceptsFrom m f.states [] k)
+  ended_is : (i : ℕ) (f : Found) (k : ℕ) → slice_get found i ≡ Some f → IsTrue (has_number k (at_end d (i * (w + 2)))) ↔ ((k < n) × AcceptsFrom m f.states [] k)
   ended_is i f k at =
       let has = (built.sets.each i f at).at_end.has k in
-      subst (λ h. IsTrue (is_reported k (at_end d (i * (w + 2)))) ↔ ((k < h) × AcceptsFrom m f.states [] k)) half_is
-      (subst (λ place. IsTrue (is_reported k (list_at lists place)) ↔ ((k < half m) × AcceptsFrom m f.states [] k)) (sym (end_place i f at)) has)
+      subst (λ h. IsTrue (has_number k (at_end d (i * (w + 2)))) ↔ ((k < h) × AcceptsFrom m f.states [] k)) half_is
+      (subst (λ place. IsTrue (has_number k (list_at lists place)) ↔ ((k < half m) × AcceptsFrom m f.states [] k)) (sym (end_place i f at)) has)
 
   -- where a byte leads from a row
   record LeadsTo (i : ℕ) (f : Found) (b : ℕ) : Type 0 where
@@ -160,7 +160,7 @@ module _ (old m : Machine) (made : EndsAtEarlyMatches old m) (classes : ByteClas
 
   leads_to : (i : ℕ) (f : Found) (b : ℕ) → slice_get found i ≡ Some f → b < 256 → LeadsTo i f b
   leads_to i f b at byte =
-      let (short, equivalent) = division b byte in
+      let (short, equivalent) = equivalence b byte in
       let class : ℕ = slice_index classes.class_of b in
       let one = cell i class (slice_get_within found i f at) (omega arith) in
       let (j, g, there, goes, leads) = one.goes short in
@@ -190,12 +190,12 @@ module _ (old m : Machine) (made : EndsAtEarlyMatches old m) (classes : ByteClas
 
   -- THE THEOREM of a run
   found_from : (i : ℕ) (f : Found) (y : List ℕ) (k : ℕ) → slice_get found i ≡ Some f → AllBytes y → IsTrue (finds_from d (i * (w + 2)) y k) ↔ FromHere m n f.states y k
-  found_from i f [] k at bytes = at_no_byte m n f.states k (is_reported k (on_entry d (i * (w + 2)))) (is_reported k (at_end d (i * (w + 2)))) (told_is i f k at) (ended_is i f k at)
+  found_from i f [] k at bytes = at_no_byte m n f.states k (has_number k (on_entry d (i * (w + 2)))) (has_number k (at_end d (i * (w + 2)))) (told_is i f k at) (ended_is i f k at)
   found_from i f (b ∷ y) k at bytes =
       let leads = leads_to i f b at bytes.0 in
       let rest : IsTrue (finds_from d (after d (i * (w + 2)) b) y k) ↔ FromHere m n leads.next.states y k =
       subst (λ s. IsTrue (finds_from d s y k) ↔ FromHere m n leads.next.states y k) (sym leads.place) (found_from leads.number leads.next y k leads.at bytes.1) in
-      at_byte m n f.states leads.next.states b y k (is_reported k (on_entry d (i * (w + 2)))) (finds_from d (after d (i * (w + 2)) b) y k) (told_is i f k at) rest leads.goes
+      at_byte m n f.states leads.next.states b y k (has_number k (on_entry d (i * (w + 2)))) (finds_from d (after d (i * (w + 2)) b) y k) (told_is i f k at) rest leads.goes
 
   -- a row is that of a set
   record IsRowOf (s : ℕ) : Type 0 where
@@ -239,7 +239,7 @@ module _ (old m : Machine) (made : EndsAtEarlyMatches old m) (classes : ByteClas
 
   pub table_sound : (number : ℕ) (f : Found) → slice_get found number ≡ Some f → start ≡ number * (w + 2) → IsTable d
   table_sound number f begins is = record {
-    classes = λ b byte. (division b byte).0;
+    classes = λ b byte. (equivalence b byte).0;
     begins = subst (IsRow d) (sym is) (row_capacity number f begins);
     goes = λ s b row byte.
         let r = row_of s row in

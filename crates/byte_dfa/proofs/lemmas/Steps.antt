@@ -4,7 +4,7 @@ use Rattle.std.specs.Prelude.{◌↔◌}
 use Rattle.std.proofs.lemmas.Bool.{or_cases}
 use Rattle.std.proofs.lemmas.List.{get_or-take, get_or-drop}
 use Rattle.std.proofs.Math.Logic.{⊎_elim}
-use Rattle.bit_sets.specs.Numbers.{is_reported}
+use Rattle.bit_sets.specs.Numbers.{has_number}
 use Rattle.bit_sets.specs.Texts.{AllBytes}
 use Rattle.byte_nfa.proofs.lemmas.Pass.{or_first, or_second}
 use Rattle.byte_dfa.specs.inner.Tables.{Table, special, transition, after, on_entry, later, finds_from, finds, IsRow, IsTable}
@@ -40,11 +40,11 @@ has_put a b c is h = is ∙ or_first a b h
 
 module _ (d : Table) (sound : IsTable d) where
   -- from the start
-  pub started : (y : List ℕ) (k : ℕ) (found found' : Bool) → found' ≡ (is_reported k (on_entry d d.start) || found) → (later d d.start y k || found') ≡ (finds d y k || found)
-  started y k found found' is = ap (λ x. later d d.start y k || x) is ∙ swapped (is_reported k (on_entry d d.start)) (later d d.start y k) found
+  pub started : (y : List ℕ) (k : ℕ) (found found' : Bool) → found' ≡ (has_number k (on_entry d d.start) || found) → (later d d.start y k || found') ≡ (finds d y k || found)
+  started y k found found' is = ap (λ x. later d d.start y k || x) is ∙ swapped (has_number k (on_entry d d.start)) (later d d.start y k) found
 
   pub started_quiet : (y : List ℕ) (k : ℕ) → on_entry d d.start ≡ [] → later d d.start y k ≡ finds d y k
-  started_quiet y k none = ap (λ l. is_reported k l || later d d.start y k) (sym none)
+  started_quiet y k none = ap (λ l. has_number k l || later d d.start y k) (sym none)
 
   -- by a byte, whose entry is e
   module _ (s b : ℕ) (row : IsRow d s) (byte : b < 256) (e : ℕ) (is : e ≡ transition d s b) where
@@ -66,12 +66,12 @@ module _ (d : Table) (sound : IsTable d) where
     -- what comes, with what was found
     pub low_next : (y : List ℕ) (k : ℕ) (found before : Bool) → e < special → (later d s (b ∷ y) k || found) ≡ before → (later d e y k || found) ≡ before
     low_next y k found before lt old =
-        ap (λ l. (is_reported k l || later d e y k) || found) (sym (low_quiet lt)) ∙ ap (λ x. finds_from d x y k || found) (sym (low_after lt)) ∙ old
+        ap (λ l. (has_number k l || later d e y k) || found) (sym (low_quiet lt)) ∙ ap (λ x. finds_from d x y k || found) (sym (low_after lt)) ∙ old
 
-    pub high_next : (y : List ℕ) (k : ℕ) (found found' before : Bool) → special ≤ e → e < 4294967296 → found' ≡ (is_reported k (on_entry d (e - special)) || found)
+    pub high_next : (y : List ℕ) (k : ℕ) (found found' before : Bool) → special ≤ e → e < 4294967296 → found' ≡ (has_number k (on_entry d (e - special)) || found)
         → (later d s (b ∷ y) k || found) ≡ before → (later d (e - special) y k || found') ≡ before
     high_next y k found found' before le lt more old =
-        ap (λ x. later d (e - special) y k || x) more ∙ swapped (is_reported k (on_entry d (e - special))) (later d (e - special) y k) found
+        ap (λ x. later d (e - special) y k || x) more ∙ swapped (has_number k (on_entry d (e - special))) (later d (e - special) y k) found
         ∙ ap (λ x. finds_from d x y k || found) (sym (high_after le lt)) ∙ old
 
     pub dead_next : (y : List ℕ) (k : ℕ) (found before : Bool) → special ≤ e → e < 4294967296 → e - special ≡ 0 → AllBytes y → (later d s (b ∷ y) k || found) ≡ before → found ≡ before
@@ -81,16 +81,16 @@ module _ (d : Table) (sound : IsTable d) where
     -- what comes
 
     pub low_later : (y : List ℕ) (k : ℕ) → e < special → later d s (b ∷ y) k ≡ later d e y k
-    low_later y k lt = ap (λ x. finds_from d x y k) (low_after lt) ∙ ap (λ l. is_reported k l || later d e y k) (low_quiet lt)
+    low_later y k lt = ap (λ x. finds_from d x y k) (low_after lt) ∙ ap (λ l. has_number k l || later d e y k) (low_quiet lt)
 
     pub quiet_later : (y : List ℕ) (k : ℕ) → special ≤ e → e < 4294967296 → on_entry d (e - special) ≡ [] → later d s (b ∷ y) k ≡ later d (e - special) y k
-    quiet_later y k le lt none = ap (λ x. finds_from d x y k) (high_after le lt) ∙ ap (λ l. is_reported k l || later d (e - special) y k) none
+    quiet_later y k le lt none = ap (λ x. finds_from d x y k) (high_after le lt) ∙ ap (λ l. has_number k l || later d (e - special) y k) none
 
     pub dead_later : (y : List ℕ) (k : ℕ) → special ≤ e → e < 4294967296 → e - special ≡ 0 → AllBytes y → later d s (b ∷ y) k ≡ false
     dead_later y k le lt zero_is bytes = ap (λ x. finds_from d x y k) (high_after le lt ∙ zero_is) ∙ sound.dead y k bytes
 
-    pub told_later : (y : List ℕ) (k : ℕ) → special ≤ e → e < 4294967296 → IsTrue (is_reported k (on_entry d (e - special))) → IsTrue (later d s (b ∷ y) k)
-    told_later y k le lt here = ap (λ x. finds_from d x y k) (high_after le lt) ∙ or_first (is_reported k (on_entry d (e - special))) (later d (e - special) y k) here
+    pub told_later : (y : List ℕ) (k : ℕ) → special ≤ e → e < 4294967296 → IsTrue (has_number k (on_entry d (e - special))) → IsTrue (later d s (b ∷ y) k)
+    told_later y k le lt here = ap (λ x. finds_from d x y k) (high_after le lt) ∙ or_first (has_number k (on_entry d (e - special))) (later d (e - special) y k) here
 
 -- entries of a row are in the table
 module _ (d : Table) (table : List ℕ) (same : table ≡ d.next) (s : ℕ) (row : IsRow d s) where
@@ -135,7 +135,7 @@ some_found test P k f h = (λ _. (k, (f k).0 h), λ _. refl)
 pub none_found : (test : ℕ → Bool) (P : ℕ → Type 0) → ((j : ℕ) → IsTrue (test j) ↔ P j) → ((j : ℕ) → test j ≡ false) → IsTrue false ↔ ((j : ℕ) × P j)
 none_found test P f none = (λ off. absurd (true≢false (sym off)), λ (j, p). absurd (true≢false (sym ((f j).1 p) ∙ none j)))
 
-pub whether_found : (result : Bool) (test : ℕ → Bool) (P : ℕ → Type 0) (l : List ℕ) → ((j : ℕ) → IsTrue (test j) ↔ P j) → ((j : ℕ) → is_reported j l ≡ test j)
-    → (IsTrue result → (k : ℕ) × IsTrue (is_reported k l)) → (IsFalse result → l ≡ []) → IsTrue result ↔ ((j : ℕ) × P j)
+pub whether_found : (result : Bool) (test : ℕ → Bool) (P : ℕ → Type 0) (l : List ℕ) → ((j : ℕ) → IsTrue (test j) ↔ P j) → ((j : ℕ) → has_number j l ≡ test j)
+    → (IsTrue result → (k : ℕ) × IsTrue (has_number k l)) → (IsFalse result → l ≡ []) → IsTrue result ↔ ((j : ℕ) × P j)
 whether_found true test P l f same some none = let (k, h) = some refl in some_found test P k f (sym (same k) ∙ h)
-whether_found false test P l f same some none = none_found test P f (λ j. sym (same j) ∙ ap (is_reported j) (none refl))
+whether_found false test P l f same some none = none_found test P f (λ j. sym (same j) ∙ ap (has_number j) (none refl))

@@ -68,7 +68,7 @@ pub record AreFoundSets (m : Machine) (found : List Found) (lists : List ℕ) : 
 abbrev pub KeepsFound : List Found → List Found → Type 0
 KeepsFound old new = (length old ≤ length new) × ((i : ℕ) (f : Found) → slice_get old i ≡ Some f → slice_get new i ≡ Some f)
 
--- what is known of the parts of a construction
+-- what is known of the parts of a determinizer
 pub record IsBuilt (m : Machine) (classes : ByteClasses) (found : List Found) (lists rows : List ℕ) (accepting : StateSet) : Type 0 where
   pub sets : AreFoundSets m found lists
   pub cells : AreCells m classes.representatives classes.count found lists rows

@@ -4,11 +4,11 @@ use Rattle.byte_nfa.specs.Steps.{State}
 use Rattle.byte_nfa.specs.Equivalent.{AreEquivalent}
 
 -- each byte below the bound has one of the classes up to the last, and is read as the first byte of the class
-abbrev pub IsDivided : List State → List ℕ → List ℕ → ℕ → ℕ → Type 0
-IsDivided a class_of representatives last bound =
+abbrev pub AreEquivalenceClassesBelow : List State → List ℕ → List ℕ → ℕ → ℕ → Type 0
+AreEquivalenceClassesBelow a class_of representatives last bound =
     (b : ℕ) → b < bound → (slice_index class_of b ≤ last) × AreEquivalent a (slice_index representatives (slice_index class_of b)) b
 
 -- each byte has a class, and is read as the first byte of the class
-abbrev pub IsDivision : List State → List ℕ → List ℕ → ℕ → Type 0
-IsDivision a class_of representatives count =
+abbrev pub AreEquivalenceClasses : List State → List ℕ → List ℕ → ℕ → Type 0
+AreEquivalenceClasses a class_of representatives count =
     (b : ℕ) → b < 256 → (slice_index class_of b < count) × AreEquivalent a (slice_index representatives (slice_index class_of b)) b

@@ -1,6 +1,6 @@
 -- Lists of indexes, one after another in a list of numbers.
 use Rattle.std.specs.Prelude.{◌≡◌, ℕ, ◌+◌, ◌<◌, ◌≤◌, ◌↔◌, IsTrue, List, length, take, drop, slice_index}
-use Rattle.bit_sets.specs.Numbers.{is_reported}
+use Rattle.bit_sets.specs.Numbers.{has_number}
 
 -- a list stands as its length and then its indexes
 abbrev pub list_at : List ℕ → ℕ → List ℕ
@@ -14,7 +14,7 @@ pub record IsList (numbers : List ℕ) (n place : ℕ) : Type 0 where
 -- the list of the indexes below n for which a fact holds
 pub record IsListOf (numbers : List ℕ) (n place : ℕ) (P : ℕ → Type 0) : Type 0 where
   pub list : IsList numbers n place
-  pub has : (k : ℕ) → IsTrue (is_reported k (list_at numbers place)) ↔ ((k < n) × P k)
+  pub has : (k : ℕ) → IsTrue (has_number k (list_at numbers place)) ↔ ((k < n) × P k)
 
 -- lists stay as they are
 abbrev pub KeepsLists : List ℕ → List ℕ → Type 0

@@ -4,7 +4,7 @@ use Rattle.byte_nfa.specs.Runs.{HasLastBytes}
 use Rattle.byte_nfa.specs.Steps.{Machine, IsReached}
 use Rattle.bit_sets.specs.declared.byte_set.ByteSet.{ByteSet}
 use Rattle.bit_sets.specs.Texts.{AllBytes}
-use Rattle.bit_sets.specs.Numbers.{is_reported}
+use Rattle.bit_sets.specs.Numbers.{has_number}
 use Rattle.byte_dfa.specs.inner.Lists.{list_at, IsList}
 
 -- A state is the place where its row begins. The row has an entry for each class of bytes, and the places of two lists: of
@@ -48,12 +48,12 @@ at_end d s = list_at d.lists (slice_index d.next (s + d.width + 1))
 
 -- whether an index is found after the state was entered
 abbrev pub later : Table → ℕ → List ℕ → ℕ → Bool
-later d s [] k = is_reported k (at_end d s)
-later d s (b ∷ y) k = is_reported k (on_entry d (after d s b)) || later d (after d s b) y k
+later d s [] k = has_number k (at_end d s)
+later d s (b ∷ y) k = has_number k (on_entry d (after d s b)) || later d (after d s b) y k
 
 -- whether an index is found from a state on, its entry included
 abbrev pub finds_from : Table → ℕ → List ℕ → ℕ → Bool
-finds_from d s y k = is_reported k (on_entry d s) || later d s y k
+finds_from d s y k = has_number k (on_entry d s) || later d s y k
 
 abbrev pub finds : Table → List ℕ → ℕ → Bool
 finds d y k = finds_from d d.start y k

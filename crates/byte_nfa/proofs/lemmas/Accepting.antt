@@ -4,24 +4,24 @@ use Rattle.std.specs.Prelude.{◌↔◌, ◌==◌}
 use Rattle.std.proofs.lemmas.Bool.{cases_lt, or_cases, eqb-true}
 use Rattle.std.proofs.Math.Logic.{⊎_elim}
 use Rattle.byte_nfa.specs.Steps.{State, state, Accepts}
-use Rattle.bit_sets.specs.Numbers.{is_reported}
+use Rattle.bit_sets.specs.Numbers.{has_number}
 use Rattle.byte_nfa.specs.inner.Pass.{EndsBy}
 use Rattle.byte_nfa.specs.inner.Views.{GoesBelow}
 use Rattle.byte_nfa.proofs.lemmas.Pass.{Step, step_there, step_back, goes_below_later, or_first, or_second}
 
 -- the places of a list
 
-pub listed_at : (xs : List ℕ) (i : ℕ) → i < length xs → is_reported (slice_index xs i) xs ≡ true
+pub listed_at : (xs : List ℕ) (i : ℕ) → i < length xs → has_number (slice_index xs i) xs ≡ true
 listed_at [] i lt = absurd (omega arith)
-listed_at (x ∷ xs) zero lt = or_first (x == x) (is_reported x xs) (eq-eqb x x refl)
-listed_at (x ∷ xs) (suc i) lt = or_second (slice_index xs i == x) (is_reported (slice_index xs i) xs) (listed_at xs i (omega arith))
+listed_at (x ∷ xs) zero lt = or_first (x == x) (has_number x xs) (eq-eqb x x refl)
+listed_at (x ∷ xs) (suc i) lt = or_second (slice_index xs i == x) (has_number (slice_index xs i) xs) (listed_at xs i (omega arith))
 
-pub listed_place : (t : ℕ) (xs : List ℕ) → is_reported t xs ≡ true → (j : ℕ) × (j < length xs) × (t ≡ slice_index xs j)
+pub listed_place : (t : ℕ) (xs : List ℕ) → has_number t xs ≡ true → (j : ℕ) × (j < length xs) × (t ≡ slice_index xs j)
 listed_place t [] h = absurd (true≢false (sym h))
 listed_place t (x ∷ xs) h = ⊎_elim {C = (j : ℕ) × (j < suc (length xs)) × (t ≡ slice_index (x ∷ xs) j)}
     (λ here. (0, omega arith, eqb-true t x here))
     (λ later. let (j, lt, is) = listed_place t xs later in (suc j, omega arith, is))
-    (or_cases (t == x) (is_reported t xs) h)
+    (or_cases (t == x) (has_number t xs) h)
 
 module _ (a : List State) where
   abbrev pub LeadsToEnd : ℕ → Type 0

@@ -7,7 +7,7 @@ use Rattle.std.proofs.Math.Logic.{⊎_elim}
 use Rattle.bit_sets.specs.declared.byte_set.ByteSet.{ByteSet}
 use Rattle.byte_nfa.specs.declared.state.State as declared
 use Rattle.byte_nfa.specs.declared.state.State.TheVariants.{Match}
-use Rattle.byte_nfa.specs.Steps.{State, reads, skips, stays, final, state, Machine}
+use Rattle.byte_nfa.specs.Steps.{State, bytes_state, union_state, loop_state, match_state, state, Machine}
 use Rattle.byte_nfa.specs.EarlyMatches.{Decides, IsAtEarlyMatch, EndsAtEarlyMatches}
 use Rattle.byte_nfa.specs.inner.Exits.{StaysBefore}
 use Rattle.byte_nfa.specs.inner.Views.{of_state, of_states, GoesBelow, NamesBelow, AreSound, machine}
@@ -20,23 +20,23 @@ pub always_matches_none : (a : List State) (s : ℕ) (st : State) → state a s 
 always_matches_none a s st is none k (w, t, e, every, f) = none t (w, sym is ∙ e, every)
 
 pub always_matches_by : (a : List State) (n s t : ℕ) (st : State) (o : Option ℕ) → state a s ≡ st → StaysBefore st t
-    → MatchOption o ((k : ℕ) → state a t ≡ final k → ⊥) (λ k. (state a t ≡ final k) × (k < n))
+    → MatchOption o ((k : ℕ) → state a t ≡ match_state k → ⊥) (λ k. (state a t ≡ match_state k) × (k < n))
     → MatchOption o ((k : ℕ) → Decides a s k → ⊥) (λ k. Decides a s k × (k < n))
 always_matches_by a n s t st (Some k) is (w, e, every) (f, lt) = ((w, t, is ∙ e, every, f), lt)
 always_matches_by a n s t st None is (w, e, every) none = λ k (w', t', e', every', f').
     let same : t' ≡ t = other w w' t t' (sym e ∙ sym is ∙ e') in
-    none k (subst (λ u. state a u ≡ final k) same f')
+    none k (subst (λ u. state a u ≡ match_state k) same f')
   where
-    other : (v v' : ByteSet) (u u' : ℕ) → stays v (u ∷ []) ≡ stays v' (u' ∷ []) → u' ≡ u
+    other : (v v' : ByteSet) (u u' : ℕ) → loop_state v (u ∷ []) ≡ loop_state v' (u' ∷ []) → u' ≡ u
     other v v' u u' h = cc
 
 -- the list of states with one more
 
 named_more : (n m : ℕ) (st : State) → n ≤ m → NamesBelow n st → NamesBelow m st
-named_more n m (reads w t) le h = tt
-named_more n m (skips us) le h = tt
-named_more n m (stays w us) le h = tt
-named_more n m (final k) le h = omega arith
+named_more n m (bytes_state w t) le h = tt
+named_more n m (union_state us) le h = tt
+named_more n m (loop_state w us) le h = tt
+named_more n m (match_state k) le h = omega arith
 
 pub each_next : (P : ℕ → State → Type 0) (sets : List ByteSet) (targets : List ℕ) (xs : List declared.State) (x : declared.State)
     → ((s : ℕ) → s < length xs → P s (state (of_states sets targets xs) s)) → P (length xs) (of_state sets targets x)
@@ -74,7 +74,7 @@ module _ (m : Machine) (sets : List ByteSet) (targets : List ℕ) (states : List
   pub decided_more : (k : ℕ) → Decides m.states s k → k < m.index_count → AreEarlyMatches m sets targets (xs ++ Match (n + k) ∷ []) (s + 1)
   decided_more k always_matches lt =
       let same : n ≡ m.index_count = count in
-      one_more (Match (n + k)) (sound_push sets targets xs (Match (n + k)) [] (m.index_count * 2) so_far.sound tt tt (omega arith)) (inl (k, always_matches, ap (λ j. final (j + k)) count))
+      one_more (Match (n + k)) (sound_push sets targets xs (Match (n + k)) [] (m.index_count * 2) so_far.sound tt tt (omega arith)) (inl (k, always_matches, ap (λ j. match_state (j + k)) count))
 
   -- the next state as it is
   pub same_more : (x : declared.State) → s < length states → x ≡ get_or states s x → ((k : ℕ) → Decides m.states s k → ⊥) → AreEarlyMatches m sets targets (xs ++ x ∷ []) (s + 1)
@@ -101,10 +101,10 @@ all_decisions m new sets targets xs starts is begun len each named = subst (Ends
 }
   where
     none : (s k : ℕ) → length m.states ≤ s → Decides m.states s k → ⊥
-    none s k past (w, t, e, every, f) = let other : skips [] ≡ stays w (t ∷ []) = sym (get_or_past m.states s (skips []) past) ∙ e in cc
+    none s k past (w, t, e, every, f) = let other : union_state [] ≡ loop_state w (t ∷ []) = sym (get_or_past m.states s (union_state []) past) ∙ e in cc
 
     at : (s : ℕ) → IsAtEarlyMatch m.states m.index_count s (state (of_states sets targets xs) s)
     at s = ⊎_elim {C = IsAtEarlyMatch m.states m.index_count s (state (of_states sets targets xs) s)}
         (λ low. each s low)
-        (λ past. inr (λ k. none s k (omega arith), get_or_past (of_states sets targets xs) s (skips []) (omega (arith, length-map xs (of_state sets targets))) ∙ sym (get_or_past m.states s (skips []) (omega arith))))
+        (λ past. inr (λ k. none s k (omega arith), get_or_past (of_states sets targets xs) s (union_state []) (omega (arith, length-map xs (of_state sets targets))) ∙ sym (get_or_past m.states s (union_state []) (omega arith))))
         (cases_lt s (length xs))

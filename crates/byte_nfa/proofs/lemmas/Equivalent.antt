@@ -4,7 +4,7 @@ use Rattle.std.specs.Prelude.{◌↔◌, IsFalse}
 use Rattle.bit_sets.specs.declared.byte_set.ByteSet.{ByteSet}
 use Rattle.bit_sets.specs.declared.state_set.StateSet.{StateSet}
 use Rattle.bit_sets.specs.Bytes.{has_byte, differ}
-use Rattle.byte_nfa.specs.Steps.{State, reads, stays, state, Machine, Accepts, ends, by_byte, by_skip, by_out, by_stay}
+use Rattle.byte_nfa.specs.Steps.{State, bytes_state, loop_state, state, Machine, Accepts, ends, by_byte, by_skip, by_out, by_stay}
 use Rattle.byte_nfa.specs.Runs.{AcceptsFrom}
 use Rattle.byte_nfa.specs.Equivalent.{reads_byte, AreEquivalent}
 use Rattle.byte_nfa.specs.inner.Views.{set_at, of_state, of_states, IsHeld, AreHeld}
@@ -48,12 +48,12 @@ module _ (a : List State) (k b c : ℕ) (z : List ℕ) (equivalent : AreEquivale
   accepts_equivalent s y (ends s' e) is = absurd cc
   accepts_equivalent s y (by_byte s' t d x w e has rest) is =
       let same : d ≡ b = cc in let others : x ≡ z = cc in
-      by_byte s' t c z w e (has_equivalent s' (reads w t) w e (λ u. refl) (subst (λ u. IsTrue (has_byte w u)) same has)) (subst (Accepts a k t) others rest)
+      by_byte s' t c z w e (has_equivalent s' (bytes_state w t) w e (λ u. refl) (subst (λ u. IsTrue (has_byte w u)) same has)) (subst (Accepts a k t) others rest)
   accepts_equivalent s y (by_skip s' t x ts e m rest) is = by_skip s' t (c ∷ z) ts e m (accepts_equivalent t x rest is)
   accepts_equivalent s y (by_out s' t x w ts e m rest) is = by_out s' t (c ∷ z) w ts e m (accepts_equivalent t x rest is)
   accepts_equivalent s y (by_stay s' d x w ts e has rest) is =
       let same : d ≡ b = cc in let others : x ≡ z = cc in
-      by_stay s' c z w ts e (has_equivalent s' (stays w ts) w e (λ u. refl) (subst (λ u. IsTrue (has_byte w u)) same has)) (subst (Accepts a k s') others rest)
+      by_stay s' c z w ts e (has_equivalent s' (loop_state w ts) w e (λ u. refl) (subst (λ u. IsTrue (has_byte w u)) same has)) (subst (Accepts a k s') others rest)
 
 pub from_equivalent : (m : Machine) (set : StateSet) (b c : ℕ) (z : List ℕ) (k : ℕ) → AreEquivalent m.states b c → AcceptsFrom m set (b ∷ z) k ↔ AcceptsFrom m set (c ∷ z) k
 from_equivalent m set b c z k equivalent = (

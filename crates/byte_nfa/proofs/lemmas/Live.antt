@@ -12,14 +12,14 @@ use Rattle.bit_sets.specs.declared.byte_set.ByteSet.{ByteSet}
 use Rattle.byte_nfa.proofs.lemmas.Pass.{Step, step_there, step_back, goes_below_later, and_both, and_first, and_second}
 use Rattle.std.proofs.lemmas.Bool.{eqb-true}
 use Rattle.bit_sets.specs.Bytes.{has_byte}
-use Rattle.byte_nfa.specs.Steps.{reads, skips, stays, final}
+use Rattle.byte_nfa.specs.Steps.{bytes_state, union_state, loop_state, match_state}
 
 -- a byte leads to a lower state, or stays
 lower_or_same : (s c t : ℕ) (st : State) → GoesBelow s st → IsTrue (goes_next st s (Some c) t) → t < s + 1
-lower_or_same s c t (reads w u) below go = let same : t ≡ u = eqb-true t u (and_second (has_byte w c) (t == u) go) in omega (arith, below)
-lower_or_same s c t (skips us) below go = absurd (true≢false (sym go))
-lower_or_same s c t (stays w us) below go = let same : t ≡ s = eqb-true t s (and_second (has_byte w c) (t == s) go) in omega arith
-lower_or_same s c t (final j) below go = absurd (true≢false (sym go))
+lower_or_same s c t (bytes_state w u) below go = let same : t ≡ u = eqb-true t u (and_second (has_byte w c) (t == u) go) in omega (arith, below)
+lower_or_same s c t (union_state us) below go = absurd (true≢false (sym go))
+lower_or_same s c t (loop_state w us) below go = let same : t ≡ s = eqb-true t s (and_second (has_byte w c) (t == s) go) in omega arith
+lower_or_same s c t (match_state j) below go = absurd (true≢false (sym go))
 
 -- a byte after a text, and what follows
 pub after_byte : (text rest : List ℕ) (b : ℕ) → (text ++ b ∷ []) ++ rest ≡ text ++ b ∷ rest
@@ -28,13 +28,13 @@ after_byte (x ∷ xs) rest b = ap (λ l. x ∷ l) (after_byte xs rest b)
 
 -- a state that reads leads on by each of its bytes, if the next state is in the set
 pub reads_lead : {Some : Type 0} (w : ByteSet) (u s : ℕ) (live : ℕ → Bool) → IsTrue (live u) → u < s → Some ↔ ((c : ℕ) × (c < 256) × IsTrue (has_byte w c))
-    → Some ↔ LeadsBy (reads w u) s live
+    → Some ↔ LeadsBy (bytes_state w u) s live
 reads_lead w u s live at lt some = (
   λ h. let (c, byte, has) = some.0 h in inr (c, u, byte, lt, and_both (has_byte w c) (u == u) has (eq-eqb u u refl), at),
   λ h. some.1 (there h),
 )
   where
-    there : LeadsBy (reads w u) s live → (c : ℕ) × (c < 256) × IsTrue (has_byte w c)
+    there : LeadsBy (bytes_state w u) s live → (c : ℕ) × (c < 256) × IsTrue (has_byte w c)
     there (inl (inl (k, is))) = absurd (true≢false (sym is))
     there (inl (inr (t, go, h))) = absurd (true≢false (sym go))
     there (inr (c, t, byte, below, go, h)) = (c, byte, and_first (has_byte w c) (t == u) go)

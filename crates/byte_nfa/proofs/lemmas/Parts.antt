@@ -4,7 +4,7 @@ use Rattle.std.specs.Prelude.{◌↔◌}
 use Rattle.std.proofs.lemmas.Bool.{cases_lt}
 use Rattle.std.proofs.Math.Logic.{⊎_elim}
 use Rattle.bit_sets.specs.declared.byte_set.ByteSet.{ByteSet}
-use Rattle.byte_nfa.specs.Steps.{State, reads, skips, stays, final, state, Machine, IsIn, Accepts, ends, by_byte, by_skip, by_out, by_stay}
+use Rattle.byte_nfa.specs.Steps.{State, bytes_state, union_state, loop_state, match_state, state, Machine, HasNumber, Accepts, ends, by_byte, by_skip, by_out, by_stay}
 use Rattle.bit_sets.specs.Numbers.{AreBelow, AreFrom}
 use Rattle.byte_nfa.specs.Building.{Pushes}
 use Rattle.byte_nfa.specs.Parts.{GoesFrom, IsPart}
@@ -15,22 +15,22 @@ use Rattle.byte_nfa.proofs.lemmas.Pushing.{pushed_last}
 
 -- lists of states
 
-is_from : (low s : ℕ) (us : List ℕ) → AreFrom low us → IsIn s us → low ≤ s
+is_from : (low s : ℕ) (us : List ℕ) → AreFrom low us → HasNumber s us → low ≤ s
 is_from low s [] from m = absurd m
 is_from low s (u ∷ us) from (inl e) = let h = from 0 (omega arith) in omega (arith, e)
 is_from low s (u ∷ us) from (inr m) = is_from low s us (λ i lt. from (suc i) (omega arith)) m
 
-is_below : (n s : ℕ) (us : List ℕ) → AreBelow n us → IsIn s us → s < n
+is_below : (n s : ℕ) (us : List ℕ) → AreBelow n us → HasNumber s us → s < n
 is_below n s [] below m = absurd m
 is_below n s (u ∷ us) below (inl e) = let h = below 0 (omega arith) in omega (arith, e)
 is_below n s (u ∷ us) below (inr m) = is_below n s us (λ i lt. below (suc i) (omega arith)) m
 
-in_lowered : (low s : ℕ) (us : List ℕ) → IsIn s us → IsIn (s - low) (all_lowered low us)
+in_lowered : (low s : ℕ) (us : List ℕ) → HasNumber s us → HasNumber (s - low) (all_lowered low us)
 in_lowered low s [] m = absurd m
 in_lowered low s (u ∷ us) (inl e) = inl (ap (λ x. x - low) e)
 in_lowered low s (u ∷ us) (inr m) = inr (in_lowered low s us m)
 
-in_raised : (low t : ℕ) (us : List ℕ) → AreFrom low us → IsIn t (all_lowered low us) → IsIn (low + t) us
+in_raised : (low t : ℕ) (us : List ℕ) → AreFrom low us → HasNumber t (all_lowered low us) → HasNumber (low + t) us
 in_raised low t [] from m = absurd m
 in_raised low t (u ∷ us) from (inl e) = let h = from 0 (omega arith) in inl (omega (arith, e))
 in_raised low t (u ∷ us) from (inr m) = inr (in_raised low t us (λ i lt. from (suc i) (omega arith)) m)
@@ -45,32 +45,32 @@ lowered_below low n us vs is from below = rw is (each us from below)
 
 -- the state before its numbers were lowered
 
-end_before : (low k : ℕ) (st : State) → lowered low st ≡ final k → st ≡ final k
-end_before low k (reads w t) e = absurd (let no : reads w (t - low) ≡ final k = e in cc)
-end_before low k (skips us) e = absurd (let no : skips (all_lowered low us) ≡ final k = e in cc)
-end_before low k (stays w us) e = absurd (let no : stays w (all_lowered low us) ≡ final k = e in cc)
-end_before low k (final j) e = e
+end_before : (low k : ℕ) (st : State) → lowered low st ≡ match_state k → st ≡ match_state k
+end_before low k (bytes_state w t) e = absurd (let no : bytes_state w (t - low) ≡ match_state k = e in cc)
+end_before low k (union_state us) e = absurd (let no : union_state (all_lowered low us) ≡ match_state k = e in cc)
+end_before low k (loop_state w us) e = absurd (let no : loop_state w (all_lowered low us) ≡ match_state k = e in cc)
+end_before low k (match_state j) e = e
 
-read_before : (low t : ℕ) (w : ByteSet) (st : State) → GoesFrom low st → lowered low st ≡ reads w t → st ≡ reads w (low + t)
-read_before low t w (reads v u) from e = let set : v ≡ w = cc in let is : u - low ≡ t = cc in let at : u ≡ low + t = omega (arith, is) in cc
-read_before low t w (skips us) from e = absurd (let no : skips (all_lowered low us) ≡ reads w t = e in cc)
-read_before low t w (stays v us) from e = absurd (let no : stays v (all_lowered low us) ≡ reads w t = e in cc)
-read_before low t w (final j) from e = absurd (let no : final j ≡ reads w t = e in cc)
+read_before : (low t : ℕ) (w : ByteSet) (st : State) → GoesFrom low st → lowered low st ≡ bytes_state w t → st ≡ bytes_state w (low + t)
+read_before low t w (bytes_state v u) from e = let set : v ≡ w = cc in let is : u - low ≡ t = cc in let at : u ≡ low + t = omega (arith, is) in cc
+read_before low t w (union_state us) from e = absurd (let no : union_state (all_lowered low us) ≡ bytes_state w t = e in cc)
+read_before low t w (loop_state v us) from e = absurd (let no : loop_state v (all_lowered low us) ≡ bytes_state w t = e in cc)
+read_before low t w (match_state j) from e = absurd (let no : match_state j ≡ bytes_state w t = e in cc)
 
-skip_before : (low : ℕ) (ts : List ℕ) (st : State) → lowered low st ≡ skips ts → (us : List ℕ) × (st ≡ skips us) × (ts ≡ all_lowered low us)
-skip_before low ts (reads v u) e = absurd (let no : reads v (u - low) ≡ skips ts = e in cc)
-skip_before low ts (skips us) e = (us, refl, let f : skips (all_lowered low us) ≡ skips ts = e in cc)
-skip_before low ts (stays v us) e = absurd (let no : stays v (all_lowered low us) ≡ skips ts = e in cc)
-skip_before low ts (final j) e = absurd (let no : final j ≡ skips ts = e in cc)
+skip_before : (low : ℕ) (ts : List ℕ) (st : State) → lowered low st ≡ union_state ts → (us : List ℕ) × (st ≡ union_state us) × (ts ≡ all_lowered low us)
+skip_before low ts (bytes_state v u) e = absurd (let no : bytes_state v (u - low) ≡ union_state ts = e in cc)
+skip_before low ts (union_state us) e = (us, refl, let f : union_state (all_lowered low us) ≡ union_state ts = e in cc)
+skip_before low ts (loop_state v us) e = absurd (let no : loop_state v (all_lowered low us) ≡ union_state ts = e in cc)
+skip_before low ts (match_state j) e = absurd (let no : match_state j ≡ union_state ts = e in cc)
 
-stay_before : (low : ℕ) (w : ByteSet) (ts : List ℕ) (st : State) → lowered low st ≡ stays w ts → (us : List ℕ) × (st ≡ stays w us) × (ts ≡ all_lowered low us)
-stay_before low w ts (reads v u) e = absurd (let no : reads v (u - low) ≡ stays w ts = e in cc)
-stay_before low w ts (skips us) e = absurd (let no : skips (all_lowered low us) ≡ stays w ts = e in cc)
-stay_before low w ts (stays v us) e =
-    let f : stays v (all_lowered low us) ≡ stays w ts = e in
+stay_before : (low : ℕ) (w : ByteSet) (ts : List ℕ) (st : State) → lowered low st ≡ loop_state w ts → (us : List ℕ) × (st ≡ loop_state w us) × (ts ≡ all_lowered low us)
+stay_before low w ts (bytes_state v u) e = absurd (let no : bytes_state v (u - low) ≡ loop_state w ts = e in cc)
+stay_before low w ts (union_state us) e = absurd (let no : union_state (all_lowered low us) ≡ loop_state w ts = e in cc)
+stay_before low w ts (loop_state v us) e =
+    let f : loop_state v (all_lowered low us) ≡ loop_state w ts = e in
     let set : v ≡ w = cc in
-    (us, ap (λ x. stays x us) set, cc)
-stay_before low w ts (final j) e = absurd (let no : final j ≡ stays w ts = e in cc)
+    (us, ap (λ x. loop_state x us) set, cc)
+stay_before low w ts (match_state j) e = absurd (let no : match_state j ≡ loop_state w ts = e in cc)
 
 -- what is known of the states of a part that were pushed so far
 pub record AreLowered (whole part : Machine) (low : ℕ) : Type 0 where
@@ -125,12 +125,12 @@ module _ (whole part : Machine) (low : ℕ) (made : AreLowered whole part low) (
       by_byte s (low + u) c z w before has (to_whole (low + u) u z refl (omega (arith, is)) rest)
   to_whole s t y is lt (by_skip t' u z ts e m rest) =
       let (us, before, low_is) = skip_before low ts (state whole.states s) (sym (made.each s t is lt) ∙ e) in
-      let at = in_raised low u us (subst (GoesFrom low) before (made.from s t is lt)) (subst (IsIn u) low_is m) in
+      let at = in_raised low u us (subst (GoesFrom low) before (made.from s t is lt)) (subst (HasNumber u) low_is m) in
       let below : low + u < s = is_below s (low + u) us (subst (GoesBelow s) before (down s)) at in
       by_skip s (low + u) z us before at (to_whole (low + u) u z refl (omega (arith, is)) rest)
   to_whole s t y is lt (by_out t' u z w ts e m rest) =
       let (us, before, low_is) = stay_before low w ts (state whole.states s) (sym (made.each s t is lt) ∙ e) in
-      let at = in_raised low u us (subst (GoesFrom low) before (made.from s t is lt)) (subst (IsIn u) low_is m) in
+      let at = in_raised low u us (subst (GoesFrom low) before (made.from s t is lt)) (subst (HasNumber u) low_is m) in
       let below : low + u < s = is_below s (low + u) us (subst (GoesBelow s) before (down s)) at in
       by_out s (low + u) z w us before at (to_whole (low + u) u z refl (omega (arith, is)) rest)
   to_whole s t y is lt (by_stay t' c z w ts e has rest) =
@@ -139,7 +139,7 @@ module _ (whole part : Machine) (low : ℕ) (made : AreLowered whole part low) (
 
 pub is_part : (whole part : Machine) (low high : ℕ) → AreLowered whole part low → ((s : ℕ) → GoesBelow s (state whole.states s))
     → low + size part ≡ high → part.index_count ≡ whole.index_count
-    → ((t : ℕ) → IsIn t part.starts ↔ ((low + t < high) × IsIn (low + t) whole.starts))
+    → ((t : ℕ) → HasNumber t part.starts ↔ ((low + t < high) × HasNumber (low + t) whole.starts))
     → IsPart whole low high part
 is_part whole part low high made down len count begins = record {
   len = len;
@@ -150,27 +150,27 @@ is_part whole part low high made down len count begins = record {
         (low + t, at, omega arith, lt, to_whole whole part low made down k (low + t) t y refl (omega (arith, len)) h),
     λ (s, at, from, lt, h).
         let is : s ≡ low + (s - low) = omega arith in
-        (s - low, (begins (s - low)).1 (omega arith, subst (λ x. IsIn x whole.starts) is at), to_part whole part low made down k s (s - low) y (sym is) (omega (arith, len)) h),
+        (s - low, (begins (s - low)).1 (omega arith, subst (λ x. HasNumber x whole.starts) is at), to_part whole part low made down k s (s - low) y (sym is) (omega (arith, len)) h),
   );
 }
 
 -- starts that are added
 
-in_push : (s x : ℕ) (xs : List ℕ) → IsIn s (xs ++ x ∷ []) ↔ (IsIn s xs ⊎ (s ≡ x))
-in_push s x [] = (λ h. ⊎_elim {C = IsIn s [] ⊎ (s ≡ x)} (λ e. inr e) (λ no. absurd no) h, λ h. ⊎_elim {C = IsIn s (x ∷ [])} (λ no. absurd no) (λ e. inl e) h)
+in_push : (s x : ℕ) (xs : List ℕ) → HasNumber s (xs ++ x ∷ []) ↔ (HasNumber s xs ⊎ (s ≡ x))
+in_push s x [] = (λ h. ⊎_elim {C = HasNumber s [] ⊎ (s ≡ x)} (λ e. inr e) (λ no. absurd no) h, λ h. ⊎_elim {C = HasNumber s (x ∷ [])} (λ no. absurd no) (λ e. inl e) h)
 in_push s x (y ∷ ys) =
     let rest = in_push s x ys in (
-      λ h. ⊎_elim {C = IsIn s (y ∷ ys) ⊎ (s ≡ x)} (λ e. inl (inl e)) (λ m. ⊎_elim {C = IsIn s (y ∷ ys) ⊎ (s ≡ x)} (λ at. inl (inr at)) (λ e. inr e) (rest.0 m)) h,
-      λ h. ⊎_elim {C = IsIn s (y ∷ ys ++ x ∷ [])}
-          (λ m. ⊎_elim {C = IsIn s (y ∷ ys ++ x ∷ [])} (λ e. inl e) (λ at. inr (rest.1 (inl at))) m)
+      λ h. ⊎_elim {C = HasNumber s (y ∷ ys) ⊎ (s ≡ x)} (λ e. inl (inl e)) (λ m. ⊎_elim {C = HasNumber s (y ∷ ys) ⊎ (s ≡ x)} (λ at. inl (inr at)) (λ e. inr e) (rest.0 m)) h,
+      λ h. ⊎_elim {C = HasNumber s (y ∷ ys ++ x ∷ [])}
+          (λ m. ⊎_elim {C = HasNumber s (y ∷ ys ++ x ∷ [])} (λ e. inl e) (λ at. inr (rest.1 (inl at))) m)
           (λ e. inr (rest.1 (inr e))) h,
     )
 
 -- the starts so far are those before, and those of the list that lie in the range, lowered
 abbrev pub AreAdded : ℕ → ℕ → List ℕ → List ℕ → List ℕ → Type 0
-AreAdded low high before list now = (s : ℕ) → IsIn s now ↔ (IsIn s before ⊎ ((low + s < high) × IsIn (low + s) list))
+AreAdded low high before list now = (s : ℕ) → HasNumber s now ↔ (HasNumber s before ⊎ ((low + s < high) × HasNumber (low + s) list))
 
-pub only_added : {P : Type 0} (s : ℕ) (now : List ℕ) → IsIn s now ↔ (IsIn s [] ⊎ P) → IsIn s now ↔ P
+pub only_added : {P : Type 0} (s : ℕ) (now : List ℕ) → HasNumber s now ↔ (HasNumber s [] ⊎ P) → HasNumber s now ↔ P
 only_added {P = P} s now h = (λ m. ⊎_elim {C = P} (λ no. absurd no) (λ p. p) (h.0 m), λ p. h.1 (inr p))
 
 pub added_more : (low high x : ℕ) (before list now : List ℕ) → low ≤ x → x < high → AreAdded low high before list now
@@ -178,13 +178,13 @@ pub added_more : (low high x : ℕ) (before list now : List ℕ) → low ≤ x �
 added_more low high x before list now from lt added s =
     let there = in_push s (x - low) now in
     let listed = in_push (low + s) x list in (
-      λ h. ⊎_elim {C = IsIn s before ⊎ ((low + s < high) × IsIn (low + s) (list ++ x ∷ []))}
-          (λ m. ⊎_elim {C = IsIn s before ⊎ ((low + s < high) × IsIn (low + s) (list ++ x ∷ []))} (λ old. inl old) (λ (lt', at). inr (lt', listed.1 (inl at))) ((added s).0 m))
+      λ h. ⊎_elim {C = HasNumber s before ⊎ ((low + s < high) × HasNumber (low + s) (list ++ x ∷ []))}
+          (λ m. ⊎_elim {C = HasNumber s before ⊎ ((low + s < high) × HasNumber (low + s) (list ++ x ∷ []))} (λ old. inl old) (λ (lt', at). inr (lt', listed.1 (inl at))) ((added s).0 m))
           (λ e. let is : low + s ≡ x = omega (arith, e) in inr (omega arith, listed.1 (inr is)))
           (there.0 h),
-      λ h. ⊎_elim {C = IsIn s (now ++ (x - low) ∷ [])}
+      λ h. ⊎_elim {C = HasNumber s (now ++ (x - low) ∷ [])}
           (λ old. there.1 (inl ((added s).1 (inl old))))
-          (λ (lt', at). ⊎_elim {C = IsIn s (now ++ (x - low) ∷ [])} (λ m. there.1 (inl ((added s).1 (inr (lt', m))))) (λ e. there.1 (inr (omega (arith, e)))) (listed.0 at))
+          (λ (lt', at). ⊎_elim {C = HasNumber s (now ++ (x - low) ∷ [])} (λ m. there.1 (inl ((added s).1 (inr (lt', m))))) (λ e. there.1 (inr (omega (arith, e)))) (listed.0 at))
           h,
     )
 
@@ -192,7 +192,7 @@ pub added_same : (low high x : ℕ) (before list now : List ℕ) → (low ≤ x 
     → AreAdded low high before (list ++ x ∷ []) now
 added_same low high x before list now out added s =
     let listed = in_push (low + s) x list in (
-      λ m. ⊎_elim {C = IsIn s before ⊎ ((low + s < high) × IsIn (low + s) (list ++ x ∷ []))} (λ old. inl old) (λ (lt', at). inr (lt', listed.1 (inl at))) ((added s).0 m),
-      λ h. (added s).1 (⊎_elim {C = IsIn s before ⊎ ((low + s < high) × IsIn (low + s) list)} (λ old. inl old)
-          (λ (lt', at). ⊎_elim {C = IsIn s before ⊎ ((low + s < high) × IsIn (low + s) list)} (λ m. inr (lt', m)) (λ e. absurd (out (omega (arith, e)) (omega (arith, e)))) (listed.0 at)) h),
+      λ m. ⊎_elim {C = HasNumber s before ⊎ ((low + s < high) × HasNumber (low + s) (list ++ x ∷ []))} (λ old. inl old) (λ (lt', at). inr (lt', listed.1 (inl at))) ((added s).0 m),
+      λ h. (added s).1 (⊎_elim {C = HasNumber s before ⊎ ((low + s < high) × HasNumber (low + s) list)} (λ old. inl old)
+          (λ (lt', at). ⊎_elim {C = HasNumber s before ⊎ ((low + s < high) × HasNumber (low + s) list)} (λ m. inr (lt', m)) (λ e. absurd (out (omega (arith, e)) (omega (arith, e)))) (listed.0 at)) h),
     )

@@ -5,8 +5,8 @@ use Rattle.std.proofs.lemmas.Bool.{eqb-true, eq-eqb, or_cases, cases_lt}
 use Rattle.std.proofs.lemmas.List.{get_or_past}
 use Rattle.std.proofs.Math.Logic.{⊎_elim}
 use Rattle.bit_sets.specs.Bytes.{has_byte}
-use Rattle.byte_nfa.specs.Steps.{State, reads, skips, stays, final, state, IsIn, Accepts, ends, by_byte, by_skip, by_out, by_stay}
-use Rattle.bit_sets.specs.Numbers.{AreBelow, is_reported}
+use Rattle.byte_nfa.specs.Steps.{State, bytes_state, union_state, loop_state, match_state, state, HasNumber, Accepts, ends, by_byte, by_skip, by_out, by_stay}
+use Rattle.bit_sets.specs.Numbers.{AreBelow, has_number}
 use Rattle.byte_nfa.specs.inner.Views.{GoesBelow}
 use Rattle.byte_nfa.specs.inner.Pass.{head, goes_now, goes_next, names, AcceptsNow, AcceptsLater, Found, PassInvariant}
 
@@ -41,14 +41,14 @@ and_second false q h = absurd (true≢false (sym h))
 
 -- lists of states
 
-pub listed_in : (t : ℕ) (us : List ℕ) → is_reported t us ≡ true → IsIn t us
+pub listed_in : (t : ℕ) (us : List ℕ) → has_number t us ≡ true → HasNumber t us
 listed_in t [] e = absurd (true≢false (sym e))
-listed_in t (x ∷ xs) e = ⊎_elim {C = IsIn t (x ∷ xs)} (λ h. inl (eqb-true t x h)) (λ h. inr (listed_in t xs h)) (or_cases (t == x) (is_reported t xs) e)
+listed_in t (x ∷ xs) e = ⊎_elim {C = HasNumber t (x ∷ xs)} (λ h. inl (eqb-true t x h)) (λ h. inr (listed_in t xs h)) (or_cases (t == x) (has_number t xs) e)
 
-pub in_listed : (t : ℕ) (us : List ℕ) → IsIn t us → is_reported t us ≡ true
+pub in_listed : (t : ℕ) (us : List ℕ) → HasNumber t us → has_number t us ≡ true
 in_listed t [] h = absurd h
-in_listed t (x ∷ xs) (inl e) = or_first (t == x) (is_reported t xs) (eq-eqb t x e)
-in_listed t (x ∷ xs) (inr h) = or_second (t == x) (is_reported t xs) (in_listed t xs h)
+in_listed t (x ∷ xs) (inl e) = or_first (t == x) (has_number t xs) (eq-eqb t x e)
+in_listed t (x ∷ xs) (inr h) = or_second (t == x) (has_number t xs) (in_listed t xs h)
 
 module _ (a : List State) where
   abbrev pub Step : ℕ → List ℕ → ℕ → State → Type 0
@@ -64,31 +64,31 @@ module _ (a : List State) where
   step_there s k y (by_stay s' c z w ts e has rest) = rw e (inr (inl (c, z, s, refl, and_both (has_byte w c) (s == s) has (eq-eqb s s refl), rest)))
 
   pub step_back : (s k : ℕ) (y : List ℕ) (st : State) → state a s ≡ st → Step s y k st → Accepts a k s y
-  step_back s k y (reads w u) e (inl h) = absurd (true≢false (sym h.1))
-  step_back s k y (reads w u) e (inr (inl (c, z, t, cut, go, rest))) =
+  step_back s k y (bytes_state w u) e (inl h) = absurd (true≢false (sym h.1))
+  step_back s k y (bytes_state w u) e (inr (inl (c, z, t, cut, go, rest))) =
       let same : t ≡ u = eqb-true t u (and_second (has_byte w c) (t == u) go) in
       subst (Accepts a k s) (sym cut) (by_byte s u c z w e (and_first (has_byte w c) (t == u) go) (subst (λ x. Accepts a k x z) same rest))
-  step_back s k y (reads w u) e (inr (inr h)) = absurd (true≢false (sym h.1))
-  step_back s k y (skips us) e (inl (t, m, rest)) = by_skip s t y us e (listed_in t us m) rest
-  step_back s k y (skips us) e (inr (inl (c, z, t, cut, go, rest))) = absurd (true≢false (sym go))
-  step_back s k y (skips us) e (inr (inr h)) = absurd (true≢false (sym h.1))
-  step_back s k y (stays w us) e (inl (t, m, rest)) = by_out s t y w us e (listed_in t us m) rest
-  step_back s k y (stays w us) e (inr (inl (c, z, t, cut, go, rest))) =
+  step_back s k y (bytes_state w u) e (inr (inr h)) = absurd (true≢false (sym h.1))
+  step_back s k y (union_state us) e (inl (t, m, rest)) = by_skip s t y us e (listed_in t us m) rest
+  step_back s k y (union_state us) e (inr (inl (c, z, t, cut, go, rest))) = absurd (true≢false (sym go))
+  step_back s k y (union_state us) e (inr (inr h)) = absurd (true≢false (sym h.1))
+  step_back s k y (loop_state w us) e (inl (t, m, rest)) = by_out s t y w us e (listed_in t us m) rest
+  step_back s k y (loop_state w us) e (inr (inl (c, z, t, cut, go, rest))) =
       let same : t ≡ s = eqb-true t s (and_second (has_byte w c) (t == s) go) in
       subst (Accepts a k s) (sym cut) (by_stay s c z w us e (and_first (has_byte w c) (t == s) go) (subst (λ x. Accepts a k x z) same rest))
-  step_back s k y (stays w us) e (inr (inr h)) = absurd (true≢false (sym h.1))
-  step_back s k y (final j) e (inl h) = absurd (true≢false (sym h.1))
-  step_back s k y (final j) e (inr (inl (c, z, t, cut, go, rest))) = absurd (true≢false (sym go))
-  step_back s k y (final j) e (inr (inr (nil, is))) = subst (Accepts a k s) (sym nil) (ends s (e ∙ ap final (sym (eqb-true k j is))))
+  step_back s k y (loop_state w us) e (inr (inr h)) = absurd (true≢false (sym h.1))
+  step_back s k y (match_state j) e (inl h) = absurd (true≢false (sym h.1))
+  step_back s k y (match_state j) e (inr (inl (c, z, t, cut, go, rest))) = absurd (true≢false (sym go))
+  step_back s k y (match_state j) e (inr (inr (nil, is))) = subst (Accepts a k s) (sym nil) (ends s (e ∙ ap match_state (sym (eqb-true k j is))))
 
   -- a state that accepts a text is there
   pub accepts_within : (k s : ℕ) (y : List ℕ) → Accepts a k s y → s < length a
-  accepts_within k s y h = ⊎_elim {C = s < length a} (λ lt. lt) (λ past. absurd (nowhere (get_or_past a s (skips []) past) (step_there s k y h))) (cases_lt s (length a))
+  accepts_within k s y h = ⊎_elim {C = s < length a} (λ lt. lt) (λ past. absurd (nowhere (get_or_past a s (union_state []) past) (step_there s k y h))) (cases_lt s (length a))
     where
-      nowhere : state a s ≡ skips [] → Step s y k (state a s) → ⊥
+      nowhere : state a s ≡ union_state [] → Step s y k (state a s) → ⊥
       nowhere e step = none (subst (Step s y k) e step)
         where
-          none : Step s y k (skips []) → ⊥
+          none : Step s y k (union_state []) → ⊥
           none (inl (t, m, rest)) = true≢false (sym m)
           none (inr (inl (c, z, t, cut, go, rest))) = true≢false (sym go)
           none (inr (inr (nil, is))) = true≢false (sym is)
@@ -160,31 +160,31 @@ module _ (a : List State) where
       back (inl (t, lt, at, h)) = inl (t, omega arith, at, h)
       back (inr h) = inr h
 
-pub listed_below : (s t : ℕ) (us : List ℕ) → AreBelow s us → is_reported t us ≡ true → t < s
+pub listed_below : (s t : ℕ) (us : List ℕ) → AreBelow s us → has_number t us ≡ true → t < s
 listed_below s t [] h e = absurd (true≢false (sym e))
 listed_below s t (u ∷ us) h e = ⊎_elim {C = t < s}
     (λ is. let same : t ≡ u = eqb-true t u is in let first : u < s = h 0 (omega arith) in omega arith)
     (λ other. listed_below s t us (λ i lt. h (suc i) (omega arith)) other)
-    (or_cases (t == u) (is_reported t us) e)
+    (or_cases (t == u) (has_number t us) e)
 
 pub quiet_step : (st : State) (b k : ℕ) → false ≡ (names st (Some b) k || false)
-quiet_step (reads w u) b k = refl
-quiet_step (skips us) b k = refl
-quiet_step (stays w us) b k = refl
-quiet_step (final j) b k = refl
+quiet_step (bytes_state w u) b k = refl
+quiet_step (union_state us) b k = refl
+quiet_step (loop_state w us) b k = refl
+quiet_step (match_state j) b k = refl
 
 -- at the end of the text no byte is read
 pub stays_at_end : (st : State) (s t : ℕ) → false ≡ (goes_next st s None t || false)
-stays_at_end (reads w u) s t = refl
-stays_at_end (skips us) s t = refl
-stays_at_end (stays w us) s t = refl
-stays_at_end (final j) s t = refl
+stays_at_end (bytes_state w u) s t = refl
+stays_at_end (union_state us) s t = refl
+stays_at_end (loop_state w us) s t = refl
+stays_at_end (match_state j) s t = refl
 
 pub goes_below_later : (s : ℕ) (st : State) → GoesBelow s st → (t : ℕ) → IsTrue (goes_now st t) → t < s
-goes_below_later s (reads w u) h t e = absurd (true≢false (sym e))
-goes_below_later s (skips us) h t e = listed_below s t us h e
-goes_below_later s (stays w us) h t e = listed_below s t us h e
-goes_below_later s (final j) h t e = absurd (true≢false (sym e))
+goes_below_later s (bytes_state w u) h t e = absurd (true≢false (sym e))
+goes_below_later s (union_state us) h t e = listed_below s t us h e
+goes_below_later s (loop_state w us) h t e = listed_below s t us h e
+goes_below_later s (match_state j) h t e = absurd (true≢false (sym e))
 
 module _ (a : List State) where
   -- past the last state
@@ -252,7 +252,7 @@ module _ (a : List State) where
 
 -- what a state names at the end of the text
 
-pub names_it : (st : State) (k t : ℕ) (q : Bool) → st ≡ final k → ((t == k) || q) ≡ (names st None t || q)
+pub names_it : (st : State) (k t : ℕ) (q : Bool) → st ≡ match_state k → ((t == k) || q) ≡ (names st None t || q)
 names_it st k t q is = rw is refl
 
 pub names_none : (st : State) (t : ℕ) (q : Bool) → names st None t ≡ false → q ≡ (names st None t || q)

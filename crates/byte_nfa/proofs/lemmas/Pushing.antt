@@ -3,7 +3,7 @@ use Rattle.std.proofs.Common.{◌≡◌, ℕ, zero, suc, ◌+◌, ◌-◌, ◌<�
 use Rattle.std.proofs.lemmas.Bool.{cases_lt}
 use Rattle.std.proofs.lemmas.List.{length-map, length-append, map-append, get_or_append_left, get_or_push, get_or_past, length-drop, take-append-le, drop-append-le, take_all, append_assoc}
 use Rattle.std.proofs.Math.Seq.{drop-append_seam, get_or-append_seam}
-use Rattle.byte_nfa.specs.Steps.{State, reads, skips, stays, state, Machine}
+use Rattle.byte_nfa.specs.Steps.{State, bytes_state, union_state, loop_state, state, Machine}
 use Rattle.bit_sets.specs.Numbers.{AreBelow}
 use Rattle.byte_nfa.specs.Building.{Pushes}
 use Rattle.byte_nfa.specs.inner.Views.{exits_at, of_state, of_states, IsHeld, AreHeld, GoesBelow, NamesBelow, AreSound, machine}
@@ -15,10 +15,10 @@ use Rattle.byte_nfa.specs.declared.state.State.TheVariants.{Bytes, Union, Loop, 
 -- lists of states
 
 pub pushed_last : (old : List State) (st : State) → state (old ++ st ∷ []) (length old) ≡ st
-pushed_last old st = get_or_push old st (skips []) (length old) refl
+pushed_last old st = get_or_push old st (union_state []) (length old) refl
 
 pub pushed_before : (old : List State) (st : State) (s : ℕ) → s < length old → state (old ++ st ∷ []) s ≡ state old s
-pushed_before old st s h = get_or_append_left old (st ∷ []) (skips []) s h
+pushed_before old st s h = get_or_append_left old (st ∷ []) (union_state []) s h
 
 pub pushes : (old new : Machine) (st : State) → new.states ≡ old.states ++ st ∷ [] → new.starts ≡ old.starts → new.index_count ≡ old.index_count
     → Pushes old new (length old.states) st
@@ -34,14 +34,14 @@ pushes old new st is starts count =
     }
 
 -- a fact of each number, for the states with one more
-pub each_pushed : (P : ℕ → State → Type 0) (old : List State) (st : State) → ((s : ℕ) → P s (state old s)) → P (length old) st → ((s : ℕ) → P s (skips []))
+pub each_pushed : (P : ℕ → State → Type 0) (old : List State) (st : State) → ((s : ℕ) → P s (state old s)) → P (length old) st → ((s : ℕ) → P s (union_state []))
     → (s : ℕ) → P s (state (old ++ st ∷ []) s)
 each_pushed P old st each this none s =
     elim (cases_lt s (length old)) as (λ _. P s (state (old ++ st ∷ []) s)) [
       | inl before ↦ subst (P s) (sym (pushed_before old st s before)) (each s)
       | inr after ↦
           elim (cases_lt (length old) s) as (λ _. P s (state (old ++ st ∷ []) s)) [
-            | inl past ↦ subst (P s) (sym (get_or_past (old ++ st ∷ []) s (skips []) (omega (arith, length-append old (st ∷ []))))) (none s)
+            | inl past ↦ subst (P s) (sym (get_or_past (old ++ st ∷ []) s (union_state []) (omega (arith, length-append old (st ∷ []))))) (none s)
             | inr here ↦ (let same : length old ≡ s = omega arith in subst (λ n. P n (state (old ++ st ∷ []) n)) same (subst (P (length old)) (sym (pushed_last old st)) this))
           ]
     ]
@@ -61,9 +61,9 @@ exits_more targets more at lt =
     ∙ range_more targets more (at + 1) (at + 1 + slice_index targets at) (omega arith) (omega (arith, lt))
 
 state_more : (sets ss : List ByteSet) (targets more : List ℕ) (x : declared.State) → IsHeld sets targets x → of_state (sets ++ ss) (targets ++ more) x ≡ of_state sets targets x
-state_more sets ss targets more (Bytes n t) h = ap (λ w. reads w t) (get_or_append_left sets ss (record { words = [] }) n h)
-state_more sets ss targets more (Union at) h = ap skips (exits_more targets more at h)
-state_more sets ss targets more (Loop n t) h = ap (λ w. stays w (t ∷ [])) (get_or_append_left sets ss (record { words = [] }) n h)
+state_more sets ss targets more (Bytes n t) h = ap (λ w. bytes_state w t) (get_or_append_left sets ss (record { words = [] }) n h)
+state_more sets ss targets more (Union at) h = ap union_state (exits_more targets more at h)
+state_more sets ss targets more (Loop n t) h = ap (λ w. loop_state w (t ∷ [])) (get_or_append_left sets ss (record { words = [] }) n h)
 state_more sets ss targets more (Match k) h = refl
 
 states_more : (sets ss : List ByteSet) (targets more : List ℕ) (xs : List declared.State) → AreHeld sets targets xs → of_states (sets ++ ss) (targets ++ more) xs ≡ of_states sets targets xs

@@ -3,8 +3,8 @@ use Rattle.std.proofs.Common.{◌≡◌, ℕ, zero, suc, ◌<◌, List, [], ◌�
 use Rattle.std.specs.Prelude.{◌↔◌, Option, Some, None, MatchOption}
 use Rattle.std.proofs.lemmas.Bool.{or_cases}
 use Rattle.std.proofs.Math.Logic.{⊎_elim}
-use Rattle.byte_nfa.specs.Steps.{State, state, final, Machine, IsIn, IsReached}
-use Rattle.bit_sets.specs.Numbers.{AreBelow, is_reported}
+use Rattle.byte_nfa.specs.Steps.{State, state, match_state, Machine, HasNumber, IsReached}
+use Rattle.bit_sets.specs.Numbers.{AreBelow, has_number}
 use Rattle.byte_nfa.specs.Runs.{size}
 use Rattle.byte_nfa.specs.inner.Pass.{names, AcceptsNow}
 use Rattle.byte_nfa.proofs.lemmas.Pass.{listed_in, in_listed, listed_below, or_first}
@@ -37,21 +37,21 @@ state_at sets targets (y ∷ ys) (suc s) x lt e = state_at sets targets ys s x (
 
 -- the states that a run begins in, put into a set
 pub starts_put : (m : Machine) (starts : List ℕ) (n : ℕ) (cleared into : ℕ → Bool) → starts ≡ m.starts → n ≡ size m → AreBelow n starts
-    → ((t : ℕ) → t < n → cleared t ≡ false) → ((t : ℕ) → into t ≡ (is_reported t starts || cleared t))
+    → ((t : ℕ) → t < n → cleared t ≡ false) → ((t : ℕ) → into t ≡ (has_number t starts || cleared t))
     → (y : List ℕ) (k : ℕ) → AcceptsNow m.states into (size m) y k ↔ IsReached m y k
 starts_put m starts n cleared into is count below none has y k = (there, back)
   where
     there : AcceptsNow m.states into (size m) y k → IsReached m y k
     there (t, lt, at, h) = ⊎_elim {C = IsReached m y k}
-        (λ listed. (t, subst (IsIn t) is (listed_in t starts listed), h))
+        (λ listed. (t, subst (HasNumber t) is (listed_in t starts listed), h))
         (λ old. absurd (true≢false (sym old ∙ none t (omega arith))))
-        (or_cases (is_reported t starts) (cleared t) (sym (has t) ∙ at))
+        (or_cases (has_number t starts) (cleared t) (sym (has t) ∙ at))
 
     back : IsReached m y k → AcceptsNow m.states into (size m) y k
     back (t, begins, h) =
-        let listed = in_listed t starts (subst (IsIn t) (sym is) begins) in
+        let listed = in_listed t starts (subst (HasNumber t) (sym is) begins) in
         let lt = listed_below n t starts below listed in
-        (t, omega arith, has t ∙ or_first (is_reported t starts) (cleared t) listed, h)
+        (t, omega arith, has t ∙ or_first (has_number t starts) (cleared t) listed, h)
 
 -- a state as contracts see it
 pub read_state : (m : Machine) (sets : List ByteSet) (targets : List ℕ) (xs : List declared.State) (starts : List ℕ) (n s : ℕ) (x : declared.State)
@@ -68,7 +68,7 @@ pub read_item : (m : Machine) (sets : List ByteSet) (targets : List ℕ) (xs : L
 read_item m sets targets xs starts n s d value lt = sym (ap (λ (o : Machine). state o.states s) value) ∙ item_at sets targets xs s d lt
 
 -- a state that contracts see as an end is one
-pub is_end : (sets : List ByteSet) (targets : List ℕ) (x : declared.State) (k : ℕ) → of_state sets targets x ≡ final k → x ≡ Match k
+pub is_end : (sets : List ByteSet) (targets : List ℕ) (x : declared.State) (k : ℕ) → of_state sets targets x ≡ match_state k → x ≡ Match k
 is_end sets targets (Bytes w t) k e = cc
 is_end sets targets (Union at) k e = cc
 is_end sets targets (Loop w t) k e = cc
@@ -76,7 +76,7 @@ is_end sets targets (Match j) k e = cc
 
 -- what is told of a state that is left
 pub follows_epsilons : (o : Option ℕ) (n : ℕ) (st st' : State) → st ≡ st' → NamesBelow n st
-    → MatchOption o ((k : ℕ) → names st' None k ≡ false) (λ k. st' ≡ final k)
-    → MatchOption o ((k : ℕ) → names st None k ≡ false) (λ k. (st ≡ final k) × (k < n))
+    → MatchOption o ((k : ℕ) → names st' None k ≡ false) (λ k. st' ≡ match_state k)
+    → MatchOption o ((k : ℕ) → names st None k ≡ false) (λ k. (st ≡ match_state k) × (k < n))
 follows_epsilons (Some k) n st st' is named end = (is ∙ end, subst (NamesBelow n) (is ∙ end) named)
 follows_epsilons None n st st' is named none = λ k. ap (λ u. names u None k) is ∙ none k

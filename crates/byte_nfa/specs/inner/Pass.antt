@@ -1,8 +1,8 @@
 -- One pass over the states at one position of a text.
 use Rattle.std.specs.Prelude.{◌≡◌, ℕ, ◌<◌, ◌⊎◌, Bool, false, ◌&&◌, ◌==◌, List, [], ◌∷◌, length, Option, Some, None, IsTrue}
 use Rattle.bit_sets.specs.Bytes.{has_byte}
-use Rattle.bit_sets.specs.Numbers.{is_reported}
-use Rattle.byte_nfa.specs.Steps.{State, reads, skips, stays, final, Accepts}
+use Rattle.bit_sets.specs.Numbers.{has_number}
+use Rattle.byte_nfa.specs.Steps.{State, bytes_state, union_state, loop_state, match_state, Accepts}
 
 -- the next byte, if there is one
 abbrev pub head : List ℕ → Option ℕ
@@ -11,27 +11,27 @@ head (c ∷ cs) = Some c
 
 -- t is one of the states that the state goes on to without a byte
 abbrev pub goes_now : State → ℕ → Bool
-goes_now (reads w u) t = false
-goes_now (skips us) t = is_reported t us
-goes_now (stays w us) t = is_reported t us
-goes_now (final k) t = false
+goes_now (bytes_state w u) t = false
+goes_now (union_state us) t = has_number t us
+goes_now (loop_state w us) t = has_number t us
+goes_now (match_state k) t = false
 
 -- t is the state after the byte, from the state s
 abbrev pub goes_next : State → ℕ → Option ℕ → ℕ → Bool
-goes_next (reads w u) s None t = false
-goes_next (reads w u) s (Some c) t = has_byte w c && (t == u)
-goes_next (skips us) s o t = false
-goes_next (stays w us) s None t = false
-goes_next (stays w us) s (Some c) t = has_byte w c && (t == s)
-goes_next (final k) s o t = false
+goes_next (bytes_state w u) s None t = false
+goes_next (bytes_state w u) s (Some c) t = has_byte w c && (t == u)
+goes_next (union_state us) s o t = false
+goes_next (loop_state w us) s None t = false
+goes_next (loop_state w us) s (Some c) t = has_byte w c && (t == s)
+goes_next (match_state k) s o t = false
 
 -- at the end of the text the state names k
 abbrev pub names : State → Option ℕ → ℕ → Bool
-names (final j) None k = k == j
-names (final j) (Some c) k = false
-names (reads w u) o k = false
-names (skips us) o k = false
-names (stays w us) o k = false
+names (match_state j) None k = k == j
+names (match_state j) (Some c) k = false
+names (bytes_state w u) o k = false
+names (union_state us) o k = false
+names (loop_state w us) o k = false
 
 -- the state is an end, or goes on without a byte to a state of the set
 abbrev pub EndsBy : State → (ℕ → Bool) → Type 0

@@ -1,6 +1,6 @@
 -- The states as an automaton keeps them: sets of bytes lie in one list, and what a state goes on to without a byte in another.
 use Rattle.std.specs.Prelude.{ℕ, ◌+◌, ◌<◌, List, [], ◌∷◌, map, length, slice_index, slice_index_or, slice_range}
-use Rattle.byte_nfa.specs.Steps.{State, reads, skips, stays, final, state, Machine}
+use Rattle.byte_nfa.specs.Steps.{State, bytes_state, union_state, loop_state, match_state, state, Machine}
 use Rattle.bit_sets.specs.Bytes.{no_bytes}
 use Rattle.bit_sets.specs.Numbers.{AreBelow}
 use Rattle.bit_sets.specs.declared.byte_set.ByteSet.{ByteSet}
@@ -16,10 +16,10 @@ abbrev pub exits_at : List ℕ → ℕ → List ℕ
 exits_at targets at = slice_range targets (at + 1) (at + 1 + slice_index targets at)
 
 abbrev pub of_state : List ByteSet → List ℕ → declared.State → State
-of_state sets targets (Bytes n t) = reads (set_at sets n) t
-of_state sets targets (Union at) = skips (exits_at targets at)
-of_state sets targets (Loop n t) = stays (set_at sets n) (t ∷ [])
-of_state sets targets (Match k) = final k
+of_state sets targets (Bytes n t) = bytes_state (set_at sets n) t
+of_state sets targets (Union at) = union_state (exits_at targets at)
+of_state sets targets (Loop n t) = loop_state (set_at sets n) (t ∷ [])
+of_state sets targets (Match k) = match_state k
 
 abbrev pub of_states : List ByteSet → List ℕ → List declared.State → List State
 of_states sets targets states = map (of_state sets targets) states
@@ -37,17 +37,17 @@ AreHeld sets targets (x ∷ xs) = IsHeld sets targets x × AreHeld sets targets 
 
 -- what the state goes on to has a lower number
 abbrev pub GoesBelow : ℕ → State → Type 0
-GoesBelow s (reads w t) = t < s
-GoesBelow s (skips us) = AreBelow s us
-GoesBelow s (stays w us) = AreBelow s us
-GoesBelow s (final k) = Unit {0}
+GoesBelow s (bytes_state w t) = t < s
+GoesBelow s (union_state us) = AreBelow s us
+GoesBelow s (loop_state w us) = AreBelow s us
+GoesBelow s (match_state k) = Unit {0}
 
 -- the index that the state names is below n
 abbrev pub NamesBelow : ℕ → State → Type 0
-NamesBelow n (reads w t) = Unit {0}
-NamesBelow n (skips us) = Unit {0}
-NamesBelow n (stays w us) = Unit {0}
-NamesBelow n (final k) = k < n
+NamesBelow n (bytes_state w t) = Unit {0}
+NamesBelow n (union_state us) = Unit {0}
+NamesBelow n (loop_state w us) = Unit {0}
+NamesBelow n (match_state k) = k < n
 
 -- what is true of the parts of each automaton
 pub record AreSound (sets : List ByteSet) (targets : List ℕ) (states : List declared.State) (starts : List ℕ) (n : ℕ) : Type 0 where

@@ -3,7 +3,7 @@
 ghost use Rattle.std.specs.Prelude.{◌≡◌, ℕ, ◌*◌, ◌<◌, ◌≤◌, ◌^◌, IfOk, MatchOption};
 ghost use Rattle.byte_nfa.specs.EarlyMatches.{Decides, EndsAtEarlyMatches};
 ghost use Rattle.byte_nfa.specs.Runs.{size};
-ghost use Rattle.byte_nfa.specs.Steps.{state, final};
+ghost use Rattle.byte_nfa.specs.Steps.{state, match_state};
 
 use crate::draft::Draft;
 use crate::state::State;
@@ -50,7 +50,7 @@ impl Draft {
     /// Returns the index of a state, if it is an end.
     fn index_of(&self, s: usize) -> Option<usize>
         requires { s < size self.now }
-        ensures { MatchOption result ((k : ℕ) → state self.now.states s ≡ final k → ⊥) (λ k. (state self.now.states s ≡ final k) × (k < self.now.index_count)) }
+        ensures { MatchOption result ((k : ℕ) → state self.now.states s ≡ match_state k → ⊥) (λ k. (state self.now.states s ≡ match_state k) × (k < self.now.index_count)) }
     {
         match self.states[s] {
             State::Match(index) => Some(index),

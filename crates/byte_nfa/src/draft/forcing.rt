@@ -1,7 +1,7 @@
 //! What a state of an automaton forces on a text.
 
 ghost use Rattle.std.specs.Prelude.{◌≡◌, ℕ, ◌<◌, MatchOption};
-ghost use Rattle.byte_nfa.specs.Steps.{state, final};
+ghost use Rattle.byte_nfa.specs.Steps.{state, match_state};
 ghost use Rattle.byte_nfa.specs.Parts.{GoesFrom};
 ghost use Rattle.byte_nfa.specs.Forcing.{Forces, IsNoEnd};
 ghost use Rattle.byte_nfa.specs.Runs.{size};
@@ -17,7 +17,7 @@ impl Draft {
     pub fn least_next(&self, s: usize) -> Option<usize>
         requires { s < size self.now }
         ensures below { GoesBelow s (state self.now.states s) }
-        ensures least { MatchOption result ((k : ℕ) × (state self.now.states s ≡ final k)) (λ low. GoesFrom low (state self.now.states s) × IsNoEnd (state self.now.states s)) }
+        ensures least { MatchOption result ((k : ℕ) × (state self.now.states s ≡ match_state k)) (λ low. GoesFrom low (state self.now.states s) × IsNoEnd (state self.now.states s)) }
     {
         self.states[s].least_next(s, &self.targets)
     }

@@ -1,7 +1,7 @@
 //! Parts of an automaton.
 
 ghost use Rattle.std.specs.Prelude.{◌≡◌, ℕ, ◌+◌, ◌-◌, ◌<◌, ◌≤◌, ◌⊎◌, ◌↔◌, IsTrue, IsFalse, OnOk, IfOk, MatchOption};
-ghost use Rattle.byte_nfa.specs.Steps.{IsIn, state};
+ghost use Rattle.byte_nfa.specs.Steps.{HasNumber, state};
 ghost use Rattle.bit_sets.specs.Numbers.{AreFrom};
 ghost use Rattle.byte_nfa.specs.Building.{Pushes};
 ghost use Rattle.byte_nfa.specs.Parts.{GoesFrom, LeadsOut, IsPart};
@@ -42,7 +42,7 @@ impl Draft {
     /// Makes the starts from `low` on and below `high` starts of what is built, with `low` taken from their numbers.
     fn add_starts(&self, low: usize, high: usize, builder: &mut Builder) -> Result<(), AllocError>
         requires room { high ≤ low + size builder.old }
-        ensures starts { OnOk result ((s : ℕ) → IsIn s builder.new.starts ↔ (IsIn s builder.old.starts ⊎ ((low + s < high) × IsIn (low + s) self.now.starts))) }
+        ensures starts { OnOk result ((s : ℕ) → HasNumber s builder.new.starts ↔ (HasNumber s builder.old.starts ⊎ ((low + s < high) × HasNumber (low + s) self.now.starts))) }
         ensures states { builder.new.states ≡ builder.old.states }
         ensures index_count { builder.new.index_count ≡ builder.old.index_count }
     {

@@ -3,7 +3,7 @@
 ghost use Rattle.std.specs.Prelude.{◌≡◌, ℕ, ◌<◌, ◌≤◌, MatchOption};
 ghost use Rattle.byte_nfa.specs.Reading.{is_read};
 ghost use Rattle.byte_nfa.specs.Runs.{size};
-ghost use Rattle.byte_nfa.specs.Steps.{state, final};
+ghost use Rattle.byte_nfa.specs.Steps.{state, match_state};
 
 use crate::draft::Draft;
 use crate::state::{State, exits_of, set_of};
@@ -27,7 +27,7 @@ impl Draft {
     /// [`Draft::index_count`].
     pub fn state(&self, s: usize) -> Option<StateRef<'_>>
         ensures read { MatchOption result (size self.now ≤ s) (λ found. state self.now.states s ≡ is_read found) }
-        ensures named { (k : ℕ) → state self.now.states s ≡ final k → k < self.now.index_count }
+        ensures named { (k : ℕ) → state self.now.states s ≡ match_state k → k < self.now.index_count }
     {
         if s >= self.states.len() {
             return None;

@@ -5,7 +5,7 @@ ghost use Rattle.bit_sets.specs.WordSets.{has_in_word};
 ghost use Rattle.byte_nfa.specs.Parts.{GoesFrom};
 ghost use Rattle.byte_nfa.specs.Runs.{size};
 ghost use Rattle.bit_sets.specs.StateSets.{has_state, state_capacity};
-ghost use Rattle.byte_nfa.specs.Steps.{reads, state, final};
+ghost use Rattle.byte_nfa.specs.Steps.{bytes_state, state, match_state};
 ghost use Rattle.byte_nfa.specs.inner.Views.{GoesBelow};
 ghost use Rattle.byte_nfa.specs.inner.Pass.{goes_now, goes_next, names};
 
@@ -39,7 +39,7 @@ impl Draft {
         ensures room { state_capacity from.new ≡ state_capacity from.old }
         ensures from { (t : ℕ) → has_state from.new t ≡ (goes_now (state self.now.states s) t || has_state from.old t) }
         ensures below { GoesBelow s (state self.now.states s) }
-        ensures end { MatchOption result ((k : ℕ) → names (state self.now.states s) None k ≡ false) (λ k. (state self.now.states s ≡ final k) × (k < self.now.index_count)) }
+        ensures end { MatchOption result ((k : ℕ) → names (state self.now.states s) None k ≡ false) (λ k. (state self.now.states s ≡ match_state k) × (k < self.now.index_count)) }
     {
         self.states[s].follow_epsilons(s, &self.targets, from)
     }
@@ -70,7 +70,7 @@ impl Draft {
         ensures low { from.new.low ≡ from.old.low }
         ensures below { GoesBelow s (state self.now.states s) }
         ensures from { (t : ℕ) → has_in_word from.new t ≡ (goes_now (state self.now.states s) t || has_in_word from.old t) }
-        ensures end { MatchOption result ((k : ℕ) → names (state self.now.states s) None k ≡ false) (λ k. (state self.now.states s ≡ final k) × (k < self.now.index_count)) }
+        ensures end { MatchOption result ((k : ℕ) → names (state self.now.states s) None k ≡ false) (λ k. (state self.now.states s ≡ match_state k) × (k < self.now.index_count)) }
     {
         self.states[s].follow_epsilons_in_word(s, &self.targets, from)
     }
@@ -78,7 +78,7 @@ impl Draft {
     /// Returns the bytes that a state reads, if it goes on to the state below.
     pub fn read_down(&self, s: usize) -> Option<ByteSet>
         requires { s < size self.now }
-        ensures { IfSome result (λ set. (t : ℕ) × (state self.now.states s ≡ reads set t) × (t + 1 ≡ s)) }
+        ensures { IfSome result (λ set. (t : ℕ) × (state self.now.states s ≡ bytes_state set t) × (t + 1 ≡ s)) }
     {
         match &self.states[s] {
             State::Bytes(set, next) if s > 0 && *next == s - 1 => {

@@ -1,7 +1,7 @@
 //! Steps of a state where the sets of states are words.
 
 ghost use Rattle.std.specs.Prelude.{◌≡◌, ℕ, ◌+◌, ◌<◌, ◌≤◌, ◌||◌, List, false, Some, None, MatchOption};
-ghost use Rattle.byte_nfa.specs.Steps.{final};
+ghost use Rattle.byte_nfa.specs.Steps.{match_state};
 ghost use Rattle.bit_sets.specs.declared.byte_set.ByteSet.{ByteSet};
 ghost use Rattle.byte_nfa.specs.Parts.{GoesFrom};
 ghost use Rattle.byte_nfa.specs.inner.Views.{of_state, IsHeld, GoesBelow};
@@ -63,7 +63,7 @@ impl State {
         requires within { s < from.old.low + 64 }
         ensures low { from.new.low ≡ from.old.low }
         ensures from { (sets : List ByteSet) (t : ℕ) → has_in_word from.new t ≡ (goes_now (of_state sets targets.now self.now) t || has_in_word from.old t) }
-        ensures end { (sets : List ByteSet) → MatchOption result ((k : ℕ) → names (of_state sets targets.now self.now) None k ≡ false) (λ k. of_state sets targets.now self.now ≡ final k) }
+        ensures end { (sets : List ByteSet) → MatchOption result ((k : ℕ) → names (of_state sets targets.now self.now) None k ≡ false) (λ k. of_state sets targets.now self.now ≡ match_state k) }
     {
         match self {
             State::Bytes(_, _) => None,

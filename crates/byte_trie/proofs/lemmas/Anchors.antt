@@ -12,7 +12,7 @@ use Rattle.byte_trie.specs.declared.tree.Tree.{Tree}
 use Rattle.byte_trie.specs.Texts.{Texts, prefixes, suffixes, parts, found}
 use Rattle.byte_trie.specs.inner.Anchors.{from_anchor, entry_from_anchor}
 use Rattle.byte_trie.specs.inner.Nodes.{under, along}
-use Rattle.byte_trie.specs.inner.PassInvariant.{PassInvariant}
+use Rattle.byte_trie.specs.inner.IsTrieOf.{IsTrieOf}
 
 pub length-from_anchor : (anchor : Anchor) (p : List ℕ) → length (from_anchor anchor p) ≡ length p
 length-from_anchor Start p = refl
@@ -67,7 +67,7 @@ along_anchor End es p =
     ∙ sym (flat_map-map (indexes_under es) reverse (prefixes (reverse p)))
     ∙ ap (flat_map (indexes_under es)) (reversed_suffixes p)
 
-pub found_along : (t : Tree) (anchor : Anchor) (count : ℕ) (es : List Entry) → PassInvariant t anchor count es → (p : List ℕ) →
+pub found_along : (t : Tree) (anchor : Anchor) (count : ℕ) (es : List Entry) → IsTrieOf t anchor count es → (p : List ℕ) →
     along (under t 0) (from_anchor anchor p) ≡ found (record { anchor = anchor; entries = es }) p
 found_along t anchor count es h p = ap (λ f. along f (from_anchor anchor p)) (λ i w. h.leads w i) ∙ along_anchor anchor es p
 
@@ -139,6 +139,6 @@ found_in_none : (ps : List (List ℕ)) → flat_map (indexes_under []) ps ≡ []
 found_in_none [] = refl
 found_in_none (p ∷ ps) = found_in_none ps
 
-pub found_nothing : (t : Tree) (anchor : Anchor) (count : ℕ) (entries : List Entry) → PassInvariant t anchor count entries → count ≡ 0 → (p : List ℕ) → found (record { anchor = anchor; entries = entries }) p ≡ []
+pub found_nothing : (t : Tree) (anchor : Anchor) (count : ℕ) (entries : List Entry) → IsTrieOf t anchor count entries → count ≡ 0 → (p : List ℕ) → found (record { anchor = anchor; entries = entries }) p ≡ []
 found_nothing t anchor count [] h none p = found_in_none (parts anchor p)
 found_nothing t anchor count (e ∷ es) h none p = absurd (omega (arith, h.counted, none))

@@ -5,7 +5,7 @@ use Rattle.byte_trie.specs.declared.anchor.Anchor.{Anchor}
 use Rattle.byte_trie.specs.declared.tree.Tree.{Tree}
 use Rattle.byte_trie.specs.inner.Anchors.{entry_from_anchor}
 use Rattle.byte_trie.specs.inner.Nodes.{child_at, child_of, follow, held_at, held_of, under}
-use Rattle.byte_trie.specs.inner.PassInvariant.{PassInvariant}
+use Rattle.byte_trie.specs.inner.IsTrieOf.{IsTrieOf}
 
 none_under : (anchor : Anchor) (es : List Entry) → length es ≡ 0 → (w : List ℕ) → indexes_under (map (entry_from_anchor anchor) es) w ≡ []
 none_under anchor [] none w = refl
@@ -22,7 +22,7 @@ module _ (t : Tree) (nodes : t.nodes.items ≡ []) (bytes : t.bytes.items ≡ []
   under_nothing [] = none_held
   under_nothing (b ∷ w) = ap (λ c. follow c (λ n. under t n w)) (no_child b)
 
-  pub without_texts : (anchor : Anchor) (count : ℕ) (es : List Entry) → count ≡ length es → count ≡ 0 → PassInvariant t anchor count es
+  pub without_texts : (anchor : Anchor) (count : ℕ) (es : List Entry) → count ≡ length es → count ≡ 0 → IsTrieOf t anchor count es
   without_texts anchor count es counted none = record {
     tree = λ some. absurd (omega (arith, none, some));
     leads = λ w. under_nothing w ∙ sym (none_under anchor es (omega (arith, counted, none)) w);

@@ -1,4 +1,4 @@
--- What a tree under construction stands for.
+-- What a tree that is being made stands for.
 use Rattle.std.specs.Prelude.{◌≡◌, ℕ, ◌+◌, ◌<◌, ◌≤◌, ◌==◌, ◌⊎◌, cond, List, [], ◌∷◌, ◌++◌, Option, length, map, drop, slice_get, slice_index_or, slice_range}
 use Rattle.std.specs.List.{AllWithin, AllByRecursion}
 use Rattle.std.specs.List.Sorted.{IsStrictlyIncreasing}

@@ -10,7 +10,7 @@ use Rattle.bit_sets.specs.Numbers.{AreBelow}
 use Rattle.byte_nfa.specs.Live.{MatchesAfter}
 use Rattle.byte_nfa.specs.Parts.{IsReachedBetween, IsPart}
 use Rattle.byte_nfa.specs.Runs.{size}
-use Rattle.byte_nfa.specs.Steps.{Machine, IsIn, IsReached}
+use Rattle.byte_nfa.specs.Steps.{Machine, HasNumber, IsReached}
 use Rattle.byte_dfa.specs.DfaValue.{DfaValue}
 use Rattle.glob_matching.specs.inner.Parts.{sources, SomeReached, SomeMatchesAfter, total, AreCounted, ArePartsBelow}
 
@@ -91,22 +91,22 @@ module _ (ms : List Machine) (i : ℕ) (m : Machine) (lt : i < length ms) (is : 
   pub total_more : total (take (i + 1) ms) ≡ total (take i ms) + size m
   total_more = ap total taken ∙ total_push (take i ms) m
 
-  pub total_limit : total (take i ms) + size m ≤ total ms
-  total_limit = let some = total_take ms (i + 1) in omega (arith, total_more)
+  pub total_within : total (take i ms) + size m ≤ total ms
+  total_within = let some = total_take ms (i + 1) in omega (arith, total_more)
 
 pub all_taken : (ms : List Machine) (i : ℕ) → length ms ≤ i → take i ms ≡ ms
 all_taken ms i past = take_all i ms past
 
 -- visits of runs
 
-pub visits_limit : (n a b v w : ℕ) → a ≤ b → v ≤ w + n * a → v ≤ w + n * b
-visits_limit n a b v w le h = let more = mul-le n a n b (omega arith) le in omega arith
+pub visits_within : (n a b v w : ℕ) → a ≤ b → v ≤ w + n * a → v ≤ w + n * b
+visits_within n a b v w le h = let more = mul-le n a n b (omega arith) le in omega arith
 
 pub visits_more : (n a b v u w : ℕ) → u ≤ v + n * b → v ≤ w + n * a → u ≤ w + n * (a + b)
 visits_more n a b v u w this before = let sum : n * (a + b) ≡ n * a + n * b = omega arith in omega arith
 
 pub visits_one : (n i c v u w : ℕ) → i < c → u ≤ v + n → v ≤ w + n * i → u ≤ w + n * c
-visits_one n i c v u w lt this before = visits_limit n (i + 1) c u w (omega arith) (visits_more n i 1 v u w (omega arith) before)
+visits_one n i c v u w lt this before = visits_within n (i + 1) c u w (omega arith) (visits_more n i 1 v u w (omega arith) before)
 
 pub at_least_below : (a b c : ℕ) → a ≤ b → b < c → a ≤ c
 at_least_below a b c le more = omega arith
@@ -173,7 +173,7 @@ module _ (m : Machine) (low high : ℕ) (tables : List DfaValue) (automata : Lis
         automata_counted = parts.automata_counted;
       }
 
-is_below : (n s : ℕ) (us : List ℕ) → AreBelow n us → IsIn s us → s < n
+is_below : (n s : ℕ) (us : List ℕ) → AreBelow n us → HasNumber s us → s < n
 is_below n s [] below m = absurd m
 is_below n s (u ∷ us) below (inl e) = let h = below 0 (omega arith) in omega (arith, e)
 is_below n s (u ∷ us) below (inr m) = is_below n s us (λ i lt. below (suc i) (omega arith)) m

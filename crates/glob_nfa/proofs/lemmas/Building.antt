@@ -1,7 +1,7 @@
 -- States that are added to an automaton.
 use Rattle.std.proofs.Common.{ℕ, ◌≤◌, Bool, List, [], ◌∷◌, ◌++◌, length, refl, sym, ◌∙◌, subst, arith}
 use Rattle.glob_syntax.specs.declared.options.Options.{Options}
-use Rattle.byte_nfa.specs.Steps.{State, reads, skips, Machine}
+use Rattle.byte_nfa.specs.Steps.{State, bytes_state, union_state, Machine}
 use Rattle.byte_nfa.specs.Building.{Agrees, Keeps, Pushes}
 use Rattle.bit_sets.specs.declared.byte_set.ByteSet.{ByteSet}
 use Rattle.glob_meaning.specs.Characters.{is_between}
@@ -43,19 +43,19 @@ agrees_higher a new low high h agrees = λ s le lt. agrees s (omega arith) lt
 
 -- one more byte, before the others
 pub text_more : (o : Options) (b : ℕ) (bs : List ℕ) (old mid new : Machine) (w : ByteSet) (s t e : ℕ)
-    → BuildsText o bs old.states mid.states t e → Keeps old.states mid.states → Pushes mid new s (reads w t) → IsSetOf (is_letter o b) w → BuildsText o (b ∷ bs) old.states new.states s e
+    → BuildsText o bs old.states mid.states t e → Keeps old.states mid.states → Pushes mid new s (bytes_state w t) → IsSetOf (is_letter o b) w → BuildsText o (b ∷ bs) old.states new.states s e
 text_more o b bs old mid new w s t e rest kept p letter = λ a agrees.
     (t, (w, p.adds a (length old.states) kept.0 agrees, letter), rest a (agrees_old a mid.states new.states (length old.states) p.keeps agrees))
 
 -- ---- rows of tests
 
 -- one state
-pub row_one : (test : ℕ → Bool) (old new : Machine) (w : ByteSet) (s e : ℕ) → Pushes old new s (reads w e) → IsSetOf test w → BuildsRow (test ∷ []) old.states new.states s e
+pub row_one : (test : ℕ → Bool) (old new : Machine) (w : ByteSet) (s e : ℕ) → Pushes old new s (bytes_state w e) → IsSetOf test w → BuildsRow (test ∷ []) old.states new.states s e
 row_one test old new w s e p set = λ a agrees. (e, (w, p.adds a (length old.states) (omega arith) agrees, set), refl)
 
 -- one more state, before the others
 pub row_more : (test : ℕ → Bool) (tests : List (ℕ → Bool)) (old mid new : Machine) (w : ByteSet) (s t e : ℕ)
-    → BuildsRow tests old.states mid.states t e → Keeps old.states mid.states → Pushes mid new s (reads w t) → IsSetOf test w → BuildsRow (test ∷ tests) old.states new.states s e
+    → BuildsRow tests old.states mid.states t e → Keeps old.states mid.states → Pushes mid new s (bytes_state w t) → IsSetOf test w → BuildsRow (test ∷ tests) old.states new.states s e
 row_more test tests old mid new w s t e rest kept p set = λ a agrees.
     (t, (w, p.adds a (length old.states) kept.0 agrees, set), rest a (agrees_old a mid.states new.states (length old.states) p.keeps agrees))
 
@@ -74,13 +74,13 @@ row_then a (u ∷ us) vs s t e (x, read, more) rest = (x, read, row_then a us vs
 pub character_built : (o : Options) (old lasts ascii_added pair_added threes fours new : Machine) (wa wp : ByteSet) (e one two three ascii pair low3 middle3 high3 low4 middle4 high4 s : ℕ)
     → Grows old lasts → BuildsRow (continues ∷ []) old.states lasts.states one e → BuildsRow (continues ∷ continues ∷ []) old.states lasts.states two e
     → BuildsRow (continues ∷ continues ∷ continues ∷ []) old.states lasts.states three e
-    → Pushes lasts ascii_added ascii (reads wa e) → IsSetOf (is_ascii_wild o) wa
-    → Pushes ascii_added pair_added pair (reads wp one) → IsSetOf (is_between (0xC2, 0xDF)) wp
+    → Pushes lasts ascii_added ascii (bytes_state wa e) → IsSetOf (is_ascii_wild o) wa
+    → Pushes ascii_added pair_added pair (bytes_state wp one) → IsSetOf (is_between (0xC2, 0xDF)) wp
     → Grows pair_added threes → BuildsRow (is_between (0xE0, 0xE0) ∷ is_between (0xA0, 0xBF) ∷ []) pair_added.states threes.states low3 one
     → BuildsRow (begins_three ∷ []) pair_added.states threes.states middle3 two → BuildsRow (is_between (0xED, 0xED) ∷ is_between (0x80, 0x9F) ∷ []) pair_added.states threes.states high3 one
     → Grows threes fours → BuildsRow (is_between (0xF0, 0xF0) ∷ is_between (0x90, 0xBF) ∷ []) threes.states fours.states low4 two
     → BuildsRow (is_between (0xF1, 0xF3) ∷ []) threes.states fours.states middle4 three → BuildsRow (is_between (0xF4, 0xF4) ∷ is_between (0x80, 0x8F) ∷ []) threes.states fours.states high4 two
-    → Pushes fours new s (skips (ascii ∷ pair ∷ low3 ∷ middle3 ∷ high3 ∷ low4 ∷ middle4 ∷ high4 ∷ []))
+    → Pushes fours new s (union_state (ascii ∷ pair ∷ low3 ∷ middle3 ∷ high3 ∷ low4 ∷ middle4 ∷ high4 ∷ []))
     → BuildsCharacter o old.states new.states s e
 character_built o old lasts ascii_added pair_added threes fours new wa wp e one two three ascii pair low3 middle3 high3 low4 middle4 high4 s
     grows1 last1 last2 last3 push_ascii set_ascii push_pair set_pair grows3 l3 m3 h3 grows4 l4 m4 h4 push = λ a agrees.

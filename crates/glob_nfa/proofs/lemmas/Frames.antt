@@ -13,7 +13,7 @@ use Rattle.glob_syntax.specs.Views.{flat_of}
 use Rattle.glob_syntax.specs.inner.Weight.{weight, token_weight, branches_weight}
 use Rattle.glob_syntax.proofs.lemmas.FlatTokens.{IsSole}
 use Rattle.glob_meaning.specs.Blank.{is_blank_token, is_kept, any_kept}
-use Rattle.byte_nfa.specs.Steps.{State, skips, state, Machine}
+use Rattle.byte_nfa.specs.Steps.{State, union_state, state, Machine}
 use Rattle.bit_sets.specs.Numbers.{AreBelow}
 use Rattle.byte_nfa.specs.Building.{Pushes}
 use Rattle.byte_nfa.specs.Runs.{size}
@@ -90,14 +90,14 @@ kept_is o a ss (branch ts bs) e (inr (dropped, rest)) = ⊎_elim {C = (IsTrue (i
     (kept_is o a ss bs e rest)
 
 built_group : (o : Options) (a : List State) (s : ℕ) (ss : List ℕ) (bs : Branches) (e : ℕ)
-    → AreBuilt o a ss bs e → state a s ≡ skips (targets_of ss e) → IsBuiltToken o a s (Group bs) e
+    → AreBuilt o a ss bs e → state a s ≡ union_state (targets_of ss e) → IsBuiltToken o a s (Group bs) e
 built_group o a s ss bs e h at = ⊎_elim {C = IsBuiltToken o a s (Group bs) e}
-    (λ (any, is). (ss, at ∙ ap skips is, inl (any, h)))
-    (λ (no_one, is). (e ∷ [], at ∙ ap (λ l. skips (targets_of l e)) is, inr (no_one, refl)))
+    (λ (any, is). (ss, at ∙ ap union_state is, inl (any, h)))
+    (λ (no_one, is). (e ∷ [], at ∙ ap (λ l. union_state (targets_of l e)) is, inr (no_one, refl)))
     (kept_is o a ss bs e h)
 
 open_group : (o : Options) (a : List State) (f g : Frame) (fs : List Frame) (l : Levels) (s : ℕ) (b : Bool) (e : ℕ)
-    → AreOpen o a (f ∷ g ∷ fs) (all_levels (next_branch l)) e → state a s ≡ skips (targets_of f.starts f.exit)
+    → AreOpen o a (f ∷ g ∷ fs) (all_levels (next_branch l)) e → state a s ≡ union_state (targets_of f.starts f.exit)
     → AreOpen o a (led s b g ∷ fs) (all_levels (open_level l)) e
 open_group o a f g fs (bs, []) s b e (built, rest, same, outer) at = absurd outer
 open_group o a f g fs (bs, none ∷ more) s b e (built, rest, same, outer) at = absurd outer
@@ -177,10 +177,10 @@ stands_comma o old new f fs l e stands = record {
 
 -- after the first branch of the group is done
 pub stands_group : (o : Options) (old mid new : Machine) (f g : Frame) (fs : List Frame) (l : Levels) (s e : ℕ)
-    → Stands o old mid (f ∷ g ∷ fs) (all_levels (next_branch l)) e → Pushes mid new s (skips (targets_of f.starts f.exit))
+    → Stands o old mid (f ∷ g ∷ fs) (all_levels (next_branch l)) e → Pushes mid new s (union_state (targets_of f.starts f.exit))
     → Stands o old new (led s f.rest_blank g ∷ fs) (all_levels (open_level l)) e
 stands_group o old mid new f g fs l s e stands p = record {
-  grows = grows_then old mid new stands.grows (grows_push mid new s (skips (targets_of f.starts f.exit)) p);
+  grows = grows_then old mid new stands.grows (grows_push mid new s (union_state (targets_of f.starts f.exit)) p);
   count = let c = stands.count in let n = p.len in omega (arith, weight_group o f g fs l stands.blank);
   within = let n = p.len in let at = p.at in let w = stands.within.3 in let le : size mid ≤ size new = omega arith in
       (omega arith, omega arith, below_more (size mid) (size new) g.starts w.2 le, within_more (size mid) (size new) fs w.3 le);

@@ -7,7 +7,7 @@ use Rattle.glob_syntax.specs.Token.{Tokens}
 use Rattle.glob_syntax.specs.inner.Weight.{weight}
 use Rattle.glob_meaning.specs.TokenMatches.{tokens_match_each}
 use Rattle.glob_meaning.specs.TokensMatch.{tokens_match, is_prefix_alone}
-use Rattle.byte_nfa.specs.Steps.{state, stays, final, IsIn, Accepts, Machine, IsReached}
+use Rattle.byte_nfa.specs.Steps.{state, loop_state, match_state, HasNumber, Accepts, Machine, IsReached}
 use Rattle.byte_nfa.specs.Building.{Agrees, Pushes}
 use Rattle.bit_sets.specs.declared.byte_set.ByteSet.{ByteSet}
 use Rattle.glob_nfa.specs.inner.TokenStates.{IsSetOf, is_any_byte}
@@ -23,10 +23,10 @@ use Rattle.glob_nfa.proofs.lemmas.TokenStates.{tokens_accept, everything_accepts
 
 -- by the states of each
 pub whole_built : (o : Options) (ts : Tokens) (j : ℕ) (old mid new : Machine) (s e : ℕ)
-    → is_prefix_alone ts ≡ false → Pushes old mid e (final j) → Grows mid new → Builds o ts mid.states new.states s e → BuildsWhole o ts j old.states new.states s
+    → is_prefix_alone ts ≡ false → Pushes old mid e (match_state j) → Grows mid new → Builds o ts mid.states new.states s e → BuildsWhole o ts j old.states new.states s
 whole_built o ts j old mid new s e alone p grows builds = λ a agrees path k bytes.
     let more : length old.states ≤ length mid.states = omega (arith, p.len) in
-    let at : state a e ≡ final j = p.adds a (length old.states) (omega arith) (agrees_old a mid.states new.states (length old.states) grows.keeps agrees) in
+    let at : state a e ≡ match_state j = p.adds a (length old.states) (omega arith) (agrees_old a mid.states new.states (length old.states) grows.keeps agrees) in
     let one = tokens_accept a o ts s e j k path bytes (builds a (agrees_higher a new.states (length old.states) (length mid.states) more agrees)) at in
     let same : tokens_match o ts path ≡ tokens_match_each o ts path = ap (λ q. q || tokens_match_each o ts path) alone in (
       λ h. let (is, all) = one.0 h in (is, same ∙ all),
@@ -35,11 +35,11 @@ whole_built o ts j old mid new s e alone p grows builds = λ a agrees path k byt
 
 -- `**` alone
 pub everything_built : (o : Options) (ts : Tokens) (j : ℕ) (old mid new : Machine) (w : ByteSet) (s e : ℕ)
-    → is_prefix_alone ts ≡ true → Pushes old mid e (final j) → Pushes mid new s (stays w (e ∷ [])) → IsSetOf is_any_byte w → BuildsWhole o ts j old.states new.states s
+    → is_prefix_alone ts ≡ true → Pushes old mid e (match_state j) → Pushes mid new s (loop_state w (e ∷ [])) → IsSetOf is_any_byte w → BuildsWhole o ts j old.states new.states s
 everything_built o ts j old mid new w s e alone p q set = λ a agrees path k bytes.
     let more : length old.states ≤ length mid.states = omega (arith, p.len) in
-    let at : state a e ≡ final j = p.adds a (length old.states) (omega arith) (agrees_old a mid.states new.states (length old.states) q.keeps agrees) in
-    let here : state a s ≡ stays w (e ∷ []) = q.adds a (length old.states) more agrees in
+    let at : state a e ≡ match_state j = p.adds a (length old.states) (omega arith) (agrees_old a mid.states new.states (length old.states) q.keeps agrees) in
+    let here : state a s ≡ loop_state w (e ∷ []) = q.adds a (length old.states) more agrees in
     let one = everything_accepts a s e j k path bytes (w, here, set) at in (
       λ h. (one.0 h, or_first (is_prefix_alone ts) (tokens_match_each o ts path) alone),
       λ (is, m). one.1 is,
@@ -51,14 +51,14 @@ alone_weight o ts h = rw (alone_is ts h) (omega arith)
 
 -- ---- the tokens of one glob more
 
-in_push : (t s : ℕ) (xs : List ℕ) → IsIn t (xs ++ s ∷ []) ↔ (IsIn t xs ⊎ (t ≡ s))
+in_push : (t s : ℕ) (xs : List ℕ) → HasNumber t (xs ++ s ∷ []) ↔ (HasNumber t xs ⊎ (t ≡ s))
 in_push t s [] = (λ h. ⊎_elim {C = ⊥ ⊎ (t ≡ s)} (λ is. inr is) (λ no. absurd no) h, λ h. ⊎_elim {C = (t ≡ s) ⊎ ⊥} (λ no. absurd no) (λ is. inl is) h)
 in_push t s (x ∷ xs) = (
-  λ h. ⊎_elim {C = ((t ≡ x) ⊎ IsIn t xs) ⊎ (t ≡ s)}
+  λ h. ⊎_elim {C = ((t ≡ x) ⊎ HasNumber t xs) ⊎ (t ≡ s)}
       (λ here. inl (inl here))
-      (λ later. ⊎_elim {C = ((t ≡ x) ⊎ IsIn t xs) ⊎ (t ≡ s)} (λ earlier. inl (inr earlier)) (λ last. inr last) ((in_push t s xs).0 later)) h,
-  λ h. ⊎_elim {C = (t ≡ x) ⊎ IsIn t (xs ++ s ∷ [])}
-      (λ front. ⊎_elim {C = (t ≡ x) ⊎ IsIn t (xs ++ s ∷ [])} (λ here. inl here) (λ earlier. inr ((in_push t s xs).1 (inl earlier))) front)
+      (λ later. ⊎_elim {C = ((t ≡ x) ⊎ HasNumber t xs) ⊎ (t ≡ s)} (λ earlier. inl (inr earlier)) (λ last. inr last) ((in_push t s xs).0 later)) h,
+  λ h. ⊎_elim {C = (t ≡ x) ⊎ HasNumber t (xs ++ s ∷ [])}
+      (λ front. ⊎_elim {C = (t ≡ x) ⊎ HasNumber t (xs ++ s ∷ [])} (λ here. inl here) (λ earlier. inr ((in_push t s xs).1 (inl earlier))) front)
       (λ last. inr ((in_push t s xs).1 (inr last))) h,
 )
 
@@ -74,14 +74,14 @@ some_push x (y ∷ ys) path k = (
 )
 
 pub none_for : (m : Machine) → m.starts ≡ [] → IsFor m []
-none_for m is = λ a agrees path k bytes. (λ (s, at, h). subst (IsIn s) is at, λ h. absurd h)
+none_for m is = λ a agrees path k bytes. (λ (s, at, h). subst (HasNumber s) is at, λ h. absurd h)
 
 -- states that were added and that nothing leads to change nothing
 pub still_for : (old new : Machine) (xs : List IndexedTokens) → Grows old new → IsFor old xs → IsFor new xs
 still_for old new xs grows is = λ a agrees path k bytes.
     let before = is a (agrees_old a old.states new.states 0 grows.keeps agrees) path k bytes in (
-      λ (s, at, h). before.0 (s, subst (IsIn s) grows.starts at, h),
-      λ some. let (s, at, h) = before.1 some in (s, subst (IsIn s) (sym grows.starts) at, h),
+      λ (s, at, h). before.0 (s, subst (HasNumber s) grows.starts at, h),
+      λ some. let (s, at, h) = before.1 some in (s, subst (HasNumber s) (sym grows.starts) at, h),
     )
 
 pub on_err : {X E P : Type 0} (r : Result X E) → P → OnErr r P
@@ -100,10 +100,10 @@ one_more o ts j old mid new s xs grows built states starts before = λ a agrees'
       λ (t, at, h). ⊎_elim {C = SomeMatches (xs ++ this ∷ []) path k}
           (λ earlier. (some_push this xs path k).1 (inl (others.0 (t, earlier, h))))
           (λ is. (some_push this xs path k).1 (inr (one.0 (subst (λ u. Accepts a k u path) is h))))
-          ((in_push t s old.starts).0 (subst (IsIn t) starts' at)),
-      λ some. ⊎_elim {C = (t : ℕ) × IsIn t new.starts × Accepts a k t path}
-          (λ earlier. let (t, at, h) = others.1 earlier in (t, subst (IsIn t) (sym starts') ((in_push t s old.starts).1 (inl at)), h))
-          (λ this_one. (s, subst (IsIn s) (sym starts') ((in_push s s old.starts).1 (inr refl)), one.1 this_one))
+          ((in_push t s old.starts).0 (subst (HasNumber t) starts' at)),
+      λ some. ⊎_elim {C = (t : ℕ) × HasNumber t new.starts × Accepts a k t path}
+          (λ earlier. let (t, at, h) = others.1 earlier in (t, subst (HasNumber t) (sym starts') ((in_push t s old.starts).1 (inl at)), h))
+          (λ this_one. (s, subst (HasNumber s) (sym starts') ((in_push s s old.starts).1 (inr refl)), one.1 this_one))
           ((some_push this xs path k).0 some),
     )
 

@@ -11,7 +11,7 @@ use Rattle.glob_syntax.specs.ClassBytes.{class_has}
 use Rattle.glob_meaning.specs.TokenMatches.{token_matches, some_branch_matches, tokens_match_each, is_empty, is_one_byte, is_wild, is_wild_character, begins_with_slash, ends_with_slash, slash}
 use Rattle.glob_meaning.specs.Blank.{is_kept, any_kept}
 use Rattle.bit_sets.specs.Bytes.{has_byte}
-use Rattle.byte_nfa.specs.Steps.{State, reads, skips, stays, final, state, IsIn, Accepts, ends, by_byte, by_skip, by_out, by_stay}
+use Rattle.byte_nfa.specs.Steps.{State, bytes_state, union_state, loop_state, match_state, state, HasNumber, Accepts, ends, by_byte, by_skip, by_out, by_stay}
 use Rattle.bit_sets.specs.declared.byte_set.ByteSet.{ByteSet}
 use Rattle.bit_sets.specs.Texts.{AllBytes}
 use Rattle.glob_meaning.specs.inner.CharacterRows.{passes, wild_rows}
@@ -46,7 +46,7 @@ all_same test w (c ∷ cs) is bytes = (λ i. is c bytes.0 i && all_same test w c
 module _ (a : List State) where
   -- ---- what a state of each kind goes on to
 
-  reads_goes : (k s t : ℕ) (w : ByteSet) (y : List ℕ) → state a s ≡ reads w t → Accepts a k s y → (c : ℕ) × (z : List ℕ) × (y ≡ c ∷ z) × IsTrue (has_byte w c) × Accepts a k t z
+  reads_goes : (k s t : ℕ) (w : ByteSet) (y : List ℕ) → state a s ≡ bytes_state w t → Accepts a k s y → (c : ℕ) × (z : List ℕ) × (y ≡ c ∷ z) × IsTrue (has_byte w c) × Accepts a k t z
   reads_goes k s t w y e (ends s' f) = absurd (let g = sym e ∙ f in cc)
   reads_goes k s t w y e (by_byte s' t' c z w' f has rest) =
       let g = sym e ∙ f in let same_w : w' ≡ w = cc in let same_t : t' ≡ t = cc in
@@ -55,27 +55,27 @@ module _ (a : List State) where
   reads_goes k s t w y e (by_out s' t' z w' ts f m rest) = absurd (let g = sym e ∙ f in cc)
   reads_goes k s t w y e (by_stay s' c z w' ts f has rest) = absurd (let g = sym e ∙ f in cc)
 
-  skips_goes : (k s : ℕ) (ts y : List ℕ) → state a s ≡ skips ts → Accepts a k s y → (t : ℕ) × IsIn t ts × Accepts a k t y
+  skips_goes : (k s : ℕ) (ts y : List ℕ) → state a s ≡ union_state ts → Accepts a k s y → (t : ℕ) × HasNumber t ts × Accepts a k t y
   skips_goes k s ts y e (ends s' f) = absurd (let g = sym e ∙ f in cc)
   skips_goes k s ts y e (by_byte s' t' c z w' f has rest) = absurd (let g = sym e ∙ f in cc)
-  skips_goes k s ts y e (by_skip s' t' z ts' f m rest) = let g = sym e ∙ f in let same : ts' ≡ ts = cc in (t', subst (IsIn t') same m, rest)
+  skips_goes k s ts y e (by_skip s' t' z ts' f m rest) = let g = sym e ∙ f in let same : ts' ≡ ts = cc in (t', subst (HasNumber t') same m, rest)
   skips_goes k s ts y e (by_out s' t' z w' ts' f m rest) = absurd (let g = sym e ∙ f in cc)
   skips_goes k s ts y e (by_stay s' c z w' ts' f has rest) = absurd (let g = sym e ∙ f in cc)
 
-  stays_goes : (k s t : ℕ) (w : ByteSet) (y : List ℕ) → state a s ≡ stays w (t ∷ []) → Accepts a k s y → (u z : List ℕ) × (y ≡ u ++ z) × IsTrue (list_all (has_byte w) u) × Accepts a k t z
+  stays_goes : (k s t : ℕ) (w : ByteSet) (y : List ℕ) → state a s ≡ loop_state w (t ∷ []) → Accepts a k s y → (u z : List ℕ) × (y ≡ u ++ z) × IsTrue (list_all (has_byte w) u) × Accepts a k t z
   stays_goes k s t w y e (ends s' f) = absurd (let g = sym e ∙ f in cc)
   stays_goes k s t w y e (by_byte s' t' c z w' f has rest) = absurd (let g = sym e ∙ f in cc)
   stays_goes k s t w y e (by_skip s' t' z ts' f m rest) = absurd (let g = sym e ∙ f in cc)
   stays_goes k s t w y e (by_out s' t' z w' ts' f m rest) =
       let g = sym e ∙ f in let same : ts' ≡ t ∷ [] = cc in
-      let there : t' ≡ t = ⊎_elim {C = t' ≡ t} (λ i. i) (λ no. absurd no) (subst (IsIn t') same m) in
+      let there : t' ≡ t = ⊎_elim {C = t' ≡ t} (λ i. i) (λ no. absurd no) (subst (HasNumber t') same m) in
       ([], y, refl, refl, subst (λ u. Accepts a k u y) there rest)
   stays_goes k s t w y e (by_stay s' c z w' ts' f has rest) =
       let g = sym e ∙ f in let same : w' ≡ w = cc in
       let (u, v, cut, all, after) = stays_goes k s t w z e rest in
       (c ∷ u, v, ap (λ l. c ∷ l) cut, and_both (has_byte w c) (list_all (has_byte w) u) (subst (λ x. IsTrue (has_byte x c)) same has) all, after)
 
-  final_goes : (k j s : ℕ) (y : List ℕ) → state a s ≡ final j → Accepts a k s y → (j ≡ k) × (y ≡ [])
+  final_goes : (k j s : ℕ) (y : List ℕ) → state a s ≡ match_state j → Accepts a k s y → (j ≡ k) × (y ≡ [])
   final_goes k j s y e (ends s' f) = (let g = sym e ∙ f in let i : j ≡ k = cc in i, refl)
   final_goes k j s y e (by_byte s' t' c z w' f has rest) = absurd (let g = sym e ∙ f in cc)
   final_goes k j s y e (by_skip s' t' z ts' f m rest) = absurd (let g = sym e ∙ f in cc)
@@ -126,7 +126,7 @@ module _ (a : List State) where
         subst (Accepts a k s) (sym whole) (by_byte s e c z w is (set c (subst AllBytes whole bytes).0 ∙ has) rest),
   )
 
-  stay_back : (k s e : ℕ) (w : ByteSet) (u z : List ℕ) → state a s ≡ stays w (e ∷ []) → IsTrue (list_all (has_byte w) u) → Accepts a k e z → Accepts a k s (u ++ z)
+  stay_back : (k s e : ℕ) (w : ByteSet) (u z : List ℕ) → state a s ≡ loop_state w (e ∷ []) → IsTrue (list_all (has_byte w) u) → Accepts a k e z → Accepts a k s (u ++ z)
   stay_back k s e w [] z is all h = by_out s e z w (e ∷ []) is (inl refl) h
   stay_back k s e w (c ∷ cs) z is all h =
       by_stay s c (cs ++ z) w (e ∷ []) is (and_first (has_byte w c) (list_all (has_byte w) cs) all) (stay_back k s e w cs z is (and_second (has_byte w c) (list_all (has_byte w) cs) all) h)
@@ -244,20 +244,20 @@ module _ (a : List State) where
 
   -- from some of the states the automaton reads what passes some row
   abbrev RowsDo : List (List (ℕ → Bool)) → List ℕ → ℕ → ℕ → List ℕ → Type 0
-  RowsDo rows ss e k w = ((t : ℕ) × IsIn t ss × Accepts a k t w) ↔ ((y z : List ℕ) × (w ≡ y ++ z) × IsTrue (some_row rows y) × Accepts a k e z)
+  RowsDo rows ss e k w = ((t : ℕ) × HasNumber t ss × Accepts a k t w) ↔ ((y z : List ℕ) × (w ≡ y ++ z) × IsTrue (some_row rows y) × Accepts a k e z)
 
   row_more : (row : List (ℕ → Bool)) (rows : List (List (ℕ → Bool))) (s : ℕ) (ss : List ℕ) (e k : ℕ) (w : List ℕ) → AllBytes w
       → Does s (passes row) e → RowsDo rows ss e k w → RowsDo (row ∷ rows) (s ∷ ss) e k w
   row_more row rows s ss e k w bytes this others = (there, back)
     where
-      there : ((t : ℕ) × IsIn t (s ∷ ss) × Accepts a k t w) → (y z : List ℕ) × (w ≡ y ++ z) × IsTrue (some_row (row ∷ rows) y) × Accepts a k e z
+      there : ((t : ℕ) × HasNumber t (s ∷ ss) × Accepts a k t w) → (y z : List ℕ) × (w ≡ y ++ z) × IsTrue (some_row (row ∷ rows) y) × Accepts a k e z
       there (t, m, h) = ⊎_elim {C = (y z : List ℕ) × (w ≡ y ++ z) × IsTrue (some_row (row ∷ rows) y) × Accepts a k e z}
           (λ same. let (y, z, cut, p, after) = (this k w bytes).0 (subst (λ x. Accepts a k x w) same h) in (y, z, cut, or_first (passes row y) (some_row rows y) p, after))
           (λ other. let (y, z, cut, some, after) = others.0 (t, other, h) in (y, z, cut, or_second (passes row y) (some_row rows y) some, after))
           m
 
-      back : ((y z : List ℕ) × (w ≡ y ++ z) × IsTrue (some_row (row ∷ rows) y) × Accepts a k e z) → (t : ℕ) × IsIn t (s ∷ ss) × Accepts a k t w
-      back (y, z, cut, h, after) = ⊎_elim {C = (t : ℕ) × IsIn t (s ∷ ss) × Accepts a k t w}
+      back : ((y z : List ℕ) × (w ≡ y ++ z) × IsTrue (some_row (row ∷ rows) y) × Accepts a k e z) → (t : ℕ) × HasNumber t (s ∷ ss) × Accepts a k t w
+      back (y, z, cut, h, after) = ⊎_elim {C = (t : ℕ) × HasNumber t (s ∷ ss) × Accepts a k t w}
           (λ here. (s, inl refl, (this k w bytes).1 (y, z, cut, here, after)))
           (λ later. let (t, m, rest) = others.1 (y, z, cut, later, after) in (t, inr m, rest))
           (or_either (passes row y) (some_row rows y) h)
@@ -274,8 +274,8 @@ module _ (a : List State) where
 
   -- ---- groups
 
-  group_does : (o : Options) (bs : Branches) (ss : List ℕ) (s e : ℕ) → state a s ≡ skips ss
-      → ((k : ℕ) (w : List ℕ) → AllBytes w → ((t : ℕ) × IsIn t ss × Accepts a k t w) ↔ ((y z : List ℕ) × (w ≡ y ++ z) × IsTrue (token_matches o (Group bs) y) × Accepts a k e z))
+  group_does : (o : Options) (bs : Branches) (ss : List ℕ) (s e : ℕ) → state a s ≡ union_state ss
+      → ((k : ℕ) (w : List ℕ) → AllBytes w → ((t : ℕ) × HasNumber t ss × Accepts a k t w) ↔ ((y z : List ℕ) × (w ≡ y ++ z) × IsTrue (token_matches o (Group bs) y) × Accepts a k e z))
       → Does s (token_matches o (Group bs)) e
   group_does o bs ss s e is all k w bytes = (λ h. (all k w bytes).0 (skips_goes k s ss w is h), λ d. let (t, m, h) = (all k w bytes).1 d in by_skip s t w ss is m h)
 
@@ -295,29 +295,29 @@ module _ (a : List State) where
       (or_either (some_branch_matches o bs y) (not (any_kept o bs) && is_empty y) h)
 
   abbrev BranchesDo : Options → Branches → List ℕ → ℕ → ℕ → List ℕ → Type 0
-  BranchesDo o bs ss e k w = ((t : ℕ) × IsIn t ss × Accepts a k t w) ↔ ((y z : List ℕ) × (w ≡ y ++ z) × IsTrue (some_branch_matches o bs y) × Accepts a k e z)
+  BranchesDo o bs ss e k w = ((t : ℕ) × HasNumber t ss × Accepts a k t w) ↔ ((y z : List ℕ) × (w ≡ y ++ z) × IsTrue (some_branch_matches o bs y) × Accepts a k e z)
 
   branch_kept : (o : Options) (ts : Tokens) (bs : Branches) (ss us : List ℕ) (t e : ℕ) → IsTrue (is_kept o ts) → ss ≡ t ∷ us → (k : ℕ) (w : List ℕ) → AllBytes w
       → Does t (tokens_match_each o ts) e → BranchesDo o bs us e k w → BranchesDo o (branch ts bs) ss e k w
   branch_kept o ts bs ss us t e kept is k w bytes this others = (there, back)
     where
-      there : ((v : ℕ) × IsIn v ss × Accepts a k v w) → (y z : List ℕ) × (w ≡ y ++ z) × IsTrue (some_branch_matches o (branch ts bs) y) × Accepts a k e z
+      there : ((v : ℕ) × HasNumber v ss × Accepts a k v w) → (y z : List ℕ) × (w ≡ y ++ z) × IsTrue (some_branch_matches o (branch ts bs) y) × Accepts a k e z
       there (v, m, h) = ⊎_elim {C = (y z : List ℕ) × (w ≡ y ++ z) × IsTrue (some_branch_matches o (branch ts bs) y) × Accepts a k e z}
           (λ same. let (y, z, cut, all, after) = (this k w bytes).0 (subst (λ x. Accepts a k x w) same h) in
           (y, z, cut, or_first (is_kept o ts && tokens_match_each o ts y) (some_branch_matches o bs y) (and_both (is_kept o ts) (tokens_match_each o ts y) kept all), after))
           (λ other. let (y, z, cut, some, after) = others.0 (v, other, h) in (y, z, cut, or_second (is_kept o ts && tokens_match_each o ts y) (some_branch_matches o bs y) some, after))
-          (subst (IsIn v) is m)
+          (subst (HasNumber v) is m)
 
-      back : ((y z : List ℕ) × (w ≡ y ++ z) × IsTrue (some_branch_matches o (branch ts bs) y) × Accepts a k e z) → (v : ℕ) × IsIn v ss × Accepts a k v w
-      back (y, z, cut, h, after) = ⊎_elim {C = (v : ℕ) × IsIn v ss × Accepts a k v w}
-          (λ here. (t, subst (IsIn t) (sym is) (inl refl), (this k w bytes).1 (y, z, cut, and_second (is_kept o ts) (tokens_match_each o ts y) here, after)))
-          (λ later. let (v, m, rest) = others.1 (y, z, cut, later, after) in (v, subst (IsIn v) (sym is) (inr m), rest))
+      back : ((y z : List ℕ) × (w ≡ y ++ z) × IsTrue (some_branch_matches o (branch ts bs) y) × Accepts a k e z) → (v : ℕ) × HasNumber v ss × Accepts a k v w
+      back (y, z, cut, h, after) = ⊎_elim {C = (v : ℕ) × HasNumber v ss × Accepts a k v w}
+          (λ here. (t, subst (HasNumber t) (sym is) (inl refl), (this k w bytes).1 (y, z, cut, and_second (is_kept o ts) (tokens_match_each o ts y) here, after)))
+          (λ later. let (v, m, rest) = others.1 (y, z, cut, later, after) in (v, subst (HasNumber v) (sym is) (inr m), rest))
           (or_either (is_kept o ts && tokens_match_each o ts y) (some_branch_matches o bs y) h)
 
   branch_dropped : (o : Options) (ts : Tokens) (bs : Branches) (ss : List ℕ) (e : ℕ) → is_kept o ts ≡ false → (k : ℕ) (w : List ℕ) → BranchesDo o bs ss e k w → BranchesDo o (branch ts bs) ss e k w
   branch_dropped o ts bs ss e dropped k w others = (
     λ h. let (y, z, cut, some, after) = others.0 h in (y, z, cut, or_second (is_kept o ts && tokens_match_each o ts y) (some_branch_matches o bs y) some, after),
-    λ (y, z, cut, h, after). ⊎_elim {C = (t : ℕ) × IsIn t ss × Accepts a k t w}
+    λ (y, z, cut, h, after). ⊎_elim {C = (t : ℕ) × HasNumber t ss × Accepts a k t w}
         (λ here. absurd (true≢false (sym (and_first (is_kept o ts) (tokens_match_each o ts y) here) ∙ dropped)))
         (λ later. others.1 (y, z, cut, later, after))
         (or_either (is_kept o ts && tokens_match_each o ts y) (some_branch_matches o bs y) h),
@@ -349,18 +349,18 @@ module _ (a : List State) where
           λ (y, z, cut, some, after). d.1 (y, z, cut, some_only o bs y any some, after),
         ))
     token_does o (Group bs) s e (ss, is, inr (no_one, only)) = group_does o bs ss s e is (λ k w bytes. (
-      λ (t, m, h). ([], w, refl, none_matches o bs no_one, (let there : t ≡ e = ⊎_elim {C = t ≡ e} (λ i. i) (λ no. absurd no) (subst (IsIn t) only m) in subst (λ x. Accepts a k x w) there h)),
-      λ (y, z, cut, some, after). (e, subst (IsIn e) (sym only) (inl refl), subst (Accepts a k e) (sym (cut ∙ ap (λ l. l ++ z) (none_empty o bs y no_one some))) after),
+      λ (t, m, h). ([], w, refl, none_matches o bs no_one, (let there : t ≡ e = ⊎_elim {C = t ≡ e} (λ i. i) (λ no. absurd no) (subst (HasNumber t) only m) in subst (λ x. Accepts a k x w) there h)),
+      λ (y, z, cut, some, after). (e, subst (HasNumber e) (sym only) (inl refl), subst (Accepts a k e) (sym (cut ∙ ap (λ l. l ++ z) (none_empty o bs y no_one some))) after),
     ))
 
     branches_do : (o : Options) (bs : Branches) (ss : List ℕ) (e : ℕ) → AreBuilt o a ss bs e → (k : ℕ) (w : List ℕ) → AllBytes w → BranchesDo o bs ss e k w
-    branches_do o none ss e is k w bytes = (λ (t, m, h). absurd (subst (IsIn t) is m), λ (y, z, cut, some, after). absurd (true≢false (sym some)))
+    branches_do o none ss e is k w bytes = (λ (t, m, h). absurd (subst (HasNumber t) is m), λ (y, z, cut, some, after). absurd (true≢false (sym some)))
     branches_do o (branch ts bs) ss e (inl (kept, (t, us, is, built, rest))) k w bytes =
         branch_kept o ts bs ss us t e kept is k w bytes (built_does o ts t e built) (branches_do o bs us e rest k w bytes)
     branches_do o (branch ts bs) ss e (inr (dropped, rest)) k w bytes = branch_dropped o ts bs ss e dropped k w (branches_do o bs ss e rest k w bytes)
 
   -- tokens whose states lead from s to an end of the index j
-  pub tokens_accept : (o : Options) (ts : Tokens) (s e j k : ℕ) (b : List ℕ) → AllBytes b → IsBuilt o a s ts e → state a e ≡ final j → Accepts a k s b ↔ ((j ≡ k) × IsTrue (tokens_match_each o ts b))
+  pub tokens_accept : (o : Options) (ts : Tokens) (s e j k : ℕ) (b : List ℕ) → AllBytes b → IsBuilt o a s ts e → state a e ≡ match_state j → Accepts a k s b ↔ ((j ≡ k) × IsTrue (tokens_match_each o ts b))
   tokens_accept o ts s e j k b bytes built is = (
     λ h. let (y, z, cut, all, after) = (built_does o ts s e built k b bytes).0 h in
         let (same, nil) = final_goes k j e z is after in
@@ -369,7 +369,7 @@ module _ (a : List State) where
   )
 
   -- a state that stays on each byte, and leads to an end of the index j
-  pub everything_accepts : (s e j k : ℕ) (b : List ℕ) → AllBytes b → Loop a s is_any_byte e → state a e ≡ final j → Accepts a k s b ↔ (j ≡ k)
+  pub everything_accepts : (s e j k : ℕ) (b : List ℕ) → AllBytes b → Loop a s is_any_byte e → state a e ≡ match_state j → Accepts a k s b ↔ (j ≡ k)
   everything_accepts s e j k b bytes stay is = (
     λ h. let (y, z, cut, all, after) = (does_stay s e is_any_byte stay k b bytes).0 h in (final_goes k j e z is after).0,
     λ same. (does_stay s e is_any_byte stay k b bytes).1 (b, [], sym (append-nil b), any_all b, subst (λ u. Accepts a u e []) same (ends e is)),

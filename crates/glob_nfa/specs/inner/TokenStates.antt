@@ -8,7 +8,7 @@ use Rattle.glob_meaning.specs.TokenMatches.{slash, is_wild, compared}
 use Rattle.glob_meaning.specs.Blank.{is_kept, any_kept}
 use Rattle.glob_meaning.specs.inner.CharacterRows.{wild_rows}
 use Rattle.bit_sets.specs.Bytes.{has_byte}
-use Rattle.byte_nfa.specs.Steps.{State, reads, skips, stays, state}
+use Rattle.byte_nfa.specs.Steps.{State, bytes_state, union_state, loop_state, state}
 use Rattle.bit_sets.specs.declared.byte_set.ByteSet.{ByteSet}
 
 -- ---- one state
@@ -25,11 +25,11 @@ is_slash c = c == slash
 
 -- the state s reads a byte that passes the test, and goes on to e
 abbrev pub Bytes : List State → ℕ → (ℕ → Bool) → ℕ → Type 0
-Bytes a s test e = (w : ByteSet) × (state a s ≡ reads w e) × IsSetOf test w
+Bytes a s test e = (w : ByteSet) × (state a s ≡ bytes_state w e) × IsSetOf test w
 
 -- the state s stays on bytes that pass the test, and goes on to e
 abbrev pub Loop : List State → ℕ → (ℕ → Bool) → ℕ → Type 0
-Loop a s test e = (w : ByteSet) × (state a s ≡ stays w (e ∷ [])) × IsSetOf test w
+Loop a s test e = (w : ByteSet) × (state a s ≡ loop_state w (e ∷ [])) × IsSetOf test w
 
 -- ---- whole characters
 
@@ -47,7 +47,7 @@ AreRead a (s ∷ ss) (row ∷ rows) e = ReadsEach a s row e × AreRead a ss rows
 
 -- the states of such a `?`: s skips to one for each row
 abbrev pub IsCharacter : Options → List State → ℕ → ℕ → Type 0
-IsCharacter o a s e = (ss : List ℕ) × (state a s ≡ skips ss) × AreRead a ss (wild_rows o) e
+IsCharacter o a s e = (ss : List ℕ) × (state a s ≡ union_state ss) × AreRead a ss (wild_rows o) e
 
 -- ---- tokens
 
@@ -66,7 +66,7 @@ IsSpelled o a s (b ∷ bs) e = (t : ℕ) × Bytes a s (is_letter o b) t × IsSpe
 
 -- nothing, or any bytes that end in `/`
 abbrev pub IsToSlash : List State → ℕ → ℕ → Type 0
-IsToSlash a s e = (t u : ℕ) × (state a s ≡ skips (e ∷ t ∷ [])) × Loop a t is_any_byte u × Bytes a u is_slash e
+IsToSlash a s e = (t u : ℕ) × (state a s ≡ union_state (e ∷ t ∷ [])) × Loop a t is_any_byte u × Bytes a u is_slash e
 
 -- the states from s on are those of the tokens, and lead to e
 abbrev mutual
@@ -83,7 +83,7 @@ abbrev mutual
   IsBuiltToken o a s RecursiveZeroOrMore e = (t : ℕ) × Bytes a s is_slash t × IsToSlash a t e
   IsBuiltToken o a s (Class negated rs) e = Bytes a s (class_has o negated rs) e
   -- it skips to its kept branches, or to e where none is kept
-  IsBuiltToken o a s (Group bs) e = (ss : List ℕ) × (state a s ≡ skips ss) × ((IsTrue (any_kept o bs) × AreBuilt o a ss bs e) ⊎ (IsFalse (any_kept o bs) × (ss ≡ e ∷ [])))
+  IsBuiltToken o a s (Group bs) e = (ss : List ℕ) × (state a s ≡ union_state ss) × ((IsTrue (any_kept o bs) × AreBuilt o a ss bs e) ⊎ (IsFalse (any_kept o bs) × (ss ≡ e ∷ [])))
 
   -- the kept branches begin at these states, and lead to e
   pub AreBuilt : Options → List State → List ℕ → Branches → ℕ → Type 0

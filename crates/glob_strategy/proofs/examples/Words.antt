@@ -53,8 +53,8 @@ separated text = case text false true
 -- ---- results
 
 -- whether the glob is excluded, or `None` if its text is not a glob
-abbrev pub silence : Case → Option Bool
-silence x = elim (reading x.options (chars x.text)) [ Ok ts ↦ Some (are_excluded x.options ts) | Err f ↦ None ]
+abbrev pub excluded : Case → Option Bool
+excluded x = elim (reading x.options (chars x.text)) [ Ok ts ↦ Some (are_excluded x.options ts) | Err f ↦ None ]
 
 -- the strategy for the glob, or `None` if its text is not a glob
 abbrev pub strategy : Case → Option StrategyValue

@@ -258,6 +258,6 @@ fault_of (Ok ms) f h = absurd cc
 fault_of (Err e) f h = let i : e ≡ f = cc in ap (λ x. Err x) i
 
 -- the law
-pub faults_stay : ParseErrorsStay
+pub parse_errors_stay : ParseErrorsStay
 unfolding reading
-faults_stay o cs more f closed_only lasting h = ap whole_or_parse_error (text o f lasting more cs closed_only zero zero (fault_of (nested zero (lexemes o zero cs)) f h))
+parse_errors_stay o cs more f closed_only lasting h = ap whole_or_parse_error (text o f lasting more cs closed_only zero zero (fault_of (nested zero (lexemes o zero cs)) f h))

@@ -92,18 +92,18 @@ no_alone : (t : Token) (ts : Tokens) → is_prefix t ≡ false → is_prefix_alo
 no_alone t end h = h
 no_alone t (and_then u ts) h = refl
 
-no_silence : (t : Token) (ts : Tokens) → is_prefix t ≡ false → is_prefix_dot_dot (and_then t ts) ≡ false
-no_silence t end h = refl
-no_silence t (and_then u end) h = refl
-no_silence t (and_then u (and_then v end)) h = ap (λ b. b && (is_dot u && is_dot v)) h
-no_silence t (and_then u (and_then v (and_then w ts))) h = refl
+no_dot_dot : (t : Token) (ts : Tokens) → is_prefix t ≡ false → is_prefix_dot_dot (and_then t ts) ≡ false
+no_dot_dot t end h = refl
+no_dot_dot t (and_then u end) h = refl
+no_dot_dot t (and_then u (and_then v end)) h = ap (λ b. b && (is_dot u && is_dot v)) h
+no_dot_dot t (and_then u (and_then v (and_then w ts))) h = refl
 
 record NoPrefix (ts : Tokens) : Type 0 where
   alone : is_prefix_alone ts ≡ false
-  silence : is_prefix_dot_dot ts ≡ false
+  dot_dot : is_prefix_dot_dot ts ≡ false
 
 no_prefix_at : (t : Token) (ts : Tokens) → is_prefix t ≡ false → NoPrefix (and_then t ts)
-no_prefix_at t ts h = record { alone = no_alone t ts h; silence = no_silence t ts h }
+no_prefix_at t ts h = record { alone = no_alone t ts h; dot_dot = no_dot_dot t ts h }
 
 no_prefix : (e : Element) (es : List Element) → NoPrefix (before (all_tokens (e ∷ es)) end)
 no_prefix (Literal c) es = no_prefix_at _ _ refl
@@ -119,7 +119,7 @@ elements_exact e es s a None h = λ path. elements_none (e ∷ es) path s h
 elements_exact e es s a (Some text) h =
     let k = elements_read (e ∷ es) text s a h in
     let n = no_prefix e es in
-    of_tokens text (before (all_tokens (e ∷ es)) end) (elements_take (e ∷ es)) k.scalars (reads_as text k.text_lexemes _ k.marked k.nests (not_whole_run k.text_lexemes k.calm) (k.leveled true)) n.alone n.silence
+    of_tokens text (before (all_tokens (e ∷ es)) end) (elements_take (e ∷ es)) k.scalars (reads_as text k.text_lexemes _ k.marked k.nests (not_whole_run k.text_lexemes k.calm) (k.leveled true)) n.alone n.dot_dot
     (λ path. elements_take_as (e ∷ es) text path s h)
 
 -- ---- `**/` before elements

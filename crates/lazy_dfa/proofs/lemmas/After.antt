@@ -3,7 +3,7 @@ use Rattle.std.proofs.Common.{◌≡◌, ℕ, zero, suc, ◌+◌, ◌-◌, ◌<�
 use Rattle.std.specs.Prelude.{◌↔◌}
 use Rattle.std.proofs.lemmas.Bool.{cases_lt, eqb-true, eq-eqb, or_cases}
 use Rattle.std.proofs.Math.Logic.{⊎_elim}
-use Rattle.bit_sets.specs.Numbers.{is_reported, AreBelow}
+use Rattle.bit_sets.specs.Numbers.{has_number, AreBelow}
 use Rattle.bit_sets.specs.StateSets.{has_state}
 use Rattle.bit_sets.specs.Texts.{AllBytes}
 use Rattle.bit_sets.specs.declared.state_set.StateSet.{StateSet}
@@ -12,34 +12,34 @@ use Rattle.byte_nfa.proofs.lemmas.Pass.{or_first, or_second}
 use Rattle.byte_nfa.specs.EarlyMatches.{IsAtEarlyMatch, EndsAtEarlyMatches}
 use Rattle.byte_nfa.specs.Live.{AreLive, MatchesAfter}
 use Rattle.byte_nfa.specs.Runs.{size}
-use Rattle.byte_nfa.specs.Steps.{Machine, state, final, Accepts, IsReached, ends, by_byte, by_skip, by_out, by_stay}
+use Rattle.byte_nfa.specs.Steps.{Machine, state, match_state, Accepts, IsReached, ends, by_byte, by_skip, by_out, by_stay}
 use Rattle.byte_dfa.proofs.lemmas.After.{both_bytes}
 use Rattle.byte_dfa.specs.inner.Building.{half}
 use Rattle.lazy_dfa.specs.inner.Rows.{AcceptsIn, FindsBy}
 use Rattle.lazy_dfa.proofs.lemmas.Finding.{found_is}
 
 -- an item of a list
-reported_at : (list : List ℕ) (n : ℕ) → n < length list → IsTrue (is_reported (slice_index list n) list)
-reported_at [] n lt = absurd (omega (arith, lt))
-reported_at (x ∷ xs) zero lt = or_first (x == x) (is_reported x xs) (eq-eqb x x refl)
-reported_at (x ∷ xs) (suc n) lt = or_second (slice_index xs n == x) (is_reported (slice_index xs n) xs) (reported_at xs n (omega (arith, lt)))
+has_number_at : (list : List ℕ) (n : ℕ) → n < length list → IsTrue (has_number (slice_index list n) list)
+has_number_at [] n lt = absurd (omega (arith, lt))
+has_number_at (x ∷ xs) zero lt = or_first (x == x) (has_number x xs) (eq-eqb x x refl)
+has_number_at (x ∷ xs) (suc n) lt = or_second (slice_index xs n == x) (has_number (slice_index xs n) xs) (has_number_at xs n (omega (arith, lt)))
 
-at_reported : (t : ℕ) (list : List ℕ) → IsTrue (is_reported t list) → (n : ℕ) × (n < length list) × (slice_index list n ≡ t)
-at_reported t [] at = absurd (true≢false (sym at))
-at_reported t (x ∷ xs) at = ⊎_elim {C = (n : ℕ) × (n < length (x ∷ xs)) × (slice_index (x ∷ xs) n ≡ t)}
+number_place : (t : ℕ) (list : List ℕ) → IsTrue (has_number t list) → (n : ℕ) × (n < length list) × (slice_index list n ≡ t)
+number_place t [] at = absurd (true≢false (sym at))
+number_place t (x ∷ xs) at = ⊎_elim {C = (n : ℕ) × (n < length (x ∷ xs)) × (slice_index (x ∷ xs) n ≡ t)}
     (λ same. (0, omega arith, sym (eqb-true t x same)))
-    (λ rest. let (n, lt, is) = at_reported t xs rest in (suc n, omega (arith, lt), is))
-    (or_cases (t == x) (is_reported t xs) at)
+    (λ rest. let (n, lt, is) = number_place t xs rest in (suc n, omega (arith, lt), is))
+    (or_cases (t == x) (has_number t xs) at)
 
 module _ (m : Machine) (live : StateSet) (are : AreLive m live) (list : List ℕ) (below : AreBelow (size m) list) where
   -- a live state is in the list
   pub some_live : (n : ℕ) → n < length list → IsTrue (has_state live (slice_index list n)) → (k : ℕ) × (y : List ℕ) × AllBytes y × AcceptsIn m list y k
-  some_live n lt has = let (k, y, all, a) = (are (slice_index list n) (below n lt)).0 has in (k, y, all, (slice_index list n, reported_at list n lt, a))
+  some_live n lt has = let (k, y, all, a) = (are (slice_index list n) (below n lt)).0 has in (k, y, all, (slice_index list n, has_number_at list n lt, a))
 
   -- none is
   pub none_live : ((n : ℕ) → n < length list → has_state live (slice_index list n) ≡ false) → (k : ℕ) × (y : List ℕ) × AllBytes y × AcceptsIn m list y k → ⊥
   none_live none (k, y, all, (t, at, a)) =
-      let (n, lt, is) = at_reported t list at in
+      let (n, lt, is) = number_place t list at in
       let lives = (are (slice_index list n) (below n lt)).1 (k, y, all, subst (λ s. Accepts m.states k s y) (sym is) a) in
       true≢false (sym lives ∙ none n lt)
 
@@ -49,7 +49,7 @@ index_below old m made k s y (ends s' e) = ended (made.states s)
   where
     ended : IsAtEarlyMatch old.states old.index_count s (state m.states s) → k < half m + half m
     ended (inl (j, (w, t, e', every, g), f)) =
-        let both : final k ≡ final (old.index_count + j) = sym e ∙ f in
+        let both : match_state k ≡ match_state (old.index_count + j) = sym e ∙ f in
         let is : k ≡ old.index_count + j = cc in
         let lt = made.below t j g in
         let two = made.index_count in

@@ -6,7 +6,7 @@ use Rattle.std.proofs.lemmas.Nat.{mul-le}
 use Rattle.std.proofs.lemmas.List.{get_or_append_left, get_or-append_right, get_or-replicate, get_or-set_same, get_or-set_other, take_all, length-set, length-replicate}
 use Rattle.std.proofs.Math.Seq.{get_or-append_seam, drop-append-add}
 use Rattle.std.proofs.Math.Logic.{⊎_elim}
-use Rattle.bit_sets.specs.Numbers.{is_reported, AreBelow}
+use Rattle.bit_sets.specs.Numbers.{has_number, AreBelow}
 use Rattle.bit_sets.specs.StateSets.{has_state}
 use Rattle.bit_sets.specs.declared.state_set.StateSet.{StateSet}
 use Rattle.byte_nfa.specs.Steps.{Machine, IsReached, state}
@@ -40,7 +40,7 @@ same_place i c j d w hc hd e = ⊎_elim {C = (i ≡ j) × (c ≡ d)}
 
 -- states of a set, and of a list
 
-pub accepts_listed : (m : Machine) (set : StateSet) (list : List ℕ) → ((t : ℕ) → IsTrue (is_reported t list) ↔ ((t < size m) × IsTrue (has_state set t)))
+pub accepts_listed : (m : Machine) (set : StateSet) (list : List ℕ) → ((t : ℕ) → IsTrue (has_number t list) ↔ ((t < size m) × IsTrue (has_state set t)))
     → (y : List ℕ) (k : ℕ) → AcceptsFrom m set y k ↔ AcceptsIn m list y k
 accepts_listed m set list has y k = (
   λ (t, lt, at, h). (t, (has t).1 (lt, at), h),
@@ -48,14 +48,14 @@ accepts_listed m set list has y k = (
 )
 
 -- the states of a list were put into an empty set
-pub accepts_loaded : (m : Machine) (empty set : StateSet) (list : List ℕ) → ((t : ℕ) → has_state empty t ≡ false) → ((t : ℕ) → has_state set t ≡ (is_reported t list || has_state empty t))
+pub accepts_loaded : (m : Machine) (empty set : StateSet) (list : List ℕ) → ((t : ℕ) → has_state empty t ≡ false) → ((t : ℕ) → has_state set t ≡ (has_number t list || has_state empty t))
     → (y : List ℕ) (k : ℕ) → AcceptsIn m list y k ↔ AcceptsFrom m set y k
 accepts_loaded m empty set list none has y k = (
-  λ (t, at, h). (t, accepts_within m.states k t y h, has t ∙ or_first (is_reported t list) (has_state empty t) at, h),
-  λ (t, lt, at, h). (t, listed t (or_cases (is_reported t list) (has_state empty t) (sym (has t) ∙ at)), h),
+  λ (t, at, h). (t, accepts_within m.states k t y h, has t ∙ or_first (has_number t list) (has_state empty t) at, h),
+  λ (t, lt, at, h). (t, listed t (or_cases (has_number t list) (has_state empty t) (sym (has t) ∙ at)), h),
 )
   where
-    listed : (t : ℕ) → IsTrue (is_reported t list) ⊎ IsTrue (has_state empty t) → IsTrue (is_reported t list)
+    listed : (t : ℕ) → IsTrue (has_number t list) ⊎ IsTrue (has_state empty t) → IsTrue (has_number t list)
     listed t (inl at) = at
     listed t (inr at) = absurd (true≢false (sym at ∙ none t))
 
@@ -430,7 +430,7 @@ module _ (m : Machine) (old new : Rows) (row : ℕ) (list : List ℕ) (is : HasL
     class_count = is.class_count;
   }
 
-  pub listed_sound : AreBelow (half m + half m) list → ((k : ℕ) → IsTrue (is_reported k list) ↔ ((k < half m + half m) × AcceptsRow m old row [] k))
+  pub listed_sound : AreBelow (half m + half m) list → ((k : ℕ) → IsTrue (has_number k list) ↔ ((k < half m + half m) × AcceptsRow m old row [] k))
       → ((k : ℕ) × (k < half m + half m) × AcceptsRow m old row [] k) → HasRoomFor m new → IsSound m new
   listed_sound below has some room = record {
     room = room;

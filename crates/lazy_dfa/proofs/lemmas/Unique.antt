@@ -1,17 +1,17 @@
 -- There is one automaton with ends in place of the states of another that decide an index.
 use Rattle.std.proofs.Common.{◌≡◌, ℕ, suc, ◌+◌, inl, inr, List, [], ◌∷◌, length, refl, ap, sym, ◌∙◌, arith}
-use Rattle.byte_nfa.specs.Steps.{State, stays, final, state, Machine}
+use Rattle.byte_nfa.specs.Steps.{State, loop_state, match_state, state, Machine}
 use Rattle.byte_nfa.specs.EarlyMatches.{Decides, IsAtEarlyMatch, EndsAtEarlyMatches}
 
 decided_once : (a : List State) (s k j : ℕ) → Decides a s k → Decides a s j → k ≡ j
 decided_once a s k j (w, t, e, every, f) (w', t', e', every', f') =
-    let same : stays w (t ∷ []) ≡ stays w' (t' ∷ []) = sym e ∙ e' in
+    let same : loop_state w (t ∷ []) ≡ loop_state w' (t' ∷ []) = sym e ∙ e' in
     let is : t ≡ t' = cc in
-    let both : final k ≡ final j = sym f ∙ ap (state a) is ∙ f' in
+    let both : match_state k ≡ match_state j = sym f ∙ ap (state a) is ∙ f' in
     cc
 
 one_state : (a : List State) (n s : ℕ) (st st' : State) → IsAtEarlyMatch a n s st → IsAtEarlyMatch a n s st' → st ≡ st'
-one_state a n s st st' (inl (k, decides, is)) (inl (j, decides', is')) = is ∙ ap (λ i. final (n + i)) (decided_once a s k j decides decides') ∙ sym is'
+one_state a n s st st' (inl (k, decides, is)) (inl (j, decides', is')) = is ∙ ap (λ i. match_state (n + i)) (decided_once a s k j decides decides') ∙ sym is'
 one_state a n s st st' (inl (k, decides, is)) (inr (none, is')) = absurd (none k decides)
 one_state a n s st st' (inr (none, is)) (inl (k, decides, is')) = absurd (none k decides)
 one_state a n s st st' (inr (none, is)) (inr (none', is')) = is ∙ sym is'

@@ -3,12 +3,12 @@ use Rattle.std.specs.Prelude.{◌≡◌, ℕ, ◌+◌, ◌-◌, ◌*◌, ◌<◌
 use Rattle.bit_sets.specs.declared.index_set.IndexSet.{IndexSet}
 use Rattle.bit_sets.specs.Indexes.{has_index, index_capacity}
 use Rattle.bit_sets.specs.StateSets.{state_capacity}
-use Rattle.bit_sets.specs.Numbers.{is_reported}
+use Rattle.bit_sets.specs.Numbers.{has_number}
 use Rattle.byte_nfa.specs.Steps.{Accepts, Machine, IsReached}
 use Rattle.byte_nfa.specs.EarlyMatches.{EndsAtEarlyMatches}
 use Rattle.byte_nfa.specs.Runs.{size}
 use Rattle.byte_dfa.specs.inner.Building.{half}
-use Rattle.byte_dfa.specs.inner.Classes.{IsDivision}
+use Rattle.byte_dfa.specs.inner.Classes.{AreEquivalenceClasses}
 use Rattle.byte_dfa.specs.inner.Lists.{list_at, IsList, IsListOf, KeepsLists}
 use Rattle.lazy_dfa.specs.declared.rows.Rows.{Rows}
 use Rattle.lazy_dfa.specs.declared.rows.Step.{Step}
@@ -23,7 +23,7 @@ AreListed rows = (i : ℕ) → i < length rows.starts.items → slice_index rows
 
 -- from some state of a list the text leads to an end of the index k
 abbrev pub AcceptsIn : Machine → List ℕ → List ℕ → ℕ → Type 0
-AcceptsIn m list y k = (t : ℕ) × IsTrue (is_reported t list) × Accepts m.states k t y
+AcceptsIn m list y k = (t : ℕ) × IsTrue (has_number t list) × Accepts m.states k t y
 
 -- from some state of the row of number i the text leads to an end of the index k
 abbrev pub AcceptsRow : Machine → Rows → ℕ → List ℕ → ℕ → Type 0
@@ -118,7 +118,7 @@ place_of rows i c = i * (rows.class_count + 1) + c
 pub record IsSound (m : Machine) (rows : Rows) : Type 0 where
   pub room : HasRoomFor m rows
   pub representatives : List ℕ
-  pub classes : IsDivision m.states rows.class_of representatives rows.class_count
+  pub classes : AreEquivalenceClasses m.states rows.class_of representatives rows.class_count
   pub few : length rows.starts.items ≤ max_entries
   pub small : length rows.entries.items ≤ max_entries
   pub lists : (i : ℕ) → i < length rows.starts.items → IsList rows.lists.items (size m) (slice_index rows.starts.items i)

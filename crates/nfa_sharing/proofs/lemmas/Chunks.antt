@@ -8,7 +8,7 @@ use Rattle.bit_sets.specs.Numbers.{AreBelow}
 use Rattle.bit_sets.specs.declared.byte_set.ByteSet.{ByteSet}
 use Rattle.byte_nfa.specs.Building.{Agrees, Pushes}
 use Rattle.byte_nfa.specs.Runs.{size}
-use Rattle.byte_nfa.specs.Steps.{State, reads, skips, stays, final, state, Machine, IsIn, Accepts, ends, by_byte, by_skip, by_out, by_stay}
+use Rattle.byte_nfa.specs.Steps.{State, bytes_state, union_state, loop_state, match_state, state, Machine, HasNumber, Accepts, ends, by_byte, by_skip, by_out, by_stay}
 use Rattle.nfa_sharing.specs.declared.known.Known.{Known}
 use Rattle.nfa_sharing.specs.inner.Chunks.{with_next, IsChunk, IsPushedFor}
 use Rattle.nfa_sharing.specs.inner.Known.{IsSharing}
@@ -21,10 +21,10 @@ AcceptsBetween a l low high y k = (i : ℕ) × (low ≤ i) × (i < high) × Acce
 
 -- the first step of a text
 
-read_first : (a : List State) (k s t : ℕ) (w : ByteSet) (y : List ℕ) → state a s ≡ reads w t → Accepts a k s y → (c : ℕ) × (z : List ℕ) × (y ≡ c ∷ z) × IsTrue (has_byte w c) × Accepts a k t z
+read_first : (a : List State) (k s t : ℕ) (w : ByteSet) (y : List ℕ) → state a s ≡ bytes_state w t → Accepts a k s y → (c : ℕ) × (z : List ℕ) × (y ≡ c ∷ z) × IsTrue (has_byte w c) × Accepts a k t z
 read_first a k s t w y is (ends s' e) = absurd (let no = sym is ∙ e in cc)
 read_first a k s t w y is (by_byte s' u c z v e has rest) =
-    let eq : reads v u ≡ reads w t = sym e ∙ is in
+    let eq : bytes_state v u ≡ bytes_state w t = sym e ∙ is in
     let set : v ≡ w = cc in
     let next : u ≡ t = cc in
     (c, z, refl, subst (λ x. IsTrue (has_byte x c)) set has, subst (λ x. Accepts a k x z) next rest)
@@ -32,8 +32,8 @@ read_first a k s t w y is (by_skip s' u z ts e m rest) = absurd (let no = sym is
 read_first a k s t w y is (by_out s' u z v ts e m rest) = absurd (let no = sym is ∙ e in cc)
 read_first a k s t w y is (by_stay s' c z v ts e has rest) = absurd (let no = sym is ∙ e in cc)
 
-end_first : (a : List State) (k j s : ℕ) (y : List ℕ) → state a s ≡ final j → Accepts a k s y → (y ≡ []) × (k ≡ j)
-end_first a k j s y is (ends s' e) = let eq : final k ≡ final j = sym e ∙ is in (refl, cc)
+end_first : (a : List State) (k j s : ℕ) (y : List ℕ) → state a s ≡ match_state j → Accepts a k s y → (y ≡ []) × (k ≡ j)
+end_first a k j s y is (ends s' e) = let eq : match_state k ≡ match_state j = sym e ∙ is in (refl, cc)
 end_first a k j s y is (by_byte s' u c z v e has rest) = absurd (let no = sym is ∙ e in cc)
 end_first a k j s y is (by_skip s' u z ts e m rest) = absurd (let no = sym is ∙ e in cc)
 end_first a k j s y is (by_out s' u z v ts e m rest) = absurd (let no = sym is ∙ e in cc)
@@ -41,7 +41,7 @@ end_first a k j s y is (by_stay s' c z v ts e has rest) = absurd (let no = sym i
 
 module _ (old a : List State) (l : List ℕ) (low high : ℕ) (nexts : List ℕ) (u n : ℕ) (k : ℕ) where
   -- bytes
-  module _ (w : ByteSet) (t : ℕ) (chunk : IsChunk old l low high (reads w t) nexts) (is : state a u ≡ reads w n)
+  module _ (w : ByteSet) (t : ℕ) (chunk : IsChunk old l low high (bytes_state w t) nexts) (is : state a u ≡ bytes_state w n)
       (stands : (y : List ℕ) → Accepts a k n y ↔ AcceptsSome old nexts y k) where
     reads_chunk : (y : List ℕ) → Accepts a k u y ↔ AcceptsBetween old l low high y k
     reads_chunk y = (
@@ -55,37 +55,37 @@ module _ (old a : List State) (l : List ℕ) (low high : ℕ) (nexts : List ℕ)
     )
 
   -- loops
-  module _ (w : ByteSet) (us : List ℕ) (chunk : IsChunk old l low high (stays w us) nexts) (is : state a u ≡ stays w (n ∷ []))
+  module _ (w : ByteSet) (us : List ℕ) (chunk : IsChunk old l low high (loop_state w us) nexts) (is : state a u ≡ loop_state w (n ∷ []))
       (stands : (y : List ℕ) → Accepts a k n y ↔ AcceptsSome old nexts y k) where
-    loop_there : (s : ℕ) (y : List ℕ) → state a s ≡ stays w (n ∷ []) → Accepts a k s y → AcceptsBetween old l low high y k
+    loop_there : (s : ℕ) (y : List ℕ) → state a s ≡ loop_state w (n ∷ []) → Accepts a k s y → AcceptsBetween old l low high y k
     loop_there s y e0 (ends s' e) = absurd (let no = sym e0 ∙ e in cc)
     loop_there s y e0 (by_byte s' t c z v e has rest) = absurd (let no = sym e0 ∙ e in cc)
     loop_there s y e0 (by_skip s' t z ts e m rest) = absurd (let no = sym e0 ∙ e in cc)
     loop_there s y e0 (by_out s' t z v ts e m rest) =
-        let eq : stays v ts ≡ stays w (n ∷ []) = sym e ∙ e0 in
+        let eq : loop_state v ts ≡ loop_state w (n ∷ []) = sym e ∙ e0 in
         let exits : ts ≡ n ∷ [] = cc in
-        let out : Accepts a k n z = (accepts_one a z k n).0 (t, subst (IsIn t) exits m, rest) in
+        let out : Accepts a k n z = (accepts_one a z k n).0 (t, subst (HasNumber t) exits m, rest) in
         let (j, at, later) = (stands z).0 out in
         let (i, from, below, st) = chunk.comes j at in
         (i, from, below, by_out (slice_index l i) j z w (j ∷ []) st (inl refl) later)
     loop_there s y e0 (by_stay s' c z v ts e has rest) =
-        let eq : stays v ts ≡ stays w (n ∷ []) = sym e ∙ e0 in
+        let eq : loop_state v ts ≡ loop_state w (n ∷ []) = sym e ∙ e0 in
         let set : v ≡ w = cc in
         let (i, from, below, later) = loop_there s z e0 rest in
         let (j, at, st) = chunk.goes i from below in
         (i, from, below, by_stay (slice_index l i) c z w (j ∷ []) st (subst (λ x. IsTrue (has_byte x c)) set has) later)
 
-    loop_back : (s j : ℕ) (y : List ℕ) → IsIn j nexts → state old s ≡ stays w (j ∷ []) → Accepts old k s y → Accepts a k u y
+    loop_back : (s j : ℕ) (y : List ℕ) → HasNumber j nexts → state old s ≡ loop_state w (j ∷ []) → Accepts old k s y → Accepts a k u y
     loop_back s j y at e0 (ends s' e) = absurd (let no = sym e0 ∙ e in cc)
     loop_back s j y at e0 (by_byte s' t c z v e has rest) = absurd (let no = sym e0 ∙ e in cc)
     loop_back s j y at e0 (by_skip s' t z ts e m rest) = absurd (let no = sym e0 ∙ e in cc)
     loop_back s j y at e0 (by_out s' t z v ts e m rest) =
-        let eq : stays v ts ≡ stays w (j ∷ []) = sym e ∙ e0 in
+        let eq : loop_state v ts ≡ loop_state w (j ∷ []) = sym e ∙ e0 in
         let exits : ts ≡ j ∷ [] = cc in
-        let out : Accepts old k j z = (accepts_one old z k j).0 (t, subst (IsIn t) exits m, rest) in
+        let out : Accepts old k j z = (accepts_one old z k j).0 (t, subst (HasNumber t) exits m, rest) in
         by_out u n z w (n ∷ []) is (inl refl) ((stands z).1 (j, at, out))
     loop_back s j y at e0 (by_stay s' c z v ts e has rest) =
-        let eq : stays v ts ≡ stays w (j ∷ []) = sym e ∙ e0 in
+        let eq : loop_state v ts ≡ loop_state w (j ∷ []) = sym e ∙ e0 in
         let set : v ≡ w = cc in
         by_stay u c z w (n ∷ []) is (subst (λ x. IsTrue (has_byte x c)) set has) (loop_back s j z at e0 rest)
 
@@ -93,14 +93,14 @@ module _ (old a : List State) (l : List ℕ) (low high : ℕ) (nexts : List ℕ)
     stays_chunk y = (loop_there u y is, λ (i, from, below, h). let (j, at, st) = chunk.goes i from below in loop_back (slice_index l i) j y at st h)
 
   -- ends
-  ends_chunk : (j : ℕ) → low < high → IsChunk old l low high (final j) nexts → state a u ≡ final j → (y : List ℕ) → Accepts a k u y ↔ AcceptsBetween old l low high y k
+  ends_chunk : (j : ℕ) → low < high → IsChunk old l low high (match_state j) nexts → state a u ≡ match_state j → (y : List ℕ) → Accepts a k u y ↔ AcceptsBetween old l low high y k
   ends_chunk j some chunk is y = (
     λ h. let (nil, same) = end_first a k j u y is h in
         let (m, at, st) = chunk.goes low (omega arith) some in
-        (low, omega arith, some, subst (Accepts old k (slice_index l low)) (sym nil) (ends (slice_index l low) (st ∙ ap final (sym same)))),
+        (low, omega arith, some, subst (Accepts old k (slice_index l low)) (sym nil) (ends (slice_index l low) (st ∙ ap match_state (sym same)))),
     λ (i, from, below, h). let (m, at, st) = chunk.goes i from below in
         let (nil, same) = end_first old k j (slice_index l i) y st h in
-        subst (Accepts a k u) (sym nil) (ends u (is ∙ ap final (sym same))),
+        subst (Accepts a k u) (sym nil) (ends u (is ∙ ap match_state (sym same))),
   )
 
 -- the first states of a list, and those of a chunk behind them
@@ -144,17 +144,17 @@ module _ (old new more : Machine) (entries : List Known) (l : List ℕ) (low hig
 
   pub chunked : (st : State) → IsChunk old.states l low high st nexts → IsPushedFor new more entries st nexts u
       → AreChunked old new entries l low parts → AreChunked old more entries l high (parts ++ u ∷ [])
-  chunked (reads w t) chunk (n, known, pushes) before =
-      with_part (reads w n) pushes
+  chunked (bytes_state w t) chunk (n, known, pushes) before =
+      with_part (bytes_state w n) pushes
       (λ a agrees y k. reads_chunk old.states a l low high nexts u n k w t chunk (pushes.adds a 0 (omega arith) agrees)
       (λ z. (before.sharing.known nexts n known).stands a (agrees_before a new more pushes.keeps agrees) z k) y) before
-  chunked (skips us) chunk none before = absurd none
-  chunked (stays w us) chunk (n, known, pushes) before =
-      with_part (stays w (n ∷ [])) pushes
+  chunked (union_state us) chunk none before = absurd none
+  chunked (loop_state w us) chunk (n, known, pushes) before =
+      with_part (loop_state w (n ∷ [])) pushes
       (λ a agrees y k. stays_chunk old.states a l low high nexts u n k w us chunk (pushes.adds a 0 (omega arith) agrees)
       (λ z. (before.sharing.known nexts n known).stands a (agrees_before a new more pushes.keeps agrees) z k) y) before
-  chunked (final j) chunk pushes before =
-      with_part (final j) pushes (λ a agrees y k. ends_chunk old.states a l low high nexts u 0 k j some chunk (pushes.adds a 0 (omega arith) agrees) y) before
+  chunked (match_state j) chunk pushes before =
+      with_part (match_state j) pushes (λ a agrees y k. ends_chunk old.states a l low high nexts u 0 k j some chunk (pushes.adds a 0 (omega arith) agrees) y) before
 
 -- no state is in a chunk yet
 pub chunk_none : (a : List State) (l : List ℕ) (low : ℕ) (st : State) → IsChunk a l low low st []
@@ -165,10 +165,10 @@ chunk_none a l low st = record {
 
 -- one state more is in a chunk
 pub chunk_more : (a : List State) (l : List ℕ) (low high n : ℕ) (st : State) (nexts more : List ℕ) → low ≤ high → IsChunk a l low high st nexts
-    → state a (slice_index l high) ≡ with_next st n → IsIn n more → ((m : ℕ) → IsIn m nexts → IsIn m more) → ((m : ℕ) → IsIn m more → IsIn m nexts ⊎ (m ≡ n))
+    → state a (slice_index l high) ≡ with_next st n → HasNumber n more → ((m : ℕ) → HasNumber m nexts → HasNumber m more) → ((m : ℕ) → HasNumber m more → HasNumber m nexts ⊎ (m ≡ n))
     → IsChunk a l low (high + 1) st more
 chunk_more a l low high n st nexts more order chunk is this keeps adds = record {
-  goes = λ i from below. ⊎_elim {C = (m : ℕ) × IsIn m more × (state a (slice_index l i) ≡ with_next st m)}
+  goes = λ i from below. ⊎_elim {C = (m : ℕ) × HasNumber m more × (state a (slice_index l i) ≡ with_next st m)}
       (λ before. let (m, at, goes) = chunk.goes i from before in (m, keeps m at, goes))
       (λ after. let same : high ≡ i = omega arith in (n, this, subst (λ x. state a (slice_index l x) ≡ with_next st n) same is))
       (cases_lt i high);
@@ -181,25 +181,25 @@ chunk_more a l low high n st nexts more order chunk is this keeps adds = record 
 pub chunk_pushed : (a : List State) (l : List ℕ) (low high n : ℕ) (st : State) (nexts more : List ℕ) → low ≤ high → IsChunk a l low high st nexts
     → state a (slice_index l high) ≡ with_next st n → more ≡ nexts ++ n ∷ [] → IsChunk a l low (high + 1) st more
 chunk_pushed a l low high n st nexts more order chunk is are =
-    chunk_more a l low high n st nexts more order chunk is (subst (IsIn n) (sym are) ((in_append n nexts (n ∷ [])).1 (inr (inl refl))))
-    (λ m at. subst (IsIn m) (sym are) ((in_append m nexts (n ∷ [])).1 (inl at)))
-    (λ m at. ⊎_elim {C = IsIn m nexts ⊎ (m ≡ n)} (λ old. inl old) (λ new. inr (one m new)) ((in_append m nexts (n ∷ [])).0 (subst (IsIn m) are at)))
+    chunk_more a l low high n st nexts more order chunk is (subst (HasNumber n) (sym are) ((in_append n nexts (n ∷ [])).1 (inr (inl refl))))
+    (λ m at. subst (HasNumber m) (sym are) ((in_append m nexts (n ∷ [])).1 (inl at)))
+    (λ m at. ⊎_elim {C = HasNumber m nexts ⊎ (m ≡ n)} (λ old. inl old) (λ new. inr (one m new)) ((in_append m nexts (n ∷ [])).0 (subst (HasNumber m) are at)))
   where
-    one : (m : ℕ) → IsIn m (n ∷ []) → m ≡ n
+    one : (m : ℕ) → HasNumber m (n ∷ []) → m ≡ n
     one m (inl e) = e
     one m (inr none) = absurd none
 
 -- the last of a list is in it
-pub last_in : (xs : List ℕ) (n : ℕ) → slice_get xs (length xs - 1) ≡ Some n → IsIn n xs
+pub last_in : (xs : List ℕ) (n : ℕ) → slice_get xs (length xs - 1) ≡ Some n → HasNumber n xs
 last_in xs n is = found xs (length xs - 1) n is
   where
-    found : (xs : List ℕ) (i n : ℕ) → slice_get xs i ≡ Some n → IsIn n xs
+    found : (xs : List ℕ) (i n : ℕ) → slice_get xs i ≡ Some n → HasNumber n xs
     found [] i n e = absurd (let no : None ≡ Some n = e in cc)
     found (x ∷ xs) zero n e = inl (let eq : Some x ≡ Some n = e in cc)
     found (x ∷ xs) (suc i) n e = inr (found xs i n e)
 
 pub chunk_again : (a : List State) (l : List ℕ) (low high n : ℕ) (st : State) (nexts : List ℕ) → low ≤ high → IsChunk a l low high st nexts
-    → state a (slice_index l high) ≡ with_next st n → IsIn n nexts → IsChunk a l low (high + 1) st nexts
+    → state a (slice_index l high) ≡ with_next st n → HasNumber n nexts → IsChunk a l low (high + 1) st nexts
 chunk_again a l low high n st nexts order chunk is at = chunk_more a l low high n st nexts nexts order chunk is at (λ m h. h) (λ m h. inl h)
 
 -- no chunk was read yet
@@ -222,7 +222,7 @@ whole_one old new entries l parts n u len are chunked = record {
 }
 
 -- there are several, and a union of them was pushed
-pub whole_union : (old new more : Machine) (entries : List Known) (l parts : List ℕ) (n u : ℕ) → n ≡ length l → AreChunked old new entries l n parts → Pushes new more u (skips parts) → IsStateFor old more l u
+pub whole_union : (old new more : Machine) (entries : List Known) (l parts : List ℕ) (n u : ℕ) → n ≡ length l → AreChunked old new entries l n parts → Pushes new more u (union_state parts) → IsStateFor old more l u
 whole_union old new more entries l parts n u len chunked pushes = record {
   below = omega (arith, pushes.len, pushes.at);
   stands = λ a agrees y k.

@@ -7,34 +7,34 @@ use Rattle.std.proofs.Math.Logic.{⊎_elim}
 use Rattle.bit_sets.specs.Numbers.{AreBelow}
 use Rattle.byte_nfa.specs.Building.{Agrees, Keeps}
 use Rattle.byte_nfa.specs.Runs.{size}
-use Rattle.byte_nfa.specs.Steps.{State, skips, state, Machine, IsIn, Accepts, ends, by_byte, by_skip, by_out, by_stay}
+use Rattle.byte_nfa.specs.Steps.{State, union_state, state, Machine, HasNumber, Accepts, ends, by_byte, by_skip, by_out, by_stay}
 use Rattle.nfa_sharing.specs.inner.Lists.{AcceptsSome, AcceptsBefore, AcceptAlike, IsStateFor}
 
 -- members
 
-pub in_append : (t : ℕ) (xs ys : List ℕ) → IsIn t (xs ++ ys) ↔ (IsIn t xs ⊎ IsIn t ys)
-in_append t xs ys = (there t xs ys, λ h. ⊎_elim {C = IsIn t (xs ++ ys)} (first t xs ys) (second t xs ys) h)
+pub in_append : (t : ℕ) (xs ys : List ℕ) → HasNumber t (xs ++ ys) ↔ (HasNumber t xs ⊎ HasNumber t ys)
+in_append t xs ys = (there t xs ys, λ h. ⊎_elim {C = HasNumber t (xs ++ ys)} (first t xs ys) (second t xs ys) h)
   where
-    there : (t : ℕ) (xs ys : List ℕ) → IsIn t (xs ++ ys) → IsIn t xs ⊎ IsIn t ys
+    there : (t : ℕ) (xs ys : List ℕ) → HasNumber t (xs ++ ys) → HasNumber t xs ⊎ HasNumber t ys
     there t [] ys h = inr h
     there t (x ∷ xs) ys (inl e) = inl (inl e)
-    there t (x ∷ xs) ys (inr h) = ⊎_elim {C = ((t ≡ x) ⊎ IsIn t xs) ⊎ IsIn t ys} (λ a. inl (inr a)) (λ b. inr b) (there t xs ys h)
+    there t (x ∷ xs) ys (inr h) = ⊎_elim {C = ((t ≡ x) ⊎ HasNumber t xs) ⊎ HasNumber t ys} (λ a. inl (inr a)) (λ b. inr b) (there t xs ys h)
 
-    first : (t : ℕ) (xs ys : List ℕ) → IsIn t xs → IsIn t (xs ++ ys)
+    first : (t : ℕ) (xs ys : List ℕ) → HasNumber t xs → HasNumber t (xs ++ ys)
     first t [] ys h = absurd h
     first t (x ∷ xs) ys (inl e) = inl e
     first t (x ∷ xs) ys (inr h) = inr (first t xs ys h)
 
-    second : (t : ℕ) (xs ys : List ℕ) → IsIn t ys → IsIn t (xs ++ ys)
+    second : (t : ℕ) (xs ys : List ℕ) → HasNumber t ys → HasNumber t (xs ++ ys)
     second t [] ys h = h
     second t (x ∷ xs) ys h = inr (second t xs ys h)
 
-pub place_in : (t : ℕ) (xs : List ℕ) → IsIn t xs → (i : ℕ) × (i < length xs) × (slice_index xs i ≡ t)
+pub place_in : (t : ℕ) (xs : List ℕ) → HasNumber t xs → (i : ℕ) × (i < length xs) × (slice_index xs i ≡ t)
 place_in t [] h = absurd h
 place_in t (x ∷ xs) (inl e) = (0, omega arith, sym e)
 place_in t (x ∷ xs) (inr h) = let (i, lt, is) = place_in t xs h in (suc i, omega arith, is)
 
-pub in_place : (xs : List ℕ) (i : ℕ) → i < length xs → IsIn (slice_index xs i) xs
+pub in_place : (xs : List ℕ) (i : ℕ) → i < length xs → HasNumber (slice_index xs i) xs
 in_place [] i lt = absurd (omega arith)
 in_place (x ∷ xs) zero lt = inl refl
 in_place (x ∷ xs) (suc i) lt = inr (in_place xs i (omega arith))
@@ -62,13 +62,13 @@ module _ (a : List State) (y : List ℕ) (k : ℕ) where
       one (t, inr other, h) = absurd other
 
   -- a union accepts what the states that it goes on to accept
-  pub union_accepts : (s : ℕ) (us : List ℕ) → state a s ≡ skips us → Accepts a k s y ↔ AcceptsSome a us y k
+  pub union_accepts : (s : ℕ) (us : List ℕ) → state a s ≡ union_state us → Accepts a k s y ↔ AcceptsSome a us y k
   union_accepts s us is = (there s y is, λ (t, at, h). by_skip s t y us is at h)
     where
-      there : (s : ℕ) (y : List ℕ) → state a s ≡ skips us → Accepts a k s y → AcceptsSome a us y k
+      there : (s : ℕ) (y : List ℕ) → state a s ≡ union_state us → Accepts a k s y → AcceptsSome a us y k
       there s y is (ends s' e) = absurd (let no = sym is ∙ e in cc)
       there s y is (by_byte s' t c z w e has rest) = absurd (let no = sym is ∙ e in cc)
-      there s y is (by_skip s' t z ts e m rest) = let same : ts ≡ us = (let eq = sym e ∙ is in cc) in (t, subst (IsIn t) same m, rest)
+      there s y is (by_skip s' t z ts e m rest) = let same : ts ≡ us = (let eq = sym e ∙ is in cc) in (t, subst (HasNumber t) same m, rest)
       there s y is (by_out s' t z w ts e m rest) = absurd (let no = sym is ∙ e in cc)
       there s y is (by_stay s' c z w ts e has rest) = absurd (let no = sym is ∙ e in cc)
 
@@ -80,11 +80,11 @@ module _ (a : List State) (y : List ℕ) (k : ℕ) where
   )
 
 -- lists with the same members are alike
-pub alike_members : (m : Machine) (xs ys : List ℕ) → ((s : ℕ) → IsIn s xs ↔ IsIn s ys) → AcceptAlike m xs ys
+pub alike_members : (m : Machine) (xs ys : List ℕ) → ((s : ℕ) → HasNumber s xs ↔ HasNumber s ys) → AcceptAlike m xs ys
 alike_members m xs ys same y k = (λ (s, at, h). (s, (same s).0 at, h), λ (s, at, h). (s, (same s).1 at, h))
 
 -- a list is alike another whose members, in some order, are those of a list that it is alike
-pub alike_in_order : (m : Machine) (list states in_order : List ℕ) → AcceptAlike m list states → ((s : ℕ) → IsIn s in_order ↔ IsIn s states) → AcceptAlike m list in_order
+pub alike_in_order : (m : Machine) (list states in_order : List ℕ) → AcceptAlike m list states → ((s : ℕ) → HasNumber s in_order ↔ HasNumber s states) → AcceptAlike m list in_order
 alike_in_order m list states in_order alike members y k =
     let same : AcceptAlike m in_order states = alike_members m in_order states members in
     (λ h. (same y k).1 ((alike y k).0 h), λ h. (alike y k).1 ((same y k).0 h))
@@ -111,7 +111,7 @@ state_of_alike old new l l' u alike made = record {
 module _ (a : List State) (list states waiting rest : List ℕ) (s : ℕ) (cut : waiting ≡ rest ++ s ∷ [])
     (same : (y : List ℕ) (k : ℕ) → AcceptsSome a list y k ↔ (AcceptsSome a states y k ⊎ AcceptsSome a waiting y k)) where
   -- what a union goes on to waits in its place
-  pub union_taken : (us more : List ℕ) → state a s ≡ skips us → more ≡ rest ++ us → (y : List ℕ) (k : ℕ) → AcceptsSome a list y k ↔ (AcceptsSome a states y k ⊎ AcceptsSome a more y k)
+  pub union_taken : (us more : List ℕ) → state a s ≡ union_state us → more ≡ rest ++ us → (y : List ℕ) (k : ℕ) → AcceptsSome a list y k ↔ (AcceptsSome a states y k ⊎ AcceptsSome a more y k)
   union_taken us more is are y k =
       let ends_with = accepts_append a y k rest (s ∷ []) in
       let goes_on = accepts_append a y k rest us in
@@ -146,17 +146,17 @@ none_waits a list states waiting none same y k = (
 
 -- members in another order
 
-in_contains : (s : ℕ) (xs : List ℕ) → IsIn s xs → Contains xs s
+in_contains : (s : ℕ) (xs : List ℕ) → HasNumber s xs → Contains xs s
 in_contains s [] h = absurd h
 in_contains s (x ∷ xs) (inl e) = (0, omega arith, sym e)
 in_contains s (x ∷ xs) (inr h) = let (i, lt, is) = in_contains s xs h in (suc i, omega arith, is)
 
-contains_in : (s : ℕ) (xs : List ℕ) → Contains xs s → IsIn s xs
+contains_in : (s : ℕ) (xs : List ℕ) → Contains xs s → HasNumber s xs
 contains_in s [] (i, lt, is) = absurd (omega arith)
 contains_in s (x ∷ xs) (zero, lt, is) = inl (sym is)
 contains_in s (x ∷ xs) (suc i, lt, is) = inr (contains_in s xs (i, omega arith, is))
 
-pub members_permuted : (xs ys : List ℕ) → IsPermutation xs ys → (s : ℕ) → IsIn s ys ↔ IsIn s xs
+pub members_permuted : (xs ys : List ℕ) → IsPermutation xs ys → (s : ℕ) → HasNumber s ys ↔ HasNumber s xs
 members_permuted xs ys moved s = (
   λ h. contains_in s xs (Contains-permutation ys xs s (IsPermutation-sym xs ys moved) (in_contains s ys h)),
   λ h. contains_in s ys (Contains-permutation xs ys s moved (in_contains s xs h)),

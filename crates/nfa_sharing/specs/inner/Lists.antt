@@ -2,11 +2,11 @@
 use Rattle.std.specs.Prelude.{ℕ, ◌<◌, ◌↔◌, List, slice_index}
 use Rattle.byte_nfa.specs.Building.{Agrees}
 use Rattle.byte_nfa.specs.Runs.{size}
-use Rattle.byte_nfa.specs.Steps.{State, Machine, IsIn, Accepts}
+use Rattle.byte_nfa.specs.Steps.{State, Machine, HasNumber, Accepts}
 
 -- from some state of the list the text leads to an end of the index k
 abbrev pub AcceptsSome : List State → List ℕ → List ℕ → ℕ → Type 0
-AcceptsSome a l y k = (s : ℕ) × IsIn s l × Accepts a k s y
+AcceptsSome a l y k = (s : ℕ) × HasNumber s l × Accepts a k s y
 
 -- both lists lead each text to the same ends
 abbrev pub AcceptAlike : Machine → List ℕ → List ℕ → Type 0

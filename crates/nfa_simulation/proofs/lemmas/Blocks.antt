@@ -7,7 +7,7 @@ use Rattle.std.proofs.Math.Logic.{⊎_elim}
 use Rattle.std.proofs.lemmas.List.{places}
 use Rattle.std.proofs.lemmas.Nat.Bits.{bit_at_and, bit_at-lt}
 use Rattle.bit_sets.specs.Bits.{bit_of, is_in_word}
-use Rattle.byte_nfa.specs.Steps.{State, reads, state}
+use Rattle.byte_nfa.specs.Steps.{State, bytes_state, state}
 use Rattle.byte_nfa.specs.inner.Pass.{goes_now, goes_next}
 use Rattle.bit_sets.specs.Bytes.{has_byte}
 use Rattle.nfa_simulation.specs.declared.blocks.Block.{Block}
@@ -163,7 +163,7 @@ below_same x t s down = elim (cases_eq x t) [
   | inr ne ↦ rw (ne_eqb x t ne, ne_eqb (x + 1) s (λ e. ne (omega arith))) refl
 ]
 
-module _ (a : List State) (low s : ℕ) (old new : List ℕ) (set : ByteSet) (t : ℕ) (is : state a s ≡ reads set t) (down : t + 1 ≡ s)
+module _ (a : List State) (low s : ℕ) (old new : List ℕ) (set : ByteSet) (t : ℕ) (is : state a s ≡ bytes_state set t) (down : t + 1 ≡ s)
     (column : (j c : ℕ) → j < 64 → c < 256 → bit_of new (64 * c + j) ≡ (((j == s % 64) && has_byte set c) || bit_of old (64 * c + j)))
     (le : low ≤ s) (word : s < 64 * (low / 64) + 64)
     (others : (u c : ℕ) → c < 256 → u / 64 ≡ low / 64 → IsTrue (has_mask old 0 u c) → (low ≤ u) × (u < s)) where

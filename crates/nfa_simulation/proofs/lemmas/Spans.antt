@@ -5,8 +5,8 @@ use Rattle.std.proofs.lemmas.Bool.{eqb-true, eq-eqb, or_cases, cases_Bool, cases
 use Rattle.std.proofs.Math.Logic.{⊎_elim}
 use Rattle.bit_sets.specs.Bytes.{has_byte}
 use Rattle.bit_sets.specs.StateSets.{has_state}
-use Rattle.byte_nfa.specs.Steps.{State, reads, skips, stays, final, Machine, Accepts}
-use Rattle.bit_sets.specs.Numbers.{AreFrom, is_reported}
+use Rattle.byte_nfa.specs.Steps.{State, bytes_state, union_state, loop_state, match_state, Machine, Accepts}
+use Rattle.bit_sets.specs.Numbers.{AreFrom, has_number}
 use Rattle.byte_nfa.specs.Parts.{GoesFrom}
 use Rattle.byte_nfa.specs.Runs.{size, AcceptsBelow, AcceptsFrom}
 use Rattle.byte_nfa.specs.Spans.{IsFrom, IsWithin}
@@ -17,23 +17,23 @@ use Rattle.bit_sets.specs.declared.state_set.StateSet.{StateSet}
 
 -- every state goes on to states from 0 on
 pub from_zero : (st : State) → GoesFrom 0 st
-from_zero (reads w t) = omega arith
-from_zero (skips us) = λ i lt. omega arith
-from_zero (stays w us) = λ i lt. omega arith
-from_zero (final k) = tt
+from_zero (bytes_state w t) = omega arith
+from_zero (union_state us) = λ i lt. omega arith
+from_zero (loop_state w us) = λ i lt. omega arith
+from_zero (match_state k) = tt
 
-listed_from : (low t : ℕ) (us : List ℕ) → AreFrom low us → is_reported t us ≡ true → low ≤ t
+listed_from : (low t : ℕ) (us : List ℕ) → AreFrom low us → has_number t us ≡ true → low ≤ t
 listed_from low t [] h e = absurd (true≢false (sym e))
 listed_from low t (u ∷ us) h e = ⊎_elim {C = low ≤ t}
     (λ is. let same : t ≡ u = eqb-true t u is in let first : low ≤ u = h 0 (omega arith) in omega arith)
     (λ other. listed_from low t us (λ i lt. h (suc i) (omega arith)) other)
-    (or_cases (t == u) (is_reported t us) e)
+    (or_cases (t == u) (has_number t us) e)
 
 pub goes_now_to : (low : ℕ) (st : State) → GoesFrom low st → (t : ℕ) → goes_now st t ≡ true → low ≤ t
-goes_now_to low (reads w u) h t e = absurd (true≢false (sym e))
-goes_now_to low (skips us) h t e = listed_from low t us h e
-goes_now_to low (stays w us) h t e = listed_from low t us h e
-goes_now_to low (final k) h t e = absurd (true≢false (sym e))
+goes_now_to low (bytes_state w u) h t e = absurd (true≢false (sym e))
+goes_now_to low (union_state us) h t e = listed_from low t us h e
+goes_now_to low (loop_state w us) h t e = listed_from low t us h e
+goes_now_to low (match_state k) h t e = absurd (true≢false (sym e))
 
 -- what is put in for the step of a state keeps a set from a bound on
 pub still_from : (low : ℕ) (st : State) → GoesFrom low st → (now now' : ℕ → Bool) → ((t : ℕ) → now' t ≡ (goes_now st t || now t))
@@ -52,12 +52,12 @@ read_from low s now none at = ⊎_elim {C = low ≤ s} (λ lt. absurd (true≢fa
 
 -- a step by a byte leads to no lower and to no higher state
 pub goes_next_to : (low s b : ℕ) (st : State) → low ≤ s → GoesFrom low st → GoesBelow s st → (t : ℕ) → goes_next st s (Some b) t ≡ true → (low ≤ t) × (t ≤ s)
-goes_next_to low s b (reads w u) le from below t e =
+goes_next_to low s b (bytes_state w u) le from below t e =
     let same : t ≡ u = eqb-true t u (and_second (has_byte w b) (t == u) e) in (omega (arith, from), omega (arith, below))
-goes_next_to low s b (skips us) le from below t e = absurd (true≢false (sym e))
-goes_next_to low s b (stays w us) le from below t e =
+goes_next_to low s b (union_state us) le from below t e = absurd (true≢false (sym e))
+goes_next_to low s b (loop_state w us) le from below t e =
     let same : t ≡ s = eqb-true t s (and_second (has_byte w b) (t == s) e) in (omega arith, omega arith)
-goes_next_to low s b (final k) le from below t e = absurd (true≢false (sym e))
+goes_next_to low s b (match_state k) le from below t e = absurd (true≢false (sym e))
 
 -- what is put in for the step of a state keeps a set within bounds
 pub still_within : (low high s b : ℕ) (st : State) → low ≤ s → s < high → GoesFrom low st → GoesBelow s st → (next next' : ℕ → Bool)

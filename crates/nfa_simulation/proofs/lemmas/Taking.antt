@@ -4,7 +4,7 @@ use Rattle.std.specs.Prelude.{◌↔◌, ◌==◌, ◌||◌}
 use Rattle.std.proofs.lemmas.Bool.{eqb-true, or_cases, cases_lt, cases_Bool}
 use Rattle.std.proofs.Math.Logic.{⊎_elim}
 use Rattle.bit_sets.specs.Bytes.{has_byte}
-use Rattle.byte_nfa.specs.Steps.{State, reads, skips, stays, final, state}
+use Rattle.byte_nfa.specs.Steps.{State, bytes_state, union_state, loop_state, match_state, state}
 use Rattle.byte_nfa.specs.Parts.{GoesFrom}
 use Rattle.byte_nfa.specs.inner.Views.{GoesBelow}
 use Rattle.byte_nfa.specs.inner.Pass.{goes_now, goes_next, PassInvariant}
@@ -102,10 +102,10 @@ takes_more a end limit c low now next now' next' some le none takes = record {
 -- what is taken keeps the sets within bounds
 
 goes_next_from : (low s b : ℕ) (st : State) → low ≤ s → GoesFrom low st → (t : ℕ) → goes_next st s (Some b) t ≡ true → low ≤ t
-goes_next_from low s b (reads w u) le from t e = let same : t ≡ u = eqb-true t u (and_second (has_byte w b) (t == u) e) in omega (arith, from)
-goes_next_from low s b (skips us) le from t e = absurd (true≢false (sym e))
-goes_next_from low s b (stays w us) le from t e = let same : t ≡ s = eqb-true t s (and_second (has_byte w b) (t == s) e) in omega arith
-goes_next_from low s b (final k) le from t e = absurd (true≢false (sym e))
+goes_next_from low s b (bytes_state w u) le from t e = let same : t ≡ u = eqb-true t u (and_second (has_byte w b) (t == u) e) in omega (arith, from)
+goes_next_from low s b (union_state us) le from t e = absurd (true≢false (sym e))
+goes_next_from low s b (loop_state w us) le from t e = let same : t ≡ s = eqb-true t s (and_second (has_byte w b) (t == s) e) in omega arith
+goes_next_from low s b (match_state k) le from t e = absurd (true≢false (sym e))
 
 module _ (a : List State) (low high limit c bound : ℕ) (now next now' next' : ℕ → Bool) (some : Bool)
     (closed : (s : ℕ) → low ≤ s → s < high → GoesFrom low (state a s)) (within : limit ≤ high) (none : (t : ℕ) → t < low → now t ≡ false)

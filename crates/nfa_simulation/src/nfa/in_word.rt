@@ -1,7 +1,7 @@
 //! Steps of the states of an automaton where the sets of states are words.
 
 ghost use Rattle.std.specs.Prelude.{◌≡◌, ℕ, ◌+◌, ◌<◌, ◌≤◌, ◌||◌, false, Some, None, MatchOption};
-ghost use Rattle.byte_nfa.specs.Steps.{state, final};
+ghost use Rattle.byte_nfa.specs.Steps.{state, match_state};
 ghost use Rattle.byte_nfa.specs.Parts.{GoesFrom};
 ghost use Rattle.byte_nfa.specs.Runs.{size};
 ghost use Rattle.byte_nfa.specs.inner.Views.{GoesBelow};
@@ -42,7 +42,7 @@ impl Nfa {
         ensures low { from.new.low ≡ from.old.low }
         ensures below { GoesBelow s (state self.now.states s) }
         ensures from { (t : ℕ) → has_in_word from.new t ≡ (goes_now (state self.now.states s) t || has_in_word from.old t) }
-        ensures end { MatchOption result ((k : ℕ) → names (state self.now.states s) None k ≡ false) (λ k. (state self.now.states s ≡ final k) × (k < self.now.index_count)) }
+        ensures end { MatchOption result ((k : ℕ) → names (state self.now.states s) None k ≡ false) (λ k. (state self.now.states s ≡ match_state k) × (k < self.now.index_count)) }
     {
         self.draft.follow_epsilons_in_word(s, from)
     }

@@ -6,7 +6,7 @@ use Rattle.std.proofs.Math.Nat.{mul-le-mul_right}
 use Rattle.std.proofs.Math.Seq.{take-append_seam}
 use Rattle.std.proofs.lemmas.List.{length-append}
 use Rattle.byte_nfa.specs.Runs.{size}
-use Rattle.byte_nfa.specs.Steps.{State, Machine, state, skips, IsIn, Accepts, ends, by_byte, by_skip, by_out, by_stay}
+use Rattle.byte_nfa.specs.Steps.{State, Machine, state, union_state, HasNumber, Accepts, ends, by_byte, by_skip, by_out, by_stay}
 use Rattle.bit_sets.specs.Texts.{AllBytes}
 use Rattle.glob_nfa.specs.IndexedTokens.{IndexedTokens, SomeMatches, IsFor}
 use Rattle.glob_strategy.proofs.lemmas.TokenMeaning.{extension_end}
@@ -71,10 +71,10 @@ before_visits path text n old new is few =
 
 -- ---- an automaton without states
 
-no_state : (k s : ℕ) (y : List ℕ) → state [] s ≡ skips [] → Accepts [] k s y → ⊥
+no_state : (k s : ℕ) (y : List ℕ) → state [] s ≡ union_state [] → Accepts [] k s y → ⊥
 no_state k s y e (ends s' f) = absurd (let g = sym e ∙ f in cc)
 no_state k s y e (by_byte s' t c z w f has rest) = absurd (let g = sym e ∙ f in cc)
-no_state k s y e (by_skip s' t z ts f m rest) = let g = sym e ∙ f in let same : ts ≡ [] = cc in absurd (subst (IsIn t) same m)
+no_state k s y e (by_skip s' t z ts f m rest) = let g = sym e ∙ f in let same : ts ≡ [] = cc in absurd (subst (HasNumber t) same m)
 no_state k s y e (by_out s' t z w ts f m rest) = absurd (let g = sym e ∙ f in cc)
 no_state k s y e (by_stay s' c z w ts f has rest) = absurd (let g = sym e ∙ f in cc)
 

@@ -10,7 +10,7 @@ use Rattle.std.proofs.lemmas.Bool.Decides.{eqb_tells}
 use Rattle.std.proofs.lemmas.List.Sums.{sum_by-append}
 use Rattle.std.proofs.lemmas.Nat.{mul-le}
 use Rattle.std.proofs.lemmas.List.{take_more, get_or_push, get_or_append_left, get_or-set_same, get_or-set_other, length-append, length-set}
-use Rattle.byte_nfa.specs.Steps.{IsIn, Machine}
+use Rattle.byte_nfa.specs.Steps.{HasNumber, Machine}
 use Rattle.byte_nfa.specs.Runs.{size, max_reads}
 use Rattle.key_table.specs.Entries.{Entry, entry, indexes_under}
 use Rattle.key_table.proofs.lemmas.Entries.{with_index}
@@ -22,8 +22,8 @@ use Rattle.set_matcher.specs.inner.Automata.{ExtensionParts, AreExtensionMatcher
 use Rattle.set_matcher.proofs.lemmas.Tables.{first_in, under_push, first_push}
 
 abbrev pub extension_parts : List Entry → List Machine → Machine → ℕ → ExtensionParts
-extension_parts matchers machines none n = record {
-  matchers = matchers;
+extension_parts slots machines none n = record {
+  slots = slots;
   machines = machines;
   none = none;
   index_count = n;
@@ -55,8 +55,8 @@ pushed_at machines m s d lt =
     (equal_or_not s (length machines))
 
 -- what is true of the parts stays true
-pub matchers_push : (matchers : List Entry) (machines : List Machine) (none : Machine) (n : ℕ) (m : Machine) → m.index_count ≡ n → AreExtensionMatchers matchers machines none n → AreExtensionMatchers matchers (machines ++ m ∷ []) none n
-matchers_push matchers machines none n m is before = record {
+pub matchers_push : (slots : List Entry) (machines : List Machine) (none : Machine) (n : ℕ) (m : Machine) → m.index_count ≡ n → AreExtensionMatchers slots machines none n → AreExtensionMatchers slots (machines ++ m ∷ []) none n
+matchers_push slots machines none n m is before = record {
   held = λ extension s there.
       let lt = before.held extension s there in let len : length (machines ++ m ∷ []) ≡ length machines + 1 = length-append machines (m ∷ []) in omega (arith, lt, len);
   apart = before.apart;
@@ -69,8 +69,8 @@ matchers_push matchers machines none n m is before = record {
 }
 
 -- no extension has a slot
-pub matchers_cleared : (matchers : List Entry) (machines : List Machine) (none : Machine) (n : ℕ) → AreExtensionMatchers matchers machines none n → AreExtensionMatchers [] machines none n
-matchers_cleared matchers machines none n before = record {
+pub matchers_cleared : (slots : List Entry) (machines : List Machine) (none : Machine) (n : ℕ) → AreExtensionMatchers slots machines none n → AreExtensionMatchers [] machines none n
+matchers_cleared slots machines none n before = record {
   held = λ extension s there. absurd there;
   apart = λ a b s of_a of_b. absurd (cc);
   counted = before.counted;
@@ -82,29 +82,29 @@ matchers_cleared matchers machines none n before = record {
 -- ---- a new slot
 
 -- no other extension has it
-pub matchers_insert : (matchers : List Entry) (machines : List Machine) (none : Machine) (n : ℕ) (m : Machine) (key : List ℕ) (slot : ℕ) → m.index_count ≡ n → slot ≡ length machines
-    → AreExtensionMatchers matchers machines none n → AreExtensionMatchers (matchers ++ entry key slot ∷ []) (machines ++ m ∷ []) none n
-matchers_insert matchers machines none n m key slot is at before =
-    let more = matchers_push matchers machines none n m is before in
+pub matchers_insert : (slots : List Entry) (machines : List Machine) (none : Machine) (n : ℕ) (m : Machine) (key : List ℕ) (slot : ℕ) → m.index_count ≡ n → slot ≡ length machines
+    → AreExtensionMatchers slots machines none n → AreExtensionMatchers (slots ++ entry key slot ∷ []) (machines ++ m ∷ []) none n
+matchers_insert slots machines none n m key slot is at before =
+    let more = matchers_push slots machines none n m is before in
     let len : length (machines ++ m ∷ []) ≡ length machines + 1 = length-append machines (m ∷ []) in record {
       held = λ extension s there.
-          ⊎_elim {C = s < length (machines ++ m ∷ [])} (λ old. more.held extension s old) (λ new. omega (arith, new, at, len)) (under_push matchers key slot extension s there);
+          ⊎_elim {C = s < length (machines ++ m ∷ [])} (λ old. more.held extension s old) (λ new. omega (arith, new, at, len)) (under_push slots key slot extension s there);
       apart = λ a b s of_a of_b.
           ⊎_elim {C = a ≡ b}
-          (λ old_a. ⊎_elim {C = a ≡ b} (λ old_b. before.apart a b s old_a old_b) (λ new_b. absurd (is_new a s old_a new_b.1)) (first_push matchers key slot b s of_b))
-          (λ new_a. ⊎_elim {C = a ≡ b} (λ old_b. absurd (is_new b s old_b new_a.1)) (λ new_b. sym new_a.0 ∙ new_b.0) (first_push matchers key slot b s of_b))
-          (first_push matchers key slot a s of_a);
+          (λ old_a. ⊎_elim {C = a ≡ b} (λ old_b. before.apart a b s old_a old_b) (λ new_b. absurd (is_new a s old_a new_b.1)) (first_push slots key slot b s of_b))
+          (λ new_a. ⊎_elim {C = a ≡ b} (λ old_b. absurd (is_new b s old_b new_a.1)) (λ new_b. sym new_a.0 ∙ new_b.0) (first_push slots key slot b s of_b))
+          (first_push slots key slot a s of_a);
       counted = more.counted;
       none_counted = more.none_counted;
       empty = more.empty;
       for_none = more.for_none;
     }
   where
-    is_new : (extension : List ℕ) (s : ℕ) → slot_of matchers extension ≡ Some s → slot ≡ s → ⊥
-    is_new extension s old new = let within = before.held extension s (first_in (indexes_under matchers extension) s old) in absurd (omega (arith, within, new, at))
+    is_new : (extension : List ℕ) (s : ℕ) → slot_of slots extension ≡ Some s → slot ≡ s → ⊥
+    is_new extension s old new = let within = before.held extension s (first_in (indexes_under slots extension) s old) in absurd (omega (arith, within, new, at))
 
 -- what the slot of an extension tells, if the new slot tells the same as no slot
-first_new : {X : Type 0} (b : Bool) (n : ℕ) (xs : List ℕ) (now before : ℕ → X) (none : X) → now n ≡ none → ((t : ℕ) → IsIn t xs → now t ≡ before t)
+first_new : {X : Type 0} (b : Bool) (n : ℕ) (xs : List ℕ) (now before : ℕ → X) (none : X) → now n ≡ none → ((t : ℕ) → HasNumber t xs → now t ≡ before t)
     → option_map_or now (first (with_index b n xs)) none ≡ option_map_or before (first xs) none
 first_new true n [] now before none new same = new
 first_new false n [] now before none new same = refl
@@ -112,9 +112,9 @@ first_new true n (x ∷ xs) now before none new same = same x (inl refl)
 first_new false n (x ∷ xs) now before none new same = same x (inl refl)
 
 -- no tokens are in it
-pub slot_keeps : (old new : ExtensionParts) (key : List ℕ) (n : ℕ) (m : Machine) → n ≡ length old.machines → AreExtensionMatchers old.matchers old.machines old.none old.index_count → IsFor m []
-    → new.matchers ≡ old.matchers ++ entry key n ∷ [] → new.machines ≡ old.machines ++ m ∷ [] → (before : ℕ → List IndexedTokens) → AreFor old.machines before → KeepsTokens old before new
-slot_keeps old new key n m at is_old empty matchers machines before are = record {
+pub slot_keeps : (old new : ExtensionParts) (key : List ℕ) (n : ℕ) (m : Machine) → n ≡ length old.machines → AreExtensionMatchers old.slots old.machines old.none old.index_count → IsFor m []
+    → new.slots ≡ old.slots ++ entry key n ∷ [] → new.machines ≡ old.machines ++ m ∷ [] → (before : ℕ → List IndexedTokens) → AreFor old.machines before → KeepsTokens old before new
+slot_keeps old new key n m at is_old empty slots machines before are = record {
   tokens = replaced n [] before;
   are_for = subst (λ ms. AreFor ms (replaced n [] before)) (sym machines)
       (λ s d lt. ⊎_elim {C = IsFor (get_or (old.machines ++ m ∷ []) s d) (replaced n [] before s)}
@@ -123,9 +123,9 @@ slot_keeps old new key n m at is_old empty matchers machines before are = record
       (λ new. let is = new.0 in subst (IsFor (get_or (old.machines ++ m ∷ []) s d)) (sym (replaced_at n [] before s (omega (arith, is, at)))) (subst (λ x. IsFor x []) (sym new.1) empty))
       (pushed_at old.machines m s d lt));
   same = λ extension.
-      ap (λ es. tokens_under (replaced n [] before) es extension) matchers
-      ∙ ap (λ xs. option_map_or (replaced n [] before) (first xs) []) (indexes_added old.matchers key n extension)
-      ∙ first_new (bytes_eq key extension) n (indexes_under old.matchers extension) (replaced n [] before) before [] (replaced_at n [] before n refl)
+      ap (λ es. tokens_under (replaced n [] before) es extension) slots
+      ∙ ap (λ xs. option_map_or (replaced n [] before) (first xs) []) (indexes_added old.slots key n extension)
+      ∙ first_new (bytes_eq key extension) n (indexes_under old.slots extension) (replaced n [] before) before [] (replaced_at n [] before n refl)
       (λ t there. let within = is_old.held extension t there in replaced_other n [] before t (λ e. absurd (omega (arith, e, at, within))));
   after = λ y. let long = ap length machines in let len = length-append old.machines (m ∷ []) in (
     λ (s, lt, some). ⊎_elim {C = SomeExtensionAfter (length old.machines) before y}
@@ -150,18 +150,18 @@ reads_of machines none None = refl
 reads_of machines none (Some s) = refl
 
 -- a new slot has none
-pub slot_reads : (old new : ExtensionParts) (key : List ℕ) (n : ℕ) (m : Machine) → n ≡ length old.machines → AreExtensionMatchers old.matchers old.machines old.none old.index_count → max_reads m ≡ 0
-    → new.matchers ≡ old.matchers ++ entry key n ∷ [] → new.machines ≡ old.machines ++ m ∷ [] → new.none ≡ old.none → (extension : List ℕ) → max_reads (machine_under new extension) ≡ max_reads (machine_under old extension)
-slot_reads old new key n m at is_old no_states matchers machines none extension =
-    reads_of new.machines new.none (slot_of new.matchers extension)
-    ∙ ap (λ ms. option_map_or (reads_at ms new.none) (slot_of new.matchers extension) (max_reads new.none)) machines
-    ∙ ap (λ d. option_map_or (reads_at (old.machines ++ m ∷ []) d) (slot_of new.matchers extension) (max_reads d)) none
-    ∙ ap (λ es. option_map_or (reads_at (old.machines ++ m ∷ []) old.none) (slot_of es extension) (max_reads old.none)) matchers
-    ∙ ap (λ xs. option_map_or (reads_at (old.machines ++ m ∷ []) old.none) (first xs) (max_reads old.none)) (indexes_added old.matchers key n extension)
-    ∙ first_new (bytes_eq key extension) n (indexes_under old.matchers extension) (reads_at (old.machines ++ m ∷ []) old.none) (reads_at old.machines old.none) (max_reads old.none)
+pub slot_reads : (old new : ExtensionParts) (key : List ℕ) (n : ℕ) (m : Machine) → n ≡ length old.machines → AreExtensionMatchers old.slots old.machines old.none old.index_count → max_reads m ≡ 0
+    → new.slots ≡ old.slots ++ entry key n ∷ [] → new.machines ≡ old.machines ++ m ∷ [] → new.none ≡ old.none → (extension : List ℕ) → max_reads (machine_under new extension) ≡ max_reads (machine_under old extension)
+slot_reads old new key n m at is_old no_states slots machines none extension =
+    reads_of new.machines new.none (slot_of new.slots extension)
+    ∙ ap (λ ms. option_map_or (reads_at ms new.none) (slot_of new.slots extension) (max_reads new.none)) machines
+    ∙ ap (λ d. option_map_or (reads_at (old.machines ++ m ∷ []) d) (slot_of new.slots extension) (max_reads d)) none
+    ∙ ap (λ es. option_map_or (reads_at (old.machines ++ m ∷ []) old.none) (slot_of es extension) (max_reads old.none)) slots
+    ∙ ap (λ xs. option_map_or (reads_at (old.machines ++ m ∷ []) old.none) (first xs) (max_reads old.none)) (indexes_added old.slots key n extension)
+    ∙ first_new (bytes_eq key extension) n (indexes_under old.slots extension) (reads_at (old.machines ++ m ∷ []) old.none) (reads_at old.machines old.none) (max_reads old.none)
     (ap max_reads (get_or_push old.machines m old.none n (sym at)) ∙ no_states ∙ sym is_old.empty)
     (λ t there. ap max_reads (get_or_append_left old.machines (m ∷ []) old.none t (is_old.held extension t there)))
-    ∙ sym (reads_of old.machines old.none (slot_of old.matchers extension))
+    ∙ sym (reads_of old.machines old.none (slot_of old.slots extension))
 
 -- ---- the reads of all automata
 
@@ -206,9 +206,9 @@ set_at_slot machines i m s d lt =
     (equal_or_not s i)
 
 -- what is true of the parts stays true
-pub matchers_set : (matchers : List Entry) (machines : List Machine) (none : Machine) (n i : ℕ) (m : Machine) → i < length machines → m.index_count ≡ n → AreExtensionMatchers matchers machines none n
-    → AreExtensionMatchers matchers (set machines i m) none n
-matchers_set matchers machines none n i m lt is before =
+pub matchers_set : (slots : List Entry) (machines : List Machine) (none : Machine) (n i : ℕ) (m : Machine) → i < length machines → m.index_count ≡ n → AreExtensionMatchers slots machines none n
+    → AreExtensionMatchers slots (set machines i m) none n
+matchers_set slots machines none n i m lt is before =
     let len : length (set machines i m) ≡ length machines = length-set machines i m in record {
       held = λ extension s there. let within = before.held extension s there in omega (arith, within, len);
       apart = before.apart;
@@ -226,10 +226,10 @@ kept_at None s xs before other = refl
 kept_at (Some t) s xs before other = replaced_other s xs before t (λ e. other (ap Some e))
 
 pub slot_adds : (old mid new : ExtensionParts) (key : List ℕ) (s : ℕ) (x : IndexedTokens) (d now : Machine)
-    → AreExtensionMatchers mid.matchers mid.machines mid.none mid.index_count → slot_of mid.matchers key ≡ Some s → s < length mid.machines → new.matchers ≡ mid.matchers → new.machines ≡ set mid.machines s now
+    → AreExtensionMatchers mid.slots mid.machines mid.none mid.index_count → slot_of mid.slots key ≡ Some s → s < length mid.machines → new.slots ≡ mid.slots → new.machines ≡ set mid.machines s now
     → ((xs : List IndexedTokens) → IsFor (get_or mid.machines s d) xs → IsFor now (xs ++ x ∷ []))
     → (before : ℕ → List IndexedTokens) → KeepsTokens old before mid → AddsTokens old before new key x
-slot_adds old mid new key s x d now is_mid at lt matchers machines adds before kept = record {
+slot_adds old mid new key s x d now is_mid at lt slots machines adds before kept = record {
   tokens = tokens;
   are_for = subst (λ ms. AreFor ms tokens) (sym machines)
       (λ t e within. ⊎_elim {C = IsFor (get_or (set mid.machines s now) t e) (tokens t)}
@@ -239,15 +239,15 @@ slot_adds old mid new key s x d now is_mid at lt matchers machines adds before k
       (subst (λ m. IsFor m (kept.tokens t)) (sym other.1) (kept.are_for t e (let len : length (set mid.machines s now) ≡ length mid.machines = length-set mid.machines s now in omega (arith, within, len)))))
       (set_at_slot mid.machines s now t e lt));
   added = λ extension is.
-      let here : slot_of mid.matchers extension ≡ Some s = ap (λ q. slot_of mid.matchers q) is ∙ at in
-      ap (λ es. tokens_under tokens es extension) matchers
+      let here : slot_of mid.slots extension ≡ Some s = ap (λ q. slot_of mid.slots q) is ∙ at in
+      ap (λ es. tokens_under tokens es extension) slots
       ∙ ap (λ o. option_map_or tokens o []) here
       ∙ replaced_at s (kept.tokens s ++ x ∷ []) kept.tokens s refl
       ∙ ap (λ o. option_map_or kept.tokens o [] ++ x ∷ []) (sym here)
       ∙ ap (λ ts. ts ++ x ∷ []) (kept.same extension);
   others = λ extension other.
-      ap (λ es. tokens_under tokens es extension) matchers
-      ∙ kept_at (slot_of mid.matchers extension) s (kept.tokens s ++ x ∷ []) kept.tokens (λ e. absurd (other (is_mid.apart extension key s e at)))
+      ap (λ es. tokens_under tokens es extension) slots
+      ∙ kept_at (slot_of mid.slots extension) s (kept.tokens s ++ x ∷ []) kept.tokens (λ e. absurd (other (is_mid.apart extension key s e at)))
       ∙ kept.same extension;
   after = λ y. (
     λ h. ⊎_elim {C = SomeExtensionAfter (length old.machines) before y ⊎ MeanAfter x.options x.tokens y} (λ was. inl ((kept.after y).0 was)) (λ this. inr this) ((slot_pushed y).0 h),
@@ -306,25 +306,25 @@ set_reads machines none s more now (Some t) b lt few tells =
     (λ other. let same = ap max_reads other.1 in omega (arith, same))
     (set_at_slot machines s now t none lt)
 
-pub slot_reads_added : (mid new : ExtensionParts) (key : List ℕ) (s more : ℕ) (d now : Machine) → AreExtensionMatchers mid.matchers mid.machines mid.none mid.index_count → slot_of mid.matchers key ≡ Some s → s < length mid.machines
-    → new.matchers ≡ mid.matchers → new.machines ≡ set mid.machines s now → new.none ≡ mid.none → max_reads now ≤ max_reads (get_or mid.machines s d) + more
+pub slot_reads_added : (mid new : ExtensionParts) (key : List ℕ) (s more : ℕ) (d now : Machine) → AreExtensionMatchers mid.slots mid.machines mid.none mid.index_count → slot_of mid.slots key ≡ Some s → s < length mid.machines
+    → new.slots ≡ mid.slots → new.machines ≡ set mid.machines s now → new.none ≡ mid.none → max_reads now ≤ max_reads (get_or mid.machines s d) + more
     → (extension : List ℕ) → max_reads (machine_under new extension) ≤ max_reads (machine_under mid extension) + cond (bytes_eq key extension) more 0
-slot_reads_added mid new key s more d now is_mid at lt matchers machines none few extension =
-    let is : max_reads (machine_under new extension) ≡ max_reads (option_map_or (λ t. get_or (set mid.machines s now) t mid.none) (slot_of mid.matchers extension) mid.none) =
-    ap (λ es. max_reads (option_map_or (λ t. get_or new.machines t new.none) (slot_of es extension) new.none)) matchers
-    ∙ ap (λ ms. max_reads (option_map_or (λ t. get_or ms t new.none) (slot_of mid.matchers extension) new.none)) machines
-    ∙ ap (λ d. max_reads (option_map_or (λ t. get_or (set mid.machines s now) t d) (slot_of mid.matchers extension) d)) none in
+slot_reads_added mid new key s more d now is_mid at lt slots machines none few extension =
+    let is : max_reads (machine_under new extension) ≡ max_reads (option_map_or (λ t. get_or (set mid.machines s now) t mid.none) (slot_of mid.slots extension) mid.none) =
+    ap (λ es. max_reads (option_map_or (λ t. get_or new.machines t new.none) (slot_of es extension) new.none)) slots
+    ∙ ap (λ ms. max_reads (option_map_or (λ t. get_or ms t new.none) (slot_of mid.slots extension) new.none)) machines
+    ∙ ap (λ d. max_reads (option_map_or (λ t. get_or (set mid.machines s now) t d) (slot_of mid.slots extension) d)) none in
     let d_is = ap max_reads (any_default mid.machines s d mid.none lt) in
     let within : max_reads now ≤ max_reads (get_or mid.machines s mid.none) + more = omega (arith, few, d_is) in
-    let le = set_reads mid.machines mid.none s more now (slot_of mid.matchers extension) (bytes_eq key extension) lt within (λ e. (bytes_decides key extension).1 (is_mid.apart key extension s at e)) in
+    let le = set_reads mid.machines mid.none s more now (slot_of mid.slots extension) (bytes_eq key extension) lt within (λ e. (bytes_decides key extension).1 (is_mid.apart key extension s at e)) in
     omega (arith, is, le)
 
 -- ---- the automaton of a slot
 
 -- it is for the tokens of the extension
-pub slot_tokens : (machines : List Machine) (tokens : ℕ → List IndexedTokens) (matchers : List Entry) (extension : List ℕ) (s : ℕ) (m : Machine) → Some s ≡ slot_of matchers extension
-    → s < length machines → m ≡ get_or machines s m → AreFor machines tokens → IsFor m (tokens_under tokens matchers extension)
-slot_tokens machines tokens matchers extension s m at lt is are =
+pub slot_tokens : (machines : List Machine) (tokens : ℕ → List IndexedTokens) (slots : List Entry) (extension : List ℕ) (s : ℕ) (m : Machine) → Some s ≡ slot_of slots extension
+    → s < length machines → m ≡ get_or machines s m → AreFor machines tokens → IsFor m (tokens_under tokens slots extension)
+slot_tokens machines tokens slots extension s m at lt is are =
     subst (λ o. IsFor m (option_map_or tokens o [])) at (subst (λ x. IsFor x (tokens s)) (sym is) (are s m lt))
 
 -- ---- the largest automaton
@@ -360,8 +360,8 @@ module _ (machines : List Machine) (i : ℕ) (m : Machine) (lt : i < length mach
       let all = ap (λ (k : ℕ). n * k) total_more in omega (arith, this, before, more, sum, all)
 
   -- they are within those of all runs
-  pub visits_limit : (n u w v : ℕ) → v ≤ w + n * size m → w ≤ u + n * total_reads (take i machines) → v ≤ u + n * total_reads machines
-  visits_limit n u w v this before =
+  pub visits_within : (n u w v : ℕ) → v ≤ w + n * size m → w ≤ u + n * total_reads (take i machines) → v ≤ u + n * total_reads machines
+  visits_within n u w v this before =
       let some = visits_more n u w v this before in
       let maximum = mul-le n (total_reads (take (i + 1) machines)) n (total_reads machines) (omega arith) (total_take machines (i + 1)) in omega (arith, some, maximum)
 

@@ -26,11 +26,11 @@ listed_in globs path k h = (contained_passes (λ g. is_reported g path) globs k 
 
 -- what automata found is marked, and then what keys find: these are the listed globs
 pub marked_listed : (globs : List TokenGlob) (g : SetMatcherParts) (path : List ℕ) (room : ℕ) (found has : ℕ → Bool) (are : IsSetMatcherOf globs g) → length globs ≤ room
-    → ((k : ℕ) → IsTrue (found k) ↔ AreFound g.automata.extensions.matchers are.tokens path k)
+    → ((k : ℕ) → IsTrue (found k) ↔ AreFound g.automata.extensions.slots are.tokens path k)
     → ((k : ℕ) → IsTrue (has k) ↔ ((Contains (keys_found g.keys path) k × (k < room)) ⊎ IsTrue (found k)))
     → (k : ℕ) → IsTrue (has k) ↔ IsTrue (is_reported_at globs path k)
 marked_listed globs g path room found has are fits by_automata also k = (
-  λ h. (are.same path k).0 (⊎_elim {C = Contains (keys_found g.keys path) k ⊎ AreFound g.automata.extensions.matchers are.tokens path k} (λ key. inl key.0) (λ f. inr ((by_automata k).0 f)) ((also k).0 h)),
+  λ h. (are.same path k).0 (⊎_elim {C = Contains (keys_found g.keys path) k ⊎ AreFound g.automata.extensions.slots are.tokens path k} (λ key. inl key.0) (λ f. inr ((by_automata k).0 f)) ((also k).0 h)),
   λ yes_at. (also k).1 (⊎_elim {C = (Contains (keys_found g.keys path) k × (k < room)) ⊎ IsTrue (found k)}
       (λ key. let within = passes_within (λ x. is_reported x path) globs k yes_at in inl (key, omega (arith, within, fits)))
       (λ f. inr ((by_automata k).1 f)) ((are.same path k).1 yes_at)),
@@ -89,11 +89,11 @@ some_key globs g path are some =
     (λ t. not_none (reported_indexes globs path) k (in_listed globs path k ((are.same path k).0 (inl key))), λ h. refl)
 
 pub some_found : (globs : List TokenGlob) (g : SetMatcherParts) (path : List ℕ) (r : Bool) (are : IsSetMatcherOf globs g) → (keys_found g.keys path ≢ [] → ⊥)
-    → (IsTrue r ↔ ((k : ℕ) × AreFound g.automata.extensions.matchers are.tokens path k)) → IsTrue r ↔ (reported_indexes globs path ≢ [])
+    → (IsTrue r ↔ ((k : ℕ) × AreFound g.automata.extensions.slots are.tokens path k)) → IsTrue r ↔ (reported_indexes globs path ≢ [])
 some_found globs g path r are off same = (
   λ h. let (k, found) = same.0 h in not_none (reported_indexes globs path) k (in_listed globs path k ((are.same path k).0 (inr found))),
   λ h. let (k, in_all) = some_of (reported_indexes globs path) h in
-      same.1 (k, ⊎_elim {C = AreFound g.automata.extensions.matchers are.tokens path k} (λ key. absurd (off (not_none (keys_found g.keys path) k key))) (λ found. found) ((are.same path k).1 (listed_in globs path k in_all))),
+      same.1 (k, ⊎_elim {C = AreFound g.automata.extensions.slots are.tokens path k} (λ key. absurd (off (not_none (keys_found g.keys path) k key))) (λ found. found) ((are.same path k).1 (listed_in globs path k in_all))),
 )
 
 -- ---- every index

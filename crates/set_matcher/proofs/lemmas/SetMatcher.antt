@@ -135,8 +135,8 @@ keys_added globs g n old new at automata more below before = record {
   tokens = before.tokens;
   are_for = subst (λ a. AreForLists a before.tokens) (sym automata) before.are_for;
   same = λ path k. new_listed globs g n path k at
-      (subst (λ (a : AutomataParts). (Contains (keys_found new.keys path) k ⊎ AreFound a.extensions.matchers before.tokens path k)
-      ↔ ((Contains (keys_found old.keys path) k ⊎ AreFound old.automata.extensions.matchers before.tokens path k) ⊎ IsNew n g path k)) (sym automata) (left_more ((more path).has k)))
+      (subst (λ (a : AutomataParts). (Contains (keys_found new.keys path) k ⊎ AreFound a.extensions.slots before.tokens path k)
+      ↔ ((Contains (keys_found old.keys path) k ⊎ AreFound old.automata.extensions.slots before.tokens path k) ⊎ IsNew n g path k)) (sym automata) (left_more ((more path).has k)))
       (before.same path k);
   once = λ path. omega (arith, (more path).count, before.once path, count_push globs g path);
   reads = λ path. let same = ap (λ a. reads_for a path) automata in omega (arith, same, before.reads path, load_push globs g path);
@@ -167,7 +167,7 @@ excluded_added globs g n old at tells none before =
 -- ---- tokens more
 
 pub tokens_added : (globs : List TokenGlob) (g : TokenGlob) (n : ℕ) (old new : SetMatcherParts) (before : IsSetMatcherOf globs old) (tokens : TokenLists) → n ≡ length globs → new.keys ≡ old.keys → AreForLists new.automata tokens
-    → ((path : List ℕ) (k : ℕ) → AreFound new.automata.extensions.matchers tokens path k ↔ (AreFound old.automata.extensions.matchers before.tokens path k ⊎ IsNew n g path k))
+    → ((path : List ℕ) (k : ℕ) → AreFound new.automata.extensions.slots tokens path k ↔ (AreFound old.automata.extensions.slots before.tokens path k ⊎ IsNew n g path k))
     → ((path : List ℕ) → reads_for new.automata path ≤ reads_for old.automata path + reads g path)
     → ((folder : List ℕ) → AllBytes folder → AreFoundBelow new.automata.extensions tokens folder ↔ (AreFoundBelow old.automata.extensions before.tokens folder ⊎ AreReportedBelow g.options g.tokens folder))
     → folder_reads new.automata ≤ folder_reads old.automata + reads_below g → IsSetMatcherOf (globs ++ g ∷ []) new
@@ -175,8 +175,8 @@ tokens_added globs g n old new before tokens at keys are more size below few = r
   tokens = tokens;
   are_for = are;
   same = λ path k. new_listed globs g n path k at
-      (subst (λ (t : KeyParts). (Contains (keys_found t path) k ⊎ AreFound new.automata.extensions.matchers tokens path k)
-      ↔ ((Contains (keys_found old.keys path) k ⊎ AreFound old.automata.extensions.matchers before.tokens path k) ⊎ IsNew n g path k)) (sym keys) (right_more (more path k)))
+      (subst (λ (t : KeyParts). (Contains (keys_found t path) k ⊎ AreFound new.automata.extensions.slots tokens path k)
+      ↔ ((Contains (keys_found old.keys path) k ⊎ AreFound old.automata.extensions.slots before.tokens path k) ⊎ IsNew n g path k)) (sym keys) (right_more (more path k)))
       (before.same path k);
   once = λ path. let same = ap (λ t. length (keys_found t path)) keys in omega (arith, same, before.once path, count_push globs g path);
   reads = λ path. omega (arith, size path, before.reads path, load_push globs g path);
@@ -222,7 +222,7 @@ by_path_added globs g n old new at keys tells needs adds few component extension
       component = subst (λ m. IsFor m before.tokens.by_component) (sym component) before.are_for.component;
       matchers = subst (λ (e : ExtensionParts). AreFor e.machines before.tokens.by_slot) (sym extensions) before.are_for.matchers;
     })
-    (λ path k. subst (λ (e : ExtensionParts). AreFound e.matchers tokens path k ↔ (AreFound old.automata.extensions.matchers before.tokens path k ⊎ IsNew n g path k)) (sym extensions)
+    (λ path k. subst (λ (e : ExtensionParts). AreFound e.slots tokens path k ↔ (AreFound old.automata.extensions.slots before.tokens path k ⊎ IsNew n g path k)) (sym extensions)
     (left_more (some_added (indexed g.options g.tokens n) before.tokens.by_path g n path path k refl (tells path))))
     (λ path. let one = ap max_reads component in let two = ap (λ (e : ExtensionParts). max_reads (machine_under e (component_extension path))) extensions in let maximum = needed g path (needs path) in omega (arith, few, one, two, maximum))
     (λ folder bytes. subst (λ (e : ExtensionParts). AreFoundBelow e tokens folder ↔ (AreFoundBelow old.automata.extensions before.tokens folder ⊎ AreReportedBelow g.options g.tokens folder)) (sym extensions)
@@ -248,7 +248,7 @@ by_component_added globs g n ts old new at keys rest tells needs adds few by_pat
       component = adds before.tokens.by_component before.are_for.component;
       matchers = subst (λ (e : ExtensionParts). AreFor e.machines before.tokens.by_slot) (sym extensions) before.are_for.matchers;
     })
-    (λ path k. subst (λ (e : ExtensionParts). AreFound e.matchers tokens path k ↔ (AreFound old.automata.extensions.matchers before.tokens path k ⊎ IsNew n g path k)) (sym extensions)
+    (λ path k. subst (λ (e : ExtensionParts). AreFound e.slots tokens path k ↔ (AreFound old.automata.extensions.slots before.tokens path k ⊎ IsNew n g path k)) (sym extensions)
     (right_more (left_more (some_added (indexed g.options ts n) before.tokens.by_component g n (last_component path) path k refl (tells path ∙ ap (λ us. tokens_match g.options us (last_component path)) (sym rest))))))
     (λ path. let one = ap max_reads by_path in let two = ap (λ (e : ExtensionParts). max_reads (machine_under e (component_extension path))) extensions in let maximum = needed g path (needs path) in
     let fewer = weight_after g.options g.tokens in let same = ap (weight g.options) rest in omega (arith, few, one, two, maximum, fewer, same))
@@ -297,13 +297,13 @@ by_extension_added globs g n key ts old new at keys rest tells needs adds few ma
     }
 
     by_key : (path : List ℕ) (k : ℕ) → (bytes_eq key (component_extension path) ≡ true) ⊎ (bytes_eq key (component_extension path) ≡ false)
-        → SomeMatches (tokens_under now.tokens new.automata.extensions.matchers (component_extension path)) (before_extension path) k
-        ↔ (SomeMatches (tokens_under before.tokens.by_slot old.automata.extensions.matchers (component_extension path)) (before_extension path) k ⊎ IsNew n g path k)
+        → SomeMatches (tokens_under now.tokens new.automata.extensions.slots (component_extension path)) (before_extension path) k
+        ↔ (SomeMatches (tokens_under before.tokens.by_slot old.automata.extensions.slots (component_extension path)) (before_extension path) k ⊎ IsNew n g path k)
     by_key path k h =
         let e = component_extension path in
         let text : List ℕ = before_extension path in
-        let was = tokens_under before.tokens.by_slot old.automata.extensions.matchers e in
-        ⊎_elim {C = SomeMatches (tokens_under now.tokens new.automata.extensions.matchers e) text k ↔ (SomeMatches was text k ⊎ IsNew n g path k)}
+        let was = tokens_under before.tokens.by_slot old.automata.extensions.slots e in
+        ⊎_elim {C = SomeMatches (tokens_under now.tokens new.automata.extensions.slots e) text k ↔ (SomeMatches was text k ⊎ IsNew n g path k)}
         (λ y.
         let cut : text ++ key ≡ path = ap (λ l. text ++ l) ((bytes_decides key e).0 y) ∙ extension_cut path in
         subst (λ xs. SomeMatches xs text k ↔ (SomeMatches was text k ⊎ IsNew n g path k)) (sym (now.added e (sym ((bytes_decides key e).0 y))))
@@ -335,9 +335,9 @@ none_listed path (suc k) h = absurd (cc)
 none_below : (folder : List ℕ) → SomeReportedBelow [] folder → ⊥
 none_below folder (rest, bytes, some) = let (k, at) = (some_listed [] (path_below folder rest)).0 some in none_listed (path_below folder rest) k at
 
-pub no_globs : (keys : KeyParts) (a : AutomataParts) → ((path : List ℕ) → keys_found keys path ≡ []) → ((folder : List ℕ) → MatchesBelow keys folder → ⊥) → IsFor a.by_path [] → IsFor a.by_component [] → a.extensions.matchers ≡ [] → a.extensions.machines ≡ []
+pub no_globs : (keys : KeyParts) (a : AutomataParts) → ((path : List ℕ) → keys_found keys path ≡ []) → ((folder : List ℕ) → MatchesBelow keys folder → ⊥) → IsFor a.by_path [] → IsFor a.by_component [] → a.extensions.slots ≡ [] → a.extensions.machines ≡ []
     → max_reads a.by_path ≡ 0 → max_reads a.by_component ≡ 0 → max_reads a.extensions.none ≡ 0 → IsSetMatcherOf [] (set_matcher_parts keys a)
-no_globs keys a nil no_folder path component matchers machines path_reads component_reads none_reads = record {
+no_globs keys a nil no_folder path component slots machines path_reads component_reads none_reads = record {
   tokens = record { by_path = []; by_component = []; by_slot = λ s. [] };
   are_for = record {
     path = path;
@@ -347,11 +347,11 @@ no_globs keys a nil no_folder path component matchers machines path_reads compon
   same = λ path k. (
     λ h. absurd (⊎_elim {C = ⊥} (λ key. not_in_none (keys_found keys path) k (nil path) key)
         (λ some. ⊎_elim {C = ⊥} (λ none. none) (λ later. ⊎_elim {C = ⊥} (λ none. none)
-        (λ under. subst (λ es. SomeMatches (tokens_under (λ s. []) es (component_extension path)) (before_extension path) k) matchers under) later) some) h),
+        (λ under. subst (λ es. SomeMatches (tokens_under (λ s. []) es (component_extension path)) (before_extension path) k) slots under) later) some) h),
     λ h. absurd (none_listed path k h),
   );
   once = λ path. let none = ap length (nil path) in omega (arith, none);
-  reads = λ path. let e = ap (λ es. option_map_or (λ s. get_or a.extensions.machines s a.extensions.none) (first (indexes_under es (component_extension path))) a.extensions.none) matchers in
+  reads = λ path. let e = ap (λ es. option_map_or (λ s. get_or a.extensions.machines s a.extensions.none) (first (indexes_under es (component_extension path))) a.extensions.none) slots in
       let last = ap max_reads e in omega (arith, path_reads, component_reads, none_reads, last);
   below = λ folder bytes. (
     λ h. absurd (⊎_elim {C = ⊥} (λ key. no_folder folder key)

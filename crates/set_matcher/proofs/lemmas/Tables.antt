@@ -3,13 +3,13 @@ use Rattle.std.proofs.Common.{◌≡◌, ℕ, ◌<◌, ◌≤◌, ◌⊎◌, inl
 use Rattle.std.proofs.Math.Logic.{⊎_elim}
 use Rattle.std.specs.Str.{bytes_eq}
 use Rattle.std.specs.Cmp.Lexicographic.{bytes_decides}
-use Rattle.byte_nfa.specs.Steps.{IsIn}
+use Rattle.byte_nfa.specs.Steps.{HasNumber}
 use Rattle.key_table.specs.Entries.{Entry, entry, indexes_under}
 use Rattle.key_table.proofs.lemmas.Entries.{with_index}
 use Rattle.key_table.proofs.lemmas.Entries.{indexes_added}
 use Rattle.set_matcher.specs.inner.Automata.{first, slot_of}
 
-pub first_in : (xs : List ℕ) (s : ℕ) → first xs ≡ Some s → IsIn s xs
+pub first_in : (xs : List ℕ) (s : ℕ) → first xs ≡ Some s → HasNumber s xs
 first_in [] s e = absurd (cc)
 first_in (x ∷ xs) s e = inl (let same : s ≡ x = cc in same)
 
@@ -23,13 +23,13 @@ first_some (x ∷ xs) d le = refl
 
 -- ---- one index more in a list
 
-in_push : (xs : List ℕ) (n k : ℕ) → IsIn k (xs ++ n ∷ []) → IsIn k xs ⊎ (n ≡ k)
+in_push : (xs : List ℕ) (n k : ℕ) → HasNumber k (xs ++ n ∷ []) → HasNumber k xs ⊎ (n ≡ k)
 in_push [] n k h = ⊎_elim {C = ⊥ ⊎ (n ≡ k)} (λ is. inr (sym is)) (λ no. absurd no) h
-in_push (y ∷ ys) n k h = ⊎_elim {C = ((k ≡ y) ⊎ IsIn k ys) ⊎ (n ≡ k)}
+in_push (y ∷ ys) n k h = ⊎_elim {C = ((k ≡ y) ⊎ HasNumber k ys) ⊎ (n ≡ k)}
     (λ here. inl (inl here))
-    (λ later. ⊎_elim {C = ((k ≡ y) ⊎ IsIn k ys) ⊎ (n ≡ k)} (λ earlier. inl (inr earlier)) (λ last. inr last) (in_push ys n k later)) h
+    (λ later. ⊎_elim {C = ((k ≡ y) ⊎ HasNumber k ys) ⊎ (n ≡ k)} (λ earlier. inl (inr earlier)) (λ last. inr last) (in_push ys n k later)) h
 
-in_with : (b : Bool) (n k : ℕ) (xs : List ℕ) → IsIn k (with_index b n xs) → IsIn k xs ⊎ (n ≡ k)
+in_with : (b : Bool) (n k : ℕ) (xs : List ℕ) → HasNumber k (with_index b n xs) → HasNumber k xs ⊎ (n ≡ k)
 in_with true n k xs h = in_push xs n k h
 in_with false n k xs h = inl h
 
@@ -45,8 +45,8 @@ first_only false n xs h e = absurd (cc)
 
 -- ---- one entry more in a table
 
-pub under_push : (es : List Entry) (key : List ℕ) (n : ℕ) (q : List ℕ) (k : ℕ) → IsIn k (indexes_under (es ++ entry key n ∷ []) q) → IsIn k (indexes_under es q) ⊎ (n ≡ k)
-under_push es key n q k h = in_with (bytes_eq key q) n k (indexes_under es q) (subst (IsIn k) (indexes_added es key n q) h)
+pub under_push : (es : List Entry) (key : List ℕ) (n : ℕ) (q : List ℕ) (k : ℕ) → HasNumber k (indexes_under (es ++ entry key n ∷ []) q) → HasNumber k (indexes_under es q) ⊎ (n ≡ k)
+under_push es key n q k h = in_with (bytes_eq key q) n k (indexes_under es q) (subst (HasNumber k) (indexes_added es key n q) h)
 
 -- the first index of some key is the one that there was, or that of the entry
 pub first_push : (es : List Entry) (key : List ℕ) (n : ℕ) (q : List ℕ) (s : ℕ) → slot_of (es ++ entry key n ∷ []) q ≡ Some s → (slot_of es q ≡ Some s) ⊎ ((key ≡ q) × (n ≡ s))

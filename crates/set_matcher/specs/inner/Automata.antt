@@ -2,7 +2,7 @@
 use Rattle.std.specs.Prelude.{◌≡◌, ◌≢◌, ◌⊎◌, ◌↔◌, ℕ, ◌+◌, ◌-◌, ◌<◌, ◌≤◌, max, Bool, IsTrue, List, [], ◌∷◌, ◌++◌, Option, Some, length, get_or, slice_get, sum_by, take}
 use Rattle.std.specs.Option.{option_map_or}
 use Rattle.byte_nfa.specs.Live.{MatchesAfter}
-use Rattle.byte_nfa.specs.Steps.{IsIn, Machine}
+use Rattle.byte_nfa.specs.Steps.{HasNumber, Machine}
 use Rattle.byte_nfa.specs.Runs.{size, max_reads}
 use Rattle.bit_sets.specs.Indexes.{has_index, index_capacity}
 use Rattle.bit_sets.specs.declared.index_set.IndexSet.{IndexSet}
@@ -21,21 +21,21 @@ first indexes = slice_get indexes 0
 
 -- For each such extension its slot, which is the position of an automaton; and an automaton without states for the others.
 pub record ExtensionParts : Type 0 where
-  pub matchers : List Entry
+  pub slots : List Entry
   pub machines : List Machine
   pub none : Machine
   pub index_count : ℕ
 
 -- the slot of an extension, if it has one
 abbrev pub slot_of : List Entry → List ℕ → Option ℕ
-slot_of matchers extension = first (indexes_under matchers extension)
+slot_of slots extension = first (indexes_under slots extension)
 
 -- what is true of the parts of each such value
-pub record AreExtensionMatchers (matchers : List Entry) (machines : List Machine) (none : Machine) (n : ℕ) : Type 0 where
+pub record AreExtensionMatchers (slots : List Entry) (machines : List Machine) (none : Machine) (n : ℕ) : Type 0 where
   -- each slot is a position of an automaton
-  pub held : (extension : List ℕ) (s : ℕ) → IsIn s (indexes_under matchers extension) → s < length machines
+  pub held : (extension : List ℕ) (s : ℕ) → HasNumber s (indexes_under slots extension) → s < length machines
   -- no two extensions have the same slot
-  pub apart : (a b : List ℕ) (s : ℕ) → slot_of matchers a ≡ Some s → slot_of matchers b ≡ Some s → a ≡ b
+  pub apart : (a b : List ℕ) (s : ℕ) → slot_of slots a ≡ Some s → slot_of slots b ≡ Some s → a ≡ b
   -- each automaton names indexes below n
   pub counted : (s : ℕ) (d : Machine) → s < length machines → (get_or machines s d).index_count ≡ n
   pub none_counted : none.index_count ≡ n
@@ -49,11 +49,11 @@ AreFor machines tokens = (s : ℕ) (d : Machine) → s < length machines → IsF
 
 -- the tokens of an extension, or none if it has no slot
 abbrev pub tokens_under : (ℕ → List IndexedTokens) → List Entry → List ℕ → List IndexedTokens
-tokens_under tokens matchers extension = option_map_or tokens (slot_of matchers extension) []
+tokens_under tokens slots extension = option_map_or tokens (slot_of slots extension) []
 
 -- the automaton of an extension; one without states if it has no slot
 abbrev pub machine_under : ExtensionParts → List ℕ → Machine
-machine_under e extension = option_map_or (λ s. get_or e.machines s e.none) (slot_of e.matchers extension) e.none
+machine_under e extension = option_map_or (λ s. get_or e.machines s e.none) (slot_of e.slots extension) e.none
 
 -- the tokens of one of the first n slots match some text that begins with y
 abbrev pub SomeExtensionAfter : ℕ → (ℕ → List IndexedTokens) → List ℕ → Type 0
@@ -67,15 +67,15 @@ total_reads machines = sum_by max_reads machines
 pub record KeepsTokens (old : ExtensionParts) (before : ℕ → List IndexedTokens) (new : ExtensionParts) : Type 0 where
   pub tokens : ℕ → List IndexedTokens
   pub are_for : AreFor new.machines tokens
-  pub same : (extension : List ℕ) → tokens_under tokens new.matchers extension ≡ tokens_under before old.matchers extension
+  pub same : (extension : List ℕ) → tokens_under tokens new.slots extension ≡ tokens_under before old.slots extension
   pub after : (y : List ℕ) → SomeExtensionAfter (length new.machines) tokens y ↔ SomeExtensionAfter (length old.machines) before y
 
 -- one extension has these tokens in addition, and the others have those that they had; so it is with all slots together
 pub record AddsTokens (old : ExtensionParts) (before : ℕ → List IndexedTokens) (new : ExtensionParts) (key : List ℕ) (x : IndexedTokens) : Type 0 where
   pub tokens : ℕ → List IndexedTokens
   pub are_for : AreFor new.machines tokens
-  pub added : (extension : List ℕ) → (extension ≡ key) → tokens_under tokens new.matchers extension ≡ tokens_under before old.matchers extension ++ x ∷ []
-  pub others : (extension : List ℕ) → (extension ≢ key) → tokens_under tokens new.matchers extension ≡ tokens_under before old.matchers extension
+  pub added : (extension : List ℕ) → (extension ≡ key) → tokens_under tokens new.slots extension ≡ tokens_under before old.slots extension ++ x ∷ []
+  pub others : (extension : List ℕ) → (extension ≢ key) → tokens_under tokens new.slots extension ≡ tokens_under before old.slots extension
   pub after : (y : List ℕ) → SomeExtensionAfter (length new.machines) tokens y ↔ (SomeExtensionAfter (length old.machines) before y ⊎ MeanAfter x.options x.tokens y)
 
 -- ---- all of them
@@ -123,8 +123,8 @@ before_extension path = take (length path - length (component_extension path)) p
 
 -- tokens of the index k match the part of the path that they are run on
 abbrev pub AreFound : List Entry → TokenLists → List ℕ → ℕ → Type 0
-AreFound matchers t path k =
-    SomeMatches t.by_path path k ⊎ (SomeMatches t.by_component (last_component path) k ⊎ SomeMatches (tokens_under t.by_slot matchers (component_extension path)) (before_extension path) k)
+AreFound slots t path k =
+    SomeMatches t.by_path path k ⊎ (SomeMatches t.by_component (last_component path) k ⊎ SomeMatches (tokens_under t.by_slot slots (component_extension path)) (before_extension path) k)
 
 -- Tokens match the part that they are run on of some path below the folder: the last component may be any text, whatever the
 -- folder is, and so may the extension, before which the path still has the folder and its `/`.
@@ -146,10 +146,10 @@ folder_reads a = max_reads a.by_path + total_reads a.extensions.machines
 -- No state is run for a path, and nothing is found.
 pub record AreIdle (a : AutomataParts) (path : List ℕ) : Type 0 where
   pub size : states_for a path ≡ 0
-  pub none : (t : TokenLists) → AreForLists a t → (k : ℕ) → AreFound a.extensions.matchers t path k → ⊥
+  pub none : (t : TokenLists) → AreForLists a t → (k : ℕ) → AreFound a.extensions.slots t path k → ⊥
 
 -- Some state is run for a path. The set has the indexes that are found, and room for every index.
 pub record IsFoundSet (a : AutomataParts) (path : List ℕ) (found : IndexSet) : Type 0 where
   pub size : 1 ≤ states_for a path
   pub room : a.extensions.index_count ≤ index_capacity found
-  pub same : (t : TokenLists) → AreForLists a t → (k : ℕ) → IsTrue (has_index found k) ↔ AreFound a.extensions.matchers t path k
+  pub same : (t : TokenLists) → AreForLists a t → (k : ℕ) → IsTrue (has_index found k) ↔ AreFound a.extensions.slots t path k

@@ -24,7 +24,7 @@ listed_count globs path = sum_by (λ g. cond (is_reported g path) 1 0) globs
 pub record IsSetMatcherOf (globs : List TokenGlob) (g : SetMatcherParts) : Type 0 where
   pub tokens : TokenLists
   pub are_for : AreForLists g.automata tokens
-  pub same : (path : List ℕ) (k : ℕ) → (Contains (keys_found g.keys path) k ⊎ AreFound g.automata.extensions.matchers tokens path k) ↔ IsTrue (is_reported_at globs path k)
+  pub same : (path : List ℕ) (k : ℕ) → (Contains (keys_found g.keys path) k ⊎ AreFound g.automata.extensions.slots tokens path k) ↔ IsTrue (is_reported_at globs path k)
   pub once : (path : List ℕ) → length (keys_found g.keys path) ≤ listed_count globs path
   pub reads : (path : List ℕ) → reads_for g.automata path ≤ load globs path
   pub below : (folder : List ℕ) → AllBytes folder → (MatchesBelow g.keys folder ⊎ AreFoundBelow g.automata.extensions tokens folder) ↔ SomeReportedBelow globs folder

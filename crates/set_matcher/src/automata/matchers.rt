@@ -23,7 +23,7 @@ use visits::Visits;
 
 /// An automaton for each extension that some glob requires. The slot of an extension is the position of its automaton.
 pub struct ExtensionMatchers {
-    matchers: Table,
+    slots: Table,
     automata: Vec<Compiled>,
     none: Compiled,
     index_count: usize,
@@ -33,7 +33,7 @@ impl Drop for ExtensionMatchers {
     // One call wherever a value is dropped, which keeps proofs short.
     fn drop(self) {
         let ExtensionMatchers {
-            matchers: _,
+            slots: _,
             automata: _,
             none: _,
             index_count: _,
@@ -47,13 +47,13 @@ impl Model for ExtensionMatchers {
     ghost Value = { ExtensionParts };
 
     ghost view = { λ e. record {
-      matchers = e.matchers;
+      slots = e.slots;
       machines = e.automata.items;
       none = e.none;
       index_count = e.index_count;
     } };
 
-    ghost invariant = { λ e. AreExtensionMatchers e.matchers e.automata.items e.none e.index_count };
+    ghost invariant = { λ e. AreExtensionMatchers e.slots e.automata.items e.none e.index_count };
 }
 
 impl ExtensionMatchers {
@@ -86,9 +86,9 @@ impl ExtensionMatchers {
 
     /// Returns whether no extension has an automaton.
     pub fn is_empty(&self) -> bool
-        ensures { IsTrue result ↔ (self.now.matchers ≡ []) }
+        ensures { IsTrue result ↔ (self.now.slots ≡ []) }
     {
-        self.matchers.is_empty()
+        self.slots.is_empty()
     }
 
     /// Returns an automaton without states.
@@ -106,10 +106,10 @@ impl ExtensionMatchers {
         ensures automaton { result.now ≡ machine_under self.now extension.now }
         ensures maximum { size result.now ≤ max_size self.now.machines }
         ensures count { result.now.index_count ≡ self.now.index_count }
-        ensures tokens { (by_slot : ℕ → List IndexedTokens) → AreFor self.now.machines by_slot → IsFor result.now (tokens_under by_slot self.now.matchers extension.now) }
+        ensures tokens { (by_slot : ℕ → List IndexedTokens) → AreFor self.now.machines by_slot → IsFor result.now (tokens_under by_slot self.now.slots extension.now) }
         ensures visits { visits.new ≡ visits.old + 1 }
     {
-        match self.matchers.get(extension, visits, &mut Visits::new()) {
+        match self.slots.get(extension, visits, &mut Visits::new()) {
             [slot, ..] => &self.automata[*slot],
             [] => &self.none,
         }
@@ -146,7 +146,7 @@ impl ExtensionMatchers {
 
 /// Makes [`ExtensionMatchers`].
 pub struct ExtensionMatchersBuilder {
-    matchers: ExtensionSlots,
+    slots: ExtensionSlots,
     builders: Vec<Builder>,
     none: Builder,
     index_count: usize,
@@ -156,7 +156,7 @@ impl Drop for ExtensionMatchersBuilder {
     // One call wherever a value is dropped, which keeps proofs short.
     fn drop(self) {
         let ExtensionMatchersBuilder {
-            matchers: _,
+            slots: _,
             builders: _,
             none: _,
             index_count: _,
@@ -170,25 +170,25 @@ impl Model for ExtensionMatchersBuilder {
     ghost Value = { ExtensionParts };
 
     ghost view = { λ e. record {
-      matchers = e.matchers;
+      slots = e.slots;
       machines = e.builders.items;
       none = e.none;
       index_count = e.index_count;
     } };
 
-    ghost invariant = { λ e. AreExtensionMatchers e.matchers e.builders.items e.none e.index_count };
+    ghost invariant = { λ e. AreExtensionMatchers e.slots e.builders.items e.none e.index_count };
 }
 
 impl ExtensionMatchersBuilder {
     /// Returns a builder that nothing was added to. Indexes have to be below `index_count`. It allocates nothing.
     pub fn new(alloc: Global, index_count: usize) -> ExtensionMatchersBuilder
-        ensures matchers { result.matchers ≡ [] }
+        ensures slots { result.slots ≡ [] }
         ensures machines { result.machines ≡ [] }
         ensures count { result.index_count ≡ index_count }
         ensures none { max_reads result.none ≡ 0 }
     {
         ExtensionMatchersBuilder {
-            matchers: ExtensionSlots::new(alloc),
+            slots: ExtensionSlots::new(alloc),
             builders: Vec::new(alloc),
             none: new_builder(alloc, index_count),
             index_count,
@@ -225,13 +225,13 @@ impl ExtensionMatchersBuilder {
 
     /// Returns the slot of an extension, which is a new one if it has none.
     fn slot_of(&mut self, alloc: Global, key: Vec<u8>) -> Result<usize, AllocError>
-        ensures slot { IfOk result (λ slot. slot_of self.new.matchers key.items ≡ Some slot) }
+        ensures slot { IfOk result (λ slot. slot_of self.new.slots key.items ≡ Some slot) }
         ensures tokens { OnOk result ((before : ℕ → List IndexedTokens) → AreFor self.old.machines before → KeepsTokens self.old before self.new) }
         ensures reads { OnOk result ((extension : List ℕ) → max_reads (machine_under self.new extension) ≡ max_reads (machine_under self.old extension)) }
         ensures total { OnOk result (total_reads self.new.machines ≡ total_reads self.old.machines) }
         ensures count { self.new.index_count ≡ self.old.index_count }
     {
-        if let Some(slot) = self.matchers.get(&key) {
+        if let Some(slot) = self.slots.get(&key) {
             return Ok(slot);
         }
         self.add_slot(alloc, key)
@@ -239,8 +239,8 @@ impl ExtensionMatchersBuilder {
 
     /// Makes a slot for an extension that has none, and returns it.
     fn add_slot(&mut self, alloc: Global, key: Vec<u8>) -> Result<usize, AllocError>
-        requires { slot_of self.old.matchers key.items ≡ None }
-        ensures slot { IfOk result (λ slot. slot_of self.new.matchers key.items ≡ Some slot) }
+        requires { slot_of self.old.slots key.items ≡ None }
+        ensures slot { IfOk result (λ slot. slot_of self.new.slots key.items ≡ Some slot) }
         ensures tokens { OnOk result ((before : ℕ → List IndexedTokens) → AreFor self.old.machines before → KeepsTokens self.old before self.new) }
         ensures reads { OnOk result ((extension : List ℕ) → max_reads (machine_under self.new extension) ≡ max_reads (machine_under self.old extension)) }
         ensures total { OnOk result (total_reads self.new.machines ≡ total_reads self.old.machines) }
@@ -248,7 +248,7 @@ impl ExtensionMatchersBuilder {
     {
         let slot = self.builders.len();
         self.builders.push(new_builder(alloc, self.index_count))?;
-        self.matchers.insert(alloc, key, slot)?;
+        self.slots.insert(alloc, key, slot)?;
         Ok(slot)
     }
 
@@ -257,13 +257,13 @@ impl ExtensionMatchersBuilder {
         ensures { IfOk result (λ matchers. matchers ≡ self) }
     {
         let ExtensionMatchersBuilder {
-            matchers,
+            slots,
             builders,
             none,
             index_count,
         } = self;
         Ok(ExtensionMatchers {
-            matchers: matchers.build()?,
+            slots: slots.build()?,
             automata: finished(alloc, budget, builders)?,
             none: Compiled::simulated(Nfa::new(none.finish())),
             index_count,

@@ -2,7 +2,7 @@ use Rattle.std.proofs.Common.{◌+◌, length, take, sym, arith, true≢false, �
 use Rattle.std.proofs.lemmas.List.{take_all}
 use Rattle.byte_nfa.specs.Runs.{size}
 use Rattle.glob_matching.specs.inner.Parts.{total}
-use Rattle.glob_matching.proofs.lemmas.Parts.{found_more, visits_more, visits_limit, total_more, total_limit}
+use Rattle.glob_matching.proofs.lemmas.Parts.{found_more, visits_more, visits_within, total_more, total_within}
 use Rattle.glob_matching.proofs.parts.find_by_simulation.Goals as goal
 
 pub returns-in_err-find-clause-visits : goal.returns-in_err-find-clause-visits
@@ -11,8 +11,8 @@ returns-in_err-find-clause-visits c =
     let i = c.loop-automaton.automaton-index in
     let m = c.automaton-item.result in
     let n = length c.args.text.now + 1 in
-    let limit = total_limit automata i m c.loop-automaton-test.true c.automaton-item.is in
-    visits_limit n (total (take i automata) + size m) (total automata) c.find.new.visits c.args.visits.now limit
+    let limit = total_within automata i m c.loop-automaton-test.true c.automaton-item.is in
+    visits_within n (total (take i automata) + size m) (total automata) c.find.new.visits c.args.visits.now limit
     (visits_more n (total (take i automata)) (size m) c.loop-automaton.visits c.find.new.visits c.args.visits.now c.find.ensures.visits c.loop-automaton.invariant.visits)
 
 pub loop-automaton-preserved : goal.loop-automaton-preserved
@@ -33,7 +33,7 @@ loop-automaton-preserved c =
 
 pub returns-in_err-find-clause-memory : goal.returns-in_err-find-clause-memory
 returns-in_err-find-clause-memory c = λ enough.
-    let limit = total_limit c.args.automata.now c.loop-automaton.automaton-index c.automaton-item.result c.loop-automaton-test.true c.automaton-item.is in
+    let limit = total_within c.args.automata.now c.loop-automaton.automaton-index c.automaton-item.result c.loop-automaton-test.true c.automaton-item.is in
     absurd (true≢false (sym (c.in_err-find.ensures.memory (omega (arith, limit, enough, c.loop-automaton.invariant.kept)))))
 
 pub returns-clause-found : goal.returns-clause-found

@@ -2,7 +2,7 @@ use Rattle.std.proofs.Common.{◌+◌, ◌<◌, length, ap, arith, ◌∙◌}
 use Rattle.std.proofs.lemmas.List.{take_all}
 use Rattle.byte_nfa.specs.Steps.{Machine}
 use Rattle.glob_matching.specs.inner.Parts.{sources}
-use Rattle.glob_matching.proofs.lemmas.Parts.{source_at, sources_length, found_more, visits_more, at_least_below, visits_limit}
+use Rattle.glob_matching.proofs.lemmas.Parts.{source_at, sources_length, found_more, visits_more, at_least_below, visits_within}
 use Rattle.glob_matching.proofs.parts.find_by_tables.Goals as goal
 
 pub find-requires : goal.find-requires
@@ -35,7 +35,7 @@ returns-clause-found c = λ k.
 
 pub returns-clause-visits : goal.returns-clause-visits
 returns-clause-visits c =
-    visits_limit (length c.args.text.now + 2) c.loop-table.table-index (length c.args.tables.now) c.loop-table.visits c.args.visits.now c.loop-table.auto.table-index-end c.loop-table.invariant.visits
+    visits_within (length c.args.text.now + 2) c.loop-table.table-index (length c.args.tables.now) c.loop-table.visits c.args.visits.now c.loop-table.auto.table-index-end c.loop-table.invariant.visits
 
 pub returns-clause-counted : goal.returns-clause-counted
 returns-clause-counted c = c.loop-table.invariant.counted

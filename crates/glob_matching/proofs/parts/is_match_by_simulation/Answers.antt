@@ -3,7 +3,7 @@ use Rattle.byte_nfa.specs.Runs.{size}
 use Rattle.std.proofs.lemmas.Result.{IfOk-from_err}
 use Rattle.std.proofs.lemmas.List.{take_all}
 use Rattle.glob_matching.specs.inner.Parts.{total}
-use Rattle.glob_matching.proofs.lemmas.Parts.{some_at, none_more, visits_more, visits_limit, total_more, total_limit}
+use Rattle.glob_matching.proofs.lemmas.Parts.{some_at, none_more, visits_more, visits_within, total_more, total_within}
 use Rattle.glob_matching.proofs.parts.is_match_by_simulation.Goals as goal
 
 pub returns-in_err-is_match-clause-visits : goal.returns-in_err-is_match-clause-visits
@@ -12,8 +12,8 @@ returns-in_err-is_match-clause-visits c =
     let i = c.loop-automaton.automaton-index in
     let m = c.automaton-item.result in
     let n = length c.args.text.now + 1 in
-    let limit = total_limit automata i m c.loop-automaton-test.true c.automaton-item.is in
-    visits_limit n (total (take i automata) + size m) (total automata) c.is_match.new.visits c.args.visits.now limit
+    let limit = total_within automata i m c.loop-automaton-test.true c.automaton-item.is in
+    visits_within n (total (take i automata) + size m) (total automata) c.is_match.new.visits c.args.visits.now limit
     (visits_more n (total (take i automata)) (size m) c.loop-automaton.visits c.is_match.new.visits c.args.visits.now c.is_match.ensures.visits c.loop-automaton.invariant.visits)
 
 pub returns-then-branch-clause-visits : goal.returns-then-branch-clause-visits
@@ -22,8 +22,8 @@ returns-then-branch-clause-visits c =
     let i = c.loop-automaton.automaton-index in
     let m = c.automaton-item.result in
     let n = length c.args.text.now + 1 in
-    let limit = total_limit automata i m c.loop-automaton-test.true c.automaton-item.is in
-    visits_limit n (total (take i automata) + size m) (total automata) c.is_match.new.visits c.args.visits.now limit
+    let limit = total_within automata i m c.loop-automaton-test.true c.automaton-item.is in
+    visits_within n (total (take i automata) + size m) (total automata) c.is_match.new.visits c.args.visits.now limit
     (visits_more n (total (take i automata)) (size m) c.loop-automaton.visits c.is_match.new.visits c.args.visits.now c.is_match.ensures.visits c.loop-automaton.invariant.visits)
 
 pub returns-then-branch-clause-some : goal.returns-then-branch-clause-some
@@ -51,7 +51,7 @@ loop-automaton-preserved c =
 
 pub returns-in_err-is_match-clause-memory : goal.returns-in_err-is_match-clause-memory
 returns-in_err-is_match-clause-memory c = λ enough.
-    let limit = total_limit c.args.automata.now c.loop-automaton.automaton-index c.automaton-item.result c.loop-automaton-test.true c.automaton-item.is in
+    let limit = total_within c.args.automata.now c.loop-automaton.automaton-index c.automaton-item.result c.loop-automaton-test.true c.automaton-item.is in
     absurd (true≢false (sym (c.in_err-is_match.ensures.memory (omega (arith, limit, enough, c.loop-automaton.invariant.kept)))))
 
 pub returns-in_err-is_match-clause-kept : goal.returns-in_err-is_match-clause-kept

@@ -1,6 +1,6 @@
 use Rattle.std.proofs.Common.{◌+◌, ◌<◌, length, refl, arith, ◌∙◌, sym, true≢false}
 use Rattle.glob_matching.specs.inner.Parts.{sources}
-use Rattle.glob_matching.proofs.lemmas.Parts.{source_at, sources_length, some_at, none_more, visits_more, at_least_below, visits_limit, visits_one}
+use Rattle.glob_matching.proofs.lemmas.Parts.{source_at, sources_length, some_at, none_more, visits_more, at_least_below, visits_within, visits_one}
 use Rattle.glob_matching.proofs.parts.is_match_by_tables.Goals as goal
 
 pub returns-then-is_match-clause-some : goal.returns-then-is_match-clause-some
@@ -35,7 +35,7 @@ returns-then-is_match-clause-visits c =
 
 pub returns-clause-visits : goal.returns-clause-visits
 returns-clause-visits c =
-    visits_limit (length c.args.text.now + 2) c.loop-table.table-index (length c.args.tables.now) c.loop-table.visits c.args.visits.now c.loop-table.auto.table-index-end c.loop-table.invariant.visits
+    visits_within (length c.args.text.now + 2) c.loop-table.table-index (length c.args.tables.now) c.loop-table.visits c.args.visits.now c.loop-table.auto.table-index-end c.loop-table.invariant.visits
 
 pub returns-clause-counted : goal.returns-clause-counted
 returns-clause-counted c = c.loop-table.invariant.counted

@@ -4,7 +4,7 @@ use Rattle.glob_syntax.specs.Reading.{next_branch}
 use Rattle.glob_syntax.specs.FlatTokens.{all_levels, levels_of, opening, comma, closing}
 use Rattle.glob_syntax.specs.Views.{flat_of, flats}
 use Rattle.glob_syntax.proofs.lemmas.FlatTokens.{levels_more, open_around, depth, sole}
-use Rattle.byte_nfa.specs.Steps.{skips}
+use Rattle.byte_nfa.specs.Steps.{union_state}
 use Rattle.bit_sets.specs.Numbers.{AreBelow}
 use Rattle.byte_nfa.specs.Building.{Pushes}
 use Rattle.byte_nfa.specs.Runs.{size}
@@ -89,7 +89,7 @@ loop-i-preserved c =
           let around : c.loop-i.around.items ≡ rest ++ outer ∷ [] = rw w.in-Some.is at w.pop.ensures.items in
           let stands : Stands o old mid (frame_of group ∷ frame_of outer ∷ frames_of rest) (all_levels (next_branch l)) e =
           rw (done, ← frames_push rest outer, ← around) (stands_comma o old mid f fs l e was) in
-          let pushed : Pushes mid new start (skips (targets_of (frame_of group).starts (frame_of group).exit)) =
+          let pushed : Pushes mid new start (union_state (targets_of (frame_of group).starts (frame_of group).exit)) =
           rw (w.deref.ensures.value, w.in_ok-targets-in-Open.ensures) at w.in_ok-start-in-Open.ensures.pushed in
           rw (down, here, is, w.builder-is, w.frame-is, w.around-is, w.lead-frame.ensures)
           (stands_group o old mid new (frame_of group) (frame_of outer) (frames_of rest) l start e stands pushed)

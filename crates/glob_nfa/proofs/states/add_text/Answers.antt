@@ -1,6 +1,6 @@
 use Rattle.std.proofs.Common.{◌≡◌, ◌+◌, ◌-◌, ◌<◌, ◌∷◌, length, get_or, drop, arith}
 use Rattle.std.proofs.lemmas.List.{drop_more}
-use Rattle.byte_nfa.specs.Steps.{reads}
+use Rattle.byte_nfa.specs.Steps.{bytes_state}
 use Rattle.glob_nfa.proofs.lemmas.Building.{grows_then, grows_push, text_more}
 use Rattle.glob_nfa.proofs.states.add_text.Goals as goal
 
@@ -18,7 +18,7 @@ loop-i-preserved c =
     record {
       within = omega (arith, made.at, made.len);
       count = omega (arith, made.len, inv.count);
-      grows = grows_then c.args.builder.now c.loop-i.builder c.push_bytes.new.self inv.grows (grows_push c.loop-i.builder c.push_bytes.new.self c.in_ok-at.at (reads c.letter_bytes.result c.loop-i.at) made);
+      grows = grows_then c.args.builder.now c.loop-i.builder c.push_bytes.new.self inv.grows (grows_push c.loop-i.builder c.push_bytes.new.self c.in_ok-at.at (bytes_state c.letter_bytes.result c.loop-i.at) made);
       builds = rw (down, more) (text_more c.args.options (get_or bytes j 0) (drop (j + 1) bytes) c.args.builder.now c.loop-i.builder c.push_bytes.new.self
           c.letter_bytes.result c.in_ok-at.at c.loop-i.at c.args.exit (rw up at inv.builds) inv.grows.keeps made c.letter_bytes.ensures);
     }

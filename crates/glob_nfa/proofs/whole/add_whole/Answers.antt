@@ -1,7 +1,7 @@
 use Rattle.std.proofs.Common.{◌≡◌, true, sym, ◌∙◌, arith}
 use Rattle.glob_syntax.specs.Views.{tokens_of}
 use Rattle.glob_meaning.specs.TokensMatch.{is_prefix_alone}
-use Rattle.byte_nfa.specs.Steps.{final}
+use Rattle.byte_nfa.specs.Steps.{match_state}
 use Rattle.glob_nfa.proofs.lemmas.Building.{grows_then, grows_push}
 use Rattle.glob_nfa.proofs.lemmas.IndexedTokens.{whole_built, everything_built, alone_weight}
 use Rattle.glob_nfa.proofs.whole.add_whole.Goals as goal
@@ -18,7 +18,7 @@ returns-in_ok-every-clause-builds c =
 
 pub returns-in_ok-start-clause-grows : goal.returns-in_ok-start-clause-grows
 returns-in_ok-start-clause-grows c =
-    grows_then c.args.builder.now c.push_match.new.self c.add_sequence.new.builder (grows_push c.args.builder.now c.push_match.new.self c.in_ok-end.end (final c.args.index) c.in_ok-end.ensures.pushed) c.add_sequence.ensures.grows
+    grows_then c.args.builder.now c.push_match.new.self c.add_sequence.new.builder (grows_push c.args.builder.now c.push_match.new.self c.in_ok-end.end (match_state c.args.index) c.in_ok-end.ensures.pushed) c.add_sequence.ensures.grows
 
 pub returns-in_ok-start-clause-builds : goal.returns-in_ok-start-clause-builds
 returns-in_ok-start-clause-builds c =

@@ -4,7 +4,7 @@ use Rattle.std.proofs.lemmas.Bool.{cases_lt, eq-eqb, eqb-true, or_cases}
 use Rattle.std.proofs.lemmas.List.{get_or_append_left}
 use Rattle.std.proofs.Math.Logic.{⊎_elim}
 use Rattle.std.proofs.Math.Seq.{get_or-append_seam}
-use Rattle.bit_sets.specs.Numbers.{is_reported, AreBelow}
+use Rattle.bit_sets.specs.Numbers.{has_number, AreBelow}
 use Rattle.bit_sets.specs.StateSets.{has_state}
 use Rattle.byte_nfa.proofs.lemmas.Pass.{or_first, or_second}
 use Rattle.byte_dfa.proofs.lemmas.Lists.{listed_push}
@@ -20,27 +20,27 @@ below_push n s list lt below i small =
 
 -- the states down to s are listed, of which none between s and the bound before is in the set
 module _ (n s high : ℕ) (set : ℕ → Bool) (list : List ℕ) (lt : s < high) (le : high ≤ n) (between : (k : ℕ) → s < k → k < high → set k ≡ false)
-    (has : (t : ℕ) → IsTrue (is_reported t list) ↔ ((high ≤ t) × (t < n) × IsTrue (set t))) where
-  listed_more : IsTrue (set s) → (t : ℕ) → IsTrue (is_reported t (list ++ s ∷ [])) ↔ ((s ≤ t) × (t < n) × IsTrue (set t))
+    (has : (t : ℕ) → IsTrue (has_number t list) ↔ ((high ≤ t) × (t < n) × IsTrue (set t))) where
+  listed_more : IsTrue (set s) → (t : ℕ) → IsTrue (has_number t (list ++ s ∷ [])) ↔ ((s ≤ t) × (t < n) × IsTrue (set t))
   listed_more here t = (there, λ (low, small, at). back low small at)
     where
-      there : IsTrue (is_reported t (list ++ s ∷ [])) → (s ≤ t) × (t < n) × IsTrue (set t)
+      there : IsTrue (has_number t (list ++ s ∷ [])) → (s ≤ t) × (t < n) × IsTrue (set t)
       there h = ⊎_elim {C = (s ≤ t) × (t < n) × IsTrue (set t)} (λ old. let (low, small, at) = (has t).0 old in (omega arith, small, at))
           (λ e. let is : t ≡ s = eqb-true t s e in (omega arith, omega arith, subst (λ u. IsTrue (set u)) (sym is) here))
-          (or_cases (is_reported t list) (t == s) (sym (listed_push t s list) ∙ h))
+          (or_cases (has_number t list) (t == s) (sym (listed_push t s list) ∙ h))
 
-      back : s ≤ t → t < n → IsTrue (set t) → IsTrue (is_reported t (list ++ s ∷ []))
-      back low small at = ⊎_elim {C = IsTrue (is_reported t (list ++ s ∷ []))}
-          (λ under. ⊎_elim {C = IsTrue (is_reported t (list ++ s ∷ []))} (λ over. absurd (true≢false (sym at ∙ between t over under)))
-          (λ down. let is : t ≡ s = omega arith in listed_push t s list ∙ or_second (is_reported t list) (t == s) (eq-eqb t s is)) (cases_lt s t))
-          (λ above. listed_push t s list ∙ or_first (is_reported t list) (t == s) ((has t).1 (above, small, at)))
+      back : s ≤ t → t < n → IsTrue (set t) → IsTrue (has_number t (list ++ s ∷ []))
+      back low small at = ⊎_elim {C = IsTrue (has_number t (list ++ s ∷ []))}
+          (λ under. ⊎_elim {C = IsTrue (has_number t (list ++ s ∷ []))} (λ over. absurd (true≢false (sym at ∙ between t over under)))
+          (λ down. let is : t ≡ s = omega arith in listed_push t s list ∙ or_second (has_number t list) (t == s) (eq-eqb t s is)) (cases_lt s t))
+          (λ above. listed_push t s list ∙ or_first (has_number t list) (t == s) ((has t).1 (above, small, at)))
           (cases_lt t high)
 
-  listed_same : set s ≡ false → (t : ℕ) → IsTrue (is_reported t list) ↔ ((s ≤ t) × (t < n) × IsTrue (set t))
+  listed_same : set s ≡ false → (t : ℕ) → IsTrue (has_number t list) ↔ ((s ≤ t) × (t < n) × IsTrue (set t))
   listed_same off t = (
     λ h. let (low, small, at) = (has t).0 h in (omega arith, small, at),
-    λ (low, small, at). ⊎_elim {C = IsTrue (is_reported t list)}
-        (λ under. ⊎_elim {C = IsTrue (is_reported t list)} (λ over. absurd (true≢false (sym at ∙ between t over under)))
+    λ (low, small, at). ⊎_elim {C = IsTrue (has_number t list)}
+        (λ under. ⊎_elim {C = IsTrue (has_number t list)} (λ over. absurd (true≢false (sym at ∙ between t over under)))
         (λ down. let is : t ≡ s = omega arith in absurd (true≢false (sym at ∙ ap set is ∙ off))) (cases_lt s t))
         (λ above. (has t).1 (above, small, at))
         (cases_lt t high),

@@ -1,6 +1,6 @@
 use Rattle.std.proofs.Common.{ℕ, ◌+◌, ◌<◌, ◌≤◌, length, IsTrue}
 use Rattle.std.specs.Prelude.{◌↔◌, vec_capacity}
-use Rattle.bit_sets.specs.Numbers.{is_reported, AreBelow}
+use Rattle.bit_sets.specs.Numbers.{has_number, AreBelow}
 use Rattle.bit_sets.specs.StateSets.{has_state}
 use Rattle.lazy_dfa.proofs.lists.list_of.Given as goal
 
@@ -9,7 +9,7 @@ invariant-loop-high l = record {
   within : l.high ≤ l.limit;
   below : AreBelow l.limit l.list.items;
   few : length l.list.items + l.high ≤ l.limit;
-  has : (t : ℕ) → IsTrue (is_reported t l.list.items) ↔ ((l.high ≤ t) × (t < l.limit) × IsTrue (has_state l.set t));
+  has : (t : ℕ) → IsTrue (has_number t l.list.items) ↔ ((l.high ≤ t) × (t < l.limit) × IsTrue (has_state l.set t));
   capacity : vec_capacity l.fn.list ≤ vec_capacity l.list;
 }
 

@@ -1,7 +1,7 @@
 use Rattle.std.proofs.Common.{◌≡◌, ap, arith, ◌∙◌}
 use Rattle.std.proofs.lemmas.List.{nil_from_length}
 use Rattle.byte_nfa.specs.Reading.{is_read}
-use Rattle.byte_nfa.specs.Steps.{skips, state}
+use Rattle.byte_nfa.specs.Steps.{union_state, state}
 use Rattle.nfa_sharing.proofs.lemmas.Lists.{union_taken, state_kept, none_waits}
 use Rattle.nfa_sharing.proofs.expanded.expanded.Goals as goal
 
@@ -11,7 +11,7 @@ loop-s-preserved-in-Continue-branch-2 c =
     let l = c.loop-s in
     let rest = c.pop.new.self.items in
     let us = c.in-Union.targets.now in
-    let is : state a c.in-Some.s ≡ skips us = c.in-Some-state.ensures.read ∙ ap is_read c.in-Union.is in
+    let is : state a c.in-Some.s ≡ union_state us = c.in-Some-state.ensures.read ∙ ap is_read c.in-Union.is in
     record {
       left = omega (arith, l.invariant.left, c.spend.ensures.less, c.spend-in-Union.ensures.less);
       same = union_taken a c.args.list.now l.states.items l.waiting.items rest c.in-Some.s c.in-Some.ensures.items l.invariant.same

@@ -1,5 +1,5 @@
 use Rattle.std.proofs.Common.{◌≡◌, ◌-◌, ◌<◌, length, slice_index}
-use Rattle.byte_dfa.specs.inner.Classes.{IsDivided}
+use Rattle.byte_dfa.specs.inner.Classes.{AreEquivalenceClassesBelow}
 use Rattle.byte_dfa.proofs.classes.ByteClasses.new.Given as goal
 
 abbrev pub invariant-loop-i : goal.invariant-loop-i
@@ -9,5 +9,5 @@ invariant-loop-i l = record {
   few : l.last < l.i;
   kinds_len : length l.kinds ≡ 256;
   class : slice_index l.class_of (l.i - 1) ≡ l.class;
-  divided : IsDivided l.automaton.states l.class_of l.representatives l.last l.i;
+  equivalence : AreEquivalenceClassesBelow l.automaton.states l.class_of l.representatives l.last l.i;
 }

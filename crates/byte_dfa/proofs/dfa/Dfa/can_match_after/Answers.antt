@@ -2,7 +2,7 @@ use Rattle.std.proofs.Common.{◌≡◌, ℕ, ◌+◌, ◌/◌, ◌%◌, ◌<◌
 use Rattle.std.proofs.lemmas.List.{drop_more, drop_all}
 use Rattle.std.specs.Prelude.{◌↔◌, slice_index_or}
 use Rattle.byte_nfa.specs.Live.{MatchesAfter}
-use Rattle.bit_sets.specs.Numbers.{is_reported}
+use Rattle.bit_sets.specs.Numbers.{has_number}
 use Rattle.bit_sets.proofs.lemmas.Texts.{all_bytes}
 use Rattle.byte_nfa.proofs.lemmas.Pass.{or_first}
 use Rattle.byte_dfa.specs.DfaValue.{DfaValue}
@@ -22,7 +22,7 @@ returns-then-has_some-clause-some c =
     let (k, listed) = some c.if-has_some.true in
     let source = ap (λ (v : DfaValue). v.source) c.self.view_is in
     rw (sym source) (match_after_found t.source.value d c.self.invariant.finds text c.args.byte k bytes c.ranges.byte.fits
-    (or_first (is_reported k (on_entry d d.start)) (later d d.start (text ++ c.args.byte ∷ []) k) listed))
+    (or_first (has_number k (on_entry d d.start)) (later d d.start (text ++ c.args.byte ∷ []) k) listed))
 
 pub loop-read-init : goal.loop-read-init
 loop-read-init c =

@@ -3,7 +3,7 @@ use Rattle.std.proofs.Math.Logic.{⊎_elim}
 use Rattle.std.proofs.lemmas.List.{drop_more, drop_all}
 use Rattle.bit_sets.specs.Indexes.{has_index, index_capacity}
 use Rattle.bit_sets.proofs.lemmas.Texts.{all_bytes}
-use Rattle.bit_sets.specs.Numbers.{is_reported}
+use Rattle.bit_sets.specs.Numbers.{has_number}
 use Rattle.byte_dfa.specs.DfaValue.{DfaValue}
 use Rattle.byte_dfa.specs.inner.Tables.{table_of, transition, special, on_entry, finds}
 use Rattle.byte_dfa.proofs.lemmas.Lists.{list_wider}
@@ -97,7 +97,7 @@ loop-byte-preserved c =
             w.if-state-ge-SPECIAL.true c.next-state.ensures.small
             (rw (w.deref-then-state-told.ensures.value, c.as_slice-table.ensures.value) at w.put_listed-then-state-told.ensures.has k)
             (rw more at inv.found k);
-        told = λ k. has_put (is_reported k (on_entry d (e - special))) (has_index l.into k) (has_index w.put_listed-then-state-told.new.into k) (rw (w.deref-then-state-told.ensures.value, c.as_slice-table.ensures.value) at w.put_listed-then-state-told.ensures.has k);
+        told = λ k. has_put (has_number k (on_entry d (e - special))) (has_index l.into k) (has_index w.put_listed-then-state-told.new.into k) (rw (w.deref-then-state-told.ensures.value, c.as_slice-table.ensures.value) at w.put_listed-then-state-told.ensures.has k);
         visits = next_visits_after c.args.visits.now l.visits c.next-state.new.visits i inv.visits c.next-state.ensures.visits;
         counted = still_counted c.args.visits.now l.visits c.next-state.new.visits inv.counted c.next-state.ensures.visits;
       }
@@ -106,7 +106,7 @@ loop-byte-preserved c =
         room = inv.room;
         found = λ k. high_next d sound l.state byte inv.row small e is rest k (has_index l.into k) (has_index l.into k) (finds d text k || has_index c.args.into.now k)
             w.if-state-ge-SPECIAL.true c.next-state.ensures.small
-            (put_again (is_reported k (on_entry d (e - special))) (has_index l.into k) (λ h. inv.told k (subst (λ s. IsTrue (is_reported k (on_entry d s))) w.if-state-told.false h)))
+            (put_again (has_number k (on_entry d (e - special))) (has_index l.into k) (λ h. inv.told k (subst (λ s. IsTrue (has_number k (on_entry d s))) w.if-state-told.false h)))
             (rw more at inv.found k);
         told = inv.told;
         visits = next_visits_after c.args.visits.now l.visits c.next-state.new.visits i inv.visits c.next-state.ensures.visits;

@@ -1,6 +1,6 @@
 use Rattle.std.proofs.Common.{◌≡◌, ℕ, ◌+◌, ◌<◌, ◌≤◌, ◌||◌, drop, IsTrue}
 use Rattle.bit_sets.specs.Indexes.{has_index, index_capacity}
-use Rattle.bit_sets.specs.Numbers.{is_reported}
+use Rattle.bit_sets.specs.Numbers.{has_number}
 use Rattle.byte_dfa.specs.inner.Tables.{table_of, later, finds, on_entry, IsRow}
 use Rattle.byte_dfa.proofs.dfa.Dfa.find.Given as goal
 
@@ -12,7 +12,7 @@ invariant-loop-byte l =
       row : IsRow d l.state;
       room : index_capacity l.into ≡ index_capacity l.fn.into;
       found : (k : ℕ) → (later d l.state (drop l.byte-index l.text) k || has_index l.into k) ≡ (finds d l.text k || has_index l.fn.into k);
-      told : (k : ℕ) → IsTrue (is_reported k (on_entry d l.told)) → IsTrue (has_index l.into k);
+      told : (k : ℕ) → IsTrue (has_number k (on_entry d l.told)) → IsTrue (has_index l.into k);
       visits : l.visits ≤ l.fn.visits + l.byte-index + 1;
       counted : l.fn.visits < l.visits;
     }

@@ -1,6 +1,6 @@
 use Rattle.std.proofs.Common.{◌≡◌, ℕ, ◌+◌, ◌<◌, ◌∷◌, ◌-◌, [], drop, length, get_or, slice_index, true≢false, arith, sym, ap, ◌∙◌}
 use Rattle.std.proofs.lemmas.List.{drop_more, drop_all}
-use Rattle.bit_sets.specs.Numbers.{is_reported}
+use Rattle.bit_sets.specs.Numbers.{has_number}
 use Rattle.bit_sets.proofs.lemmas.Texts.{all_bytes}
 use Rattle.byte_nfa.proofs.lemmas.Pass.{or_first}
 use Rattle.byte_dfa.specs.DfaValue.{DfaValue}
@@ -18,7 +18,7 @@ returns-then-has_some-clause-some c =
     let some = rw (c.deref.ensures.value, c.as_slice-table.ensures.value) at c.has_some.ensures.some in
     let (k, listed) = some c.if-has_some.true in
     let source = ap (λ (v : DfaValue). v.source) c.self.view_is in
-    rw (sym source) (some_found (finds d text) _ k (λ j. c.self.invariant.finds text j bytes) (or_first (is_reported k (on_entry d d.start)) (later d d.start text k) listed))
+    rw (sym source) (some_found (finds d text) _ k (λ j. c.self.invariant.finds text j bytes) (or_first (has_number k (on_entry d d.start)) (later d d.start text k) listed))
 
 pub loop-byte-init : goal.loop-byte-init
 loop-byte-init c =

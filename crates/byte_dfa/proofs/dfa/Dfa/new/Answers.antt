@@ -24,7 +24,7 @@ invariant_of-result c =
     let made = rw c.in-Some.is at c.in_ok-early_match.ensures in
     let few : length built.found.items * (classes.count + 2) ≤ special = omega (arith, whole.rows, whole.few) in
     rw (c.of.ensures, c.index_count.ensures, c.into_parts-table.ensures.rows, c.into_parts-table.ensures.lists)
-    (table_is old m made classes c.new-classes.ensures.division built.found.items built.lists.items built.rows.items built.accepting whole.sound whole.rows few
+    (table_is old m made classes c.new-classes.ensures.equivalence built.found.items built.lists.items built.rows.items built.accepting whole.sound whole.rows few
     (c.in-Some-complete.start * (classes.count + 2)) c.in-Some-complete.start whole.begins.set c.in_ok-last_bytes.last_bytes c.in_ok-live.live.items whole.begins.at refl whole.begins.leads c.in_ok-last_bytes.ensures c.in_ok-live.ensures)
 
 pub returns-in_err-last_bytes-clause-source : goal.returns-in_err-last_bytes-clause-source

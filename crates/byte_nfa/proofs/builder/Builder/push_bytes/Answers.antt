@@ -1,6 +1,6 @@
 use Rattle.std.proofs.Common.{[], arith, ap, sym}
 use Rattle.std.proofs.lemmas.List.{append-nil, length-map}
-use Rattle.byte_nfa.specs.Steps.{reads}
+use Rattle.byte_nfa.specs.Steps.{bytes_state}
 use Rattle.byte_nfa.specs.Runs.{size}
 use Rattle.byte_nfa.specs.inner.Views.{of_state}
 use Rattle.byte_nfa.specs.declared.state.State.TheVariants.{Bytes}
@@ -48,7 +48,7 @@ invariant_of-self-2 c =
     let held = c.in_ok-set.ensures.held in
     rw c.in_ok-push.ensures.items (sound_with c.args.self.now inside.sets.items c.hold_set.new.sets.items more.0 targets targets [] more.1 (sym (append-nil targets))
     states inside.starts.items inside.index_count c.self.view_is c.self.invariant
-    (Bytes c.in_ok-set.set c.args.next) (reads c.args.bytes c.args.next) (ap (λ w. reads w c.args.next) held.1)
+    (Bytes c.in_ok-set.set c.args.next) (bytes_state c.args.bytes c.args.next) (ap (λ w. bytes_state w c.args.next) held.1)
     held.0 (omega (arith, c.requires, ap size c.self.view_is, length-map states (of_state inside.sets.items targets))) tt)
 
 pub returns-clause-pushed : goal.returns-clause-pushed
@@ -59,5 +59,5 @@ returns-clause-pushed c =
     let held = c.in_ok-set.ensures.held in
     rw c.in_ok-push.ensures.items (pushes_with c.args.self.now inside.sets.items c.hold_set.new.sets.items more.0 targets targets [] more.1 (sym (append-nil targets))
     inside.states.items inside.starts.items inside.index_count c.self.view_is c.self.invariant
-    (Bytes c.in_ok-set.set c.args.next) (reads c.args.bytes c.args.next) (ap (λ w. reads w c.args.next) held.1)
+    (Bytes c.in_ok-set.set c.args.next) (bytes_state c.args.bytes c.args.next) (ap (λ w. bytes_state w c.args.next) held.1)
     c.len-at.result (omega (arith, c.len-at.ensures, inside.states.ok.0)))

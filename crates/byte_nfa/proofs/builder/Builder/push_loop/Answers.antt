@@ -1,6 +1,6 @@
 use Rattle.std.proofs.Common.{◌∷◌, [], ◌<◌, length, arith, ap, sym}
 use Rattle.std.proofs.lemmas.List.{append-nil, length-map}
-use Rattle.byte_nfa.specs.Steps.{stays}
+use Rattle.byte_nfa.specs.Steps.{loop_state}
 use Rattle.byte_nfa.specs.Runs.{size}
 use Rattle.byte_nfa.specs.inner.Views.{of_state}
 use Rattle.byte_nfa.specs.declared.state.State.TheVariants.{Loop}
@@ -49,7 +49,7 @@ invariant_of-self-2 c =
     let lt : c.args.exit < length states = omega (arith, c.requires, ap size c.self.view_is, length-map states (of_state inside.sets.items targets)) in
     rw c.in_ok-push.ensures.items (sound_with c.args.self.now inside.sets.items c.hold_set.new.sets.items more.0 targets targets [] more.1 (sym (append-nil targets))
     states inside.starts.items inside.index_count c.self.view_is c.self.invariant
-    (Loop c.in_ok-set.set c.args.exit) (stays c.args.bytes (c.args.exit ∷ [])) (ap (λ w. stays w (c.args.exit ∷ [])) held.1)
+    (Loop c.in_ok-set.set c.args.exit) (loop_state c.args.bytes (c.args.exit ∷ [])) (ap (λ w. loop_state w (c.args.exit ∷ [])) held.1)
     held.0 (one_below c.args.exit (length states) lt) tt)
 
 pub returns-clause-pushed : goal.returns-clause-pushed
@@ -60,5 +60,5 @@ returns-clause-pushed c =
     let held = c.in_ok-set.ensures.held in
     rw c.in_ok-push.ensures.items (pushes_with c.args.self.now inside.sets.items c.hold_set.new.sets.items more.0 targets targets [] more.1 (sym (append-nil targets))
     inside.states.items inside.starts.items inside.index_count c.self.view_is c.self.invariant
-    (Loop c.in_ok-set.set c.args.exit) (stays c.args.bytes (c.args.exit ∷ [])) (ap (λ w. stays w (c.args.exit ∷ [])) held.1)
+    (Loop c.in_ok-set.set c.args.exit) (loop_state c.args.bytes (c.args.exit ∷ [])) (ap (λ w. loop_state w (c.args.exit ∷ [])) held.1)
     c.len-at.result (omega (arith, c.len-at.ensures, inside.states.ok.0)))

@@ -1,6 +1,6 @@
 use Rattle.std.proofs.Common.{[], ap, sym, refl, arith}
 use Rattle.std.proofs.lemmas.List.{append-nil}
-use Rattle.byte_nfa.specs.Steps.{Machine, final}
+use Rattle.byte_nfa.specs.Steps.{Machine, match_state}
 use Rattle.byte_nfa.specs.declared.state.State.TheVariants.{Match}
 use Rattle.byte_nfa.proofs.lemmas.Pushing.{sound_push, pushes_with}
 use Rattle.byte_nfa.proofs.builder.Builder.push_match.Goals as goal
@@ -17,5 +17,5 @@ returns-clause-pushed c =
     let targets = inside.targets.items in
     rw c.in_ok-push.ensures.items (pushes_with c.args.self.now sets sets [] targets targets [] (sym (append-nil sets)) (sym (append-nil targets))
     inside.states.items inside.starts.items inside.index_count c.self.view_is c.self.invariant
-    (Match c.args.index) (final c.args.index) refl
+    (Match c.args.index) (match_state c.args.index) refl
     c.len-at.result (omega (arith, c.len-at.ensures, inside.states.ok.0)))

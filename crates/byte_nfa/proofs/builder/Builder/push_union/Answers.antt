@@ -1,6 +1,6 @@
 use Rattle.std.proofs.Common.{◌≡◌, ◌∷◌, [], ◌++◌, length, arith, ap, sym, refl, ◌∙◌}
 use Rattle.std.proofs.lemmas.List.{append-nil, length-map}
-use Rattle.byte_nfa.specs.Steps.{skips}
+use Rattle.byte_nfa.specs.Steps.{union_state}
 use Rattle.byte_nfa.specs.Runs.{size}
 use Rattle.byte_nfa.specs.inner.Views.{of_state}
 use Rattle.byte_nfa.specs.declared.state.State.TheVariants.{Union}
@@ -49,7 +49,7 @@ invariant_of-self-2 c =
     let count : size c.args.self.now ≡ length states = sym (ap size c.self.view_is) ∙ length-map states (of_state sets targets) in
     rw (c.in_ok-push.ensures.items, c.in_ok-list.ensures.items, c.in_ok-list.ensures.at) (sound_with c.args.self.now sets sets [] targets (targets ++ length list ∷ list) (length list ∷ list) (sym (append-nil sets)) refl
     states inside.starts.items inside.index_count c.self.view_is c.self.invariant
-    (Union (length targets)) (skips list) (ap skips (list_last targets list))
+    (Union (length targets)) (union_state list) (ap union_state (list_last targets list))
     (list_held sets targets list) (λ i lt. let below = c.requires i lt in omega arith) tt)
 
 pub returns-clause-pushed : goal.returns-clause-pushed
@@ -60,5 +60,5 @@ returns-clause-pushed c =
     let list = c.args.targets.now in
     rw (c.in_ok-push.ensures.items, c.in_ok-list.ensures.items, c.in_ok-list.ensures.at) (pushes_with c.args.self.now sets sets [] targets (targets ++ length list ∷ list) (length list ∷ list) (sym (append-nil sets)) refl
     inside.states.items inside.starts.items inside.index_count c.self.view_is c.self.invariant
-    (Union (length targets)) (skips list) (ap skips (list_last targets list))
+    (Union (length targets)) (union_state list) (ap union_state (list_last targets list))
     c.len-at.result (omega (arith, c.len-at.ensures, inside.states.ok.0)))

@@ -1,6 +1,6 @@
 use Rattle.std.proofs.Common.{◌≡◌, ◌<◌, length, arith, ap, sym, subst, ◌∙◌}
 use Rattle.std.proofs.lemmas.List.{length-map}
-use Rattle.byte_nfa.specs.Steps.{Machine, state, final}
+use Rattle.byte_nfa.specs.Steps.{Machine, state, match_state}
 use Rattle.byte_nfa.specs.Runs.{size}
 use Rattle.byte_nfa.specs.inner.Views.{NamesBelow, of_state}
 use Rattle.byte_nfa.proofs.lemmas.Reading.{read_state, is_end}
@@ -14,7 +14,7 @@ returns-in-Match c =
     let states = inside.states.items in
     let m = c.args.self.now in
     let lt : c.args.s < length states = omega (arith, c.requires, ap size c.self.view_is, length-map states (of_state sets targets)) in
-    let is : state m.states c.args.s ≡ final c.in-Match.index =
+    let is : state m.states c.args.s ≡ match_state c.in-Match.index =
     read_state m sets targets states inside.starts.items inside.index_count c.args.s c.index.result.now c.self.view_is lt c.index.ensures ∙ ap (of_state sets targets) c.in-Match.is in (
       is,
       subst (λ (o : Machine). c.in-Match.index < o.index_count) c.self.view_is

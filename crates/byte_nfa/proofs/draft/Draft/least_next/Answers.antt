@@ -1,7 +1,7 @@
 use Rattle.std.proofs.Common.{◌≡◌, ℕ, ◌<◌, length, arith, ap, sym, subst}
 use Rattle.std.specs.Prelude.{MatchOption}
 use Rattle.std.proofs.lemmas.List.{length-map}
-use Rattle.byte_nfa.specs.Steps.{State, state, final}
+use Rattle.byte_nfa.specs.Steps.{State, state, match_state}
 use Rattle.byte_nfa.specs.Parts.{GoesFrom}
 use Rattle.byte_nfa.specs.Forcing.{IsNoEnd}
 use Rattle.byte_nfa.specs.Runs.{size}
@@ -35,4 +35,4 @@ returns-clause-least c =
     let m = c.args.self.now in
     let lt : c.args.s < length states = omega (arith, c.requires, ap size c.self.view_is, length-map states (of_state sets targets)) in
     let is : state m.states c.args.s ≡ of_state sets targets c.index.result.now = read_state m sets targets states inside.starts.items inside.index_count c.args.s c.index.result.now c.self.view_is lt c.index.ensures in
-    subst (λ (st : State). MatchOption c.least_next.result ((k : ℕ) × (st ≡ final k)) (λ low. GoesFrom low st × IsNoEnd st)) (sym is) (rw c.deref.ensures.value at c.least_next.ensures sets)
+    subst (λ (st : State). MatchOption c.least_next.result ((k : ℕ) × (st ≡ match_state k)) (λ low. GoesFrom low st × IsNoEnd st)) (sym is) (rw c.deref.ensures.value at c.least_next.ensures sets)

@@ -1,5 +1,5 @@
 use Rattle.std.proofs.Common.{◌≡◌, ℕ, ◌<◌, length, arith, subst}
-use Rattle.byte_nfa.specs.Steps.{Machine, state, final}
+use Rattle.byte_nfa.specs.Steps.{Machine, state, match_state}
 use Rattle.byte_nfa.specs.inner.Views.{IsHeld, NamesBelow}
 use Rattle.byte_nfa.proofs.lemmas.Reading.{held_at}
 use Rattle.byte_nfa.proofs.draft.Draft.state.Goals as goal
@@ -32,5 +32,5 @@ set_of-requires-in-Loop c =
     rw c.deref-in-Loop.ensures.value (subst (IsHeld sets targets) c.in-Loop.is (held_at sets targets states c.args.s c.index.result.now c.self.invariant.held lt c.index.ensures))
 
 pub returns-clause-named : goal.returns-clause-named
-returns-clause-named c = subst (λ (o : Machine). (k : ℕ) → state o.states c.args.s ≡ final k → k < o.index_count) c.self.view_is
+returns-clause-named c = subst (λ (o : Machine). (k : ℕ) → state o.states c.args.s ≡ match_state k → k < o.index_count) c.self.view_is
     (λ k is. subst (NamesBelow c.self.inside.index_count) is (c.self.invariant.named c.args.s))

@@ -4,7 +4,7 @@ use Rattle.byte_nfa.specs.Runs.{size}
 use Rattle.byte_nfa.specs.Live.{MatchesAfter}
 use Rattle.byte_nfa.specs.Steps.{Machine}
 use Rattle.glob_matching.specs.inner.Parts.{total}
-use Rattle.glob_matching.proofs.lemmas.Parts.{after_all, whole_reached, if_ok, visits_more, visits_limit}
+use Rattle.glob_matching.proofs.lemmas.Parts.{after_all, whole_reached, if_ok, visits_more, visits_within}
 use Rattle.glob_matching.proofs.parts.Parts.can_match_after.Goals as goal
 
 pub returns-clause-some : goal.returns-clause-some
@@ -35,7 +35,7 @@ returns-clause-visits c =
     let automata = inside.automata.items in
     let n = length c.args.text.now + 2 in
     let few : length tables + total automata ≤ size c.args.self.now = omega (arith, c.self.invariant.parts.few, ap size c.self.view_is) in
-    visits_limit n (length tables + total automata) (size c.args.self.now) c.can_match_by_simulation.new.visits c.args.visits.now few
+    visits_within n (length tables + total automata) (size c.args.self.now) c.can_match_by_simulation.new.visits c.args.visits.now few
     (visits_more n (length tables) (total automata) c.can_match_by_tables.new.visits c.can_match_by_simulation.new.visits c.args.visits.now
     (rw c.deref-2.ensures.value at c.can_match_by_simulation.ensures.visits) (rw c.deref.ensures.value at c.can_match_by_tables.ensures.visits))
 

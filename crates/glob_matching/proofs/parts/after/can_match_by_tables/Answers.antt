@@ -1,6 +1,6 @@
 use Rattle.std.proofs.Common.{◌++◌, ◌∷◌, [], ◌+◌, ◌<◌, length, refl, arith, ◌∙◌, sym, true≢false, le_trans}
 use Rattle.glob_matching.specs.inner.Parts.{sources}
-use Rattle.glob_matching.proofs.lemmas.Parts.{source_at, sources_length, some_at, none_more, visits_more, visits_limit}
+use Rattle.glob_matching.proofs.lemmas.Parts.{source_at, sources_length, some_at, none_more, visits_more, visits_within}
 use Rattle.glob_matching.proofs.parts.after.can_match_by_tables.Goals as goal
 
 pub returns-then-can_match_after-clause-some : goal.returns-then-can_match_after-clause-some
@@ -33,7 +33,7 @@ returns-then-can_match_after-clause-counted c = le_trans c.loop-table.invariant.
 
 pub returns-clause-visits : goal.returns-clause-visits
 returns-clause-visits c =
-    visits_limit (length c.args.text.now + 2) c.loop-table.table-index (length c.args.tables.now) c.loop-table.visits c.args.visits.now c.loop-table.auto.table-index-end c.loop-table.invariant.visits
+    visits_within (length c.args.text.now + 2) c.loop-table.table-index (length c.args.tables.now) c.loop-table.visits c.args.visits.now c.loop-table.auto.table-index-end c.loop-table.invariant.visits
 
 pub returns-clause-counted : goal.returns-clause-counted
 returns-clause-counted c = c.loop-table.invariant.counted

@@ -2,7 +2,7 @@ use Rattle.std.proofs.Common.{◌+◌, ◌-◌, true≢false, refl, arith, sym, 
 use Rattle.std.proofs.lemmas.Bool.{or_cases}
 use Rattle.std.proofs.Math.Logic.{⊎_elim}
 use Rattle.bit_sets.specs.Indexes.{has_index, index_capacity}
-use Rattle.bit_sets.specs.Numbers.{is_reported}
+use Rattle.bit_sets.specs.Numbers.{has_number}
 use Rattle.byte_nfa.proofs.lemmas.Pass.{or_first}
 use Rattle.byte_dfa.specs.inner.Building.{half}
 use Rattle.byte_dfa.specs.inner.Lists.{list_at}
@@ -21,8 +21,8 @@ returns-clause-ends c = λ k lt.
     let list = list_at c.args.self.now.lists.items (c.args.end - 2) in
     let put = rw c.deref.ensures.value at c.put_listed.ensures.has k in
     let none = c.clear.ensures.none k in (
-      λ h. ⊎_elim (λ at. (is.0 at).1) (λ old. absurd (true≢false (sym old ∙ none))) (or_cases (is_reported k list) (has_index c.clear.new.self k) (sym put ∙ h)),
-      λ a. put ∙ or_first (is_reported k list) (has_index c.clear.new.self k) (is.1 (lt, a)),
+      λ h. ⊎_elim (λ at. (is.0 at).1) (λ old. absurd (true≢false (sym old ∙ none))) (or_cases (has_number k list) (has_index c.clear.new.self k) (sym put ∙ h)),
+      λ a. put ∙ or_first (has_number k list) (has_index c.clear.new.self k) (is.1 (lt, a)),
     )
 
 pub returns-clause-sound : goal.returns-clause-sound

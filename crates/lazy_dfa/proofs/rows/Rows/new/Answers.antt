@@ -22,7 +22,7 @@ returns c =
         width = omega (arith, c.requires.few);
       };
       representatives = c.args.classes.now.representatives;
-      classes = c.requires.division;
+      classes = c.requires.equivalence;
       few = omega (arith, starts);
       small = omega (arith, entries);
       lists = λ i lt. absurd (omega (arith, starts));

@@ -1,6 +1,6 @@
 use Rattle.std.proofs.Common.{ℕ, subst}
 use Rattle.std.specs.Prelude.{◌↔◌}
-use Rattle.byte_nfa.specs.Steps.{IsIn}
+use Rattle.byte_nfa.specs.Steps.{HasNumber}
 use Rattle.nfa_sharing.specs.inner.Lists.{AcceptAlike}
 use Rattle.nfa_sharing.proofs.lemmas.Lists.{alike_in_order}
 use Rattle.nfa_sharing.proofs.sharing.Sharing.in_order.Goals as goal
@@ -12,5 +12,5 @@ returns-clause-alike c =
     let states = c.in-Some.states.items in
     let in_order = c.in_ok-ordered.field-0.items in
     let alike : AcceptAlike m list states = rw c.in-Some.is at c.in_ok-states.ensures.alike in
-    let members : (s : ℕ) → IsIn s in_order ↔ IsIn s states = subst (λ l. (s : ℕ) → IsIn s in_order ↔ IsIn s l) c.deref.ensures.value c.in_ok-ordered.ensures in
+    let members : (s : ℕ) → HasNumber s in_order ↔ HasNumber s states = subst (λ l. (s : ℕ) → HasNumber s in_order ↔ HasNumber s l) c.deref.ensures.value c.in_ok-ordered.ensures in
     alike_in_order m list states in_order alike members

@@ -22,8 +22,8 @@ returns-then-is_idle-clause-idle c = λ off.
       none = λ t are k found. ⊎_elim {C = ⊥} (λ by_path. no_matches c.args.self.now.by_path t.by_path path k (omega (arith, nil)) are.path bytes by_path)
           (λ later. ⊎_elim {C = ⊥}
           (λ by_component. no_matches c.args.self.now.by_component t.by_component (last_component path) k (omega (arith, nil)) are.component (bytes_after (last_position is_separator path) path bytes) by_component)
-          (λ by_slot. no_matches c.by_extension-by_extension.result.now (tokens_under t.by_slot c.args.self.now.extensions.matchers (component_extension path)) (before_extension path) k (omega (arith, nil))
-          (subst (λ p. IsFor c.by_extension-by_extension.result.now (tokens_under t.by_slot c.args.self.now.extensions.matchers (component_extension p))) c.from_bytes.ensures (c.by_extension-by_extension.ensures.tokens t.by_slot are.matchers))
+          (λ by_slot. no_matches c.by_extension-by_extension.result.now (tokens_under t.by_slot c.args.self.now.extensions.slots (component_extension path)) (before_extension path) k (omega (arith, nil))
+          (subst (λ p. IsFor c.by_extension-by_extension.result.now (tokens_under t.by_slot c.args.self.now.extensions.slots (component_extension p))) c.from_bytes.ensures (c.by_extension-by_extension.ensures.tokens t.by_slot are.matchers))
           (before_bytes path bytes) by_slot) later) found;
     }
 
@@ -36,10 +36,10 @@ returns-clause-found c = λ on. record {
       omega (arith, last, same, some);
   room = omega (arith, c.in_ok-reserve.ensures.ok, c.index_count.ensures, c.in_ok-run.ensures.room, c.in_ok-run-2.ensures.room, c.in_ok-run-3.ensures.room);
   same = λ t are k.
-      let extension_tokens = tokens_under t.by_slot c.args.self.now.extensions.matchers (component_extension c.args.path.now) in
+      let extension_tokens = tokens_under t.by_slot c.args.self.now.extensions.slots (component_extension c.args.path.now) in
       let one = c.in_ok-run.ensures.found t.by_path (subst (λ (a : AutomataParts). IsFor a.by_path t.by_path) (sym c.self.view_is) are.path) k in
       let two = c.in_ok-run-2.ensures.found t.by_component (subst (λ (a : AutomataParts). IsFor a.by_component t.by_component) (sym c.self.view_is) are.component) k in
-      let are_for = subst (λ p. IsFor c.by_extension-by_extension.result.now (tokens_under t.by_slot c.args.self.now.extensions.matchers (component_extension p))) c.from_bytes.ensures (c.by_extension-by_extension.ensures.tokens t.by_slot are.matchers) in
+      let are_for = subst (λ p. IsFor c.by_extension-by_extension.result.now (tokens_under t.by_slot c.args.self.now.extensions.slots (component_extension p))) c.from_bytes.ensures (c.by_extension-by_extension.ensures.tokens t.by_slot are.matchers) in
       let three = c.in_ok-run-3.ensures.found extension_tokens are_for k in
       let empty = c.in_ok-reserve.ensures.has k ∙ c.clear.ensures.none k in three_runs (λ h. true≢false (sym h ∙ empty)) one two three;
 }

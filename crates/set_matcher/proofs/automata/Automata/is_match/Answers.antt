@@ -26,11 +26,11 @@ returns-clause-some c =
     let path = c.args.path.now in
     let automaton = c.by_extension-by_extension.result.now in
     IfOk-weaker c.matches_part-3.result (λ yes. (xs : List IndexedTokens) → IsFor automaton xs → IsTrue yes ↔ ((k : ℕ) × SomeMatches xs (before_extension c.path-3.result.now) k))
-    (λ yes. (t : TokenLists) → AreForLists c.args.self.now t → IsTrue yes ↔ ((k : ℕ) × AreFound c.args.self.now.extensions.matchers t path k))
+    (λ yes. (t : TokenLists) → AreForLists c.args.self.now t → IsTrue yes ↔ ((k : ℕ) × AreFound c.args.self.now.extensions.slots t path k))
     (λ yes tells t are.
     let by_path = subst (λ (a : AutomataParts). IsFor a.by_path t.by_path) (sym c.self.view_is) are.path in
     let by_component = subst (λ (a : AutomataParts). IsFor a.by_component t.by_component) (sym c.self.view_is) are.component in
-    let extension_tokens = tokens_under t.by_slot c.args.self.now.extensions.matchers (component_extension path) in
+    let extension_tokens = tokens_under t.by_slot c.args.self.now.extensions.slots (component_extension path) in
     last_run
     (λ k some. let found = (c.in_ok-matches_part.ensures.some t.by_path by_path).1 (k, subst (λ text. SomeMatches t.by_path text k) (sym c.path.ensures) some) in true≢false (sym found ∙ c.if-branch.false))
     (λ k some.

@@ -17,7 +17,7 @@ returns-clause-marked c =
     let fits : length globs ≤ index_capacity c.mark.new.marks = omega (arith, globs_count c.self.inside.globs, c.self.invariant.counted, c.self.invariant.indexed, c.in_ok-mark.ensures.room) in
     subst (λ (gs : List TokenGlob). (k : ℕ) → IsTrue (has_index c.find.new.found k) ↔ IsTrue (is_reported_at gs c.args.path.now k)) (ap matcher_globs c.self.view_is)
     (marked_listed globs g c.args.path.now (index_capacity c.mark.new.marks) (has_index c.mark.new.marks) (has_index c.find.new.found) matcher fits
-    (λ k. subst (λ p. IsTrue (has_index c.mark.new.marks k) ↔ AreFound g.automata.extensions.matchers matcher.tokens p k) c.path.ensures (c.in_ok-mark.ensures.marked matcher.tokens matcher.are_for k))
+    (λ k. subst (λ p. IsTrue (has_index c.mark.new.marks k) ↔ AreFound g.automata.extensions.slots matcher.tokens p k) c.path.ensures (c.in_ok-mark.ensures.marked matcher.tokens matcher.are_for k))
     c.find.ensures.found)
 
 pub returns-in_err-mark-clause-visits : goal.returns-in_err-mark-clause-visits

@@ -15,4 +15,4 @@ invariant_of-self c =
     let keys = c.new-in-Err in
     let automata = c.new-in-Err-2 in
     no_matcher c.new.result keys.result automata.result c.new.ensures
-    (no_globs keys.result automata.result keys.ensures.found keys.ensures.below automata.ensures.path automata.ensures.component automata.ensures.matchers automata.ensures.machines automata.ensures.path_reads automata.ensures.component_reads automata.ensures.none)
+    (no_globs keys.result automata.result keys.ensures.found keys.ensures.below automata.ensures.path automata.ensures.component automata.ensures.slots automata.ensures.machines automata.ensures.path_reads automata.ensures.component_reads automata.ensures.none)

@@ -5,4 +5,4 @@ use Rattle.set_matcher.proofs.matcher.SetMatcherBuilder.new.Goals as goal
 pub invariant_of-result : goal.invariant_of-result
 invariant_of-result c =
     no_matcher c.new.result c.new-2.result c.new-3.result c.new.ensures
-    (no_globs c.new-2.result c.new-3.result c.new-2.ensures.found c.new-2.ensures.below c.new-3.ensures.path c.new-3.ensures.component c.new-3.ensures.matchers c.new-3.ensures.machines c.new-3.ensures.path_reads c.new-3.ensures.component_reads c.new-3.ensures.none)
+    (no_globs c.new-2.result c.new-3.result c.new-2.ensures.found c.new-2.ensures.below c.new-3.ensures.path c.new-3.ensures.component c.new-3.ensures.slots c.new-3.ensures.machines c.new-3.ensures.path_reads c.new-3.ensures.component_reads c.new-3.ensures.none)

@@ -2,7 +2,7 @@ use Rattle.std.proofs.Common.{◌≡◌, ◌+◌, ◌*◌, ◌<◌, ◌≤◌, �
 use Rattle.std.proofs.lemmas.List.{take_all}
 use Rattle.byte_nfa.specs.Steps.{Machine}
 use Rattle.set_matcher.specs.inner.Automata.{ExtensionParts, total_reads}
-use Rattle.set_matcher.proofs.lemmas.ExtensionMatchers.{is_for, none_limit, size_within, visits_more, visits_limit}
+use Rattle.set_matcher.proofs.lemmas.ExtensionMatchers.{is_for, none_limit, size_within, visits_more, visits_within}
 use Rattle.set_matcher.proofs.automata.matchers.ExtensionMatchers.can_match_after.Goals as goal
 
 pub loop-automaton-preserved : goal.loop-automaton-preserved
@@ -40,7 +40,7 @@ returns-then-branch-clause-visits c =
     let same : c.deref-automaton-items.result.now ≡ machines = c.deref-automaton-items.ensures.value ∙ ap (λ (e : ExtensionParts). e.machines) c.self.view_is in
     let lt : i < length machines = omega (arith, c.loop-automaton-test.true, ap length same) in
     let is = subst (λ (ms : List Machine). m ≡ get_or ms i m) same c.automaton-item.is in
-    visits_limit machines i m lt is (length c.args.text.now + 2) c.args.visits.now c.loop-automaton.visits c.can_match_after.new.visits c.can_match_after.ensures.visits c.loop-automaton.invariant.visits
+    visits_within machines i m lt is (length c.args.text.now + 2) c.args.visits.now c.loop-automaton.visits c.can_match_after.new.visits c.can_match_after.ensures.visits c.loop-automaton.invariant.visits
 
 pub returns-in_err-can_match_after-clause-visits : goal.returns-in_err-can_match_after-clause-visits
 returns-in_err-can_match_after-clause-visits c =
@@ -50,7 +50,7 @@ returns-in_err-can_match_after-clause-visits c =
     let same : c.deref-automaton-items.result.now ≡ machines = c.deref-automaton-items.ensures.value ∙ ap (λ (e : ExtensionParts). e.machines) c.self.view_is in
     let lt : i < length machines = omega (arith, c.loop-automaton-test.true, ap length same) in
     let is = subst (λ (ms : List Machine). m ≡ get_or ms i m) same c.automaton-item.is in
-    visits_limit machines i m lt is (length c.args.text.now + 2) c.args.visits.now c.loop-automaton.visits c.can_match_after.new.visits c.can_match_after.ensures.visits c.loop-automaton.invariant.visits
+    visits_within machines i m lt is (length c.args.text.now + 2) c.args.visits.now c.loop-automaton.visits c.can_match_after.new.visits c.can_match_after.ensures.visits c.loop-automaton.invariant.visits
 
 pub returns-in_err-can_match_after-clause-room : goal.returns-in_err-can_match_after-clause-room
 returns-in_err-can_match_after-clause-room c = λ enough.

@@ -11,27 +11,27 @@ use Rattle.set_matcher.proofs.automata.matchers.ExtensionMatchersBuilder.add_slo
 pub invariant_of-self-in_err-insert : goal.invariant_of-self-in_err-insert
 invariant_of-self-in_err-insert c =
     let machines = c.self.inside.builders.items in
-    let more = matchers_push c.self.inside.matchers machines c.self.inside.none c.self.inside.index_count c.new_builder.result c.new_builder.ensures.index_count c.self.invariant in
+    let more = matchers_push c.self.inside.slots machines c.self.inside.none c.self.inside.index_count c.new_builder.result c.new_builder.ensures.index_count c.self.invariant in
     subst (λ es. AreExtensionMatchers es c.push.new.self.items c.self.inside.none c.self.inside.index_count) (sym {A = List Entry} c.in_err-insert.ensures.err)
-    (matchers_cleared c.self.inside.matchers _ c.self.inside.none c.self.inside.index_count
-    (subst (λ ms. AreExtensionMatchers c.self.inside.matchers ms c.self.inside.none c.self.inside.index_count) (sym {A = List Machine} c.in_ok-push.ensures.items) more))
+    (matchers_cleared c.self.inside.slots _ c.self.inside.none c.self.inside.index_count
+    (subst (λ ms. AreExtensionMatchers c.self.inside.slots ms c.self.inside.none c.self.inside.index_count) (sym {A = List Machine} c.in_ok-push.ensures.items) more))
 
 pub invariant_of-self-2 : goal.invariant_of-self-2
 invariant_of-self-2 c =
     let machines = c.self.inside.builders.items in
     let at : c.len-slot.result ≡ length machines = omega (arith, c.len-slot.ensures, c.self.inside.builders.ok.0) in
-    let more = matchers_insert c.self.inside.matchers machines c.self.inside.none c.self.inside.index_count c.new_builder.result c.args.key.items c.len-slot.result c.new_builder.ensures.index_count at c.self.invariant in
+    let more = matchers_insert c.self.inside.slots machines c.self.inside.none c.self.inside.index_count c.new_builder.result c.args.key.items c.len-slot.result c.new_builder.ensures.index_count at c.self.invariant in
     subst (λ es. AreExtensionMatchers es c.push.new.self.items c.self.inside.none c.self.inside.index_count) (sym c.in_ok-insert.ensures.ok)
-    (subst (λ ms. AreExtensionMatchers (c.self.inside.matchers ++ entry c.args.key.items c.len-slot.result ∷ []) ms c.self.inside.none c.self.inside.index_count) (sym c.in_ok-push.ensures.items) more)
+    (subst (λ ms. AreExtensionMatchers (c.self.inside.slots ++ entry c.args.key.items c.len-slot.result ∷ []) ms c.self.inside.none c.self.inside.index_count) (sym c.in_ok-push.ensures.items) more)
 
 pub returns-clause-slot : goal.returns-clause-slot
 returns-clause-slot c =
-    let none : slot_of c.self.inside.matchers c.args.key.items ≡ None = ap (λ (e : ExtensionParts). slot_of e.matchers c.args.key.items) c.self.view_is ∙ c.requires in
-    ap (λ es. slot_of es c.args.key.items) c.in_ok-insert.ensures.ok ∙ first_of_key c.self.inside.matchers c.args.key.items c.len-slot.result none
+    let none : slot_of c.self.inside.slots c.args.key.items ≡ None = ap (λ (e : ExtensionParts). slot_of e.slots c.args.key.items) c.self.view_is ∙ c.requires in
+    ap (λ es. slot_of es c.args.key.items) c.in_ok-insert.ensures.ok ∙ first_of_key c.self.inside.slots c.args.key.items c.len-slot.result none
 
 pub returns-clause-tokens : goal.returns-clause-tokens
 returns-clause-tokens c =
-    let old = extension_parts c.self.inside.matchers c.self.inside.builders.items c.self.inside.none c.self.inside.index_count in
+    let old = extension_parts c.self.inside.slots c.self.inside.builders.items c.self.inside.none c.self.inside.index_count in
     let new = extension_parts c.insert.new.self c.push.new.self.items c.self.inside.none c.self.inside.index_count in
     let at : c.len-slot.result ≡ length c.self.inside.builders.items = omega (arith, c.len-slot.ensures, c.self.inside.builders.ok.0) in
     subst (λ (e : ExtensionParts). (before : ℕ → List IndexedTokens) → AreFor e.machines before → KeepsTokens e before new) c.self.view_is
@@ -39,7 +39,7 @@ returns-clause-tokens c =
 
 pub returns-clause-reads : goal.returns-clause-reads
 returns-clause-reads c =
-    let old = extension_parts c.self.inside.matchers c.self.inside.builders.items c.self.inside.none c.self.inside.index_count in
+    let old = extension_parts c.self.inside.slots c.self.inside.builders.items c.self.inside.none c.self.inside.index_count in
     let new = extension_parts c.insert.new.self c.push.new.self.items c.self.inside.none c.self.inside.index_count in
     let at : c.len-slot.result ≡ length c.self.inside.builders.items = omega (arith, c.len-slot.ensures, c.self.inside.builders.ok.0) in
     subst (λ (e : ExtensionParts). (extension : List ℕ) → max_reads (machine_under new extension) ≡ max_reads (machine_under e extension)) c.self.view_is
@@ -51,7 +51,7 @@ returns-clause-total c =
 
 pub invariant_of-self : goal.invariant_of-self
 invariant_of-self c =
-    subst (λ ms. AreExtensionMatchers c.self.inside.matchers ms c.self.inside.none c.self.inside.index_count) (sym {A = List Machine} c.in_err-push.ensures.items) c.self.invariant
+    subst (λ ms. AreExtensionMatchers c.self.inside.slots ms c.self.inside.none c.self.inside.index_count) (sym {A = List Machine} c.in_err-push.ensures.items) c.self.invariant
 
 pub returns-in_err-push-clause-count : goal.returns-in_err-push-clause-count
 returns-in_err-push-clause-count c = ap (λ (e : ExtensionParts). e.index_count) c.self.view_is

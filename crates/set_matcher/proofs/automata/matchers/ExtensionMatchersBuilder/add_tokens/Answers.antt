@@ -14,15 +14,15 @@ use Rattle.set_matcher.proofs.automata.matchers.ExtensionMatchersBuilder.add_tok
 pub index_mut-requires : goal.index_mut-requires
 index_mut-requires c =
     let slot = c.in_ok-slot.slot in
-    let at : slot_of c.self.inside.matchers c.args.key.items ≡ Some slot = ap (λ (e : ExtensionParts). slot_of e.matchers c.args.key.items) c.self.view_is ∙ c.in_ok-slot.ensures.slot in
-    let lt = c.self.invariant.held c.args.key.items slot (first_in (indexes_under c.self.inside.matchers c.args.key.items) slot at) in
+    let at : slot_of c.self.inside.slots c.args.key.items ≡ Some slot = ap (λ (e : ExtensionParts). slot_of e.slots c.args.key.items) c.self.view_is ∙ c.in_ok-slot.ensures.slot in
+    let lt = c.self.invariant.held c.args.key.items slot (first_in (indexes_under c.self.inside.slots c.args.key.items) slot at) in
     omega (arith, lt, c.self.inside.builders.ok.0)
 
 pub add_tokens-requires-clause-index : goal.add_tokens-requires-clause-index
 add_tokens-requires-clause-index c =
     let slot = c.in_ok-slot.slot in
-    let at : slot_of c.self.inside.matchers c.args.key.items ≡ Some slot = ap (λ (e : ExtensionParts). slot_of e.matchers c.args.key.items) c.self.view_is ∙ c.in_ok-slot.ensures.slot in
-    let lt = c.self.invariant.held c.args.key.items slot (first_in (indexes_under c.self.inside.matchers c.args.key.items) slot at) in
+    let at : slot_of c.self.inside.slots c.args.key.items ≡ Some slot = ap (λ (e : ExtensionParts). slot_of e.slots c.args.key.items) c.self.view_is ∙ c.in_ok-slot.ensures.slot in
+    let lt = c.self.invariant.held c.args.key.items slot (first_in (indexes_under c.self.inside.slots c.args.key.items) slot at) in
     let count : c.index_mut.result.now.index_count ≡ c.self.inside.index_count =
     ap (λ (m : Machine). m.index_count) c.index_mut.ensures.value ∙ c.self.invariant.counted slot c.index_mut.result.now lt in
     omega (arith, count, ap (λ (e : ExtensionParts). e.index_count) c.self.view_is, c.in_ok-slot.ensures.count, c.requires.index)
@@ -30,20 +30,20 @@ add_tokens-requires-clause-index c =
 pub invariant_of-self : goal.invariant_of-self
 invariant_of-self c =
     let slot = c.in_ok-slot.slot in
-    let at : slot_of c.self.inside.matchers c.args.key.items ≡ Some slot = ap (λ (e : ExtensionParts). slot_of e.matchers c.args.key.items) c.self.view_is ∙ c.in_ok-slot.ensures.slot in
-    let lt = c.self.invariant.held c.args.key.items slot (first_in (indexes_under c.self.inside.matchers c.args.key.items) slot at) in
+    let at : slot_of c.self.inside.slots c.args.key.items ≡ Some slot = ap (λ (e : ExtensionParts). slot_of e.slots c.args.key.items) c.self.view_is ∙ c.in_ok-slot.ensures.slot in
+    let lt = c.self.invariant.held c.args.key.items slot (first_in (indexes_under c.self.inside.slots c.args.key.items) slot at) in
     let count : c.index_mut.result.now.index_count ≡ c.self.inside.index_count =
     ap (λ (m : Machine). m.index_count) c.index_mut.ensures.value ∙ c.self.invariant.counted slot c.index_mut.result.now lt in
-    matchers_set c.self.inside.matchers c.self.inside.builders.items c.self.inside.none c.self.inside.index_count slot c.add_tokens.new.builder lt (c.add_tokens.ensures.index_count ∙ count) c.self.invariant
+    matchers_set c.self.inside.slots c.self.inside.builders.items c.self.inside.none c.self.inside.index_count slot c.add_tokens.new.builder lt (c.add_tokens.ensures.index_count ∙ count) c.self.invariant
 
 pub returns-clause-tokens : goal.returns-clause-tokens
 returns-clause-tokens c =
     let slot = c.in_ok-slot.slot in
     let machines = c.self.inside.builders.items in
-    let mid = extension_parts c.self.inside.matchers machines c.self.inside.none c.self.inside.index_count in
-    let new = extension_parts c.self.inside.matchers (set machines slot c.add_tokens.new.builder) c.self.inside.none c.self.inside.index_count in
-    let at : slot_of c.self.inside.matchers c.args.key.items ≡ Some slot = ap (λ (e : ExtensionParts). slot_of e.matchers c.args.key.items) c.self.view_is ∙ c.in_ok-slot.ensures.slot in
-    let lt = c.self.invariant.held c.args.key.items slot (first_in (indexes_under c.self.inside.matchers c.args.key.items) slot at) in
+    let mid = extension_parts c.self.inside.slots machines c.self.inside.none c.self.inside.index_count in
+    let new = extension_parts c.self.inside.slots (set machines slot c.add_tokens.new.builder) c.self.inside.none c.self.inside.index_count in
+    let at : slot_of c.self.inside.slots c.args.key.items ≡ Some slot = ap (λ (e : ExtensionParts). slot_of e.slots c.args.key.items) c.self.view_is ∙ c.in_ok-slot.ensures.slot in
+    let lt = c.self.invariant.held c.args.key.items slot (first_in (indexes_under c.self.inside.slots c.args.key.items) slot at) in
     on_ok_weaker c.add_tokens.result
     (λ adds before are.
     slot_adds c.args.self.now mid new c.args.key.items slot (indexed c.args.options (tokens_of c.args.tokens.now) c.args.index) c.index_mut.result.now c.add_tokens.new.builder c.self.invariant at lt refl refl
@@ -56,10 +56,10 @@ returns-clause-reads c =
     let slot = c.in_ok-slot.slot in
     let machines = c.self.inside.builders.items in
     let more = weight c.args.options (tokens_of c.args.tokens.now) + 4 in
-    let mid = extension_parts c.self.inside.matchers machines c.self.inside.none c.self.inside.index_count in
-    let new = extension_parts c.self.inside.matchers (set machines slot c.add_tokens.new.builder) c.self.inside.none c.self.inside.index_count in
-    let at : slot_of c.self.inside.matchers c.args.key.items ≡ Some slot = ap (λ (e : ExtensionParts). slot_of e.matchers c.args.key.items) c.self.view_is ∙ c.in_ok-slot.ensures.slot in
-    let lt = c.self.invariant.held c.args.key.items slot (first_in (indexes_under c.self.inside.matchers c.args.key.items) slot at) in
+    let mid = extension_parts c.self.inside.slots machines c.self.inside.none c.self.inside.index_count in
+    let new = extension_parts c.self.inside.slots (set machines slot c.add_tokens.new.builder) c.self.inside.none c.self.inside.index_count in
+    let at : slot_of c.self.inside.slots c.args.key.items ≡ Some slot = ap (λ (e : ExtensionParts). slot_of e.slots c.args.key.items) c.self.view_is ∙ c.in_ok-slot.ensures.slot in
+    let lt = c.self.invariant.held c.args.key.items slot (first_in (indexes_under c.self.inside.slots c.args.key.items) slot at) in
     on_ok_weaker c.add_tokens.result
     (λ few extension.
     let kept : max_reads (machine_under mid extension) ≡ max_reads (machine_under c.args.self.now extension) =
@@ -74,8 +74,8 @@ returns-clause-total c =
     let slot = c.in_ok-slot.slot in
     let machines = c.self.inside.builders.items in
     let more = weight c.args.options (tokens_of c.args.tokens.now) + 4 in
-    let at : slot_of c.self.inside.matchers c.args.key.items ≡ Some slot = ap (λ (e : ExtensionParts). slot_of e.matchers c.args.key.items) c.self.view_is ∙ c.in_ok-slot.ensures.slot in
-    let lt = c.self.invariant.held c.args.key.items slot (first_in (indexes_under c.self.inside.matchers c.args.key.items) slot at) in
+    let at : slot_of c.self.inside.slots c.args.key.items ≡ Some slot = ap (λ (e : ExtensionParts). slot_of e.slots c.args.key.items) c.self.view_is ∙ c.in_ok-slot.ensures.slot in
+    let lt = c.self.invariant.held c.args.key.items slot (first_in (indexes_under c.self.inside.slots c.args.key.items) slot at) in
     let kept = ap (λ (e : ExtensionParts). total_reads e.machines) c.self.view_is in
     let value = ap max_reads c.index_mut.ensures.value in
     on_ok_weaker c.add_tokens.result

@@ -4,8 +4,8 @@ use Rattle.glob_syntax.specs.Views.{flat_of, tokens_of}
 use Rattle.glob_strategy.specs.Excluded.{is_dot, is_prefix_dot_dot, are_excluded}
 use Rattle.glob_strategy.specs.inner.FlatTests.{is_simple_that}
 use Rattle.glob_strategy.proofs.lemmas.Excluded.{not_insensitive, not_other, by_tokens, other_length, of_three, first_two_hold, first_fails, second_fails}
-use Rattle.glob_strategy.proofs.silence.is_excluded.Goals as goal
-use Rattle.glob_strategy.proofs.silence.is_excluded.Goals.{then-is_recursive_prefix, else-is_recursive_prefix}
+use Rattle.glob_strategy.proofs.excluded.is_excluded.Goals as goal
+use Rattle.glob_strategy.proofs.excluded.is_excluded.Goals.{then-is_recursive_prefix, else-is_recursive_prefix}
 
 pub returns-then-options : goal.returns-then-options
 returns-then-options c = not_insensitive c.args.options (tokens_of c.args.tokens.now) c.if-options.true
