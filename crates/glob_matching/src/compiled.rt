@@ -68,8 +68,8 @@ impl Compiled {
     /// set take at most the bytes of the budget. At most 2^22 numbers are made for them, or one for each 4 bytes of the budget if
     /// these are more, with those of parts that are given up because they would have more, and at most 512 parts are tried. What
     /// cannot be made deterministic within these limits is simulated. An automaton of more than 32 starts that is not
-    /// deterministic as a whole is not divided: a filter names the starts that are run. So it takes time and memory linear in the
-    /// states, up to the factors of these limits.
+    /// deterministic as a whole is not divided if a filter can name the starts that are run. So it takes time and memory linear in
+    /// the states, up to the factors of these limits.
     ///
     /// With a budget of no bytes the automaton is simulated as a whole.
     pub fn new(alloc: Global, budget: &mut Budget, automaton: Draft) -> Result<Compiled, AllocError>
@@ -79,7 +79,8 @@ impl Compiled {
     }
 
     /// The same as [`Compiled::new`], for runs with a [`RowCache`] too. So it takes more time and memory, linear in the states, if
-    /// there would be four parts or more, or one that is simulated.
+    /// there would be four parts or more, or one that is simulated. An automaton of more than 32 starts that is not deterministic as
+    /// a whole is not divided: runs without a cache simulate it as a whole, unless there is a filter.
     pub fn with_rows(
         alloc: Global,
         budget: &mut Budget,
@@ -409,7 +410,7 @@ impl Compiled {
     }
 }
 
-/// An automaton with more starts than these is not divided, if a filter can name those that are run.
+/// An automaton with more starts than these is divided only if no filter names few of them, and no rows are wanted.
 const MANY_STARTS: usize = 32;
 
 /// Returns what rows of an automaton are made from, if they are wanted. Returns an error if memory runs out.
