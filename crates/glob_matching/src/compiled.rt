@@ -9,7 +9,7 @@ ghost use Rattle.glob_matching.specs.Matching.{AddsMatches, TellsMatch};
 
 use crate::budget::Budget;
 use crate::filtered::{Filtered, filter_for};
-use crate::partition::{count_after_joint, joint, partitioned};
+use crate::partition::{joint, partitioned};
 use crate::parts::Parts;
 use crate::rows::{RowCache, RowSource};
 use crate::simulation;
@@ -104,8 +104,7 @@ impl Compiled {
             return Ok(Compiled::simulated(Nfa::new(automaton)));
         }
         if !is_large(*budget, &automaton) {
-            let maximum = automaton.starts().len();
-            return Compiled::partitioned(alloc, budget, automaton, maximum, with_rows);
+            return Compiled::partitioned(alloc, budget, automaton, with_rows);
         }
         if let Some(parts) = joint(alloc, budget, &automaton)? {
             return Ok(Compiled {
@@ -142,28 +141,22 @@ impl Compiled {
                     rows,
                 })
             }
-            None => {
-                // All starts together were just given up.
-                let maximum = count_after_joint(&automaton);
-                Compiled::partitioned(alloc, budget, automaton, maximum, false)
-            }
+            None => Compiled::partitioned(alloc, budget, automaton, false),
         }
     }
 
     /// Returns an automaton in parts, as far as the budget allows it deterministic ones, and if `with_rows` is set, what rows are
-    /// made from where a text would be run through many parts. The first part has at most `maximum` starts. Returns an error if
-    /// memory runs out.
+    /// made from where a text would be run through many parts. Returns an error if memory runs out.
     fn partitioned(
         alloc: Global,
         budget: &mut Budget,
         automaton: Draft,
-        maximum: usize,
         with_rows: bool,
     ) -> Result<Compiled, AllocError>
         ensures { IfOk result (λ c. c ≡ automaton) }
     {
         let allows_rows = with_rows && !budget.simulates_all();
-        match partitioned(alloc, budget, &automaton, maximum)? {
+        match partitioned(alloc, budget, &automaton)? {
             Some(parts) => {
                 let rows = rows_if(alloc, allows_rows && parts.are_many(), &automaton)?;
                 Ok(Compiled {

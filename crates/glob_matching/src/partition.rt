@@ -74,13 +74,11 @@ struct Part {
 /// simulated, or a step leads from one to another. Returns an error if memory runs out.
 ///
 /// A part has the states up to some start, from behind an earlier one. There are as many starts in it as halving leaves:
-/// all that are left but at most `maximum` at first, or else half of them, until it can be made deterministic. What cannot is
-/// simulated.
+/// all that are left, or else half of them, until it can be made deterministic. What cannot is simulated.
 pub fn partitioned(
     alloc: Global,
     budget: &mut Budget,
     automaton: &Draft,
-    maximum: usize,
 ) -> Result<Option<Parts>, AllocError>
     ensures { IfOk result (λ made. IfSome made (λ parts. parts ≡ automaton.now)) }
 {
@@ -88,7 +86,7 @@ pub fn partitioned(
     let mut partition = Partition::new(alloc, *budget);
     let mut high = 0;
     let mut first = 0;
-    let mut count = maximum;
+    let mut count = starts;
     while first < starts {
         let low = boundary(automaton, first);
         match partition.next_part(alloc, automaton, low, first, count)? {
@@ -142,12 +140,6 @@ pub fn joint(
         }
         None => Ok(None),
     }
-}
-
-/// Returns how many starts to try first in an automaton that [`joint`] gave up.
-pub fn count_after_joint(automaton: &Draft) -> usize {
-    let starts = automaton.starts().len();
-    fewer(starts, max_numbers(automaton.state_count(), starts))
 }
 
 impl Partition {
