@@ -34,7 +34,7 @@ pub trait NeedsScratch {
 /// With a scratch that fits the set, `GlobSet::is_match_with` and `GlobSet::matches_all_with` cannot fail, and nor can
 /// `GlobSet::matches_into_with` if the vector has a capacity of `GlobSet::len`. With one that fits the matcher,
 /// `GlobMatcher::is_match_with` cannot fail. What earlier calls left in a scratch has no effect. It can be used with each set
-/// and each matcher that it fits, and [`Scratch::fit`] and [`Scratch::fit_matcher`] make it fit one more.
+/// and each matcher that it fits, and [`Scratch::fit`] makes it fit one more.
 ///
 /// Contracts see two numbers: of states, and of indexes.
 ///
@@ -106,8 +106,9 @@ impl Scratch {
         }
     }
 
-    /// Returns a scratch that fits the set. It takes two bits of memory for each state of the set's largest automaton, and one
-    /// for each glob.
+    /// Returns a scratch that fits the set or the matcher. It takes two bits of memory for each state of the set's largest
+    /// automaton, and one for each glob; for a matcher at most a byte for each byte of the glob's text and one more, or four times
+    /// as much under `whole_character`.
     ///
     /// Returns an error if memory runs out, and no other.
     pub fn new<S: NeedsScratch>(alloc: Global, set: &S) -> Result<Scratch, Error>
@@ -121,21 +122,8 @@ impl Scratch {
         Ok(scratch)
     }
 
-    /// Returns a scratch that fits the matcher. It takes a byte of memory for each byte of the glob's text and one more, or
-    /// four times as much under `whole_character`.
-    ///
-    /// Returns an error if memory runs out, and no other.
-    pub fn for_matcher<M: NeedsScratch>(alloc: Global, matcher: &M) -> Result<Scratch, Error>
-        ensures states { IfOk result (λ scratch. scratch.states ≡ M.states matcher.now) }
-        ensures indexes { IfOk result (λ scratch. scratch.indexes ≡ M.indexes matcher.now) }
-        ensures fits { IfOk result (λ scratch. HasCapacity scratch (M.states matcher.now) (M.indexes matcher.now)) }
-        ensures err { IfErr result (λ e. e ≡ out_of_memory) }
-    {
-        Scratch::new(alloc, matcher)
-    }
-
-    /// Makes the scratch fit one more set. It takes memory for what the scratch has too little of: two bits for each state of
-    /// the set's largest automaton, and one for each glob; and none if the scratch fits the set already.
+    /// Makes the scratch fit one more set or matcher. It takes memory for what the scratch has too little of, as
+    /// [`Scratch::new`] does, and none if the scratch fits the set or the matcher already.
     ///
     /// Returns an error if memory runs out, and no other. In both cases the scratch fits each set and each matcher that it
     /// fitted before.
@@ -169,38 +157,8 @@ impl Scratch {
         Ok(())
     }
 
-    /// Makes the scratch fit one more matcher. It takes memory for what the scratch has too little of: at most a byte for each
-    /// byte of the glob's text and one more, or four times as much under `whole_character`; and none if the scratch fits the
-    /// matcher already.
-    ///
-    /// Returns an error if memory runs out, and no other. In both cases the scratch fits each set and each matcher that it
-    /// fitted before.
-    ///
-    /// ```rust
-    /// use globset::{Candidate, Glob, GlobSet, Scratch, Visits};
-    ///
-    /// let set = GlobSet::new(alloc, [&Glob::new(alloc, "*.c")?])?;
-    /// let except = Glob::new(alloc, "*{test,check}*")?.compile_matcher()?;
-    /// let mut scratch = Scratch::new(alloc, &set)?;
-    /// scratch.fit_matcher(&except)?;
-    /// let mut visits = Visits::new();
-    /// let path = Candidate::new("checks.c");
-    /// assert!(rt; set.is_match_with(&path, &mut scratch, &mut visits));
-    /// assert!(rt; except.is_match_with(&path, &mut scratch, &mut visits));
-    /// ```
-    pub fn fit_matcher<M: NeedsScratch>(&mut self, matcher: &M) -> Result<(), Error>
-        ensures raised { OnOk result (self.new ≡ raised self.old (M.states matcher.now) (M.indexes matcher.now)) }
-        ensures fits { OnOk result (HasCapacity self.new (M.states matcher.now) (M.indexes matcher.now)) }
-        ensures kept { OnErr result (self.new ≡ self.old) }
-        ensures others { FitsAsBefore self.old self.new }
-        ensures succeeds_if_fits { HasCapacity self.old (M.states matcher.now) (M.indexes matcher.now) → IsOk result }
-        ensures err { IfErr result (λ e. e ≡ out_of_memory) }
-    {
-        self.fit(matcher)
-    }
-
-    /// Returns whether the scratch fits the set: whether neither of its numbers is below the set's. It fits the set that it was
-    /// made for.
+    /// Returns whether the scratch fits the set or the matcher: whether neither of its numbers is below what that needs. It fits
+    /// what it was made for.
     ///
     /// ```rust
     /// use globset::{Candidate, Glob, GlobSet, Scratch, Visits};
@@ -221,13 +179,5 @@ impl Scratch {
             Some(states) => states <= room && set.indexes_needed() <= self.indexes,
             None => false,
         }
-    }
-
-    /// Returns whether the scratch fits the matcher: whether its number of states is not below the most that the matcher's
-    /// automaton may have. It fits the matcher that it was made for.
-    pub fn fits_matcher<M: NeedsScratch>(&self, matcher: &M) -> bool
-        ensures { IsTrue result ↔ HasCapacity self.now (M.states matcher.now) (M.indexes matcher.now) }
-    {
-        self.fits(matcher)
     }
 }

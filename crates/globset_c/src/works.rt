@@ -131,7 +131,7 @@ pub fn fit_matcher(work: &mut Work, matcher: &GlobMatcher) -> Result<(), AllocEr
     ensures succeeds_if_fits { FitsMatcher work.old.scratch matcher.now → IsOk result }
     ensures same_found { work.new.found ≡ work.old.found }
 {
-    match work.scratch.fit_matcher(matcher) {
+    match work.scratch.fit(matcher) {
         Ok(()) => Ok(()),
         Err(_) => Err(AllocError),
     }

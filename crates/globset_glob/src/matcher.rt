@@ -141,14 +141,14 @@ impl GlobMatcher {
 
     /// Does what [`is_match_visits`](GlobMatcher::is_match_visits) does, in the caller's memory: it takes none, and cannot fail.
     ///
-    /// The scratch has to fit the matcher, as `Scratch::fits_matcher` tells. It then fits what it fitted before. The call adds
+    /// The scratch has to fit the matcher, as `Scratch::fits` tells. It then fits what it fitted before. The call adds
     /// no more visits than `is_match_visits` may.
     ///
     /// ```rust
     /// use globset::{Candidate, Glob, Scratch, Visits};
     ///
     /// let matcher = Glob::new(alloc, "*{foo,bar}*")?.compile_matcher()?;
-    /// let mut scratch = Scratch::for_matcher(alloc, &matcher)?;
+    /// let mut scratch = Scratch::new(alloc, &matcher)?;
     /// let mut visits = Visits::new();
     /// assert!(rt; matcher.is_match_with(&Candidate::new("a/foo"), &mut scratch, &mut visits));
     /// assert!(rt; !matcher.is_match_with(&Candidate::new("a/fo"), &mut scratch, &mut visits));
