@@ -112,7 +112,7 @@ impl IgnoreStack {
 
     /// Reads an ignore file of the folder that the walk is in, given by its bytes. It goes before the files that are there already.
     ///
-    /// A searcher of its rules is made first, of up to 16 MB, and dropped if that is more than there is room for.
+    /// A searcher of its rules is made first, mostly of up to 16 MB, and dropped if that is more than there is room for.
     ///
     /// Returns an error if memory runs out, and no other; nothing changed then.
     pub fn add_file(&mut self, file: &[u8]) -> Result<(), Error>

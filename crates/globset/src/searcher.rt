@@ -72,7 +72,7 @@ impl Searcher {
 
     /// Returns a searcher of the set, which shares what the set matches with. It takes eight bytes of memory for each glob, and as
     /// much as a [`Scratch`] for the set. If several globs need an automaton, it may take up to 16 MB more, for parts of tables
-    /// that it keeps from one path to the next.
+    /// that it keeps from one path to the next, and more than that if automata have hundreds of thousands of states.
     ///
     /// Returns an error if memory runs out or 2^63 sets share it, and in no other case.
     pub fn new(alloc: Global, set: &GlobSet) -> Result<Searcher, Error>
