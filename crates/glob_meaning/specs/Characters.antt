@@ -1,6 +1,5 @@
 -- The bytes of characters in UTF-8.
-use Rattle.std.specs.Prelude.{◌≡◌, ◌↔◌, ℕ, Bool, true, false, ◌&&◌, nat_le, List, [], ◌∷◌, IsTrue, encode_utf8}
-use Rattle.std.specs.Char.{IsScalar}
+use Rattle.std.specs.Prelude.{ℕ, Bool, true, false, ◌&&◌, nat_le, List, [], ◌∷◌}
 use Rattle.std.specs.List.{list_any}
 
 -- the number is in the range
@@ -10,9 +9,8 @@ is_between (first, last) c = nat_le first c && nat_le c last
 -- there are as many bytes as ranges, and each byte is in its range
 abbrev pub are_between : List (ℕ × ℕ) → List ℕ → Bool
 are_between [] [] = true
-are_between [] (c ∷ cs) = false
-are_between (r ∷ rs) [] = false
 are_between (r ∷ rs) (c ∷ cs) = are_between rs cs && is_between r c
+are_between _ _ = false
 
 -- The well-formed byte sequences of Table 3-7 of the Unicode Standard, row by row: the ranges of the first byte, the second, the
 -- third and the fourth.
@@ -32,8 +30,3 @@ character_rows =
 -- the bytes are those of one character
 abbrev pub is_character : List ℕ → Bool
 is_character b = list_any (λ row. are_between row b) character_rows
-
--- Bytes are those of one character exactly if std writes some Unicode scalar value as these bytes. This is the contract of a
--- function of the module `laws`.
-abbrev pub CharactersAreScalars : Type 0
-CharactersAreScalars = (b : List ℕ) → IsTrue (is_character b) ↔ ((c : ℕ) × IsScalar c × (b ≡ encode_utf8 c))

@@ -1,5 +1,6 @@
 pub mod Blank
 pub mod Characters
+pub mod Laws
 pub mod TokenMatches
 pub mod TokensMatch
 pub mod After

@@ -1,6 +1,6 @@
 //! A law of characters, as the contract of a function that does nothing.
 
-ghost use Rattle.glob_meaning.specs.Characters.{CharactersAreScalars};
+ghost use Rattle.glob_meaning.specs.Laws.{CharactersAreScalars};
 
 /// Bytes are those of one character exactly if std writes some Unicode scalar value as these bytes.
 pub fn characters_are_scalars()

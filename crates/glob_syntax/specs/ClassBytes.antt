@@ -9,11 +9,6 @@ use Rattle.std.specs.List.{list_any}
 use Rattle.std.specs.Char.{to_ascii_lowercase, to_ascii_uppercase}
 use Rattle.glob_syntax.specs.declared.options.Options.{Options}
 
--- A class as contracts see it: whether it is negated, and its ranges in order.
-pub record ClassValue : Type 0 where
-  pub negated : Bool
-  pub ranges : List (ℕ × ℕ)
-
 -- the byte is one of the list
 abbrev pub is_one_of : ℕ → List ℕ → Bool
 is_one_of byte bytes = list_any (λ b. byte == b) bytes

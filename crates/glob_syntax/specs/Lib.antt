@@ -7,6 +7,7 @@ pub mod Reading
 pub mod ErrorOffset
 pub mod FlatTokens
 pub mod ClassBytes
+pub mod ClassValue
 pub mod StatesPerByte
 pub mod Laws
 pub mod Views

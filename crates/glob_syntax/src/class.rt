@@ -100,7 +100,7 @@ impl Drop for Class {
 }
 
 impl Model for Class {
-    ghost use Rattle.glob_syntax.specs.ClassBytes.{ClassValue};
+    ghost use Rattle.glob_syntax.specs.ClassValue.{ClassValue};
     ghost use Rattle.glob_syntax.specs.inner.ClassTable.{IsTableOf};
 
     ghost Value = { ClassValue };

@@ -8,7 +8,8 @@ use Rattle.std.proofs.lemmas.Bool.Decides.{nat_tests}
 use lib.Dec.{ltb}
 use lib.Utf8.{encode, scalar, scalar_cases}
 use Rattle.glob_syntax.specs.declared.options.Options.{Options}
-use Rattle.glob_meaning.specs.Characters.{is_between, is_character, CharactersAreScalars}
+use Rattle.glob_meaning.specs.Characters.{is_between, is_character}
+use Rattle.glob_meaning.specs.Laws.{CharactersAreScalars}
 use Rattle.glob_meaning.specs.TokenMatches.{is_wild_character, slash}
 use Rattle.glob_meaning.specs.inner.CharacterRows.{passes, continues, begins_three, wild_rows}
 
