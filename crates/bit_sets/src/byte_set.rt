@@ -1,6 +1,7 @@
 //! Sets of bytes.
 
-ghost use Rattle.std.specs.Prelude.{◌≡◌, ℕ, ◌+◌, ◌<◌, ◌≤◌, ◌&&◌, ◌||◌, ◌==◌, not, true, false, slice_index_or, IsTrue, MatchOption, ◌↔◌};
+ghost use Rattle.std.specs.Prelude.{◌≡◌, ℕ, ◌+◌, ◌<◌, ◌&&◌, ◌||◌, ◌==◌, not, true, false, slice_index_or, IsTrue, MatchOption, ◌↔◌};
+ghost use Rattle.bit_sets.specs.Bits.{TellsFirst};
 ghost use Rattle.bit_sets.specs.Bytes.{differ, has_byte, HasEvery, AllFold};
 
 use crate::words::{changes, clear_bit, first_from, has_bit, set_bit};
@@ -164,7 +165,7 @@ impl ByteSet {
 
     /// Returns the lowest byte of the set that is not below a number.
     fn first_from(&self, from: usize) -> Option<u8>
-        ensures { MatchOption result ((c : ℕ) → from ≤ c → has_byte self.now c ≡ false) (λ byte. (from ≤ byte) × IsTrue (has_byte self.now byte) × ((c : ℕ) → from ≤ c → c < byte → has_byte self.now c ≡ false)) }
+        ensures { TellsFirst (has_byte self.now) from result }
     {
         match first_from(&self.words, from) {
             Some(at) => Some(at as u8),

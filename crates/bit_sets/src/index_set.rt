@@ -27,8 +27,9 @@ impl Drop for IndexSet {
 }
 
 impl IndexSet {
-    ghost use Rattle.std.specs.Prelude.{◌≡◌, ℕ, ◌<◌, ◌≤◌, ◌||◌, ◌==◌, ◌↔◌, [], true, false, IfOk, OnOk, IsOk, IsTrue, MatchOption, filter, vec_capacity};
+    ghost use Rattle.std.specs.Prelude.{◌≡◌, ℕ, ◌<◌, ◌≤◌, ◌||◌, ◌==◌, ◌↔◌, [], true, false, IfOk, OnOk, IsOk, IsTrue, filter, vec_capacity};
     ghost use Rattle.std.specs.List.{range_with_len};
+    ghost use Rattle.bit_sets.specs.Bits.{TellsFirst, TellsFirstBelow};
     ghost use Rattle.bit_sets.specs.Indexes.{has_index, index_capacity, HasAlso};
 
     /// Returns an empty set with room for no index. It allocates nothing.
@@ -118,7 +119,7 @@ impl IndexSet {
     /// Returns the lowest index of the set from a number on and below another, or `None` if there is none. 64 times 64 numbers
     /// that are not in the set are passed over at once.
     pub fn next_below(&self, from: usize, end: usize) -> Option<usize>
-        ensures { MatchOption result ((k : ℕ) → from ≤ k → k < end → has_index self.now k ≡ false) (λ at. (from ≤ at) × (at < end) × (has_index self.now at ≡ true) × ((k : ℕ) → from ≤ k → k < at → has_index self.now k ≡ false)) }
+        ensures { TellsFirstBelow (has_index self.now) from end result }
     {
         let at = self.first_from(from)?;
         if at < end { Some(at) } else { None }
@@ -154,7 +155,7 @@ impl IndexSet {
 
     /// Returns the lowest index of the set from a number on, or `None` if there is none.
     fn first_from(&self, from: usize) -> Option<usize>
-        ensures { MatchOption result ((k : ℕ) → from ≤ k → has_index self.now k ≡ false) (λ at. (from ≤ at) × (has_index self.now at ≡ true) × ((k : ℕ) → from ≤ k → k < at → has_index self.now k ≡ false)) }
+        ensures { TellsFirst (has_index self.now) from result }
     {
         if let Some(index) = first_in_word(&self.words, from) {
             return Some(index);

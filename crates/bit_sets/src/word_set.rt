@@ -1,8 +1,8 @@
 //! Sets of few numbers that are close to each other, as one machine word.
 
-ghost use Rattle.std.specs.Prelude.{◌≡◌, ℕ, ◌+◌, ◌<◌, ◌≤◌, ◌&&◌, ◌||◌, ◌==◌, not, false, true, IsTrue, MatchOption};
+ghost use Rattle.std.specs.Prelude.{◌≡◌, ℕ, ◌+◌, ◌<◌, ◌≤◌, ◌||◌, ◌==◌, false, IsTrue, MatchOption};
 ghost use Rattle.bit_sets.specs.Numbers.{AreBelow, AreFrom, has_number};
-ghost use Rattle.bit_sets.specs.WordSets.{has_in_word, AreInWordBelow};
+ghost use Rattle.bit_sets.specs.WordSets.{has_in_word, AreInWordBelow, TellsHighest};
 
 use visits::Visits;
 
@@ -55,7 +55,7 @@ impl WordSet {
     pub fn take_highest(&mut self, visits: &mut Visits) -> Option<usize>
         requires { AreInWordBelow 18446744073709551616 self.old }
         ensures low { self.new.low ≡ self.old.low }
-        ensures highest { MatchOption result ((n : ℕ) → has_in_word self.old n ≡ false) (λ top. (has_in_word self.old top ≡ true) × ((n : ℕ) → top < n → has_in_word self.old n ≡ false) × ((n : ℕ) → has_in_word self.new n ≡ (not (n == top) && has_in_word self.old n))) }
+        ensures highest { TellsHighest self.old self.new result }
         ensures visits { MatchOption result (visits.new ≡ visits.old) (λ _. visits.new ≡ visits.old + 1) }
     {
         if self.word == 0 {

@@ -1,8 +1,8 @@
 //! Sets of numbers, as the bits of machine words.
 
-ghost use Rattle.std.specs.Prelude.{◌≡◌, ℕ, ◌+◌, ◌-◌, ◌*◌, ◌/◌, ◌%◌, ◌^◌, ◌<◌, ◌≤◌, ◌&&◌, ◌||◌, ◌==◌, max, ◌↔◌, not, true, false, length, MatchOption, OnOk, IsOk, IsTrue};
+ghost use Rattle.std.specs.Prelude.{◌≡◌, ℕ, ◌+◌, ◌-◌, ◌*◌, ◌/◌, ◌%◌, ◌^◌, ◌<◌, ◌≤◌, ◌&&◌, ◌||◌, ◌==◌, max, ◌↔◌, not, true, false, length, OnOk, IsOk, IsTrue};
 ghost use Rattle.std.specs.Int.{bit_at};
-ghost use Rattle.bit_sets.specs.Bits.{bit_of, is_in_word};
+ghost use Rattle.bit_sets.specs.Bits.{bit_of, is_in_word, TellsFirst, TellsFirstInWord};
 ghost use Rattle.bit_sets.specs.Seen.{IsLastBelow};
 
 use std::alloc::AllocError;
@@ -214,7 +214,7 @@ pub fn last_below(words: &[u64], limit: usize) -> Seen
 
 /// Returns the lowest bit that is set in a bit's word, from this bit on.
 pub fn first_in_word(words: &[u64], from: usize) -> Option<usize>
-    ensures { MatchOption result ((k : ℕ) → from ≤ k → k / 64 ≡ from / 64 → bit_of words.now k ≡ false) (λ at. (from ≤ at) × (bit_of words.now at ≡ true) × ((k : ℕ) → from ≤ k → k < at → bit_of words.now k ≡ false)) }
+    ensures { TellsFirstInWord (bit_of words.now) from result }
 {
     let at = from / 64;
     if at >= words.len() {
@@ -230,7 +230,7 @@ pub fn first_in_word(words: &[u64], from: usize) -> Option<usize>
 /// Returns the lowest bit that is set from a bit on.
 pub fn first_from(words: &[u64], from: usize) -> Option<usize>
     requires { 64 * length words.now ≤ 2 ^ 64 }
-    ensures { MatchOption result ((k : ℕ) → from ≤ k → bit_of words.now k ≡ false) (λ at. (from ≤ at) × (bit_of words.now at ≡ true) × ((k : ℕ) → from ≤ k → k < at → bit_of words.now k ≡ false)) }
+    ensures { TellsFirst (bit_of words.now) from result }
 {
     let mut at = from / 64;
     let mut mask = u64::MAX << (from % 64);

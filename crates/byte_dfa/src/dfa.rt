@@ -223,9 +223,8 @@ impl Dfa {
         self.live[last / (self.width + 2)]
     }
 
-    /// Returns whether a text that ends with a byte may lead to an end. If not, [`Dfa::find`] reads nothing of such a text but this
-    /// byte.
-    pub fn may_end_with(&self, byte: u8) -> bool
+    /// Returns whether a text that ends with a byte may lead to an end.
+    fn may_end_with(&self, byte: u8) -> bool
         ensures { (y : List ℕ) (k : ℕ) → IsReached self.now.source (y ++ byte ∷ []) k → IsTrue result }
     {
         self.last_bytes.has(byte)

@@ -6,8 +6,8 @@ ghost use Rattle.byte_nfa.specs.Steps.{Accepts, IsReached, Machine};
 ghost use Rattle.byte_filter.specs.Entries.{ArePartsBelow};
 ghost use Rattle.byte_filter.specs.Others.{AreOthersBelow};
 ghost use Rattle.byte_filter.specs.Starts.{IsGuarded, IsFilterOf, IsReachedMarked};
-ghost use Rattle.byte_filter.specs.inner.Cuts.{AreForced, AreRequired};
-ghost use Rattle.byte_filter.specs.inner.Others.{AreRequiredBytes};
+ghost use Rattle.byte_filter.specs.inner.Cuts.{AreForced};
+ghost use Rattle.byte_filter.specs.inner.Others.{IsGuardedBy};
 
 use crate::counts::{Counts, rarest_bytes};
 use crate::filter::Filter;
@@ -140,7 +140,7 @@ fn guard(
     filter: &mut Filter,
     others: &mut Vec<OtherStart>,
 ) -> Result<(), AllocError>
-    ensures guarded { OnOk result ((m : Machine) → AreRequired m (slice_index m.starts i) windows.now.short.items windows.now.long.items → AreRequiredBytes m (slice_index m.starts i) windows.now.bytes.items → IsGuarded m filter.new others.new.items i) }
+    ensures guarded { OnOk result (IsGuardedBy windows.now.short.items windows.now.long.items windows.now.bytes.items filter.new others.new.items i) }
     ensures kept { OnOk result ((m : Machine) (j : ℕ) → IsGuarded m filter.old others.old.items j → IsGuarded m filter.new others.new.items j) }
     ensures below { OnOk result ((n : ℕ) → i < n → ArePartsBelow n filter.old → ArePartsBelow n filter.new) }
     ensures others_below { OnOk result ((n : ℕ) → i < n → AreOthersBelow n others.old.items → AreOthersBelow n others.new.items) }

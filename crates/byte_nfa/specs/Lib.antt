@@ -5,7 +5,6 @@ pub mod Reading
 pub mod Live
 pub mod Equivalent
 pub mod EarlyMatches
-pub mod Parts
 pub mod Spans
 pub mod Forcing
 pub mod inner

@@ -2,7 +2,7 @@
 use Rattle.std.specs.Prelude.{◌≡◌, ℕ, ◌<◌, ◌≤◌, false, IsTrue}
 use Rattle.bit_sets.specs.StateSets.{has_state}
 use Rattle.byte_nfa.specs.Steps.{Machine, state}
-use Rattle.byte_nfa.specs.Parts.{GoesFrom}
+use Rattle.byte_nfa.specs.inner.Views.{GoesFrom}
 use Rattle.bit_sets.specs.declared.state_set.StateSet.{StateSet}
 
 -- no state from low on and below high goes on to a state below low

@@ -16,7 +16,6 @@ mod accepting;
 mod early_matches;
 mod forcing;
 mod live;
-mod parts;
 mod reading;
 mod spans;
 mod steps;

@@ -1,18 +1,16 @@
 //! States, as an automaton keeps them.
 
-ghost use Rattle.std.specs.Prelude.{◌≡◌, ℕ, ◌+◌, ◌<◌, ◌≤◌, ◌||◌, ◌↔◌, List, length, slice_index, true, false, Some, None, IsTrue, IsFalse, OnOk, MatchOption};
-ghost use Rattle.bit_sets.specs.Bytes.{has_byte, differ};
+ghost use Rattle.std.specs.Prelude.{◌≡◌, ℕ, ◌+◌, ◌<◌, ◌≤◌, ◌||◌, ◌↔◌, List, length, slice_index, true, false, Some, None, IsTrue, IsFalse, OnOk};
+ghost use Rattle.bit_sets.specs.Bytes.{has_byte};
 ghost use Rattle.bit_sets.specs.StateSets.{has_state, state_capacity};
 ghost use Rattle.bit_sets.specs.declared.byte_set.ByteSet.{ByteSet};
-ghost use Rattle.byte_nfa.specs.Steps.{match_state};
-ghost use Rattle.byte_nfa.specs.Equivalent.{reads_byte};
-ghost use Rattle.byte_nfa.specs.Forcing.{IsNoEnd};
+ghost use Rattle.byte_nfa.specs.Equivalent.{HasAlsoBoundaries};
+ghost use Rattle.byte_nfa.specs.Forcing.{TellsLeast};
 ghost use Rattle.bit_sets.specs.Numbers.{AreBelow, AreFrom, has_number};
-ghost use Rattle.byte_nfa.specs.Parts.{GoesFrom};
 ghost use Rattle.byte_nfa.specs.ByteSteps.{leads_to, step_capacity};
-ghost use Rattle.byte_nfa.specs.inner.Exits.{StaysBefore};
+ghost use Rattle.byte_nfa.specs.inner.Exits.{TellsExit};
 ghost use Rattle.byte_nfa.specs.inner.Views.{set_at, exits_at, of_state, IsHeld, GoesBelow};
-ghost use Rattle.byte_nfa.specs.inner.Pass.{goes_now, goes_next, names, EndsBy, LeadsBy};
+ghost use Rattle.byte_nfa.specs.inner.Pass.{goes_now, goes_next, TellsEnd, EndsBy, LeadsBy};
 
 mod in_word;
 
@@ -125,7 +123,7 @@ impl State {
         requires room { s < state_capacity from.old }
         ensures room { state_capacity from.new ≡ state_capacity from.old }
         ensures from { (sets : List ByteSet) (t : ℕ) → has_state from.new t ≡ (goes_now (of_state sets targets.now self.now) t || has_state from.old t) }
-        ensures end { (sets : List ByteSet) → MatchOption result ((k : ℕ) → names (of_state sets targets.now self.now) None k ≡ false) (λ k. of_state sets targets.now self.now ≡ match_state k) }
+        ensures end { (sets : List ByteSet) → TellsEnd (of_state sets targets.now self.now) result }
     {
         match self {
             State::Bytes(_, _) => None,
@@ -196,7 +194,7 @@ impl State {
     /// Returns a set with each byte `b` more for which a state reads or stays on one of `b` and `b + 1`, and not both.
     pub fn add_boundaries(&self, sets: &[ByteSet], bytes: ByteSet) -> ByteSet
         requires { (targets : List ℕ) × IsHeld sets.now targets self.now }
-        ensures { (targets : List ℕ) (b : ℕ) → b + 1 < 256 → has_byte result b ≡ (differ (reads_byte (of_state sets.now targets self.now) b) (reads_byte (of_state sets.now targets self.now) (b + 1)) || has_byte bytes b) }
+        ensures { (targets : List ℕ) → HasAlsoBoundaries (of_state sets.now targets self.now) bytes result }
     {
         match self {
             State::Bytes(set, _) => bytes.with_boundaries(set_of(sets, *set)),
@@ -209,7 +207,7 @@ impl State {
     /// Returns the only state that a state goes on to, if it stays on every byte.
     pub fn only_exit(&self, s: usize, sets: &[ByteSet]) -> Option<usize>
         requires below { (targets : List ℕ) × IsHeld sets.now targets self.now × GoesBelow s (of_state sets.now targets self.now) }
-        ensures exit { (targets : List ℕ) → MatchOption result ((t : ℕ) → StaysBefore (of_state sets.now targets self.now) t → ⊥) (λ t. StaysBefore (of_state sets.now targets self.now) t × (t < s)) }
+        ensures exit { (targets : List ℕ) → TellsExit (of_state sets.now targets self.now) s result }
     {
         match self {
             State::Loop(set, exit) if set_of(sets, *set).is_everything() => Some(*exit),
@@ -220,7 +218,7 @@ impl State {
     /// Returns a number that nothing that a state goes on to is below, or `None` if it is an end.
     pub fn least_next(&self, s: usize, targets: &[usize]) -> Option<usize>
         requires below { (sets : List ByteSet) × IsHeld sets targets.now self.now × GoesBelow s (of_state sets targets.now self.now) }
-        ensures { (sets : List ByteSet) → MatchOption result ((k : ℕ) × (of_state sets targets.now self.now ≡ match_state k)) (λ low. GoesFrom low (of_state sets targets.now self.now) × IsNoEnd (of_state sets targets.now self.now)) }
+        ensures { (sets : List ByteSet) → TellsLeast (of_state sets targets.now self.now) result }
     {
         match self {
             State::Bytes(_, next) => Some(*next),

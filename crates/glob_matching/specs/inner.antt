@@ -1,4 +1,4 @@
 -- Definitions that only contracts between the crates and proofs cite.
 pub mod Compiled
-pub mod Parts
+pub mod Table
 pub mod Filtered

@@ -11,11 +11,11 @@ const MAX_NUMBERS: usize = 1 << 22;
 /// The bytes that a number of a table takes. One of a list takes more.
 const BYTES_PER_NUMBER: usize = 4;
 
-/// The most parts that are tried. With so many automata that each has few globs, such as one for each extension, few are run for
-/// a path, and simulating those takes less time than making a table for each.
-const MAX_PARTS: usize = 512;
+/// The most tables that are tried. With so many automata that each has few globs, such as one for each extension, few are run for
+/// a path, and to make a table for each takes longer than it saves.
+const MAX_TABLES: usize = 512;
 
-/// What the deterministic parts of all automata of a set may still take together.
+/// What the tables of all automata of a set may still take together.
 #[derive(Clone, Copy)]
 pub struct Budget {
     simulates_all: bool,
@@ -24,29 +24,29 @@ pub struct Budget {
     /// The numbers that may still be made, with those of tables that are given up: making one of these takes as long as making
     /// one that is kept.
     numbers: usize,
-    parts: usize,
+    /// The tables that may still be tried.
+    tables: usize,
 }
 
 impl Budget {
-    /// Returns the budget of a set whose tables may take so many bytes together. If these are none, all states are simulated, and
-    /// together.
+    /// Returns the budget of a set whose tables may take so many bytes together. If these are none, all states are simulated.
     pub fn new(dfa_size_limit: usize) -> Budget {
         Budget {
             simulates_all: dfa_size_limit == 0,
             bytes: dfa_size_limit,
             numbers: MAX_NUMBERS.max(dfa_size_limit / BYTES_PER_NUMBER),
-            parts: MAX_PARTS,
+            tables: MAX_TABLES,
         }
     }
 
-    /// Returns whether all states are to be simulated, and together.
+    /// Returns whether all states are to be simulated.
     pub(crate) fn simulates_all(self) -> bool {
         self.simulates_all
     }
 
-    /// Returns how many numbers a part may have that has at most so many by itself, or 0 if it may not be tried.
+    /// Returns how many numbers a table may have that has at most so many by itself, or 0 if it may not be tried.
     pub(crate) fn max_numbers(self, numbers: usize) -> usize {
-        if self.parts == 0 || numbers > self.numbers {
+        if self.tables == 0 || numbers > self.numbers {
             return 0;
         }
         numbers.min(self.bytes / BYTES_PER_NUMBER)
@@ -57,7 +57,7 @@ impl Budget {
         table.bytes() <= self.bytes
     }
 
-    /// Returns what is left after a part whose table is kept.
+    /// Returns what is left after a table that is kept.
     pub(crate) fn after(self, table: &Dfa) -> Budget {
         Budget {
             bytes: self.bytes.saturating_sub(table.bytes()),
@@ -65,11 +65,11 @@ impl Budget {
         }
     }
 
-    /// Returns what is left after a part of so many numbers was given up.
+    /// Returns what is left after a table of so many numbers was given up.
     pub(crate) fn after_trying(self, numbers: usize) -> Budget {
         Budget {
             numbers: self.numbers.saturating_sub(numbers),
-            parts: self.parts.saturating_sub(1),
+            tables: self.tables.saturating_sub(1),
             ..self
         }
     }

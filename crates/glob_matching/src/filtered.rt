@@ -1,4 +1,4 @@
-//! Automata with many starts, of which those alone are run that a filter names.
+//! Automata with several starts, of which those alone are run that a filter names.
 
 ghost use Rattle.std.specs.Prelude.{◌≡◌, ◌+◌, ◌*◌, ◌<◌, ◌≤◌, ◌↔◌, ◌⊎◌, ◌++◌, ◌∷◌, [], ℕ, length, IsTrue, IsOk, IfOk, IfSome, OnOk};
 ghost use Rattle.byte_nfa.specs.Live.{MatchesAfter};
@@ -195,7 +195,7 @@ impl Filtered {
     }
 }
 
-/// At most one start in so many may have no window, and so be run for each text. More are faster in parts.
+/// At most one start in so many may have no window, and so be run for each text. More are faster by rows, or simulated together.
 const STARTS_FOR_ONE_WITHOUT_WINDOW: usize = 3;
 
 /// Running one start for a text takes less time than rows do, and so does running one of so many: texts lead to more rows where

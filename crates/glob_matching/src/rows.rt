@@ -88,17 +88,26 @@ impl Model for RowCache {
 impl RowSource {
     /// Returns what rows of an automaton are made from.
     ///
-    /// It takes time and memory linear in the states. Returns `None` if there are too many indexes, and an error if memory runs out.
-    pub fn new(alloc: Global, automaton: &Draft) -> Result<Option<RowSource>, AllocError>
+    /// The rows of a thread take at most 8 MiB, or the share of these that the states have in `all_states`. It takes time and memory
+    /// linear in the states. Returns `None` if that share is too small or there are too many indexes, and an error if memory runs
+    /// out.
+    pub fn new(
+        alloc: Global,
+        automaton: &Draft,
+        all_states: usize,
+    ) -> Result<Option<RowSource>, AllocError>
         ensures { IfOk result (λ made. IfSome made (λ rows. rows ≡ automaton.now)) }
     {
+        if cache_bytes(automaton.state_count(), all_states) < FEWEST_BYTES {
+            return Ok(None);
+        }
         // Only texts from two starts may begin alike.
         if automaton.starts().len() <= 1 {
-            return RowSource::of(alloc, automaton, automaton);
+            return RowSource::of(alloc, automaton, automaton, all_states);
         }
         match shared(alloc, automaton)? {
-            Some(sharing) => RowSource::of(alloc, automaton, &sharing),
-            None => RowSource::of(alloc, automaton, automaton),
+            Some(sharing) => RowSource::of(alloc, automaton, &sharing, all_states),
+            None => RowSource::of(alloc, automaton, automaton, all_states),
         }
     }
 
@@ -107,6 +116,7 @@ impl RowSource {
         alloc: Global,
         automaton: &Draft,
         sharing: &Draft,
+        all_states: usize,
     ) -> Result<Option<RowSource>, AllocError>
         requires { Shares automaton.now sharing.now }
         ensures { IfOk result (λ made. IfSome made (λ rows. rows ≡ automaton.now)) }
@@ -116,7 +126,7 @@ impl RowSource {
         };
         Ok(Some(RowSource {
             dfa: Arc::new(alloc, dfa)?,
-            cache_bytes: cache_bytes(sharing.state_count()),
+            cache_bytes: cache_bytes(sharing.state_count(), all_states),
             source: Snapshot::of(automaton),
         }))
     }
@@ -208,16 +218,18 @@ impl RowCache {
 /// How many bytes a cache has for each state. With fewer, rows are forgotten so often that texts make many of theirs anew.
 const BYTES_PER_STATE: usize = 1 << 11;
 
-/// The fewest bytes of a cache.
-const FEWEST_BYTES: usize = 1 << 17;
+/// The bytes of a cache of few states, where there is room for them.
+const USUAL_BYTES: usize = 1 << 17;
 
-/// The most bytes of a cache.
+/// The most bytes of the caches of automata that share their room.
 const MOST_BYTES: usize = 1 << 23;
 
-/// Returns how many bytes the cache of an automaton of so many states takes.
-fn cache_bytes(state_count: usize) -> usize {
-    state_count
-        .saturating_mul(BYTES_PER_STATE)
-        .max(FEWEST_BYTES)
-        .min(MOST_BYTES)
+/// With fewer bytes there is no cache: so many automata share the room that few globs are run for a text.
+const FEWEST_BYTES: usize = 1 << 14;
+
+/// Returns how many bytes the cache of an automaton of so many states takes, where automata of `all_states` share their room.
+fn cache_bytes(state_count: usize, all_states: usize) -> usize {
+    let wanted = state_count.saturating_mul(BYTES_PER_STATE).max(USUAL_BYTES);
+    let share = MOST_BYTES.saturating_mul(state_count) / all_states.max(1);
+    wanted.min(share)
 }

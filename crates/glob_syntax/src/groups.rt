@@ -2,7 +2,7 @@
 
 ghost use Rattle.std.specs.Prelude.{◌≡◌, ◌≤◌, ◌∷◌, zero, true, IfOk, drop, length};
 ghost use Rattle.glob_syntax.specs.inner.Nests.{Nests, starts_branch};
-ghost use Rattle.glob_syntax.specs.inner.TokenReading.{Follows, ReadsTo};
+ghost use Rattle.glob_syntax.specs.inner.TokenReading.{Follows, ReadsPiece};
 ghost use Rattle.glob_syntax.specs.Reading.{whole};
 ghost use Rattle.glob_syntax.specs.FlatTokens.{IsNested};
 ghost use Rattle.glob_syntax.specs.Views.{flats, tokens_of};
@@ -29,7 +29,7 @@ fn push_lexeme(
     position: Position<'_, '_>,
 ) -> Result<usize, AllocError>
     requires { Follows (flats tokens.old.items) (lexeme_of position.lexeme ∷ lexemes_of position.after.now) }
-    ensures read { IfOk result (λ more. ReadsTo (flats tokens.old.items) position.entry.start (lexeme_of position.entry.lexeme ∷ lexemes_of position.entry.after.now) (flats tokens.new.items) (starts_branch (lexeme_of position.entry.lexeme)) (drop more (lexemes_of position.entry.after.now))) }
+    ensures read { IfOk result (λ more. ReadsPiece (flats tokens.old.items) position.entry.start (lexeme_of position.entry.lexeme) (lexemes_of position.entry.after.now) (flats tokens.new.items) more) }
     ensures within { IfOk result (λ more. more ≤ length position.entry.after.now) }
 {
     match position.lexeme {

@@ -1,9 +1,9 @@
 //! States that a run takes together, a word of a set of states at once.
 
 ghost use Rattle.std.specs.Prelude.{◌≡◌, ℕ, ◌+◌, ◌-◌, ◌/◌, ◌<◌, ◌≤◌, ◌++◌, [], List, Option, length, slice_index_or, MatchOption, IfOk, OnOk, max};
-ghost use Rattle.bit_sets.specs.StateSets.{has_state, state_capacity};
+ghost use Rattle.bit_sets.specs.StateSets.{state_capacity};
 ghost use Rattle.byte_nfa.specs.Steps.{State};
-ghost use Rattle.nfa_simulation.specs.inner.Blocks.{AreBlocks, AreMasks, Takes};
+ghost use Rattle.nfa_simulation.specs.inner.Blocks.{AreBlocks, KeepsBlocks, Takes, TellsTaken};
 
 mod making;
 
@@ -66,7 +66,7 @@ impl Blocks {
     /// replaced. Returns an error if memory runs out.
     pub fn push(&mut self, low: usize, high: usize, masks: &[u64]) -> Result<(), AllocError>
         requires { length masks.now ≡ 256 }
-        ensures { OnOk result ((a : List State) → AreBlocks a self.old.by_word.items self.old.masks.items → AreMasks a low high masks.now 0 → AreBlocks a self.new.by_word.items self.new.masks.items) }
+        ensures { OnOk result (KeepsBlocks low high masks.now self.old.by_word.items self.old.masks.items self.new.by_word.items self.new.masks.items) }
     {
         let place = self.place_of(masks)?;
         let word = low / 64;
@@ -120,7 +120,7 @@ impl Blocks {
         ensures room { state_capacity to.new ≡ state_capacity to.old }
         ensures visits { MatchOption result (visits.new ≡ visits.old) (λ taken. visits.new + max low taken.limit ≤ visits.old + limit) }
         ensures counted { visits.old ≤ visits.new }
-        ensures taken { (a : List State) → AreBlocks a self.now.by_word.items self.now.masks.items → MatchOption result (to.new ≡ to.old) (λ taken. Takes a byte limit (has_state from.now) (has_state to.old) (has_state from.now) (has_state to.new) taken.limit taken.some) }
+        ensures taken { (a : List State) → AreBlocks a self.now.by_word.items self.now.masks.items → TellsTaken a byte limit from.now to.old to.new result }
     {
         let at = (limit - 1) / 64;
         let block = self.block(at)?;

@@ -2,6 +2,7 @@ pub mod Automata
 pub mod PathPart
 pub mod Below
 pub mod Given
+pub mod Slots
 pub mod SetMatcher
 pub mod Indexes
 pub mod Matching

@@ -1,6 +1,6 @@
 //! Globs that no text decides: automata of their tokens.
 
-ghost use Rattle.std.specs.Prelude.{◌≡◌, ◌+◌, ◌*◌, ◌<◌, ◌≤◌, ◌++◌, ◌∷◌, ◌↔◌, [], ℕ, List, length, true, false, IsTrue, IsOk, OnOk, IfOk, IfSome, cond};
+ghost use Rattle.std.specs.Prelude.{◌≡◌, ◌+◌, ◌*◌, ◌<◌, ◌≤◌, ◌++◌, ◌∷◌, ◌↔◌, [], ℕ, List, length, Some, true, false, IsTrue, IsOk, OnOk, IfOk, IfSome, cond};
 ghost use Rattle.std.specs.Str.{bytes_eq};
 ghost use Rattle.byte_nfa.specs.Runs.{size, max_reads};
 ghost use Rattle.bit_sets.specs.Indexes.{has_index, index_capacity};
@@ -11,15 +11,15 @@ ghost use Rattle.glob_path.specs.PathParts.{component_extension, last_component}
 ghost use Rattle.glob_syntax.specs.FlatTokens.{IsNested};
 ghost use Rattle.glob_syntax.specs.Views.{flats, tokens_of};
 ghost use Rattle.glob_syntax.specs.inner.Weight.{weight};
-ghost use Rattle.set_matcher.specs.inner.Caches.{AreCachesOf};
+ghost use Rattle.set_matcher.specs.inner.Caches.{AreCachesOf, IsCacheAt};
 ghost use Rattle.set_matcher.specs.inner.PathPart.{part_of};
-ghost use Rattle.set_matcher.specs.inner.Automata.{AddsTokens, AreFor, AreForLists, AreFound, AreIdle, IsFoundSet, TokenLists, before_extension, machine_under, max_size, max_states, reads_for, states_for, tokens_under, total_reads};
+ghost use Rattle.set_matcher.specs.inner.Automata.{AddsTokens, AreFor, AreForLists, AreFound, AreIdle, IsFoundSet, TokenLists, before_extension, machine_under, max_states, reads_for, slot_of, states_for, total_reads};
 
 mod below;
 mod matchers;
 mod slots;
 
-use crate::caches::Caches;
+use crate::caches::{Caches, SlotCaches};
 use below::has_text;
 use bit_sets::IndexSet;
 use byte_nfa::Builder;
@@ -95,7 +95,7 @@ impl Automata {
             .saturating_add(self.extensions.table_bytes())
     }
 
-    /// Returns caches with no rows for the automata for whole paths and for last components, where runs need one. All memory that they
+    /// Returns caches with no rows for the automata, where runs need one. All memory that they
     /// need is taken here. Returns an error if memory runs out.
     pub fn new_caches(&self, alloc: Global) -> Result<Caches, AllocError>
         ensures { IfOk result (λ caches. AreCachesOf self.now caches) }
@@ -103,6 +103,7 @@ impl Automata {
         Ok(Caches {
             by_path: self.by_path.new_cache(alloc)?,
             by_component: self.by_component.new_cache(alloc)?,
+            by_slot: self.extensions.new_caches(alloc)?,
         })
     }
 
@@ -155,7 +156,8 @@ impl Automata {
         ensures visits { visits.new ≤ visits.old + (1 + (length path.now + 1) * reads_for self.now path.now) }
         ensures counted { visits.old ≤ visits.new }
     {
-        let by_extension = self.by_extension(&Candidate::from_bytes(path), visits);
+        let slot = self.slot_of(&Candidate::from_bytes(path), visits);
+        let by_extension = self.extensions.automaton_at(slot);
         if self.is_idle(by_extension) {
             return Ok(false);
         }
@@ -179,12 +181,12 @@ impl Automata {
             marks,
             visits,
         )?;
-        run(
-            Part::BeforeExtension,
+        run_by_slot(
+            slot,
             by_extension,
             path,
             sets,
-            &mut None,
+            &mut caches.by_slot,
             marks,
             visits,
         )?;
@@ -230,32 +232,30 @@ impl Automata {
         )? {
             return Ok(true);
         }
-        let by_extension = self.by_extension(path, visits);
-        matches_part(
-            Part::BeforeExtension,
-            by_extension,
+        let slot = self.slot_of(path, visits);
+        matches_by_slot(
+            slot,
+            self.extensions.automaton_at(slot),
             path.path(),
             sets,
-            &mut None,
+            &mut caches.by_slot,
             visits,
         )
     }
 
-    /// Returns the automaton of the extension of the path's last component, or one without states if it has none. The extension
-    /// is only searched for if some extension has an automaton.
-    fn by_extension(&self, path: &Candidate<'_>, visits: &mut Visits) -> &Compiled
-        ensures automaton { result.now ≡ machine_under self.now.extensions (component_extension path.now) }
-        ensures maximum { size result.now ≤ max_size self.now.extensions.machines }
-        ensures count { result.now.index_count ≡ self.now.extensions.index_count }
-        ensures tokens { (by_slot : ℕ → List IndexedTokens) → AreFor self.now.extensions.machines by_slot → IsFor result.now (tokens_under by_slot self.now.extensions.slots (component_extension path.now)) }
+    /// Returns the slot of the extension of the path's last component, if it has one. The extension is only searched for if some
+    /// extension has an automaton.
+    fn slot_of(&self, path: &Candidate<'_>, visits: &mut Visits) -> Option<usize>
+        ensures slot { result ≡ slot_of self.now.extensions.slots (component_extension path.now) }
+        ensures held { (s : ℕ) → result ≡ Some s → s < length self.now.extensions.machines }
         ensures visits { visits.new ≤ visits.old + 1 }
         ensures counted { visits.old ≤ visits.new }
     {
         if self.extensions.is_empty() {
-            return self.extensions.none();
+            return None;
         }
         self.extensions
-            .automaton_of(component_extension_of(path), visits)
+            .slot_of(component_extension_of(path), visits)
     }
 
     /// Returns whether there are no states, in the automaton of an extension either.
@@ -317,6 +317,33 @@ fn run(
     automaton.find_with(text, sets, cache, marks, visits)
 }
 
+/// The same as [`run`], before the extension of the path, with the cache of the automaton's slot.
+fn run_by_slot(
+    slot: Option<usize>,
+    automaton: &Compiled,
+    path: &[u8],
+    sets: &mut StateSets,
+    caches: &mut SlotCaches,
+    marks: &mut IndexSet,
+    visits: &mut Visits,
+) -> Result<(), AllocError>
+    requires count { automaton.now.index_count ≤ index_capacity marks.old }
+    requires cache { (s : ℕ) → slot ≡ Some s → IsCacheAt caches.old s automaton.now }
+    ensures caches { caches.new ≡ caches.old }
+    ensures room { index_capacity marks.new ≡ index_capacity marks.old }
+    ensures found { OnOk result (AddsMatches automaton.now (before_extension path.now) marks.old marks.new) }
+    ensures kept { sets_capacity sets.old ≤ sets_capacity sets.new }
+    ensures memory { size automaton.now ≤ sets_capacity sets.old → IsOk result }
+    ensures visits { visits.new ≤ visits.old + (length path.now + 1) * max_reads automaton.now }
+    ensures counted { visits.old ≤ visits.new }
+{
+    if automaton.state_count() == 0 {
+        return Ok(());
+    }
+    let text = Part::BeforeExtension.of(path);
+    caches.find(slot, automaton, text, sets, marks, visits)
+}
+
 /// Returns whether a part of the path matches tokens. The part is only searched for if there are states.
 fn matches_part(
     part: Part,
@@ -339,6 +366,30 @@ fn matches_part(
     }
     let text = part.of(path);
     automaton.is_match_with(text, sets, cache, visits)
+}
+
+/// The same as [`matches_part`], before the extension of the path, with the cache of the automaton's slot.
+fn matches_by_slot(
+    slot: Option<usize>,
+    automaton: &Compiled,
+    path: &[u8],
+    sets: &mut StateSets,
+    caches: &mut SlotCaches,
+    visits: &mut Visits,
+) -> Result<bool, AllocError>
+    requires { (s : ℕ) → slot ≡ Some s → IsCacheAt caches.old s automaton.now }
+    ensures caches { caches.new ≡ caches.old }
+    ensures some { IfOk result (TellsMatch automaton.now (before_extension path.now)) }
+    ensures kept { sets_capacity sets.old ≤ sets_capacity sets.new }
+    ensures memory { size automaton.now ≤ sets_capacity sets.old → IsOk result }
+    ensures visits { visits.new ≤ visits.old + (length path.now + 1) * max_reads automaton.now }
+    ensures counted { visits.old ≤ visits.new }
+{
+    if automaton.state_count() == 0 {
+        return Ok(false);
+    }
+    let text = Part::BeforeExtension.of(path);
+    caches.is_match(slot, automaton, text, sets, visits)
 }
 
 /// Returns the bytes of a path before the extension of its last component.
@@ -480,11 +531,16 @@ impl AutomataBuilder {
             extensions,
         } = self;
         let mut budget = Budget::new(dfa_size_limit);
-        let by_path = Compiled::with_rows(alloc, &mut budget, by_path.finish())?;
+        let by_path = by_path.finish();
+        let states = by_path.state_count();
+        let by_path = Compiled::with_rows(alloc, &mut budget, by_path, states)?;
         let by_component = by_component.finish();
         let has_component = has_text(alloc, &by_component)?;
-        let by_component = Compiled::with_rows(alloc, &mut budget, by_component)?;
-        let extensions = extensions.finish(alloc, &mut budget)?;
+        let states = by_component
+            .state_count()
+            .saturating_add(extensions.state_count());
+        let by_component = Compiled::with_rows(alloc, &mut budget, by_component, states)?;
+        let extensions = extensions.finish(alloc, &mut budget, states)?;
         let max_states = by_path
             .state_count()
             .max(by_component.state_count())

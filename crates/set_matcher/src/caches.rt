@@ -1,9 +1,21 @@
 //! The rows that automata keep from one path to the next.
 
+ghost use Rattle.std.specs.Prelude.{◌≡◌, ◌+◌, ◌*◌, ◌≤◌, ◌++◌, ◌∷◌, ◌↔◌, [], ℕ, List, length, Some, IsTrue, IsOk, OnOk, IfOk};
+ghost use Rattle.bit_sets.specs.Indexes.{index_capacity};
+ghost use Rattle.byte_nfa.specs.Runs.{size, max_reads};
+ghost use Rattle.byte_nfa.specs.Steps.{Machine};
+ghost use Rattle.glob_matching.specs.Matching.{AddsMatches, TellsMatch};
+ghost use Rattle.glob_nfa.specs.IndexedTokens.{IndexedTokens, IsFor, SomeMeanAfter};
+ghost use Rattle.nfa_simulation.specs.Sets.{sets_capacity};
 ghost use Rattle.set_matcher.specs.inner.Automata.{AutomataParts};
-ghost use Rattle.set_matcher.specs.inner.Caches.{AreCachesOf};
+ghost use Rattle.set_matcher.specs.inner.Caches.{AreCachesOf, IsCacheAt};
 
-use glob_matching::RowCache;
+use bit_sets::IndexSet;
+use glob_matching::{Compiled, RowCache};
+use nfa_simulation::StateSets;
+use std::alloc::AllocError;
+use std::marker::Model;
+use visits::Visits;
 
 /// The rows that the automata of a matcher made for the paths of one thread. Where an automaton has none, it runs without.
 ///
@@ -12,6 +24,7 @@ use glob_matching::RowCache;
 pub struct Caches {
     pub(crate) by_path: Option<RowCache>,
     pub(crate) by_component: Option<RowCache>,
+    pub(crate) by_slot: SlotCaches,
 }
 
 impl Drop for Caches {
@@ -20,6 +33,7 @@ impl Drop for Caches {
         let Caches {
             by_path: _,
             by_component: _,
+            by_slot: _,
         } = self;
     }
 }
@@ -32,17 +46,160 @@ impl Caches {
         Caches {
             by_path: None,
             by_component: None,
+            by_slot: SlotCaches { caches: None },
         }
     }
+
     /// Returns how many bytes the rows may take.
     pub fn bytes(&self) -> usize {
-        let mut bytes: usize = 0;
-        if let Some(cache) = &self.by_path {
-            bytes = bytes.saturating_add(cache.bytes());
+        bytes_of(&self.by_path)
+            .saturating_add(bytes_of(&self.by_component))
+            .saturating_add(self.by_slot.bytes())
+    }
+}
+
+/// Returns how many bytes the rows of a cache may take, or 0 if there is none.
+fn bytes_of(cache: &Option<RowCache>) -> usize {
+    match cache {
+        Some(cache) => cache.bytes(),
+        None => 0,
+    }
+}
+
+/// The rows of the automata of extensions, each at the slot of its automaton.
+pub(crate) struct SlotCaches {
+    /// It is `None` if no automaton has rows.
+    caches: Option<Vec<Option<RowCache>>>,
+}
+
+impl Drop for SlotCaches {
+    // One call wherever a value is dropped, which keeps proofs short.
+    fn drop(self) {
+        let SlotCaches { caches: _ } = self;
+    }
+}
+
+impl Model for SlotCaches {
+    ghost use Rattle.std.specs.Prelude.{List, [], Option};
+    ghost use Rattle.std.specs.Option.{option_map_or};
+    ghost use Rattle.byte_nfa.specs.Steps.{Machine};
+
+    ghost Value = { List (Option Machine) };
+
+    ghost view = { λ s. option_map_or (λ v. v.items) s.caches [] };
+}
+
+impl SlotCaches {
+    /// Returns the caches of automata in the order of their slots.
+    pub fn of(caches: Vec<Option<RowCache>>) -> SlotCaches
+        ensures { result ≡ caches.items }
+    {
+        SlotCaches {
+            caches: Some(caches),
         }
-        if let Some(cache) = &self.by_component {
-            bytes = bytes.saturating_add(cache.bytes());
+    }
+
+    /// Returns no caches.
+    pub fn none() -> SlotCaches
+        ensures { result ≡ [] }
+    {
+        SlotCaches { caches: None }
+    }
+
+    /// Returns how many bytes the rows may take.
+    fn bytes(&self) -> usize {
+        let mut bytes: usize = 0;
+        if let Some(caches) = &self.caches {
+            for cache in caches {
+                bytes = bytes.saturating_add(bytes_of(cache));
+            }
         }
         bytes
+    }
+
+    /// The same as [`Compiled::find_with`], with the cache of the automaton's slot.
+    pub fn find(
+        &mut self,
+        slot: Option<usize>,
+        automaton: &Compiled,
+        text: &[u8],
+        sets: &mut StateSets,
+        found: &mut IndexSet,
+        visits: &mut Visits,
+    ) -> Result<(), AllocError>
+        requires count { automaton.now.index_count ≤ index_capacity found.old }
+        requires cache { (s : ℕ) → slot ≡ Some s → IsCacheAt self.old s automaton.now }
+        ensures caches { self.new ≡ self.old }
+        ensures room { index_capacity found.new ≡ index_capacity found.old }
+        ensures found { OnOk result (AddsMatches automaton.now text.now found.old found.new) }
+        ensures kept { sets_capacity sets.old ≤ sets_capacity sets.new }
+        ensures memory { size automaton.now ≤ sets_capacity sets.old → IsOk result }
+        ensures visits { visits.new ≤ visits.old + (length text.now + 1) * max_reads automaton.now }
+        ensures counted { visits.old ≤ visits.new }
+    {
+        let Some(slot) = slot else {
+            return automaton.find(text, sets, found, visits);
+        };
+        if let Some(caches) = &mut self.caches {
+            if slot < caches.len() {
+                return automaton.find_with(text, sets, &mut caches[slot], found, visits);
+            }
+        }
+        automaton.find(text, sets, found, visits)
+    }
+
+    /// The same as [`Compiled::is_match_with`], with the cache of the automaton's slot.
+    pub fn is_match(
+        &mut self,
+        slot: Option<usize>,
+        automaton: &Compiled,
+        text: &[u8],
+        sets: &mut StateSets,
+        visits: &mut Visits,
+    ) -> Result<bool, AllocError>
+        requires { (s : ℕ) → slot ≡ Some s → IsCacheAt self.old s automaton.now }
+        ensures caches { self.new ≡ self.old }
+        ensures some { IfOk result (λ yes. TellsMatch automaton.now text.now yes) }
+        ensures kept { sets_capacity sets.old ≤ sets_capacity sets.new }
+        ensures memory { size automaton.now ≤ sets_capacity sets.old → IsOk result }
+        ensures visits { visits.new ≤ visits.old + (length text.now + 1) * max_reads automaton.now }
+        ensures counted { visits.old ≤ visits.new }
+    {
+        let Some(slot) = slot else {
+            return automaton.is_match(text, sets, visits);
+        };
+        if let Some(caches) = &mut self.caches {
+            if slot < caches.len() {
+                return automaton.is_match_with(text, sets, &mut caches[slot], visits);
+            }
+        }
+        automaton.is_match(text, sets, visits)
+    }
+
+    /// The same as [`Compiled::can_match_after_with`], with the cache of the automaton's slot.
+    pub fn can_match_after(
+        &mut self,
+        slot: usize,
+        automaton: &Compiled,
+        text: &[u8],
+        byte: u8,
+        sets: &mut StateSets,
+        visits: &mut Visits,
+    ) -> Result<bool, AllocError>
+        requires { IsCacheAt self.old slot automaton.now }
+        ensures caches { self.new ≡ self.old }
+        ensures some { IfOk result (λ yes. (xs : List IndexedTokens) → IsFor automaton.now xs → IsTrue yes ↔ SomeMeanAfter xs (text.now ++ byte ∷ [])) }
+        ensures kept { sets_capacity sets.old ≤ sets_capacity sets.new }
+        ensures memory { size automaton.now ≤ sets_capacity sets.old → IsOk result }
+        ensures visits { visits.new ≤ visits.old + (length text.now + 2) * size automaton.now }
+        ensures counted { visits.old ≤ visits.new }
+    {
+        if let Some(caches) = &mut self.caches {
+            if slot < caches.len() {
+                let cache = &mut caches[slot];
+                return automaton.can_match_after_with(text, byte, sets, cache, visits);
+            }
+        }
+        automaton.can_match_after(text, byte, sets, visits)
     }
 }

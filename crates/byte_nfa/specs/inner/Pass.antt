@@ -1,5 +1,5 @@
 -- One pass over the states at one position of a text.
-use Rattle.std.specs.Prelude.{◌≡◌, ℕ, ◌<◌, ◌⊎◌, Bool, false, ◌&&◌, ◌==◌, List, [], ◌∷◌, length, Option, Some, None, IsTrue}
+use Rattle.std.specs.Prelude.{◌≡◌, ℕ, ◌<◌, ◌⊎◌, Bool, false, ◌&&◌, ◌==◌, List, [], ◌∷◌, length, Option, Some, None, MatchOption, IsTrue}
 use Rattle.bit_sets.specs.Bytes.{has_byte}
 use Rattle.bit_sets.specs.Numbers.{has_number}
 use Rattle.byte_nfa.specs.Steps.{State, bytes_state, union_state, loop_state, match_state, Accepts}
@@ -32,6 +32,10 @@ names (match_state j) (Some c) k = false
 names (bytes_state w u) o k = false
 names (union_state us) o k = false
 names (loop_state w us) o k = false
+
+-- what is told of a state at the end of the text: the index that it names, or that it names none
+abbrev pub TellsEnd : State → Option ℕ → Type 0
+TellsEnd st told = MatchOption told ((k : ℕ) → names st None k ≡ false) (λ k. st ≡ match_state k)
 
 -- the state is an end, or goes on without a byte to a state of the set
 abbrev pub EndsBy : State → (ℕ → Bool) → Type 0

@@ -2,10 +2,9 @@
 
 ghost use Rattle.std.specs.Prelude.{◌≡◌, ℕ, ◌<◌, MatchOption};
 ghost use Rattle.byte_nfa.specs.Steps.{state, match_state};
-ghost use Rattle.byte_nfa.specs.Parts.{GoesFrom};
 ghost use Rattle.byte_nfa.specs.Forcing.{Forces, IsNoEnd};
 ghost use Rattle.byte_nfa.specs.Runs.{size};
-ghost use Rattle.byte_nfa.specs.inner.Views.{GoesBelow};
+ghost use Rattle.byte_nfa.specs.inner.Views.{GoesFrom, GoesBelow};
 
 use crate::draft::Draft;
 use crate::state::{State, set_of};

@@ -2,11 +2,10 @@
 
 ghost use Rattle.std.specs.Prelude.{◌≡◌, ℕ, ◌+◌, ◌<◌, ◌≤◌, ◌||◌, false, Some, None, IsTrue, IsFalse, IfSome, MatchOption};
 ghost use Rattle.bit_sets.specs.WordSets.{has_in_word};
-ghost use Rattle.byte_nfa.specs.Parts.{GoesFrom};
 ghost use Rattle.byte_nfa.specs.Runs.{size};
 ghost use Rattle.bit_sets.specs.StateSets.{has_state, state_capacity};
 ghost use Rattle.byte_nfa.specs.Steps.{bytes_state, state, match_state};
-ghost use Rattle.byte_nfa.specs.inner.Views.{GoesBelow};
+ghost use Rattle.byte_nfa.specs.inner.Views.{GoesFrom, GoesBelow};
 ghost use Rattle.byte_nfa.specs.inner.Pass.{goes_now, goes_next, names};
 
 use crate::draft::Draft;

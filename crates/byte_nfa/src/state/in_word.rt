@@ -1,11 +1,9 @@
 //! Steps of a state where the sets of states are words.
 
-ghost use Rattle.std.specs.Prelude.{◌≡◌, ℕ, ◌+◌, ◌<◌, ◌≤◌, ◌||◌, List, false, Some, None, MatchOption};
-ghost use Rattle.byte_nfa.specs.Steps.{match_state};
+ghost use Rattle.std.specs.Prelude.{◌≡◌, ℕ, ◌+◌, ◌<◌, ◌≤◌, ◌||◌, List, Some, None};
 ghost use Rattle.bit_sets.specs.declared.byte_set.ByteSet.{ByteSet};
-ghost use Rattle.byte_nfa.specs.Parts.{GoesFrom};
-ghost use Rattle.byte_nfa.specs.inner.Views.{of_state, IsHeld, GoesBelow};
-ghost use Rattle.byte_nfa.specs.inner.Pass.{goes_now, goes_next, names};
+ghost use Rattle.byte_nfa.specs.inner.Views.{GoesFrom, of_state, IsHeld, GoesBelow};
+ghost use Rattle.byte_nfa.specs.inner.Pass.{goes_now, goes_next, TellsEnd};
 ghost use Rattle.bit_sets.specs.WordSets.{has_in_word};
 
 use crate::state::{State, exits_of, set_of};
@@ -63,7 +61,7 @@ impl State {
         requires within { s < from.old.low + 64 }
         ensures low { from.new.low ≡ from.old.low }
         ensures from { (sets : List ByteSet) (t : ℕ) → has_in_word from.new t ≡ (goes_now (of_state sets targets.now self.now) t || has_in_word from.old t) }
-        ensures end { (sets : List ByteSet) → MatchOption result ((k : ℕ) → names (of_state sets targets.now self.now) None k ≡ false) (λ k. of_state sets targets.now self.now ≡ match_state k) }
+        ensures end { (sets : List ByteSet) → TellsEnd (of_state sets targets.now self.now) result }
     {
         match self {
             State::Bytes(_, _) => None,

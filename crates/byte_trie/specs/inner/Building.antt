@@ -63,6 +63,10 @@ pub record IsSplit (texts : List Text) (depth : ℕ) (es : List Entry) (bs : Lis
   pub picks : (b : ℕ) (w : List ℕ) → picked texts (depth + 1) bs ss b w ≡ indexes_under es (b ∷ w)
   pub spans : AreSpans texts (depth + 1) ss
 
+-- to bytes and spans were added those of a span
+abbrev pub AddsSplit : List Text → ℕ → Span → List ℕ → List ℕ → List Span → List Span → Type 0
+AddsSplit texts depth span bytes bytes' spans spans' = (bs : List ℕ) × (ss : List Span) × (bytes' ≡ bytes ++ bs) × (spans' ≡ spans ++ ss) × IsSplit texts depth (rests_of texts depth span) bs ss
+
 -- what is added for one span: edges, what they lead to, and a node
 pub record IsAdded (texts : List Text) (depth : ℕ) (s : Span) (old new : Tree) (next_old next_new : List Span) : Type 0 where
   pub bytes : List ℕ

@@ -4,13 +4,13 @@
 //! the bytes on the way to it. These lie side by side, since the texts are in order, and are looked at once for each byte
 //! that they have; so the time is linear in the bytes of all texts.
 
-ghost use Rattle.std.specs.Prelude.{◌≡◌, ◌≢◌, ℕ, ◌+◌, ◌<◌, ◌≤◌, ◌^◌, ◌++◌, List, map, length, IfOk, OnOk};
+ghost use Rattle.std.specs.Prelude.{◌≡◌, ◌≢◌, ℕ, ◌+◌, ◌<◌, ◌≤◌, ◌^◌, List, map, length, IfOk, OnOk};
 ghost use Rattle.std.specs.List.{AllWithin, HoldsAt};
 ghost use Rattle.key_table.specs.Entries.{indexes_under};
 ghost use Rattle.byte_trie.specs.Texts.{entry_of};
 ghost use Rattle.byte_trie.specs.inner.Nodes.{under, IsTree};
 ghost use Rattle.byte_trie.specs.declared.tree.build.Span.{Span};
-ghost use Rattle.byte_trie.specs.inner.Building.{rests_of, next_of, IsOrdered, AreWithin, IsSpan, AreSpans, IsSplit, IsAdded, Stands};
+ghost use Rattle.byte_trie.specs.inner.Building.{rests_of, next_of, IsOrdered, AreWithin, IsSpan, AreSpans, AddsSplit, IsAdded, Stands};
 
 use super::{Node, Tree};
 use crate::text::Text;
@@ -120,7 +120,7 @@ fn push_edges(
 ) -> Result<(), AllocError>
     requires span { IsSpan texts.now depth span }
     requires long { AllWithin (λ t. depth < length t.bytes.items) texts.now span.from span.to }
-    ensures { OnOk result ((bs : List ℕ) × (ss : List Span) × (bytes.new.items ≡ bytes.old.items ++ bs) × (next.new.items ≡ next.old.items ++ ss) × IsSplit texts.now depth (rests_of texts.now depth span) bs ss) }
+    ensures { OnOk result (AddsSplit texts.now depth span bytes.old.items bytes.new.items next.old.items next.new.items) }
 {
     let mut from = span.from;
     while from < span.to {

@@ -1,6 +1,6 @@
 -- What runs find, by the tokens that an automaton is for.
 use Rattle.std.proofs.Common.{ℕ, ◌<◌, ◌⊎◌, inl, inr, List, [], ◌∷◌, ◌++◌, refl, slice_index}
-use Rattle.std.specs.Prelude.{◌↔◌}
+use Rattle.std.specs.Prelude.{◌↔◌, Result, Ok, Err, OnOk, IfOk}
 use Rattle.std.proofs.Math.Logic.{⊎_elim}
 use Rattle.byte_nfa.specs.Live.{MatchesAfter}
 use Rattle.byte_nfa.specs.Steps.{Machine, IsReached}
@@ -55,3 +55,13 @@ after_matches m xs text byte bytes small some is =
       λ h. let (k, rest, all, reached) = some.0 h in some_after xs y rest k all ((same rest k all).0 reached),
       λ h. let (k, rest, all, matched) = after_some xs y h in some.1 (k, rest, all, (same rest k all).1 matched),
     )
+
+-- ---- results
+
+pub on_ok : {T E P Q : Type 0} (r : Result T E) → (P → Q) → OnOk r P → OnOk r Q
+on_ok (Ok x) f p = f p
+on_ok (Err e) f p = tt
+
+pub if_ok : {T E : Type 0} {P Q : T → Type 0} (r : Result T E) → ((x : T) → P x → Q x) → IfOk r P → IfOk r Q
+if_ok (Ok x) f p = f x p
+if_ok (Err e) f p = tt

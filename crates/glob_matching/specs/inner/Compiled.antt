@@ -1,10 +1,10 @@
--- Automata that are run whole, in parts, or from the starts that a filter names.
+-- Automata that are run by a table, whole, or from the starts that a filter names.
 use Rattle.byte_nfa.specs.Steps.{Machine}
 use Rattle.glob_matching.specs.declared.compiled.Strategy.{Strategy}
-use Rattle.glob_matching.specs.declared.compiled.Strategy.TheVariants.{Whole, Partitioned, Filtered}
+use Rattle.glob_matching.specs.declared.compiled.Strategy.TheVariants.{Table, Whole, Filtered}
 
--- the automaton, or the one that the parts were made from, or the one that there is a filter for
+-- the automaton, or the one that the table is of, or the one that there is a filter for
 abbrev pub machine_of : Strategy → Machine
+machine_of (Table b) = b.value
 machine_of (Whole m) = m
-machine_of (Partitioned m) = m
 machine_of (Filtered b) = b.value

@@ -1,9 +1,9 @@
 -- The tokens of a glob while they are read.
-use Rattle.std.specs.Prelude.{◌≡◌, ℕ, zero, List, Bool}
+use Rattle.std.specs.Prelude.{◌≡◌, ℕ, zero, List, ◌∷◌, drop, Bool}
 use Rattle.glob_syntax.specs.Lexemes.{Lexeme}
 use Rattle.glob_syntax.specs.Reading.{levels}
 use Rattle.glob_syntax.specs.FlatTokens as flat
-use Rattle.glob_syntax.specs.inner.Nests.{Nests}
+use Rattle.glob_syntax.specs.inner.Nests.{Nests, starts_branch}
 
 -- after these tokens as many groups are open as these lexemes close
 pub record Follows (ts : List flat.Flat) (ms : List Lexeme) : Type 0 where
@@ -16,3 +16,7 @@ pub record Follows (ts : List flat.Flat) (ms : List Lexeme) : Type 0 where
 pub record ReadsTo (ts : List flat.Flat) (start : Bool) (ms : List Lexeme) (later : List flat.Flat) (later_start : Bool) (left : List Lexeme) : Type 0 where
   pub same : flat.onto later (levels zero later_start left) ≡ flat.onto ts (levels zero start ms)
   pub follows : Follows later left
+
+-- the piece that begins with a lexeme is read, and with it so many of the lexemes after that one
+abbrev pub ReadsPiece : List flat.Flat → Bool → Lexeme → List Lexeme → List flat.Flat → ℕ → Type 0
+ReadsPiece ts start lexeme after later more = ReadsTo ts start (lexeme ∷ after) later (starts_branch lexeme) (drop more after)

@@ -7,10 +7,9 @@ use Rattle.bit_sets.specs.Bytes.{has_byte}
 use Rattle.bit_sets.specs.StateSets.{has_state}
 use Rattle.byte_nfa.specs.Steps.{State, bytes_state, union_state, loop_state, match_state, Machine, Accepts}
 use Rattle.bit_sets.specs.Numbers.{AreFrom, has_number}
-use Rattle.byte_nfa.specs.Parts.{GoesFrom}
 use Rattle.byte_nfa.specs.Runs.{size, AcceptsBelow, AcceptsFrom}
 use Rattle.byte_nfa.specs.Spans.{IsFrom, IsWithin}
-use Rattle.byte_nfa.specs.inner.Views.{GoesBelow}
+use Rattle.byte_nfa.specs.inner.Views.{GoesFrom, GoesBelow}
 use Rattle.byte_nfa.specs.inner.Pass.{goes_now, goes_next, AcceptsNow, PassInvariant}
 use Rattle.byte_nfa.proofs.lemmas.Pass.{and_second, or_first}
 use Rattle.bit_sets.specs.declared.state_set.StateSet.{StateSet}

@@ -5,8 +5,7 @@ use Rattle.std.proofs.lemmas.Bool.{eqb-true, or_cases, cases_lt, cases_Bool}
 use Rattle.std.proofs.Math.Logic.{⊎_elim}
 use Rattle.bit_sets.specs.Bytes.{has_byte}
 use Rattle.byte_nfa.specs.Steps.{State, bytes_state, union_state, loop_state, match_state, state}
-use Rattle.byte_nfa.specs.Parts.{GoesFrom}
-use Rattle.byte_nfa.specs.inner.Views.{GoesBelow}
+use Rattle.byte_nfa.specs.inner.Views.{GoesFrom, GoesBelow}
 use Rattle.byte_nfa.specs.inner.Pass.{goes_now, goes_next, PassInvariant}
 use Rattle.nfa_simulation.specs.inner.Blocks.{Takes}
 use Rattle.byte_nfa.proofs.lemmas.Pass.{iff_trans, and_second, or_first, or_second, Step, step_there, step_back, accepts_within, read_taken, quiet_step}

@@ -1,9 +1,12 @@
 -- States that a run takes together, a word of a set of states at once.
-use Rattle.std.specs.Prelude.{◌≡◌, ℕ, ◌+◌, ◌*◌, ◌/◌, ◌%◌, ◌<◌, ◌≤◌, ◌⊎◌, ◌↔◌, ◌&&◌, ◌==◌, Bool, false, List, ◌∷◌, length, Option, Some, None, slice_index_or, IsTrue, IsFalse}
+use Rattle.std.specs.Prelude.{◌≡◌, ℕ, ◌+◌, ◌*◌, ◌/◌, ◌%◌, ◌<◌, ◌≤◌, ◌⊎◌, ◌↔◌, ◌&&◌, ◌==◌, Bool, false, List, ◌∷◌, length, Option, Some, None, slice_index_or, MatchOption, IsTrue, IsFalse}
 use Rattle.bit_sets.specs.Bits.{bit_of}
 use Rattle.byte_nfa.specs.Steps.{State, state}
 use Rattle.byte_nfa.specs.inner.Pass.{goes_now, goes_next, PassInvariant}
+use Rattle.bit_sets.specs.StateSets.{has_state}
+use Rattle.bit_sets.specs.declared.state_set.StateSet.{StateSet}
 use Rattle.nfa_simulation.specs.declared.blocks.Block.{Block}
+use Rattle.nfa_simulation.specs.declared.blocks.Taken.{Taken}
 
 -- the state s goes on by the bytes of a set alone, to the state below
 pub record ReadsDown (a : List State) (s : ℕ) (set : ℕ → Bool) : Type 0 where
@@ -26,6 +29,10 @@ pub record AreMasks (a : List State) (low high : ℕ) (masks : List ℕ) (place 
 abbrev pub AreBlocks : List State → List (Option Block) → List ℕ → Type 0
 AreBlocks a blocks masks = (w : ℕ) (b : Block) → slice_index_or blocks w None ≡ Some b → (b.low / 64 ≡ w) × AreMasks a b.low b.high masks b.place
 
+-- of each automaton that has the old blocks, and these masks for the states from low on and below high, the new ones are blocks
+abbrev pub KeepsBlocks : ℕ → ℕ → List ℕ → List (Option Block) → List ℕ → List (Option Block) → List ℕ → Type 0
+KeepsBlocks low high given old old_masks new new_masks = (a : List State) → AreBlocks a old old_masks → AreMasks a low high given 0 → AreBlocks a new new_masks
+
 -- some states of a set below a bound went on by the byte c: `now` and `next` became `now'` and `next'`, the new bound is `low`,
 -- and `some` says whether a state was put into `next`
 pub record Takes (a : List State) (c limit : ℕ) (now next now' next' : ℕ → Bool) (low : ℕ) (some : Bool) : Type 0 where
@@ -36,3 +43,7 @@ pub record Takes (a : List State) (c limit : ℕ) (now next now' next' : ℕ →
   pub kept : (t : ℕ) → IsTrue (next t) → IsTrue (next' t)
   pub put : IsTrue some → (t : ℕ) × (t < limit) × IsTrue (next' t)
   pub none : IsFalse some → (t : ℕ) → IsTrue (next' t) → IsTrue (next t)
+
+-- what is told of states that may be in a block: how they went on, or that they did not, as a state is in no block
+abbrev pub TellsTaken : List State → ℕ → ℕ → StateSet → StateSet → StateSet → Option Taken → Type 0
+TellsTaken a c limit from to to' told = MatchOption told (to' ≡ to) (λ taken. Takes a c limit (has_state from) (has_state to) (has_state from) (has_state to') taken.limit taken.some)

@@ -2,9 +2,8 @@
 
 ghost use Rattle.std.specs.Prelude.{◌≡◌, ℕ, ◌+◌, ◌<◌, ◌≤◌, ◌||◌, false, Some, None, MatchOption};
 ghost use Rattle.byte_nfa.specs.Steps.{state, match_state};
-ghost use Rattle.byte_nfa.specs.Parts.{GoesFrom};
 ghost use Rattle.byte_nfa.specs.Runs.{size};
-ghost use Rattle.byte_nfa.specs.inner.Views.{GoesBelow};
+ghost use Rattle.byte_nfa.specs.inner.Views.{GoesFrom, GoesBelow};
 ghost use Rattle.byte_nfa.specs.inner.Pass.{goes_now, goes_next, names};
 ghost use Rattle.bit_sets.specs.WordSets.{has_in_word};
 

@@ -51,9 +51,13 @@ AreFor machines tokens = (s : ℕ) (d : Machine) → s < length machines → IsF
 abbrev pub tokens_under : (ℕ → List IndexedTokens) → List Entry → List ℕ → List IndexedTokens
 tokens_under tokens slots extension = option_map_or tokens (slot_of slots extension) []
 
+-- the automaton of a slot, or one without states
+abbrev pub machine_at : ExtensionParts → Option ℕ → Machine
+machine_at e slot = option_map_or (λ s. get_or e.machines s e.none) slot e.none
+
 -- the automaton of an extension; one without states if it has no slot
 abbrev pub machine_under : ExtensionParts → List ℕ → Machine
-machine_under e extension = option_map_or (λ s. get_or e.machines s e.none) (slot_of e.slots extension) e.none
+machine_under e extension = machine_at e (slot_of e.slots extension)
 
 -- the tokens of one of the first n slots match some text that begins with y
 abbrev pub SomeExtensionAfter : ℕ → (ℕ → List IndexedTokens) → List ℕ → Type 0

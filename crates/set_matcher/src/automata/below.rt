@@ -18,7 +18,7 @@ impl Automata {
     /// Returns whether tokens match the part that they are run on of some path below a folder.
     ///
     /// A path below the folder may have any last component, so no automaton is run for that. It may have any extension, so the
-    /// automata of all extensions are run over the folder. That for whole paths is run by the rows of its cache if there is one. The
+    /// automata of all extensions are run over the folder. Each is run by the rows of its cache if there is one. The
     /// sets get room for each state of a part that is simulated. Returns an error if memory runs out.
     pub fn can_match_below(
         &self,
@@ -46,7 +46,9 @@ impl Automata {
         {
             return Ok(true);
         }
-        self.extensions.can_match_after(folder, b'/', sets, visits)
+        let caches = &mut caches.by_slot;
+        self.extensions
+            .can_match_after(folder, b'/', sets, caches, visits)
     }
 }
 

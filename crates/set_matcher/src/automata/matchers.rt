@@ -3,14 +3,17 @@
 ghost use Rattle.std.specs.Prelude.{◌≡◌, ◌+◌, ◌*◌, ◌<◌, ◌≤◌, ◌↔◌, ◌++◌, ◌∷◌, [], ℕ, List, length, IsTrue, IsOk, OnOk, IfOk, None, Some, cond};
 ghost use Rattle.byte_nfa.specs.Runs.{size, max_reads};
 ghost use Rattle.nfa_simulation.specs.Sets.{sets_capacity};
+ghost use Rattle.std.specs.Option.{option_map_or};
 ghost use Rattle.std.specs.Str.{bytes_eq};
 ghost use Rattle.glob_nfa.specs.IndexedTokens.{IndexedTokens, IsFor, indexed};
 ghost use Rattle.glob_syntax.specs.FlatTokens.{IsNested};
 ghost use Rattle.glob_syntax.specs.Views.{flats, tokens_of};
 ghost use Rattle.glob_syntax.specs.inner.Weight.{weight};
-ghost use Rattle.set_matcher.specs.inner.Automata.{AddsTokens, AreFor, KeepsTokens, SomeExtensionAfter, machine_under, max_size, slot_of, tokens_under, total_reads};
+ghost use Rattle.set_matcher.specs.inner.Automata.{AddsTokens, AreFor, KeepsTokens, SomeExtensionAfter, machine_at, machine_under, max_size, slot_of, total_reads};
+ghost use Rattle.set_matcher.specs.inner.Caches.{AreSlotCaches};
 
 use super::slots::ExtensionSlots;
+use crate::caches::SlotCaches;
 use byte_nfa::Builder;
 use glob_matching::{Budget, Compiled};
 use glob_nfa::{add_tokens, new_builder};
@@ -91,28 +94,55 @@ impl ExtensionMatchers {
         self.slots.is_empty()
     }
 
-    /// Returns an automaton without states.
-    pub fn none(&self) -> &Compiled
-        ensures none { result.now ≡ self.now.none }
-        ensures size { size result.now ≡ 0 }
-        ensures count { result.now.index_count ≡ self.now.index_count }
-        ensures tokens { IsFor result.now [] }
-    {
-        &self.none
-    }
-
-    /// Returns the automaton of an extension, or one without states if it has none. It is one visit.
-    pub fn automaton_of(&self, extension: &[u8], visits: &mut Visits) -> &Compiled
-        ensures automaton { result.now ≡ machine_under self.now extension.now }
-        ensures maximum { size result.now ≤ max_size self.now.machines }
-        ensures count { result.now.index_count ≡ self.now.index_count }
-        ensures tokens { (by_slot : ℕ → List IndexedTokens) → AreFor self.now.machines by_slot → IsFor result.now (tokens_under by_slot self.now.slots extension.now) }
+    /// Returns the slot of an extension, if it has one. It is one visit.
+    pub fn slot_of(&self, extension: &[u8], visits: &mut Visits) -> Option<usize>
+        ensures slot { result ≡ slot_of self.now.slots extension.now }
+        ensures held { (s : ℕ) → result ≡ Some s → s < length self.now.machines }
         ensures visits { visits.new ≡ visits.old + 1 }
     {
         match self.slots.get(extension, visits, &mut Visits::new()) {
-            [slot, ..] => &self.automata[*slot],
-            [] => &self.none,
+            [slot, ..] => Some(*slot),
+            [] => None,
         }
+    }
+
+    /// Returns the automaton of a slot, or one without states if there is none.
+    pub fn automaton_at(&self, slot: Option<usize>) -> &Compiled
+        requires { (s : ℕ) → slot ≡ Some s → s < length self.now.machines }
+        ensures automaton { result.now ≡ machine_at self.now slot }
+        ensures maximum { size result.now ≤ max_size self.now.machines }
+        ensures count { result.now.index_count ≡ self.now.index_count }
+        ensures tokens { (by_slot : ℕ → List IndexedTokens) → AreFor self.now.machines by_slot → IsFor result.now (option_map_or by_slot slot []) }
+    {
+        match slot {
+            Some(at) => &self.automata[at],
+            None => &self.none,
+        }
+    }
+
+    /// Returns caches with no rows for the automata, where runs need one. All memory that they need is taken here. Returns an error
+    /// if memory runs out.
+    pub fn new_caches(&self, alloc: Global) -> Result<SlotCaches, AllocError>
+        ensures { IfOk result (λ caches. AreSlotCaches self.now.machines self.now.none caches) }
+    {
+        if !self.have_rows() {
+            return Ok(SlotCaches::none());
+        }
+        let mut caches = Vec::with_capacity(alloc, self.automata.len())?;
+        for automaton in &self.automata {
+            caches.push(automaton.new_cache(alloc)?)?;
+        }
+        Ok(SlotCaches::of(caches))
+    }
+
+    /// Returns whether runs of some automaton need a cache.
+    fn have_rows(&self) -> bool {
+        for automaton in &self.automata {
+            if automaton.has_rows() {
+                return true;
+            }
+        }
+        false
     }
 }
 
@@ -127,16 +157,19 @@ impl ExtensionMatchers {
         text: &[u8],
         byte: u8,
         sets: &mut StateSets,
+        caches: &mut SlotCaches,
         visits: &mut Visits,
     ) -> Result<bool, AllocError>
+        requires { AreSlotCaches self.now.machines self.now.none caches.old }
+        ensures caches { caches.new ≡ caches.old }
         ensures some { IfOk result (λ yes. (by_slot : ℕ → List IndexedTokens) → AreFor self.now.machines by_slot → IsTrue yes ↔ SomeExtensionAfter (length self.now.machines) by_slot (text.now ++ byte ∷ [])) }
         ensures kept { sets_capacity sets.old ≤ sets_capacity sets.new }
         ensures room { max_size self.now.machines ≤ sets_capacity sets.old → IsOk result }
         ensures visits { visits.new ≤ visits.old + (length text.now + 2) * total_reads self.now.machines }
         ensures counted { visits.old ≤ visits.new }
     {
-        for automaton in &self.automata {
-            if automaton.can_match_after(text, byte, sets, visits)? {
+        for (slot, automaton) in self.automata.iter().enumerate() {
+            if caches.can_match_after(slot, automaton, text, byte, sets, visits)? {
                 return Ok(true);
             }
         }
@@ -252,8 +285,22 @@ impl ExtensionMatchersBuilder {
         Ok(slot)
     }
 
-    /// Returns what was added. Returns an error if memory runs out.
-    pub fn finish(self, alloc: Global, budget: &mut Budget) -> Result<ExtensionMatchers, AllocError>
+    /// Returns the number of states of all automata. It takes time linear in their number.
+    pub fn state_count(&self) -> usize {
+        let mut states: usize = 0;
+        for builder in &self.builders {
+            states = states.saturating_add(builder.state_count());
+        }
+        states
+    }
+
+    /// Returns what was added, whose rows share the room of so many states. Returns an error if memory runs out.
+    pub fn finish(
+        self,
+        alloc: Global,
+        budget: &mut Budget,
+        all_states: usize,
+    ) -> Result<ExtensionMatchers, AllocError>
         ensures { IfOk result (λ matchers. matchers ≡ self) }
     {
         let ExtensionMatchersBuilder {
@@ -264,24 +311,25 @@ impl ExtensionMatchersBuilder {
         } = self;
         Ok(ExtensionMatchers {
             slots: slots.build()?,
-            automata: finished(alloc, budget, builders)?,
+            automata: finished(alloc, budget, all_states, builders)?,
             none: Compiled::simulated(Nfa::new(none.finish())),
             index_count,
         })
     }
 }
 
-/// Returns the automata of builders. Returns an error if memory runs out.
+/// Returns the automata of builders, whose rows share their room. Returns an error if memory runs out.
 fn finished(
     alloc: Global,
     budget: &mut Budget,
+    all_states: usize,
     builders: Vec<Builder>,
 ) -> Result<Vec<Compiled>, AllocError>
     ensures { IfOk result (λ automata. automata.items ≡ builders.items) }
 {
     let mut automata = Vec::with_capacity(alloc, builders.len())?;
     for builder in builders {
-        push_finished(alloc, budget, builder, &mut automata)?;
+        push_finished(alloc, budget, all_states, builder, &mut automata)?;
     }
     Ok(automata)
 }
@@ -290,11 +338,13 @@ fn finished(
 fn push_finished(
     alloc: Global,
     budget: &mut Budget,
+    all_states: usize,
     builder: Builder,
     automata: &mut Vec<Compiled>,
 ) -> Result<(), AllocError>
     ensures { OnOk result (automata.new.items ≡ automata.old.items ++ builder ∷ []) }
 {
-    automata.push(Compiled::new(alloc, budget, builder.finish())?)?;
+    let automaton = builder.finish();
+    automata.push(Compiled::with_rows(alloc, budget, automaton, all_states)?)?;
     Ok(())
 }

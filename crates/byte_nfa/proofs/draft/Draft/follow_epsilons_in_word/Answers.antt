@@ -1,9 +1,8 @@
 use Rattle.std.proofs.Common.{◌<◌, length, arith, ap, subst}
 use Rattle.std.proofs.lemmas.List.{length-map}
 use Rattle.byte_nfa.specs.Steps.{Machine, state}
-use Rattle.byte_nfa.specs.Parts.{GoesFrom}
 use Rattle.byte_nfa.specs.Runs.{size}
-use Rattle.byte_nfa.specs.inner.Views.{GoesBelow, NamesBelow, of_state}
+use Rattle.byte_nfa.specs.inner.Views.{GoesFrom, GoesBelow, NamesBelow, of_state}
 use Rattle.byte_nfa.proofs.lemmas.Reading.{held_at, state_at, read_state, follows_epsilons}
 use Rattle.byte_nfa.proofs.draft.Draft.follow_epsilons_in_word.Goals as goal
 

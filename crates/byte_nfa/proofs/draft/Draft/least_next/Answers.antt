@@ -2,10 +2,9 @@ use Rattle.std.proofs.Common.{◌≡◌, ℕ, ◌<◌, length, arith, ap, sym, s
 use Rattle.std.specs.Prelude.{MatchOption}
 use Rattle.std.proofs.lemmas.List.{length-map}
 use Rattle.byte_nfa.specs.Steps.{State, state, match_state}
-use Rattle.byte_nfa.specs.Parts.{GoesFrom}
 use Rattle.byte_nfa.specs.Forcing.{IsNoEnd}
 use Rattle.byte_nfa.specs.Runs.{size}
-use Rattle.byte_nfa.specs.inner.Views.{GoesBelow, of_state}
+use Rattle.byte_nfa.specs.inner.Views.{GoesFrom, GoesBelow, of_state}
 use Rattle.byte_nfa.proofs.lemmas.Reading.{held_at, state_at, read_state}
 use Rattle.byte_nfa.proofs.draft.Draft.least_next.Goals as goal
 

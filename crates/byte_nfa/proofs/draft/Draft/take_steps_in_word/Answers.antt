@@ -1,8 +1,7 @@
 use Rattle.std.proofs.Common.{◌<◌, length, arith, ap, subst}
 use Rattle.std.proofs.lemmas.List.{length-map}
-use Rattle.byte_nfa.specs.Parts.{GoesFrom}
 use Rattle.byte_nfa.specs.Runs.{size}
-use Rattle.byte_nfa.specs.inner.Views.{GoesBelow, of_state}
+use Rattle.byte_nfa.specs.inner.Views.{GoesFrom, GoesBelow, of_state}
 use Rattle.byte_nfa.proofs.lemmas.Reading.{held_at, state_at, read_state}
 use Rattle.byte_nfa.proofs.draft.Draft.take_steps_in_word.Goals as goal
 

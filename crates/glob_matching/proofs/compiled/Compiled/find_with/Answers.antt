@@ -8,7 +8,7 @@ use Rattle.glob_matching.specs.inner.Compiled.{machine_of}
 use Rattle.glob_matching.proofs.lemmas.Compiled.{finds_matches}
 use Rattle.glob_matching.proofs.lemmas.Filtered.{beside}
 use Rattle.glob_matching.proofs.compiled.Compiled.find_with.Goals as goal
-use Rattle.glob_matching.proofs.compiled.Compiled.find_with.Goals.{in-Filtered+in_ok-marks_few-in-Filtered+else-branch, in-Partitioned+else-are_few_for, in-Whole}
+use Rattle.glob_matching.proofs.compiled.Compiled.find_with.Goals.{in-Filtered+in_ok-marks_few+else-branch, in_default-strategy}
 
 pub returns-then-branch-clause-found : goal.returns-then-branch-clause-found
 returns-then-branch-clause-found c = λ xs is k.
@@ -17,7 +17,7 @@ returns-then-branch-clause-found c = λ xs is k.
     let starts = c.marks_few.new.sets.starts in
     let marked_by : c.deref.result.now ≡ m = c.deref.ensures ∙ sym (ap machine_of c.in-Filtered.is) ∙ c.self.view_is in
     let run_by : c.deref-then-branch.result.now ≡ m = c.deref-then-branch.ensures ∙ sym (ap machine_of c.in-Filtered.is) ∙ c.self.view_is in
-    let marked = subst (λ (x : Machine). IsReached x text k ↔ IsReachedMarked x starts text k) marked_by (c.in_ok-marks_few-in-Filtered.ensures.marked c.if-branch.true k) in
+    let marked = subst (λ (x : Machine). IsReached x text k ↔ IsReachedMarked x starts text k) marked_by (c.in_ok-marks_few.ensures.marked c.if-branch.true k) in
     let found = subst (λ (x : Machine). IsTrue (has_index c.find_marked.new.found k) ↔ (IsReachedMarked x starts text k ⊎ IsTrue (has_index c.args.found.now k))) run_by (c.find_marked.ensures.found k) in
     finds_matches m xs text k (λ i. omega (arith, c.type_inv.text i)) (beside marked found) is
 
@@ -25,8 +25,7 @@ pub returns-clause-found : goal.returns-clause-found
 returns-clause-found c = λ xs is.
     let made_for : c.in-Some.rows ≡ c.args.self.now = subst (λ (o : Option Machine). IfSome o (λ m. m ≡ c.args.self.now)) c.in-Some.is c.requires.cache in
     let asked : c.match-self.rows ≡ c.in-Some.rows = elim c.match-self.branch [
-      | in-Filtered+in_ok-marks_few-in-Filtered+else-branch w ↦ w.rows-is ∙ w.marks_few.ensures.rows
-      | in-Partitioned+else-are_few_for w ↦ w.rows-is
-      | in-Whole w ↦ w.rows-is
+      | in-Filtered+in_ok-marks_few+else-branch w ↦ w.rows-is ∙ w.marks_few.ensures.rows
+      | in_default-strategy w ↦ w.rows-is
     ] in
     c.find-2.ensures.found xs (subst (λ (m : Machine). IsFor m xs) (sym (asked ∙ made_for)) is)

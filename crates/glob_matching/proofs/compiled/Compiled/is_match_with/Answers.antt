@@ -7,7 +7,7 @@ use Rattle.glob_matching.specs.inner.Compiled.{machine_of}
 use Rattle.glob_matching.proofs.lemmas.Compiled.{has_matches}
 use Rattle.glob_matching.proofs.lemmas.Filtered.{some_of}
 use Rattle.glob_matching.proofs.compiled.Compiled.is_match_with.Goals as goal
-use Rattle.glob_matching.proofs.compiled.Compiled.is_match_with.Goals.{in-Filtered+in_ok-marks_few-in-Filtered+else-branch, in-Partitioned+else-are_few_for, in-Whole}
+use Rattle.glob_matching.proofs.compiled.Compiled.is_match_with.Goals.{in-Filtered+in_ok-marks_few+else-branch, in_default-strategy}
 
 pub returns-then-branch-clause-some : goal.returns-then-branch-clause-some
 returns-then-branch-clause-some c = λ xs is.
@@ -17,7 +17,7 @@ returns-then-branch-clause-some c = λ xs is.
     let marked_by : c.deref.result.now ≡ m = c.deref.ensures ∙ sym (ap machine_of c.in-Filtered.is) ∙ c.self.view_is in
     let run_by : c.deref-then-branch.result.now ≡ m = c.deref-then-branch.ensures ∙ sym (ap machine_of c.in-Filtered.is) ∙ c.self.view_is in
     let marked : (k : ℕ) → IsReached m text k ↔ IsReachedMarked m starts text k =
-    λ k. subst (λ (x : Machine). IsReached x text k ↔ IsReachedMarked x starts text k) marked_by (c.in_ok-marks_few-in-Filtered.ensures.marked c.if-branch.true k) in
+    λ k. subst (λ (x : Machine). IsReached x text k ↔ IsReachedMarked x starts text k) marked_by (c.in_ok-marks_few.ensures.marked c.if-branch.true k) in
     let some = subst (λ (x : Machine). IsTrue c.is_match_marked.result ↔ ((k : ℕ) × IsReachedMarked x starts text k)) run_by c.is_match_marked.ensures.some in
     has_matches m xs text (λ i. omega (arith, c.type_inv.text i)) (some_of marked some) is
 
@@ -25,8 +25,7 @@ pub returns-clause-some : goal.returns-clause-some
 returns-clause-some c = λ xs is.
     let made_for : c.in-Some.rows ≡ c.args.self.now = subst (λ (o : Option Machine). IfSome o (λ m. m ≡ c.args.self.now)) c.in-Some.is c.requires in
     let asked : c.match-self.rows ≡ c.in-Some.rows = elim c.match-self.branch [
-      | in-Filtered+in_ok-marks_few-in-Filtered+else-branch w ↦ w.rows-is ∙ w.marks_few.ensures.rows
-      | in-Partitioned+else-are_few_for w ↦ w.rows-is
-      | in-Whole w ↦ w.rows-is
+      | in-Filtered+in_ok-marks_few+else-branch w ↦ w.rows-is ∙ w.marks_few.ensures.rows
+      | in_default-strategy w ↦ w.rows-is
     ] in
     c.is_match-2.ensures.some xs (subst (λ (m : Machine). IsFor m xs) (sym (asked ∙ made_for)) is)

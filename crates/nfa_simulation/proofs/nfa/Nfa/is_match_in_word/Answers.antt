@@ -1,6 +1,6 @@
 use Rattle.std.proofs.Common.{◌<◌, ◌≤◌, [], inl, inr, false, true≢false, subst, sym, ◌∙◌, refl, arith}
 use Rattle.std.proofs.lemmas.Bool.{cases_lt}
-use Rattle.byte_nfa.specs.Parts.{GoesFrom}
+use Rattle.byte_nfa.specs.inner.Views.{GoesFrom}
 use Rattle.byte_nfa.specs.Runs.{size}
 use Rattle.byte_nfa.specs.Steps.{state, Accepts}
 use Rattle.bit_sets.specs.WordSets.{has_in_word}

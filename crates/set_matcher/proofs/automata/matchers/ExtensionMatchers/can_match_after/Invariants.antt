@@ -1,13 +1,14 @@
-use Rattle.std.proofs.Common.{◌++◌, ◌∷◌, [], ◌+◌, ◌*◌, ◌≤◌, ℕ, List, length, take}
+use Rattle.std.proofs.Common.{◌≡◌, ◌++◌, ◌∷◌, [], ◌+◌, ◌*◌, ◌≤◌, ℕ, List, length, take}
 use Rattle.nfa_simulation.specs.Sets.{sets_capacity}
 use Rattle.glob_nfa.specs.IndexedTokens.{IndexedTokens}
 use Rattle.set_matcher.specs.inner.Automata.{AreFor, SomeExtensionAfter, total_reads}
 use Rattle.set_matcher.proofs.automata.matchers.ExtensionMatchers.can_match_after.Given as goal
 
-abbrev pub invariant-loop-automaton : goal.invariant-loop-automaton
-invariant-loop-automaton l = record {
-  none : (by_slot : ℕ → List IndexedTokens) → AreFor l.self.machines by_slot → SomeExtensionAfter l.automaton-index by_slot (l.text ++ l.byte ∷ []) → ⊥;
+abbrev pub invariant-loop-slot : goal.invariant-loop-slot
+invariant-loop-slot l = record {
+  none : (by_slot : ℕ → List IndexedTokens) → AreFor l.self.machines by_slot → SomeExtensionAfter l.slot by_slot (l.text ++ l.byte ∷ []) → ⊥;
+  caches : l.caches ≡ l.fn.caches;
   kept : sets_capacity l.fn.sets ≤ sets_capacity l.sets;
-  visits : l.visits ≤ l.fn.visits + (length l.text + 2) * total_reads (take l.automaton-index l.self.machines);
+  visits : l.visits ≤ l.fn.visits + (length l.text + 2) * total_reads (take l.slot l.self.machines);
   counted : l.fn.visits ≤ l.visits;
 }
