@@ -1,11 +1,13 @@
 pub mod Automata
 pub mod PathPart
 pub mod Below
+pub mod Builders
 pub mod Given
 pub mod Slots
 pub mod SetMatcher
 pub mod Indexes
 pub mod Matching
+pub mod NoAutomata
 pub mod ExtensionMatchers
 pub mod Tables
 pub mod Shared

@@ -1,4 +1,5 @@
 pub mod Automata
+pub mod Builders
 pub mod GivenGlobs
 pub mod GivenTokens
 pub mod PathPart

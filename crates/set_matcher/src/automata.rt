@@ -1,6 +1,6 @@
 //! Globs that no text decides: automata of their tokens.
 
-ghost use Rattle.std.specs.Prelude.{◌≡◌, ◌+◌, ◌*◌, ◌<◌, ◌≤◌, ◌++◌, ◌∷◌, ◌↔◌, [], ℕ, List, length, Some, true, false, IsTrue, IsOk, OnOk, IfOk, IfSome, cond};
+ghost use Rattle.std.specs.Prelude.{◌≡◌, ◌+◌, ◌*◌, ◌<◌, ◌≤◌, ◌++◌, ◌∷◌, ◌↔◌, [], ℕ, List, length, Some, true, false, IsTrue, IsOk, OnOk, OnErr, IfOk, IfSome, cond};
 ghost use Rattle.std.specs.Str.{bytes_eq};
 ghost use Rattle.byte_nfa.specs.Runs.{size, max_reads};
 ghost use Rattle.bit_sets.specs.Indexes.{has_index, index_capacity};
@@ -13,7 +13,8 @@ ghost use Rattle.glob_syntax.specs.Views.{flats, tokens_of};
 ghost use Rattle.glob_syntax.specs.inner.Weight.{weight};
 ghost use Rattle.set_matcher.specs.inner.Caches.{AreCachesOf, IsCacheAt};
 ghost use Rattle.set_matcher.specs.inner.PathPart.{part_of};
-ghost use Rattle.set_matcher.specs.inner.Automata.{AddsTokens, AreFor, AreForLists, AreFound, AreIdle, IsFoundSet, TokenLists, before_extension, machine_under, max_states, reads_for, slot_of, states_for, total_reads};
+ghost use Rattle.set_matcher.specs.inner.Automata.{AddsTokens, AreFor, AreForLists, AreFound, AreIdle, IsFoundSet, HaveOneCount, TokenLists, automata_or_none, before_extension, machine_under, max_states, no_automata, reads_for, slot_of, states_for, total_reads};
+ghost use Rattle.set_matcher.specs.inner.Builders.{built};
 
 mod below;
 mod matchers;
@@ -198,7 +199,7 @@ impl Automata {
     /// The sets get room for each state of a part that is simulated. Returns an error if memory runs out.
     pub fn is_match(
         &self,
-        path: &Candidate<'_>,
+        path: &[u8],
         sets: &mut StateSets,
         caches: &mut Caches,
         visits: &mut Visits,
@@ -215,7 +216,7 @@ impl Automata {
         if matches_part(
             Part::Path,
             &self.by_path,
-            path.path(),
+            path,
             sets,
             &mut caches.by_path,
             visits,
@@ -225,18 +226,18 @@ impl Automata {
         if matches_part(
             Part::LastComponent,
             &self.by_component,
-            path.path(),
+            path,
             sets,
             &mut caches.by_component,
             visits,
         )? {
             return Ok(true);
         }
-        let slot = self.slot_of(path, visits);
+        let slot = self.slot_of(&Candidate::from_bytes(path), visits);
         matches_by_slot(
             slot,
             self.extensions.automaton_at(slot),
-            path.path(),
+            path,
             sets,
             &mut caches.by_slot,
             visits,
@@ -401,8 +402,16 @@ fn before_extension(path: &[u8]) -> &[u8]
     &path[..end]
 }
 
-/// Makes [`Automata`].
+/// Makes [`Automata`] if some glob needs one. Until then it has no builders, so that little is moved for a set that needs none.
 pub struct AutomataBuilder {
+    index_count: usize,
+    /// They are made for the first glob that needs an automaton.
+    builders: Option<Box<Builders>>,
+}
+
+/// A builder for each part of a path that automata are run on.
+#[derive(Drop)]
+struct Builders {
     by_path: Builder,
     by_component: Builder,
     extensions: ExtensionMatchersBuilder,
@@ -412,43 +421,31 @@ impl Drop for AutomataBuilder {
     // One call wherever a value is dropped, which keeps proofs short.
     fn drop(self) {
         let AutomataBuilder {
-            by_path: _,
-            by_component: _,
-            extensions: _,
+            index_count: _,
+            builders: _,
         } = self;
     }
 }
 
 impl Model for AutomataBuilder {
-    ghost use Rattle.set_matcher.specs.inner.Automata.{AutomataParts, HaveOneCount};
+    ghost use Rattle.set_matcher.specs.inner.Automata.{AutomataParts};
+    ghost use Rattle.set_matcher.specs.inner.Builders.{HaveCount, built_or_none};
 
     ghost Value = { AutomataParts };
 
-    ghost view = { λ a. record {
-      by_path = a.by_path;
-      by_component = a.by_component;
-      extensions = a.extensions;
-    } };
+    ghost view = { λ a. built_or_none a.index_count a.builders };
 
-    ghost invariant = { λ a. HaveOneCount a.by_path a.by_component a.extensions };
+    ghost invariant = { λ a. HaveCount a.index_count (built_or_none a.index_count a.builders) };
 }
 
 impl AutomataBuilder {
     /// Returns a builder that nothing was added to. Indexes have to be below `index_count`. It allocates nothing.
-    pub fn new(alloc: Global, index_count: usize) -> AutomataBuilder
-        ensures path { IsFor result.by_path [] }
-        ensures component { IsFor result.by_component [] }
-        ensures slots { result.extensions.slots ≡ [] }
-        ensures machines { result.extensions.machines ≡ [] }
-        ensures none { max_reads result.extensions.none ≡ 0 }
-        ensures count { result.extensions.index_count ≡ index_count }
-        ensures path_reads { max_reads result.by_path ≡ 0 }
-        ensures component_reads { max_reads result.by_component ≡ 0 }
+    pub fn new(index_count: usize) -> AutomataBuilder
+        ensures { result ≡ no_automata index_count }
     {
         AutomataBuilder {
-            by_path: new_builder(alloc, index_count),
-            by_component: new_builder(alloc, index_count),
-            extensions: ExtensionMatchersBuilder::new(alloc, index_count),
+            index_count,
+            builders: None,
         }
     }
 
@@ -456,7 +453,20 @@ impl AutomataBuilder {
     pub fn index_count(&self) -> usize
         ensures { result ≡ self.now.extensions.index_count }
     {
-        self.extensions.index_count()
+        self.index_count
+    }
+
+    /// Takes the builders out, which are made if there are none. Returns an error if memory runs out.
+    fn take(&mut self, alloc: Global) -> Result<Box<Builders>, AllocError>
+        ensures taken { IfOk result (λ b. built b.value ≡ self.old) }
+        ensures counts { IfOk result (λ b. HaveOneCount b.value.by_path b.value.by_component b.value.extensions) }
+        ensures kept { OnErr result (self.new ≡ self.old) }
+        ensures count { self.new.extensions.index_count ≡ self.old.extensions.index_count }
+    {
+        match self.builders.take() {
+            Some(builders) => Ok(builders),
+            None => Ok(Box::new(alloc, Builders::new(alloc, self.index_count))?),
+        }
     }
 
     /// Adds tokens that the whole path has to match. It takes time and memory linear in the tokens. Returns an error if memory
@@ -475,7 +485,10 @@ impl AutomataBuilder {
         ensures component { self.new.by_component ≡ self.old.by_component }
         ensures extensions { self.new.extensions ≡ self.old.extensions }
     {
-        add_tokens(alloc, &mut self.by_path, options, tokens, index)
+        let mut builders = self.take(alloc)?;
+        let added = add_tokens(alloc, &mut builders.by_path, options, tokens, index);
+        self.builders = Some(builders);
+        added
     }
 
     /// Adds tokens that the last component of a path has to match. It takes time and memory linear in the tokens. Returns an
@@ -494,7 +507,10 @@ impl AutomataBuilder {
         ensures path { self.new.by_path ≡ self.old.by_path }
         ensures extensions { self.new.extensions ≡ self.old.extensions }
     {
-        add_tokens(alloc, &mut self.by_component, options, tokens, index)
+        let mut builders = self.take(alloc)?;
+        let added = add_tokens(alloc, &mut builders.by_component, options, tokens, index);
+        self.builders = Some(builders);
+        added
     }
 
     /// Adds tokens that a path has to match whose last component has an extension. It takes time and memory linear in the
@@ -516,16 +532,56 @@ impl AutomataBuilder {
         ensures path { self.new.by_path ≡ self.old.by_path }
         ensures component { self.new.by_component ≡ self.old.by_component }
     {
-        self.extensions
-            .add_tokens(alloc, key, options, tokens, index)
+        let mut builders = self.take(alloc)?;
+        let added = builders
+            .extensions
+            .add_tokens(alloc, key, options, tokens, index);
+        self.builders = Some(builders);
+        added
+    }
+
+    /// Returns what was added, or `None` if nothing was. The tables of deterministic automata take at most `dfa_size_limit` bytes.
+    /// Returns an error if memory runs out.
+    pub fn finish(
+        self,
+        alloc: Global,
+        dfa_size_limit: usize,
+    ) -> Result<Option<Box<Automata>>, AllocError>
+        ensures { IfOk result (λ automata. automata_or_none self.extensions.index_count automata ≡ self) }
+    {
+        let AutomataBuilder {
+            index_count: _,
+            builders,
+        } = self;
+        match builders {
+            Some(builders) => {
+                let automata = Box::into_inner(builders).finish(alloc, dfa_size_limit)?;
+                Ok(Some(Box::new(alloc, automata)?))
+            }
+            None => Ok(None),
+        }
+    }
+}
+
+impl Builders {
+    /// Returns builders that nothing was added to.
+    fn new(alloc: Global, index_count: usize) -> Builders
+        ensures { built result ≡ no_automata index_count }
+    {
+        Builders {
+            by_path: new_builder(alloc, index_count),
+            by_component: new_builder(alloc, index_count),
+            extensions: ExtensionMatchersBuilder::new(alloc, index_count),
+        }
     }
 
     /// Returns what was added. The tables of deterministic automata take at most `dfa_size_limit` bytes. Returns an error if
     /// memory runs out.
-    pub fn finish(self, alloc: Global, dfa_size_limit: usize) -> Result<Automata, AllocError>
-        ensures { IfOk result (λ automata. automata ≡ self) }
+    fn finish(self, alloc: Global, dfa_size_limit: usize) -> Result<Automata, AllocError>
+        requires { HaveOneCount self.by_path self.by_component self.extensions }
+        ensures { IfOk result (λ automata. automata ≡ built self) }
     {
-        let AutomataBuilder {
+        let Builders {
             by_path,
             by_component,
             extensions,

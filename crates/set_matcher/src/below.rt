@@ -36,7 +36,11 @@ impl SetMatcher {
         if self.keys.can_match_below(folder, visits) {
             return Ok(true);
         }
-        self.automata
-            .can_match_below(folder, &mut scratch.sets, caches, visits)
+        match &self.automata {
+            Some(automata) => {
+                automata.can_match_below(folder, &mut scratch.sets, caches, visits)
+            }
+            None => Ok(false),
+        }
     }
 }

@@ -24,7 +24,10 @@ pub struct SetMatcher {
     /// How many globs there are.
     pub(crate) len: usize,
     pub(crate) keys: LiteralIndex,
-    pub(crate) automata: Automata,
+    /// The number that each index is below.
+    pub(crate) index_count: usize,
+    /// Automata for the globs that no key decides, if there are such globs. They are in a box, since most sets have none.
+    pub(crate) automata: Option<Box<Automata>>,
 }
 
 impl Drop for SetMatcher {
@@ -34,6 +37,7 @@ impl Drop for SetMatcher {
             globs: _,
             len: _,
             keys: _,
+            index_count: _,
             automata: _,
         } = self;
     }
@@ -41,19 +45,19 @@ impl Drop for SetMatcher {
 
 impl Model for SetMatcher {
     ghost use Rattle.set_matcher.specs.SetMatcherValue.{SetMatcherValue};
-    ghost use Rattle.set_matcher.specs.inner.Automata.{max_states};
-    ghost use Rattle.set_matcher.specs.inner.SetMatcher.{IsMatcherOf};
+    ghost use Rattle.set_matcher.specs.inner.Automata.{automata_or_none, max_states};
+    ghost use Rattle.set_matcher.specs.inner.SetMatcher.{KeepsMatcherOf};
 
     ghost Value = { SetMatcherValue };
 
     ghost view = { λ g. record {
       given = g.globs;
-      index_count = g.automata.extensions.index_count;
-      states = max_states g.automata;
-      automata = g.automata;
+      index_count = g.index_count;
+      states = max_states (automata_or_none g.index_count g.automata);
+      automata = automata_or_none g.index_count g.automata;
     } };
 
-    ghost invariant = { λ g. IsMatcherOf g.globs g.len g.keys g.automata };
+    ghost invariant = { λ g. KeepsMatcherOf g.globs g.len g.keys g.index_count g.automata };
 }
 
 /// Makes [`SetMatcher`], glob by glob. Contracts see it as they see the matcher of the globs that were added.
@@ -104,7 +108,7 @@ impl SetMatcherBuilder {
             globs: GivenGlobs::new(),
             len: 0,
             keys: LiteralIndexBuilder::new(alloc),
-            automata: AutomataBuilder::new(alloc, count),
+            automata: AutomataBuilder::new(count),
         }
     }
 
@@ -139,7 +143,7 @@ impl SetMatcherBuilder {
             self.globs = GivenGlobs::new();
             self.len = 0;
             self.keys = LiteralIndexBuilder::new(alloc);
-            self.automata = AutomataBuilder::new(alloc, count);
+            self.automata = AutomataBuilder::new(count);
             return Err(error);
         }
         self.globs.push(options, tokens);
@@ -162,6 +166,7 @@ impl SetMatcherBuilder {
             globs,
             len,
             keys: keys.finish(alloc)?,
+            index_count: automata.index_count(),
             automata: automata.finish(alloc, dfa_size_limit)?,
         })
     }

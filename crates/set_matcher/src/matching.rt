@@ -2,6 +2,7 @@
 
 ghost use Rattle.std.specs.Prelude.{◌≡◌, ◌≢◌, ◌+◌, ◌≤◌, ◌↔◌, [], ℕ, IfOk, IsOk, OnOk, OnErr, IsTrue, length, vec_capacity};
 ghost use Rattle.bit_sets.specs.Indexes.{has_index, index_capacity};
+ghost use Rattle.bit_sets.specs.Texts.{AllBytes};
 ghost use Rattle.nfa_simulation.specs.Sets.{sets_capacity};
 ghost use Rattle.glob_scratch.specs.ScratchValue.{HasCapacity};
 ghost use Rattle.set_matcher.specs.Globs.{is_reported_at, reported_indexes, load, max_visits};
@@ -30,19 +31,28 @@ impl SetMatcher {
     pub fn max_states(&self) -> usize
         ensures { result ≡ self.now.states }
     {
-        self.automata.max_states()
+        match &self.automata {
+            Some(automata) => automata.max_states(),
+            None => 0,
+        }
     }
 
     /// Returns how many bytes the tables of deterministic automata take. It takes time linear in the number of these.
     pub fn table_bytes(&self) -> usize {
-        self.automata.table_bytes()
+        match &self.automata {
+            Some(automata) => automata.table_bytes(),
+            None => 0,
+        }
     }
 
     /// Returns caches with no rows for this matcher. All memory that they need is taken here. Returns an error if memory runs out.
     pub fn new_caches(&self, alloc: Global) -> Result<Caches, AllocError>
         ensures { IfOk result (λ caches. AreCachesOf self.now.automata caches) }
     {
-        self.automata.new_caches(alloc)
+        match &self.automata {
+            Some(automata) => automata.new_caches(alloc),
+            None => Ok(Caches::none()),
+        }
     }
 
     /// Replaces the vector's items by the indexes, ascending, of the globs that are not excluded and match the path.
@@ -100,8 +110,11 @@ impl SetMatcher {
         if self.keys.is_match(path, visits) {
             return Ok(true);
         }
-        self.automata
-            .is_match(path, &mut scratch.sets, caches, visits)
+        let text = with_bytes(path.path());
+        match &self.automata {
+            Some(automata) => automata.is_match(text, &mut scratch.sets, caches, visits),
+            None => Ok(false),
+        }
     }
 
     /// Returns whether every glob matches the path and none is excluded.
@@ -124,13 +137,13 @@ impl SetMatcher {
         ensures visits { visits.new ≤ visits.old + max_visits (matcher_globs self.now) path.now }
         ensures counted { visits.old ≤ visits.new }
     {
-        let marks = &mut scratch.marks;
-        if self
-            .automata
-            .find(path.path(), &mut scratch.sets, marks, caches, visits)?
-        {
-            self.keys.find(path, marks, visits);
-            return Ok(marks.has_all_below(self.len()));
+        let text = with_bytes(path.path());
+        if let Some(automata) = &self.automata {
+            let marks = &mut scratch.marks;
+            if automata.find(text, &mut scratch.sets, marks, caches, visits)? {
+                self.keys.find(path, marks, visits);
+                return Ok(marks.has_all_below(self.len()));
+            }
         }
         Ok(self.keys.count_found(path, visits) == Some(self.len()))
     }
@@ -154,9 +167,23 @@ impl SetMatcher {
         ensures visits { visits.new ≤ visits.old + max_visits (matcher_globs self.now) path.now }
         ensures counted { visits.old ≤ visits.new }
     {
-        self.automata
-            .mark(path.path(), sets, marks, caches, visits)?;
+        let text = with_bytes(path.path());
+        match &self.automata {
+            Some(automata) => automata.mark(text, sets, marks, caches, visits)?,
+            None => {
+                marks.clear();
+                marks.reserve(self.index_count)?;
+            }
+        }
         self.keys.find(path, marks, visits);
         Ok(())
     }
+}
+
+/// Returns the same text. Contracts see that it has bytes, which they do not see of a [`Candidate`].
+fn with_bytes(text: &[u8]) -> &[u8]
+    ensures same { result.now ≡ text.now }
+    ensures bytes { AllBytes result.now }
+{
+    text
 }

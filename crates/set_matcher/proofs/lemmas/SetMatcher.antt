@@ -1,7 +1,6 @@
 -- The matcher of the globs of a list, glob by glob.
-use Rattle.std.proofs.Common.{◌≡◌, ℕ, zero, suc, ◌+◌, ◌≤◌, ◌⊎◌, inl, inr, Bool, true, false, cond, List, [], ◌∷◌, ◌++◌, Result, Ok, Err, length, get_or, IsTrue, refl, ap, sym, subst, ◌∙◌, arith}
+use Rattle.std.proofs.Common.{◌≡◌, ℕ, zero, suc, ◌+◌, ◌≤◌, ◌⊎◌, inl, inr, Bool, true, false, cond, List, [], ◌∷◌, ◌++◌, Result, Ok, Err, length, IsTrue, refl, ap, sym, subst, ◌∙◌, arith}
 use Rattle.std.specs.Prelude.{◌↔◌, Contains, OnOk}
-use Rattle.std.specs.Option.{option_map_or}
 use Rattle.std.specs.Str.{bytes_eq}
 use Rattle.std.specs.Cmp.Lexicographic.{bytes_decides}
 use Rattle.std.proofs.Math.Logic.{⊎_elim}
@@ -15,7 +14,7 @@ use Rattle.bit_sets.specs.Texts.{AllBytes}
 use Rattle.glob_meaning.specs.After.{MeanAfter}
 use Rattle.glob_meaning.specs.TokensMatch.{tokens_match, is_prefix}
 use Rattle.glob_nfa.specs.IndexedTokens.{IndexedTokens, SomeMatches, IsFor, indexed}
-use Rattle.glob_nfa.proofs.lemmas.IndexedTokens.{some_push}
+use Rattle.glob_nfa.proofs.lemmas.IndexedTokens.{none_for, some_push}
 use Rattle.glob_path.specs.Below.{folder_start, path_below}
 use Rattle.glob_path.specs.PathParts.{last_component, component_extension}
 use Rattle.glob_strategy.specs.Below.{AreReportedBelow}
@@ -24,10 +23,9 @@ use Rattle.glob_strategy.specs.Strategies.{after_prefix, before_ending}
 use Rattle.glob_strategy.proofs.lemmas.BeforeEnding.{weight_before}
 use Rattle.set_matcher.specs.Below.{SomeReportedBelow, load_below, reads_below}
 use Rattle.set_matcher.specs.Globs.{TokenGlob, is_reported, is_reported_at, reads, load}
-use Rattle.key_table.specs.Entries.{indexes_under}
 use Rattle.literal_index.specs.Below.{MatchesBelow}
 use Rattle.literal_index.specs.LiteralIndex.{KeyParts, MoreIn, keys_found}
-use Rattle.set_matcher.specs.inner.Automata.{AutomataParts, ExtensionParts, TokenLists, AreForLists, AreFor, AreFound, AreFoundBelow, AddsTokens, before_extension, first, folder_reads, machine_under, reads_for, tokens_under, total_reads}
+use Rattle.set_matcher.specs.inner.Automata.{AutomataParts, ExtensionParts, TokenLists, AreForLists, AreFor, AreFound, AreFoundBelow, AddsTokens, before_extension, folder_reads, machine_under, no_automata, no_machine, reads_for, tokens_under, total_reads}
 use Rattle.set_matcher.specs.inner.SetMatcher.{SetMatcherParts, IsSetMatcherOf, set_matcher_parts, listed_count}
 use Rattle.set_matcher.proofs.lemmas.Automata.{extension_cut}
 use Rattle.set_matcher.proofs.lemmas.Matching.{some_listed}
@@ -335,28 +333,25 @@ none_listed path (suc k) h = absurd (cc)
 none_below : (folder : List ℕ) → SomeReportedBelow [] folder → ⊥
 none_below folder (rest, bytes, some) = let (k, at) = (some_listed [] (path_below folder rest)).0 some in none_listed (path_below folder rest) k at
 
-pub no_globs : (keys : KeyParts) (a : AutomataParts) → ((path : List ℕ) → keys_found keys path ≡ []) → ((folder : List ℕ) → MatchesBelow keys folder → ⊥) → IsFor a.by_path [] → IsFor a.by_component [] → a.extensions.slots ≡ [] → a.extensions.machines ≡ []
-    → max_reads a.by_path ≡ 0 → max_reads a.by_component ≡ 0 → max_reads a.extensions.none ≡ 0 → IsSetMatcherOf [] (set_matcher_parts keys a)
-no_globs keys a nil no_folder path component slots machines path_reads component_reads none_reads = record {
+pub no_globs : (keys : KeyParts) (n : ℕ) → ((path : List ℕ) → keys_found keys path ≡ []) → ((folder : List ℕ) → MatchesBelow keys folder → ⊥) → IsSetMatcherOf [] (set_matcher_parts keys (no_automata n))
+no_globs keys n nil no_folder = record {
   tokens = record { by_path = []; by_component = []; by_slot = λ s. [] };
   are_for = record {
-    path = path;
-    component = component;
-    matchers = subst (λ ms. AreFor ms (λ s. [])) (sym machines) (λ s d lt. absurd (omega (arith, lt)));
+    path = none_for (no_machine n) refl;
+    component = none_for (no_machine n) refl;
+    matchers = λ s d lt. absurd (omega (arith, lt));
   };
   same = λ path k. (
     λ h. absurd (⊎_elim {C = ⊥} (λ key. not_in_none (keys_found keys path) k (nil path) key)
-        (λ some. ⊎_elim {C = ⊥} (λ none. none) (λ later. ⊎_elim {C = ⊥} (λ none. none)
-        (λ under. subst (λ es. SomeMatches (tokens_under (λ s. []) es (component_extension path)) (before_extension path) k) slots under) later) some) h),
+        (λ some. ⊎_elim {C = ⊥} (λ none. none) (λ later. ⊎_elim {C = ⊥} (λ none. none) (λ none. none) later) some) h),
     λ h. absurd (none_listed path k h),
   );
   once = λ path. let none = ap length (nil path) in omega (arith, none);
-  reads = λ path. let e = ap (λ es. option_map_or (λ s. get_or a.extensions.machines s a.extensions.none) (first (indexes_under es (component_extension path))) a.extensions.none) slots in
-      let last = ap max_reads e in omega (arith, path_reads, component_reads, none_reads, last);
+  reads = λ path. omega arith;
   below = λ folder bytes. (
     λ h. absurd (⊎_elim {C = ⊥} (λ key. no_folder folder key)
         (λ some. ⊎_elim {C = ⊥} (λ none. none) (λ later. ⊎_elim {C = ⊥} (λ none. none) (λ slot. slot.2) later) some) h),
     λ h. absurd (none_below folder h),
   );
-  few_below = let all = ap total_reads machines in omega (arith, path_reads, all);
+  few_below = omega arith;
 }

@@ -1,5 +1,6 @@
 -- Automata of tokens, for the globs that no key decides.
 use Rattle.std.specs.Prelude.{◌≡◌, ◌≢◌, ◌⊎◌, ◌↔◌, ℕ, ◌+◌, ◌-◌, ◌<◌, ◌≤◌, max, Bool, IsTrue, List, [], ◌∷◌, ◌++◌, Option, Some, length, get_or, slice_get, sum_by, take}
+use Rattle.std.specs.Global.{Box}
 use Rattle.std.specs.Option.{option_map_or}
 use Rattle.byte_nfa.specs.Live.{MatchesAfter}
 use Rattle.byte_nfa.specs.Steps.{HasNumber, Machine}
@@ -157,3 +158,22 @@ pub record IsFoundSet (a : AutomataParts) (path : List ℕ) (found : IndexSet) :
   pub size : 1 ≤ states_for a path
   pub room : a.extensions.index_count ≤ index_capacity found
   pub same : (t : TokenLists) → AreForLists a t → (k : ℕ) → IsTrue (has_index found k) ↔ AreFound a.extensions.slots t path k
+
+-- ---- where no glob needs an automaton
+
+-- an automaton without states
+abbrev pub no_machine : ℕ → Machine
+no_machine n = record { states = []; starts = []; index_count = n }
+
+-- Where no glob needs an automaton, none is made, and contracts see these: they have no states, and no extension has a slot. The
+-- number that each index is below is n.
+abbrev pub no_automata : ℕ → AutomataParts
+no_automata n = record {
+  by_path = no_machine n;
+  by_component = no_machine n;
+  extensions = record { slots = []; machines = []; none = no_machine n; index_count = n };
+}
+
+-- the automata, or those without states if none are made
+abbrev pub automata_or_none : ℕ → Option (Box AutomataParts) → AutomataParts
+automata_or_none n automata = option_map_or (λ b. b.value) automata (no_automata n)

@@ -1,11 +1,12 @@
 -- What is stored to tell which globs of a list match a path.
-use Rattle.std.specs.Prelude.{◌≡◌, ◌↔◌, ◌⊎◌, ℕ, ◌≤◌, List, Contains, cond, length, sum_by, IsTrue}
+use Rattle.std.specs.Prelude.{◌≡◌, ◌↔◌, ◌⊎◌, ℕ, ◌≤◌, List, Contains, Option, cond, length, sum_by, IsTrue}
+use Rattle.std.specs.Global.{Box}
 use Rattle.set_matcher.specs.Globs.{FlatGlob, TokenGlob, is_reported, is_reported_at, load, token_globs}
 use Rattle.bit_sets.specs.Texts.{AllBytes}
 use Rattle.set_matcher.specs.Below.{SomeReportedBelow, load_below}
 use Rattle.literal_index.specs.Below.{MatchesBelow}
 use Rattle.literal_index.specs.LiteralIndex.{KeyParts, keys_found}
-use Rattle.set_matcher.specs.inner.Automata.{AutomataParts, TokenLists, AreForLists, AreFound, AreFoundBelow, folder_reads, reads_for}
+use Rattle.set_matcher.specs.inner.Automata.{AutomataParts, TokenLists, AreForLists, AreFound, AreFoundBelow, automata_or_none, folder_reads, reads_for}
 
 -- the keys of globs, and automata for the globs without one
 pub record SetMatcherParts : Type 0 where
@@ -36,3 +37,8 @@ pub record IsMatcherOf (given : List FlatGlob) (len : ℕ) (keys : KeyParts) (au
   pub matcher : IsSetMatcherOf (token_globs given) (set_matcher_parts keys automata)
   pub counted : len ≡ length given
   pub indexed : len ≤ automata.extensions.index_count
+
+-- The same of a matcher, which has automata only if some glob needs one. The number that each index is below is n.
+pub record KeepsMatcherOf (given : List FlatGlob) (len : ℕ) (keys : KeyParts) (n : ℕ) (automata : Option (Box AutomataParts)) : Type 0 where
+  pub of_globs : IsMatcherOf given len keys (automata_or_none n automata)
+  pub count : (automata_or_none n automata).extensions.index_count ≡ n

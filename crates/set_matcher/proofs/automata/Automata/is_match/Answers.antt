@@ -3,8 +3,8 @@ use Rattle.std.specs.Prelude.{◌↔◌, IsTrue, List}
 use Rattle.std.proofs.lemmas.Result.{IfOk-weaker}
 use Rattle.byte_nfa.specs.Runs.{max_reads}
 use Rattle.glob_nfa.specs.IndexedTokens.{IndexedTokens, SomeMatches, IsFor}
-use Rattle.glob_path.specs.PathParts.{last_component, component_extension}
-use Rattle.set_matcher.specs.inner.Automata.{AutomataParts, TokenLists, AreForLists, AreFound, before_extension, machine_under, tokens_under}
+use Rattle.glob_path.specs.PathParts.{component_extension}
+use Rattle.set_matcher.specs.inner.Automata.{AutomataParts, TokenLists, AreForLists, AreFound, before_extension, machine_under, slot_of, tokens_under}
 use Rattle.set_matcher.proofs.lemmas.Automata.{last_run}
 use Rattle.set_matcher.proofs.lemmas.Slots.{cache_by_slot, machine_by_slot, tokens_by_slot}
 use Rattle.set_matcher.proofs.lemmas.Visits.{three_runs, two_runs}
@@ -14,58 +14,60 @@ pub returns-then-branch-clause-some : goal.returns-then-branch-clause-some
 returns-then-branch-clause-some c = λ t are.
     let by_path = subst (λ (a : AutomataParts). IsFor a.by_path t.by_path) (sym c.self.view_is) are.path in
     let some = (c.in_ok-matches_part.ensures.some t.by_path by_path).0 c.if-branch.true in
-    (λ yes. (some.0, inl (subst (λ text. SomeMatches t.by_path text some.0) c.path.ensures some.1)), λ found. refl)
+    (λ yes. (some.0, inl some.1), λ found. refl)
 
 pub returns-then-branch-2-clause-some : goal.returns-then-branch-2-clause-some
 returns-then-branch-2-clause-some c = λ t are.
     let by_component = subst (λ (a : AutomataParts). IsFor a.by_component t.by_component) (sym c.self.view_is) are.component in
     let some = (c.in_ok-matches_part-2.ensures.some t.by_component by_component).0 c.if-branch-2.true in
-    (λ yes. (some.0, inr (inl (subst (λ text. SomeMatches t.by_component (last_component text) some.0) c.path-2.ensures some.1))), λ found. refl)
+    (λ yes. (some.0, inr (inl some.1)), λ found. refl)
 
 pub returns-clause-some : goal.returns-clause-some
 returns-clause-some c =
     let path = c.args.path.now in
     let automaton = c.automaton_at.result.now in
-    IfOk-weaker c.matches_by_slot.result (λ yes. (xs : List IndexedTokens) → IsFor automaton xs → IsTrue yes ↔ ((k : ℕ) × SomeMatches xs (before_extension c.path-3.result.now) k))
+    let slot = c.slot_of-slot.ensures.slot ∙ ap (λ p. slot_of c.args.self.now.extensions.slots (component_extension p)) c.from_bytes.ensures in
+    IfOk-weaker c.matches_by_slot.result (λ yes. (xs : List IndexedTokens) → IsFor automaton xs → IsTrue yes ↔ ((k : ℕ) × SomeMatches xs (before_extension path) k))
     (λ yes. (t : TokenLists) → AreForLists c.args.self.now t → IsTrue yes ↔ ((k : ℕ) × AreFound c.args.self.now.extensions.slots t path k))
     (λ yes tells t are.
     let by_path = subst (λ (a : AutomataParts). IsFor a.by_path t.by_path) (sym c.self.view_is) are.path in
     let by_component = subst (λ (a : AutomataParts). IsFor a.by_component t.by_component) (sym c.self.view_is) are.component in
     let extension_tokens = tokens_under t.by_slot c.args.self.now.extensions.slots (component_extension path) in
     last_run
-    (λ k some. let found = (c.in_ok-matches_part.ensures.some t.by_path by_path).1 (k, subst (λ text. SomeMatches t.by_path text k) (sym c.path.ensures) some) in true≢false (sym found ∙ c.if-branch.false))
+    (λ k some. let found = (c.in_ok-matches_part.ensures.some t.by_path by_path).1 (k, some) in true≢false (sym found ∙ c.if-branch.false))
     (λ k some.
-    let found = (c.in_ok-matches_part-2.ensures.some t.by_component by_component).1 (k, subst (λ text. SomeMatches t.by_component (last_component text) k) (sym c.path-2.ensures) some) in
+    let found = (c.in_ok-matches_part-2.ensures.some t.by_component by_component).1 (k, some) in
     true≢false (sym found ∙ c.if-branch-2.false))
-    (subst (λ text. IsTrue yes ↔ ((k : ℕ) × SomeMatches extension_tokens (before_extension text) k)) c.path-3.ensures (tells extension_tokens (tokens_by_slot c.automaton_at.result.now (component_extension path) t.by_slot c.self.view_is c.automaton_at.ensures.tokens c.slot_of-slot.ensures.slot are.matchers))))
+    (tells extension_tokens (tokens_by_slot c.automaton_at.result.now (component_extension path) t.by_slot c.self.view_is c.automaton_at.ensures.tokens slot are.matchers)))
     c.matches_by_slot.ensures.some
 
 pub returns-in_err-matches_part-2-clause-visits : goal.returns-in_err-matches_part-2-clause-visits
 returns-in_err-matches_part-2-clause-visits c =
     let a = c.args.self.now in
     let path = c.args.path.now in
-    two_runs (length path) (length c.path.result.now) (length c.path-2.result.now) (max_reads a.by_path) (max_reads c.self.inside.by_path) (max_reads a.by_component)
+    two_runs (length path) (length path) (length path) (max_reads a.by_path) (max_reads c.self.inside.by_path) (max_reads a.by_component)
     (max_reads (machine_under a.extensions (component_extension path))) c.args.visits.now c.matches_part.new.visits c.matches_part-2.new.visits
-    (ap length c.path.ensures) (ap length c.path-2.ensures) (ap (λ (p : AutomataParts). max_reads p.by_path) c.self.view_is) c.matches_part.ensures.visits (subst (λ (p : AutomataParts). c.matches_part-2.new.visits ≤ c.matches_part.new.visits + (length c.path-2.result.now + 1) * max_reads p.by_component) c.self.view_is c.matches_part-2.ensures.visits)
+    refl refl (ap (λ (p : AutomataParts). max_reads p.by_path) c.self.view_is) c.matches_part.ensures.visits (subst (λ (p : AutomataParts). c.matches_part-2.new.visits ≤ c.matches_part.new.visits + (length path + 1) * max_reads p.by_component) c.self.view_is c.matches_part-2.ensures.visits)
 
 pub returns-then-branch-2-clause-visits : goal.returns-then-branch-2-clause-visits
 returns-then-branch-2-clause-visits c =
     let a = c.args.self.now in
     let path = c.args.path.now in
-    two_runs (length path) (length c.path.result.now) (length c.path-2.result.now) (max_reads a.by_path) (max_reads c.self.inside.by_path) (max_reads a.by_component)
+    two_runs (length path) (length path) (length path) (max_reads a.by_path) (max_reads c.self.inside.by_path) (max_reads a.by_component)
     (max_reads (machine_under a.extensions (component_extension path))) c.args.visits.now c.matches_part.new.visits c.matches_part-2.new.visits
-    (ap length c.path.ensures) (ap length c.path-2.ensures) (ap (λ (p : AutomataParts). max_reads p.by_path) c.self.view_is) c.matches_part.ensures.visits (subst (λ (p : AutomataParts). c.matches_part-2.new.visits ≤ c.matches_part.new.visits + (length c.path-2.result.now + 1) * max_reads p.by_component) c.self.view_is c.matches_part-2.ensures.visits)
+    refl refl (ap (λ (p : AutomataParts). max_reads p.by_path) c.self.view_is) c.matches_part.ensures.visits (subst (λ (p : AutomataParts). c.matches_part-2.new.visits ≤ c.matches_part.new.visits + (length path + 1) * max_reads p.by_component) c.self.view_is c.matches_part-2.ensures.visits)
 
 pub returns-clause-visits : goal.returns-clause-visits
 returns-clause-visits c =
     let a = c.args.self.now in
     let path = c.args.path.now in
-    three_runs (length path) (length c.path.result.now) (length c.path-2.result.now) (length c.path-3.result.now) (max_reads a.by_path) (max_reads c.self.inside.by_path) (max_reads a.by_component)
+    let slot = c.slot_of-slot.ensures.slot ∙ ap (λ p. slot_of c.args.self.now.extensions.slots (component_extension p)) c.from_bytes.ensures in
+    three_runs (length path) (length path) (length path) (length path) (max_reads a.by_path) (max_reads c.self.inside.by_path) (max_reads a.by_component)
     (max_reads (machine_under a.extensions (component_extension path))) (max_reads c.automaton_at.result.now) c.args.visits.now c.matches_part.new.visits c.matches_part-2.new.visits
     c.slot_of-slot.new.visits c.matches_by_slot.new.visits
-    (ap length c.path.ensures) (ap length c.path-2.ensures) (ap length c.path-3.ensures) (ap (λ (p : AutomataParts). max_reads p.by_path) c.self.view_is)
-    (ap max_reads (machine_by_slot (component_extension path) c.self.view_is c.automaton_at.ensures.automaton c.slot_of-slot.ensures.slot))
-    c.matches_part.ensures.visits (subst (λ (p : AutomataParts). c.matches_part-2.new.visits ≤ c.matches_part.new.visits + (length c.path-2.result.now + 1) * max_reads p.by_component) c.self.view_is c.matches_part-2.ensures.visits) c.slot_of-slot.ensures.visits c.matches_by_slot.ensures.visits
+    refl refl refl (ap (λ (p : AutomataParts). max_reads p.by_path) c.self.view_is)
+    (ap max_reads (machine_by_slot (component_extension path) c.self.view_is c.automaton_at.ensures.automaton slot))
+    c.matches_part.ensures.visits (subst (λ (p : AutomataParts). c.matches_part-2.new.visits ≤ c.matches_part.new.visits + (length path + 1) * max_reads p.by_component) c.self.view_is c.matches_part-2.ensures.visits) c.slot_of-slot.ensures.visits c.matches_by_slot.ensures.visits
 
 pub matches_by_slot-requires : goal.matches_by_slot-requires
 matches_by_slot-requires c = cache_by_slot c.args.caches.now.by_slot c.self.view_is c.automaton_at.ensures.automaton c.requires.slots

@@ -1,5 +1,7 @@
-use Rattle.std.proofs.Common.{length, ap, arith}
+use Rattle.std.proofs.Common.{length, ap, arith, sym, subst}
 use Rattle.set_matcher.specs.SetMatcherValue.{SetMatcherValue, matcher_globs}
+use Rattle.set_matcher.specs.inner.Automata.{no_automata}
+use Rattle.set_matcher.specs.inner.SetMatcher.{IsMatcherOf}
 use Rattle.set_matcher.proofs.lemmas.Given.{globs_count, no_matcher}
 use Rattle.set_matcher.proofs.lemmas.SetMatcher.{no_globs}
 use Rattle.set_matcher.proofs.matcher.SetMatcherBuilder.add.Goals as goal
@@ -13,6 +15,6 @@ overflow_add-self c =
 pub invariant_of-self : goal.invariant_of-self
 invariant_of-self c =
     let keys = c.new-in-Err in
-    let automata = c.new-in-Err-2 in
-    no_matcher c.new.result keys.result automata.result c.new.ensures
-    (no_globs keys.result automata.result keys.ensures.found keys.ensures.below automata.ensures.path automata.ensures.component automata.ensures.slots automata.ensures.machines automata.ensures.path_reads automata.ensures.component_reads automata.ensures.none)
+    let n = c.index_count-count.result in
+    subst (λ a. IsMatcherOf c.new.result 0 keys.result a) (sym c.new-in-Err-2.ensures)
+    (no_matcher c.new.result keys.result (no_automata n) c.new.ensures (no_globs keys.result n keys.ensures.found keys.ensures.below))
