@@ -94,13 +94,6 @@ impl Filter {
         })
     }
 
-    /// Returns the number of entries.
-    pub fn len(&self) -> usize
-        ensures { result ≡ length self.now }
-    {
-        self.links.len()
-    }
-
     /// Adds a part under a key, after the entries that there are.
     ///
     /// Returns an error if memory runs out; the filter then has the entries that it had.

@@ -51,18 +51,21 @@ impl Model for StartFilter {
     ghost invariant = { λ f. AreSound f.filter f.others.items f.count };
 }
 
-/// With fewer entries than this a pass might be more visits than [`StartFilter::mark`] promises.
-const FEWEST_ENTRIES: usize = 4;
+/// With fewer starts than this a pass might be more visits than [`StartFilter::mark`] promises.
+const FEWEST_STARTS: usize = 4;
 
 impl StartFilter {
-    /// Returns a filter for the starts of an automaton, or `None` if fewer than four of them have a window, so that there is
-    /// little to leave out. Returns an error if memory runs out.
+    /// Returns a filter for the starts of an automaton, or `None` if these are fewer than four, so that there is little to leave
+    /// out. Returns an error if memory runs out.
     ///
     /// It reads the states below each start down to an end, twice.
     pub fn new(alloc: Global, automaton: &Draft) -> Result<Option<StartFilter>, AllocError>
         ensures { IfOk result (λ made. IfSome made (λ filter. IsFilterOf automaton.now filter)) }
     {
         let count = automaton.starts().len();
+        if count < FEWEST_STARTS {
+            return Ok(None);
+        }
         let mut filter = Filter::new(alloc, count)?;
         let mut others = Vec::new(alloc);
         let bytes = forced_bytes(alloc, automaton)?;
@@ -72,28 +75,11 @@ impl StartFilter {
             find_required(automaton, &bytes, automaton.starts()[i], &mut windows)?;
             guard(&windows, &counts, i, &mut filter, &mut others)?;
         }
-        if filter.len() < FEWEST_ENTRIES {
-            return Ok(None);
-        }
         Ok(Some(StartFilter {
             filter,
             others,
             count,
         }))
-    }
-
-    /// Returns the number of starts. What is marked is below it.
-    pub fn count(&self) -> usize
-        ensures { result ≡ self.now.count }
-    {
-        self.count
-    }
-
-    /// Returns the number of starts that have no window.
-    pub fn other_count(&self) -> usize
-        ensures { result ≡ length self.now.others }
-    {
-        self.others.len()
     }
 
     /// Puts the number of each start that a text may lead from to an end into a set, beside what it holds. It takes no memory.

@@ -27,8 +27,8 @@ enum Strategy {
     Filtered(Box<Filtered>),
 }
 
-/// An automaton as it is run: by a table where that is not too large, which takes less time for each byte, and no memory. Contracts
-/// see the automaton.
+/// An automaton as it is run: by a table where that is not too large, which takes less time for each byte, and no memory.
+/// Contracts see the automaton.
 pub struct Compiled {
     strategy: Strategy,
     /// What the rows of a [`RowCache`] are made from, if runs with one take less time.
@@ -60,15 +60,15 @@ impl Model for Compiled {
 impl Compiled {
     /// Returns an automaton as it is run without rows. Returns an error if memory runs out.
     ///
-    /// It is made a table if this is not too large, and the budget allows it. The table and its lists have at most `2^27 / states`
-    /// numbers, and for each state 96, and 2,048 more; if there is one start, 512 for each state, and 40,960 in all. To find one of
-    /// them may take reading each state. The tables of a set take at most the bytes of the budget. At most 2^22 numbers are made for
-    /// them, or one for each 4 bytes of the budget if these are more, with those of tables that are given up because they would
-    /// have more, and at most 512 tables are tried. So it takes time and memory linear in the states, up to the factors of these
-    /// limits.
+    /// It becomes a table if this is not too large and the budget allows it. The table and its lists have at most
+    /// `2^27 / states` numbers, and for each state 96, and 2,048 more; if there is one start, 512 for each state, and 40,960 in
+    /// all. To find one of them may take reading each state. The tables of a set take at most the bytes of the budget. At most
+    /// 2^22 numbers are made for them, or one for each 4 bytes of the budget if these are more, with those of tables that are
+    /// given up because they would have more, and at most 512 tables are tried. So it takes time and memory linear in the states,
+    /// up to the factors of these limits.
     ///
-    /// Otherwise it is simulated, from the starts that a filter names if there are several and the filter names few. With a budget
-    /// of no bytes it is simulated as a whole.
+    /// Otherwise it is simulated, from the starts that a filter names if there are several and the filter names few. With a
+    /// budget of no bytes it is simulated as a whole.
     pub fn new(alloc: Global, budget: &mut Budget, automaton: Draft) -> Result<Compiled, AllocError>
         ensures { IfOk result (λ c. c ≡ automaton) }
     {
@@ -81,9 +81,9 @@ impl Compiled {
         Compiled::without_table(alloc, *budget, automaton)
     }
 
-    /// The same as [`Compiled::new`], for runs with a [`RowCache`] too, unless there is a table, or the budget has no bytes. So it
-    /// takes more time and memory, linear in the states. The cache takes at most 8 MiB, or the share of these that the states have in
-    /// `all_states`; where that is too small there is none.
+    /// The same as [`Compiled::new`], for runs with a [`RowCache`] too, unless there is a table, or the budget has no bytes. So
+    /// it takes more time and memory, linear in the states. The cache takes at most 8 MiB, or the share of these that the states
+    /// have in `all_states`; where that is too small there is none.
     pub fn with_rows(
         alloc: Global,
         budget: &mut Budget,
@@ -114,8 +114,8 @@ impl Compiled {
         })
     }
 
-    /// Returns an automaton that is simulated, if the budget has bytes from the starts that a filter names, where these may be few.
-    /// Returns an error if memory runs out.
+    /// Returns an automaton that is simulated, if the budget has bytes from the starts that a filter names, where these may be
+    /// few. Returns an error if memory runs out.
     fn without_table(
         alloc: Global,
         budget: Budget,
@@ -153,8 +153,8 @@ impl Compiled {
         self.rows.is_some()
     }
 
-    /// Returns a cache with no rows for this automaton, or `None` if runs need none. All memory that it needs is taken here. Returns
-    /// an error if memory runs out.
+    /// Returns a cache with no rows for this automaton, or `None` if runs need none. All memory that it needs is taken here.
+    /// Returns an error if memory runs out.
     pub fn new_cache(&self, alloc: Global) -> Result<Option<RowCache>, AllocError>
         ensures { IfOk result (λ made. IfSome made (λ cache. cache ≡ self.now)) }
     {
@@ -185,9 +185,9 @@ impl Compiled {
 
     /// Puts the indexes of the tokens that match a text into a set, beside what it holds.
     ///
-    /// It is at most `(text bytes + 1) * (states + 3 * starts)` visits. What the sets of states held has no effect; their room grows to the
-    /// states, if these are simulated. Returns an error if memory runs out,
-    /// and so none if they have room for all states; some of the indexes may be in the set then.
+    /// It is at most `(text bytes + 1) * (states + 3 * starts)` visits. What the sets of states held has no effect; their room
+    /// grows to the states, if these are simulated. Returns an error if memory runs out, and so none if they have room for all
+    /// states; some of the indexes may be in the set then.
     pub fn find(
         &self,
         text: &[u8],
@@ -215,9 +215,9 @@ impl Compiled {
 
     /// Returns whether tokens match a text.
     ///
-    /// It is at most `(text bytes + 1) * (states + 3 * starts)` visits. What the sets of states held has no effect; their room grows to the
-    /// states, if these are simulated. Returns an error if memory runs out,
-    /// and so none if they have room for all states.
+    /// It is at most `(text bytes + 1) * (states + 3 * starts)` visits. What the sets of states held has no effect; their room
+    /// grows to the states, if these are simulated. Returns an error if memory runs out, and so none if they have room for all
+    /// states.
     pub fn is_match(
         &self,
         text: &[u8],
@@ -359,8 +359,8 @@ impl Compiled {
     }
 }
 
-/// Returns what rows of an automaton are made from, unless the budget says that all states are simulated. The rows have a share of
-/// the room of so many states. Returns an error if memory runs out.
+/// Returns what rows of an automaton are made from, unless the budget says that all states are simulated. The rows have a share
+/// of the room of so many states. Returns an error if memory runs out.
 fn rows_for(
     alloc: Global,
     budget: Budget,

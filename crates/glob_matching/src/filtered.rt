@@ -110,8 +110,8 @@ impl Filtered {
 }
 
 impl Filtered {
-    /// Marks the starts that a text may lead from to an end, if a cache of rows says that the filter should be asked. Returns whether
-    /// it was asked and marked so few that running these takes less time than rows do.
+    /// Marks the starts that a text may lead from to an end, if a cache of rows says that the filter should be asked. Returns
+    /// whether it was asked and marked so few that running these takes less time than rows do.
     ///
     /// It is at most `text bytes * 3 * starts` visits. It makes room in the sets of states for those of the automaton. Returns an
     /// error if memory runs out.
@@ -173,11 +173,11 @@ impl Filtered {
 }
 
 impl Filtered {
-    /// Returns whether some text that begins with `text` and then `byte` leads to some end. All starts are run, since what follows
-    /// may have any window.
+    /// Returns whether some text that begins with `text` and then `byte` leads to some end. All starts are run, since what
+    /// follows may have any window.
     ///
-    /// It is at most `(text bytes + 2) * states` visits. It makes room in the sets of states for those of the automaton. Returns an
-    /// error if memory runs out.
+    /// It is at most `(text bytes + 2) * states` visits. It makes room in the sets of states for those of the automaton. Returns
+    /// an error if memory runs out.
     pub fn can_match_after(
         &self,
         text: &[u8],
@@ -195,9 +195,6 @@ impl Filtered {
     }
 }
 
-/// At most one start in so many may have no window, and so be run for each text. More are faster by rows, or simulated together.
-const STARTS_FOR_ONE_WITHOUT_WINDOW: usize = 3;
-
 /// Running one start for a text takes less time than rows do, and so does running one of so many: texts lead to more rows where
 /// there are more starts.
 const STARTS_FOR_ONE: usize = 256;
@@ -214,19 +211,15 @@ fn has_at_most(most: usize, set: &IndexSet, bound: usize) -> bool {
     set.next_below(from, bound).is_none()
 }
 
-/// Returns a filter for an automaton, or `None` if too few starts have a window, or if a run from one start comes to states of
-/// another. Returns an error if memory runs out. It takes time and memory linear in the states.
+/// Returns a filter for an automaton, or `None` if fewer than four starts have a window, or if a run from one start comes to states
+/// of another. Returns an error if memory runs out. It takes time and memory linear in the states.
 pub fn filter_for(alloc: Global, automaton: &Draft) -> Result<Option<StartFilter>, AllocError>
     ensures { IfOk result (λ made. IfSome made (λ filter. IsFilterOf automaton.now filter × AreApart automaton.now)) }
 {
     if !are_apart(automaton) {
         return Ok(None);
     }
-    match StartFilter::new(alloc, automaton)? {
-        Some(filter) if filter.other_count() <= filter.count() / STARTS_FOR_ONE_WITHOUT_WINDOW =>
-            Ok(Some(filter)),
-        _ => Ok(None),
-    }
+    StartFilter::new(alloc, automaton)
 }
 
 /// Returns whether a run from each start comes to no state but those behind the start before it. It reads each state.

@@ -50,8 +50,8 @@ impl Model for RowSource {
     ghost invariant = { λ r. Shares r.source.value (arc_value r.dfa) };
 }
 
-/// The rows that the texts of one thread needed so far, in a memory of fixed size. Contracts see the automaton whose ends are found:
-/// what earlier calls left has no effect on an answer.
+/// The rows that the texts of one thread needed so far, in a memory of fixed size. Contracts see the automaton whose ends are
+/// found: what earlier calls left has no effect on an answer.
 pub struct RowCache {
     dfa: Arc<LazyDfa>,
     cache: Cache,
@@ -88,9 +88,9 @@ impl Model for RowCache {
 impl RowSource {
     /// Returns what rows of an automaton are made from.
     ///
-    /// The rows of a thread take at most 8 MiB, or the share of these that the states have in `all_states`. It takes time and memory
-    /// linear in the states. Returns `None` if that share is too small or there are too many indexes, and an error if memory runs
-    /// out.
+    /// The rows of a thread take at most 8 MiB, or the share of these that the states have in `all_states`. It takes time and
+    /// memory linear in the states. Returns `None` if that share is too small or there are too many indexes, and an error if
+    /// memory runs out.
     pub fn new(
         alloc: Global,
         automaton: &Draft,

@@ -17,8 +17,8 @@ use visits::Visits;
 /// The most states of an automaton that is made a table.
 const MAX_STATES: usize = 2_048;
 
-/// The most numbers in the table and the lists of an automaton with one start, and for each of its states. Most that need more have
-/// a number of states that is exponential in those of the automaton.
+/// The most numbers in the table and the lists of an automaton with one start, and for each of its states. Most that need more
+/// have a number of states that is exponential in those of the automaton.
 const MAX_NUMBERS: usize = 40_960;
 
 const NUMBERS_PER_STATE: usize = 512;
@@ -65,8 +65,8 @@ impl Model for Table {
 }
 
 impl Table {
-    /// Returns an automaton as one table, or `None` if it has no start, or the limits or the budget do not allow it. Returns an error
-    /// if memory runs out.
+    /// Returns an automaton as one table, or `None` if it has no start, or the limits or the budget do not allow it. Returns an
+    /// error if memory runs out.
     pub fn new(
         alloc: Global,
         budget: &mut Budget,

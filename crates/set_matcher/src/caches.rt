@@ -19,8 +19,8 @@ use visits::Visits;
 
 /// The rows that the automata of a matcher made for the paths of one thread. Where an automaton has none, it runs without.
 ///
-/// What they hold has no effect on an answer. They are for calls with the matcher that made them, or, if there are none, for calls
-/// with any.
+/// What they hold has no effect on an answer. They are for calls with the matcher that made them, or, if there are none, for
+/// calls with any.
 pub struct Caches {
     pub(crate) by_path: Option<RowCache>,
     pub(crate) by_component: Option<RowCache>,

@@ -4,10 +4,10 @@ use Rattle.byte_filter.specs.Entries.{Entry, ArePartsBelow}
 use Rattle.byte_filter.specs.Others.{AreOthersBelow}
 use Rattle.byte_filter.specs.declared.others.OtherStart.{OtherStart}
 
--- the entries are of starts, of which there are so many, and there are at least four of them, but not more than there are starts;
--- those without a window are starts, too
+-- the entries are of starts, of which there are so many and at least four, and there are not more entries than starts; those
+-- without a window are starts, too
 pub record AreSound (es : List Entry) (others : List OtherStart) (count : ℕ) : Type 0 where
   pub below : ArePartsBelow count es
   pub others_below : AreOthersBelow count others
-  pub enough : 4 ≤ length es
+  pub enough : 4 ≤ count
   pub within : length es ≤ count

@@ -120,8 +120,8 @@ impl ExtensionMatchers {
         }
     }
 
-    /// Returns caches with no rows for the automata, where runs need one. All memory that they need is taken here. Returns an error
-    /// if memory runs out.
+    /// Returns caches with no rows for the automata, where runs need one. All memory that they need is taken here. Returns an
+    /// error if memory runs out.
     pub fn new_caches(&self, alloc: Global) -> Result<SlotCaches, AllocError>
         ensures { IfOk result (λ caches. AreSlotCaches self.now.machines self.now.none caches) }
     {
