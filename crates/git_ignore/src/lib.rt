@@ -76,7 +76,6 @@ mod entry;
 mod file_rules;
 mod folder_rules;
 mod folders;
-pub mod laws;
 mod reading;
 mod rules;
 mod scratch;
