@@ -29,7 +29,7 @@ fn push_lexeme(
     position: Position<'_, '_>,
 ) -> Result<usize, AllocError>
     requires { Follows (flats tokens.old.items) (lexeme_of position.lexeme ∷ lexemes_of position.after.now) }
-    ensures read { IfOk result (λ more. ReadsPiece (flats tokens.old.items) position.entry.start (lexeme_of position.entry.lexeme) (lexemes_of position.entry.after.now) (flats tokens.new.items) more) }
+    ensures read { IfOk result (λ more. ReadsPiece tokens.old.items position.entry.start position.entry.lexeme position.entry.after.now tokens.new.items more) }
     ensures within { IfOk result (λ more. more ≤ length position.entry.after.now) }
 {
     match position.lexeme {

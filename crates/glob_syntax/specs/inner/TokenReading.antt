@@ -1,8 +1,12 @@
 -- The tokens of a glob while they are read.
 use Rattle.std.specs.Prelude.{◌≡◌, ℕ, zero, List, ◌∷◌, drop, Bool}
+use Rattle.glob_syntax.specs.declared.lexemes.lexeme.Lexeme as held
+use Rattle.glob_syntax.specs.declared.token.Token as tokens
 use Rattle.glob_syntax.specs.Lexemes.{Lexeme}
 use Rattle.glob_syntax.specs.Reading.{levels}
 use Rattle.glob_syntax.specs.FlatTokens as flat
+use Rattle.glob_syntax.specs.Views.{flats}
+use Rattle.glob_syntax.specs.inner.LexemeViews.{lexeme_of, lexemes_of}
 use Rattle.glob_syntax.specs.inner.Nests.{Nests, starts_branch}
 
 -- after these tokens as many groups are open as these lexemes close
@@ -17,6 +21,7 @@ pub record ReadsTo (ts : List flat.Flat) (start : Bool) (ms : List Lexeme) (late
   pub same : flat.onto later (levels zero later_start left) ≡ flat.onto ts (levels zero start ms)
   pub follows : Follows later left
 
--- the piece that begins with a lexeme is read, and with it so many of the lexemes after that one
-abbrev pub ReadsPiece : List flat.Flat → Bool → Lexeme → List Lexeme → List flat.Flat → ℕ → Type 0
-ReadsPiece ts start lexeme after later more = ReadsTo ts start (lexeme ∷ after) later (starts_branch lexeme) (drop more after)
+-- the piece that begins with a lexeme is read, which has so many of the lexemes after that one
+abbrev pub ReadsPiece : List tokens.Token → Bool → held.Lexeme → List held.Lexeme → List tokens.Token → ℕ → Type 0
+ReadsPiece old start lexeme after new more =
+    ReadsTo (flats old) start (lexeme_of lexeme ∷ lexemes_of after) (flats new) (starts_branch (lexeme_of lexeme)) (drop more (lexemes_of after))
