@@ -98,25 +98,26 @@ impl RowSource {
     ) -> Result<Option<RowSource>, AllocError>
         ensures { IfOk result (λ made. IfSome made (λ rows. rows ≡ automaton.now)) }
     {
-        if cache_bytes(automaton.state_count(), all_states) < FEWEST_BYTES {
+        let share = share_of(automaton.state_count(), all_states);
+        if share < FEWEST_BYTES {
             return Ok(None);
         }
         // Only texts from two starts may begin alike.
         if automaton.starts().len() <= 1 {
-            return RowSource::of(alloc, automaton, automaton, all_states);
+            return RowSource::of(alloc, automaton, automaton, share);
         }
         match shared(alloc, automaton)? {
-            Some(sharing) => RowSource::of(alloc, automaton, &sharing, all_states),
-            None => RowSource::of(alloc, automaton, automaton, all_states),
+            Some(sharing) => RowSource::of(alloc, automaton, &sharing, share),
+            None => RowSource::of(alloc, automaton, automaton, share),
         }
     }
 
-    /// Returns what rows of an automaton are made from, by one that leads to the same ends.
+    /// Returns what rows of an automaton are made from, by one that leads to the same ends. The rows take at most `share` bytes.
     fn of(
         alloc: Global,
         automaton: &Draft,
         sharing: &Draft,
-        all_states: usize,
+        share: usize,
     ) -> Result<Option<RowSource>, AllocError>
         requires { Shares automaton.now sharing.now }
         ensures { IfOk result (λ made. IfSome made (λ rows. rows ≡ automaton.now)) }
@@ -126,7 +127,7 @@ impl RowSource {
         };
         Ok(Some(RowSource {
             dfa: Arc::new(alloc, dfa)?,
-            cache_bytes: cache_bytes(sharing.state_count(), all_states),
+            cache_bytes: cache_bytes(sharing.state_count(), share),
             source: Snapshot::of(automaton),
         }))
     }
@@ -227,9 +228,15 @@ const MOST_BYTES: usize = 1 << 23;
 /// With fewer bytes there is no cache: so many automata share the room that few globs are run for a text.
 const FEWEST_BYTES: usize = 1 << 14;
 
-/// Returns how many bytes the cache of an automaton of so many states takes, where automata of `all_states` share their room.
-fn cache_bytes(state_count: usize, all_states: usize) -> usize {
-    let wanted = state_count.saturating_mul(BYTES_PER_STATE).max(USUAL_BYTES);
-    let share = MOST_BYTES.saturating_mul(state_count) / all_states.max(1);
-    wanted.min(share)
+/// Returns how many bytes an automaton of so many states has of the room that automata of `all_states` share.
+fn share_of(state_count: usize, all_states: usize) -> usize {
+    MOST_BYTES.saturating_mul(state_count) / all_states.max(1)
+}
+
+/// Returns how many bytes the cache of an automaton of so many states takes, of its share.
+fn cache_bytes(state_count: usize, share: usize) -> usize {
+    state_count
+        .saturating_mul(BYTES_PER_STATE)
+        .max(USUAL_BYTES)
+        .min(share)
 }
