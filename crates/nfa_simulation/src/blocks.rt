@@ -3,7 +3,7 @@
 ghost use Rattle.std.specs.Prelude.{◌≡◌, ℕ, ◌+◌, ◌-◌, ◌/◌, ◌<◌, ◌≤◌, ◌++◌, [], List, Option, length, slice_index_or, MatchOption, IfOk, OnOk, max};
 ghost use Rattle.bit_sets.specs.StateSets.{state_capacity};
 ghost use Rattle.byte_nfa.specs.Steps.{State};
-ghost use Rattle.nfa_simulation.specs.inner.Blocks.{AreBlocks, KeepsBlocks, Takes, TellsTaken};
+ghost use Rattle.nfa_simulation.specs.inner.Blocks.{AreBlocks, KeepsBlocks, TellsTaken};
 
 mod making;
 

@@ -1,7 +1,6 @@
 //! Globs that no text decides: automata of their tokens.
 
-ghost use Rattle.std.specs.Prelude.{◌≡◌, ◌+◌, ◌*◌, ◌<◌, ◌≤◌, ◌++◌, ◌∷◌, ◌↔◌, [], ℕ, List, length, Some, true, false, IsTrue, IsOk, OnOk, OnErr, IfOk, IfSome, cond};
-ghost use Rattle.std.specs.Str.{bytes_eq};
+ghost use Rattle.std.specs.Prelude.{◌≡◌, ◌+◌, ◌*◌, ◌<◌, ◌≤◌, ◌++◌, ◌∷◌, ◌↔◌, [], ℕ, List, length, Some, true, false, IsTrue, IsOk, OnOk, OnErr, IfOk, IfSome};
 ghost use Rattle.byte_nfa.specs.Runs.{size, max_reads};
 ghost use Rattle.bit_sets.specs.Indexes.{has_index, index_capacity};
 ghost use Rattle.nfa_simulation.specs.Sets.{sets_capacity};
@@ -13,7 +12,7 @@ ghost use Rattle.glob_syntax.specs.Views.{flats, tokens_of};
 ghost use Rattle.glob_syntax.specs.inner.Weight.{weight};
 ghost use Rattle.set_matcher.specs.inner.Caches.{AreCachesOf, IsCacheAt};
 ghost use Rattle.set_matcher.specs.inner.PathPart.{part_of};
-ghost use Rattle.set_matcher.specs.inner.Automata.{AddsTokens, AreFor, AreForLists, AreFound, AreIdle, IsFoundSet, HaveOneCount, TokenLists, automata_or_none, before_extension, machine_under, max_states, no_automata, reads_for, slot_of, states_for, total_reads};
+ghost use Rattle.set_matcher.specs.inner.Automata.{AddsReads, AddsTokensTo, AreFor, AreForLists, AreFound, AreIdle, IsFoundSet, HaveOneCount, TokenLists, automata_or_none, before_extension, max_states, no_automata, reads_for, slot_of, states_for, total_reads};
 ghost use Rattle.set_matcher.specs.inner.Builders.{built};
 
 mod below;
@@ -525,8 +524,8 @@ impl AutomataBuilder {
     ) -> Result<(), AllocError>
         requires nested { IsNested (flats tokens.now) }
         requires index { index < self.old.extensions.index_count }
-        ensures tokens { OnOk result ((before : ℕ → List IndexedTokens) → AreFor self.old.extensions.machines before → AddsTokens self.old.extensions before self.new.extensions key.items (indexed options (tokens_of tokens.now) index)) }
-        ensures reads { OnOk result ((extension : List ℕ) → max_reads (machine_under self.new.extensions extension) ≤ max_reads (machine_under self.old.extensions extension) + cond (bytes_eq key.items extension) (weight options (tokens_of tokens.now) + 4) 0) }
+        ensures tokens { OnOk result (AddsTokensTo self.old.extensions self.new.extensions key.items (indexed options (tokens_of tokens.now) index)) }
+        ensures reads { OnOk result (AddsReads self.old.extensions self.new.extensions key.items (weight options (tokens_of tokens.now) + 4)) }
         ensures total { OnOk result (total_reads self.new.extensions.machines ≤ total_reads self.old.extensions.machines + (weight options (tokens_of tokens.now) + 4)) }
         ensures count { self.new.extensions.index_count ≡ self.old.extensions.index_count }
         ensures path { self.new.by_path ≡ self.old.by_path }

@@ -26,7 +26,7 @@ pub struct SetMatcher {
     pub(crate) keys: LiteralIndex,
     /// The number that each index is below.
     pub(crate) index_count: usize,
-    /// Automata for the globs that no key decides, if there are such globs. They are in a box, since most sets have none.
+    /// Automata for the globs that no key decides, if there are such globs. They are in a box, so that a set without them is small.
     pub(crate) automata: Option<Box<Automata>>,
 }
 

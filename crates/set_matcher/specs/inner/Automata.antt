@@ -1,7 +1,8 @@
 -- Automata of tokens, for the globs that no key decides.
-use Rattle.std.specs.Prelude.{◌≡◌, ◌≢◌, ◌⊎◌, ◌↔◌, ℕ, ◌+◌, ◌-◌, ◌<◌, ◌≤◌, max, Bool, IsTrue, List, [], ◌∷◌, ◌++◌, Option, Some, length, get_or, slice_get, sum_by, take}
+use Rattle.std.specs.Prelude.{◌≡◌, ◌≢◌, ◌⊎◌, ◌↔◌, ℕ, ◌+◌, ◌-◌, ◌<◌, ◌≤◌, max, Bool, IsTrue, List, [], ◌∷◌, ◌++◌, Option, Some, cond, length, get_or, slice_get, sum_by, take}
 use Rattle.std.specs.Global.{Box}
 use Rattle.std.specs.Option.{option_map_or}
+use Rattle.std.specs.Str.{bytes_eq}
 use Rattle.byte_nfa.specs.Live.{MatchesAfter}
 use Rattle.byte_nfa.specs.Steps.{HasNumber, Machine}
 use Rattle.byte_nfa.specs.Runs.{size, max_reads}
@@ -82,6 +83,18 @@ pub record AddsTokens (old : ExtensionParts) (before : ℕ → List IndexedToken
   pub added : (extension : List ℕ) → (extension ≡ key) → tokens_under tokens new.slots extension ≡ tokens_under before old.slots extension ++ x ∷ []
   pub others : (extension : List ℕ) → (extension ≢ key) → tokens_under tokens new.slots extension ≡ tokens_under before old.slots extension
   pub after : (y : List ℕ) → SomeExtensionAfter (length new.machines) tokens y ↔ (SomeExtensionAfter (length old.machines) before y ⊎ MeanAfter x.options x.tokens y)
+
+-- the same of whatever tokens the automata were for
+abbrev pub AddsTokensTo : ExtensionParts → ExtensionParts → List ℕ → IndexedTokens → Type 0
+AddsTokensTo old new key x = (before : ℕ → List IndexedTokens) → AreFor old.machines before → AddsTokens old before new key x
+
+-- the automaton of one extension may have so many more reads, and those of the others no more than they had
+abbrev pub AddsReads : ExtensionParts → ExtensionParts → List ℕ → ℕ → Type 0
+AddsReads old new key n = (extension : List ℕ) → max_reads (machine_under new extension) ≤ max_reads (machine_under old extension) + cond (bytes_eq key extension) n 0
+
+-- the answer is whether the tokens of some extension match some text that begins with y
+abbrev pub TellsSomeAfter : ExtensionParts → List ℕ → Bool → Type 0
+TellsSomeAfter e y answer = (by_slot : ℕ → List IndexedTokens) → AreFor e.machines by_slot → IsTrue answer ↔ SomeExtensionAfter (length e.machines) by_slot y
 
 -- ---- all of them
 

@@ -1,15 +1,14 @@
 //! Automata for globs that match only paths whose last component has one extension.
 
-ghost use Rattle.std.specs.Prelude.{◌≡◌, ◌+◌, ◌*◌, ◌<◌, ◌≤◌, ◌↔◌, ◌++◌, ◌∷◌, [], ℕ, List, length, IsTrue, IsOk, OnOk, IfOk, None, Some, cond};
+ghost use Rattle.std.specs.Prelude.{◌≡◌, ◌+◌, ◌*◌, ◌<◌, ◌≤◌, ◌↔◌, ◌++◌, ◌∷◌, [], ℕ, List, length, IsTrue, IsOk, OnOk, IfOk, None, Some};
 ghost use Rattle.byte_nfa.specs.Runs.{size, max_reads};
 ghost use Rattle.nfa_simulation.specs.Sets.{sets_capacity};
 ghost use Rattle.std.specs.Option.{option_map_or};
-ghost use Rattle.std.specs.Str.{bytes_eq};
 ghost use Rattle.glob_nfa.specs.IndexedTokens.{IndexedTokens, IsFor, indexed};
 ghost use Rattle.glob_syntax.specs.FlatTokens.{IsNested};
 ghost use Rattle.glob_syntax.specs.Views.{flats, tokens_of};
 ghost use Rattle.glob_syntax.specs.inner.Weight.{weight};
-ghost use Rattle.set_matcher.specs.inner.Automata.{AddsTokens, AreFor, KeepsTokens, SomeExtensionAfter, machine_at, machine_under, max_size, slot_of, total_reads};
+ghost use Rattle.set_matcher.specs.inner.Automata.{AddsReads, AddsTokensTo, AreFor, KeepsTokens, TellsSomeAfter, machine_at, machine_under, max_size, slot_of, total_reads};
 ghost use Rattle.set_matcher.specs.inner.Caches.{AreSlotCaches};
 
 use super::slots::ExtensionSlots;
@@ -162,7 +161,7 @@ impl ExtensionMatchers {
     ) -> Result<bool, AllocError>
         requires { AreSlotCaches self.now.machines self.now.none caches.old }
         ensures caches { caches.new ≡ caches.old }
-        ensures some { IfOk result (λ yes. (by_slot : ℕ → List IndexedTokens) → AreFor self.now.machines by_slot → IsTrue yes ↔ SomeExtensionAfter (length self.now.machines) by_slot (text.now ++ byte ∷ [])) }
+        ensures some { IfOk result (λ yes. TellsSomeAfter self.now (text.now ++ byte ∷ []) yes) }
         ensures kept { sets_capacity sets.old ≤ sets_capacity sets.new }
         ensures room { max_size self.now.machines ≤ sets_capacity sets.old → IsOk result }
         ensures visits { visits.new ≤ visits.old + (length text.now + 2) * total_reads self.now.machines }
@@ -247,8 +246,8 @@ impl ExtensionMatchersBuilder {
     ) -> Result<(), AllocError>
         requires nested { IsNested (flats tokens.now) }
         requires index { index < self.old.index_count }
-        ensures tokens { OnOk result ((before : ℕ → List IndexedTokens) → AreFor self.old.machines before → AddsTokens self.old before self.new key.items (indexed options (tokens_of tokens.now) index)) }
-        ensures reads { OnOk result ((extension : List ℕ) → max_reads (machine_under self.new extension) ≤ max_reads (machine_under self.old extension) + cond (bytes_eq key.items extension) (weight options (tokens_of tokens.now) + 4) 0) }
+        ensures tokens { OnOk result (AddsTokensTo self.old self.new key.items (indexed options (tokens_of tokens.now) index)) }
+        ensures reads { OnOk result (AddsReads self.old self.new key.items (weight options (tokens_of tokens.now) + 4)) }
         ensures total { OnOk result (total_reads self.new.machines ≤ total_reads self.old.machines + (weight options (tokens_of tokens.now) + 4)) }
         ensures count { self.new.index_count ≡ self.old.index_count }
     {
