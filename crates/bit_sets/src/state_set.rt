@@ -4,13 +4,13 @@ ghost use Rattle.bit_sets.specs.inner.Bounds.{AreBounds};
 
 mod word_steps;
 
+use crate::visits::Visits;
 use crate::words::{
     Seen, add_bits, are_disjoint, are_within, clear_between, grow, has_bit, hash_between,
     keep_bits, last_below, remove_bits, set_bit, words_for,
 };
 use std::alloc::{AllocError, Global};
 use std::hash::{FoldHasher, Hasher};
-use visits::Visits;
 
 /// A set of states, as a bit for each.
 ///

@@ -4,7 +4,7 @@ ghost use Rattle.std.specs.Prelude.{◌≡◌, ℕ, ◌+◌, ◌<◌, ◌≤◌,
 ghost use Rattle.bit_sets.specs.Numbers.{AreBelow, AreFrom, has_number};
 ghost use Rattle.bit_sets.specs.WordSets.{has_in_word, AreInWordBelow, TellsHighest};
 
-use visits::Visits;
+use crate::visits::Visits;
 
 /// A set of numbers from `low` on and below `low + 64`, as a bit for each.
 #[derive(Clone, Copy)]

@@ -12,12 +12,11 @@ ghost use Rattle.byte_dfa.specs.inner.Tables.{special};
 use crate::classes::ByteClasses;
 use crate::lists::push_list;
 use crate::made::MadeEntries;
-use bit_sets::{ByteSet, IndexSet, StateSet};
+use bit_sets::{ByteSet, IndexSet, StateSet, Visits};
 use byte_nfa::{ByteSteps, Draft};
 use std::alloc::{AllocError, Global};
 use std::collections::HashMap;
 use std::hash::{FoldHasher, Hasher};
-use visits::Visits;
 
 /// An entry from here on leads to a state that is dead, or where indexes are found on entry.
 pub const SPECIAL: usize = 1 << 31;

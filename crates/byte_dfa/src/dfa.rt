@@ -10,13 +10,12 @@ ghost use Rattle.byte_dfa.specs.inner.Tables.{table_of, IsTableOf};
 use crate::classes::ByteClasses;
 use crate::determinizer::{Determinizer, SPECIAL};
 use crate::lists::{has_some, put_listed};
-use bit_sets::{ByteSet, IndexSet};
+use bit_sets::{ByteSet, IndexSet, Visits};
 use byte_nfa::Draft;
 use std::alloc::{AllocError, Global};
 use std::marker::Model;
 use std::mem;
 use std::snapshot::Snapshot;
-use visits::Visits;
 
 /// A deterministic automaton: a table that says for each state and byte which state is next.
 ///

@@ -11,10 +11,9 @@ use crate::key_bits::KeyBits;
 use crate::rolling::{first_key, next_key};
 use crate::signature::Signature;
 use crate::window::LONG;
-use bit_sets::IndexSet;
+use bit_sets::{IndexSet, Visits};
 use std::alloc::{AllocError, Global};
 use std::marker::Model;
-use visits::Visits;
 
 /// The signs of an entry.
 pub type Signs = [u8; 8];

@@ -13,11 +13,10 @@ use crate::counts::{Counts, rarest_bytes};
 use crate::filter::Filter;
 use crate::others::{OtherStart, mark_others};
 use crate::window::{StartWindows, find_required, forced_bytes};
-use bit_sets::IndexSet;
+use bit_sets::{IndexSet, Visits};
 use byte_nfa::Draft;
 use std::alloc::{AllocError, Global};
 use std::marker::Model;
-use visits::Visits;
 
 /// Which starts of an automaton a text may lead from to an end: those with a window of the text, and those without a window
 /// whose bytes the text has.

@@ -4,9 +4,8 @@ ghost use Rattle.bit_sets.specs.StateSets.{state_capacity};
 ghost use Rattle.byte_nfa.specs.inner.StepCapacity.{AreWithin};
 
 use crate::draft::Draft;
-use bit_sets::{ByteSet, StateSet};
+use bit_sets::{ByteSet, StateSet, Visits};
 use std::alloc::{AllocError, Global};
-use visits::Visits;
 
 /// A step by each byte of a set.
 #[derive(Clone, Copy)]

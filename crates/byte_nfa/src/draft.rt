@@ -22,11 +22,10 @@ mod steps;
 
 use crate::byte_steps::ByteSteps;
 use crate::state::State;
-use bit_sets::{ByteSet, IndexSet, StateSet};
+use bit_sets::{ByteSet, IndexSet, StateSet, Visits};
 pub use reading::StateRef;
 use std::alloc::{AllocError, Global};
 use std::marker::Model;
-use visits::Visits;
 
 /// An automaton before it is run: states over bytes, and those of them that a run begins in.
 ///

@@ -15,9 +15,8 @@ ghost use Rattle.byte_nfa.specs.inner.Pass.{goes_now, goes_next, TellsEnd, EndsB
 mod in_word;
 
 use crate::byte_steps::ByteSteps;
-use bit_sets::{ByteSet, StateSet};
+use bit_sets::{ByteSet, StateSet, Visits};
 use std::alloc::AllocError;
-use visits::Visits;
 
 /// A state, in 16 bytes. Its set of bytes is kept as the number of one of the automaton's sets, and several states that it
 /// goes on to as the place in the automaton's list of next states at which their count stands, and then each.

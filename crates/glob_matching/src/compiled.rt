@@ -12,12 +12,11 @@ use crate::filtered::{Filtered, filter_for};
 use crate::rows::{RowCache, RowSource};
 use crate::simulation;
 use crate::table::Table;
-use bit_sets::IndexSet;
+use bit_sets::{IndexSet, Visits};
 use byte_nfa::Draft;
 use nfa_simulation::{Nfa, StateSets};
 use std::alloc::{AllocError, Global};
 use std::marker::Model;
-use visits::Visits;
 
 /// How an automaton is run without rows: by a table, simulated, or simulated from the starts that a filter names.
 #[derive(Drop)]
@@ -67,18 +66,12 @@ impl Compiled {
     /// given up because they would have more, and at most 512 tables are tried. So it takes time and memory linear in the states,
     /// up to the factors of these limits.
     ///
-    /// Otherwise it is simulated, from the starts that a filter names if there are several and the filter names few. With a
-    /// budget of no bytes it is simulated as a whole.
+    /// Otherwise it is simulated, from the starts that a filter names if there are four or more. With a budget of no bytes it is
+    /// simulated as a whole.
     pub fn new(alloc: Global, budget: &mut Budget, automaton: Draft) -> Result<Compiled, AllocError>
         ensures { IfOk result (λ c. c ≡ automaton) }
     {
-        if automaton.state_count() == 0 {
-            return Ok(Compiled::simulated(Nfa::new(automaton)));
-        }
-        if let Some(table) = Table::new(alloc, budget, &automaton)? {
-            return Compiled::of_table(alloc, table);
-        }
-        Compiled::without_table(alloc, *budget, automaton)
+        Compiled::of(alloc, budget, automaton, None)
     }
 
     /// The same as [`Compiled::new`], for runs with a [`RowCache`] too, unless there is a table, or the budget has no bytes. So
@@ -92,30 +85,39 @@ impl Compiled {
     ) -> Result<Compiled, AllocError>
         ensures { IfOk result (λ c. c ≡ automaton) }
     {
+        Compiled::of(alloc, budget, automaton, Some(all_states))
+    }
+
+    /// Returns an automaton as it is run, with rows if the states of all automata that share a cache's bytes are told. Returns
+    /// an error if memory runs out.
+    fn of(
+        alloc: Global,
+        budget: &mut Budget,
+        automaton: Draft,
+        all_states: Option<usize>,
+    ) -> Result<Compiled, AllocError>
+        ensures { IfOk result (λ c. c ≡ automaton) }
+    {
         if automaton.state_count() == 0 {
             return Ok(Compiled::simulated(Nfa::new(automaton)));
         }
         if let Some(table) = Table::new(alloc, budget, &automaton)? {
-            return Compiled::of_table(alloc, table);
+            return Ok(Compiled {
+                strategy: Strategy::Table(Box::new(alloc, table)?),
+                rows: None,
+            });
         }
-        let rows = rows_for(alloc, *budget, &automaton, all_states)?;
+        let rows = match all_states {
+            Some(all_states) => rows_for(alloc, *budget, &automaton, all_states)?,
+            None => None,
+        };
         let mut compiled = Compiled::without_table(alloc, *budget, automaton)?;
         compiled.rows = rows;
         Ok(compiled)
     }
 
-    /// Returns an automaton that has a table.
-    fn of_table(alloc: Global, table: Table) -> Result<Compiled, AllocError>
-        ensures { IfOk result (λ c. c ≡ table) }
-    {
-        Ok(Compiled {
-            strategy: Strategy::Table(Box::new(alloc, table)?),
-            rows: None,
-        })
-    }
-
-    /// Returns an automaton that is simulated, if the budget has bytes from the starts that a filter names, where these may be
-    /// few. Returns an error if memory runs out.
+    /// Returns an automaton that is simulated: from the starts that a filter names, if the budget has bytes and there are four
+    /// starts or more. Returns an error if memory runs out.
     fn without_table(
         alloc: Global,
         budget: Budget,
@@ -123,7 +125,7 @@ impl Compiled {
     ) -> Result<Compiled, AllocError>
         ensures { IfOk result (λ c. c ≡ automaton) }
     {
-        if budget.simulates_all() || automaton.starts().len() <= 1 {
+        if budget.simulates_all() {
             return Ok(Compiled::simulated(Nfa::with_blocks(automaton)?));
         }
         match filter_for(alloc, &automaton)? {

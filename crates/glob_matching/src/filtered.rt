@@ -11,13 +11,12 @@ ghost use Rattle.glob_matching.specs.inner.Filtered.{AreApart, span_at};
 
 use crate::rows::RowCache;
 use crate::simulation;
-use bit_sets::IndexSet;
+use bit_sets::{IndexSet, Visits};
 use byte_filter::StartFilter;
 use byte_nfa::Draft;
 use nfa_simulation::{Nfa, Span, StateSets};
 use std::alloc::{AllocError, Global};
 use std::marker::Model;
-use visits::Visits;
 
 /// An automaton, and a filter that names the starts that a text may lead from to an end. Contracts see the automaton.
 pub struct Filtered {
@@ -211,7 +210,7 @@ fn has_at_most(most: usize, set: &IndexSet, bound: usize) -> bool {
     set.next_below(from, bound).is_none()
 }
 
-/// Returns a filter for an automaton, or `None` if fewer than four starts have a window, or if a run from one start comes to states
+/// Returns a filter for an automaton, or `None` if there are fewer than four starts, or if a run from one start comes to states
 /// of another. Returns an error if memory runs out. It takes time and memory linear in the states.
 pub fn filter_for(alloc: Global, automaton: &Draft) -> Result<Option<StartFilter>, AllocError>
     ensures { IfOk result (λ made. IfSome made (λ filter. IsFilterOf automaton.now filter × AreApart automaton.now)) }

@@ -8,7 +8,7 @@ ghost use Rattle.glob_matching.specs.Matching.{AddsMatches, TellsMatch};
 ghost use Rattle.nfa_sharing.specs.Sharing.{Shares};
 
 use crate::turns::Turns;
-use bit_sets::IndexSet;
+use bit_sets::{IndexSet, Visits};
 use byte_nfa::Draft;
 use lazy_dfa::{Cache, LazyDfa};
 use nfa_sharing::shared;
@@ -16,7 +16,6 @@ use std::alloc::{AllocError, Global};
 use std::marker::Model;
 use std::snapshot::Snapshot;
 use std::sync::Arc;
-use visits::Visits;
 
 /// What rows are made from. All threads share it, and each has a [`RowCache`]. Contracts see the automaton whose ends are found.
 pub struct RowSource {

@@ -7,10 +7,9 @@ ghost use Rattle.bit_sets.specs.Indexes.{has_index, index_capacity};
 ghost use Rattle.nfa_simulation.specs.Sets.{sets_capacity};
 ghost use Rattle.byte_nfa.specs.Steps.{IsReached};
 
-use bit_sets::IndexSet;
+use bit_sets::{IndexSet, Visits};
 use nfa_simulation::{Nfa, StateSets};
 use std::alloc::AllocError;
-use visits::Visits;
 
 /// Puts the index of each end that a text leads to into a set, beside what it holds. It makes room in the sets of states for those
 /// of the automaton. Returns an error if memory runs out.

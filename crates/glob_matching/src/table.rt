@@ -7,14 +7,13 @@ ghost use Rattle.bit_sets.specs.Indexes.{has_index, index_capacity};
 ghost use Rattle.byte_nfa.specs.Steps.{IsReached};
 
 use crate::budget::Budget;
-use bit_sets::IndexSet;
+use bit_sets::{IndexSet, Visits};
 use byte_dfa::Dfa;
 use byte_nfa::Draft;
 use std::alloc::{AllocError, Global};
 use std::marker::Model;
-use visits::Visits;
 
-/// The most states of an automaton that is made a table.
+/// The most states of an automaton that becomes a table.
 const MAX_STATES: usize = 2_048;
 
 /// The most numbers in the table and the lists of an automaton with one start, and for each of its states. Most that need more

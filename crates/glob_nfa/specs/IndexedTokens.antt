@@ -2,8 +2,8 @@
 use Rattle.std.specs.Prelude.{◌≡◌, ℕ, ◌⊎◌, ◌↔◌, List, [], ◌∷◌, length, IsTrue}
 use Rattle.glob_syntax.specs.declared.options.Options.{Options}
 use Rattle.glob_syntax.specs.Token.{Tokens}
-use Rattle.glob_meaning.specs.TokensMatch.{tokens_match}
-use Rattle.glob_meaning.specs.After.{MeanAfter}
+use Rattle.glob_syntax.specs.TokensMatch.{tokens_match}
+use Rattle.glob_syntax.specs.After.{MeanAfter}
 use Rattle.byte_nfa.specs.Steps.{State, HasNumber, Accepts, Machine}
 use Rattle.byte_nfa.specs.Building.{Agrees}
 use Rattle.bit_sets.specs.Texts.{AllBytes}

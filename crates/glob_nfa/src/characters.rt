@@ -5,8 +5,8 @@
 
 ghost use Rattle.std.specs.Prelude.{◌≡◌, ◌+◌, ◌<◌, ◌∷◌, [], OnOk, IfOk};
 ghost use Rattle.byte_nfa.specs.Runs.{size};
-ghost use Rattle.glob_meaning.specs.Characters.{is_between};
-ghost use Rattle.glob_meaning.specs.inner.CharacterRows.{continues, is_ascii_wild, begins_three};
+ghost use Rattle.glob_syntax.specs.Characters.{is_between};
+ghost use Rattle.glob_syntax.specs.inner.CharacterRows.{continues, is_ascii_wild, begins_three};
 ghost use Rattle.glob_nfa.specs.inner.TokenStates.{IsSetOf};
 ghost use Rattle.glob_nfa.specs.inner.Building.{Grows, BuildsRow, BuildsCharacter};
 

@@ -6,7 +6,7 @@ ghost use Rattle.glob_syntax.specs.FlatTokens.{IsSimple};
 ghost use Rattle.glob_syntax.specs.Token.{Any};
 ghost use Rattle.glob_syntax.specs.Views.{flat_of};
 ghost use Rattle.glob_syntax.specs.inner.Weight.{any_weight};
-ghost use Rattle.glob_meaning.specs.TokenMatches.{is_wild};
+ghost use Rattle.glob_syntax.specs.TokenMatches.{is_wild};
 ghost use Rattle.byte_nfa.specs.Runs.{size};
 ghost use Rattle.glob_nfa.specs.inner.TokenStates.{IsSetOf, is_letter};
 ghost use Rattle.glob_nfa.specs.inner.Building.{Grows, BuildsText, BuildsToSlash, BuildsToken};

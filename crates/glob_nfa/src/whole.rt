@@ -5,15 +5,14 @@ ghost use Rattle.glob_syntax.specs.FlatTokens.{IsNested};
 ghost use Rattle.glob_syntax.specs.Views.{flats, tokens_of};
 ghost use Rattle.glob_syntax.specs.inner.Weight.{weight};
 ghost use Rattle.byte_nfa.specs.Runs.{size, max_reads};
-ghost use Rattle.glob_meaning.specs.TokensMatch.{is_prefix_alone};
+ghost use Rattle.glob_syntax.specs.TokensMatch.{is_prefix_alone};
 ghost use Rattle.glob_nfa.specs.IndexedTokens.{IndexedTokens, indexed, IsFor};
 ghost use Rattle.glob_nfa.specs.inner.Building.{Grows, BuildsWhole};
 
 use crate::groups::add_sequence;
 use bit_sets::ByteSet;
 use byte_nfa::Builder;
-use glob_meaning::is_prefix_alone;
-use glob_syntax::{Options, Token};
+use glob_syntax::{Options, Token, is_prefix_alone};
 use std::alloc::{AllocError, Global};
 
 /// Returns a builder of an automaton that no tokens were added to. The indexes of those that are added have to be below

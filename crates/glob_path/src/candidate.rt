@@ -1,7 +1,6 @@
 //! Paths that are matched by globs.
 
 ghost use Rattle.std.specs.Prelude.{◌≡◌};
-ghost use Rattle.glob_path.specs.PathParts.{component_extension, last_component};
 
 use crate::parts;
 use bstr::ByteSlice;
@@ -106,24 +105,4 @@ impl<'a> fmt::Debug for Candidate<'a> {
             .field("ext", &self.ext().as_bstr())
             .finish()
     }
-}
-
-/// Returns the bytes after the path's last `/`, or the whole path if it has no `/`. They may be `..`, unlike a basename.
-///
-/// Each call searches the path from its end to its last `/`, and reads no byte before that. It is not a method,
-/// since `globset` re-exports `Candidate` with all its methods.
-pub fn last_component_of<'a>(path: &Candidate<'a>) -> &'a [u8]
-    ensures { result.now ≡ last_component path.now }
-{
-    parts::last_component(path.path)
-}
-
-/// Returns the bytes of the path's last component from its last `.` on, or nothing if it has no `.`. If the component is
-/// `..`, they are `.`.
-///
-/// Each call searches the path from its end to its last `.` or `/`, and reads no byte before that.
-pub fn component_extension_of<'a>(path: &Candidate<'a>) -> &'a [u8]
-    ensures { result.now ≡ component_extension path.now }
-{
-    parts::component_extension(path.path)
 }

@@ -5,7 +5,9 @@ mod as_path;
 mod candidate;
 mod key;
 mod parts;
+mod path_parts;
 
 pub use as_path::AsPath;
-pub use candidate::{Candidate, component_extension_of, last_component_of};
+pub use candidate::Candidate;
 pub use key::Key;
+pub use path_parts::PathParts;

@@ -7,12 +7,11 @@ ghost use Rattle.byte_nfa.specs.Runs.{AcceptsFrom};
 ghost use Rattle.glob_prefixes.specs.Prefixes.{FitAsBefore, FitsPrefixes, IsAfter, all_matching_indexes, matching_of, max_globs, prefix_states};
 
 use crate::states::PrefixStates;
-use bit_sets::{IndexSet, StateSet};
+use bit_sets::{IndexSet, StateSet, Visits};
 use glob_text::GivenGlobs;
 use nfa_simulation::Nfa;
 use std::marker::Model;
 use std::mem::swap;
-use visits::Visits;
 
 /// A list of globs that are matched against every beginning of a text. The index of a glob is its position in the list.
 ///

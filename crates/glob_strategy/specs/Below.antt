@@ -1,7 +1,7 @@
 -- What the strategy for a glob says about the paths below a folder.
 use Rattle.std.specs.Prelude.{◌↔◌, ℕ, List, [], IsTrue}
 use Rattle.bit_sets.specs.Texts.{AllBytes}
-use Rattle.glob_meaning.specs.After.{MeanAfter}
+use Rattle.glob_syntax.specs.After.{MeanAfter}
 use Rattle.glob_path.specs.Below.{path_below, folder_start}
 use Rattle.glob_path.specs.Key.{KeyMayMatchBelow, key_bytes}
 use Rattle.glob_syntax.specs.declared.options.Options.{Options}

@@ -3,7 +3,7 @@ use Rattle.std.specs.Prelude.{ℕ, Bool, true, not, ◌&&◌, ◌||◌, List, Op
 use Rattle.std.specs.Str.{bytes_eq}
 use Rattle.glob_syntax.specs.declared.options.Options.{Options}
 use Rattle.glob_syntax.specs.Token.{Tokens}
-use Rattle.glob_meaning.specs.TokensMatch.{is_prefix}
+use Rattle.glob_syntax.specs.TokensMatch.{is_prefix}
 use Rattle.glob_path.specs.PathParts.{component_extension}
 use Rattle.glob_strategy.specs.TokenTests.{first_and_rest, ending, is_whole_path, is_last_components, is_star_extension, is_end, is_beginning, is_below_folder}
 

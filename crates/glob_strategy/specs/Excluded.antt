@@ -2,7 +2,7 @@
 use Rattle.std.specs.Prelude.{ℕ, Bool, false, ◌&&◌, not, ◌==◌, List}
 use Rattle.glob_syntax.specs.Token.{Token, Literal, Tokens, end, and_then}
 use Rattle.glob_syntax.specs.declared.options.Options.{Options}
-use Rattle.glob_meaning.specs.TokensMatch.{is_prefix, tokens_match}
+use Rattle.glob_syntax.specs.TokensMatch.{is_prefix, tokens_match}
 
 -- The token is the literal `.`, whose code is 46. The class `[.]` is another token.
 abbrev pub is_dot : Token → Bool

@@ -3,8 +3,8 @@ use Rattle.std.specs.Prelude.{ℕ, Bool, false, not, ◌&&◌, ◌||◌, ◌==�
 use Rattle.glob_syntax.specs.declared.options.Options.{Options}
 use Rattle.glob_syntax.specs.Token.{Token, Literal, Any, ZeroOrMore, Class, Tokens, end, and_then}
 use Rattle.glob_syntax.specs.ClassBytes.{class_has}
-use Rattle.glob_meaning.specs.TokenMatches.{slash}
-use Rattle.glob_meaning.specs.TokensMatch.{is_prefix}
+use Rattle.glob_syntax.specs.TokenMatches.{slash}
+use Rattle.glob_syntax.specs.TokensMatch.{is_prefix}
 use Rattle.glob_path.specs.Key.{KeyValue}
 use Rattle.glob_path.specs.Key as path_key
 use Rattle.glob_strategy.specs.Excluded.{are_excluded}

@@ -2,7 +2,7 @@
 use Rattle.std.specs.Prelude.{◌≡◌, ◌↔◌, ℕ, Bool, true, false, List, ◌++◌, IsTrue}
 use Rattle.std.specs.Str.{bytes_eq}
 use Rattle.bit_sets.specs.Texts.{AllBytes}
-use Rattle.glob_meaning.specs.TokensMatch.{tokens_match}
+use Rattle.glob_syntax.specs.TokensMatch.{tokens_match}
 use Rattle.glob_syntax.specs.declared.options.Options.{Options}
 use Rattle.glob_syntax.specs.Token.{Tokens}
 use Rattle.glob_path.specs.Key.{KeyMatches, key_seen}

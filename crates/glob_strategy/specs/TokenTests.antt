@@ -3,8 +3,8 @@ use Rattle.std.specs.Prelude.{ℕ, Bool, true, false, not, ◌&&◌, ◌||◌, �
 use Rattle.std.specs.List.{list_any}
 use Rattle.glob_syntax.specs.declared.options.Options.{Options}
 use Rattle.glob_syntax.specs.Token.{Token, Literal, ZeroOrMore, RecursiveSuffix, Tokens, end, and_then}
-use Rattle.glob_meaning.specs.TokenMatches.{slash}
-use Rattle.glob_meaning.specs.TokensMatch.{is_prefix, is_prefix_alone}
+use Rattle.glob_syntax.specs.TokenMatches.{slash}
+use Rattle.glob_syntax.specs.TokensMatch.{is_prefix, is_prefix_alone}
 use Rattle.glob_strategy.specs.Excluded.{is_dot}
 
 -- the token is `*`

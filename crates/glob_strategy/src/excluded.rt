@@ -1,7 +1,7 @@
 //! Which globs are excluded.
 
 ghost use Rattle.std.specs.Prelude.{◌≡◌};
-ghost use Rattle.glob_meaning.specs.TokensMatch.{is_prefix};
+ghost use Rattle.glob_syntax.specs.TokensMatch.{is_prefix};
 ghost use Rattle.glob_syntax.specs.FlatTokens.{IsNested};
 ghost use Rattle.glob_syntax.specs.Views.{flat_of, flats, tokens_of};
 ghost use Rattle.glob_strategy.specs.Excluded.{are_excluded, is_dot};

@@ -1,9 +1,11 @@
--- What follows from the definition of reading. Each law is the contract of a function of the module `laws`.
-use Rattle.std.specs.Prelude.{◌≡◌, ◌↔◌, ℕ, Bool, true, false, IsTrue, List, ◌++◌, Some}
+-- What follows from the definitions of reading and of characters. Each law is the contract of a function of the module `laws`.
+use Rattle.std.specs.Prelude.{◌≡◌, ◌↔◌, ℕ, Bool, true, false, IsTrue, List, ◌++◌, Some, encode_utf8}
+use Rattle.std.specs.Char.{IsScalar}
 use Rattle.std.specs.Option.{option_map}
 use Rattle.glob_syntax.specs.declared.options.Options.{Options}
 use Rattle.glob_syntax.specs.declared.parse_error_kind.ParseErrorKind.{ParseErrorKind}
 use Rattle.glob_syntax.specs.declared.parse_error_kind.ParseErrorKind.TheVariants.{UnclosedClass, InvalidRange, UnopenedAlternates, UnclosedAlternates, DanglingEscape}
+use Rattle.glob_syntax.specs.Characters.{is_character}
 use Rattle.glob_syntax.specs.Reading.{HasParseError}
 use Rattle.glob_syntax.specs.ErrorOffset.{first_error}
 
@@ -23,3 +25,7 @@ ParseErrorsStay = (o : Options) (text more : List ℕ) (f : ParseErrorKind) → 
 -- The error whose offset a text has is the error that `reading` finds. A text that has tokens has no such error.
 abbrev pub ErrorsAgree : Type 0
 ErrorsAgree = (o : Options) (text : List ℕ) (f : ParseErrorKind) → HasParseError o text f ↔ (option_map (λ e. e.0) (first_error o text) ≡ Some f)
+
+-- bytes are those of one character exactly if std writes some Unicode scalar value as these bytes
+abbrev pub CharactersAreScalars : Type 0
+CharactersAreScalars = (b : List ℕ) → IsTrue (is_character b) ↔ ((c : ℕ) × IsScalar c × (b ≡ encode_utf8 c))

@@ -9,6 +9,11 @@ pub mod FlatTokens
 pub mod ClassBytes
 pub mod ClassValue
 pub mod StatesPerByte
+pub mod Blank
+pub mod Characters
+pub mod TokenMatches
+pub mod TokensMatch
+pub mod After
 pub mod Laws
 pub mod Views
 pub mod inner

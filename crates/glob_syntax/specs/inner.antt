@@ -1,3 +1,4 @@
+pub mod CharacterRows
 pub mod ClassTable
 pub mod LexemeViews
 pub mod Nests

@@ -1,6 +1,6 @@
-//! Laws of reading, each as the contract of a function that does nothing.
+//! Laws of reading and of characters, each as the contract of a function that does nothing.
 
-ghost use Rattle.glob_syntax.specs.Laws.{ParseErrorsStay, ErrorsAgree};
+ghost use Rattle.glob_syntax.specs.Laws.{CharactersAreScalars, ErrorsAgree, ParseErrorsStay};
 
 /// Without `allow_unclosed_class`, a text whose error is `InvalidRange` or `UnopenedAlternates` keeps that very error
 /// whatever text follows it.
@@ -11,4 +11,9 @@ pub fn parse_errors_stay()
 /// The error whose offset a text has is the error that reading the text returns.
 pub fn errors_agree()
     ensures { ErrorsAgree }
+{}
+
+/// Bytes are those of one character exactly if std writes some Unicode scalar value as these bytes.
+pub fn characters_are_scalars()
+    ensures { CharactersAreScalars }
 {}

@@ -1,7 +1,8 @@
-//! Reads globs: from a text and options to tokens, or to the first error.
+//! Reads globs: from a text and options to tokens, or to the first error; and defines what tokens match.
 //!
 //! `reading` splits a text into `lexemes`, which tell special characters from plain ones. Then `stars` reads runs of `*`, and
-//! `groups` reads braces. `class` reads the bodies of character classes. Nothing here knows which paths a glob matches.
+//! `groups` reads braces. `class` reads the bodies of character classes. No code here matches
+//! paths: the definitions of what tokens match are in `specs`, and the crates above match as these say.
 #![tactic(auto)]
 
 mod class;
@@ -14,6 +15,7 @@ mod parse_error_kind;
 mod reading;
 mod stars;
 mod token;
+mod tokens;
 
 pub use class::Class;
 pub use first_error::error_offset;
@@ -22,3 +24,4 @@ pub use parse_error_kind::{ParseErrorKind, ReadError};
 pub use reading::read_tokens;
 pub use token::Token;
 pub use token::copy::copy_of;
+pub use tokens::is_prefix_alone;

@@ -4,7 +4,7 @@ use Rattle.std.specs.Str.{chars}
 use Rattle.glob_syntax.specs.declared.options.Options.{Options}
 use Rattle.glob_syntax.specs.Token.{Tokens, end}
 use Rattle.glob_syntax.specs.Reading.{reading}
-use Rattle.glob_meaning.specs.TokensMatch.{tokens_match}
+use Rattle.glob_syntax.specs.TokensMatch.{tokens_match}
 
 -- A glob as contracts see it: its text, in UTF-8, and its options.
 pub record GlobValue : Type 0 where

@@ -2,9 +2,9 @@
 use Rattle.std.specs.Prelude.{ℕ, ◌+◌, ◌/◌, ◌%◌, Bool, true, false, ◌==◌, nat_lt, List, [], ◌∷◌, ◌++◌, if◌then◌else◌, encode_utf8, codes}
 use Rattle.glob_syntax.specs.declared.options.Options.{Options}
 use Rattle.glob_syntax.specs.Token.{Token, Literal, Any, ZeroOrMore, RecursivePrefix, RecursiveSuffix, RecursiveZeroOrMore, Class, Group, Tokens, end, and_then, Branches, none, branch}
-use Rattle.glob_meaning.specs.Blank.{is_kept}
+use Rattle.glob_syntax.specs.Blank.{is_kept}
 use Rattle.glob_syntax.specs.ClassBytes.{is_one_of}
-use Rattle.glob_meaning.specs.TokensMatch.{is_prefix_alone}
+use Rattle.glob_syntax.specs.TokensMatch.{is_prefix_alone}
 
 -- ---- characters
 

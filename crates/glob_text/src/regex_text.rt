@@ -7,8 +7,7 @@ ghost use Rattle.glob_syntax.specs.Views.{flat_of, flats, tokens_of};
 ghost use Rattle.glob_text.specs.RegexText.{is_escaped, hexadecimal_digit, byte_text, char_text, range_text, class_text, group_text, ascii_text, longer_texts, any_text, tokens_text, flags_text, body_text, regex_text};
 ghost use Rattle.glob_text.specs.inner.RegexWriting.{chosen, opener, closer, simple_text};
 
-use glob_meaning::is_prefix_alone;
-use glob_syntax::{Class, Options, Token};
+use glob_syntax::{Class, Options, Token, is_prefix_alone};
 use std::alloc::{AllocError, Global};
 
 /// The most bytes of what stands around the text of the tokens: the flags, `^` and `$`.

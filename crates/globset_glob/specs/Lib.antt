@@ -22,7 +22,7 @@ pub use Rattle.glob_syntax.specs.StatesPerByte
 pub use Rattle.glob_syntax.specs.Views
 pub use Rattle.glob_path.specs.PathParts
 pub use Rattle.bit_sets.specs.Texts
-pub use Rattle.glob_meaning.specs.Blank
-pub use Rattle.glob_meaning.specs.Characters
-pub use Rattle.glob_meaning.specs.TokenMatches
-pub use Rattle.glob_meaning.specs.TokensMatch
+pub use Rattle.glob_syntax.specs.Blank
+pub use Rattle.glob_syntax.specs.Characters
+pub use Rattle.glob_syntax.specs.TokenMatches
+pub use Rattle.glob_syntax.specs.TokensMatch

@@ -7,6 +7,7 @@ mod internal;
 mod json;
 mod matcher;
 
+pub use bit_sets::Visits;
 pub use builder::GlobBuilder;
 pub use glob::Glob;
 pub use glob_matching::DEFAULT_DFA_SIZE_LIMIT;
@@ -16,4 +17,3 @@ pub use glob_syntax::{Class, Options, Token};
 pub use glob_text::{Error, ErrorKind, ValueError, ValueErrorKind, escape};
 pub use internal::{options_of, text_of, tokens_of};
 pub use matcher::{GlobMatcher, MatcherSearcher};
-pub use visits::Visits;

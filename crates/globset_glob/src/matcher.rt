@@ -11,6 +11,7 @@ mod searcher;
 mod strategy;
 
 use crate::glob::Glob;
+use bit_sets::Visits;
 use glob_path::{AsPath, Candidate};
 use glob_scratch::{NeedsScratch, Scratch};
 use glob_text::Error;
@@ -20,7 +21,6 @@ use std::alloc::AllocError;
 use std::fmt;
 use std::marker::Model;
 use strategy::Strategy;
-use visits::Visits;
 
 /// Tells whether a glob matches a path.
 ///

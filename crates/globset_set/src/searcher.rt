@@ -9,13 +9,13 @@ ghost use Rattle.globset_set.specs.Work.{max_set_visits, max_set_visits_below};
 ghost use Rattle.set_matcher.specs.Indexes.{ContainsAllBelow};
 
 use crate::shared::Shared;
+use bit_sets::Visits;
 use glob_path::Candidate;
 use glob_scratch::Scratch;
 use glob_text::Error;
 use set_matcher::Caches;
 use std::alloc::Global;
 use std::marker::Model;
-use visits::Visits;
 
 /// What a set stores, with all the memory that one thread needs to match with it: its calls take none, and cannot fail. Automata keep
 /// rows from one path to the next, so that few have to be simulated. Contracts see what they see of the set.

@@ -12,6 +12,7 @@ ghost use Rattle.globset_set.specs.inner.StoredGlobs.{AreStored};
 ghost use Rattle.set_matcher.specs.Indexes.{ContainsAllBelow};
 ghost use Rattle.set_matcher.specs.inner.Caches.{AreCachesOf};
 
+use bit_sets::Visits;
 use glob_path::Candidate;
 use glob_scratch::{NeedsScratch, Scratch};
 use glob_text::{Error, GivenGlobs};
@@ -19,7 +20,6 @@ use set_matcher::{Caches, SetMatcher};
 use std::alloc::{AllocError, Global};
 use std::marker::Model;
 use std::sync::Arc;
-use visits::Visits;
 
 /// A matcher that decides which globs of a set match a path. The index of a glob is its position. Of the globs themselves nothing is
 /// kept but what contracts see, which takes no memory. Contracts see the automata too, so that it can be said which of them a cache

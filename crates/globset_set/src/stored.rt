@@ -13,6 +13,7 @@ ghost use Rattle.set_matcher.specs.Indexes.{ContainsAllBelow};
 
 use crate::searcher::StoredSearcher;
 use crate::shared::Shared;
+use bit_sets::Visits;
 use glob_path::Candidate;
 use glob_scratch::Scratch;
 use glob_text::{Error, GivenGlobs};
@@ -20,7 +21,6 @@ use set_matcher::{Caches, SetMatcher};
 use std::alloc::{AllocError, Global};
 use std::fmt;
 use std::marker::Model;
-use visits::Visits;
 
 /// What a set needs to match. Contracts see the list of its globs, and the number of states of the largest automaton.
 pub struct Stored {

@@ -9,11 +9,10 @@ ghost use Rattle.lazy_dfa.specs.inner.Rows.{IsCacheOf};
 
 use crate::automaton::LazyDfa;
 use crate::rows::Rows;
-use bit_sets::IndexSet;
+use bit_sets::{IndexSet, Visits};
 use std::alloc::{AllocError, Global};
 use std::marker::Model;
 use std::snapshot::Snapshot;
-use visits::Visits;
 
 /// The rows that the texts of one thread needed so far, in a memory of fixed size.
 ///

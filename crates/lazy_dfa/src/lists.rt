@@ -6,8 +6,7 @@ ghost use Rattle.bit_sets.specs.Numbers.{has_number, AreBelow};
 ghost use Rattle.bit_sets.specs.StateSets.{has_state, state_capacity};
 ghost use Rattle.byte_dfa.specs.inner.Lists.{list_at};
 
-use bit_sets::{IndexSet, StateSet};
-use visits::Visits;
+use bit_sets::{IndexSet, StateSet, Visits};
 
 /// Returns the list of states of a row, by the places where the lists of rows stand.
 pub fn states_at<'a>(starts: &[usize], lists: &'a [usize], row: usize) -> &'a [usize]

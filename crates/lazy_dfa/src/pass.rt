@@ -8,9 +8,8 @@ ghost use Rattle.byte_nfa.specs.Runs.{size, AcceptsFrom};
 ghost use Rattle.byte_nfa.specs.inner.Views.{GoesBelow};
 ghost use Rattle.byte_nfa.specs.inner.Pass.{goes_now, goes_next, names};
 
-use bit_sets::{IndexSet, StateSet};
+use bit_sets::{IndexSet, StateSet, Visits};
 use byte_nfa::Draft;
-use visits::Visits;
 
 /// Puts the states that a byte leads to from the states of a set into `to`, and the index of each end that they lead to without a
 /// byte into `ends`. What `to` and `ends` held has no effect.

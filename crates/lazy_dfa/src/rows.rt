@@ -14,13 +14,12 @@ ghost use Rattle.lazy_dfa.specs.inner.Rows.{AcceptsRow, HasEnds, HasMarks, GoesT
 
 use crate::lists::{extend_within, list_indexes, list_of, push_within, states_at, zeros_within};
 use crate::pass::read;
-use bit_sets::{IndexSet, StateSet};
+use bit_sets::{IndexSet, StateSet, Visits};
 use byte_dfa::{ByteClasses, put_listed};
 use byte_nfa::Draft;
 use std::alloc::{AllocError, Global};
 use std::hash::{FoldHasher, Hasher};
 use std::mem;
-use visits::Visits;
 
 /// An entry that is not known.
 const UNKNOWN: u32 = 0;

@@ -14,9 +14,8 @@ ghost use Rattle.lazy_dfa.specs.inner.Reached.{IsWhere};
 
 use crate::lists::put_lowered;
 use crate::rows::Rows;
-use bit_sets::{IndexSet, StateSet};
+use bit_sets::{IndexSet, StateSet, Visits};
 use byte_nfa::Draft;
-use visits::Visits;
 
 /// Where a text leads.
 #[derive(Clone, Copy)]

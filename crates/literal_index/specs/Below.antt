@@ -1,6 +1,6 @@
 -- Which keys a path below a folder may find.
 use Rattle.std.specs.Prelude.{◌≢◌, ℕ, ◌↔◌, ◌⊎◌, List, [], Contains}
-use Rattle.key_table.specs.Entries.{Entry, entry}
+use Rattle.byte_keys.specs.Entries.{Entry, entry}
 use Rattle.glob_path.specs.Below.{BeginsWith, folder_start}
 use Rattle.literal_index.specs.LiteralIndex.{KeyParts}
 

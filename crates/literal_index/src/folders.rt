@@ -1,16 +1,16 @@
 //! The folders of keys: below which folders some of many keys are.
 
 ghost use Rattle.std.specs.Prelude.{◌≡◌, ◌+◌, ◌++◌, ◌↔◌, [], map, IsTrue, IfOk, OnOk};
-ghost use Rattle.byte_trie.specs.Texts.{entry_of};
+ghost use Rattle.byte_keys.specs.Texts.{entry_of};
 ghost use Rattle.glob_path.specs.Below.{folder_start};
 ghost use Rattle.literal_index.specs.inner.Folders.{AreFolders, AreRising, SomeBelow, bytes_of, place_of, shown_of, start_of};
 
-use byte_trie::Text;
-use glob_path::{Candidate, last_component_of};
+use bit_sets::Visits;
+use byte_keys::Text;
+use glob_path::PathParts;
 use std::alloc::{AllocError, Global};
 use std::cmp::Ordering;
 use std::marker::Model;
-use visits::Visits;
 
 /// The folders of keys, each once, in the order of their bytes. The folder of a key is the key up to its last `/`, or nothing if
 /// it has no `/`.
@@ -92,7 +92,7 @@ fn push_starts<'k>(starts: &mut Vec<&'k [u8]>, keys: &'k [Text]) -> Result<(), A
 fn start_of(key: &[u8]) -> &[u8]
     ensures { result.now ≡ start_of key.now }
 {
-    let name = last_component_of(&Candidate::from_bytes(key));
+    let name = PathParts::new(key).last_component();
     &key[..key.len() - name.len()]
 }
 

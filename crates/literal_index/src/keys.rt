@@ -2,8 +2,8 @@
 
 ghost use Rattle.std.specs.Prelude.{◌≡◌, ◌≢◌, ◌+◌, ◌*◌, ◌≤◌, ◌↔◌, ◌<◌, ◌^◌, [], ℕ, List, length, map, IsTrue, IsFalse, MatchOption, OnOk, IfOk};
 ghost use Rattle.bit_sets.specs.Indexes.{index_capacity, HasAlso};
-ghost use Rattle.key_table.specs.Entries.{indexes_under};
-ghost use Rattle.byte_trie.specs.Texts.{entry_of};
+ghost use Rattle.byte_keys.specs.Entries.{indexes_under};
+ghost use Rattle.byte_keys.specs.Texts.{entry_of};
 ghost use Rattle.glob_path.specs.Key.{KeyMatches, KeyMayMatchBelow, key_seen};
 ghost use Rattle.glob_path.specs.PathParts.{component_extension, last_component};
 ghost use Rattle.literal_index.specs.Below.{BelowMore, MatchesBelow};
@@ -12,13 +12,11 @@ ghost use Rattle.literal_index.specs.inner.Folders.{AreFolders};
 ghost use Rattle.literal_index.specs.inner.Parts.{HasOthers, tables_count};
 
 use crate::folders::Folders;
-use bit_sets::IndexSet;
-use byte_trie::{Anchor, Text, Trie};
-use glob_path::{Candidate, Key, component_extension_of, last_component_of};
-use key_table::{Table, TableBuilder};
+use bit_sets::{IndexSet, Visits};
+use byte_keys::{Anchor, Table, TableBuilder, Text, Trie};
+use glob_path::{Key, PathParts};
 use std::alloc::{AllocError, Global};
 use std::marker::Model;
-use visits::Visits;
 
 /// Indexes under keys, where a path finds those of the keys that match it.
 pub struct LiteralIndex {
@@ -66,10 +64,20 @@ impl Model for LiteralIndex {
 }
 
 impl LiteralIndex {
+    /// Returns whether the last component of a path is asked for.
+    pub fn uses_last_component(&self) -> bool {
+        !self.components.is_empty()
+    }
+
+    /// Returns whether the extension of a path is asked for.
+    pub fn uses_extension(&self) -> bool {
+        !self.extensions.is_empty()
+    }
+
     /// Puts the indexes that the path finds into a set, beside what it holds: those under it, under its last component and under
     /// the extension of that, and those of the texts that it begins or ends with. An index that the set has no room for is left
     /// out. A part of the path is only searched for if there are keys for it. It takes no memory.
-    pub fn find(&self, path: &Candidate<'_>, found: &mut IndexSet, visits: &mut Visits)
+    pub fn find(&self, path: &PathParts<'_>, found: &mut IndexSet, visits: &mut Visits)
         ensures room { index_capacity found.new ≡ index_capacity found.old }
         ensures found { HasAlso found.old found.new (keys_found self.now path.now) }
         ensures visits { visits.new ≤ visits.old + (3 + 2 * (length path.now + 1)) }
@@ -83,7 +91,7 @@ impl LiteralIndex {
     }
 
     /// Returns whether the path finds an index. It takes no memory.
-    pub fn is_match(&self, path: &Candidate<'_>, visits: &mut Visits) -> bool
+    pub fn is_match(&self, path: &PathParts<'_>, visits: &mut Visits) -> bool
         ensures some { IsTrue result ↔ (keys_found self.now path.now ≢ []) }
         ensures visits { visits.new ≤ visits.old + (3 + 2 * (length path.now + 1)) }
         ensures counted { visits.old ≤ visits.new }
@@ -126,7 +134,7 @@ impl LiteralIndex {
     }
 
     /// Returns how many indexes the path finds, or `None` if these are more than a `usize` can count. It takes no memory.
-    pub fn count_found(&self, path: &Candidate<'_>, visits: &mut Visits) -> Option<usize>
+    pub fn count_found(&self, path: &PathParts<'_>, visits: &mut Visits) -> Option<usize>
         ensures count { MatchOption result (2 ^ 64 ≤ length (keys_found self.now path.now)) (λ count. count ≡ length (keys_found self.now path.now)) }
         ensures visits { visits.new ≤ visits.old + (3 + 2 * (length path.now + 1)) }
         ensures counted { visits.old ≤ visits.new }
@@ -138,7 +146,7 @@ impl LiteralIndex {
     }
 
     /// Returns how many indexes the path finds in tables.
-    fn count_in_tables(&self, path: &Candidate<'_>, visits: &mut Visits) -> Option<usize>
+    fn count_in_tables(&self, path: &PathParts<'_>, visits: &mut Visits) -> Option<usize>
         ensures count { MatchOption result (2 ^ 64 ≤ tables_count self.now path.now) (λ count. count ≡ tables_count self.now path.now) }
         ensures visits { visits.new ≤ visits.old + 3 }
         ensures counted { visits.old ≤ visits.new }
@@ -150,7 +158,7 @@ impl LiteralIndex {
     }
 
     /// Returns the indexes under the path.
-    fn by_path(&self, path: &Candidate<'_>, visits: &mut Visits) -> &[usize]
+    fn by_path(&self, path: &PathParts<'_>, visits: &mut Visits) -> &[usize]
         ensures found { result.now ≡ indexes_under self.now.paths path.now }
         ensures visits { visits.new ≤ visits.old + 1 }
         ensures counted { visits.old ≤ visits.new }
@@ -162,7 +170,7 @@ impl LiteralIndex {
     }
 
     /// Returns the indexes under the path's last component.
-    fn by_component(&self, path: &Candidate<'_>, visits: &mut Visits) -> &[usize]
+    fn by_component(&self, path: &PathParts<'_>, visits: &mut Visits) -> &[usize]
         ensures found { result.now ≡ indexes_under self.now.components (last_component path.now) }
         ensures visits { visits.new ≤ visits.old + 1 }
         ensures counted { visits.old ≤ visits.new }
@@ -171,11 +179,11 @@ impl LiteralIndex {
             return &[];
         }
         self.components
-            .get(last_component_of(path), visits, &mut Visits::new())
+            .get(path.last_component(), visits, &mut Visits::new())
     }
 
     /// Returns the indexes under the extension of the path's last component.
-    fn by_extension(&self, path: &Candidate<'_>, visits: &mut Visits) -> &[usize]
+    fn by_extension(&self, path: &PathParts<'_>, visits: &mut Visits) -> &[usize]
         ensures found { result.now ≡ indexes_under self.now.extensions (component_extension path.now) }
         ensures visits { visits.new ≤ visits.old + 1 }
         ensures counted { visits.old ≤ visits.new }
@@ -184,7 +192,7 @@ impl LiteralIndex {
             return &[];
         }
         self.extensions
-            .get(component_extension_of(path), visits, &mut Visits::new())
+            .get(path.extension(), visits, &mut Visits::new())
     }
 }
 
@@ -212,7 +220,7 @@ impl Drop for LiteralIndexBuilder {
 
 impl Model for LiteralIndexBuilder {
     ghost use Rattle.std.specs.Prelude.{map};
-    ghost use Rattle.byte_trie.specs.Texts.{entry_of};
+    ghost use Rattle.byte_keys.specs.Texts.{entry_of};
     ghost use Rattle.literal_index.specs.LiteralIndex.{KeyParts};
 
     ghost Value = { KeyParts };

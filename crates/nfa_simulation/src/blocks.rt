@@ -7,9 +7,8 @@ ghost use Rattle.nfa_simulation.specs.inner.Blocks.{AreBlocks, KeepsBlocks, Tell
 
 mod making;
 
-use bit_sets::StateSet;
+use bit_sets::{StateSet, Visits};
 use std::alloc::{AllocError, Global};
-use visits::Visits;
 
 /// States of one word of a set of states, that follow each other: those from `low` on and below `high`. Each of them reads a
 /// byte and goes on to the state below.

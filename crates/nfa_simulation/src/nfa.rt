@@ -15,11 +15,10 @@ mod passes;
 mod word_passes;
 
 use crate::blocks::Blocks;
-use bit_sets::{IndexSet, StateSet};
+use bit_sets::{IndexSet, StateSet, Visits};
 use byte_nfa::Draft;
 use std::alloc::AllocError;
 use std::marker::Model;
-use visits::Visits;
 
 /// An automaton for runs: states over bytes, and those of them that a run begins in.
 ///

@@ -13,9 +13,8 @@ mod in_word;
 
 use crate::nfa::Nfa;
 use crate::state_sets::StateSets;
-use bit_sets::IndexSet;
+use bit_sets::{IndexSet, Visits};
 use std::mem::swap;
-use visits::Visits;
 
 /// The states that a word has a bit for.
 const WORD_STATES: usize = 64;

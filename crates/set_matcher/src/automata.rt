@@ -3,6 +3,7 @@
 ghost use Rattle.std.specs.Prelude.{◌≡◌, ◌+◌, ◌*◌, ◌<◌, ◌≤◌, ◌++◌, ◌∷◌, ◌↔◌, [], ℕ, List, length, Some, true, false, IsTrue, IsOk, OnOk, OnErr, IfOk, IfSome};
 ghost use Rattle.byte_nfa.specs.Runs.{size, max_reads};
 ghost use Rattle.bit_sets.specs.Indexes.{has_index, index_capacity};
+ghost use Rattle.bit_sets.specs.Texts.{AllBytes};
 ghost use Rattle.nfa_simulation.specs.Sets.{sets_capacity};
 ghost use Rattle.glob_nfa.specs.IndexedTokens.{IndexedTokens, IsFor, indexed};
 ghost use Rattle.glob_matching.specs.Matching.{AddsMatches, TellsMatch};
@@ -21,17 +22,16 @@ mod slots;
 
 use crate::caches::{Caches, SlotCaches};
 use below::has_text;
-use bit_sets::IndexSet;
+use bit_sets::{IndexSet, Visits};
 use byte_nfa::Builder;
 use glob_matching::{Budget, Compiled, RowCache};
 use glob_nfa::{add_tokens, new_builder};
-use glob_path::{Candidate, component_extension_of, last_component_of};
+use glob_path::PathParts;
 use glob_syntax::{Options, Token};
 use matchers::{ExtensionMatchers, ExtensionMatchersBuilder};
 use nfa_simulation::StateSets;
 use std::alloc::{AllocError, Global};
 use std::marker::Model;
-use visits::Visits;
 
 /// Automata for globs, by the part of a path that they are run on: the whole path, its last component, or the whole path if its
 /// last component has some extension.
@@ -110,13 +110,14 @@ impl Automata {
     /// Marks the indexes of the globs that match the path, and no others. Returns an error if memory runs out.
     pub fn mark(
         &self,
-        path: &[u8],
+        path: &PathParts<'_>,
         sets: &mut StateSets,
         marks: &mut IndexSet,
         caches: &mut Caches,
         visits: &mut Visits,
     ) -> Result<(), AllocError>
-        requires { AreCachesOf self.now caches.old }
+        requires caches { AreCachesOf self.now caches.old }
+        requires bytes { AllBytes path.now }
         ensures caches { caches.new ≡ caches.old }
         ensures room { OnOk result (self.now.extensions.index_count ≤ index_capacity marks.new) }
         ensures marked { OnOk result ((t : TokenLists) → AreForLists self.now t → (k : ℕ) → IsTrue (has_index marks.new k) ↔ AreFound self.now.extensions.slots t path.now k) }
@@ -139,13 +140,14 @@ impl Automata {
     /// The sets get room for each index, and for each state of a part that is simulated. Returns an error if memory runs out.
     pub fn find(
         &self,
-        path: &[u8],
+        path: &PathParts<'_>,
         sets: &mut StateSets,
         marks: &mut IndexSet,
         caches: &mut Caches,
         visits: &mut Visits,
     ) -> Result<bool, AllocError>
-        requires { AreCachesOf self.now caches.old }
+        requires caches { AreCachesOf self.now caches.old }
+        requires bytes { AllBytes path.now }
         ensures caches { caches.new ≡ caches.old }
         ensures found { IfOk result (λ some. some ≡ true → IsFoundSet self.now path.now marks.new) }
         ensures idle { IfOk result (λ some. some ≡ false → AreIdle self.now path.now) }
@@ -156,7 +158,7 @@ impl Automata {
         ensures visits { visits.new ≤ visits.old + (1 + (length path.now + 1) * reads_for self.now path.now) }
         ensures counted { visits.old ≤ visits.new }
     {
-        let slot = self.slot_of(&Candidate::from_bytes(path), visits);
+        let slot = self.slot_of(path, visits);
         let by_extension = self.extensions.automaton_at(slot);
         if self.is_idle(by_extension) {
             return Ok(false);
@@ -198,12 +200,13 @@ impl Automata {
     /// The sets get room for each state of a part that is simulated. Returns an error if memory runs out.
     pub fn is_match(
         &self,
-        path: &[u8],
+        path: &PathParts<'_>,
         sets: &mut StateSets,
         caches: &mut Caches,
         visits: &mut Visits,
     ) -> Result<bool, AllocError>
-        requires { AreCachesOf self.now caches.old }
+        requires caches { AreCachesOf self.now caches.old }
+        requires bytes { AllBytes path.now }
         ensures caches { caches.new ≡ caches.old }
         ensures some { IfOk result (λ yes. (t : TokenLists) → AreForLists self.now t → IsTrue yes ↔ ((k : ℕ) × AreFound self.now.extensions.slots t path.now k)) }
         ensures kept { sets_capacity sets.old ≤ sets_capacity sets.new }
@@ -232,7 +235,7 @@ impl Automata {
         )? {
             return Ok(true);
         }
-        let slot = self.slot_of(&Candidate::from_bytes(path), visits);
+        let slot = self.slot_of(path, visits);
         matches_by_slot(
             slot,
             self.extensions.automaton_at(slot),
@@ -245,7 +248,7 @@ impl Automata {
 
     /// Returns the slot of the extension of the path's last component, if it has one. The extension is only searched for if some
     /// extension has an automaton.
-    fn slot_of(&self, path: &Candidate<'_>, visits: &mut Visits) -> Option<usize>
+    fn slot_of(&self, path: &PathParts<'_>, visits: &mut Visits) -> Option<usize>
         ensures slot { result ≡ slot_of self.now.extensions.slots (component_extension path.now) }
         ensures held { (s : ℕ) → result ≡ Some s → s < length self.now.extensions.machines }
         ensures visits { visits.new ≤ visits.old + 1 }
@@ -254,8 +257,17 @@ impl Automata {
         if self.extensions.is_empty() {
             return None;
         }
-        self.extensions
-            .slot_of(component_extension_of(path), visits)
+        self.extensions.slot_of(path.extension(), visits)
+    }
+
+    /// Returns whether the last component of a path is asked for.
+    pub fn uses_last_component(&self) -> bool {
+        self.by_component.state_count() != 0
+    }
+
+    /// Returns whether the extension of a path is asked for.
+    pub fn uses_extension(&self) -> bool {
+        !self.extensions.is_empty()
     }
 
     /// Returns whether there are no states, in the automaton of an extension either.
@@ -277,13 +289,13 @@ enum Part {
 }
 
 impl Part {
-    /// Returns the part's bytes. It searches no byte of the path for them that lies before the part's last component.
-    fn of(self, path: &[u8]) -> &[u8]
+    /// Returns the part's bytes. It searches no byte of the path for them that lies before the path's last component.
+    fn of<'p>(self, path: &PathParts<'p>) -> &'p [u8]
         ensures { result.now ≡ part_of self path.now }
     {
         match self {
-            Part::Path => path,
-            Part::LastComponent => last_component_of(&Candidate::from_bytes(path)),
+            Part::Path => path.path(),
+            Part::LastComponent => path.last_component(),
             Part::BeforeExtension => before_extension(path),
         }
     }
@@ -294,12 +306,13 @@ impl Part {
 fn run(
     part: Part,
     automaton: &Compiled,
-    path: &[u8],
+    path: &PathParts<'_>,
     sets: &mut StateSets,
     cache: &mut Option<RowCache>,
     marks: &mut IndexSet,
     visits: &mut Visits,
 ) -> Result<(), AllocError>
+    requires bytes { AllBytes path.now }
     requires count { automaton.now.index_count ≤ index_capacity marks.old }
     requires cache { IfSome cache.old (λ c. c ≡ automaton.now) }
     ensures cache { cache.new ≡ cache.old }
@@ -321,12 +334,13 @@ fn run(
 fn run_by_slot(
     slot: Option<usize>,
     automaton: &Compiled,
-    path: &[u8],
+    path: &PathParts<'_>,
     sets: &mut StateSets,
     caches: &mut SlotCaches,
     marks: &mut IndexSet,
     visits: &mut Visits,
 ) -> Result<(), AllocError>
+    requires bytes { AllBytes path.now }
     requires count { automaton.now.index_count ≤ index_capacity marks.old }
     requires cache { (s : ℕ) → slot ≡ Some s → IsCacheAt caches.old s automaton.now }
     ensures caches { caches.new ≡ caches.old }
@@ -348,12 +362,13 @@ fn run_by_slot(
 fn matches_part(
     part: Part,
     automaton: &Compiled,
-    path: &[u8],
+    path: &PathParts<'_>,
     sets: &mut StateSets,
     cache: &mut Option<RowCache>,
     visits: &mut Visits,
 ) -> Result<bool, AllocError>
-    requires { IfSome cache.old (λ c. c ≡ automaton.now) }
+    requires bytes { AllBytes path.now }
+    requires cache { IfSome cache.old (λ c. c ≡ automaton.now) }
     ensures cache { cache.new ≡ cache.old }
     ensures some { IfOk result (TellsMatch automaton.now (part_of part path.now)) }
     ensures kept { sets_capacity sets.old ≤ sets_capacity sets.new }
@@ -372,12 +387,13 @@ fn matches_part(
 fn matches_by_slot(
     slot: Option<usize>,
     automaton: &Compiled,
-    path: &[u8],
+    path: &PathParts<'_>,
     sets: &mut StateSets,
     caches: &mut SlotCaches,
     visits: &mut Visits,
 ) -> Result<bool, AllocError>
-    requires { (s : ℕ) → slot ≡ Some s → IsCacheAt caches.old s automaton.now }
+    requires bytes { AllBytes path.now }
+    requires cache { (s : ℕ) → slot ≡ Some s → IsCacheAt caches.old s automaton.now }
     ensures caches { caches.new ≡ caches.old }
     ensures some { IfOk result (TellsMatch automaton.now (before_extension path.now)) }
     ensures kept { sets_capacity sets.old ≤ sets_capacity sets.new }
@@ -393,12 +409,12 @@ fn matches_by_slot(
 }
 
 /// Returns the bytes of a path before the extension of its last component.
-fn before_extension(path: &[u8]) -> &[u8]
+fn before_extension<'p>(path: &PathParts<'p>) -> &'p [u8]
     ensures { result.now ≡ before_extension path.now }
 {
-    let extension = component_extension_of(&Candidate::from_bytes(path));
-    let end = path.len() - extension.len();
-    &path[..end]
+    let bytes = path.path();
+    let end = bytes.len() - path.extension().len();
+    &bytes[..end]
 }
 
 /// Makes [`Automata`] if some glob needs one. Until then it has no builders, so that little is moved for a set that needs none.

@@ -8,9 +8,9 @@ ghost use Rattle.set_matcher.specs.inner.Caches.{AreCachesOf};
 
 use crate::caches::Caches;
 use crate::matcher::SetMatcher;
+use bit_sets::Visits;
 use glob_scratch::Scratch;
 use std::alloc::AllocError;
-use visits::Visits;
 
 impl SetMatcher {
     /// Returns whether some glob that is not excluded matches some path below a folder: the folder, a `/`, and any bytes, perhaps none.

@@ -10,12 +10,11 @@ ghost use Rattle.nfa_simulation.specs.Sets.{sets_capacity};
 ghost use Rattle.set_matcher.specs.inner.Automata.{AutomataParts};
 ghost use Rattle.set_matcher.specs.inner.Caches.{AreCachesOf, IsCacheAt};
 
-use bit_sets::IndexSet;
+use bit_sets::{IndexSet, Visits};
 use glob_matching::{Compiled, RowCache};
 use nfa_simulation::StateSets;
 use std::alloc::AllocError;
 use std::marker::Model;
-use visits::Visits;
 
 /// The rows that the automata of a matcher made for the paths of one thread. Where an automaton has none, it runs without.
 ///
@@ -46,7 +45,7 @@ impl Caches {
         Caches {
             by_path: None,
             by_component: None,
-            by_slot: SlotCaches { caches: None },
+            by_slot: SlotCaches::none(),
         }
     }
 

@@ -12,12 +12,11 @@ ghost use Rattle.set_matcher.specs.inner.Caches.{AreCachesOf};
 
 use crate::caches::Caches;
 use crate::matcher::SetMatcher;
-use bit_sets::IndexSet;
-use glob_path::Candidate;
+use bit_sets::{IndexSet, Visits};
+use glob_path::{Candidate, PathParts};
 use glob_scratch::Scratch;
 use nfa_simulation::StateSets;
 use std::alloc::{AllocError, Global};
-use visits::Visits;
 
 impl SetMatcher {
     /// Returns the number of globs, with those that are excluded.
@@ -107,12 +106,12 @@ impl SetMatcher {
         ensures visits { visits.new ≤ visits.old + max_visits (matcher_globs self.now) path.now }
         ensures counted { visits.old ≤ visits.new }
     {
-        if self.keys.is_match(path, visits) {
+        let parts = self.parts_of(path.path());
+        if self.keys.is_match(&parts, visits) {
             return Ok(true);
         }
-        let text = with_bytes(path.path());
         match &self.automata {
-            Some(automata) => automata.is_match(text, &mut scratch.sets, caches, visits),
+            Some(automata) => automata.is_match(&parts, &mut scratch.sets, caches, visits),
             None => Ok(false),
         }
     }
@@ -137,15 +136,15 @@ impl SetMatcher {
         ensures visits { visits.new ≤ visits.old + max_visits (matcher_globs self.now) path.now }
         ensures counted { visits.old ≤ visits.new }
     {
-        let text = with_bytes(path.path());
+        let parts = self.parts_of(path.path());
         if let Some(automata) = &self.automata {
             let marks = &mut scratch.marks;
-            if automata.find(text, &mut scratch.sets, marks, caches, visits)? {
-                self.keys.find(path, marks, visits);
+            if automata.find(&parts, &mut scratch.sets, marks, caches, visits)? {
+                self.keys.find(&parts, marks, visits);
                 return Ok(marks.has_all_below(self.len()));
             }
         }
-        Ok(self.keys.count_found(path, visits) == Some(self.len()))
+        Ok(self.keys.count_found(&parts, visits) == Some(self.len()))
     }
 
     /// Marks the indexes of the globs that are not excluded and match the path, and no others. Returns an error if memory runs
@@ -167,23 +166,34 @@ impl SetMatcher {
         ensures visits { visits.new ≤ visits.old + max_visits (matcher_globs self.now) path.now }
         ensures counted { visits.old ≤ visits.new }
     {
-        let text = with_bytes(path.path());
+        let parts = self.parts_of(path.path());
         match &self.automata {
-            Some(automata) => automata.mark(text, sets, marks, caches, visits)?,
+            Some(automata) => automata.mark(&parts, sets, marks, caches, visits)?,
             None => {
                 marks.clear();
                 marks.reserve(self.index_count)?;
             }
         }
-        self.keys.find(path, marks, visits);
+        self.keys.find(&parts, marks, visits);
         Ok(())
     }
-}
 
-/// Returns the same text. Contracts see that it has bytes, which they do not see of a [`Candidate`].
-fn with_bytes(text: &[u8]) -> &[u8]
-    ensures same { result.now ≡ text.now }
-    ensures bytes { AllBytes result.now }
-{
-    text
+    /// Returns a path with the parts that keys and automata ask for, so that each is searched for once.
+    fn parts_of<'p>(&self, path: &'p [u8]) -> PathParts<'p>
+        ensures path { result ≡ path.now }
+        ensures bytes { AllBytes result }
+    {
+        let (component, extension) = match &self.automata {
+            Some(automata) => (automata.uses_last_component(), automata.uses_extension()),
+            None => (false, false),
+        };
+        let mut parts = PathParts::new(path);
+        if component || self.keys.uses_last_component() {
+            parts.find_last_component();
+        }
+        if extension || self.keys.uses_extension() {
+            parts.find_extension();
+        }
+        parts
+    }
 }

@@ -6,8 +6,8 @@ ghost use Rattle.bit_sets.specs.StateSets.{has_state, state_capacity};
 ghost use Rattle.bit_sets.specs.Bits.{is_in_word};
 
 use crate::state_set::StateSet;
+use crate::visits::Visits;
 use crate::words::set_lowered;
-use visits::Visits;
 
 impl StateSet {
     /// Returns a bound that is not above another. No state from it on and below the other is in the set. It is one visit if it is

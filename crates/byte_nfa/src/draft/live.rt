@@ -11,8 +11,7 @@ ghost use Rattle.byte_nfa.specs.inner.Views.{GoesBelow};
 
 use crate::draft::Draft;
 use crate::state::is_in;
-use bit_sets::StateSet;
-use visits::Visits;
+use bit_sets::{StateSet, Visits};
 
 impl Draft {
     /// Puts the states from which some bytes lead to an end into a set. What the set held has no effect.

@@ -4,8 +4,8 @@ use Rattle.glob_syntax.specs.declared.options.Options.{Options}
 use Rattle.byte_nfa.specs.Steps.{State, bytes_state, union_state, Machine}
 use Rattle.byte_nfa.specs.Building.{Agrees, Keeps, Pushes}
 use Rattle.bit_sets.specs.declared.byte_set.ByteSet.{ByteSet}
-use Rattle.glob_meaning.specs.Characters.{is_between}
-use Rattle.glob_meaning.specs.inner.CharacterRows.{continues, begins_three, is_ascii_wild}
+use Rattle.glob_syntax.specs.Characters.{is_between}
+use Rattle.glob_syntax.specs.inner.CharacterRows.{continues, begins_three, is_ascii_wild}
 use Rattle.glob_nfa.specs.inner.TokenStates.{IsSetOf, is_letter, ReadsEach}
 use Rattle.glob_nfa.specs.inner.Building.{Grows, BuildsText, BuildsRow, BuildsCharacter}
 

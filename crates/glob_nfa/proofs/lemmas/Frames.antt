@@ -12,7 +12,7 @@ use Rattle.glob_syntax.specs.FlatTokens.{all_levels, Flat, simple, opening, comm
 use Rattle.glob_syntax.specs.Views.{flat_of}
 use Rattle.glob_syntax.specs.inner.Weight.{weight, token_weight, branches_weight}
 use Rattle.glob_syntax.proofs.lemmas.FlatTokens.{IsSole}
-use Rattle.glob_meaning.specs.Blank.{is_blank_token, is_kept, any_kept}
+use Rattle.glob_syntax.specs.Blank.{is_blank_token, is_kept, any_kept}
 use Rattle.byte_nfa.specs.Steps.{State, union_state, state, Machine}
 use Rattle.bit_sets.specs.Numbers.{AreBelow}
 use Rattle.byte_nfa.specs.Building.{Pushes}
@@ -21,7 +21,7 @@ use Rattle.glob_nfa.specs.inner.TokenStates.{IsBuilt, IsBuiltToken, AreBuilt}
 use Rattle.glob_nfa.specs.inner.Building.{Grows, Builds, BuildsToken}
 use Rattle.glob_nfa.specs.inner.Frames.{Frame, frame_of, frames_of, fresh, led, with_start, ended, targets_of, AreOpen, AreBlank, AreWithin, levels_weight, Stands, flat_weight, BuildsFlat, IsNotBlank}
 use Rattle.glob_nfa.specs.declared.groups.Frame as kept
-use Rattle.glob_meaning.proofs.lemmas.Booleans.{or_first}
+use Rattle.glob_syntax.proofs.lemmas.Booleans.{or_first}
 use Rattle.glob_nfa.proofs.lemmas.Building.{agrees_old, agrees_higher, grows_then, grows_push}
 
 -- ---- frames as the program keeps them

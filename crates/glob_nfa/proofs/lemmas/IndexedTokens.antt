@@ -5,8 +5,8 @@ use Rattle.std.proofs.Math.Logic.{⊎_elim}
 use Rattle.glob_syntax.specs.declared.options.Options.{Options}
 use Rattle.glob_syntax.specs.Token.{Tokens}
 use Rattle.glob_syntax.specs.inner.Weight.{weight}
-use Rattle.glob_meaning.specs.TokenMatches.{tokens_match_each}
-use Rattle.glob_meaning.specs.TokensMatch.{tokens_match, is_prefix_alone}
+use Rattle.glob_syntax.specs.TokenMatches.{tokens_match_each}
+use Rattle.glob_syntax.specs.TokensMatch.{tokens_match, is_prefix_alone}
 use Rattle.byte_nfa.specs.Steps.{state, loop_state, match_state, HasNumber, Accepts, Machine, IsReached}
 use Rattle.byte_nfa.specs.Building.{Agrees, Pushes}
 use Rattle.bit_sets.specs.declared.byte_set.ByteSet.{ByteSet}
@@ -14,9 +14,9 @@ use Rattle.glob_nfa.specs.inner.TokenStates.{IsSetOf, is_any_byte}
 use Rattle.glob_nfa.specs.inner.Building.{Grows, Builds, BuildsWhole}
 use Rattle.bit_sets.specs.Texts.{AllBytes}
 use Rattle.glob_nfa.specs.IndexedTokens.{IndexedTokens, indexed, Matches, SomeMatches, IsFor}
-use Rattle.glob_meaning.proofs.lemmas.Booleans.{or_first}
+use Rattle.glob_syntax.proofs.lemmas.Booleans.{or_first}
 use Rattle.glob_nfa.proofs.lemmas.Building.{agrees_old, agrees_higher}
-use Rattle.glob_meaning.proofs.lemmas.TokenLists.{alone_is}
+use Rattle.glob_syntax.proofs.lemmas.TokenLists.{alone_is}
 use Rattle.glob_nfa.proofs.lemmas.TokenStates.{tokens_accept, everything_accepts}
 
 -- ---- the tokens of one glob

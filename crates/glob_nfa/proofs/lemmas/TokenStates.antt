@@ -8,19 +8,19 @@ use Rattle.std.proofs.Math.Logic.{⊎_elim}
 use Rattle.glob_syntax.specs.declared.options.Options.{Options}
 use Rattle.glob_syntax.specs.Token.{Token, Literal, Any, ZeroOrMore, RecursivePrefix, RecursiveSuffix, RecursiveZeroOrMore, Class, Group, Tokens, end, and_then, Branches, none, branch}
 use Rattle.glob_syntax.specs.ClassBytes.{class_has}
-use Rattle.glob_meaning.specs.TokenMatches.{token_matches, some_branch_matches, tokens_match_each, is_empty, is_one_byte, is_wild, is_wild_character, begins_with_slash, ends_with_slash, slash}
-use Rattle.glob_meaning.specs.Blank.{is_kept, any_kept}
+use Rattle.glob_syntax.specs.TokenMatches.{token_matches, some_branch_matches, tokens_match_each, is_empty, is_one_byte, is_wild, is_wild_character, begins_with_slash, ends_with_slash, slash}
+use Rattle.glob_syntax.specs.Blank.{is_kept, any_kept}
 use Rattle.bit_sets.specs.Bytes.{has_byte}
 use Rattle.byte_nfa.specs.Steps.{State, bytes_state, union_state, loop_state, match_state, state, HasNumber, Accepts, ends, by_byte, by_skip, by_out, by_stay}
 use Rattle.bit_sets.specs.declared.byte_set.ByteSet.{ByteSet}
 use Rattle.bit_sets.specs.Texts.{AllBytes}
-use Rattle.glob_meaning.specs.inner.CharacterRows.{passes, wild_rows}
+use Rattle.glob_syntax.specs.inner.CharacterRows.{passes, wild_rows}
 use Rattle.glob_nfa.specs.inner.TokenStates.{IsSetOf, is_any_byte, is_slash, Bytes, Loop, spells, is_letter, IsSpelled, IsToSlash, ReadsEach, AreRead, IsCharacter, IsBuilt, IsBuiltToken, AreBuilt}
-use Rattle.glob_meaning.proofs.lemmas.Booleans.{and_both, and_first, and_second, or_first, or_second, or_either}
-use Rattle.glob_meaning.proofs.lemmas.Characters.{some_row, wild_rows_are}
-use Rattle.glob_meaning.proofs.lemmas.Cuts.{both, cut_of, some_cut-append, empty_is}
+use Rattle.glob_syntax.proofs.lemmas.Booleans.{and_both, and_first, and_second, or_first, or_second, or_either}
+use Rattle.glob_syntax.proofs.lemmas.Characters.{some_row, wild_rows_are}
+use Rattle.glob_syntax.proofs.lemmas.Cuts.{both, cut_of, some_cut-append, empty_is}
 use Rattle.glob_nfa.proofs.lemmas.Spelling.{letter_is, spells_none, spells_more}
-use Rattle.glob_meaning.proofs.lemmas.TokenMatches.{some_any, one_byte, ends_at, ends_push, begins_at}
+use Rattle.glob_syntax.proofs.lemmas.TokenMatches.{some_any, one_byte, ends_at, ends_push, begins_at}
 
 -- ---- bytes
 

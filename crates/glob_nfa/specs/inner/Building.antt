@@ -4,7 +4,7 @@ use Rattle.glob_syntax.specs.declared.options.Options.{Options}
 use Rattle.glob_syntax.specs.Token.{Token, Tokens}
 use Rattle.byte_nfa.specs.Steps.{State, Accepts, Machine}
 use Rattle.byte_nfa.specs.Building.{Agrees, Keeps}
-use Rattle.glob_meaning.specs.TokensMatch.{tokens_match}
+use Rattle.glob_syntax.specs.TokensMatch.{tokens_match}
 use Rattle.bit_sets.specs.Texts.{AllBytes}
 use Rattle.glob_nfa.specs.inner.TokenStates.{IsSpelled, IsToSlash, ReadsEach, IsCharacter, IsBuilt, IsBuiltToken}
 

@@ -4,7 +4,7 @@ use Rattle.glob_syntax.specs.declared.options.Options.{Options}
 use Rattle.glob_syntax.specs.Token.{Branches, none, branch}
 use Rattle.glob_syntax.specs.FlatTokens.{Flat, simple, opening, comma, closing}
 use Rattle.glob_syntax.specs.inner.Weight.{token_weight, branches_weight}
-use Rattle.glob_meaning.specs.Blank.{is_blank, is_blank_token, are_blank}
+use Rattle.glob_syntax.specs.Blank.{is_blank, is_blank_token, are_blank}
 use Rattle.byte_nfa.specs.Steps.{State, Machine}
 use Rattle.bit_sets.specs.Numbers.{AreBelow}
 use Rattle.byte_nfa.specs.Building.{Agrees}

@@ -4,9 +4,9 @@ use Rattle.glob_syntax.specs.declared.options.Options.{Options}
 use Rattle.glob_syntax.specs.Token.{Token, Literal, Any, ZeroOrMore, RecursivePrefix, RecursiveSuffix, RecursiveZeroOrMore, Class, Group, Tokens, end, and_then, Branches, none, branch}
 use Rattle.glob_syntax.specs.ClassBytes.{class_has}
 use Rattle.std.specs.Str.{bytes_eq}
-use Rattle.glob_meaning.specs.TokenMatches.{slash, is_wild, compared}
-use Rattle.glob_meaning.specs.Blank.{is_kept, any_kept}
-use Rattle.glob_meaning.specs.inner.CharacterRows.{wild_rows}
+use Rattle.glob_syntax.specs.TokenMatches.{slash, is_wild, compared}
+use Rattle.glob_syntax.specs.Blank.{is_kept, any_kept}
+use Rattle.glob_syntax.specs.inner.CharacterRows.{wild_rows}
 use Rattle.bit_sets.specs.Bytes.{has_byte}
 use Rattle.byte_nfa.specs.Steps.{State, bytes_state, union_state, loop_state, state}
 use Rattle.bit_sets.specs.declared.byte_set.ByteSet.{ByteSet}

@@ -9,8 +9,8 @@ use Rattle.byte_nfa.specs.Steps.{Machine, IsReached}
 use Rattle.bit_sets.specs.Texts.{AllBytes}
 use Rattle.bit_sets.specs.declared.state_set.StateSet.{StateSet}
 use Rattle.glob_nfa.specs.IndexedTokens.{IndexedTokens, indexed, IsFor, SomeMatches}
-use Rattle.glob_meaning.specs.TokensMatch.{tokens_match}
-use Rattle.glob_meaning.proofs.lemmas.Booleans.{same_truth}
+use Rattle.glob_syntax.specs.TokensMatch.{tokens_match}
+use Rattle.glob_syntax.proofs.lemmas.Booleans.{same_truth}
 use Rattle.glob_syntax.specs.declared.options.Options.{Options}
 use Rattle.glob_syntax.specs.Token.{Tokens}
 use Rattle.globset_glob.specs.GlobMatches.{GlobValue, tokens_of_glob, glob_matches}

@@ -5,9 +5,9 @@ use Rattle.std.proofs.Math.Logic.{⊎_elim}
 use Rattle.std.proofs.lemmas.List.{append-nil, append_assoc}
 use Rattle.bit_sets.specs.Texts.{AllBytes}
 use Rattle.bit_sets.proofs.lemmas.Texts.{rest_bytes}
-use Rattle.glob_meaning.specs.After.{MeanAfter}
-use Rattle.glob_meaning.specs.TokenMatches.{slash}
-use Rattle.glob_meaning.specs.TokensMatch.{tokens_match}
+use Rattle.glob_syntax.specs.After.{MeanAfter}
+use Rattle.glob_syntax.specs.TokenMatches.{slash}
+use Rattle.glob_syntax.specs.TokensMatch.{tokens_match}
 use Rattle.glob_path.specs.PathParts.{is_separator, last_component, component_extension}
 use Rattle.glob_syntax.specs.declared.options.Options.{Options}
 use Rattle.glob_syntax.specs.Token.{Tokens}

@@ -5,11 +5,11 @@ use Rattle.std.proofs.lemmas.List.{length-map}
 use Rattle.glob_syntax.specs.declared.token.Token as held
 use Rattle.glob_syntax.specs.Token.{Token, Literal, Any, ZeroOrMore, RecursivePrefix, RecursiveSuffix, RecursiveZeroOrMore, Class, Group, Tokens, end, and_then, before}
 use Rattle.glob_syntax.specs.FlatTokens.{Flat, simple, opening, comma, closing, tree_of, IsNested}
-use Rattle.glob_meaning.specs.TokensMatch.{is_prefix}
+use Rattle.glob_syntax.specs.TokensMatch.{is_prefix}
 use Rattle.glob_syntax.specs.declared.options.Options.{Options}
 use Rattle.glob_syntax.specs.Views.{flat_of, flats, tokens_of}
 use Rattle.glob_syntax.proofs.lemmas.FlatTrees.{spelled}
-use Rattle.glob_meaning.proofs.lemmas.TokenLists.{prefix_is}
+use Rattle.glob_syntax.proofs.lemmas.TokenLists.{prefix_is}
 use Rattle.glob_strategy.specs.Excluded.{are_excluded, is_dot, is_prefix_dot_dot}
 use Rattle.glob_strategy.specs.inner.FlatTests.{is_simple_that}
 

@@ -8,10 +8,10 @@ use Rattle.glob_syntax.specs.Token.{Token, Literal, Group, Tokens, end, and_then
 use Rattle.glob_syntax.specs.FlatTokens.{Flat, simple, opening, comma, closing, levels_of, tree_of, IsNested, IsSimple}
 use Rattle.glob_syntax.specs.Views.{flat_of, flats, tokens_of}
 use Rattle.glob_syntax.proofs.lemmas.FlatTrees.{shaped, in_first, open_here}
-use Rattle.glob_meaning.specs.TokenMatches.{slash}
-use Rattle.glob_meaning.specs.TokensMatch.{is_prefix}
-use Rattle.glob_meaning.specs.TokensMatch.{is_prefix_alone as tree_alone}
-use Rattle.glob_meaning.proofs.lemmas.Booleans.{and_first, and_second, and_none}
+use Rattle.glob_syntax.specs.TokenMatches.{slash}
+use Rattle.glob_syntax.specs.TokensMatch.{is_prefix}
+use Rattle.glob_syntax.specs.TokensMatch.{is_prefix_alone as tree_alone}
+use Rattle.glob_syntax.proofs.lemmas.Booleans.{and_first, and_second, and_none}
 use Rattle.glob_strategy.specs.Excluded.{is_dot}
 use Rattle.glob_strategy.specs.Strategies as strategies
 use Rattle.glob_strategy.specs.TokenTests as tree

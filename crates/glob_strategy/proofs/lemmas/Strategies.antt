@@ -3,8 +3,8 @@ use Rattle.std.proofs.Common.{◌≡◌, ℕ, ◌⊎◌, Bool, true, false, true
 use Rattle.std.specs.Prelude.{◌↔◌, if◌then◌else◌}
 use Rattle.glob_syntax.specs.declared.options.Options.{Options}
 use Rattle.glob_syntax.specs.Token.{Tokens}
-use Rattle.glob_meaning.specs.TokenMatches.{slash}
-use Rattle.glob_meaning.specs.TokensMatch.{tokens_match}
+use Rattle.glob_syntax.specs.TokenMatches.{slash}
+use Rattle.glob_syntax.specs.TokensMatch.{tokens_match}
 use Rattle.glob_path.specs.PathParts.{last_component, component_extension}
 use Rattle.glob_strategy.specs.Excluded.{are_excluded, are_reported}
 use Rattle.glob_strategy.specs.TokenTests.{literal_text, ending, is_whole_path, is_last_components, is_end, is_beginning, is_below_folder}

@@ -1,7 +1,7 @@
 -- What a key tells of a glob that it decides.
 use Rattle.std.specs.Prelude.{◌↔◌, ℕ, List, IsTrue}
-use Rattle.glob_meaning.specs.After.{MeanAfter}
-use Rattle.glob_meaning.specs.TokensMatch.{tokens_match}
+use Rattle.glob_syntax.specs.After.{MeanAfter}
+use Rattle.glob_syntax.specs.TokensMatch.{tokens_match}
 use Rattle.glob_path.specs.Below.{folder_start}
 use Rattle.glob_path.specs.Key.{KeyValue, KeyMatches, KeyMayMatchBelow}
 use Rattle.glob_syntax.specs.declared.options.Options.{Options}

@@ -6,8 +6,8 @@ use Rattle.glob_syntax.specs.Token.{Token, Literal}
 use Rattle.glob_syntax.specs.declared.token.Token as held
 use Rattle.glob_syntax.specs.FlatTokens.{Flat, simple, opening, comma, closing}
 use Rattle.glob_syntax.specs.Views.{flats}
-use Rattle.glob_meaning.specs.TokenMatches.{slash}
-use Rattle.glob_meaning.specs.TokensMatch.{is_prefix}
+use Rattle.glob_syntax.specs.TokenMatches.{slash}
+use Rattle.glob_syntax.specs.TokensMatch.{is_prefix}
 use Rattle.glob_strategy.specs.Excluded.{is_dot}
 use Rattle.glob_strategy.specs.TokenTests.{is_literal_except, is_star, is_suffix}
 use Rattle.glob_strategy.specs.Strategies.{matches_no_slash}

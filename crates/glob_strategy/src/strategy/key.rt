@@ -3,7 +3,7 @@
 ghost use Rattle.std.specs.Prelude.{◌≡◌, IfOk, IfSome, [], ◌∷◌, ◌++◌};
 ghost use Rattle.std.specs.Option.{option_map};
 ghost use Rattle.glob_syntax.specs.Views.{flats};
-ghost use Rattle.glob_meaning.specs.TokenMatches.{slash};
+ghost use Rattle.glob_syntax.specs.TokenMatches.{slash};
 ghost use Rattle.glob_strategy.specs.inner.FlatTests.{EndsInExtension, ending, literal_text};
 
 use crate::excluded::is_dot;

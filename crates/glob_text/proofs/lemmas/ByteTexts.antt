@@ -8,11 +8,11 @@ use Rattle.std.proofs.lemmas.Str.{length-encode, len_utf8_bounds}
 use Rattle.std.proofs.Math.Logic.{⊎_elim}
 use lib.Utf8.{encode, scalar_cases}
 use lib.Dec.{ltb}
-use Rattle.glob_meaning.specs.TokenMatches.{compared, slash}
+use Rattle.glob_syntax.specs.TokenMatches.{compared, slash}
 use Rattle.glob_text.specs.SmallRegex.{SpellsByte, is_special, is_hexadecimal, hexadecimal_value, is_same, single, folded_entries_have}
 use Rattle.glob_text.specs.RegexText.{hexadecimal_digit, is_escaped, byte_text}
 use Rattle.glob_syntax.specs.declared.options.Options.{Options}
-use Rattle.glob_meaning.proofs.lemmas.MatchesByParts.{Then}
+use Rattle.glob_syntax.proofs.lemmas.MatchesByParts.{Then}
 
 -- ---- spelling of a byte
 

@@ -3,10 +3,10 @@ use Rattle.std.proofs.Common.{◌≡◌, ℕ, ◌+◌, ◌*◌, ◌≤◌, inr, 
 use Rattle.std.specs.Prelude.{◌==◌, codes}
 use Rattle.std.proofs.lemmas.Bool.Decides.{nat_tests}
 use Rattle.glob_syntax.specs.declared.options.Options.{Options}
-use Rattle.glob_meaning.specs.Characters.{is_between, is_character}
-use Rattle.glob_meaning.specs.TokenMatches.{is_wild_character, slash}
-use Rattle.glob_meaning.specs.inner.CharacterRows.{continues, is_ascii_wild}
-use Rattle.glob_meaning.proofs.lemmas.Characters.{some_row, none_left_out, ascii_left_out}
+use Rattle.glob_syntax.specs.Characters.{is_between, is_character}
+use Rattle.glob_syntax.specs.TokenMatches.{is_wild_character, slash}
+use Rattle.glob_syntax.specs.inner.CharacterRows.{continues, is_ascii_wild}
+use Rattle.glob_syntax.proofs.lemmas.Characters.{some_row, none_left_out, ascii_left_out}
 use Rattle.glob_text.specs.RegexText.{others_text, group_text, ascii_text, longer_texts}
 use Rattle.glob_text.specs.SmallRegex.{span, SpellsByte, is_hexadecimal, hexadecimal_value, is_same, folded_entries_have}
 

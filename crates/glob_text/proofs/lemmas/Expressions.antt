@@ -6,21 +6,21 @@ use Rattle.std.specs.List.{list_all}
 use Rattle.std.proofs.lemmas.List.{append-nil, append_assoc}
 use Rattle.std.proofs.Math.Logic.{⊎_elim}
 use Rattle.glob_syntax.specs.Token.{Token, Literal, Any, ZeroOrMore, RecursivePrefix, RecursiveSuffix, RecursiveZeroOrMore, Class, Group, Tokens, end, and_then, Branches, none, branch}
-use Rattle.glob_meaning.specs.Blank.{is_kept, any_kept}
+use Rattle.glob_syntax.specs.Blank.{is_kept, any_kept}
 use Rattle.glob_syntax.specs.ClassBytes.{ranges_have, class_has}
-use Rattle.glob_meaning.specs.TokenMatches.{some_branch_matches, tokens_match_each, compared, is_wild, is_wild_character, is_one_byte, is_empty, slash}
-use Rattle.glob_meaning.specs.Characters.{is_between}
-use Rattle.glob_meaning.specs.TokensMatch.{tokens_match, is_prefix_alone}
-use Rattle.glob_meaning.specs.inner.CharacterRows.{passes, continues, is_ascii_wild}
-use Rattle.glob_meaning.proofs.lemmas.Characters.{some_row}
+use Rattle.glob_syntax.specs.TokenMatches.{some_branch_matches, tokens_match_each, compared, is_wild, is_wild_character, is_one_byte, is_empty, slash}
+use Rattle.glob_syntax.specs.Characters.{is_between}
+use Rattle.glob_syntax.specs.TokensMatch.{tokens_match, is_prefix_alone}
+use Rattle.glob_syntax.specs.inner.CharacterRows.{passes, continues, is_ascii_wild}
+use Rattle.glob_syntax.proofs.lemmas.Characters.{some_row}
 use Rattle.glob_text.specs.SmallRegex.{Entry, single, span, Atom, any_byte, byte, class_of, group_of, Item, once, repeated, optional, Row, no_item, item, Rows, no_row, row, expression, SpellsByte, SpellsEntries, SpellsAtom, SpellsItem, SpellsRow, SpellsOthers, entries_have, folded_entries_have, class_of_has, Repeats, no_piece, one_more, DenotesAtom, DenotesItem, DenotesRow, DenotesSome}
 use Rattle.glob_text.specs.RegexText.{byte_text, bytes_text, ranges_text, class_text, others_text, group_text, with_text, ascii_text, longer_texts, token_text, tokens_text, kept_texts, body_text, regex_text}
 use Rattle.glob_text.specs.RegexDenotes.{HasExpression}
 use Rattle.glob_syntax.specs.declared.options.Options.{Options}
-use Rattle.glob_meaning.proofs.lemmas.Booleans.{and_both, and_first, and_second, or_first, or_second, or_either}
+use Rattle.glob_syntax.proofs.lemmas.Booleans.{and_both, and_first, and_second, or_first, or_second, or_either}
 use Rattle.glob_syntax.specs.inner.WellFormed.{AreScalars, IsWellFormed, AreWellFormed, AllWellFormed}
-use Rattle.glob_meaning.proofs.lemmas.TokenMatches.{some_any, OneByte, one_byte}
-use Rattle.glob_meaning.proofs.lemmas.MatchesByParts.{TokenMatches, AllMatch, Then, empty_same, equal_bytes, prefix_matches, suffix_matches, between_matches, then_matches}
+use Rattle.glob_syntax.proofs.lemmas.TokenMatches.{some_any, OneByte, one_byte}
+use Rattle.glob_syntax.proofs.lemmas.MatchesByParts.{TokenMatches, AllMatch, Then, empty_same, equal_bytes, prefix_matches, suffix_matches, between_matches, then_matches}
 use Rattle.glob_text.proofs.lemmas.ByteTexts.{Below, IsSpelled, spells_byte, encode_below, slash_byte, byte_slash, slash_alone, spelled_more, spelled_none, spelled_one}
 use Rattle.glob_text.proofs.lemmas.CharacterTexts.{spells_digits, same_byte, same_span, same_ascii, same_ascii_apart, regex_rows, regex_rows_are}
 use Rattle.glob_text.proofs.lemmas.ClassTexts.{has_ranges}

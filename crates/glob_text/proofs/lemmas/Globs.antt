@@ -5,7 +5,7 @@ use Rattle.glob_syntax.specs.declared.parse_error_kind.ParseErrorKind.{ParseErro
 use Rattle.glob_syntax.specs.Token.{Tokens, end}
 use Rattle.glob_syntax.specs.Reading.{reading}
 use Rattle.glob_text.specs.GlobMatches.{GlobValue, tokens_of_glob, glob_matches}
-use Rattle.glob_meaning.specs.TokensMatch.{tokens_match}
+use Rattle.glob_syntax.specs.TokensMatch.{tokens_match}
 
 pub tokens_are : (g : GlobValue) (ts : Tokens) → reading g.options (chars g.text) ≡ Ok ts → tokens_of_glob g ≡ ts
 unfolding tokens_of_glob

@@ -12,7 +12,7 @@ use Rattle.glob_syntax.specs.FlatTokens.{Flat, simple, opening, comma, closing, 
 use Rattle.glob_syntax.specs.Views.{flat_of}
 use Rattle.glob_syntax.proofs.lemmas.FlatTokens.{depth}
 use Rattle.glob_syntax.proofs.lemmas.FlatTrees.{AreShaped, shaped}
-use Rattle.glob_meaning.specs.Blank.{is_blank, is_blank_token, are_blank, is_kept, any_kept}
+use Rattle.glob_syntax.specs.Blank.{is_blank, is_blank_token, are_blank, is_kept, any_kept}
 use Rattle.glob_text.specs.RegexText.{token_text, tokens_text, kept_texts, with_text}
 use Rattle.glob_text.specs.inner.RegexWriting.{rest_text, opener, closer, Place, place, chosen, finish, place_of, places_of, AreCuts, simple_text, Writes}
 use Rattle.glob_text.specs.declared.regex_text.OpenGroup.{OpenGroup}

@@ -4,7 +4,7 @@ use Rattle.glob_syntax.specs.declared.options.Options.{Options}
 use Rattle.glob_syntax.specs.Token.{Branches}
 use Rattle.glob_syntax.specs.Reading.{first_branch}
 use Rattle.glob_syntax.specs.FlatTokens.{Flat, simple, opening, comma, closing, all_levels, levels_of, later_branches, Nests}
-use Rattle.glob_meaning.specs.Blank.{is_blank, any_kept}
+use Rattle.glob_syntax.specs.Blank.{is_blank, any_kept}
 use Rattle.glob_text.specs.RegexText.{group_text, others_text, token_text, tokens_text, kept_texts}
 use Rattle.glob_text.specs.declared.regex_text.OpenGroup.{OpenGroup}
 

@@ -7,12 +7,12 @@ ghost use Rattle.glob_text.specs.GlobMatches.{glob_matches};
 ghost use Rattle.globset_glob.specs.GlobBelow.{GlobMatchesBelow};
 
 use crate::matcher::GlobMatcher;
+use bit_sets::Visits;
 use glob_path::Candidate;
 use glob_scratch::Scratch;
 use glob_text::Error;
 use std::alloc::Global;
 use std::marker::Model;
-use visits::Visits;
 
 /// A [`GlobMatcher`], with all the memory that one thread needs to match paths with it. That is taken when the searcher is made: no
 /// other call takes any, and none of them can fail.

@@ -8,6 +8,7 @@ ghost use Rattle.glob_text.specs.GlobMatches.{GlobValue, glob_matches};
 ghost use Rattle.globset_glob.specs.inner.GlobNfa.{IsAutomatonOf, IsStrategyOfMatcher, form_states};
 
 use crate::glob::Glob;
+use bit_sets::Visits;
 use glob_matching::{Budget, Compiled, DEFAULT_DFA_SIZE_LIMIT};
 use glob_nfa::{add_tokens, new_builder};
 use glob_path::{Candidate, Key};
@@ -15,7 +16,6 @@ use glob_strategy::{MatchStrategy, strategy_of};
 use nfa_simulation::StateSets;
 use std::alloc::{AllocError, Global};
 use std::sync::Arc;
-use visits::Visits;
 
 /// By what a matcher decides whether its glob matches a path.
 #[derive(Drop)]

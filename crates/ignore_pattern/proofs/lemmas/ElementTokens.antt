@@ -13,9 +13,9 @@ use Rattle.glob_syntax.specs.ClassBytes.{is_one_of, class_has}
 use Rattle.glob_syntax.specs.Token.{Token, ZeroOrMore, RecursivePrefix, RecursiveSuffix, Group, Tokens, end, and_then, Branches, none, branch, before}
 use Rattle.glob_syntax.specs.Token as token
 use Rattle.glob_syntax.specs.Reading.{in_level, levels}
-use Rattle.glob_meaning.specs.TokenMatches.{is_empty, is_one_byte, begins_with_slash, ends_with_slash, some_cut, token_matches, some_branch_matches, tokens_match_each}
-use Rattle.glob_meaning.proofs.lemmas.Booleans.{and_both, and_second, same_truth}
-use Rattle.glob_meaning.proofs.lemmas.Cuts.{cut_of, some_cut-append}
+use Rattle.glob_syntax.specs.TokenMatches.{is_empty, is_one_byte, begins_with_slash, ends_with_slash, some_cut, token_matches, some_branch_matches, tokens_match_each}
+use Rattle.glob_syntax.proofs.lemmas.Booleans.{and_both, and_second, same_truth}
+use Rattle.glob_syntax.proofs.lemmas.Cuts.{cut_of, some_cut-append}
 use Rattle.ignore_pattern.specs.declared.item.Item.{Item}
 use Rattle.ignore_pattern.specs.CharacterClasses.{class_matches}
 use Rattle.ignore_pattern.specs.CharacterElements.{Element, Literal, Any, Star, Folders, Everything, Class, is_inner, element_matches, elements_take}

@@ -16,11 +16,11 @@ use Rattle.glob_syntax.specs.Stars.{pairs, last_run, run_cut, piece}
 use Rattle.glob_syntax.specs.Token.{Token, RecursivePrefix, Tokens, end, and_then, branch, none, before}
 use Rattle.glob_syntax.specs.Token as token
 use Rattle.glob_syntax.specs.Reading.{in_level, levels, Levels, first_branch, is_whole_run, whole, whole_or_parse_error, reading}
-use Rattle.glob_meaning.specs.TokenMatches.{is_empty, is_one_byte, ends_with_slash, some_cut, tokens_match_each}
-use Rattle.glob_meaning.specs.TokensMatch.{is_prefix, is_prefix_alone, tokens_match}
-use Rattle.glob_meaning.proofs.lemmas.Booleans.{and_both, and_first, and_second, or_first, or_second, or_either, same_truth}
-use Rattle.glob_meaning.proofs.lemmas.Cuts.{empty_is, cut_of, some_cut-append}
-use Rattle.glob_meaning.proofs.lemmas.TokenMatches.{ends_push, ends_at}
+use Rattle.glob_syntax.specs.TokenMatches.{is_empty, is_one_byte, ends_with_slash, some_cut, tokens_match_each}
+use Rattle.glob_syntax.specs.TokensMatch.{is_prefix, is_prefix_alone, tokens_match}
+use Rattle.glob_syntax.proofs.lemmas.Booleans.{and_both, and_first, and_second, or_first, or_second, or_either, same_truth}
+use Rattle.glob_syntax.proofs.lemmas.Cuts.{empty_is, cut_of, some_cut-append}
+use Rattle.glob_syntax.proofs.lemmas.TokenMatches.{ends_push, ends_at}
 use Rattle.glob_strategy.specs.Excluded.{is_dot, is_prefix_dot_dot, are_excluded}
 use Rattle.glob_strategy.proofs.lemmas.Components.{Lacks, lacks_append, lacks_cons, encode_lacks, EndsComponent, last_component_at, split}
 use Rattle.globset_glob.specs.GlobMatches.{IsRead, tokens_of_glob, glob_matches}

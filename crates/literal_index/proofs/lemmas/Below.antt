@@ -2,11 +2,11 @@
 use Rattle.std.proofs.Common.{◌≡◌, ℕ, ◌⊎◌, inl, inr, Bool, List, [], ◌∷◌, ◌++◌, length, IsTrue, refl, ap, sym, subst, ◌∙◌, append_assoc, arith}
 use Rattle.std.specs.Prelude.{◌≢◌, ◌↔◌, Contains}
 use Rattle.std.proofs.Math.Logic.{⊎_elim}
-use Rattle.key_table.specs.Entries.{Entry, entry}
-use Rattle.byte_trie.specs.declared.anchor.Anchor.{Anchor}
-use Rattle.byte_trie.specs.declared.anchor.Anchor.TheVariants.{Start}
-use Rattle.byte_trie.specs.Texts.{Texts, found}
-use Rattle.byte_trie.proofs.lemmas.Laws.{finds_exactly}
+use Rattle.byte_keys.specs.Entries.{Entry, entry}
+use Rattle.byte_keys.specs.declared.anchor.Anchor.{Anchor}
+use Rattle.byte_keys.specs.declared.anchor.Anchor.TheVariants.{Start}
+use Rattle.byte_keys.specs.Texts.{Texts, found}
+use Rattle.byte_keys.proofs.lemmas.Laws.{finds_exactly}
 use Rattle.glob_path.specs.Below.{BeginsWith, folder_start}
 use Rattle.literal_index.specs.Below.{HasKey, MatchesBelow, by_component, by_extension, by_end, by_path, by_prefix, by_shorter_beginning}
 use Rattle.literal_index.specs.LiteralIndex.{KeyParts, texts_at}

@@ -18,9 +18,9 @@ use Rattle.std.proofs.lemmas.List.Elements.{Contains-append_cases, Contains-appe
 use Rattle.std.proofs.lemmas.List.Sorted.{Contains-permutation, IsPermutation-map, IsPermutation-sym}
 use Rattle.std.proofs.lemmas.List.Kept.{Contains-dedup, Contains-from_dedup, IsStrictlySortedBy-dedup}
 use denote.Ref.{Bor}
-use Rattle.key_table.specs.Entries.{Entry}
-use Rattle.byte_trie.specs.declared.text.Text.{Text}
-use Rattle.byte_trie.specs.Texts.{entry_of}
+use Rattle.byte_keys.specs.Entries.{Entry}
+use Rattle.byte_keys.specs.declared.text.Text.{Text}
+use Rattle.byte_keys.specs.Texts.{entry_of}
 use Rattle.glob_path.specs.Below.{BeginsWith, folder_start}
 use Rattle.glob_path.specs.PathParts.{after_position, is_separator, last_component, last_position, with_first}
 use Rattle.literal_index.specs.Below.{HasKey}

@@ -8,14 +8,14 @@ use Rattle.std.proofs.Math.Logic.{⊎_elim}
 use Rattle.std.proofs.lemmas.Bool.{eqb-true}
 use Rattle.std.proofs.lemmas.List.{length-append}
 use Rattle.std.proofs.lemmas.List.Elements.{Contains-append_left, Contains-append_right, Contains-append_cases}
-use Rattle.key_table.specs.Entries.{Entry, entry, indexes_under}
-use Rattle.key_table.proofs.lemmas.Entries.{with_index}
-use Rattle.key_table.proofs.lemmas.Entries.{indexes_added}
-use Rattle.byte_trie.specs.declared.anchor.Anchor.{Anchor}
-use Rattle.byte_trie.specs.declared.anchor.Anchor.TheVariants.{Start, End}
-use Rattle.byte_trie.specs.Texts.{prefixes, suffixes, parts, found}
-use Rattle.byte_trie.specs.Laws.{IsAt}
-use Rattle.byte_trie.proofs.lemmas.Laws.{finds_exactly}
+use Rattle.byte_keys.specs.Entries.{Entry, entry, indexes_under}
+use Rattle.byte_keys.proofs.lemmas.Entries.{with_index}
+use Rattle.byte_keys.proofs.lemmas.Entries.{indexes_added}
+use Rattle.byte_keys.specs.declared.anchor.Anchor.{Anchor}
+use Rattle.byte_keys.specs.declared.anchor.Anchor.TheVariants.{Start, End}
+use Rattle.byte_keys.specs.Texts.{prefixes, suffixes, parts, found}
+use Rattle.byte_keys.specs.Laws.{IsAt}
+use Rattle.byte_keys.proofs.lemmas.Laws.{finds_exactly}
 use Rattle.glob_path.specs.Key.{KeyMatches, KeyValue}
 use Rattle.glob_path.specs.Key as path_key
 use Rattle.glob_path.specs.PathParts.{last_component, component_extension}

@@ -4,7 +4,7 @@ use Rattle.std.specs.Prelude.{◌≢◌, ◌↔◌, ⊤}
 use Rattle.std.proofs.Math.Logic.{⊎_elim}
 use Rattle.std.proofs.lemmas.List.{length-append}
 use Rattle.std.proofs.lemmas.List.Elements.{Contains-append_left, Contains-push, Contains-push_cases}
-use Rattle.key_table.specs.Entries.{Entry, entry}
+use Rattle.byte_keys.specs.Entries.{Entry, entry}
 use Rattle.glob_path.specs.Below.{BeginsWith, folder_start}
 use Rattle.glob_path.specs.Key.{KeyMayMatchBelow, KeyValue}
 use Rattle.glob_path.specs.Key as path_key

@@ -1,8 +1,8 @@
 -- Tables, tries and keys can be sent to other threads, and shared between them.
 use denote.Param.Send.{IsSend, IsSync, sendable}
 use Rattle.std.proofs.Crossing.{crosses}
-use Rattle.key_table.specs.contracts.table.Table as Table
-use Rattle.byte_trie.specs.contracts.trie.Trie as Trie
+use Rattle.byte_keys.specs.contracts.table.Table as Table
+use Rattle.byte_keys.specs.contracts.trie.Trie as Trie
 use Rattle.literal_index.specs.contracts.folders.Folders as Folders
 use Rattle.literal_index.specs.contracts.keys.LiteralIndex as LiteralIndex
 

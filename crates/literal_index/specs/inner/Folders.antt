@@ -7,7 +7,7 @@ use Rattle.std.specs.Ordering.{nat_cmp, ordering_then}
 use Rattle.std.specs.declared.cmp.Ordering.{Ordering}
 use Rattle.std.specs.declared.cmp.Ordering.TheVariants.{Less, Equal}
 use denote.Ref.{Bor}
-use Rattle.key_table.specs.Entries.{Entry}
+use Rattle.byte_keys.specs.Entries.{Entry}
 use Rattle.glob_path.specs.Below.{BeginsWith, folder_start}
 use Rattle.glob_path.specs.PathParts.{last_component}
 use Rattle.literal_index.specs.Below.{HasKey}

@@ -1,8 +1,8 @@
 -- Keys in parts: how many indexes the tables have for a path, and what is true of all keys.
 use Rattle.std.specs.Prelude.{◌≡◌, ◌≢◌, ℕ, ◌+◌, ◌↔◌, ◌⊎◌, Bool, IsTrue, IsFalse, List, [], length}
-use Rattle.key_table.specs.Entries.{Entry, indexes_under}
-use Rattle.byte_trie.specs.declared.anchor.Anchor.TheVariants.{Start, End}
-use Rattle.byte_trie.specs.Texts.{Texts}
+use Rattle.byte_keys.specs.Entries.{Entry, indexes_under}
+use Rattle.byte_keys.specs.declared.anchor.Anchor.TheVariants.{Start, End}
+use Rattle.byte_keys.specs.Texts.{Texts}
 use Rattle.glob_path.specs.PathParts.{last_component, component_extension}
 use Rattle.literal_index.specs.LiteralIndex.{KeyParts}
 use Rattle.literal_index.specs.inner.Folders.{AreFolders}

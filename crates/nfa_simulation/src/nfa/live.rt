@@ -6,8 +6,7 @@ ghost use Rattle.bit_sets.specs.StateSets.{state_capacity};
 ghost use Rattle.bit_sets.specs.Texts.{AllBytes};
 
 use crate::nfa::Nfa;
-use bit_sets::StateSet;
-use visits::Visits;
+use bit_sets::{StateSet, Visits};
 
 impl Nfa {
     /// Does what [`Draft::any_live`](byte_nfa::Draft::any_live) does.

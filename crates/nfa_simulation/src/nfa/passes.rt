@@ -7,8 +7,7 @@ ghost use Rattle.byte_nfa.specs.Runs.{size, AcceptsBelow, AcceptsFrom, HasSome};
 ghost use Rattle.byte_nfa.specs.Spans.{IsClosed, IsFrom, IsWithin};
 
 use crate::nfa::Nfa;
-use bit_sets::{IndexSet, StateSet};
-use visits::Visits;
+use bit_sets::{IndexSet, StateSet, Visits};
 
 impl Nfa {
     /// Puts the states that a byte leads to from the states of a set into another set. Returns whether there are any. What

@@ -8,8 +8,7 @@ ghost use Rattle.nfa_simulation.specs.inner.Blocks.{Takes};
 
 use crate::blocks::Taken;
 use crate::nfa::Nfa;
-use bit_sets::StateSet;
-use visits::Visits;
+use bit_sets::{StateSet, Visits};
 
 impl Nfa {
     /// Returns whether some states are taken at once.

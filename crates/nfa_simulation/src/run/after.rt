@@ -7,7 +7,7 @@ ghost use Rattle.nfa_simulation.specs.Sets.{sets_capacity};
 
 use crate::nfa::Nfa;
 use crate::state_sets::StateSets;
-use visits::Visits;
+use bit_sets::Visits;
 
 impl Nfa {
     /// Returns whether some text that begins with `text` and then `byte` leads to some end.

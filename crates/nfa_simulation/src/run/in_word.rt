@@ -8,8 +8,7 @@ ghost use Rattle.nfa_simulation.specs.inner.WordSets.{IsOfSpan, AcceptsInWord};
 
 use crate::nfa::Nfa;
 use crate::run::Span;
-use bit_sets::{IndexSet, WordSet};
-use visits::Visits;
+use bit_sets::{IndexSet, Visits, WordSet};
 
 impl Nfa {
     /// Puts the index of each end that a text leads to from the last state of a span into a set of indexes, beside what it

@@ -12,10 +12,10 @@ use Rattle.std.proofs.lemmas.Nat.{mul-le}
 use Rattle.std.proofs.lemmas.List.{take_more, get_or_push, get_or_append_left, get_or-set_same, get_or-set_other, length-append, length-set}
 use Rattle.byte_nfa.specs.Steps.{HasNumber, Machine}
 use Rattle.byte_nfa.specs.Runs.{size, max_reads}
-use Rattle.key_table.specs.Entries.{Entry, entry, indexes_under}
-use Rattle.key_table.proofs.lemmas.Entries.{with_index}
-use Rattle.key_table.proofs.lemmas.Entries.{indexes_added}
-use Rattle.glob_meaning.specs.After.{MeanAfter}
+use Rattle.byte_keys.specs.Entries.{Entry, entry, indexes_under}
+use Rattle.byte_keys.proofs.lemmas.Entries.{with_index}
+use Rattle.byte_keys.proofs.lemmas.Entries.{indexes_added}
+use Rattle.glob_syntax.specs.After.{MeanAfter}
 use Rattle.glob_nfa.specs.IndexedTokens.{SomeMeanAfter}
 use Rattle.glob_nfa.specs.IndexedTokens.{IndexedTokens, IsFor}
 use Rattle.set_matcher.specs.inner.Automata.{ExtensionParts, AreExtensionMatchers, AreFor, KeepsTokens, AddsTokens, SomeExtensionAfter, first, max_size, slot_of, tokens_under, total_reads, machine_under}

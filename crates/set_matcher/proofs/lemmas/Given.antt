@@ -1,5 +1,5 @@
 -- The list of globs that a matcher is made of, and what is stored for it.
-use Rattle.std.proofs.Common.{◌≡◌, ℕ, ◌+◌, ◌*◌, ◌≤◌, List, [], length, ap, sym, subst, arith}
+use Rattle.std.proofs.Common.{◌≡◌, ℕ, ◌+◌, ◌*◌, ◌≤◌, List, [], length, ap, refl, sym, subst, arith}
 use Rattle.std.proofs.lemmas.List.{length-map}
 use Rattle.glob_syntax.specs.Views.{tokens_of}
 use Rattle.literal_index.specs.LiteralIndex.{KeyParts}
@@ -26,12 +26,11 @@ no_matcher given keys a none matcher = record {
 
 -- the visits for a path, by keys and by automata that are run over it
 pub with_stored : (globs all : List TokenGlob) (g : SetMatcherParts) (path text : List ℕ) (now v : ℕ) → globs ≡ all → text ≡ path → IsSetMatcherOf globs g
-    → v ≤ now + (3 + 2 * (length path + 1)) + (1 + (length text + 1) * reads_for g.automata text) → v ≤ now + max_visits all path
+    → v ≤ now + (3 + 2 * (length text + 1)) + (1 + (length text + 1) * reads_for g.automata text) → v ≤ now + max_visits all path
 with_stored globs all g path text now v is same matcher run =
-    let reads = ap (reads_for g.automata) same in
-    let few = matcher.reads path in
-    subst (λ (gs : List TokenGlob). v ≤ now + max_visits gs path) is
-    (with_keys (length path) (length text) (reads_for g.automata text) (load globs path) now v (ap length same) (omega (arith, reads, few)) run)
+    let few = matcher.reads text in
+    subst (λ p. v ≤ now + max_visits all p) same (subst (λ (gs : List TokenGlob). v ≤ now + max_visits gs text) is
+    (with_keys (length text) (length text) (reads_for g.automata text) (load globs text) now v refl (omega (arith, few)) run))
 
 -- the visits for a folder
 pub below_stored : (globs all : List TokenGlob) (g : SetMatcherParts) (folder : List ℕ) (now v w : ℕ) → globs ≡ all → IsSetMatcherOf globs g → v ≤ now + (length folder + 2)

@@ -8,8 +8,8 @@ use Rattle.byte_nfa.specs.Steps.{HasNumber, Machine}
 use Rattle.byte_nfa.specs.Runs.{size, max_reads}
 use Rattle.bit_sets.specs.Indexes.{has_index, index_capacity}
 use Rattle.bit_sets.specs.declared.index_set.IndexSet.{IndexSet}
-use Rattle.key_table.specs.Entries.{Entry, indexes_under}
-use Rattle.glob_meaning.specs.After.{MeanAfter}
+use Rattle.byte_keys.specs.Entries.{Entry, indexes_under}
+use Rattle.glob_syntax.specs.After.{MeanAfter}
 use Rattle.glob_nfa.specs.IndexedTokens.{SomeMeanAfter}
 use Rattle.glob_nfa.specs.IndexedTokens.{IndexedTokens, SomeMatches, IsFor}
 use Rattle.glob_path.specs.Below.{folder_start}

@@ -8,11 +8,10 @@ ghost use Rattle.set_matcher.specs.inner.Caches.{AreCachesOf};
 
 use crate::automata::Automata;
 use crate::caches::Caches;
-use bit_sets::StateSet;
+use bit_sets::{StateSet, Visits};
 use byte_nfa::Draft;
 use nfa_simulation::StateSets;
 use std::alloc::{AllocError, Global};
-use visits::Visits;
 
 impl Automata {
     /// Returns whether tokens match the part that they are run on of some path below a folder.

@@ -13,15 +13,15 @@ ghost use Rattle.set_matcher.specs.inner.Caches.{AreSlotCaches};
 
 use super::slots::ExtensionSlots;
 use crate::caches::SlotCaches;
+use bit_sets::Visits;
+use byte_keys::Table;
 use byte_nfa::Builder;
 use glob_matching::{Budget, Compiled};
 use glob_nfa::{add_tokens, new_builder};
 use glob_syntax::{Options, Token};
-use key_table::Table;
 use nfa_simulation::{Nfa, StateSets};
 use std::alloc::{AllocError, Global};
 use std::marker::Model;
-use visits::Visits;
 
 /// An automaton for each extension that some glob requires. The slot of an extension is the position of its automaton.
 pub struct ExtensionMatchers {

@@ -1,11 +1,11 @@
 //! The slots of extensions while automata are made.
 
 ghost use Rattle.std.specs.Prelude.{◌≡◌, ◌++◌, ◌∷◌, [], None, OnOk, OnErr, IfOk};
-ghost use Rattle.key_table.specs.Entries.{entry};
+ghost use Rattle.byte_keys.specs.Entries.{entry};
 ghost use Rattle.set_matcher.specs.inner.Automata.{slot_of};
 ghost use Rattle.set_matcher.specs.inner.ExtensionSlots.{HasSlots};
 
-use key_table::{Table, TableBuilder};
+use byte_keys::{Table, TableBuilder};
 use std::alloc::{AllocError, Global};
 use std::collections::BTreeMap;
 use std::marker::Model;
@@ -29,7 +29,7 @@ impl Drop for ExtensionSlots {
 
 impl Model for ExtensionSlots {
     ghost use Rattle.std.specs.Prelude.{List};
-    ghost use Rattle.key_table.specs.Entries.{Entry};
+    ghost use Rattle.byte_keys.specs.Entries.{Entry};
     ghost use Rattle.set_matcher.specs.inner.ExtensionSlots.{HasSlots};
 
     ghost Value = { List Entry };

@@ -1,5 +1,5 @@
 use Rattle.std.proofs.Common.{◌∷◌, [], arith, sym, subst}
-use Rattle.glob_meaning.specs.inner.CharacterRows.{continues}
+use Rattle.glob_syntax.specs.inner.CharacterRows.{continues}
 use Rattle.glob_nfa.specs.inner.Building.{Grows}
 use Rattle.glob_nfa.proofs.lemmas.Building.{grows_none, grows_push, grows_then, row_one, row_more, row_within}
 use Rattle.glob_nfa.proofs.characters.add_last_bytes.Goals as goal

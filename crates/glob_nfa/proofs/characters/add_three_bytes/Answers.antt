@@ -1,6 +1,6 @@
 use Rattle.std.proofs.Common.{rules, ◌∷◌, [], arith, sym, subst}
-use Rattle.glob_meaning.specs.Characters.{is_between}
-use Rattle.glob_meaning.specs.inner.CharacterRows.{begins_three}
+use Rattle.glob_syntax.specs.Characters.{is_between}
+use Rattle.glob_syntax.specs.inner.CharacterRows.{begins_three}
 use Rattle.glob_nfa.specs.inner.Building.{Grows}
 use Rattle.glob_nfa.proofs.lemmas.Building.{grows_none, grows_push, grows_then, row_one, row_within}
 use Rattle.glob_nfa.proofs.characters.add_three_bytes.Goals as goal

@@ -2,7 +2,7 @@ use Rattle.std.proofs.Common.{rules, ◌≡◌, ◌≢◌, ◌<◌, length, fals
 use Rattle.std.proofs.lemmas.List.{get_or-set_same, get_or-set_other}
 use Rattle.std.proofs.lemmas.Bool.{cases_lt}
 use Rattle.std.proofs.Math.Logic.{⊎_elim}
-use Rattle.glob_meaning.specs.Characters.{is_between}
+use Rattle.glob_syntax.specs.Characters.{is_between}
 use Rattle.glob_nfa.proofs.characters.bytes_between.Goals as goal
 
 pub loop-byte-preserved : goal.loop-byte-preserved

@@ -1,5 +1,5 @@
 use Rattle.std.proofs.Common.{◌≡◌, ◌<◌, ℕ, false, length, slice_index_or}
-use Rattle.glob_meaning.specs.Characters.{is_between}
+use Rattle.glob_syntax.specs.Characters.{is_between}
 use Rattle.glob_nfa.proofs.characters.bytes_between.Given as goal
 
 abbrev pub invariant-loop-byte : goal.invariant-loop-byte

@@ -1,5 +1,5 @@
 use Rattle.std.proofs.Common.{◌≡◌, ◌&&◌, arith, sym, ◌∙◌}
-use Rattle.glob_meaning.specs.TokensMatch.{is_prefix}
+use Rattle.glob_syntax.specs.TokensMatch.{is_prefix}
 use Rattle.glob_syntax.specs.Views.{flat_of, tokens_of}
 use Rattle.glob_strategy.specs.Excluded.{is_dot, is_prefix_dot_dot, are_excluded}
 use Rattle.glob_strategy.specs.inner.FlatTests.{is_simple_that}

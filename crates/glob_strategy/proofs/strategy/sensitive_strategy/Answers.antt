@@ -1,6 +1,6 @@
 use Rattle.std.proofs.Common.{Some, ◌∷◌, [], ◌++◌, ap, sym, ◌∙◌}
 use Rattle.glob_syntax.specs.Views.{flats, tokens_of}
-use Rattle.glob_meaning.specs.TokenMatches.{slash}
+use Rattle.glob_syntax.specs.TokenMatches.{slash}
 use Rattle.glob_path.specs.Key.{WholePath, Basename, Extension, ComponentSuffix, Suffix, Prefix}
 use Rattle.glob_strategy.specs.Strategies.{Key, ending_strategy}
 use Rattle.glob_strategy.proofs.lemmas.Endings.{ending_same}

@@ -1,5 +1,5 @@
 use Rattle.std.proofs.Common.{◌≡◌, ◌++◌, map, take}
-use Rattle.byte_trie.specs.declared.text.Text.{Text}
+use Rattle.byte_keys.specs.declared.text.Text.{Text}
 use Rattle.literal_index.specs.inner.Folders.{shown_of, start_of}
 use Rattle.literal_index.proofs.folders.push_starts.Given as goal
 

@@ -1,5 +1,5 @@
 use Rattle.std.proofs.Common.{◌≡◌, map}
-use Rattle.byte_trie.specs.Texts.{entry_of}
+use Rattle.byte_keys.specs.Texts.{entry_of}
 use Rattle.literal_index.proofs.keys.table_of.Given as goal
 
 abbrev pub invariant-loop-text : goal.invariant-loop-text

@@ -1,4 +1,4 @@
-use Rattle.std.proofs.Common.{◌-◌, length, take, ap, ◌∙◌, arith}
+use Rattle.std.proofs.Common.{◌-◌, length, take, ap, arith}
 use Rattle.std.proofs.lemmas.List.{length-append}
 use Rattle.glob_path.specs.PathParts.{component_extension}
 use Rattle.set_matcher.specs.inner.Automata.{before_extension}
@@ -10,10 +10,9 @@ overflow_sub-end c =
     let path = c.args.path.now in
     let all = ap length (extension_cut path) in
     let parts = length-append (before_extension path) (component_extension path) in
-    let same = ap length (c.component_extension_of-extension.ensures ∙ ap component_extension c.from_bytes.ensures) in
-    omega (arith, all, parts, same)
+    let same = ap length c.extension.ensures in
+    let bytes = ap length c.path-bytes.ensures in
+    omega (arith, all, parts, same, bytes)
 
 pub returns : goal.returns
-returns c =
-    let path = c.args.path.now in
-    ap (λ e. take (length path - length e) path) (c.component_extension_of-extension.ensures ∙ ap component_extension c.from_bytes.ensures)
+returns c = λ i. take (length (c.path-bytes.ensures i) - length (c.extension.ensures i)) (c.path-bytes.ensures i)

@@ -1,7 +1,6 @@
 use Rattle.std.proofs.Common.{◌≡◌, subst, arith, true≢false, sym}
 use Rattle.std.specs.Prelude.{IfOk}
 use Rattle.byte_nfa.specs.Runs.{size}
-use Rattle.bit_sets.proofs.lemmas.Texts.{all_bytes}
 use Rattle.glob_matching.specs.Matching.{TellsMatch}
 use Rattle.set_matcher.specs.inner.Automata.{before_extension}
 use Rattle.set_matcher.proofs.lemmas.Automata.{before_bytes, no_matches}
@@ -11,7 +10,7 @@ pub returns-then-state_count-eq0-clause-some : goal.returns-then-state_count-eq0
 returns-then-state_count-eq0-clause-some c = λ xs is.
     let none : size c.args.automaton.now ≡ 0 = omega (arith, c.state_count.ensures, c.if-state_count-eq0.true) in
     let path = c.args.path.now in
-    let bytes = before_bytes path (all_bytes path (λ i. omega (arith, c.type_inv.path i))) in (
+    let bytes = before_bytes path c.requires.bytes in (
       λ yes. absurd (true≢false (sym yes)),
       λ some. absurd (no_matches c.args.automaton.now xs (before_extension path) some.0 none is bytes some.1),
     )

@@ -1,7 +1,6 @@
 use Rattle.std.proofs.Common.{◌≡◌, subst, arith, true≢false, sym}
 use Rattle.std.specs.Prelude.{IfOk}
 use Rattle.byte_nfa.specs.Runs.{size, max_reads}
-use Rattle.bit_sets.proofs.lemmas.Texts.{all_bytes}
 use Rattle.glob_matching.specs.Matching.{TellsMatch}
 use Rattle.set_matcher.specs.inner.PathPart.{part_of}
 use Rattle.set_matcher.proofs.lemmas.Automata.{no_matches}
@@ -12,7 +11,7 @@ pub returns-then-state_count-eq0-clause-some : goal.returns-then-state_count-eq0
 returns-then-state_count-eq0-clause-some c = λ xs is.
     let none : size c.args.automaton.now ≡ 0 = omega (arith, c.state_count.ensures, c.if-state_count-eq0.true) in
     let path = c.args.path.now in
-    let bytes = part_bytes c.args.part path (all_bytes path (λ i. omega (arith, c.type_inv.path i))) in (
+    let bytes = part_bytes c.args.part path c.requires.bytes in (
       λ yes. absurd (true≢false (sym yes)),
       λ some. absurd (no_matches c.args.automaton.now xs (part_of c.args.part path) some.0 none is bytes some.1),
     )

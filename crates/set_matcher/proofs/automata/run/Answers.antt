@@ -3,7 +3,6 @@ use Rattle.std.specs.Prelude.{OnOk}
 use Rattle.std.proofs.Math.Logic.{⊎_elim}
 use Rattle.byte_nfa.specs.Runs.{size, max_reads}
 use Rattle.bit_sets.specs.Indexes.{has_index}
-use Rattle.bit_sets.proofs.lemmas.Texts.{all_bytes}
 use Rattle.glob_matching.specs.Matching.{AddsMatches}
 use Rattle.set_matcher.specs.inner.PathPart.{part_of}
 use Rattle.set_matcher.proofs.lemmas.Automata.{no_matches}
@@ -14,7 +13,7 @@ pub returns-then-state_count-eq0-clause-found : goal.returns-then-state_count-eq
 returns-then-state_count-eq0-clause-found c = λ xs is k.
     let none : size c.args.automaton.now ≡ 0 = omega (arith, c.state_count.ensures, c.if-state_count-eq0.true) in
     let path = c.args.path.now in
-    let bytes = part_bytes c.args.part path (all_bytes path (λ i. omega (arith, c.type_inv.path i))) in (
+    let bytes = part_bytes c.args.part path c.requires.bytes in (
       λ old. inr old,
       λ h. ⊎_elim {C = IsTrue (has_index c.args.marks.now k)} (λ some. absurd (no_matches c.args.automaton.now xs (part_of c.args.part path) k none is bytes some)) (λ old. old) h,
     )

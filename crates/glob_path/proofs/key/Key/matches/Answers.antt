@@ -1,9 +1,10 @@
-use Rattle.std.proofs.Common.{IsTrue, subst, sym}
+use Rattle.std.proofs.Common.{IsTrue, subst, sym, ap, ◌∙◌}
 use Rattle.std.specs.Prelude.{◌↔◌}
 use Rattle.std.proofs.lemmas.Bool.Decides.{Decides-eqb}
 use Rattle.std.proofs.lemmas.Slice.Eq.{slice_eq-Decides}
 use Rattle.glob_path.specs.declared.key.Key.{Key}
 use Rattle.glob_path.specs.Key.{KeyMatches, key_seen}
+use Rattle.glob_path.specs.PathParts.{component_extension, last_component}
 use Rattle.glob_path.proofs.key.Key.matches.Goals as goal
 
 pub returns-in-WholePath : goal.returns-in-WholePath
@@ -14,12 +15,12 @@ returns-in-WholePath c =
 pub returns-in-Basename : goal.returns-in-Basename
 returns-in-Basename c =
     subst (λ (k : Key). IsTrue c.eq-in-Basename.result ↔ KeyMatches (key_seen k) c.args.path.now) (sym c.in-Basename.is)
-    (rw (← c.last_component_of.ensures, ← c.as_slice-in-Basename.ensures.value) (slice_eq-Decides Decides-eqb c.last_component_of.result.now c.as_slice-in-Basename.result.now _ c.eq-in-Basename.ensures))
+    (rw (← (c.last_component.ensures ∙ ap last_component c.path-in-Basename.ensures), ← c.as_slice-in-Basename.ensures.value) (slice_eq-Decides Decides-eqb c.last_component.result.now c.as_slice-in-Basename.result.now _ c.eq-in-Basename.ensures))
 
 pub returns-in-Extension : goal.returns-in-Extension
 returns-in-Extension c =
     subst (λ (k : Key). IsTrue c.eq-in-Extension.result ↔ KeyMatches (key_seen k) c.args.path.now) (sym c.in-Extension.is)
-    (rw (← c.component_extension_of.ensures, ← c.as_slice-in-Extension.ensures.value) (slice_eq-Decides Decides-eqb c.component_extension_of.result.now c.as_slice-in-Extension.result.now _ c.eq-in-Extension.ensures))
+    (rw (← (c.component_extension.ensures ∙ ap component_extension c.path-in-Extension.ensures), ← c.as_slice-in-Extension.ensures.value) (slice_eq-Decides Decides-eqb c.component_extension.result.now c.as_slice-in-Extension.result.now _ c.eq-in-Extension.ensures))
 
 pub returns-in-ComponentSuffix : goal.returns-in-ComponentSuffix
 returns-in-ComponentSuffix c =

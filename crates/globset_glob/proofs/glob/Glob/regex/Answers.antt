@@ -3,7 +3,7 @@ use Rattle.std.specs.Str.{chars}
 use Rattle.glob_syntax.specs.Token.{Tokens}
 use Rattle.glob_syntax.specs.Reading.{reading}
 use Rattle.glob_text.specs.GlobMatches.{GlobValue, tokens_of_glob, glob_matches}
-use Rattle.glob_meaning.specs.TokensMatch.{tokens_match}
+use Rattle.glob_syntax.specs.TokensMatch.{tokens_match}
 use Rattle.glob_text.specs.RegexText.{regex_text}
 use Rattle.glob_text.specs.RegexDenotes.{HasExpression}
 use Rattle.glob_syntax.specs.Views.{tokens_of}

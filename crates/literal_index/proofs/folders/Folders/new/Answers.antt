@@ -1,6 +1,6 @@
 use Rattle.std.proofs.Common.{◌++◌, map, ap, sym, subst, ◌∙◌}
 use Rattle.std.proofs.lemmas.List.Filters.{dedup_is}
-use Rattle.byte_trie.specs.declared.text.Text.{Text}
+use Rattle.byte_keys.specs.declared.text.Text.{Text}
 use Rattle.literal_index.specs.inner.Folders.{AreRising, shown_of, start_of}
 use Rattle.literal_index.proofs.lemmas.Folders.{folders_tell, kept_rising, same_shown}
 use Rattle.literal_index.proofs.folders.Folders.new.Goals as goal

@@ -1,6 +1,6 @@
 use Rattle.std.proofs.Common.{IsTrue, refl, subst}
 use Rattle.std.specs.Prelude.{◌↔◌}
-use Rattle.byte_trie.specs.declared.anchor.Anchor.TheVariants.{Start}
+use Rattle.byte_keys.specs.declared.anchor.Anchor.TheVariants.{Start}
 use Rattle.literal_index.specs.Below.{MatchesBelow}
 use Rattle.literal_index.specs.LiteralIndex.{KeyParts}
 use Rattle.literal_index.proofs.lemmas.Below.{at_anchor, by_folder, by_others, by_walk}

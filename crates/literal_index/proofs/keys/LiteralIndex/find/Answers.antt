@@ -1,10 +1,10 @@
 use Rattle.std.proofs.Common.{◌≡◌, ◌∙◌, ◌++◌, ap, subst}
 use Rattle.bit_sets.specs.Indexes.{HasAlso}
 use Rattle.bit_sets.proofs.lemmas.IndexSets.{also_then}
-use Rattle.key_table.specs.Entries.{indexes_under}
-use Rattle.byte_trie.specs.Texts.{Texts, found}
-use Rattle.byte_trie.specs.declared.anchor.Anchor.{Anchor}
-use Rattle.byte_trie.specs.declared.anchor.Anchor.TheVariants.{Start, End}
+use Rattle.byte_keys.specs.Entries.{indexes_under}
+use Rattle.byte_keys.specs.Texts.{Texts, found}
+use Rattle.byte_keys.specs.declared.anchor.Anchor.{Anchor}
+use Rattle.byte_keys.specs.declared.anchor.Anchor.TheVariants.{Start, End}
 use Rattle.glob_path.specs.PathParts.{last_component, component_extension}
 use Rattle.literal_index.specs.LiteralIndex.{KeyParts, texts_at}
 use Rattle.literal_index.proofs.keys.LiteralIndex.find.Goals as goal

@@ -1,9 +1,9 @@
 use Rattle.std.proofs.Common.{◌≡◌, length, refl, ap, ◌∙◌, arith}
 use Rattle.std.specs.Prelude.{◌==◌, ◌++◌}
 use Rattle.std.proofs.lemmas.List.{length-append}
-use Rattle.key_table.specs.Entries.{indexes_under}
-use Rattle.byte_trie.specs.Texts.{found}
-use Rattle.byte_trie.specs.declared.anchor.Anchor.TheVariants.{Start, End}
+use Rattle.byte_keys.specs.Entries.{indexes_under}
+use Rattle.byte_keys.specs.Texts.{found}
+use Rattle.byte_keys.specs.declared.anchor.Anchor.TheVariants.{Start, End}
 use Rattle.glob_path.specs.PathParts.{last_component, component_extension}
 use Rattle.literal_index.specs.LiteralIndex.{texts_at}
 use Rattle.literal_index.proofs.keys.LiteralIndex.is_match.Goals as goal

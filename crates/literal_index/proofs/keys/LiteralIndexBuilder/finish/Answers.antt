@@ -1,7 +1,7 @@
 use Rattle.std.proofs.Common.{List, ap, sym, subst}
 use Rattle.std.specs.Prelude.{◌↔◌, IsTrue, IsFalse, map}
-use Rattle.key_table.specs.Entries.{Entry}
-use Rattle.byte_trie.specs.Texts.{Texts, entry_of}
+use Rattle.byte_keys.specs.Entries.{Entry}
+use Rattle.byte_keys.specs.Texts.{Texts, entry_of}
 use Rattle.literal_index.specs.inner.Folders.{AreFolders}
 use Rattle.literal_index.specs.LiteralIndex.{KeyParts}
 use Rattle.literal_index.specs.inner.Parts.{HasOthers}

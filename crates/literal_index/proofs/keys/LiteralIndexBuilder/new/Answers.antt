@@ -1,5 +1,5 @@
 use Rattle.std.proofs.Common.{map}
-use Rattle.byte_trie.specs.Texts.{entry_of}
+use Rattle.byte_keys.specs.Texts.{entry_of}
 use Rattle.literal_index.proofs.lemmas.LiteralIndex.{nothing_if}
 use Rattle.literal_index.proofs.lemmas.More.{nothing_below_if}
 use Rattle.literal_index.proofs.keys.LiteralIndexBuilder.new.Goals as goal

@@ -4,7 +4,7 @@ use Rattle.std.proofs.lemmas.Result.{IfOk-weaker}
 use Rattle.byte_nfa.specs.Runs.{max_reads}
 use Rattle.glob_nfa.specs.IndexedTokens.{IndexedTokens, SomeMatches, IsFor}
 use Rattle.glob_path.specs.PathParts.{component_extension}
-use Rattle.set_matcher.specs.inner.Automata.{AutomataParts, TokenLists, AreForLists, AreFound, before_extension, machine_under, slot_of, tokens_under}
+use Rattle.set_matcher.specs.inner.Automata.{AutomataParts, TokenLists, AreForLists, AreFound, before_extension, machine_under, tokens_under}
 use Rattle.set_matcher.proofs.lemmas.Automata.{last_run}
 use Rattle.set_matcher.proofs.lemmas.Slots.{cache_by_slot, machine_by_slot, tokens_by_slot}
 use Rattle.set_matcher.proofs.lemmas.Visits.{three_runs, two_runs}
@@ -26,7 +26,6 @@ pub returns-clause-some : goal.returns-clause-some
 returns-clause-some c =
     let path = c.args.path.now in
     let automaton = c.automaton_at.result.now in
-    let slot = c.slot_of-slot.ensures.slot ∙ ap (λ p. slot_of c.args.self.now.extensions.slots (component_extension p)) c.from_bytes.ensures in
     IfOk-weaker c.matches_by_slot.result (λ yes. (xs : List IndexedTokens) → IsFor automaton xs → IsTrue yes ↔ ((k : ℕ) × SomeMatches xs (before_extension path) k))
     (λ yes. (t : TokenLists) → AreForLists c.args.self.now t → IsTrue yes ↔ ((k : ℕ) × AreFound c.args.self.now.extensions.slots t path k))
     (λ yes tells t are.
@@ -38,7 +37,7 @@ returns-clause-some c =
     (λ k some.
     let found = (c.in_ok-matches_part-2.ensures.some t.by_component by_component).1 (k, some) in
     true≢false (sym found ∙ c.if-branch-2.false))
-    (tells extension_tokens (tokens_by_slot c.automaton_at.result.now (component_extension path) t.by_slot c.self.view_is c.automaton_at.ensures.tokens slot are.matchers)))
+    (tells extension_tokens (tokens_by_slot c.automaton_at.result.now (component_extension path) t.by_slot c.self.view_is c.automaton_at.ensures.tokens c.slot_of-slot.ensures.slot are.matchers)))
     c.matches_by_slot.ensures.some
 
 pub returns-in_err-matches_part-2-clause-visits : goal.returns-in_err-matches_part-2-clause-visits
@@ -61,13 +60,12 @@ pub returns-clause-visits : goal.returns-clause-visits
 returns-clause-visits c =
     let a = c.args.self.now in
     let path = c.args.path.now in
-    let slot = c.slot_of-slot.ensures.slot ∙ ap (λ p. slot_of c.args.self.now.extensions.slots (component_extension p)) c.from_bytes.ensures in
     three_runs (length path) (length path) (length path) (length path) (max_reads a.by_path) (max_reads c.self.inside.by_path) (max_reads a.by_component)
     (max_reads (machine_under a.extensions (component_extension path))) (max_reads c.automaton_at.result.now) c.args.visits.now c.matches_part.new.visits c.matches_part-2.new.visits
     c.slot_of-slot.new.visits c.matches_by_slot.new.visits
     refl refl refl (ap (λ (p : AutomataParts). max_reads p.by_path) c.self.view_is)
-    (ap max_reads (machine_by_slot (component_extension path) c.self.view_is c.automaton_at.ensures.automaton slot))
+    (ap max_reads (machine_by_slot (component_extension path) c.self.view_is c.automaton_at.ensures.automaton c.slot_of-slot.ensures.slot))
     c.matches_part.ensures.visits (subst (λ (p : AutomataParts). c.matches_part-2.new.visits ≤ c.matches_part.new.visits + (length path + 1) * max_reads p.by_component) c.self.view_is c.matches_part-2.ensures.visits) c.slot_of-slot.ensures.visits c.matches_by_slot.ensures.visits
 
-pub matches_by_slot-requires : goal.matches_by_slot-requires
-matches_by_slot-requires c = cache_by_slot c.args.caches.now.by_slot c.self.view_is c.automaton_at.ensures.automaton c.requires.slots
+pub matches_by_slot-requires-clause-cache : goal.matches_by_slot-requires-clause-cache
+matches_by_slot-requires-clause-cache c = cache_by_slot c.args.caches.now.by_slot c.self.view_is c.automaton_at.ensures.automaton c.requires.caches.slots

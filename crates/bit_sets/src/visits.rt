@@ -1,0 +1,72 @@
+//! A count of reads, which contracts speak of and which takes no memory and no time in a running program.
+
+use std::marker::Model;
+use std::mem;
+use std::snapshot::Snapshot;
+
+/// Each snapshot of a count holds the count before it. A snapshot has no bytes, so neither has this.
+#[derive(Drop)]
+enum Ticks {
+    Start,
+    After(Snapshot<Ticks>),
+    /// So many more.
+    More(Snapshot<Ticks>, Snapshot<u32>),
+}
+
+/// How many visits a match has made.
+///
+/// A visit is one counted read, such as of a state of an automaton, of an entry of a table or of a node of a trie. A function
+/// that makes visits takes a `&mut Visits`, and its contract says how many it makes at most and that it never sets the count back.
+///
+/// In a running program a count has no size, and counting takes no time. In contracts it is a number without an upper
+/// bound.
+///
+/// ```rust
+/// use globset::{Candidate, Glob, Visits};
+///
+/// let matcher = Glob::new(alloc, "*.c")?.compile_matcher()?;
+/// let mut visits = Visits::new();
+/// assert!(rt; matcher.is_match_visits(&Candidate::new("a.c"), &mut visits)?);
+/// ```
+#[derive(Drop)]
+pub struct Visits {
+    ticks: Snapshot<Ticks>,
+}
+
+impl Model for Visits {
+    ghost use Rattle.std.specs.Prelude.{ℕ};
+
+    ghost Value = { ℕ };
+
+    ghost use Rattle.bit_sets.specs.inner.Ticks.{count};
+
+    ghost view = { λ v. count v.ticks.value };
+}
+
+impl Visits {
+    ghost use Rattle.std.specs.Prelude.{◌≡◌, ◌+◌};
+
+    /// Returns a count of no visits.
+    pub fn new() -> Visits
+        ensures { result ≡ 0 }
+    {
+        Visits {
+            ticks: Snapshot::of(&Ticks::Start),
+        }
+    }
+
+    /// Counts one more visit.
+    pub fn tick(&mut self)
+        ensures { self.new ≡ self.old + 1 }
+    {
+        let before = mem::replace(&mut self.ticks, Snapshot::of(&Ticks::Start));
+        self.ticks = Snapshot::of(&Ticks::After(before));
+    }
+    /// Counts so many more visits.
+    pub fn add(&mut self, count: u32)
+        ensures { self.new ≡ self.old + count }
+    {
+        let before = mem::replace(&mut self.ticks, Snapshot::of(&Ticks::Start));
+        self.ticks = Snapshot::of(&Ticks::More(before, Snapshot::of(&count)));
+    }
+}

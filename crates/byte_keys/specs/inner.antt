@@ -1,0 +1,9 @@
+pub mod Pairs
+pub mod Rows
+pub mod Starts
+pub mod Ends
+pub mod Tables
+pub mod Anchors
+pub mod Nodes
+pub mod IsTrieOf
+pub mod Building

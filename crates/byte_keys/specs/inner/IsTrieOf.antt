@@ -1,0 +1,17 @@
+-- What is true of the tree of each trie. A trie of no texts has none.
+use Rattle.std.specs.Prelude.{◌≡◌, ℕ, ◌<◌, ◌^◌, List, [], Option, Some, None, length, map}
+use Rattle.std.specs.Global.{Box}
+use Rattle.byte_keys.specs.Entries.{Entry, indexes_under}
+use Rattle.byte_keys.specs.declared.anchor.Anchor.{Anchor}
+use Rattle.byte_keys.specs.declared.tree.Tree.{Tree}
+use Rattle.byte_keys.specs.inner.Anchors.{entry_from_anchor}
+use Rattle.byte_keys.specs.inner.Nodes.{under, IsTree}
+
+pub record IsTrieOf (t : Tree) (anchor : Anchor) (entries : List Entry) : Type 0 where
+  pub tree : IsTree t
+  pub leads : (w : List ℕ) → under t 0 w ≡ indexes_under (map (entry_from_anchor anchor) entries) w
+  pub small : length entries < 2 ^ 64
+
+abbrev pub HasTree : Option (Box Tree) → Anchor → List Entry → Type 0
+HasTree (Some tree) anchor entries = IsTrieOf tree.value anchor entries
+HasTree None anchor entries = entries ≡ []

@@ -1,0 +1,135 @@
+//! What a table is built from.
+
+ghost use Rattle.std.specs.Prelude.{◌≡◌, ◌↔◌, ℕ, IsTrue, List, ◌++◌, ◌∷◌, [], OnOk, OnErr, IfOk};
+ghost use Rattle.byte_keys.specs.Entries.{entry};
+
+use crate::arranged::{Arranged, arrange};
+use crate::ends::ends_of;
+use crate::keys::hash;
+use crate::pairs::{Pair, indexes_of};
+use crate::table::{Contents, Table};
+use std::alloc::{AllocError, Global};
+use std::marker::Model;
+use std::snapshot::Snapshot;
+
+/// Indexes under byte keys, from which a table is built.
+pub struct TableBuilder {
+    bytes: Vec<u8>,
+    pairs: Vec<Pair>,
+}
+
+impl Drop for TableBuilder {
+    // One call wherever a value is dropped, which keeps proofs short.
+    fn drop(self) {
+        let TableBuilder { bytes: _, pairs: _ } = self;
+    }
+}
+
+impl Model for TableBuilder {
+    ghost use Rattle.std.specs.Prelude.{List};
+    ghost use Rattle.std.specs.List.{All};
+    ghost use Rattle.byte_keys.specs.Entries.{Entry};
+    ghost use Rattle.byte_keys.specs.inner.Pairs.{entries_of, IsKept};
+
+    ghost Value = { List Entry };
+
+    ghost view = { λ b. entries_of b.bytes.items b.pairs.items };
+
+    ghost invariant = { λ b. All (IsKept 0 b.bytes.items) b.pairs.items };
+}
+
+impl TableBuilder {
+    /// Returns a builder of no entries, which takes no memory.
+    pub fn new(alloc: Global) -> TableBuilder
+        ensures { result ≡ [] }
+    {
+        TableBuilder {
+            bytes: Vec::new(alloc),
+            pairs: Vec::new(alloc),
+        }
+    }
+
+    /// Returns a builder of no entries, with room for so many. Returns an error if memory runs out.
+    pub fn with_capacity(alloc: Global, entries: usize) -> Result<TableBuilder, AllocError>
+        ensures { IfOk result (λ builder. builder ≡ []) }
+    {
+        Ok(TableBuilder {
+            bytes: Vec::new(alloc),
+            pairs: Vec::with_capacity(alloc, entries)?,
+        })
+    }
+
+    /// Returns whether there are no entries.
+    pub fn is_empty(&self) -> bool
+        ensures { IsTrue result ↔ (self.now ≡ []) }
+    {
+        self.pairs.is_empty()
+    }
+
+    /// Adds an index under a key, after those that it has.
+    ///
+    /// Returns an error if memory runs out; the builder then has the entries that it had.
+    pub fn insert(&mut self, key: &[u8], index: usize) -> Result<(), AllocError>
+        ensures ok { OnOk result (self.new ≡ self.old ++ entry key.now index ∷ []) }
+        ensures err { OnErr result (self.new ≡ self.old) }
+    {
+        let start = self.bytes.len();
+        self.bytes.extend_from_slice(key)?;
+        self.pairs.push(Pair {
+            hash: hash(0, key),
+            start,
+            end: self.bytes.len(),
+            index,
+        })?;
+        Ok(())
+    }
+
+    /// Adds an index under a key, as [`TableBuilder::insert`] does. The memory of the first key that is not empty becomes that of the
+    /// table, so nothing is copied for a table of one key.
+    pub fn insert_owned(&mut self, key: Vec<u8>, index: usize) -> Result<(), AllocError>
+        ensures ok { OnOk result (self.new ≡ self.old ++ entry key.items index ∷ []) }
+        ensures err { OnErr result (self.new ≡ self.old) }
+    {
+        if self.bytes.is_empty() {
+            self.pairs.push(Pair {
+                hash: hash(0, &key),
+                start: 0,
+                end: key.len(),
+                index,
+            })?;
+            self.bytes = key;
+            return Ok(());
+        }
+        self.insert(&key, index)
+    }
+
+    /// Returns the table of the entries. Returns an error if memory runs out.
+    ///
+    /// The entries are sorted. The table's memory has no room for more.
+    pub fn build(self) -> Result<Table, AllocError>
+        ensures { IfOk result (λ table. table ≡ self) }
+    {
+        let entries = Snapshot::of(&self);
+        let TableBuilder { mut bytes, pairs } = self;
+        let alloc = *bytes.allocator();
+        if pairs.is_empty() {
+            return Ok(Table::nothing(entries));
+        }
+        bytes.shrink_to_fit();
+        let Arranged {
+            pairs,
+            rows,
+            directory,
+        } = arrange(alloc, &bytes, pairs)?;
+        let indexes = indexes_of(alloc, &pairs)?;
+        let ends = ends_of(&bytes, &rows);
+        let contents = Contents {
+            bytes,
+            rows,
+            ends,
+            directory,
+            indexes,
+        };
+        Table::of(alloc, contents, entries)
+    }
+}

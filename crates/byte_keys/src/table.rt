@@ -1,0 +1,130 @@
+//! A table of byte keys.
+
+ghost use Rattle.std.specs.Prelude.{◌≡◌, ℕ, List, ◌+◌, ◌^◌, ◌<◌, ◌≤◌, max, [], ◌↔◌, IfOk, IsTrue, length};
+ghost use Rattle.byte_keys.specs.Entries.{Entry, indexes_under};
+ghost use Rattle.byte_keys.specs.inner.Tables.{AreContents};
+
+use crate::builder::TableBuilder;
+use crate::directory::Directory;
+use crate::ends::Ends;
+use crate::parts::part;
+use crate::rows::{Row, find};
+use bit_sets::Visits;
+use std::alloc::{AllocError, Global};
+use std::marker::Model;
+use std::snapshot::Snapshot;
+
+/// Indexes under byte keys: under each key those that were added with it, in the order in which they were added.
+pub struct Table {
+    /// It is `None` if there are no entries. It is in a box, so that little is moved with a table.
+    contents: Option<Box<Contents>>,
+    entries: Snapshot<TableBuilder>,
+}
+
+impl Drop for Table {
+    // One call wherever a value is dropped, which keeps proofs short.
+    fn drop(self) {
+        let Table {
+            contents: _,
+            entries: _,
+        } = self;
+    }
+}
+
+/// The keys of a table, each once, and the indexes under them.
+pub(crate) struct Contents {
+    pub(crate) bytes: Vec<u8>,
+    pub(crate) rows: Vec<Row>,
+    pub(crate) ends: Ends,
+    pub(crate) directory: Directory,
+    pub(crate) indexes: Vec<usize>,
+}
+
+impl Drop for Contents {
+    // One call wherever a value is dropped, which keeps proofs short.
+    fn drop(self) {
+        let Contents {
+            bytes: _,
+            rows: _,
+            ends: _,
+            directory: _,
+            indexes: _,
+        } = self;
+    }
+}
+
+impl Model for Table {
+    ghost use Rattle.std.specs.Prelude.{List};
+    ghost use Rattle.byte_keys.specs.Entries.{Entry};
+    ghost use Rattle.byte_keys.specs.inner.Tables.{HasContents};
+
+    ghost Value = { List Entry };
+
+    ghost view = { λ t. t.entries.value };
+
+    ghost invariant = { λ t. HasContents t.contents t.entries.value };
+}
+
+impl Table {
+    /// Returns the table of a builder's entries. Returns an error if memory runs out.
+    pub(crate) fn of(
+        alloc: Global,
+        contents: Contents,
+        entries: Snapshot<TableBuilder>,
+    ) -> Result<Table, AllocError>
+        requires { AreContents contents entries.value }
+        ensures { IfOk result (λ table. table ≡ entries.value) }
+    {
+        Ok(Table {
+            contents: Some(Box::new(alloc, contents)?),
+            entries,
+        })
+    }
+
+    /// Returns the table of a builder that has no entries. It allocates nothing.
+    pub(crate) fn nothing(entries: Snapshot<TableBuilder>) -> Table
+        requires { entries.value ≡ [] }
+        ensures { result ≡ [] }
+    {
+        Table {
+            contents: None,
+            entries,
+        }
+    }
+
+    /// Returns the indexes under a key, in the order in which they were added; there are none if the table does not have
+    /// the key.
+    ///
+    /// It is one visit, and copies nothing. `compared` counts the keys that `key` is compared with: with fewer than `2^k`
+    /// entries these are at most `k`, or at most 8 if `k` is less. A comparison reads at most as many bytes of another key
+    /// as `key` has.
+    pub fn get(&self, key: &[u8], visits: &mut Visits, compared: &mut Visits) -> &[usize]
+        ensures indexes { result.now ≡ indexes_under self.now key.now }
+        ensures visits { visits.new ≡ visits.old + 1 }
+        ensures compared { (k : ℕ) → length self.now < 2 ^ k → compared.new ≤ compared.old + max 8 k }
+        ensures counted { compared.old ≤ compared.new }
+    {
+        visits.tick();
+        let Some(contents) = &self.contents else {
+            return &[];
+        };
+        match find(
+            &contents.bytes,
+            &contents.rows,
+            &contents.ends,
+            &contents.directory,
+            key,
+            compared,
+        ) {
+            Some(row) => part(&contents.indexes, row.from, row.to),
+            None => &[],
+        }
+    }
+
+    /// Returns whether there are no entries.
+    pub fn is_empty(&self) -> bool
+        ensures { IsTrue result ↔ (self.now ≡ []) }
+    {
+        self.contents.is_none()
+    }
+}

@@ -1,0 +1,173 @@
+//! The nodes for texts in order.
+//!
+//! Nodes are made level by level: first the root, then its children, and so on. A node stands for the texts that begin with
+//! the bytes on the way to it. These lie side by side, since the texts are in order, and are looked at once for each byte
+//! that they have; so the time is linear in the bytes of all texts.
+
+ghost use Rattle.std.specs.Prelude.{◌≡◌, ◌≢◌, ℕ, ◌+◌, ◌<◌, ◌≤◌, ◌^◌, List, map, length, IfOk, OnOk};
+ghost use Rattle.std.specs.List.{AllWithin, HoldsAt};
+ghost use Rattle.byte_keys.specs.Entries.{indexes_under};
+ghost use Rattle.byte_keys.specs.Texts.{entry_of};
+ghost use Rattle.byte_keys.specs.inner.Nodes.{under, IsTree};
+ghost use Rattle.byte_keys.specs.declared.tree.build.Span.{Span};
+ghost use Rattle.byte_keys.specs.inner.Building.{rests_of, next_of, IsOrdered, AreWithin, IsSpan, AreSpans, AddsSplit, IsAdded, Stands};
+
+use super::{Node, Tree};
+use crate::text::Text;
+use std::alloc::{AllocError, Global};
+use std::mem;
+
+/// The texts from one on and before another, which begin with the same bytes.
+#[derive(Clone, Copy)]
+struct Span {
+    from: usize,
+    to: usize,
+}
+
+impl Tree {
+    /// Returns a tree of texts, which are in order. Returns an error if memory runs out.
+    pub fn build(alloc: Global, texts: &[Text]) -> Result<Tree, AllocError>
+        requires { IsOrdered texts.now 0 0 (length texts.now) }
+        ensures tree { IfOk result IsTree }
+        ensures leads { IfOk result (λ t. (w : List ℕ) → under t 0 w ≡ indexes_under (map entry_of texts.now) w) }
+    {
+        let longest = longest(texts);
+        let indexes = indexes_of(alloc, texts)?;
+        let mut tree = Tree {
+            nodes: Vec::new(alloc),
+            bytes: Vec::new(alloc),
+            indexes,
+        };
+        let mut level = Vec::new(alloc);
+        level.push(Span {
+            from: 0,
+            to: texts.len(),
+        })?;
+        let mut next = Vec::new(alloc);
+        for depth in 0..longest + 1 {
+            tree.push_level(texts, depth, &level, &mut next)?;
+            mem::swap(&mut level, &mut next);
+        }
+        Ok(tree)
+    }
+
+    /// Adds the nodes of a level, and replaces the items of `next` by what the nodes of the next level stand for.
+    fn push_level(
+        &mut self,
+        texts: &[Text],
+        depth: usize,
+        level: &[Span],
+        next: &mut Vec<Span>,
+    ) -> Result<(), AllocError>
+        requires stands { Stands texts.now self.old (map (rests_of texts.now depth) level.now) }
+        requires spans { AreSpans texts.now depth level.now }
+        ensures stands { OnOk result (Stands texts.now self.new (map (rests_of texts.now (depth + 1)) next.new.items)) }
+        ensures spans { OnOk result (AreSpans texts.now (depth + 1) next.new.items) }
+    {
+        next.clear();
+        for span in level {
+            self.push_node(texts, depth, *span, next)?;
+        }
+        Ok(())
+    }
+
+    /// Adds a node with its edges, and to `next` what its children stand for.
+    fn push_node(
+        &mut self,
+        texts: &[Text],
+        depth: usize,
+        span: Span,
+        next: &mut Vec<Span>,
+    ) -> Result<(), AllocError>
+        requires { IsSpan texts.now depth span }
+        ensures { OnOk result (IsAdded texts.now depth span self.old self.new next.old.items next.new.items) }
+    {
+        let own = end_of_run(texts, span, depth, None);
+        let edges = self.bytes.len();
+        let rest = Span {
+            from: own,
+            to: span.to,
+        };
+        push_edges(texts, depth, rest, &mut self.bytes, next)?;
+        self.nodes.push(Node {
+            edges,
+            edges_end: self.bytes.len(),
+            indexes: span.from,
+            indexes_end: own,
+        })?;
+        Ok(())
+    }
+}
+
+/// Returns the indexes of texts, in their order.
+fn indexes_of(alloc: Global, texts: &[Text]) -> Result<Vec<usize>, AllocError>
+    ensures { IfOk result (λ v. v.items ≡ map (λ t. t.index) texts.now) }
+{
+    let mut indexes = Vec::with_capacity(alloc, texts.len())?;
+    for text in texts {
+        indexes.push(text.index)?;
+    }
+    Ok(indexes)
+}
+
+/// Adds an edge for each byte that texts go on with, and what its child stands for.
+fn push_edges(
+    texts: &[Text],
+    depth: usize,
+    span: Span,
+    bytes: &mut Vec<u8>,
+    next: &mut Vec<Span>,
+) -> Result<(), AllocError>
+    requires span { IsSpan texts.now depth span }
+    requires long { AllWithin (λ t. depth < length t.bytes.items) texts.now span.from span.to }
+    ensures { OnOk result (AddsSplit texts.now depth span bytes.old.items bytes.new.items next.old.items next.new.items) }
+{
+    let mut from = span.from;
+    while from < span.to {
+        let byte = texts[from].bytes[depth];
+        let rest = Span { from, to: span.to };
+        let to = end_of_run(texts, rest, depth, Some(byte));
+        bytes.push(byte)?;
+        next.push(Span { from, to })?;
+        from = to;
+    }
+    Ok(())
+}
+
+/// Returns how far texts go on with a byte, or end, from the first of them on.
+fn end_of_run(texts: &[Text], span: Span, depth: usize, next: Option<u8>) -> usize
+    requires from { span.from ≤ span.to }
+    requires to { span.to ≤ length texts.now }
+    ensures low { span.from ≤ result }
+    ensures high { result ≤ span.to }
+    ensures run { AllWithin (λ t. next_of depth t ≡ next) texts.now span.from result }
+    ensures stop { result < span.to → HoldsAt (λ t. next_of depth t ≢ next) texts.now result }
+{
+    for at in span.from..span.to {
+        if next_byte(&texts[at], depth) != next {
+            return at;
+        }
+    }
+    span.to
+}
+
+/// Returns the byte that a text goes on with, or `None` if it ends.
+fn next_byte(text: &Text, depth: usize) -> Option<u8>
+    ensures { result ≡ next_of depth text.now }
+{
+    text.bytes.get(depth).copied()
+}
+
+/// Returns the length of the longest text.
+fn longest(texts: &[Text]) -> usize
+    ensures within { AreWithin result texts.now }
+    ensures small { result + 1 < 2 ^ 64 }
+{
+    let mut longest = 0;
+    for text in texts {
+        if text.bytes.len() > longest {
+            longest = text.bytes.len();
+        }
+    }
+    longest
+}

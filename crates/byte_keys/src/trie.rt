@@ -1,0 +1,140 @@
+//! A trie.
+
+ghost use Rattle.std.specs.Prelude.{◌≡◌, ◌≢◌, ℕ, ◌+◌, ◌≤◌, ◌↔◌, [], List, map, length, IsTrue, IfOk};
+ghost use Rattle.bit_sets.specs.Indexes.{index_capacity, HasAlso};
+ghost use Rattle.byte_keys.specs.Entries.{indexes_under};
+ghost use Rattle.byte_keys.specs.Texts.{found, entry_of};
+ghost use Rattle.byte_keys.specs.inner.Building.{IsOrdered};
+ghost use Rattle.byte_keys.specs.inner.Anchors.{entry_from_anchor};
+
+use crate::anchor::Anchor;
+use crate::text::Text;
+use crate::tree::Tree;
+use crate::walk;
+use bit_sets::{IndexSet, Visits};
+use std::alloc::{AllocError, Global};
+use std::marker::Model;
+use std::snapshot::Snapshot;
+
+/// Texts with indexes, which are looked for at one side of a path.
+pub struct Trie {
+    /// It is `None` if there are no texts. It is in a box, so that little is moved with a trie.
+    tree: Option<Box<Tree>>,
+    anchor: Anchor,
+    entries: Snapshot<Vec<Text>>,
+}
+
+impl Drop for Trie {
+    // One call wherever a value is dropped, which keeps proofs short.
+    fn drop(self) {
+        let Trie {
+            tree: _,
+            anchor: _,
+            entries: _,
+        } = self;
+    }
+}
+
+impl Model for Trie {
+    ghost use Rattle.std.specs.Prelude.{map};
+    ghost use Rattle.byte_keys.specs.Texts.{Texts, entry_of};
+
+    ghost Value = { Texts };
+
+    ghost use Rattle.byte_keys.specs.inner.IsTrieOf.{HasTree};
+
+    ghost view = { λ t. record { anchor = t.anchor; entries = map entry_of t.entries.value.items } };
+
+    ghost invariant = { λ t. HasTree t.tree t.anchor (map entry_of t.entries.value.items) };
+}
+
+impl Trie {
+    /// Returns a trie of texts, which are looked for at a side of a path.
+    ///
+    /// Returns an error if memory runs out. The time is linear in the bytes of all texts, except that the texts are sorted. With no
+    /// texts it allocates nothing.
+    pub fn new(alloc: Global, anchor: Anchor, texts: Vec<Text>) -> Result<Trie, AllocError>
+        ensures { IfOk result (λ t. t ≡ record { anchor = anchor; entries = map entry_of texts.items }) }
+    {
+        let entries = Snapshot::of(&texts);
+        if texts.is_empty() {
+            return Ok(Trie {
+                tree: None,
+                anchor,
+                entries,
+            });
+        }
+        let sorted = sorted(anchor, texts)?;
+        let tree = Tree::build(alloc, &sorted)?;
+        Ok(Trie {
+            tree: Some(Box::new(alloc, tree)?),
+            anchor,
+            entries,
+        })
+    }
+
+    /// Puts the indexes of the texts that the path begins or ends with into a set, beside what it holds: those that it has room
+    /// for. It takes no memory.
+    ///
+    /// It is at most one visit for each byte of the path, and one more.
+    pub fn find(&self, path: &[u8], into: &mut IndexSet, visits: &mut Visits)
+        ensures room { index_capacity into.new ≡ index_capacity into.old }
+        ensures found { HasAlso into.old into.new (found self.now path.now) }
+        ensures visits { visits.new ≤ visits.old + (length path.now + 1) }
+        ensures counted { visits.old ≤ visits.new }
+    {
+        if let Some(tree) = &self.tree {
+            walk::find(tree, self.anchor, path, into, visits);
+        }
+    }
+
+    /// Returns whether the path begins or ends with some text. It stops at the first, and takes no memory.
+    ///
+    /// It is at most one visit for each byte of the path, and one more.
+    pub fn is_match(&self, path: &[u8], visits: &mut Visits) -> bool
+        ensures some { IsTrue result ↔ (found self.now path.now ≢ []) }
+        ensures visits { visits.new ≤ visits.old + (length path.now + 1) }
+        ensures counted { visits.old ≤ visits.new }
+    {
+        match &self.tree {
+            Some(tree) => walk::has_some(tree, self.anchor, path, visits),
+            None => false,
+        }
+    }
+
+    /// Returns how many indexes of texts the path begins or ends with, each as often as it was given. It takes no memory.
+    ///
+    /// It is at most one visit for each byte of the path, and one more.
+    pub fn count_matches(&self, path: &[u8], visits: &mut Visits) -> usize
+        ensures count { result ≡ length (found self.now path.now) }
+        ensures visits { visits.new ≤ visits.old + (length path.now + 1) }
+        ensures counted { visits.old ≤ visits.new }
+    {
+        match &self.tree {
+            Some(tree) => walk::count(tree, self.anchor, path, visits),
+            None => 0,
+        }
+    }
+}
+
+/// Returns texts as they are read from a side of a path, in order.
+fn sorted(anchor: Anchor, mut texts: Vec<Text>) -> Result<Vec<Text>, AllocError>
+    ensures order { IfOk result (λ v. IsOrdered v.items 0 0 (length v.items)) }
+    ensures same { IfOk result (λ v. (w : List ℕ) → indexes_under (map entry_of v.items) w ≡ indexes_under (map (entry_from_anchor anchor) (map entry_of texts.items)) w) }
+{
+    match anchor {
+        Anchor::Start => {}
+        Anchor::End => reverse_all(&mut texts),
+    }
+    texts.sort_by(|a, b| a.bytes.cmp(&b.bytes))?;
+    Ok(texts)
+}
+
+/// Reverses each text.
+fn reverse_all(texts: &mut [Text])
+    ensures { map entry_of texts.new ≡ map (entry_from_anchor Anchor.End) (map entry_of texts.old) }
+{
+    for text in texts.iter_mut() {
+        text.bytes.reverse();
+    }
+}

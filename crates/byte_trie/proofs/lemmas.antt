@@ -1,9 +1,0 @@
-pub mod Walks
-pub mod Anchors
-pub mod NoTexts
-pub mod Ranges
-pub mod Children
-pub mod Spans
-pub mod Standing
-pub mod Sorting
-pub mod Laws

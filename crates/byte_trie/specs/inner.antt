@@ -1,4 +1,0 @@
-pub mod Anchors
-pub mod Nodes
-pub mod IsTrieOf
-pub mod Building

@@ -1,5 +1,0 @@
-use Rattle.glob_meaning.proofs.lemmas.Characters.{characters_are_scalars}
-use Rattle.glob_meaning.proofs.laws.characters_are_scalars.Goals as goal
-
-pub returns : goal.returns
-returns c = characters_are_scalars

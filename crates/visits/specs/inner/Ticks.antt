@@ -1,8 +1,0 @@
--- The number of visits that a count's snapshots stand for.
-use Rattle.std.specs.Prelude.{ℕ, ◌+◌}
-use Rattle.visits.specs.declared.Ticks.{Ticks, Start, After', More'}
-
-abbrev pub count : Ticks → ℕ
-count Start = 0
-count (After' _ before) = count before + 1
-count (More' _ before more) = count before + more.value
