@@ -6,25 +6,24 @@ ghost use Rattle.bit_sets.specs.Indexes.{has_index, index_capacity};
 ghost use Rattle.bit_sets.specs.Texts.{AllBytes};
 ghost use Rattle.nfa_simulation.specs.Sets.{sets_capacity};
 ghost use Rattle.glob_nfa.specs.IndexedTokens.{IndexedTokens, IsFor, indexed};
-ghost use Rattle.glob_matching.specs.Matching.{AddsMatches, TellsMatch};
-ghost use Rattle.glob_path.specs.PathParts.{component_extension, last_component};
+ghost use Rattle.glob_path.specs.PathParts.{component_extension};
 ghost use Rattle.glob_syntax.specs.FlatTokens.{IsNested};
 ghost use Rattle.glob_syntax.specs.Views.{flats, tokens_of};
 ghost use Rattle.glob_syntax.specs.inner.Weight.{weight};
-ghost use Rattle.set_matcher.specs.inner.Caches.{AreCachesOf, IsCacheAt};
-ghost use Rattle.set_matcher.specs.inner.PathPart.{part_of};
-ghost use Rattle.set_matcher.specs.inner.Automata.{AddsReads, AddsTokensTo, AreFor, AreForLists, AreFound, AreIdle, IsFoundSet, HaveOneCount, TokenLists, automata_or_none, before_extension, max_states, no_automata, reads_for, slot_of, states_for, total_reads};
+ghost use Rattle.set_matcher.specs.inner.Caches.{AreCachesOf};
+ghost use Rattle.set_matcher.specs.inner.Automata.{AddsReads, AddsTokensTo, AreFor, AreForLists, AreFound, AreIdle, IsFoundSet, HaveOneCount, TokenLists, automata_or_none, max_states, no_automata, reads_for, slot_of, states_for, total_reads};
 ghost use Rattle.set_matcher.specs.inner.Builders.{built};
 
 mod below;
 mod matchers;
 mod slots;
 
-use crate::caches::{Caches, SlotCaches};
+use crate::caches::Caches;
+use crate::path_part::{Part, matches_part, run};
 use below::has_text;
 use bit_sets::{IndexSet, Visits};
 use byte_nfa::Builder;
-use glob_matching::{Budget, Compiled, RowCache};
+use glob_matching::{Budget, Compiled};
 use glob_nfa::{add_tokens, new_builder};
 use glob_path::PathParts;
 use glob_syntax::{Options, Token};
@@ -183,15 +182,8 @@ impl Automata {
             marks,
             visits,
         )?;
-        run_by_slot(
-            slot,
-            by_extension,
-            path,
-            sets,
-            &mut caches.by_slot,
-            marks,
-            visits,
-        )?;
+        let caches = &mut caches.by_slot;
+        caches.run(slot, by_extension, path, sets, marks, visits)?;
         Ok(true)
     }
 
@@ -236,14 +228,9 @@ impl Automata {
             return Ok(true);
         }
         let slot = self.slot_of(path, visits);
-        matches_by_slot(
-            slot,
-            self.extensions.automaton_at(slot),
-            path,
-            sets,
-            &mut caches.by_slot,
-            visits,
-        )
+        let by_extension = self.extensions.automaton_at(slot);
+        let caches = &mut caches.by_slot;
+        caches.matches(slot, by_extension, path, sets, visits)
     }
 
     /// Returns the slot of the extension of the path's last component, if it has one. The extension is only searched for if some
@@ -278,143 +265,6 @@ impl Automata {
             && self.by_component.state_count() == 0
             && by_extension.state_count() == 0
     }
-}
-
-/// A part of a path that an automaton is run on.
-#[derive(Clone, Copy)]
-enum Part {
-    Path,
-    LastComponent,
-    BeforeExtension,
-}
-
-impl Part {
-    /// Returns the part's bytes. It searches no byte of the path for them that lies before the path's last component.
-    fn of<'p>(self, path: &PathParts<'p>) -> &'p [u8]
-        ensures { result.now ≡ part_of self path.now }
-    {
-        match self {
-            Part::Path => path.path(),
-            Part::LastComponent => path.last_component(),
-            Part::BeforeExtension => before_extension(path),
-        }
-    }
-}
-
-/// Marks the indexes of the globs whose tokens match a part of the path, beside those that are marked. The part is only searched
-/// for if there are states.
-fn run(
-    part: Part,
-    automaton: &Compiled,
-    path: &PathParts<'_>,
-    sets: &mut StateSets,
-    cache: &mut Option<RowCache>,
-    marks: &mut IndexSet,
-    visits: &mut Visits,
-) -> Result<(), AllocError>
-    requires bytes { AllBytes path.now }
-    requires count { automaton.now.index_count ≤ index_capacity marks.old }
-    requires cache { IfSome cache.old (λ c. c ≡ automaton.now) }
-    ensures cache { cache.new ≡ cache.old }
-    ensures room { index_capacity marks.new ≡ index_capacity marks.old }
-    ensures found { OnOk result (AddsMatches automaton.now (part_of part path.now) marks.old marks.new) }
-    ensures kept { sets_capacity sets.old ≤ sets_capacity sets.new }
-    ensures memory { size automaton.now ≤ sets_capacity sets.old → IsOk result }
-    ensures visits { visits.new ≤ visits.old + (length path.now + 1) * max_reads automaton.now }
-    ensures counted { visits.old ≤ visits.new }
-{
-    if automaton.state_count() == 0 {
-        return Ok(());
-    }
-    let text = part.of(path);
-    automaton.find_with(text, sets, cache, marks, visits)
-}
-
-/// The same as [`run`], before the extension of the path, with the cache of the automaton's slot.
-fn run_by_slot(
-    slot: Option<usize>,
-    automaton: &Compiled,
-    path: &PathParts<'_>,
-    sets: &mut StateSets,
-    caches: &mut SlotCaches,
-    marks: &mut IndexSet,
-    visits: &mut Visits,
-) -> Result<(), AllocError>
-    requires bytes { AllBytes path.now }
-    requires count { automaton.now.index_count ≤ index_capacity marks.old }
-    requires cache { (s : ℕ) → slot ≡ Some s → IsCacheAt caches.old s automaton.now }
-    ensures caches { caches.new ≡ caches.old }
-    ensures room { index_capacity marks.new ≡ index_capacity marks.old }
-    ensures found { OnOk result (AddsMatches automaton.now (before_extension path.now) marks.old marks.new) }
-    ensures kept { sets_capacity sets.old ≤ sets_capacity sets.new }
-    ensures memory { size automaton.now ≤ sets_capacity sets.old → IsOk result }
-    ensures visits { visits.new ≤ visits.old + (length path.now + 1) * max_reads automaton.now }
-    ensures counted { visits.old ≤ visits.new }
-{
-    if automaton.state_count() == 0 {
-        return Ok(());
-    }
-    let text = Part::BeforeExtension.of(path);
-    caches.find(slot, automaton, text, sets, marks, visits)
-}
-
-/// Returns whether a part of the path matches tokens. The part is only searched for if there are states.
-fn matches_part(
-    part: Part,
-    automaton: &Compiled,
-    path: &PathParts<'_>,
-    sets: &mut StateSets,
-    cache: &mut Option<RowCache>,
-    visits: &mut Visits,
-) -> Result<bool, AllocError>
-    requires bytes { AllBytes path.now }
-    requires cache { IfSome cache.old (λ c. c ≡ automaton.now) }
-    ensures cache { cache.new ≡ cache.old }
-    ensures some { IfOk result (TellsMatch automaton.now (part_of part path.now)) }
-    ensures kept { sets_capacity sets.old ≤ sets_capacity sets.new }
-    ensures memory { size automaton.now ≤ sets_capacity sets.old → IsOk result }
-    ensures visits { visits.new ≤ visits.old + (length path.now + 1) * max_reads automaton.now }
-    ensures counted { visits.old ≤ visits.new }
-{
-    if automaton.state_count() == 0 {
-        return Ok(false);
-    }
-    let text = part.of(path);
-    automaton.is_match_with(text, sets, cache, visits)
-}
-
-/// The same as [`matches_part`], before the extension of the path, with the cache of the automaton's slot.
-fn matches_by_slot(
-    slot: Option<usize>,
-    automaton: &Compiled,
-    path: &PathParts<'_>,
-    sets: &mut StateSets,
-    caches: &mut SlotCaches,
-    visits: &mut Visits,
-) -> Result<bool, AllocError>
-    requires bytes { AllBytes path.now }
-    requires cache { (s : ℕ) → slot ≡ Some s → IsCacheAt caches.old s automaton.now }
-    ensures caches { caches.new ≡ caches.old }
-    ensures some { IfOk result (TellsMatch automaton.now (before_extension path.now)) }
-    ensures kept { sets_capacity sets.old ≤ sets_capacity sets.new }
-    ensures memory { size automaton.now ≤ sets_capacity sets.old → IsOk result }
-    ensures visits { visits.new ≤ visits.old + (length path.now + 1) * max_reads automaton.now }
-    ensures counted { visits.old ≤ visits.new }
-{
-    if automaton.state_count() == 0 {
-        return Ok(false);
-    }
-    let text = Part::BeforeExtension.of(path);
-    caches.is_match(slot, automaton, text, sets, visits)
-}
-
-/// Returns the bytes of a path before the extension of its last component.
-fn before_extension<'p>(path: &PathParts<'p>) -> &'p [u8]
-    ensures { result.now ≡ before_extension path.now }
-{
-    let bytes = path.path();
-    let end = bytes.len() - path.extension().len();
-    &bytes[..end]
 }
 
 /// Makes [`Automata`] if some glob needs one. Until then it has no builders, so that little is moved for a set that needs none.

@@ -2,16 +2,19 @@
 
 ghost use Rattle.std.specs.Prelude.{◌≡◌, ◌+◌, ◌*◌, ◌≤◌, ◌++◌, ◌∷◌, ◌↔◌, [], ℕ, List, length, Some, IsTrue, IsOk, OnOk, IfOk};
 ghost use Rattle.bit_sets.specs.Indexes.{index_capacity};
+ghost use Rattle.bit_sets.specs.Texts.{AllBytes};
 ghost use Rattle.byte_nfa.specs.Runs.{size, max_reads};
 ghost use Rattle.byte_nfa.specs.Steps.{Machine};
 ghost use Rattle.glob_matching.specs.Matching.{AddsMatches, TellsMatch};
 ghost use Rattle.glob_nfa.specs.IndexedTokens.{IndexedTokens, IsFor, SomeMeanAfter};
 ghost use Rattle.nfa_simulation.specs.Sets.{sets_capacity};
-ghost use Rattle.set_matcher.specs.inner.Automata.{AutomataParts};
+ghost use Rattle.set_matcher.specs.inner.Automata.{AutomataParts, before_extension};
 ghost use Rattle.set_matcher.specs.inner.Caches.{AreCachesOf, IsCacheAt};
 
+use crate::path_part::{Part, matches_part, run};
 use bit_sets::{IndexSet, Visits};
 use glob_matching::{Compiled, RowCache};
+use glob_path::PathParts;
 use nfa_simulation::StateSets;
 use std::alloc::AllocError;
 use std::marker::Model;
@@ -116,63 +119,69 @@ impl SlotCaches {
         bytes
     }
 
-    /// The same as [`Compiled::find_with`], with the cache of the automaton's slot.
-    pub fn find(
+    /// The same as [`run`], on the bytes before the extension of the path, with the cache of the automaton's slot.
+    pub fn run(
         &mut self,
         slot: Option<usize>,
         automaton: &Compiled,
-        text: &[u8],
+        path: &PathParts<'_>,
         sets: &mut StateSets,
-        found: &mut IndexSet,
+        marks: &mut IndexSet,
         visits: &mut Visits,
     ) -> Result<(), AllocError>
-        requires count { automaton.now.index_count ≤ index_capacity found.old }
+        requires bytes { AllBytes path.now }
+        requires count { automaton.now.index_count ≤ index_capacity marks.old }
         requires cache { (s : ℕ) → slot ≡ Some s → IsCacheAt self.old s automaton.now }
         ensures caches { self.new ≡ self.old }
-        ensures room { index_capacity found.new ≡ index_capacity found.old }
-        ensures found { OnOk result (AddsMatches automaton.now text.now found.old found.new) }
+        ensures room { index_capacity marks.new ≡ index_capacity marks.old }
+        ensures found { OnOk result (AddsMatches automaton.now (before_extension path.now) marks.old marks.new) }
         ensures kept { sets_capacity sets.old ≤ sets_capacity sets.new }
         ensures memory { size automaton.now ≤ sets_capacity sets.old → IsOk result }
-        ensures visits { visits.new ≤ visits.old + (length text.now + 1) * max_reads automaton.now }
+        ensures visits { visits.new ≤ visits.old + (length path.now + 1) * max_reads automaton.now }
         ensures counted { visits.old ≤ visits.new }
     {
+        let part = Part::BeforeExtension;
         let Some(slot) = slot else {
-            return automaton.find(text, sets, found, visits);
+            return run(part, automaton, path, sets, &mut None, marks, visits);
         };
         if let Some(caches) = &mut self.caches {
             if slot < caches.len() {
-                return automaton.find_with(text, sets, &mut caches[slot], found, visits);
+                let cache = &mut caches[slot];
+                return run(part, automaton, path, sets, cache, marks, visits);
             }
         }
-        automaton.find(text, sets, found, visits)
+        run(part, automaton, path, sets, &mut None, marks, visits)
     }
 
-    /// The same as [`Compiled::is_match_with`], with the cache of the automaton's slot.
-    pub fn is_match(
+    /// The same as [`matches_part`], on the bytes before the extension of the path, with the cache of the automaton's slot.
+    pub fn matches(
         &mut self,
         slot: Option<usize>,
         automaton: &Compiled,
-        text: &[u8],
+        path: &PathParts<'_>,
         sets: &mut StateSets,
         visits: &mut Visits,
     ) -> Result<bool, AllocError>
-        requires { (s : ℕ) → slot ≡ Some s → IsCacheAt self.old s automaton.now }
+        requires bytes { AllBytes path.now }
+        requires cache { (s : ℕ) → slot ≡ Some s → IsCacheAt self.old s automaton.now }
         ensures caches { self.new ≡ self.old }
-        ensures some { IfOk result (λ yes. TellsMatch automaton.now text.now yes) }
+        ensures some { IfOk result (TellsMatch automaton.now (before_extension path.now)) }
         ensures kept { sets_capacity sets.old ≤ sets_capacity sets.new }
         ensures memory { size automaton.now ≤ sets_capacity sets.old → IsOk result }
-        ensures visits { visits.new ≤ visits.old + (length text.now + 1) * max_reads automaton.now }
+        ensures visits { visits.new ≤ visits.old + (length path.now + 1) * max_reads automaton.now }
         ensures counted { visits.old ≤ visits.new }
     {
+        let part = Part::BeforeExtension;
         let Some(slot) = slot else {
-            return automaton.is_match(text, sets, visits);
+            return matches_part(part, automaton, path, sets, &mut None, visits);
         };
         if let Some(caches) = &mut self.caches {
             if slot < caches.len() {
-                return automaton.is_match_with(text, sets, &mut caches[slot], visits);
+                let cache = &mut caches[slot];
+                return matches_part(part, automaton, path, sets, cache, visits);
             }
         }
-        automaton.is_match(text, sets, visits)
+        matches_part(part, automaton, path, sets, &mut None, visits)
     }
 
     /// The same as [`Compiled::can_match_after_with`], with the cache of the automaton's slot.

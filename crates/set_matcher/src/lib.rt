@@ -12,6 +12,7 @@ mod caches;
 mod given;
 mod matcher;
 mod matching;
+mod path_part;
 
 pub use caches::Caches;
 pub use matcher::{SetMatcher, SetMatcherBuilder};

@@ -1,8 +1,8 @@
 -- Parts of a path are bytes, and not longer than the path.
 use Rattle.std.proofs.Common.{◌≡◌, ℕ, ◌+◌, ◌*◌, ◌≤◌, List, length, subst}
 use Rattle.bit_sets.specs.Texts.{AllBytes}
-use Rattle.set_matcher.specs.declared.automata.Part.{Part}
-use Rattle.set_matcher.specs.declared.automata.Part.TheVariants.{Path, LastComponent, BeforeExtension}
+use Rattle.set_matcher.specs.declared.path_part.Part.{Part}
+use Rattle.set_matcher.specs.declared.path_part.Part.TheVariants.{Path, LastComponent, BeforeExtension}
 use Rattle.set_matcher.specs.inner.PathPart.{part_of}
 use Rattle.set_matcher.proofs.lemmas.Automata.{before_bytes, before_visits, component_bytes, component_visits}
 

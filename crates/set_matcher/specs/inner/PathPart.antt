@@ -1,8 +1,8 @@
 -- The parts of a path that automata are run on.
 use Rattle.std.specs.Prelude.{ℕ, List}
 use Rattle.glob_path.specs.PathParts.{last_component}
-use Rattle.set_matcher.specs.declared.automata.Part.{Part}
-use Rattle.set_matcher.specs.declared.automata.Part.TheVariants.{Path, LastComponent, BeforeExtension}
+use Rattle.set_matcher.specs.declared.path_part.Part.{Part}
+use Rattle.set_matcher.specs.declared.path_part.Part.TheVariants.{Path, LastComponent, BeforeExtension}
 use Rattle.set_matcher.specs.inner.Automata.{before_extension}
 
 -- the part of the path

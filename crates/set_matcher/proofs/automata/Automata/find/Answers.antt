@@ -32,13 +32,13 @@ returns-clause-found c = λ on. record {
       let last = ap size (machine_by_slot (component_extension c.args.path.now) c.self.view_is c.automaton_at-by_extension.ensures.automaton c.slot_of-slot.ensures.slot) in
       let some : (size c.args.self.now.by_path + (size c.args.self.now.by_component + size c.automaton_at-by_extension.result.now) ≡ 0) → ⊥ = (λ nil. true≢false (sym (c.is_idle.ensures.1 nil) ∙ c.if-is_idle.false)) in
       omega (arith, last, some);
-  room = omega (arith, c.in_ok-reserve.ensures.ok, c.index_count.ensures, c.in_ok-run.ensures.room, c.in_ok-run-2.ensures.room, c.in_ok-run_by_slot.ensures.room);
+  room = omega (arith, c.in_ok-reserve.ensures.ok, c.index_count.ensures, c.in_ok-run.ensures.room, c.in_ok-run-2.ensures.room, c.in_ok-run-3.ensures.room);
   same = λ t are k.
       let extension_tokens = tokens_under t.by_slot c.args.self.now.extensions.slots (component_extension c.args.path.now) in
       let one = c.in_ok-run.ensures.found t.by_path (subst (λ (a : AutomataParts). IsFor a.by_path t.by_path) (sym c.self.view_is) are.path) k in
       let two = c.in_ok-run-2.ensures.found t.by_component (subst (λ (a : AutomataParts). IsFor a.by_component t.by_component) (sym c.self.view_is) are.component) k in
       let are_for = tokens_by_slot c.automaton_at-by_extension.result.now (component_extension c.args.path.now) t.by_slot c.self.view_is c.automaton_at-by_extension.ensures.tokens c.slot_of-slot.ensures.slot are.matchers in
-      let three = c.in_ok-run_by_slot.ensures.found extension_tokens are_for k in
+      let three = c.in_ok-run-3.ensures.found extension_tokens are_for k in
       let empty = c.in_ok-reserve.ensures.has k ∙ c.clear.ensures.none k in three_runs (λ h. true≢false (sym h ∙ empty)) one two three;
 }
 
@@ -63,29 +63,29 @@ returns-in_err-run-2-clause-visits c =
     (subst (λ (p : AutomataParts). c.run-2.new.visits ≤ c.run.new.visits + (n + 1) * max_reads p.by_component) c.self.view_is c.run-2.ensures.visits)
     (omega arith)
 
-pub returns-in_err-run_by_slot-clause-visits : goal.returns-in_err-run_by_slot-clause-visits
-returns-in_err-run_by_slot-clause-visits c =
+pub returns-in_err-run-3-clause-visits : goal.returns-in_err-run-3-clause-visits
+returns-in_err-run-3-clause-visits c =
     let a = c.args.self.now in
     let n = length c.args.path.now in
     looked_runs n (max_reads a.by_path) (max_reads a.by_component) (max_reads (machine_under a.extensions (component_extension c.args.path.now))) c.args.visits.now c.slot_of-slot.new.visits
-    c.run.new.visits c.run-2.new.visits c.run_by_slot.new.visits
+    c.run.new.visits c.run-2.new.visits c.run-3.new.visits
     c.slot_of-slot.ensures.visits
     (subst (λ (p : AutomataParts). c.run.new.visits ≤ c.slot_of-slot.new.visits + (n + 1) * max_reads p.by_path) c.self.view_is c.run.ensures.visits)
     (subst (λ (p : AutomataParts). c.run-2.new.visits ≤ c.run.new.visits + (n + 1) * max_reads p.by_component) c.self.view_is c.run-2.ensures.visits)
-    (subst (λ (m : Machine). c.run_by_slot.new.visits ≤ c.run-2.new.visits + (n + 1) * max_reads m)
-    (machine_by_slot (component_extension c.args.path.now) c.self.view_is c.automaton_at-by_extension.ensures.automaton c.slot_of-slot.ensures.slot) c.run_by_slot.ensures.visits)
+    (subst (λ (m : Machine). c.run-3.new.visits ≤ c.run-2.new.visits + (n + 1) * max_reads m)
+    (machine_by_slot (component_extension c.args.path.now) c.self.view_is c.automaton_at-by_extension.ensures.automaton c.slot_of-slot.ensures.slot) c.run-3.ensures.visits)
 
 pub returns-clause-visits : goal.returns-clause-visits
 returns-clause-visits c =
     let a = c.args.self.now in
     let n = length c.args.path.now in
     looked_runs n (max_reads a.by_path) (max_reads a.by_component) (max_reads (machine_under a.extensions (component_extension c.args.path.now))) c.args.visits.now c.slot_of-slot.new.visits
-    c.run.new.visits c.run-2.new.visits c.run_by_slot.new.visits
+    c.run.new.visits c.run-2.new.visits c.run-3.new.visits
     c.slot_of-slot.ensures.visits
     (subst (λ (p : AutomataParts). c.run.new.visits ≤ c.slot_of-slot.new.visits + (n + 1) * max_reads p.by_path) c.self.view_is c.run.ensures.visits)
     (subst (λ (p : AutomataParts). c.run-2.new.visits ≤ c.run.new.visits + (n + 1) * max_reads p.by_component) c.self.view_is c.run-2.ensures.visits)
-    (subst (λ (m : Machine). c.run_by_slot.new.visits ≤ c.run-2.new.visits + (n + 1) * max_reads m)
-    (machine_by_slot (component_extension c.args.path.now) c.self.view_is c.automaton_at-by_extension.ensures.automaton c.slot_of-slot.ensures.slot) c.run_by_slot.ensures.visits)
+    (subst (λ (m : Machine). c.run-3.new.visits ≤ c.run-2.new.visits + (n + 1) * max_reads m)
+    (machine_by_slot (component_extension c.args.path.now) c.self.view_is c.automaton_at-by_extension.ensures.automaton c.slot_of-slot.ensures.slot) c.run-3.ensures.visits)
 
 pub returns-in_err-reserve-clause-memory : goal.returns-in_err-reserve-clause-memory
 returns-in_err-reserve-clause-memory c = λ none.
@@ -102,8 +102,8 @@ returns-in_err-run-2-clause-memory c = λ none.
     let last = ap size (machine_by_slot (component_extension c.args.path.now) c.self.view_is c.automaton_at-by_extension.ensures.automaton c.slot_of-slot.ensures.slot) in
     let on = c.is_idle.ensures.1 (omega (arith, none, last)) in absurd (true≢false (sym on ∙ c.if-is_idle.false))
 
-pub returns-in_err-run_by_slot-clause-memory : goal.returns-in_err-run_by_slot-clause-memory
-returns-in_err-run_by_slot-clause-memory c = λ none.
+pub returns-in_err-run-3-clause-memory : goal.returns-in_err-run-3-clause-memory
+returns-in_err-run-3-clause-memory c = λ none.
     let last = ap size (machine_by_slot (component_extension c.args.path.now) c.self.view_is c.automaton_at-by_extension.ensures.automaton c.slot_of-slot.ensures.slot) in
     let on = c.is_idle.ensures.1 (omega (arith, none, last)) in absurd (true≢false (sym on ∙ c.if-is_idle.false))
 
@@ -121,10 +121,10 @@ returns-in_err-run-2-clause-room c = λ has _.
     let states = subst (λ (p : AutomataParts). max_states p ≤ sets_capacity c.args.sets.now) (sym c.self.view_is) has in
     absurd (true≢false (sym (c.in_err-run-2.ensures.memory (omega (arith, states, c.in_ok-run.ensures.kept)))))
 
-pub returns-in_err-run_by_slot-clause-room : goal.returns-in_err-run_by_slot-clause-room
-returns-in_err-run_by_slot-clause-room c = λ has _.
+pub returns-in_err-run-3-clause-room : goal.returns-in_err-run-3-clause-room
+returns-in_err-run-3-clause-room c = λ has _.
     let states = subst (λ (p : AutomataParts). max_states p ≤ sets_capacity c.args.sets.now) (sym c.self.view_is) has in
-    absurd (true≢false (sym (c.in_err-run_by_slot.ensures.memory (omega (arith, states, c.automaton_at-by_extension.ensures.maximum, c.in_ok-run.ensures.kept, c.in_ok-run-2.ensures.kept)))))
+    absurd (true≢false (sym (c.in_err-run-3.ensures.memory (omega (arith, states, c.automaton_at-by_extension.ensures.maximum, c.in_ok-run.ensures.kept, c.in_ok-run-2.ensures.kept)))))
 
-pub run_by_slot-requires-clause-cache : goal.run_by_slot-requires-clause-cache
-run_by_slot-requires-clause-cache c = cache_by_slot c.args.caches.now.by_slot c.self.view_is c.automaton_at-by_extension.ensures.automaton c.requires.caches.slots
+pub run-requires-3-clause-cache : goal.run-requires-3-clause-cache
+run-requires-3-clause-cache c = cache_by_slot c.args.caches.now.by_slot c.self.view_is c.automaton_at-by_extension.ensures.automaton c.requires.caches.slots

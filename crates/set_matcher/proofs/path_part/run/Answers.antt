@@ -7,7 +7,7 @@ use Rattle.glob_matching.specs.Matching.{AddsMatches}
 use Rattle.set_matcher.specs.inner.PathPart.{part_of}
 use Rattle.set_matcher.proofs.lemmas.Automata.{no_matches}
 use Rattle.set_matcher.proofs.lemmas.PathPart.{part_bytes, part_visits}
-use Rattle.set_matcher.proofs.automata.run.Goals as goal
+use Rattle.set_matcher.proofs.path_part.run.Goals as goal
 
 pub returns-then-state_count-eq0-clause-found : goal.returns-then-state_count-eq0-clause-found
 returns-then-state_count-eq0-clause-found c = λ xs is k.

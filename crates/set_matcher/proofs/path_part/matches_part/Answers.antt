@@ -5,7 +5,7 @@ use Rattle.glob_matching.specs.Matching.{TellsMatch}
 use Rattle.set_matcher.specs.inner.PathPart.{part_of}
 use Rattle.set_matcher.proofs.lemmas.Automata.{no_matches}
 use Rattle.set_matcher.proofs.lemmas.PathPart.{part_bytes, part_visits}
-use Rattle.set_matcher.proofs.automata.matches_part.Goals as goal
+use Rattle.set_matcher.proofs.path_part.matches_part.Goals as goal
 
 pub returns-then-state_count-eq0-clause-some : goal.returns-then-state_count-eq0-clause-some
 returns-then-state_count-eq0-clause-some c = λ xs is.

@@ -3,7 +3,7 @@ use Rattle.std.proofs.lemmas.List.{length-append}
 use Rattle.glob_path.specs.PathParts.{component_extension}
 use Rattle.set_matcher.specs.inner.Automata.{before_extension}
 use Rattle.set_matcher.proofs.lemmas.Automata.{extension_cut}
-use Rattle.set_matcher.proofs.automata.before_extension.Goals as goal
+use Rattle.set_matcher.proofs.path_part.before_extension.Goals as goal
 
 pub overflow_sub-end : goal.overflow_sub-end
 overflow_sub-end c =

@@ -1,0 +1,100 @@
+//! The parts of a path that automata are run on.
+
+ghost use Rattle.std.specs.Prelude.{◌≡◌, ◌+◌, ◌*◌, ◌≤◌, length, IsOk, OnOk, IfOk, IfSome};
+ghost use Rattle.bit_sets.specs.Indexes.{index_capacity};
+ghost use Rattle.bit_sets.specs.Texts.{AllBytes};
+ghost use Rattle.byte_nfa.specs.Runs.{size, max_reads};
+ghost use Rattle.nfa_simulation.specs.Sets.{sets_capacity};
+ghost use Rattle.glob_matching.specs.Matching.{AddsMatches, TellsMatch};
+ghost use Rattle.set_matcher.specs.inner.Automata.{before_extension};
+ghost use Rattle.set_matcher.specs.inner.PathPart.{part_of};
+
+use bit_sets::{IndexSet, Visits};
+use glob_matching::{Compiled, RowCache};
+use glob_path::PathParts;
+use nfa_simulation::StateSets;
+use std::alloc::AllocError;
+
+/// A part of a path that an automaton is run on.
+#[derive(Clone, Copy)]
+pub enum Part {
+    Path,
+    LastComponent,
+    BeforeExtension,
+}
+
+impl Part {
+    /// Returns the part's bytes. It searches no byte of the path for them that lies before the path's last component.
+    fn of<'p>(self, path: &PathParts<'p>) -> &'p [u8]
+        ensures { result.now ≡ part_of self path.now }
+    {
+        match self {
+            Part::Path => path.path(),
+            Part::LastComponent => path.last_component(),
+            Part::BeforeExtension => before_extension(path),
+        }
+    }
+}
+
+/// Marks the indexes of the globs whose tokens match a part of the path, beside those that are marked. The part is only searched
+/// for if there are states.
+pub fn run(
+    part: Part,
+    automaton: &Compiled,
+    path: &PathParts<'_>,
+    sets: &mut StateSets,
+    cache: &mut Option<RowCache>,
+    marks: &mut IndexSet,
+    visits: &mut Visits,
+) -> Result<(), AllocError>
+    requires bytes { AllBytes path.now }
+    requires count { automaton.now.index_count ≤ index_capacity marks.old }
+    requires cache { IfSome cache.old (λ c. c ≡ automaton.now) }
+    ensures cache { cache.new ≡ cache.old }
+    ensures room { index_capacity marks.new ≡ index_capacity marks.old }
+    ensures found { OnOk result (AddsMatches automaton.now (part_of part path.now) marks.old marks.new) }
+    ensures kept { sets_capacity sets.old ≤ sets_capacity sets.new }
+    ensures memory { size automaton.now ≤ sets_capacity sets.old → IsOk result }
+    ensures visits { visits.new ≤ visits.old + (length path.now + 1) * max_reads automaton.now }
+    ensures counted { visits.old ≤ visits.new }
+{
+    if automaton.state_count() == 0 {
+        return Ok(());
+    }
+    let text = part.of(path);
+    automaton.find_with(text, sets, cache, marks, visits)
+}
+
+/// Returns whether a part of the path matches tokens. The part is only searched for if there are states.
+pub fn matches_part(
+    part: Part,
+    automaton: &Compiled,
+    path: &PathParts<'_>,
+    sets: &mut StateSets,
+    cache: &mut Option<RowCache>,
+    visits: &mut Visits,
+) -> Result<bool, AllocError>
+    requires bytes { AllBytes path.now }
+    requires cache { IfSome cache.old (λ c. c ≡ automaton.now) }
+    ensures cache { cache.new ≡ cache.old }
+    ensures some { IfOk result (TellsMatch automaton.now (part_of part path.now)) }
+    ensures kept { sets_capacity sets.old ≤ sets_capacity sets.new }
+    ensures memory { size automaton.now ≤ sets_capacity sets.old → IsOk result }
+    ensures visits { visits.new ≤ visits.old + (length path.now + 1) * max_reads automaton.now }
+    ensures counted { visits.old ≤ visits.new }
+{
+    if automaton.state_count() == 0 {
+        return Ok(false);
+    }
+    let text = part.of(path);
+    automaton.is_match_with(text, sets, cache, visits)
+}
+
+/// Returns the bytes of a path before the extension of its last component.
+fn before_extension<'p>(path: &PathParts<'p>) -> &'p [u8]
+    ensures { result.now ≡ before_extension path.now }
+{
+    let bytes = path.path();
+    let end = bytes.len() - path.extension().len();
+    &bytes[..end]
+}
