@@ -54,7 +54,7 @@ impl Model for Searcher {
     ghost use Rattle.std.specs.Prelude.{◌≡◌, ◌≤◌, length, vec_capacity};
     ghost use Rattle.globset.specs.SearcherValue.{SearcherValue};
     ghost use Rattle.globset.specs.SetValue.{set_globs};
-    ghost use Rattle.globset.specs.inner.StoredSet.{stored_set};
+    ghost use Rattle.globset.specs.inner.StoredSet.{HasGlobs, stored_set};
 
     ghost Value = { SearcherValue };
 
@@ -63,7 +63,7 @@ impl Model for Searcher {
       found = s.found.items;
     } };
 
-    ghost invariant = { λ s. (stored_set s.stored ≡ s.set) × (length (set_globs s.set) ≤ vec_capacity s.found) };
+    ghost invariant = { λ s. (stored_set s.stored ≡ s.set) × ((length (set_globs s.set) ≤ vec_capacity s.found) × HasGlobs s.stored) };
 }
 
 impl Searcher {
@@ -129,9 +129,6 @@ impl Searcher {
         ensures counted { visits.old ≤ visits.new }
         ensures no_visits_if_empty { set_globs self.old.set ≡ [] → visits.new ≡ visits.old }
     {
-        if self.set.is_empty() {
-            return false;
-        }
         let Some(stored) = &mut self.stored else {
             return false;
         };
@@ -158,9 +155,6 @@ impl Searcher {
         ensures counted { visits.old ≤ visits.new }
         ensures no_visits_if_empty { set_globs self.old.set ≡ [] → visits.new ≡ visits.old }
     {
-        if self.set.is_empty() {
-            return true;
-        }
         let Some(stored) = &mut self.stored else {
             return true;
         };
@@ -187,9 +181,6 @@ impl Searcher {
         ensures no_visits_if_empty { set_globs self.old.set ≡ [] → visits.new ≡ visits.old }
     {
         self.found.clear();
-        if self.set.is_empty() {
-            return;
-        }
         let Some(stored) = &mut self.stored else {
             return;
         };
@@ -254,9 +245,6 @@ impl Searcher {
         ensures counted { visits.old ≤ visits.new }
         ensures no_visits_if_empty { set_globs self.old.set ≡ [] → visits.new ≡ visits.old }
     {
-        if self.set.is_empty() {
-            return false;
-        }
         let Some(stored) = &mut self.stored else {
             return false;
         };

@@ -52,6 +52,7 @@ use std::marker::Model;
 /// assert!(rt; !GlobSet::new(alloc, [&glob])?.is_match("a/..")?);
 /// ```
 pub struct GlobSet {
+    /// It is `None` if there are no globs.
     pub(crate) stored: Option<Stored>,
 }
 
@@ -64,11 +65,13 @@ impl Drop for GlobSet {
 
 impl Model for GlobSet {
     ghost use Rattle.globset.specs.SetValue.{SetValue};
-    ghost use Rattle.globset.specs.inner.StoredSet.{stored_set};
+    ghost use Rattle.globset.specs.inner.StoredSet.{HasGlobs, stored_set};
 
     ghost Value = { SetValue };
 
     ghost view = { λ s. stored_set s.stored };
+
+    ghost invariant = { λ s. HasGlobs s.stored };
 }
 
 impl GlobSet {
@@ -93,7 +96,7 @@ impl GlobSet {
     pub fn is_empty(&self) -> bool
         ensures { IsTrue result ↔ (set_globs self.now ≡ []) }
     {
-        self.len() == 0
+        self.stored.is_none()
     }
 
     /// Returns the number of globs in the set, excluded globs included. It allocates nothing.
@@ -133,9 +136,7 @@ impl GlobSet {
         for glob in globs {
             references.push(glob)?;
         }
-        Ok(GlobSet {
-            stored: Some(stored_of_references(alloc, &references)?),
-        })
+        Ok(GlobSet::of_stored(stored_of_references(alloc, &references)?))
     }
 
     /// Returns an equal set, which shares what it matches with. It takes no memory, and little time whatever the set's size. Returns an
@@ -154,8 +155,11 @@ impl GlobSet {
 
     /// Returns the set that stores this: for a crate that makes what a set stores glob by glob, as `globset_c` does.
     pub fn of_stored(stored: Stored) -> GlobSet
-        ensures { result ≡ stored }
+        ensures { set_globs result ≡ set_globs stored }
     {
+        if stored.len() == 0 {
+            return GlobSet::empty();
+        }
         GlobSet {
             stored: Some(stored),
         }
@@ -171,9 +175,7 @@ impl GlobSet {
         ensures ok { IfOk result (λ s. set_globs s ≡ globs.now) }
         ensures err { IfErr result (λ e. e ≡ out_of_memory) }
     {
-        Ok(GlobSet {
-            stored: Some(stored_of_slice(alloc, dfa_size_limit, globs)?),
-        })
+        Ok(GlobSet::of_stored(stored_of_slice(alloc, dfa_size_limit, globs)?))
     }
 
     /// Returns the set of these globs, as [`GlobSet::of_slice`] does, and drops each once it is not needed any more.
@@ -185,9 +187,7 @@ impl GlobSet {
         ensures ok { IfOk result (λ s. set_globs s ≡ globs.items) }
         ensures err { IfErr result (λ e. e ≡ out_of_memory) }
     {
-        Ok(GlobSet {
-            stored: Some(stored_of_globs(alloc, dfa_size_limit, globs)?),
-        })
+        Ok(GlobSet::of_stored(stored_of_globs(alloc, dfa_size_limit, globs)?))
     }
 }
 

@@ -1,10 +1,12 @@
 -- The answers of a set of no globs.
-use Rattle.std.proofs.Common.{◌≡◌, ℕ, List, [], refl, sym}
+use Rattle.std.proofs.Common.{◌≡◌, ℕ, List, [], Option, Some, refl, sym, ap, subst, ◌∙◌}
 use Rattle.std.specs.Prelude.{◌≢◌, ◌↔◌, IsTrue, false}
 use Rattle.glob_path.specs.Below.{path_below}
 use Rattle.globset_glob.specs.GlobMatches.{GlobValue}
 use Rattle.globset_set.specs.Answer.{matching_indexes}
 use Rattle.globset_set.specs.Below.{MatchesBelow}
+use Rattle.globset_set.specs.SetValue.{SetValue, set_globs}
+use Rattle.globset.specs.inner.StoredSet.{HasGlobs}
 
 pub answer_of_none : (globs : List GlobValue) (path : List ℕ) → globs ≡ [] → [] ≡ matching_indexes globs path
 unfolding matching_indexes
@@ -15,3 +17,7 @@ none_of_none globs path e = (λ y. absurd (cc), λ n. absurd (n (sym (answer_of_
 
 pub none_below : (globs : List GlobValue) (folder : List ℕ) → globs ≡ [] → IsTrue false ↔ MatchesBelow globs folder
 none_below globs folder e = (λ y. absurd (cc), λ (rest, bytes, some). absurd (some (sym (answer_of_none globs (path_below folder rest) e))))
+
+-- a set that stores something is not empty
+pub not_empty : {A : Type 0} {stored : Option SetValue} {s set : SetValue} → stored ≡ Some s → HasGlobs stored → s ≡ set → set_globs set ≡ [] → A
+not_empty is some same none = absurd (subst HasGlobs is some (ap set_globs same ∙ none))

@@ -1,8 +1,13 @@
 -- The value of a set, by what the set stores. No contract cites this.
-use Rattle.std.specs.Prelude.{[], Option, None, Some}
-use Rattle.globset_set.specs.SetValue.{SetValue}
+use Rattle.std.specs.Prelude.{◌≢◌, [], Option, None, Some, ⊤}
+use Rattle.globset_set.specs.SetValue.{SetValue, set_globs}
 
 -- no globs and no states where nothing is stored, as in `GlobSet::empty`, and otherwise what is stored
 abbrev pub stored_set : Option SetValue → SetValue
 stored_set None = record { globs = []; states = 0 }
 stored_set (Some set) = set
+
+-- what is stored has globs: a set that has none stores nothing
+abbrev pub HasGlobs : Option SetValue → Type 0
+HasGlobs None = ⊤
+HasGlobs (Some set) = set_globs set ≢ []

@@ -65,9 +65,6 @@ impl GlobSet {
         ensures counted { visits.old ≤ visits.new }
         ensures no_visits_if_empty { set_globs self.now ≡ [] → visits.new ≡ visits.old }
     {
-        if self.is_empty() {
-            return Ok(true);
-        }
         let Some(stored) = &self.stored else {
             return Ok(true);
         };

@@ -73,9 +73,6 @@ impl GlobSet {
         ensures counted { visits.old ≤ visits.new }
         ensures no_visits_if_empty { set_globs self.now ≡ [] → visits.new ≡ visits.old }
     {
-        if self.is_empty() {
-            return Ok(false);
-        }
         let Some(stored) = &self.stored else {
             return Ok(false);
         };
@@ -111,9 +108,6 @@ impl GlobSet {
         ensures counted { visits.old ≤ visits.new }
         ensures no_visits_if_empty { set_globs self.now ≡ [] → visits.new ≡ visits.old }
     {
-        if self.is_empty() {
-            return false;
-        }
         let Some(stored) = &self.stored else {
             return false;
         };

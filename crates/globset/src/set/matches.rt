@@ -104,9 +104,6 @@ impl GlobSet {
         ensures no_visits_if_empty { set_globs self.now ≡ [] → visits.new ≡ visits.old }
     {
         into.clear();
-        if self.is_empty() {
-            return Ok(());
-        }
         let Some(stored) = &self.stored else {
             return Ok(());
         };

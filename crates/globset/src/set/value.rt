@@ -37,9 +37,7 @@ impl GlobSet {
         ensures err { IfErr result (IsValueErrorOf (globs_of_value (view value.now))) }
     {
         match value {
-            Value::Array(values) => Ok(GlobSet {
-                stored: Some(read_globs(alloc, values)?),
-            }),
+            Value::Array(values) => Ok(GlobSet::of_stored(read_globs(alloc, values)?)),
             _ => Err(ValueError::from(ValueErrorKind::NotArray)),
         }
     }

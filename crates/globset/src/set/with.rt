@@ -45,9 +45,6 @@ impl GlobSet {
         ensures counted { visits.old ≤ visits.new }
         ensures no_visits_if_empty { set_globs self.now ≡ [] → visits.new ≡ visits.old }
     {
-        if self.is_empty() {
-            return false;
-        }
         let Some(stored) = &self.stored else {
             return false;
         };
@@ -72,9 +69,6 @@ impl GlobSet {
         ensures counted { visits.old ≤ visits.new }
         ensures no_visits_if_empty { set_globs self.now ≡ [] → visits.new ≡ visits.old }
     {
-        if self.is_empty() {
-            return true;
-        }
         let Some(stored) = &self.stored else {
             return true;
         };
@@ -107,9 +101,6 @@ impl GlobSet {
         ensures no_visits_if_empty { set_globs self.now ≡ [] → visits.new ≡ visits.old }
     {
         into.clear();
-        if self.is_empty() {
-            return Ok(());
-        }
         let Some(stored) = &self.stored else {
             return Ok(());
         };

@@ -1,12 +1,13 @@
-use Rattle.std.proofs.Common.{IsTrue, false, subst}
-use Rattle.std.specs.Prelude.{◌↔◌}
-use Rattle.globset_set.specs.Below.{MatchesBelow}
+use Rattle.std.proofs.Common.{ap, sym, ◌∙◌}
 use Rattle.globset.specs.SearcherValue.{SearcherValue}
 use Rattle.globset.specs.SetValue.{set_globs}
-use Rattle.globset.proofs.lemmas.Answer.{none_below}
+use Rattle.globset.specs.inner.StoredSet.{stored_set}
+use Rattle.globset.proofs.lemmas.Answer.{none_below, not_empty}
 use Rattle.globset.proofs.searcher.Searcher.can_match_below_visits.Goals as goal
 
-pub returns-then-is_empty-clause-some : goal.returns-then-is_empty-clause-some
-returns-then-is_empty-clause-some c =
-    subst (λ (s : SearcherValue). IsTrue false ↔ MatchesBelow (set_globs s.set) c.args.folder.now) c.self.view_is
-    (none_below (set_globs c.self.inside.set) c.args.folder.now (c.is_empty.ensures.0 c.if-is_empty.true))
+pub returns-clause-no_visits_if_empty : goal.returns-clause-no_visits_if_empty
+returns-clause-no_visits_if_empty c = not_empty c.in-Some.is c.self.invariant.1.1 (sym (ap stored_set c.in-Some.is) ∙ c.self.invariant.0 ∙ ap (λ (s : SearcherValue). s.set) c.self.view_is)
+
+pub returns-in_default-clause-some : goal.returns-in_default-clause-some
+returns-in_default-clause-some c = none_below (set_globs c.args.self.now.set) c.args.folder.now
+    (ap set_globs (sym (c.self.invariant.0 ∙ ap (λ (s : SearcherValue). s.set) c.self.view_is) ∙ ap stored_set c.in_default.is))

@@ -3,13 +3,16 @@ use Rattle.std.specs.Prelude.{◌↔◌}
 use Rattle.globset_set.specs.Below.{MatchesBelow}
 use Rattle.globset.specs.SetValue.{SetValue, set_globs}
 use Rattle.globset.specs.inner.StoredSet.{stored_set}
-use Rattle.globset.proofs.lemmas.Answer.{none_below}
+use Rattle.globset.proofs.lemmas.Answer.{none_below, not_empty}
 use Rattle.globset.proofs.set.GlobSet.can_match_below_visits.Goals as goal
-
-pub returns-then-is_empty-clause-ok : goal.returns-then-is_empty-clause-ok
-returns-then-is_empty-clause-ok c = none_below (set_globs c.args.self.now) c.args.folder.now (c.is_empty.ensures.0 c.if-is_empty.true)
 
 pub returns-clause-ok : goal.returns-clause-ok
 returns-clause-ok c =
     let same : c.in-Some.stored ≡ c.args.self.now = sym (ap stored_set c.in-Some.is) ∙ c.self.view_is in
     subst (λ (s : SetValue). IfOk c.can_match_below.result (λ yes. IsTrue yes ↔ MatchesBelow (set_globs s) c.args.folder.now)) same c.can_match_below.ensures.ok
+
+pub returns-clause-no_visits_if_empty : goal.returns-clause-no_visits_if_empty
+returns-clause-no_visits_if_empty c = not_empty c.in-Some.is c.self.invariant (sym (ap stored_set c.in-Some.is) ∙ c.self.view_is)
+
+pub returns-in_default-clause-ok : goal.returns-in_default-clause-ok
+returns-in_default-clause-ok c = none_below (set_globs c.args.self.now) c.args.folder.now (ap set_globs (sym c.self.view_is ∙ ap stored_set c.in_default.is))

@@ -4,9 +4,13 @@ use Rattle.set_matcher.specs.Indexes.{ContainsAllBelow}
 use Rattle.globset_set.specs.Answer.{matching_indexes}
 use Rattle.globset.specs.SetValue.{SetValue, set_globs}
 use Rattle.globset.specs.inner.StoredSet.{stored_set}
+use Rattle.globset.proofs.lemmas.Answer.{not_empty}
 use Rattle.globset.proofs.set.GlobSet.matches_all_visits.Goals as goal
 
 pub returns-clause-ok : goal.returns-clause-ok
 returns-clause-ok c =
     let same : c.in-Some.stored ≡ c.args.self.now = sym (ap stored_set c.in-Some.is) ∙ c.self.view_is in
     subst (λ (s : SetValue). IfOk c.matches_all.result (λ yes. IsTrue yes ↔ ContainsAllBelow (matching_indexes (set_globs s) c.args.path.now) (length (set_globs s)))) same c.matches_all.ensures.ok
+
+pub returns-clause-no_visits_if_empty : goal.returns-clause-no_visits_if_empty
+returns-clause-no_visits_if_empty c = not_empty c.in-Some.is c.self.invariant (sym (ap stored_set c.in-Some.is) ∙ c.self.view_is)

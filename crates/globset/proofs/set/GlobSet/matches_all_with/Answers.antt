@@ -4,6 +4,7 @@ use Rattle.set_matcher.specs.Indexes.{ContainsAllBelow}
 use Rattle.globset_set.specs.Answer.{matching_indexes}
 use Rattle.globset.specs.SetValue.{Fits, SetValue, set_globs}
 use Rattle.globset.specs.inner.StoredSet.{stored_set}
+use Rattle.globset.proofs.lemmas.Answer.{not_empty}
 use Rattle.globset.proofs.set.GlobSet.matches_all_with.Goals as goal
 
 pub unwrap-requires : goal.unwrap-requires
@@ -16,3 +17,6 @@ returns-clause-all c =
     let same : c.in-Some.stored ≡ c.args.self.now = sym (ap stored_set c.in-Some.is) ∙ c.self.view_is in
     subst (λ (s : SetValue). IsTrue c.unwrap.result ↔ ContainsAllBelow (matching_indexes (set_globs s) c.args.path.now) (length (set_globs s))) same
     (subst (λ r. IfOk r (λ yes. IsTrue yes ↔ ContainsAllBelow (matching_indexes (set_globs c.in-Some.stored) c.args.path.now) (length (set_globs c.in-Some.stored)))) c.unwrap.ensures c.matches_all.ensures.ok)
+
+pub returns-clause-no_visits_if_empty : goal.returns-clause-no_visits_if_empty
+returns-clause-no_visits_if_empty c = not_empty c.in-Some.is c.self.invariant (sym (ap stored_set c.in-Some.is) ∙ c.self.view_is)
