@@ -150,8 +150,8 @@ void globset_set_free(globset_set *set);
 /* ---- Searchers ---- */
 
 /* Makes a searcher of a set. It takes all the memory that questions about one path need: eight bytes for each glob,
- * what the automata of the set need to run, and up to 16 MB more if several globs need an automaton, or more than that
- * if automata have hundreds of thousands of states. GLOBSET_ENOMEM. */
+ * what the automata of the set need to run, and up to 16 MB more if one of them has no table, or more than that if
+ * automata have hundreds of thousands of states. GLOBSET_ENOMEM. */
 GLOBSET_CHECKED int globset_searcher_new(const globset_set *set, globset_searcher **searcher);
 
 /* Returns whether some glob of the set matches the path. This takes no memory, and cannot fail but for null and for an

@@ -190,7 +190,8 @@ globset_status globset_raw_set_is_match_many(globset_lent *set, globset_owned *w
 
 /* Makes a searcher of a set. It shares what the set matches with, so the set may be freed. It takes the memory that
  * questions about one path need: eight bytes for each glob, as much as a work that fits the set, and up to 16 MB more
- * if several globs need an automaton. GLOBSET_DONE, GLOBSET_WRONG_KIND, GLOBSET_OUT_OF_MEMORY. */
+ * if an automaton of the set has no table, or more than that if automata have hundreds of thousands of states.
+ * GLOBSET_DONE, GLOBSET_WRONG_KIND, GLOBSET_OUT_OF_MEMORY. */
 globset_status globset_raw_searcher_new(globset_lent *set, globset_owned *out);
 
 /* Whether some glob of the searcher's set matches the path: GLOBSET_YES or GLOBSET_NO, the same as of

@@ -11,7 +11,7 @@ use crate::{ffi, Candidate, Error, Glob};
 ///
 /// Any number of threads may share a set, and a clone shares what was made for matching. A set keeps memory for each thread that
 /// asks it, which it takes at the thread's first call: eight bytes for each glob and some for automata, and up to 16 MB for
-/// parts of tables if several globs need an automaton, or more if these are very many. After a thread has ended, another one
+/// rows if an automaton has no table, or more if its globs are very many. After a thread has ended, another one
 /// uses its memory. The last clone of the set frees all of it.
 ///
 /// # Examples

@@ -1,8 +1,8 @@
-//! A filter: parts under the keys of windows.
+//! A filter: starts under the keys of windows.
 
 ghost use Rattle.std.specs.Prelude.{◌≡◌, ℕ, List, ◌+◌, ◌*◌, ◌%◌, ◌<◌, ◌≤◌, ◌⊎◌, ◌↔◌, ◌++◌, ◌∷◌, [], length, IsTrue, IfOk, OnOk, OnErr};
 ghost use Rattle.bit_sets.specs.Indexes.{has_index, index_capacity};
-ghost use Rattle.byte_filter.specs.Entries.{entry, HasEntry, ArePartsBelow, IsNamed};
+ghost use Rattle.byte_filter.specs.Entries.{entry, HasEntry, AreStartsBelow, IsNamed};
 ghost use Rattle.byte_filter.specs.Signs.{AreSigned};
 ghost use Rattle.byte_filter.specs.inner.Signatures.{IsOf};
 
@@ -22,7 +22,7 @@ pub type Signs = [u8; 8];
 #[derive(Clone, Copy)]
 struct Link {
     key: u32,
-    part: u32,
+    start: u32,
     signs: Signs,
     /// One more than the place of the entry before it whose key has the same slot, or 0.
     next: u32,
@@ -42,7 +42,7 @@ impl Link {
     }
 }
 
-/// Parts under the keys of windows. Contracts see the entries in the order in which they were added.
+/// Starts under the keys of windows. Contracts see the entries in the order in which they were added.
 pub struct Filter {
     /// The keys, so that one word says of most others that they have no entry.
     keys: KeyBits,
@@ -93,11 +93,11 @@ impl Filter {
         })
     }
 
-    /// Adds a part under a key, after the entries that there are.
+    /// Adds a start under a key, after the entries that there are.
     ///
     /// Returns an error if memory runs out; the filter then has the entries that it had.
-    pub fn add(&mut self, key: u32, part: u32, signs: Signs) -> Result<(), AllocError>
-        ensures ok { OnOk result (self.new ≡ self.old ++ entry key part signs ∷ []) }
+    pub fn add(&mut self, key: u32, start: u32, signs: Signs) -> Result<(), AllocError>
+        ensures ok { OnOk result (self.new ≡ self.old ++ entry key start signs ∷ []) }
         ensures err { OnErr result (self.new ≡ self.old) }
     {
         let slot = place(key, self.heads.len());
@@ -108,7 +108,7 @@ impl Filter {
         let next = self.heads[slot];
         self.links.push(Link {
             key,
-            part,
+            start,
             signs,
             next,
         })?;
@@ -118,11 +118,11 @@ impl Filter {
         Ok(())
     }
 
-    /// Puts each part with an entry under the key of a window of a text, which has its signs, into a set, beside what it holds.
+    /// Puts each start with an entry under the key of a window of a text, which has its signs, into a set, beside what it holds.
     ///
     /// For each byte it is at most four visits, and two for each entry.
     pub fn mark(&self, text: &[u8], marks: &mut IndexSet, visits: &mut Visits)
-        requires { ArePartsBelow (index_capacity marks.old) self.now }
+        requires { AreStartsBelow (index_capacity marks.old) self.now }
         ensures room { index_capacity marks.new ≡ index_capacity marks.old }
         ensures marks { (k : ℕ) → IsTrue (has_index marks.new k) ↔ (IsNamed self.now text.now k ⊎ IsTrue (has_index marks.old k)) }
         ensures visits { visits.new ≤ visits.old + length text.now * (2 * (2 + length self.now)) }
@@ -151,7 +151,7 @@ impl Filter {
         marks: &mut IndexSet,
         visits: &mut Visits,
     )
-        requires room { ArePartsBelow (index_capacity marks.old) self.now }
+        requires room { AreStartsBelow (index_capacity marks.old) self.now }
         requires of { IsOf text.now signature.old }
         ensures of { IsOf text.now signature.new }
         ensures room { index_capacity marks.new ≡ index_capacity marks.old }
@@ -173,7 +173,7 @@ impl Filter {
         marks: &mut IndexSet,
         visits: &mut Visits,
     )
-        requires room { ArePartsBelow (index_capacity marks.old) self.now }
+        requires room { AreStartsBelow (index_capacity marks.old) self.now }
         requires of { IsOf text.now signature.old }
         ensures of { IsOf text.now signature.new }
         ensures room { index_capacity marks.new ≡ index_capacity marks.old }
@@ -196,7 +196,7 @@ impl Filter {
         marks: &mut IndexSet,
         visits: &mut Visits,
     )
-        requires room { ArePartsBelow (index_capacity marks.old) self.now }
+        requires room { AreStartsBelow (index_capacity marks.old) self.now }
         requires of { IsOf text.now signature.old }
         ensures of { IsOf text.now signature.new }
         ensures room { index_capacity marks.new ≡ index_capacity marks.old }
@@ -210,10 +210,10 @@ impl Filter {
         while at > 0 {
             visits.tick();
             let link = self.links[at - 1];
-            let part = link.part as usize;
+            let start = link.start as usize;
             at = link.next as usize;
             if link.is_named(key, text, signature) {
-                marks.put(part);
+                marks.put(start);
             }
         }
     }

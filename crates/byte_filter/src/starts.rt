@@ -3,7 +3,7 @@
 ghost use Rattle.std.specs.Prelude.{◌≡◌, ℕ, ◌+◌, ◌*◌, ◌<◌, ◌≤◌, ◌⊎◌, ◌↔◌, length, slice_index, Contains, IsTrue, IfOk, IfSome, OnOk, MatchOption};
 ghost use Rattle.bit_sets.specs.Indexes.{has_index, index_capacity};
 ghost use Rattle.byte_nfa.specs.Steps.{Accepts, IsReached, Machine};
-ghost use Rattle.byte_filter.specs.Entries.{ArePartsBelow};
+ghost use Rattle.byte_filter.specs.Entries.{AreStartsBelow};
 ghost use Rattle.byte_filter.specs.Others.{AreOthersBelow};
 ghost use Rattle.byte_filter.specs.Starts.{IsGuarded, IsFilterOf, IsReachedMarked};
 ghost use Rattle.byte_filter.specs.inner.Cuts.{AreForced};
@@ -127,13 +127,13 @@ fn guard(
 ) -> Result<(), AllocError>
     ensures guarded { OnOk result (IsGuardedBy windows.now.short.items windows.now.long.items windows.now.bytes.items filter.new others.new.items i) }
     ensures kept { OnOk result ((m : Machine) (j : ℕ) → IsGuarded m filter.old others.old.items j → IsGuarded m filter.new others.new.items j) }
-    ensures below { OnOk result ((n : ℕ) → i < n → ArePartsBelow n filter.old → ArePartsBelow n filter.new) }
+    ensures below { OnOk result ((n : ℕ) → i < n → AreStartsBelow n filter.old → AreStartsBelow n filter.new) }
     ensures others_below { OnOk result ((n : ℕ) → i < n → AreOthersBelow n others.old.items → AreOthersBelow n others.new.items) }
     ensures len { OnOk result (length filter.new ≤ length filter.old + 1) }
 {
-    if let Ok(part) = u32::try_from(i) {
+    if let Ok(start) = u32::try_from(i) {
         if let Some(key) = rarest(windows, counts) {
-            filter.add(key, part, counts.signs(&windows.short, key))?;
+            filter.add(key, start, counts.signs(&windows.short, key))?;
             return Ok(());
         }
     }

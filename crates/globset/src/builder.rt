@@ -55,14 +55,14 @@ impl GlobSetBuilder {
     /// Sets how many bytes the tables of deterministic automata may take, those of all automata of a set together. The default is
     /// [`DEFAULT_DFA_SIZE_LIMIT`], 16 MiB.
     ///
-    /// The limit is for memory and time, and changes no answer. Globs that need an automaton get a deterministic one, together with
-    /// others or alone, as far as the limit allows, and the time that it takes to make one. A run of it reads one entry of its
-    /// table for each byte of a path. The other globs are simulated: each byte of a path then takes as many steps as their automaton
-    /// is in states, and calls without a scratch take two bits of memory for each of its states. If more than 32 globs of an
-    /// automaton are simulated, a filter names the few that a path may match, where their texts allow one.
+    /// The limit is for memory and time, and changes no answer. The globs that need an automaton share a few, and each of these gets a
+    /// table, as far as the limit allows, and the time that it takes to make one. A run of a table reads one entry of it for each
+    /// byte of a path. An automaton without a table is simulated: each byte of a path then takes as many steps as the automaton is in
+    /// states, and calls without a scratch take two bits of memory for each of its states. If it has four globs or more, a filter
+    /// names the few that a path may match, where their texts allow one; and a [`Searcher`](crate::Searcher) keeps rows of it.
     ///
-    /// With 0 there are no tables and no filters: the set takes the least time and memory to make, which is best for few paths. Memory
-    /// beside the tables has no limit: that of keys, states and filters is linear in the texts of the globs.
+    /// With 0 there are no tables, no filters and no rows: the set takes the least time and memory to make, which is best for few
+    /// paths. Memory beside the tables has no limit: that of keys, states and filters is linear in the texts of the globs.
     ///
     /// ```rust
     /// use globset::{Glob, GlobSetBuilder};

@@ -71,8 +71,8 @@ impl Searcher {
     ghost use Rattle.globset.specs.Lending.{LendsFound};
 
     /// Returns a searcher of the set, which shares what the set matches with. It takes eight bytes of memory for each glob, and as
-    /// much as a [`Scratch`] for the set. If several globs need an automaton, it may take up to 16 MB more, for parts of tables
-    /// that it keeps from one path to the next, and more than that if automata have hundreds of thousands of states.
+    /// much as a [`Scratch`] for the set. If an automaton of the set has no table, it may take up to 16 MB more, for rows that it
+    /// keeps from one path to the next, and more than that if automata have hundreds of thousands of states.
     ///
     /// Returns an error if memory runs out or 2^63 sets share it, and in no other case.
     pub fn new(alloc: Global, set: &GlobSet) -> Result<Searcher, Error>
@@ -96,7 +96,7 @@ impl Searcher {
         &self.set
     }
 
-    /// Returns how many bytes of memory its indexes take, and the parts of tables that it may keep from one path to the next. Beside
+    /// Returns how many bytes of memory its indexes take, and the rows that it may keep from one path to the next. Beside
     /// these it takes a few bits for each glob, and for each state of the largest automaton of the set.
     ///
     /// A searcher takes its memory when it is made, and no more later.

@@ -86,7 +86,7 @@ impl Automata {
         self.max_states
     }
 
-    /// Returns how many bytes the deterministic parts of automata take. It takes time linear in the number of these parts.
+    /// Returns how many bytes the tables of the automata take. It takes time linear in the number of automata.
     pub fn table_bytes(&self) -> usize {
         self.by_path
             .table_bytes()
@@ -136,7 +136,7 @@ impl Automata {
     /// Returns whether an automaton has to be run, and if so, marks the indexes of the globs that match the path, and no others. If
     /// not, no glob matches, and the sets stay as they are.
     ///
-    /// The sets get room for each index, and for each state of a part that is simulated. Returns an error if memory runs out.
+    /// The sets get room for each index, and for each state of an automaton that is simulated. Returns an error if memory runs out.
     pub fn find(
         &self,
         path: &PathParts<'_>,
@@ -189,7 +189,7 @@ impl Automata {
 
     /// Returns whether some glob matches the path.
     ///
-    /// The sets get room for each state of a part that is simulated. Returns an error if memory runs out.
+    /// The sets get room for each state of an automaton that is simulated. Returns an error if memory runs out.
     pub fn is_match(
         &self,
         path: &PathParts<'_>,

@@ -77,7 +77,7 @@ impl ExtensionMatchers {
         maximum
     }
 
-    /// Returns how many bytes the deterministic parts of automata take. It takes time linear in the number of these parts.
+    /// Returns how many bytes the tables of the automata take. It takes time linear in the number of automata.
     pub fn table_bytes(&self) -> usize {
         let mut bytes: usize = 0;
         for automaton in &self.automata {
@@ -149,8 +149,7 @@ impl ExtensionMatchers {
     /// Returns whether tokens of some extension match a text that begins with `text` and then `byte`.
     ///
     /// It is at most `text bytes + 2` times the states of all automata in visits. The runs use the same sets of states, one after
-    /// another. The sets get room for each state of a part that is
-    /// simulated. Returns an error if memory runs out.
+    /// another. The sets get room for each state of an automaton that is simulated. Returns an error if memory runs out.
     pub fn can_match_after(
         &self,
         text: &[u8],

@@ -2,12 +2,12 @@ use Rattle.std.proofs.Common.{◌≡◌, ℕ, ◌+◌, ◌-◌, ◌<◌, ◌⊎�
 use Rattle.std.specs.Prelude.{◌↔◌, ◌==◌}
 use Rattle.std.proofs.Math.Logic.{⊎_elim}
 use Rattle.bit_sets.specs.Indexes.{has_index, index_capacity}
-use Rattle.byte_filter.specs.Entries.{HasEntry, ArePartsBelow}
+use Rattle.byte_filter.specs.Entries.{HasEntry, AreStartsBelow}
 use Rattle.byte_filter.specs.inner.Chains.{link_at, IsLast, HasEntryFrom}
 use Rattle.byte_filter.specs.Hashes.{place_of}
 use Rattle.byte_filter.specs.Signs.{AreSigned}
 use Rattle.byte_filter.specs.declared.filter.Link.{Link}
-use Rattle.byte_filter.proofs.lemmas.Chains.{link_is, part_below, has_from, from_has, next_put, next_passed}
+use Rattle.byte_filter.proofs.lemmas.Chains.{link_is, start_below, has_from, from_has, next_put, next_passed}
 use Rattle.byte_filter.proofs.filter.Filter.mark_chain.Goals as goal
 
 pub put-requires : goal.put-requires
@@ -16,8 +16,8 @@ put-requires c =
     let i = c.loop-at.at - 1 in
     let lt : i < length links = omega (arith, c.loop-at.invariant.limit) in
     let link : c.index-link.result.now ≡ link_at links i = link_is links i c.index-link.result.now lt c.index-link.ensures in
-    let below = part_below (index_capacity c.args.marks.now) links i (subst (ArePartsBelow (index_capacity c.args.marks.now)) (sym c.self.view_is) c.requires.room) lt in
-    omega (arith, below, ap (λ (l : Link). l.part) link, c.loop-at.invariant.room)
+    let below = start_below (index_capacity c.args.marks.now) links i (subst (AreStartsBelow (index_capacity c.args.marks.now)) (sym c.self.view_is) c.requires.room) lt in
+    omega (arith, below, ap (λ (l : Link). l.start) link, c.loop-at.invariant.room)
 
 pub loop-at-preserved-then-is_named : goal.loop-at-preserved-then-is_named
 loop-at-preserved-then-is_named c =
@@ -41,7 +41,7 @@ loop-at-preserved-then-is_named c =
       slot = λ j e. last.slot j e ∙ same;
       marks = next_put links y slots c.args.key i c.index-link.result.now.next last same lt (has_index c.args.marks.now) (has_index c.loop-at.marks) (has_index c.put.new.self) marked
           (subst (λ (l : Link). (l.key ≡ c.args.key) × AreSigned y l.signs) link (c.is_named.ensures.named.0 c.if-is_named.true))
-          (λ k. subst (λ p. has_index c.put.new.self k ≡ ((k == p) || has_index c.loop-at.marks k)) (ap (λ (l : Link). l.part) link) (c.put.ensures.has k));
+          (λ k. subst (λ p. has_index c.put.new.self k ≡ ((k == p) || has_index c.loop-at.marks k)) (ap (λ (l : Link). l.start) link) (c.put.ensures.has k));
       visits = omega (arith, inv.visits, c.tick-in-loop-at.ensures, last.within);
       counted = omega arith;
     }
