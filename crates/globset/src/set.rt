@@ -155,7 +155,7 @@ impl GlobSet {
 
     /// Returns the set that stores this: for a crate that makes what a set stores glob by glob, as `globset_c` does.
     pub fn of_stored(stored: Stored) -> GlobSet
-        ensures { set_globs result ≡ set_globs stored }
+        ensures { set_globs result ≡ set_globs stored.set }
     {
         if stored.len() == 0 {
             return GlobSet::empty();

@@ -1,2 +1,2 @@
 pub mod StoredGlobs
-pub mod SharedValue
+pub mod StoredValue

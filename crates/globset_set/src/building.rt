@@ -89,7 +89,7 @@ impl StoredBuilder {
     /// bytes. Returns an error if memory runs out.
     pub fn finish(self, dfa_size_limit: usize) -> Result<Stored, AllocError>
         requires { length self.given ≡ self.count }
-        ensures { IfOk result (λ s. set_globs s ≡ self.given) }
+        ensures { IfOk result (λ s. set_globs s.set ≡ self.given) }
     {
         let StoredBuilder {
             alloc,

@@ -6,7 +6,6 @@
 
 mod building;
 mod searcher;
-mod shared;
 mod stored;
 
 pub use building::StoredBuilder;

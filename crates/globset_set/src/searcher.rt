@@ -8,7 +8,7 @@ ghost use Rattle.globset_set.specs.SetValue.{set_globs};
 ghost use Rattle.globset_set.specs.Work.{max_set_visits, max_set_visits_below};
 ghost use Rattle.set_matcher.specs.Indexes.{ContainsAllBelow};
 
-use crate::shared::Shared;
+use crate::stored::Stored;
 use bit_sets::Visits;
 use glob_path::Candidate;
 use glob_scratch::Scratch;
@@ -20,7 +20,7 @@ use std::marker::Model;
 /// What a set stores, with all the memory that one thread needs to match with it: its calls take none, and cannot fail. Automata keep
 /// rows from one path to the next, so that few have to be simulated. Contracts see what they see of the set.
 pub struct StoredSearcher {
-    shared: Shared,
+    stored: Stored,
     scratch: Scratch,
     caches: Caches,
 }
@@ -29,7 +29,7 @@ impl Drop for StoredSearcher {
     // One call wherever a value is dropped, which keeps proofs short.
     fn drop(self) {
         let StoredSearcher {
-            shared: _,
+            stored: _,
             scratch: _,
             caches: _,
         } = self;
@@ -39,27 +39,28 @@ impl Drop for StoredSearcher {
 impl Model for StoredSearcher {
     ghost use Rattle.std.specs.Prelude.{length};
     ghost use Rattle.glob_scratch.specs.ScratchValue.{HasCapacity};
-    ghost use Rattle.globset_set.specs.SetValue.{SetValue, set_globs, set_states};
+    ghost use Rattle.globset_set.specs.SetValue.{set_globs, set_states};
+    ghost use Rattle.globset_set.specs.inner.StoredValue.{StoredValue};
     ghost use Rattle.set_matcher.specs.inner.Caches.{AreCachesOf};
 
-    ghost Value = { SetValue };
+    ghost Value = { StoredValue };
 
-    ghost view = { λ s. s.shared.set };
+    ghost view = { λ s. s.stored };
 
-    ghost invariant = { λ s. HasCapacity s.scratch (set_states s.shared.set) (length (set_globs s.shared.set)) × AreCachesOf s.shared.automata s.caches };
+    ghost invariant = { λ s. HasCapacity s.scratch (set_states s.stored.set) (length (set_globs s.stored.set)) × AreCachesOf s.stored.automata s.caches };
 }
 
 impl StoredSearcher {
-    /// Returns a searcher of what a set shares. Returns an error if memory runs out or 2^63 values share it, and in no other case.
-    pub(crate) fn new(alloc: Global, shared: &Shared) -> Result<StoredSearcher, Error>
-        ensures ok { IfOk result (λ s. s ≡ shared.now.set) }
+    /// Returns a searcher of what a set stores. Returns an error if memory runs out or 2^63 values share it, and in no other case.
+    pub(crate) fn new(alloc: Global, stored: &Stored) -> Result<StoredSearcher, Error>
+        ensures ok { IfOk result (λ s. s ≡ stored.now) }
         ensures err { IfErr result (λ e. e ≡ out_of_memory) }
     {
-        let shared = shared.clone()?;
-        let scratch = Scratch::new(alloc, &shared)?;
-        let caches = shared.new_caches(alloc)?;
+        let stored = stored.clone()?;
+        let scratch = Scratch::new(alloc, &stored)?;
+        let caches = stored.new_caches(alloc)?;
         Ok(StoredSearcher {
-            shared,
+            stored,
             scratch,
             caches,
         })
@@ -73,50 +74,50 @@ impl StoredSearcher {
     /// Replaces the vector's items by the indexes, ascending, of the globs that are not excluded and match the path. The vector has to
     /// have a capacity for all indexes.
     pub fn find(&mut self, path: &Candidate<'_>, into: &mut Vec<usize>, visits: &mut Visits)
-        requires { length (set_globs self.old) ≤ vec_capacity into.old }
-        ensures found { into.new.items ≡ matching_indexes (set_globs self.old) path.now }
+        requires { length (set_globs self.old.set) ≤ vec_capacity into.old }
+        ensures found { into.new.items ≡ matching_indexes (set_globs self.old.set) path.now }
         ensures capacity { vec_capacity into.old ≤ vec_capacity into.new }
         ensures kept { self.new ≡ self.old }
-        ensures visits { visits.new ≤ visits.old + max_set_visits (set_globs self.old) path.now }
+        ensures visits { visits.new ≤ visits.old + max_set_visits (set_globs self.old.set) path.now }
         ensures counted { visits.old ≤ visits.new }
     {
-        self.shared
+        self.stored
             .find(path, &mut self.scratch, &mut self.caches, into, visits)
             .unwrap();
     }
 
     /// Returns whether some glob that is not excluded matches the path.
     pub fn is_match(&mut self, path: &Candidate<'_>, visits: &mut Visits) -> bool
-        ensures some { IsTrue result ↔ (matching_indexes (set_globs self.old) path.now ≢ []) }
+        ensures some { IsTrue result ↔ (matching_indexes (set_globs self.old.set) path.now ≢ []) }
         ensures kept { self.new ≡ self.old }
-        ensures visits { visits.new ≤ visits.old + max_set_visits (set_globs self.old) path.now }
+        ensures visits { visits.new ≤ visits.old + max_set_visits (set_globs self.old.set) path.now }
         ensures counted { visits.old ≤ visits.new }
     {
-        self.shared
+        self.stored
             .is_match(path, &mut self.scratch, &mut self.caches, visits)
             .unwrap()
     }
 
     /// Returns whether every glob matches the path and none is excluded.
     pub fn matches_all(&mut self, path: &Candidate<'_>, visits: &mut Visits) -> bool
-        ensures all { IsTrue result ↔ ContainsAllBelow (matching_indexes (set_globs self.old) path.now) (length (set_globs self.old)) }
+        ensures all { IsTrue result ↔ ContainsAllBelow (matching_indexes (set_globs self.old.set) path.now) (length (set_globs self.old.set)) }
         ensures kept { self.new ≡ self.old }
-        ensures visits { visits.new ≤ visits.old + max_set_visits (set_globs self.old) path.now }
+        ensures visits { visits.new ≤ visits.old + max_set_visits (set_globs self.old.set) path.now }
         ensures counted { visits.old ≤ visits.new }
     {
-        self.shared
+        self.stored
             .matches_all(path, &mut self.scratch, &mut self.caches, visits)
             .unwrap()
     }
 
     /// Returns whether some glob that is not excluded matches some path below a folder.
     pub fn can_match_below(&mut self, folder: &Candidate<'_>, visits: &mut Visits) -> bool
-        ensures some { IsTrue result ↔ MatchesBelow (set_globs self.old) folder.now }
+        ensures some { IsTrue result ↔ MatchesBelow (set_globs self.old.set) folder.now }
         ensures kept { self.new ≡ self.old }
-        ensures visits { visits.new ≤ visits.old + max_set_visits_below (set_globs self.old) folder.now }
+        ensures visits { visits.new ≤ visits.old + max_set_visits_below (set_globs self.old.set) folder.now }
         ensures counted { visits.old ≤ visits.new }
     {
-        self.shared
+        self.stored
             .can_match_below(folder, &mut self.scratch, &mut self.caches, visits)
             .unwrap()
     }

@@ -1,4 +1,4 @@
-//! What a set stores.
+//! What a set stores, which its clones and its searchers share.
 
 ghost use Rattle.std.specs.Prelude.{◌≡◌, ◌≢◌, ◌↔◌, [], ℕ, ◌+◌, ◌≤◌, All, IfOk, IfErr, IsOk, OnOk, OnErr, IsTrue, length, vec_capacity};
 ghost use Rattle.glob_scratch.specs.ScratchValue.{HasCapacity};
@@ -10,22 +10,27 @@ ghost use Rattle.globset_set.specs.Below.{MatchesBelow};
 ghost use Rattle.globset_set.specs.Work.{load, load_below, max_set_visits, max_set_visits_below};
 ghost use Rattle.globset_set.specs.inner.StoredGlobs.{AreStored};
 ghost use Rattle.set_matcher.specs.Indexes.{ContainsAllBelow};
+ghost use Rattle.set_matcher.specs.inner.Caches.{AreCachesOf};
 
 use crate::searcher::StoredSearcher;
-use crate::shared::Shared;
 use bit_sets::Visits;
 use glob_path::Candidate;
-use glob_scratch::Scratch;
+use glob_scratch::{NeedsScratch, Scratch};
 use glob_text::{Error, GivenGlobs};
 use set_matcher::{Caches, SetMatcher};
 use std::alloc::{AllocError, Global};
 use std::fmt;
 use std::marker::Model;
+use std::sync::Arc;
 
-/// What a set needs to match. Contracts see the list of its globs, and the number of states of the largest automaton.
+/// What a set needs to match: a matcher, which clones and searchers share. The index of a glob is its position. Of the globs
+/// themselves nothing is kept but what contracts see, which takes no memory.
+///
+/// Contracts see the set, and the automata, so that it can be said which of them a cache is of.
 pub struct Stored {
     alloc: Global,
-    shared: Shared,
+    globs: GivenGlobs,
+    matcher: Arc<SetMatcher>,
 }
 
 impl Drop for Stored {
@@ -33,17 +38,22 @@ impl Drop for Stored {
     fn drop(self) {
         let Stored {
             alloc: _,
-            shared: _,
+            globs: _,
+            matcher: _,
         } = self;
     }
 }
 
 impl Model for Stored {
-    ghost use Rattle.globset_set.specs.SetValue.{SetValue};
+    ghost use Rattle.std.specs.Arc.{arc_value};
+    ghost use Rattle.globset_set.specs.inner.StoredValue.{StoredValue, stored_value};
+    ghost use Rattle.globset_set.specs.inner.StoredGlobs.{AreStored};
 
-    ghost Value = { SetValue };
+    ghost Value = { StoredValue };
 
-    ghost view = { λ s. s.shared.set };
+    ghost view = { λ s. stored_value s.globs (arc_value s.matcher) };
+
+    ghost invariant = { λ s. AreStored s.globs (arc_value s.matcher) };
 }
 
 impl Stored {
@@ -54,12 +64,23 @@ impl Stored {
         matcher: SetMatcher,
     ) -> Result<Stored, AllocError>
         requires { AreStored globs matcher }
-        ensures { IfOk result (λ s. set_globs s ≡ globs) }
+        ensures { IfOk result (λ s. set_globs s.set ≡ globs) }
     {
+        let matcher = Arc::new(alloc, matcher)?;
         Ok(Stored {
             alloc,
-            shared: Shared::of_matcher(alloc, globs, matcher)?,
+            globs,
+            matcher,
         })
+    }
+
+    /// Returns the matcher.
+    fn matcher(&self) -> &SetMatcher
+        ensures stored { AreStored (set_globs self.now.set) result.now }
+        ensures states { result.now.states ≡ set_states self.now.set }
+        ensures automata { result.now.automata ≡ self.now.automata }
+    {
+        &self.matcher
     }
 
     /// Returns a searcher of the set, with all memory that it needs. Returns an error if memory runs out or 2^63 values share the
@@ -68,32 +89,39 @@ impl Stored {
         ensures ok { IfOk result (λ s. s ≡ self.now) }
         ensures err { IfErr result (λ e. e ≡ out_of_memory) }
     {
-        StoredSearcher::new(alloc, &self.shared)
+        StoredSearcher::new(alloc, self)
     }
 
     /// Returns the number of globs, each of which was read.
     pub fn len(&self) -> usize
-        ensures count { result ≡ length (set_globs self.now) }
-        ensures read { All IsRead (set_globs self.now) }
+        ensures count { result ≡ length (set_globs self.now.set) }
+        ensures read { All IsRead (set_globs self.now.set) }
     {
-        self.shared.len()
+        self.matcher().len()
     }
 
     /// Returns the number of states of the largest automaton.
     pub fn max_states(&self) -> usize
-        ensures { result ≡ set_states self.now }
+        ensures { result ≡ set_states self.now.set }
     {
-        self.shared.max_states()
+        self.matcher().max_states()
     }
 
     /// Returns how many bytes the tables of deterministic automata take. It takes time linear in the number of these.
     pub fn table_bytes(&self) -> usize {
-        self.shared.table_bytes()
+        self.matcher().table_bytes()
     }
 
     /// Returns a scratch without room, to match with. It allocates nothing.
     pub fn new_scratch(&self) -> Scratch {
         Scratch::empty(self.alloc)
+    }
+
+    /// Returns caches with no rows for the automata. Returns an error if memory runs out.
+    pub(crate) fn new_caches(&self, alloc: Global) -> Result<Caches, AllocError>
+        ensures { IfOk result (λ caches. AreCachesOf self.now.automata caches) }
+    {
+        self.matcher().new_caches(alloc)
     }
 
     /// Replaces the vector's items by the indexes, ascending, of the globs that are not excluded and match the path.
@@ -103,20 +131,23 @@ impl Stored {
         &self,
         path: &Candidate<'_>,
         scratch: &mut Scratch,
+        caches: &mut Caches,
         into: &mut Vec<usize>,
         visits: &mut Visits,
     ) -> Result<(), Error>
-        ensures ok { OnOk result (into.new.items ≡ matching_indexes (set_globs self.now) path.now) }
+        requires { AreCachesOf self.now.automata caches.old }
+        ensures caches { caches.new ≡ caches.old }
+        ensures ok { OnOk result (into.new.items ≡ matching_indexes (set_globs self.now.set) path.now) }
         ensures err { IfErr result (λ e. e ≡ out_of_memory) }
         ensures cleared { OnErr result (into.new.items ≡ []) }
         ensures kept { scratch.new ≡ scratch.old }
-        ensures room { HasCapacity scratch.old (set_states self.now) (length (set_globs self.now)) → length (set_globs self.now) ≤ vec_capacity into.old → IsOk result }
+        ensures room { HasCapacity scratch.old (set_states self.now.set) (length (set_globs self.now.set)) → length (set_globs self.now.set) ≤ vec_capacity into.old → IsOk result }
         ensures capacity { vec_capacity into.old ≤ vec_capacity into.new }
-        ensures visits { visits.new ≤ visits.old + max_set_visits (set_globs self.now) path.now }
+        ensures visits { visits.new ≤ visits.old + max_set_visits (set_globs self.now.set) path.now }
         ensures counted { visits.old ≤ visits.new }
     {
-        self.shared
-            .find(path, scratch, &mut Caches::none(), into, visits)
+        self.matcher().find(path, scratch, caches, into, visits)?;
+        Ok(())
     }
 
     /// Returns whether some glob that is not excluded matches the path.
@@ -126,18 +157,20 @@ impl Stored {
         &self,
         path: &Candidate<'_>,
         scratch: &mut Scratch,
+        caches: &mut Caches,
         visits: &mut Visits,
     ) -> Result<bool, Error>
-        ensures ok { IfOk result (λ yes. IsTrue yes ↔ (matching_indexes (set_globs self.now) path.now ≢ [])) }
+        requires { AreCachesOf self.now.automata caches.old }
+        ensures caches { caches.new ≡ caches.old }
+        ensures ok { IfOk result (λ yes. IsTrue yes ↔ (matching_indexes (set_globs self.now.set) path.now ≢ [])) }
         ensures err { IfErr result (λ e. e ≡ out_of_memory) }
         ensures kept { scratch.new ≡ scratch.old }
-        ensures room { HasCapacity scratch.old (set_states self.now) (length (set_globs self.now)) → IsOk result }
-        ensures succeeds_without_automata { load (set_globs self.now) path.now ≡ 0 → IsOk result }
-        ensures visits { visits.new ≤ visits.old + max_set_visits (set_globs self.now) path.now }
+        ensures room { HasCapacity scratch.old (set_states self.now.set) (length (set_globs self.now.set)) → IsOk result }
+        ensures succeeds_without_automata { load (set_globs self.now.set) path.now ≡ 0 → IsOk result }
+        ensures visits { visits.new ≤ visits.old + max_set_visits (set_globs self.now.set) path.now }
         ensures counted { visits.old ≤ visits.new }
     {
-        self.shared
-            .is_match(path, scratch, &mut Caches::none(), visits)
+        Ok(self.matcher().is_match(path, scratch, caches, visits)?)
     }
 
     /// Returns whether some glob that is not excluded matches some path below a folder.
@@ -147,18 +180,23 @@ impl Stored {
         &self,
         folder: &Candidate<'_>,
         scratch: &mut Scratch,
+        caches: &mut Caches,
         visits: &mut Visits,
     ) -> Result<bool, Error>
-        ensures ok { IfOk result (λ yes. IsTrue yes ↔ MatchesBelow (set_globs self.now) folder.now) }
+        requires { AreCachesOf self.now.automata caches.old }
+        ensures caches { caches.new ≡ caches.old }
+        ensures ok { IfOk result (λ yes. IsTrue yes ↔ MatchesBelow (set_globs self.now.set) folder.now) }
         ensures err { IfErr result (λ e. e ≡ out_of_memory) }
         ensures kept { scratch.new ≡ scratch.old }
-        ensures room { HasCapacity scratch.old (set_states self.now) (length (set_globs self.now)) → IsOk result }
-        ensures succeeds_without_automata { load_below (set_globs self.now) ≡ 0 → IsOk result }
-        ensures visits { visits.new ≤ visits.old + max_set_visits_below (set_globs self.now) folder.now }
+        ensures room { HasCapacity scratch.old (set_states self.now.set) (length (set_globs self.now.set)) → IsOk result }
+        ensures succeeds_without_automata { load_below (set_globs self.now.set) ≡ 0 → IsOk result }
+        ensures visits { visits.new ≤ visits.old + max_set_visits_below (set_globs self.now.set) folder.now }
         ensures counted { visits.old ≤ visits.new }
     {
-        self.shared
-            .can_match_below(folder, scratch, &mut Caches::none(), visits)
+        Ok(
+            self.matcher()
+                .can_match_below(folder.path(), scratch, caches, visits)?,
+        )
     }
 
     /// Returns whether every glob matches the path and none is excluded.
@@ -168,18 +206,20 @@ impl Stored {
         &self,
         path: &Candidate<'_>,
         scratch: &mut Scratch,
+        caches: &mut Caches,
         visits: &mut Visits,
     ) -> Result<bool, Error>
-        ensures ok { IfOk result (λ yes. IsTrue yes ↔ ContainsAllBelow (matching_indexes (set_globs self.now) path.now) (length (set_globs self.now))) }
+        requires { AreCachesOf self.now.automata caches.old }
+        ensures caches { caches.new ≡ caches.old }
+        ensures ok { IfOk result (λ yes. IsTrue yes ↔ ContainsAllBelow (matching_indexes (set_globs self.now.set) path.now) (length (set_globs self.now.set))) }
         ensures err { IfErr result (λ e. e ≡ out_of_memory) }
         ensures kept { scratch.new ≡ scratch.old }
-        ensures room { HasCapacity scratch.old (set_states self.now) (length (set_globs self.now)) → IsOk result }
-        ensures succeeds_without_automata { load (set_globs self.now) path.now ≡ 0 → IsOk result }
-        ensures visits { visits.new ≤ visits.old + max_set_visits (set_globs self.now) path.now }
+        ensures room { HasCapacity scratch.old (set_states self.now.set) (length (set_globs self.now.set)) → IsOk result }
+        ensures succeeds_without_automata { load (set_globs self.now.set) path.now ≡ 0 → IsOk result }
+        ensures visits { visits.new ≤ visits.old + max_set_visits (set_globs self.now.set) path.now }
         ensures counted { visits.old ≤ visits.new }
     {
-        self.shared
-            .matches_all(path, scratch, &mut Caches::none(), visits)
+        Ok(self.matcher().matches_all(path, scratch, caches, visits)?)
     }
 
     /// Returns an equal value, which shares the matcher. It takes no memory. Returns an error if 2^63 values share it, and in no
@@ -188,10 +228,26 @@ impl Stored {
         ensures ok { IfOk result (λ s. s ≡ self.now) }
         ensures err { IfErr result (λ e. e ≡ out_of_memory) }
     {
+        let matcher = Arc::try_clone(&self.matcher)?;
         Ok(Stored {
             alloc: self.alloc,
-            shared: self.shared.clone()?,
+            globs: self.globs.copy(),
+            matcher,
         })
+    }
+}
+
+impl NeedsScratch for Stored {
+    ghost states = { λ s. set_states s.set };
+
+    ghost indexes = { λ s. length (set_globs s.set) };
+
+    fn states_needed(&self) -> Option<usize> {
+        Some(self.max_states())
+    }
+
+    fn indexes_needed(&self) -> usize {
+        self.len()
     }
 }
 

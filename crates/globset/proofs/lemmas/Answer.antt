@@ -6,6 +6,7 @@ use Rattle.globset_glob.specs.GlobMatches.{GlobValue}
 use Rattle.globset_set.specs.Answer.{matching_indexes}
 use Rattle.globset_set.specs.Below.{MatchesBelow}
 use Rattle.globset_set.specs.SetValue.{SetValue, set_globs}
+use Rattle.globset_set.specs.inner.StoredValue.{StoredValue}
 use Rattle.globset.specs.inner.StoredSet.{HasGlobs}
 
 pub answer_of_none : (globs : List GlobValue) (path : List ℕ) → globs ≡ [] → [] ≡ matching_indexes globs path
@@ -19,5 +20,5 @@ pub none_below : (globs : List GlobValue) (folder : List ℕ) → globs ≡ [] �
 none_below globs folder e = (λ y. absurd (cc), λ (rest, bytes, some). absurd (some (sym (answer_of_none globs (path_below folder rest) e))))
 
 -- a set that stores something is not empty
-pub not_empty : {A : Type 0} {stored : Option SetValue} {s set : SetValue} → stored ≡ Some s → HasGlobs stored → s ≡ set → set_globs set ≡ [] → A
+pub not_empty : {A : Type 0} {stored : Option StoredValue} {s : StoredValue} {set : SetValue} → stored ≡ Some s → HasGlobs stored → s.set ≡ set → set_globs set ≡ [] → A
 not_empty is some same none = absurd (subst HasGlobs is some (ap set_globs same ∙ none))

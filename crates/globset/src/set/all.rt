@@ -9,6 +9,7 @@ ghost use Rattle.globset_set.specs.Work.{load, max_set_visits};
 
 use crate::set::GlobSet;
 use globset_glob::{AsPath, Candidate, Error, Visits};
+use set_matcher::Caches;
 
 impl GlobSet {
     /// Returns whether every glob matches the path and none is excluded: whether [`GlobSet::matches`] would return every
@@ -68,6 +69,6 @@ impl GlobSet {
         let Some(stored) = &self.stored else {
             return Ok(true);
         };
-        stored.matches_all(path, &mut stored.new_scratch(), visits)
+        stored.matches_all(path, &mut stored.new_scratch(), &mut Caches::none(), visits)
     }
 }

@@ -8,6 +8,7 @@ ghost use Rattle.globset_set.specs.Work.{load, max_set_visits};
 
 use crate::set::GlobSet;
 use globset_glob::{AsPath, Candidate, Error, Visits};
+use set_matcher::Caches;
 
 impl GlobSet {
     /// Returns whether some glob that is not excluded matches the path: whether [`GlobSet::matches`] would return an
@@ -62,6 +63,6 @@ impl GlobSet {
         let Some(stored) = &self.stored else {
             return Ok(false);
         };
-        stored.is_match(path, &mut stored.new_scratch(), visits)
+        stored.is_match(path, &mut stored.new_scratch(), &mut Caches::none(), visits)
     }
 }

@@ -8,6 +8,7 @@ ghost use Rattle.globset_set.specs.Work.{load_below, max_set_visits_below};
 
 use crate::set::GlobSet;
 use globset_glob::{AsPath, Candidate, Error, Scratch, Visits};
+use set_matcher::Caches;
 
 impl GlobSet {
     /// Returns whether some glob that is not excluded matches some path below a folder. A program that walks over a tree of folders
@@ -76,7 +77,12 @@ impl GlobSet {
         let Some(stored) = &self.stored else {
             return Ok(false);
         };
-        stored.can_match_below(folder, &mut stored.new_scratch(), visits)
+        stored.can_match_below(
+            folder,
+            &mut stored.new_scratch(),
+            &mut Caches::none(),
+            visits,
+        )
     }
 
     /// The same as [`GlobSet::can_match_below_visits`], with a scratch: it takes no memory, and cannot fail.
@@ -111,6 +117,8 @@ impl GlobSet {
         let Some(stored) = &self.stored else {
             return false;
         };
-        stored.can_match_below(folder, scratch, visits).unwrap()
+        stored
+            .can_match_below(folder, scratch, &mut Caches::none(), visits)
+            .unwrap()
     }
 }

@@ -8,6 +8,7 @@ ghost use Rattle.globset_set.specs.Work.{max_set_visits};
 
 use crate::set::GlobSet;
 use globset_glob::{AsPath, Candidate, Error, Visits};
+use set_matcher::Caches;
 use std::alloc::Global;
 
 impl GlobSet {
@@ -107,6 +108,12 @@ impl GlobSet {
         let Some(stored) = &self.stored else {
             return Ok(());
         };
-        stored.find(path, &mut stored.new_scratch(), into, visits)
+        stored.find(
+            path,
+            &mut stored.new_scratch(),
+            &mut Caches::none(),
+            into,
+            visits,
+        )
     }
 }

@@ -26,7 +26,7 @@ pub fn stored_of_slice(
     dfa_size_limit: usize,
     globs: &[Glob],
 ) -> Result<Stored, Error>
-    ensures ok { IfOk result (λ s. set_globs s ≡ globs.now) }
+    ensures ok { IfOk result (λ s. set_globs s.set ≡ globs.now) }
     ensures err { IfErr result (λ e. e ≡ out_of_memory) }
 {
     let mut builder = StoredBuilder::new(alloc, globs.len());
@@ -42,7 +42,7 @@ pub fn stored_of_globs(
     dfa_size_limit: usize,
     globs: Vec<Glob>,
 ) -> Result<Stored, Error>
-    ensures ok { IfOk result (λ s. set_globs s ≡ globs.items) }
+    ensures ok { IfOk result (λ s. set_globs s.set ≡ globs.items) }
     ensures err { IfErr result (λ e. e ≡ out_of_memory) }
 {
     let mut builder = StoredBuilder::new(alloc, globs.len());
@@ -54,7 +54,7 @@ pub fn stored_of_globs(
 
 /// Returns what the set of these globs stores, as [`stored_of_slice`] does, under the default limit.
 pub fn stored_of_references(alloc: Global, references: &[&Glob]) -> Result<Stored, Error>
-    ensures ok { IfOk result (λ s. set_globs s ≡ map (λ g. g.now) references.now) }
+    ensures ok { IfOk result (λ s. set_globs s.set ≡ map (λ g. g.now) references.now) }
     ensures err { IfErr result (λ e. e ≡ out_of_memory) }
 {
     let mut builder = StoredBuilder::new(alloc, references.len());

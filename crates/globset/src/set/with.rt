@@ -9,6 +9,7 @@ ghost use Rattle.globset_set.specs.Work.{max_set_visits};
 
 use crate::set::GlobSet;
 use globset_glob::{Candidate, Error, NeedsScratch, Scratch, Visits};
+use set_matcher::Caches;
 
 impl NeedsScratch for GlobSet {
     ghost states = { λ s. set_states s };
@@ -48,7 +49,9 @@ impl GlobSet {
         let Some(stored) = &self.stored else {
             return false;
         };
-        stored.is_match(path, scratch, visits).unwrap()
+        stored
+            .is_match(path, scratch, &mut Caches::none(), visits)
+            .unwrap()
     }
 
     /// The same as [`GlobSet::matches_all_visits`], with a scratch: it takes no memory, and cannot fail.
@@ -72,7 +75,9 @@ impl GlobSet {
         let Some(stored) = &self.stored else {
             return true;
         };
-        stored.matches_all(path, scratch, visits).unwrap()
+        stored
+            .matches_all(path, scratch, &mut Caches::none(), visits)
+            .unwrap()
     }
 
     /// The same as [`GlobSet::matches_visits`], with a scratch: only the vector may take memory.
@@ -104,6 +109,6 @@ impl GlobSet {
         let Some(stored) = &self.stored else {
             return Ok(());
         };
-        stored.find(path, scratch, into, visits)
+        stored.find(path, scratch, &mut Caches::none(), into, visits)
     }
 }

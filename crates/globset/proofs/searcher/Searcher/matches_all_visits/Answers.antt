@@ -10,7 +10,7 @@ use Rattle.globset.proofs.searcher.Searcher.matches_all_visits.Goals as goal
 
 pub returns-clause-all : goal.returns-clause-all
 returns-clause-all c =
-    let same : c.in-Some.stored ≡ c.args.self.now.set = sym (ap stored_set c.in-Some.is) ∙ c.self.invariant.0 ∙ ap (λ (s : SearcherValue). s.set) c.self.view_is in
+    let same : c.in-Some.stored.set ≡ c.args.self.now.set = sym (ap stored_set c.in-Some.is) ∙ c.self.invariant.0 ∙ ap (λ (s : SearcherValue). s.set) c.self.view_is in
     subst (λ (s : SetValue). IsTrue c.matches_all.result ↔ ContainsAllBelow (matching_indexes (set_globs s) c.args.path.now) (length (set_globs s))) same c.matches_all.ensures.all
 
 pub returns-clause-no_visits_if_empty : goal.returns-clause-no_visits_if_empty

@@ -11,14 +11,17 @@ returns-in_default-clause-some c = none_below (set_globs c.args.self.now) c.args
 
 pub unwrap-requires : goal.unwrap-requires
 unwrap-requires c =
-    let same : c.in-Some.stored ≡ c.args.self.now = sym (ap stored_set c.in-Some.is) ∙ c.self.view_is in
+    let same : c.in-Some.stored.set ≡ c.args.self.now = sym (ap stored_set c.in-Some.is) ∙ c.self.view_is in
     c.can_match_below.ensures.room (subst (λ (s : SetValue). Fits c.args.scratch.now s) (sym same) c.requires)
 
 pub returns-clause-some : goal.returns-clause-some
 returns-clause-some c =
-    let same : c.in-Some.stored ≡ c.args.self.now = sym (ap stored_set c.in-Some.is) ∙ c.self.view_is in
+    let same : c.in-Some.stored.set ≡ c.args.self.now = sym (ap stored_set c.in-Some.is) ∙ c.self.view_is in
     subst (λ (s : SetValue). IsTrue c.unwrap.result ↔ MatchesBelow (set_globs s) c.args.folder.now) same
-    (subst (λ r. IfOk r (λ yes. IsTrue yes ↔ MatchesBelow (set_globs c.in-Some.stored) c.args.folder.now)) c.unwrap.ensures c.can_match_below.ensures.ok)
+    (subst (λ r. IfOk r (λ yes. IsTrue yes ↔ MatchesBelow (set_globs c.in-Some.stored.set) c.args.folder.now)) c.unwrap.ensures c.can_match_below.ensures.ok)
 
 pub returns-clause-no_visits_if_empty : goal.returns-clause-no_visits_if_empty
 returns-clause-no_visits_if_empty c = not_empty c.in-Some.is c.self.invariant (sym (ap stored_set c.in-Some.is) ∙ c.self.view_is)
+
+pub can_match_below-requires : goal.can_match_below-requires
+can_match_below-requires c = c.none.ensures c.in-Some.stored.automata

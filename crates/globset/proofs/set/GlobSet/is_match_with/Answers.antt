@@ -11,14 +11,17 @@ returns-in_default-clause-some c = none_of_none (set_globs c.args.self.now) c.ar
 
 pub unwrap-requires : goal.unwrap-requires
 unwrap-requires c =
-    let same : c.in-Some.stored ≡ c.args.self.now = sym (ap stored_set c.in-Some.is) ∙ c.self.view_is in
+    let same : c.in-Some.stored.set ≡ c.args.self.now = sym (ap stored_set c.in-Some.is) ∙ c.self.view_is in
     c.is_match.ensures.room (subst (λ (s : SetValue). Fits c.args.scratch.now s) (sym same) c.requires)
 
 pub returns-clause-some : goal.returns-clause-some
 returns-clause-some c =
-    let same : c.in-Some.stored ≡ c.args.self.now = sym (ap stored_set c.in-Some.is) ∙ c.self.view_is in
+    let same : c.in-Some.stored.set ≡ c.args.self.now = sym (ap stored_set c.in-Some.is) ∙ c.self.view_is in
     subst (λ (s : SetValue). IsTrue c.unwrap.result ↔ (matching_indexes (set_globs s) c.args.path.now ≢ [])) same
-    (subst (λ r. IfOk r (λ yes. IsTrue yes ↔ (matching_indexes (set_globs c.in-Some.stored) c.args.path.now ≢ []))) c.unwrap.ensures c.is_match.ensures.ok)
+    (subst (λ r. IfOk r (λ yes. IsTrue yes ↔ (matching_indexes (set_globs c.in-Some.stored.set) c.args.path.now ≢ []))) c.unwrap.ensures c.is_match.ensures.ok)
 
 pub returns-clause-no_visits_if_empty : goal.returns-clause-no_visits_if_empty
 returns-clause-no_visits_if_empty c = not_empty c.in-Some.is c.self.invariant (sym (ap stored_set c.in-Some.is) ∙ c.self.view_is)
+
+pub is_match-requires : goal.is_match-requires
+is_match-requires c = c.none.ensures c.in-Some.stored.automata

@@ -9,8 +9,11 @@ use Rattle.globset.proofs.set.GlobSet.matches_all_visits.Goals as goal
 
 pub returns-clause-ok : goal.returns-clause-ok
 returns-clause-ok c =
-    let same : c.in-Some.stored ≡ c.args.self.now = sym (ap stored_set c.in-Some.is) ∙ c.self.view_is in
+    let same : c.in-Some.stored.set ≡ c.args.self.now = sym (ap stored_set c.in-Some.is) ∙ c.self.view_is in
     subst (λ (s : SetValue). IfOk c.matches_all.result (λ yes. IsTrue yes ↔ ContainsAllBelow (matching_indexes (set_globs s) c.args.path.now) (length (set_globs s)))) same c.matches_all.ensures.ok
 
 pub returns-clause-no_visits_if_empty : goal.returns-clause-no_visits_if_empty
 returns-clause-no_visits_if_empty c = not_empty c.in-Some.is c.self.invariant (sym (ap stored_set c.in-Some.is) ∙ c.self.view_is)
+
+pub matches_all-requires : goal.matches_all-requires
+matches_all-requires c = c.none.ensures c.in-Some.stored.automata

@@ -9,3 +9,6 @@ returns-in_default-clause-ok c = c.clear.ensures.items ∙ answer_of_none (set_g
 
 pub returns-clause-no_visits_if_empty : goal.returns-clause-no_visits_if_empty
 returns-clause-no_visits_if_empty c = not_empty c.in-Some.is c.self.invariant (sym (ap stored_set c.in-Some.is) ∙ c.self.view_is)
+
+pub find-requires : goal.find-requires
+find-requires c = c.none.ensures c.in-Some.stored.automata

@@ -1,8 +1,8 @@
 use Rattle.std.proofs.Common.{ap, sym, subst, ◌∙◌}
 use Rattle.set_matcher.specs.SetMatcherValue.{SetMatcherValue}
-use Rattle.globset_set.specs.inner.SharedValue.{shared_value}
+use Rattle.globset_set.specs.inner.StoredValue.{stored_value}
 use Rattle.globset_set.specs.inner.StoredGlobs.{AreStored}
-use Rattle.globset_set.proofs.shared.Shared.clone.Goals as goal
+use Rattle.globset_set.proofs.stored.Stored.clone.Goals as goal
 
 pub invariant_of-result : goal.invariant_of-result
 invariant_of-result c =
@@ -11,5 +11,5 @@ invariant_of-result c =
 
 pub returns-clause-ok : goal.returns-clause-ok
 returns-clause-ok c =
-    ap (λ gs. shared_value gs c.in_ok-matcher.matcher.value) c.copy.ensures
-    ∙ ap (λ (g : SetMatcherValue). shared_value c.self.inside.globs g) c.in_ok-matcher.ensures ∙ c.self.view_is
+    ap (λ gs. stored_value gs c.in_ok-matcher.matcher.value) c.copy.ensures
+    ∙ ap (λ (g : SetMatcherValue). stored_value c.self.inside.globs g) c.in_ok-matcher.ensures ∙ c.self.view_is
