@@ -106,33 +106,6 @@ impl Automata {
         })
     }
 
-    /// Marks the indexes of the globs that match the path, and no others. Returns an error if memory runs out.
-    pub fn mark(
-        &self,
-        path: &PathParts<'_>,
-        sets: &mut StateSets,
-        marks: &mut IndexSet,
-        caches: &mut Caches,
-        visits: &mut Visits,
-    ) -> Result<(), AllocError>
-        requires caches { AreCachesOf self.now caches.old }
-        requires bytes { AllBytes path.now }
-        ensures caches { caches.new ≡ caches.old }
-        ensures room { OnOk result (self.now.extensions.index_count ≤ index_capacity marks.new) }
-        ensures marked { OnOk result ((t : TokenLists) → AreForLists self.now t → (k : ℕ) → IsTrue (has_index marks.new k) ↔ AreFound self.now.extensions.slots t path.now k) }
-        ensures kept { sets_capacity sets.old ≤ sets_capacity sets.new }
-        ensures marks { index_capacity marks.old ≤ index_capacity marks.new }
-        ensures memory { max_states self.now ≤ sets_capacity sets.old → self.now.extensions.index_count ≤ index_capacity marks.old → IsOk result }
-        ensures visits { visits.new ≤ visits.old + (1 + (length path.now + 1) * reads_for self.now path.now) }
-        ensures counted { visits.old ≤ visits.new }
-    {
-        if self.find(path, sets, marks, caches, visits)? {
-            return Ok(());
-        }
-        marks.clear();
-        marks.reserve(self.index_count())
-    }
-
     /// Returns whether an automaton has to be run, and if so, marks the indexes of the globs that match the path, and no others. If
     /// not, no glob matches, and the sets stay as they are.
     ///

@@ -167,13 +167,14 @@ impl SetMatcher {
         ensures counted { visits.old ≤ visits.new }
     {
         let parts = self.parts_of(path.path());
-        match &self.automata {
-            Some(automata) => automata.mark(&parts, sets, marks, caches, visits)?,
-            None => {
-                marks.clear();
-                marks.reserve(self.index_count)?;
+        if let Some(automata) = &self.automata {
+            if automata.find(&parts, sets, marks, caches, visits)? {
+                self.keys.find(&parts, marks, visits);
+                return Ok(());
             }
         }
+        marks.clear();
+        marks.reserve(self.index_count)?;
         self.keys.find(&parts, marks, visits);
         Ok(())
     }
