@@ -3,7 +3,7 @@
 ghost use Rattle.std.specs.Prelude.{◌≡◌, ◌++◌, ◌∷◌, [], true, IfOk, IfErr, OnOk, OnErr, length, take};
 ghost use Rattle.globset.specs.Errors.{out_of_memory};
 ghost use Rattle.git_ignore.specs.Folders.{decision_below, ignores, is_below_ignored};
-ghost use Rattle.git_ignore.specs.StackValue.{at_top, entered, left, with_file};
+ghost use Rattle.git_ignore.specs.StackValue.{at_top, entered, left, stack_files, with_file};
 
 use crate::decision::Decision;
 use crate::folder_rules::{FolderRules, decide_below, searcher_bytes};
@@ -98,14 +98,14 @@ impl IgnoreStack {
 
     /// Returns the path of the folder that the walk is in, from the top folder on: empty for this, and otherwise with `/` at its end.
     pub fn folder(&self) -> &[u8]
-        ensures { result.now ≡ self.now.folder }
+        ensures { result.now ≡ self.now.here.path }
     {
         &self.folder
     }
 
     /// Returns whether the folder that the walk is in is ignored, or a folder above it is. Then all that is in it is ignored.
     pub fn is_ignored(&self) -> bool
-        ensures { result ≡ is_below_ignored self.now.files self.now.folder }
+        ensures { result ≡ is_below_ignored (stack_files self.now) self.now.here.path }
     {
         self.is_ignored
     }
@@ -163,7 +163,7 @@ impl IgnoreStack {
     /// Returns an error if memory runs out, and no other: the folder's path is put before it, and a path with more than 256
     /// folders takes memory for decisions about them.
     pub fn decide(&mut self, path: &[u8], is_folder: bool) -> Result<Decision, Error>
-        ensures decision { IfOk result (λ d. d ≡ decision_below self.old.files (self.old.folder ++ path.now) is_folder) }
+        ensures decision { IfOk result (λ d. d ≡ decision_below (stack_files self.old) (self.old.here.path ++ path.now) is_folder) }
         ensures same { self.new ≡ self.old }
         ensures err { IfErr result (λ e. e ≡ out_of_memory) }
     {
@@ -186,7 +186,7 @@ impl IgnoreStack {
 
     /// Goes down into a folder of this name, which is ignored or not. Returns an error if memory runs out; nothing changed then.
     fn push_level(&mut self, name: &[u8], is_ignored: bool) -> Result<(), AllocError>
-        requires { is_ignored ≡ ignores (decision_below self.old.files (self.old.folder ++ name.now) true) }
+        requires { is_ignored ≡ ignores (decision_below (stack_files self.old) (self.old.here.path ++ name.now) true) }
         ensures entered { OnOk result (self.new ≡ entered self.old name.now) }
         ensures kept { OnErr result (self.new ≡ self.old) }
     {

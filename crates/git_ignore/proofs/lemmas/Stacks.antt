@@ -1,11 +1,10 @@
 -- The folders above paths, and what the files of several folders say.
-use Rattle.std.proofs.Common.{◌≡◌, ℕ, zero, suc, ◌+◌, ◌-◌, ◌<◌, ◌≤◌, List, [], ◌∷◌, ◌++◌, length, take, drop, get_or, Bool, true, false, refl, ap, sym, subst, ◌∙◌, arith, length-append, append-nil, append_assoc}
-use Rattle.std.specs.Prelude.{◌==◌, ◌&&◌, ◌||◌, if◌then◌else◌, map, reverse, slice_set}
+use Rattle.std.proofs.Common.{◌≡◌, ℕ, zero, suc, ◌+◌, ◌-◌, ◌<◌, ◌≤◌, List, [], ◌∷◌, ◌++◌, length, take, drop, get_or, Bool, true, false, refl, ap, sym, subst, ◌∙◌, arith, length-append, append-nil}
+use Rattle.std.specs.Prelude.{◌==◌, ◌&&◌, ◌||◌, if◌then◌else◌, map, slice_set}
 use Rattle.std.specs.List.{list_any}
 use Rattle.std.specs.Str.{bytes_eq}
 use Rattle.std.proofs.lemmas.Bool.{false_from_ne_true}
-use Rattle.std.proofs.lemmas.List.{map-append, length-map, take_more, take-append-drop, take-append-le, length-take, reverse-append, take-map, set-get_or}
-use Rattle.std.proofs.lemmas.List.Elements.{All-append, All-take}
+use Rattle.std.proofs.lemmas.List.{map-append, take_more, take-append-drop, take-append-le, length-take, set-get_or}
 use Rattle.std.proofs.lemmas.List.Folds.{list_any-append}
 use Rattle.std.proofs.lemmas.Slice.Eq.{bytes_eq-Decides}
 use Rattle.std.proofs.Math.Seq.{take-append_seam, take-length}
@@ -13,14 +12,12 @@ use Rattle.globset.specs.SetValue.{ScratchValue, FitsAsBefore}
 use Rattle.git_ignore.specs.Folders.{IgnoreFile, is_in, file_decision, or_else, files_decision, folders_above, ignores, is_below_ignored, decision_below}
 use Rattle.git_ignore.specs.Rules.{decision}
 use Rattle.git_ignore.specs.RulesValue.{FitsRules}
-use Rattle.git_ignore.specs.StackValue.{StackValue, left}
 use Rattle.git_ignore.specs.declared.decision.Decision.{Decision}
 use Rattle.git_ignore.specs.declared.decision.Decision.TheVariants.{Ignored, Kept, Undecided}
 use Rattle.git_ignore.specs.declared.folder_rules.FolderRules.{FolderRules}
 use Rattle.git_ignore.specs.declared.stack.FolderLevel.{FolderLevel}
 use Rattle.git_ignore.specs.inner.FileValue.{file_value}
-use Rattle.git_ignore.specs.inner.Stacks.{file_of, files_of, FitAll, level_of, AreLevels}
-use Rattle.git_ignore.specs.inner.StackParts.{IsStack, stack_value}
+use Rattle.git_ignore.specs.inner.Stacks.{file_of, files_of, FitAll, AreLevels}
 
 -- ---- folders above a path
 
@@ -208,7 +205,7 @@ level_pushed folder more files l ls e n i h =
 pub fit_still : (old new : ScratchValue) (files : List FolderRules) → FitsAsBefore old new → FitAll old files → FitAll new files
 fit_still old new files h all k d within = h _ _ (all k d within)
 
-fit_one : (scratch : ScratchValue) (f : FolderRules) → FitsRules scratch (file_value f.rules) → FitAll scratch (f ∷ [])
+pub fit_one : (scratch : ScratchValue) (f : FolderRules) → FitsRules scratch (file_value f.rules) → FitAll scratch (f ∷ [])
 fit_one scratch f h zero d within = h
 fit_one scratch f h (suc k) d within = absurd (omega (arith, within))
 
@@ -247,63 +244,3 @@ pub file_undecided : (files : List FolderRules) (count : ℕ) (f : FolderRules) 
     → all ≡ files_decision (files_of (take count files)) path is_folder → all ≡ files_decision (files_of (take (count - 1) files)) path is_folder
 file_undecided files count f path is_folder d all low high at is none later =
     later ∙ last_of_files files count f path is_folder d low high at is ∙ ap (λ (e : Decision). or_else e (files_decision (files_of (take (count - 1) files)) path is_folder)) none
-
--- ---- steps of a walk
-
-one_reversed : (ls : List FolderLevel) (l : FolderLevel) → reverse (ls ++ l ∷ []) ≡ l ∷ reverse ls
-one_reversed ls l = reverse-append ls (l ∷ [])
-
--- an ignore file of the folder is added
-pub file_added : (folder shown bytes : List ℕ) (b : Bool) (files all : List FolderRules) (levels : List FolderLevel) (old new : ScratchValue) (r : FolderRules)
-    → IsStack folder b files levels old → all ≡ files ++ r ∷ [] → file_of r ≡ record { folder = shown; bytes = bytes } → shown ≡ folder
-    → FitsAsBefore old new → FitsRules new (file_value r.rules) → IsStack folder b all levels new
-file_added folder shown bytes b files all levels old new r h put is same before fits =
-    let place : (file_of r).folder ≡ folder = ap (λ (f : IgnoreFile). f.folder) is ∙ same in
-    let more : files_of all ≡ files_of files ++ file_of r ∷ [] = ap files_of put ∙ map-append file_of files (r ∷ []) in
-    record {
-      ignored = h.ignored
-          ∙ sym (subst (λ (p : List ℕ). is_below_ignored (files_of files ++ file_of r ∷ []) p ≡ is_below_ignored (files_of files) p) place (added_kept (files_of files) (file_of r)))
-          ∙ ap (λ (fs : List IgnoreFile). is_below_ignored fs folder) (sym more);
-      above = subst (λ (fs : List IgnoreFile). AreLevels folder fs (reverse levels)) (sym more) (levels_kept folder (files_of files) (file_of r ∷ []) (reverse levels) h.above);
-      fits = subst (λ (fs : List FolderRules). FitAll new fs) (sym put)
-          (All-append (λ (f : FolderRules). FitsRules new (file_value f.rules)) files (r ∷ []) (fit_still old new files before h.fits) (fit_one new r fits));
-    }
-
--- a folder is entered
-pub folder_entered : (folder name longer_folder : List ℕ) (b c : Bool) (files : List FolderRules) (levels all : List FolderLevel) (scratch : ScratchValue) (l : FolderLevel)
-    → IsStack folder b files levels scratch → longer_folder ≡ folder ++ name ++ 47 ∷ [] → all ≡ levels ++ l ∷ []
-    → l.folder ≡ length folder → l.files ≡ length files → l.is_ignored ≡ b → c ≡ ignores (decision_below (files_of files) (folder ++ name) true)
-    → IsStack longer_folder c files all scratch
-folder_entered folder name longer_folder b c files levels all scratch l h put pushed e n i is =
-    let whole : longer_folder ≡ folder ++ (name ++ 47 ∷ []) = put ∙ append_assoc folder name (47 ∷ []) in
-    record {
-      ignored = is ∙ entered_ignored (files_of files) (folder ++ name) ∙ ap (is_below_ignored (files_of files)) (sym put);
-      above = subst (λ (ls : List FolderLevel). AreLevels longer_folder (files_of files) ls) (sym (ap reverse pushed ∙ one_reversed levels l))
-          (subst (λ (p : List ℕ). AreLevels p (files_of files) (l ∷ reverse levels)) (sym whole)
-          (level_pushed folder (name ++ 47 ∷ []) (files_of files) l (reverse levels) e (n ∙ sym (length-map files file_of)) (i ∙ h.ignored) h.above));
-      fits = h.fits;
-    }
-
--- a folder is left
-pub folder_left : (folder shorter_folder : List ℕ) (b : Bool) (files fewer : List FolderRules) (levels rest : List FolderLevel) (scratch : ScratchValue) (l : FolderLevel)
-    → IsStack folder b files levels scratch → levels ≡ rest ++ l ∷ [] → shorter_folder ≡ take l.folder folder → fewer ≡ take l.files files
-    → IsStack shorter_folder l.is_ignored fewer rest scratch
-folder_left folder shorter_folder b files fewer levels rest scratch l h popped cut cut_files =
-    let all = subst (λ (ls : List FolderLevel). AreLevels folder (files_of files) ls) (ap reverse popped ∙ one_reversed rest l) h.above in
-    let few : files_of fewer ≡ take l.files (files_of files) = ap files_of cut_files ∙ sym (take-map file_of l.files files) in
-    record {
-      ignored = all.0.ignored ∙ (λ k. is_below_ignored (sym few k) (sym cut k));
-      above = subst (λ (fs : List IgnoreFile). AreLevels shorter_folder fs (reverse rest)) (sym few) (subst (λ (p : List ℕ). AreLevels p (take l.files (files_of files)) (reverse rest)) (sym cut) all.1);
-      fits = subst (λ (fs : List FolderRules). FitAll scratch fs) (sym cut_files) (All-take (λ (f : FolderRules). FitsRules scratch (file_value f.rules)) l.files files h.fits);
-    }
-
-pub left_value : (folder shorter_folder : List ℕ) (files fewer : List FolderRules) (levels rest : List FolderLevel) (l : FolderLevel)
-    → levels ≡ rest ++ l ∷ [] → shorter_folder ≡ take l.folder folder → fewer ≡ take l.files files
-    → stack_value shorter_folder fewer rest ≡ left (stack_value folder files levels)
-left_value folder shorter_folder files fewer levels rest l popped cut cut_files =
-    let few : files_of fewer ≡ take l.files (files_of files) = ap files_of cut_files ∙ sym (take-map file_of l.files files) in
-    let above : StackValue = record { folder = take l.folder folder; files = take l.files (files_of files); levels = map level_of (reverse rest) } in
-    let here : stack_value shorter_folder fewer rest ≡ above = λ k. record { folder = cut k; files = few k; levels = map level_of (reverse rest) } in
-    let there : left (stack_value folder files levels) ≡ above =
-    ap (λ (ls : List FolderLevel). left (record { folder = folder; files = files_of files; levels = map level_of ls })) (ap reverse popped ∙ one_reversed rest l) in
-    here ∙ sym there

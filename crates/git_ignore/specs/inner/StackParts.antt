@@ -1,16 +1,21 @@
 -- A walk by what is stored of it. No contract of the crate's public calls cites this.
-use Rattle.std.specs.Prelude.{◌≡◌, ℕ, Bool, List, map, reverse}
+use Rattle.std.specs.Prelude.{◌≡◌, ℕ, Bool, List, reverse}
 use Rattle.globset.specs.SetValue.{ScratchValue}
-use Rattle.git_ignore.specs.Folders.{is_below_ignored}
+use Rattle.git_ignore.specs.Folders.{IgnoreFile, is_below_ignored}
 use Rattle.git_ignore.specs.StackValue.{StackValue}
 use Rattle.git_ignore.specs.declared.folder_rules.FolderRules.{FolderRules}
 use Rattle.git_ignore.specs.declared.stack.FolderLevel.{FolderLevel}
-use Rattle.git_ignore.specs.inner.Stacks.{AreLevels, FitAll, files_of, level_of}
+use Rattle.git_ignore.specs.inner.Stacks.{AreInFolders, AreLevels, FitAll, above_of, files_of, here_of}
+
+-- the walk in a folder, with its files and those above it, and with the levels above it, the one right above it first
+abbrev pub walk_of : List ℕ → List IgnoreFile → List FolderLevel → StackValue
+walk_of folder files levels = record { here = here_of folder files levels; above = above_of folder files levels }
 
 abbrev pub stack_value : List ℕ → List FolderRules → List FolderLevel → StackValue
-stack_value folder files levels = record { folder = folder; files = files_of files; levels = map level_of (reverse levels) }
+stack_value folder files levels = walk_of folder (files_of files) (reverse levels)
 
 pub record IsStack (folder : List ℕ) (is_ignored : Bool) (files : List FolderRules) (levels : List FolderLevel) (scratch : ScratchValue) : Type 0 where
   pub ignored : is_ignored ≡ is_below_ignored (files_of files) folder
   pub above : AreLevels folder (files_of files) (reverse levels)
+  pub placed : AreInFolders folder (files_of files) (reverse levels)
   pub fits : FitAll scratch files

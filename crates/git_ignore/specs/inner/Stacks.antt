@@ -1,9 +1,9 @@
 -- What is stored of a walk. No contract of the crate's public calls cites this.
-use Rattle.std.specs.Prelude.{◌≡◌, ◌≤◌, ℕ, List, [], ◌∷◌, map, length, take, All}
+use Rattle.std.specs.Prelude.{◌≡◌, ◌≤◌, ℕ, List, [], ◌∷◌, map, length, take, drop, All}
 use Rattle.globset.specs.SetValue.{ScratchValue}
 use Rattle.git_ignore.specs.Folders.{IgnoreFile, is_below_ignored}
 use Rattle.git_ignore.specs.RulesValue.{FitsRules}
-use Rattle.git_ignore.specs.StackValue.{Level}
+use Rattle.git_ignore.specs.StackValue.{OpenFolder}
 use Rattle.git_ignore.specs.declared.folder_rules.FolderRules.{FolderRules}
 use Rattle.git_ignore.specs.inner.FileValue.{file_value}
 use Rattle.git_ignore.specs.declared.stack.FolderLevel.{FolderLevel}
@@ -19,10 +19,6 @@ files_of files = map file_of files
 abbrev pub FitAll : ScratchValue → List FolderRules → Type 0
 FitAll scratch files = All (λ (f : FolderRules). FitsRules scratch (file_value f.rules)) files
 
--- a folder above, as contracts see it
-abbrev pub level_of : FolderLevel → Level
-level_of l = record { folder = l.folder; files = l.files }
-
 -- The level is of a folder above the one of this path, and it is right that it is ignored or not.
 pub record IsLevel (path : List ℕ) (known : List IgnoreFile) (l : FolderLevel) : Type 0 where
   pub folder : l.folder ≤ length path
@@ -33,3 +29,27 @@ pub record IsLevel (path : List ℕ) (known : List IgnoreFile) (l : FolderLevel)
 abbrev pub AreLevels : List ℕ → List IgnoreFile → List FolderLevel → Type 0
 AreLevels folder files [] = Unit {0}
 AreLevels folder files (l ∷ ls) = IsLevel folder files l × AreLevels (take l.folder folder) (take l.files files) ls
+
+-- the bytes of files
+abbrev pub bytes_of : List IgnoreFile → List (List ℕ)
+bytes_of files = map (λ (f : IgnoreFile). f.bytes) files
+
+-- the folder of a walk, of whose files the first are those of the folders above
+abbrev pub here_of : List ℕ → List IgnoreFile → List FolderLevel → OpenFolder
+here_of folder files [] = record { path = folder; files = bytes_of files }
+here_of folder files (l ∷ ls) = record { path = folder; files = bytes_of (drop l.files files) }
+
+-- the folders above it, the one right above it first
+abbrev pub above_of : List ℕ → List IgnoreFile → List FolderLevel → List OpenFolder
+above_of folder files [] = []
+above_of folder files (l ∷ ls) = here_of (take l.folder folder) (take l.files files) ls ∷ above_of (take l.folder folder) (take l.files files) ls
+
+-- each file is in the folder
+abbrev pub AreIn : List ℕ → List IgnoreFile → Type 0
+AreIn folder [] = Unit {0}
+AreIn folder (f ∷ fs) = (f.folder ≡ folder) × AreIn folder fs
+
+-- each file is in the folder that it is one of the files of
+abbrev pub AreInFolders : List ℕ → List IgnoreFile → List FolderLevel → Type 0
+AreInFolders folder files [] = AreIn folder files
+AreInFolders folder files (l ∷ ls) = AreIn folder (drop l.files files) × AreInFolders (take l.folder folder) (take l.files files) ls

@@ -1,12 +1,23 @@
-use Rattle.std.proofs.Common.{◌≡◌, ◌++◌, sym, subst, ◌∙◌}
+use Rattle.std.proofs.Common.{◌++◌, sym, ◌∙◌}
+use Rattle.std.proofs.lemmas.Result.{IfOk-weaker}
 use Rattle.git_ignore.specs.Folders.{decision_below}
-use Rattle.git_ignore.specs.StackValue.{StackValue}
-use Rattle.git_ignore.specs.declared.decision.Decision.TheVariants.{Ignored}
 use Rattle.git_ignore.specs.inner.Stacks.{files_of}
 use Rattle.git_ignore.proofs.lemmas.Stacks.{below_ignored}
+use Rattle.git_ignore.proofs.lemmas.Walks.{stored_files, stored_path}
 use Rattle.git_ignore.proofs.stack.IgnoreStack.decide.Goals as goal
 
 pub returns-then-self-clause-decision : goal.returns-then-self-clause-decision
 returns-then-self-clause-decision c =
-    subst (λ (v : StackValue). Ignored ≡ decision_below v.files (v.folder ++ c.args.path.now) c.args.is_folder) c.self.view_is
-    (below_ignored (files_of c.self.inside.files.items) c.self.inside.folder.items c.args.path.now c.args.is_folder (sym c.self.invariant.ignored ∙ c.if-self.true))
+    let files = stored_files c.self.inside.folder.items c.self.inside.is_ignored c.self.inside.files.items c.self.inside.levels.items c.self.inside.scratch c.args.self.now c.self.invariant c.self.view_is in
+    let path = stored_path c.self.inside.folder.items c.self.inside.files.items c.self.inside.levels.items c.args.self.now c.self.view_is in
+    below_ignored (files_of c.self.inside.files.items) c.self.inside.folder.items c.args.path.now c.args.is_folder (sym c.self.invariant.ignored ∙ c.if-self.true)
+    ∙ (λ i. decision_below (files i) (path i ++ c.args.path.now) c.args.is_folder)
+
+pub returns-clause-decision : goal.returns-clause-decision
+returns-clause-decision c =
+    let files = stored_files c.self.inside.folder.items c.self.inside.is_ignored c.self.inside.files.items c.self.inside.levels.items c.self.inside.scratch c.args.self.now c.self.invariant c.self.view_is in
+    let path = stored_path c.self.inside.folder.items c.self.inside.files.items c.self.inside.levels.items c.args.self.now c.self.view_is in
+    let whole = c.deref.ensures.value ∙ c.in_ok-extend_from_slice.ensures.items in
+    IfOk-weaker c.decide_below-decision.result _ _ (λ d is.
+    is ∙ (λ i. decision_below (files_of (c.deref_mut.ensures.value i)) (whole i) c.args.is_folder) ∙ (λ i. decision_below (files i) (path i ++ c.args.path.now) c.args.is_folder))
+    c.decide_below-decision.ensures.decision
