@@ -180,6 +180,7 @@ impl SetMatcher {
     }
 
     /// Returns a path with the parts that keys and automata ask for, so that each is searched for once.
+    #[inline(always)]
     fn parts_of<'p>(&self, path: &'p [u8]) -> PathParts<'p>
         ensures path { result ≡ path.now }
         ensures bytes { AllBytes result }

@@ -38,6 +38,8 @@ impl Part {
 
 /// Marks the indexes of the globs whose tokens match a part of the path, beside those that are marked. The part is only searched
 /// for if there are states.
+// Most sets have no states for some part: the test for that is a part of the caller.
+#[inline(always)]
 pub fn run(
     part: Part,
     automaton: &Compiled,
@@ -66,6 +68,7 @@ pub fn run(
 }
 
 /// Returns whether a part of the path matches tokens. The part is only searched for if there are states.
+#[inline(always)]
 pub fn matches_part(
     part: Part,
     automaton: &Compiled,
