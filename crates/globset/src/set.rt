@@ -1,6 +1,6 @@
 //! Sets of globs.
 
-ghost use Rattle.std.specs.Prelude.{◌≡◌, ◌↔◌, All, List, [], IfOk, IfErr, IsTrue, length, map};
+ghost use Rattle.std.specs.Prelude.{◌≡◌, ◌≢◌, ◌↔◌, All, List, [], IfOk, IfErr, IsTrue, length, map};
 ghost use Rattle.std.specs.Borrow.{Bor};
 ghost use Rattle.std.specs.Iterator.{Drains, IsFinite};
 ghost use Rattle.globset_glob.specs.Errors.{out_of_memory};
@@ -155,7 +155,9 @@ impl GlobSet {
 
     /// Returns the set that stores this: for a crate that makes what a set stores glob by glob, as `globset_c` does.
     pub fn of_stored(stored: Stored) -> GlobSet
-        ensures { set_globs result ≡ set_globs stored.set }
+        ensures globs { set_globs result ≡ set_globs stored.set }
+        ensures stored { set_globs stored.set ≢ [] → result ≡ stored.set }
+        ensures none { set_globs stored.set ≡ [] → set_states result ≡ 0 }
     {
         if stored.len() == 0 {
             return GlobSet::empty();
