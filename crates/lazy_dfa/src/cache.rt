@@ -91,6 +91,7 @@ impl Cache {
     {
         self.rows.is_match(&dfa.automaton, text, visits)
     }
+
     /// Returns whether some text that begins with `text` and then `byte` leads to some end.
     ///
     /// It is as many visits for each byte as [`Cache::find`] makes, and at most one more for each state. It takes no memory.

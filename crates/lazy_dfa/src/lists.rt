@@ -4,7 +4,7 @@ ghost use Rattle.std.specs.Prelude.{◌≡◌, ℕ, ◌+◌, ◌<◌, ◌≤◌,
 ghost use Rattle.bit_sets.specs.Indexes.{has_index, index_capacity};
 ghost use Rattle.bit_sets.specs.Numbers.{has_number, AreBelow};
 ghost use Rattle.bit_sets.specs.StateSets.{has_state, state_capacity};
-ghost use Rattle.byte_dfa.specs.inner.Lists.{list_at};
+ghost use Rattle.byte_dfa.specs.inner.Lists.{list_at, IsList};
 
 use bit_sets::{IndexSet, StateSet, Visits};
 
@@ -94,5 +94,20 @@ pub fn put_lowered(set: &IndexSet, from: usize, count: usize, into: &mut IndexSe
     while let Some(index) = set.next_below(at, from + count) {
         into.put(index - from);
         at = index + 1;
+    }
+}
+
+/// Puts the numbers of the list at a place from `half` on, each less `half`, into a set, beside what it holds.
+pub fn put_marks(numbers: &[usize], place: usize, half: usize, into: &mut IndexSet)
+    requires list { IsList numbers.now (half + half) place }
+    requires room { half ≤ index_capacity into.old }
+    ensures room { index_capacity into.new ≡ index_capacity into.old }
+    ensures has { (k : ℕ) → IsTrue (has_index into.new k) ↔ (IsTrue (has_number (half + k) (list_at numbers.now place)) ⊎ IsTrue (has_index into.old k)) }
+{
+    let count = numbers[place];
+    for index in &numbers[place + 1..place + 1 + count] {
+        if *index >= half {
+            into.put(*index - half);
+        }
     }
 }

@@ -10,9 +10,11 @@ ghost use Rattle.byte_nfa.specs.Steps.{IsReached};
 ghost use Rattle.byte_nfa.specs.Runs.{size, AcceptsFrom};
 ghost use Rattle.byte_dfa.specs.inner.Classes.{AreEquivalenceClasses};
 ghost use Rattle.byte_dfa.specs.inner.Building.{half};
-ghost use Rattle.lazy_dfa.specs.inner.Rows.{AcceptsRow, HasEnds, HasMarks, GoesTo, IsDeadBy, IsNext, IsEnd, IsEntry, IsSound, AreListed, KeepsRows, HasSpace, states_of, place_of, max_entries, marked, BeginsAt, IsAt, IsStep, IsPlainStep};
+ghost use Rattle.lazy_dfa.specs.inner.Rows.{AcceptsRow, HasEnds, HasMarks, GoesTo, IsDeadBy, IsNext, IsEnd, IsEntry, IsSound, AreListed, KeepsRows, HasSpace, states_of, place_of, max_entries, marked, BeginsAt, IsAt, IsStep, IsPlainStep, IsMarkedStep};
 
-use crate::lists::{extend_within, list_indexes, list_of, push_within, states_at, zeros_within};
+use crate::lists::{
+    extend_within, list_indexes, list_of, push_within, put_marks, states_at, zeros_within,
+};
 use crate::pass::read;
 use bit_sets::{IndexSet, StateSet, Visits};
 use byte_dfa::{ByteClasses, put_listed};
@@ -252,6 +254,34 @@ impl Rows {
         } else {
             None
         }
+    }
+
+    /// Returns the place of the row that a byte leads to from the row at a place, if the row has marks, and these and the place are
+    /// known, which is one visit. Its marks are put into a set then. Otherwise [`Rows::step`] tells.
+    pub fn marked_next(
+        &self,
+        automaton: &Draft,
+        place: usize,
+        byte: u8,
+        found: &mut IndexSet,
+        visits: &mut Visits,
+    ) -> Option<usize>
+        requires sound { IsSound automaton.now self.now }
+        requires row { (i : ℕ) × IsAt self.now i place }
+        requires room { half automaton.now ≤ index_capacity found.old }
+        ensures room { index_capacity found.new ≡ index_capacity found.old }
+        ensures next { (i : ℕ) → IsAt self.now i place → MatchOption result (found.new ≡ found.old) (IsMarkedStep automaton.now self.now i byte found.old found.new) }
+        ensures visits { MatchOption result (visits.new ≡ visits.old) (λ _. visits.new ≡ visits.old + 1) }
+    {
+        let entry = entry_at(&self.entries, place, self.class_of[byte as usize] as usize);
+        let end = entry_at(&self.entries, place, self.class_count);
+        if entry < MARKED + FIRST || end < FIRST {
+            return None;
+        }
+        visits.tick();
+        let half = automaton.index_count() / 2;
+        put_marks(&self.lists, (end - FIRST) as usize, half, found);
+        Some((entry - MARKED - FIRST) as usize)
     }
 
     /// Returns the number of the row at a place.

@@ -57,6 +57,10 @@ impl Rows {
                 place = next;
                 continue;
             }
+            if let Some(next) = self.marked_next(automaton, place, *byte, found, visits) {
+                place = next;
+                continue;
+            }
             let step = self.step(automaton, place, *byte, visits);
             self.tell_marks(step.has_marks, half, found);
             let Some(next) = step.next else {

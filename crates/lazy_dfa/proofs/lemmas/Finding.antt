@@ -76,6 +76,19 @@ module _ (n : ℕ) (P : List ℕ → ℕ → Type 0) where
       back (lt, inl a) = (lt, inl ((same y k).1 a))
       back (lt, inr (p, q, e, a)) = (lt, inr (p, q, e, (same p (n + k)).1 a))
 
+  -- after a byte, with the indexes that are decided before it
+  pub told_found : (Q : List ℕ → ℕ → Type 0) (b : ℕ) → ((y : List ℕ) (k : ℕ) → P (b ∷ y) k ↔ Q y k) → (y : List ℕ) (k : ℕ) (was now : Bool) (R : Type 0)
+      → IsTrue now ↔ (((k < n) × P [] (n + k)) ⊎ IsTrue was) → (FindsBy n P (b ∷ y) k ⊎ IsTrue was) ↔ R → (FindsBy n Q y k ⊎ IsTrue now) ↔ R
+  told_found Q b goes y k was now R told before = iff_trans (there, back) before
+    where
+      there : FindsBy n Q y k ⊎ IsTrue now → FindsBy n P (b ∷ y) k ⊎ IsTrue was
+      there (inl h) = inl ((at_byte Q b goes y k).1 (inl h))
+      there (inr h) = ⊎_elim {C = FindsBy n P (b ∷ y) k ⊎ IsTrue was} (λ t. inl ((at_byte Q b goes y k).1 (inr t))) (λ w. inr w) (told.0 h)
+
+      back : FindsBy n P (b ∷ y) k ⊎ IsTrue was → FindsBy n Q y k ⊎ IsTrue now
+      back (inl h) = ⊎_elim {C = FindsBy n Q y k ⊎ IsTrue now} (λ f. inl f) (λ m. inr (told.1 (inl m))) ((at_byte Q b goes y k).0 h)
+      back (inr w) = inr (told.1 (inr w))
+
   -- what marks tell
   module _ (marks : Bool) (ends : ℕ → Bool) (marked : IsTrue marks ↔ ((j : ℕ) × (j < n) × P [] (n + j))) (ended : IsTrue marks → (k : ℕ) → k < n + n → IsTrue (ends k) ↔ P [] k) where
     told_is : (k : ℕ) → ((k < n) × IsTrue marks × IsTrue (ends (n + k))) ↔ ((k < n) × P [] (n + k))
@@ -87,15 +100,7 @@ module _ (n : ℕ) (P : List ℕ → ℕ → Type 0) where
     -- after a byte, with what the marks told
     pub next_found : (Q : List ℕ → ℕ → Type 0) (b : ℕ) → ((y : List ℕ) (k : ℕ) → P (b ∷ y) k ↔ Q y k) → (y : List ℕ) (k : ℕ) (was now : Bool) (R : Type 0)
         → IsTrue now ↔ (((k < n) × IsTrue marks × IsTrue (ends (n + k))) ⊎ IsTrue was) → (FindsBy n P (b ∷ y) k ⊎ IsTrue was) ↔ R → (FindsBy n Q y k ⊎ IsTrue now) ↔ R
-    next_found Q b goes y k was now R told before = iff_trans (there, back) before
-      where
-        there : FindsBy n Q y k ⊎ IsTrue now → FindsBy n P (b ∷ y) k ⊎ IsTrue was
-        there (inl h) = inl ((at_byte Q b goes y k).1 (inl h))
-        there (inr h) = ⊎_elim {C = FindsBy n P (b ∷ y) k ⊎ IsTrue was} (λ t. inl ((at_byte Q b goes y k).1 (inr ((told_is k).0 t)))) (λ w. inr w) (told.0 h)
-
-        back : FindsBy n P (b ∷ y) k ⊎ IsTrue was → FindsBy n Q y k ⊎ IsTrue now
-        back (inl h) = ⊎_elim {C = FindsBy n Q y k ⊎ IsTrue now} (λ f. inl f) (λ m. inr (told.1 (inl ((told_is k).1 m)))) ((at_byte Q b goes y k).0 h)
-        back (inr w) = inr (told.1 (inr w))
+    next_found Q b goes y k was now R told before = told_found Q b goes y k was now R (iff_trans told (iff_beside (told_is k))) before
 
     -- after a byte by which nothing is found
     pub dead_found : (b : ℕ) → ((y : List ℕ) (k : ℕ) → P (b ∷ y) k → ⊥) → (y : List ℕ) (k : ℕ) (was now : Bool) (R : Type 0)

@@ -72,6 +72,12 @@ pub record IsStep (m : Machine) (old : Rows) (i b : ℕ) (step : Step) (new : Ro
 abbrev pub IsPlainStep : Machine → Rows → ℕ → ℕ → ℕ → Type 0
 IsPlainStep m rows i b p = (HasMarks m rows i → ⊥) × GoesTo m rows i b rows p
 
+-- the byte leads from the row of number i to the row at the place p, and the new set has what the row has marks of, beside what the old one
+-- has
+pub record IsMarkedStep (m : Machine) (rows : Rows) (i b : ℕ) (old new : IndexSet) (p : ℕ) : Type 0 where
+  pub next : GoesTo m rows i b rows p
+  pub told : (k : ℕ) → IsTrue (has_index new k) ↔ (((k < half m) × AcceptsRow m rows i [] (half m + k)) ⊎ IsTrue (has_index old k))
+
 -- what an entry without marks says of a byte: it is 1 where nothing follows, and otherwise 2 more than the place of a row
 pub record IsNext (m : Machine) (rows : Rows) (i b e : ℕ) : Type 0 where
   pub dead : e ≡ 1 → IsDeadBy m rows i b

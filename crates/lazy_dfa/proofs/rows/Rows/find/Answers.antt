@@ -7,7 +7,7 @@ use Rattle.byte_nfa.specs.Steps.{IsReached}
 use Rattle.byte_nfa.proofs.lemmas.Pass.{iff_trans}
 use Rattle.byte_dfa.specs.inner.Building.{half}
 use Rattle.lazy_dfa.specs.inner.Rows.{AcceptsRow}
-use Rattle.lazy_dfa.proofs.lemmas.Finding.{iff_beside, finds_same, at_quiet, next_found, dead_found, last_found, none_last, visits_more, visits_within}
+use Rattle.lazy_dfa.proofs.lemmas.Finding.{iff_beside, finds_same, at_quiet, next_found, dead_found, last_found, none_last, told_found, visits_more, visits_within}
 use Rattle.lazy_dfa.proofs.lemmas.Rows.{none_reached}
 use Rattle.lazy_dfa.proofs.rows.Rows.find.Goals as goal
 
@@ -55,6 +55,28 @@ loop-byte-preserved-in-Some c =
       counted = omega (arith, c.in-Some.ensures.visits, inv.counted);
     }
 
+pub loop-byte-preserved-in-Some-marked_next : goal.loop-byte-preserved-in-Some-marked_next
+loop-byte-preserved-in-Some-marked_next c =
+    let m = c.args.automaton.now in
+    let text = c.args.text.now in
+    let l = c.loop-byte in
+    let inv = l.invariant in
+    let i = l.byte-index in
+    let lt : i < length text = c.loop-byte-test.true in
+    let b : ℕ = get_or text i 0 in
+    let rest = drop (i + 1) text in
+    let more : drop i text ≡ b ∷ rest = drop_more text i 0 lt in
+    let (j, at, finds) = inv.runs in
+    let marked = rw c.in-Some-marked_next.is at c.marked_next.ensures.next j at in
+    let (n, there, goes) = marked.next in
+    record {
+      sound = inv.sound;
+      room = c.marked_next.ensures.room ∙ inv.room;
+      runs = (n, there, λ k. told_found (half m) (AcceptsRow m l.self j) (AcceptsRow m l.self n) b goes rest k (has_index l.found k) (has_index c.marked_next.new.found k) _ (marked.told k) (rw more at finds k));
+      visits = visits_more c.args.visits.now l.visits c.marked_next.new.visits i (size m) inv.visits (omega (arith, c.in-Some-marked_next.ensures.visits, c.in_default.ensures.visits, c.state_count.ensures, c.if-state_count-eq0.false));
+      counted = omega (arith, c.in-Some-marked_next.ensures.visits, c.in_default.ensures.visits, inv.counted);
+    }
+
 pub loop-byte-preserved : goal.loop-byte-preserved
 loop-byte-preserved c =
     let m = c.args.automaton.now in
@@ -70,18 +92,19 @@ loop-byte-preserved c =
     let step = c.step-step.ensures.step j at in
     let (next, there, goes) = rw c.in-Some-next.is at step.next in
     let h = half m in
-    let told = rw c.index_count-half.ensures at c.tell_marks.ensures.has in
+    let quiet = c.in_default-marked_next.ensures.next j at in
+    let told = rw (c.index_count-half.ensures, quiet) at c.tell_marks.ensures.has in
     record {
       sound = c.step-step.ensures.sound;
-      room = c.tell_marks.ensures.room ∙ inv.room;
+      room = c.tell_marks.ensures.room ∙ c.in_default-marked_next.ensures.room ∙ inv.room;
       runs = (
         next,
         there,
         λ k. next_found h (AcceptsRow m l.self j) c.step-step.result.has_marks (has_index c.step-step.new.self.ends) step.marks step.ends
             (AcceptsRow m c.step-step.new.self next) b goes rest k (has_index l.found k) (has_index c.tell_marks.new.found k) _ (told k) (rw more at finds k),
       );
-      visits = visits_more c.args.visits.now l.visits c.step-step.new.visits i (size m) inv.visits (omega (arith, c.step-step.ensures.visits, c.in_default.ensures.visits));
-      counted = omega (arith, c.step-step.ensures.counted, c.in_default.ensures.visits, inv.counted);
+      visits = visits_more c.args.visits.now l.visits c.step-step.new.visits i (size m) inv.visits (omega (arith, c.step-step.ensures.visits, c.in_default-marked_next.ensures.visits, c.in_default.ensures.visits));
+      counted = omega (arith, c.step-step.ensures.counted, c.in_default-marked_next.ensures.visits, c.in_default.ensures.visits, inv.counted);
     }
 
 pub returns-in_default-next-clause-found : goal.returns-in_default-next-clause-found
@@ -97,14 +120,15 @@ returns-in_default-next-clause-found c = λ k.
     let (j, at, finds) = l.invariant.runs in
     let step = c.step-step.ensures.step j at in
     let dead = rw c.in_default-next.is at step.next in
-    let told = rw c.index_count-half.ensures at c.tell_marks.ensures.has in
+    let quiet = c.in_default-marked_next.ensures.next j at in
+    let told = rw (c.index_count-half.ensures, quiet) at c.tell_marks.ensures.has in
     dead_found (half m) (AcceptsRow m l.self j) c.step-step.result.has_marks (has_index c.step-step.new.self.ends) step.marks step.ends
     b dead rest k (has_index l.found k) (has_index c.tell_marks.new.found k) _ (told k) (rw more at finds k)
 
 pub returns-in_default-next-clause-visits : goal.returns-in_default-next-clause-visits
 returns-in_default-next-clause-visits c =
     let l = c.loop-byte in
-    visits_within c.args.visits.now l.visits c.step-step.new.visits l.byte-index (length c.args.text.now) (size c.args.automaton.now) (omega arith) l.invariant.visits (omega (arith, c.step-step.ensures.visits, c.in_default.ensures.visits))
+    visits_within c.args.visits.now l.visits c.step-step.new.visits l.byte-index (length c.args.text.now) (size c.args.automaton.now) (omega arith) l.invariant.visits (omega (arith, c.step-step.ensures.visits, c.in_default-marked_next.ensures.visits, c.in_default.ensures.visits))
 
 pub returns-then-finish-clause-found : goal.returns-then-finish-clause-found
 returns-then-finish-clause-found c = λ k.
