@@ -207,12 +207,13 @@ impl Searcher {
     }
 
     /// Returns the indexes, ascending, of the globs that match the candidate's path, as [`GlobSet::matches_candidate`] does. It
-    /// calls [`Searcher::find`], and so [`Searcher::found`] returns them too.
+    /// finds them as [`Searcher::find`] does, and so [`Searcher::found`] returns them too.
     pub fn matches(&mut self, path: &Candidate<'_>) -> &[usize]
         ensures* lends { sem 𝓛 (LendsFound self.entry result) }
         ensures found { result.now ≡ matching_indexes (set_globs self.old.set) path.now }
     {
-        self.find(path);
+        let mut visits = Visits::new();
+        self.find_visits(path, &mut visits);
         self.found()
     }
 

@@ -1,6 +1,6 @@
 //! The rows that automata keep from one path to the next.
 
-ghost use Rattle.std.specs.Prelude.{◌≡◌, ◌+◌, ◌*◌, ◌≤◌, ◌++◌, ◌∷◌, ◌↔◌, [], ℕ, List, length, Some, IsTrue, IsOk, OnOk, IfOk};
+ghost use Rattle.std.specs.Prelude.{◌≡◌, ◌+◌, ◌*◌, ◌≤◌, ◌++◌, ◌∷◌, ◌↔◌, [], ℕ, List, length, None, Some, IsTrue, IsOk, OnOk, IfOk};
 ghost use Rattle.bit_sets.specs.Indexes.{index_capacity};
 ghost use Rattle.bit_sets.specs.Texts.{AllBytes};
 ghost use Rattle.byte_nfa.specs.Runs.{size, max_reads};
@@ -119,7 +119,8 @@ impl SlotCaches {
         bytes
     }
 
-    /// The same as [`run`], on the bytes before the extension of the path, with the cache of the automaton's slot.
+    /// The same as [`run`], on the bytes before the extension of the path, with the cache of the automaton's slot. Where there is no
+    /// slot, the automaton has no states.
     pub fn run(
         &mut self,
         slot: Option<usize>,
@@ -132,6 +133,7 @@ impl SlotCaches {
         requires bytes { AllBytes path.now }
         requires count { automaton.now.index_count ≤ index_capacity marks.old }
         requires cache { (s : ℕ) → slot ≡ Some s → IsCacheAt self.old s automaton.now }
+        requires none { slot ≡ None → size automaton.now ≡ 0 }
         ensures caches { self.new ≡ self.old }
         ensures room { index_capacity marks.new ≡ index_capacity marks.old }
         ensures found { OnOk result (AddsMatches automaton.now (before_extension path.now) marks.old marks.new) }
@@ -140,10 +142,10 @@ impl SlotCaches {
         ensures visits { visits.new ≤ visits.old + (length path.now + 1) * max_reads automaton.now }
         ensures counted { visits.old ≤ visits.new }
     {
-        let part = Part::BeforeExtension;
         let Some(slot) = slot else {
-            return run(part, automaton, path, sets, &mut None, marks, visits);
+            return Ok(());
         };
+        let part = Part::BeforeExtension;
         if let Some(caches) = &mut self.caches {
             if slot < caches.len() {
                 let cache = &mut caches[slot];
@@ -153,7 +155,8 @@ impl SlotCaches {
         run(part, automaton, path, sets, &mut None, marks, visits)
     }
 
-    /// The same as [`matches_part`], on the bytes before the extension of the path, with the cache of the automaton's slot.
+    /// The same as [`matches_part`], on the bytes before the extension of the path, with the cache of the automaton's slot. Where
+    /// there is no slot, the automaton has no states.
     pub fn matches(
         &mut self,
         slot: Option<usize>,
@@ -164,6 +167,7 @@ impl SlotCaches {
     ) -> Result<bool, AllocError>
         requires bytes { AllBytes path.now }
         requires cache { (s : ℕ) → slot ≡ Some s → IsCacheAt self.old s automaton.now }
+        requires none { slot ≡ None → size automaton.now ≡ 0 }
         ensures caches { self.new ≡ self.old }
         ensures some { IfOk result (TellsMatch automaton.now (before_extension path.now)) }
         ensures kept { sets_capacity sets.old ≤ sets_capacity sets.new }
@@ -171,10 +175,10 @@ impl SlotCaches {
         ensures visits { visits.new ≤ visits.old + (length path.now + 1) * max_reads automaton.now }
         ensures counted { visits.old ≤ visits.new }
     {
-        let part = Part::BeforeExtension;
         let Some(slot) = slot else {
-            return matches_part(part, automaton, path, sets, &mut None, visits);
+            return Ok(false);
         };
+        let part = Part::BeforeExtension;
         if let Some(caches) = &mut self.caches {
             if slot < caches.len() {
                 let cache = &mut caches[slot];

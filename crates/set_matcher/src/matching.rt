@@ -12,10 +12,9 @@ ghost use Rattle.set_matcher.specs.inner.Caches.{AreCachesOf};
 
 use crate::caches::Caches;
 use crate::matcher::SetMatcher;
-use bit_sets::{IndexSet, Visits};
+use bit_sets::Visits;
 use glob_path::{Candidate, PathParts};
 use glob_scratch::Scratch;
-use nfa_simulation::StateSets;
 use std::alloc::{AllocError, Global};
 
 impl SetMatcher {
@@ -78,8 +77,19 @@ impl SetMatcher {
         ensures counted { visits.old ≤ visits.new }
     {
         into.clear();
-        self.mark(path, &mut scratch.sets, &mut scratch.marks, caches, visits)?;
-        if let Err(error) = scratch.marks.push_below(self.len(), into) {
+        let parts = self.parts_of(path.path());
+        let sets = &mut scratch.sets;
+        let marks = &mut scratch.marks;
+        let are_run = match &self.automata {
+            Some(automata) => automata.find(&parts, sets, marks, caches, visits)?,
+            None => false,
+        };
+        if !are_run {
+            marks.clear();
+            marks.reserve(self.index_count)?;
+        }
+        self.keys.find(&parts, marks, visits);
+        if let Err(error) = marks.push_below(self.len(), into) {
             into.clear();
             return Err(error);
         }
@@ -145,38 +155,6 @@ impl SetMatcher {
             }
         }
         Ok(self.keys.count_found(&parts, visits) == Some(self.len()))
-    }
-
-    /// Marks the indexes of the globs that are not excluded and match the path, and no others. Returns an error if memory runs
-    /// out.
-    fn mark(
-        &self,
-        path: &Candidate<'_>,
-        sets: &mut StateSets,
-        marks: &mut IndexSet,
-        caches: &mut Caches,
-        visits: &mut Visits,
-    ) -> Result<(), AllocError>
-        requires { AreCachesOf self.now.automata caches.old }
-        ensures caches { caches.new ≡ caches.old }
-        ensures marked { OnOk result ((k : ℕ) → IsTrue (has_index marks.new k) ↔ IsTrue (is_reported_at (matcher_globs self.now) path.now k)) }
-        ensures kept { sets_capacity sets.old ≤ sets_capacity sets.new }
-        ensures marks { index_capacity marks.old ≤ index_capacity marks.new }
-        ensures room { self.now.states ≤ sets_capacity sets.old → self.now.index_count ≤ index_capacity marks.old → IsOk result }
-        ensures visits { visits.new ≤ visits.old + max_visits (matcher_globs self.now) path.now }
-        ensures counted { visits.old ≤ visits.new }
-    {
-        let parts = self.parts_of(path.path());
-        if let Some(automata) = &self.automata {
-            if automata.find(&parts, sets, marks, caches, visits)? {
-                self.keys.find(&parts, marks, visits);
-                return Ok(());
-            }
-        }
-        marks.clear();
-        marks.reserve(self.index_count)?;
-        self.keys.find(&parts, marks, visits);
-        Ok(())
     }
 
     /// Returns a path with the parts that keys and automata ask for, so that each is searched for once.

@@ -36,7 +36,8 @@ impl GlobSet {
         ensures succeeds_if_empty { set_globs self.now ≡ [] → IsOk result }
     {
         let mut indexes = Vec::new(alloc);
-        self.matches_candidate_into(path, &mut indexes)?;
+        let mut visits = Visits::new();
+        self.matches_visits(path, &mut indexes, &mut visits)?;
         Ok(indexes)
     }
 

@@ -112,6 +112,7 @@ impl ExtensionMatchers {
         ensures maximum { size result.now ≤ max_size self.now.machines }
         ensures count { result.now.index_count ≡ self.now.index_count }
         ensures tokens { (by_slot : ℕ → List IndexedTokens) → AreFor self.now.machines by_slot → IsFor result.now (option_map_or by_slot slot []) }
+        ensures none { slot ≡ None → size result.now ≡ 0 }
     {
         match slot {
             Some(at) => &self.automata[at],
