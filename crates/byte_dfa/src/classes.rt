@@ -4,7 +4,7 @@ ghost use Rattle.std.specs.Prelude.{ℕ, ◌<◌, ◌≤◌, slice_index, IfSome
 ghost use Rattle.byte_nfa.specs.Equivalent.{AreEquivalent};
 ghost use Rattle.byte_dfa.specs.inner.Classes.{AreEquivalenceClasses};
 
-use byte_nfa::Draft;
+use byte_nfa::Nfa;
 
 /// Classes of bytes that each state of an automaton reads alike.
 #[derive(Drop)]
@@ -18,7 +18,7 @@ pub struct ByteClasses {
 
 impl ByteClasses {
     /// Returns the classes of an automaton.
-    pub fn new(automaton: &Draft) -> ByteClasses
+    pub fn new(automaton: &Nfa) -> ByteClasses
         ensures some { 0 < result.count }
         ensures few { result.count ≤ 256 }
         ensures equivalence { AreEquivalenceClasses automaton.now.states result.class_of result.representatives result.count }
@@ -56,7 +56,7 @@ impl ByteClasses {
 
 /// Returns the class up to the last whose first byte is read as a byte of this kind is, if it is the first class of that kind.
 fn class_like(
-    automaton: &Draft,
+    automaton: &Nfa,
     representatives: &[u8; 256],
     kinds: &[u64; 256],
     last: u8,

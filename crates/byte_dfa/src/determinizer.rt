@@ -13,7 +13,7 @@ use crate::classes::ByteClasses;
 use crate::lists::push_list;
 use crate::made::MadeEntries;
 use bit_sets::{ByteSet, IndexSet, StateSet, Visits};
-use byte_nfa::{ByteSteps, Draft};
+use byte_nfa::{ByteSteps, Nfa};
 use std::alloc::{AllocError, Global};
 use std::collections::HashMap;
 use std::hash::{FoldHasher, Hasher};
@@ -86,7 +86,7 @@ impl Determinizer {
     /// room for so many numbers, or if too many states are found whose rows are not written yet.
     pub fn complete(
         alloc: Global,
-        automaton: &Draft,
+        automaton: &Nfa,
         classes: &ByteClasses,
         room: usize,
     ) -> Result<Option<(Determinizer, usize)>, AllocError>
@@ -127,7 +127,7 @@ impl Determinizer {
     /// for them. `states` has no state before.
     fn begin(
         &mut self,
-        automaton: &Draft,
+        automaton: &Nfa,
         classes: &ByteClasses,
         states: &mut StateSet,
     ) -> Result<Option<usize>, AllocError>
@@ -152,7 +152,7 @@ impl Determinizer {
     /// yet.
     fn write_rows(
         &mut self,
-        automaton: &Draft,
+        automaton: &Nfa,
         classes: &ByteClasses,
         states: &mut StateSet,
     ) -> Result<bool, AllocError>
@@ -191,7 +191,7 @@ impl Determinizer {
     }
 
     /// Returns for each set that was found whether some bytes lead from it to an end. Returns an error if memory runs out.
-    pub fn live_rows(&self, alloc: Global, automaton: &Draft) -> Result<Vec<bool>, AllocError>
+    pub fn live_rows(&self, alloc: Global, automaton: &Nfa) -> Result<Vec<bool>, AllocError>
         requires { AreFoundSets automaton.now self.now.found.items self.now.lists.items }
         ensures { IfOk result (λ live. AreLiveSets automaton.now self.now.found.items live.items) }
     {
@@ -206,7 +206,7 @@ impl Determinizer {
     }
 
     /// Returns a determinizer of no states, with room for so many numbers.
-    fn new(alloc: Global, automaton: &Draft, room: usize) -> Result<Determinizer, AllocError>
+    fn new(alloc: Global, automaton: &Nfa, room: usize) -> Result<Determinizer, AllocError>
         ensures found { IfOk result (λ c. c.found.items ≡ []) }
         ensures lists { IfOk result (λ c. c.lists.items ≡ 0 ∷ []) }
         ensures rows { IfOk result (λ c. c.rows.items ≡ []) }
@@ -230,7 +230,7 @@ impl Determinizer {
     /// Returns the number of the state that a set stands for. A new one is added; `None` if there is no room for it.
     fn state_id(
         &mut self,
-        automaton: &Draft,
+        automaton: &Nfa,
         classes: &ByteClasses,
         states: &StateSet,
         below: usize,
@@ -268,7 +268,7 @@ impl Determinizer {
     }
 
     /// Returns the indexes of the ends that a set leads to without a byte.
-    fn ends_of(&self, automaton: &Draft, states: &StateSet) -> Result<IndexSet, AllocError>
+    fn ends_of(&self, automaton: &Nfa, states: &StateSet) -> Result<IndexSet, AllocError>
         requires room { HasCapacityFor automaton.now states.now }
         requires accepting { AreAllAccepting automaton.now self.now.accepting }
         ensures { IfOk result (λ set. (k : ℕ) → IsTrue (has_index set k) ↔ AcceptsFrom automaton.now states.now [] k) }
@@ -289,7 +289,7 @@ impl Determinizer {
     /// Adds a state of the table, with its lists. Returns whether there is room for it.
     fn add(
         &mut self,
-        automaton: &Draft,
+        automaton: &Nfa,
         classes: &ByteClasses,
         states: &StateSet,
         below: usize,
@@ -329,7 +329,7 @@ impl Determinizer {
     /// Writes a row. Returns whether there is room for the states that it leads to.
     fn write_row(
         &mut self,
-        automaton: &Draft,
+        automaton: &Nfa,
         classes: &ByteClasses,
         row: &Row,
         made: &mut MadeEntries,
@@ -373,7 +373,7 @@ impl Determinizer {
     /// before. Otherwise the class is put among those whose entries are made.
     fn shared_entry(
         &self,
-        automaton: &Draft,
+        automaton: &Nfa,
         classes: &ByteClasses,
         row: &Row,
         some: &ByteSet,
@@ -415,7 +415,7 @@ impl Determinizer {
     /// Returns the entry of a class, and adds the state that it leads to if that is a new one. `None` if there is no room for it.
     fn new_entry(
         &mut self,
-        automaton: &Draft,
+        automaton: &Nfa,
         classes: &ByteClasses,
         row: &Row,
         to: &mut StateSet,
@@ -459,7 +459,7 @@ impl Determinizer {
     }
 
     /// Makes `row` the one with this number, with its base and the steps from the states that its set has beside those of the base.
-    fn read_row(&self, automaton: &Draft, number: usize, row: &mut Row) -> Result<(), AllocError>
+    fn read_row(&self, automaton: &Nfa, number: usize, row: &mut Row) -> Result<(), AllocError>
         requires room { size automaton.now ≤ step_capacity row.old.steps }
         requires sound { AreFoundSets automaton.now self.now.found.items self.now.lists.items }
         requires row { number < length self.now.found.items }
@@ -478,7 +478,7 @@ impl Determinizer {
     }
 
     /// Returns the base of a row.
-    fn base_of(&self, automaton: &Draft, number: usize) -> usize
+    fn base_of(&self, automaton: &Nfa, number: usize) -> usize
         requires sound { AreFoundSets automaton.now self.now.found.items self.now.lists.items }
         requires row { number < length self.now.found.items }
         ensures written { 0 < result → result < number }
@@ -498,7 +498,7 @@ impl Determinizer {
     }
 
     /// Returns whether a row can be the base of another: it is written before it, and its set has none but states of the other set.
-    fn is_base(&self, automaton: &Draft, number: usize, base: usize) -> bool
+    fn is_base(&self, automaton: &Nfa, number: usize, base: usize) -> bool
         requires sound { AreFoundSets automaton.now self.now.found.items self.now.lists.items }
         requires row { number < length self.now.found.items }
         ensures written { IsTrue result → base < number }
@@ -531,7 +531,7 @@ impl Determinizer {
 
 /// Returns how many states may be found whose rows are not written yet. Most automata of which there are more at some time have
 /// very many more states than they have room for, and are given up sooner.
-fn max_waiting(automaton: &Draft) -> usize {
+fn max_waiting(automaton: &Nfa) -> usize {
     let starts = automaton.starts().len();
     starts.saturating_add(WAITING.max(starts / 2))
 }

@@ -11,7 +11,7 @@ use crate::classes::ByteClasses;
 use crate::determinizer::{Determinizer, SPECIAL};
 use crate::lists::{has_some, put_listed};
 use bit_sets::{ByteSet, IndexSet, Visits};
-use byte_nfa::Draft;
+use byte_nfa::Nfa;
 use std::alloc::{AllocError, Global};
 use std::marker::Model;
 use std::mem;
@@ -33,7 +33,7 @@ pub struct Dfa {
     last_bytes: ByteSet,
     /// For each row, whether some bytes lead from it to an end.
     live: Vec<bool>,
-    source: Snapshot<Draft>,
+    source: Snapshot<Nfa>,
 }
 
 impl Drop for Dfa {
@@ -68,7 +68,7 @@ impl Dfa {
     ///
     /// The table and the lists have at most `budget` numbers together. Returns `None` if that is not enough, and an error
     /// if memory runs out.
-    pub fn new(alloc: Global, automaton: &Draft, budget: usize) -> Result<Option<Dfa>, AllocError>
+    pub fn new(alloc: Global, automaton: &Nfa, budget: usize) -> Result<Option<Dfa>, AllocError>
         ensures source { IfOk result (λ made. IfSome made (λ dfa. dfa.source ≡ automaton.now)) }
         ensures size { IfOk result (λ made. IfSome made (λ dfa. dfa.size ≤ budget)) }
     {

@@ -1,6 +1,6 @@
 -- Signs: what of a window of three bytes is kept of a text, and asked for beside the key of an entry.
 use Rattle.std.specs.Prelude.{◌≡◌, ℕ, ◌<◌, ◌⊎◌, List, length, slice_index}
-use Rattle.byte_nfa.specs.Steps.{Accepts, Machine}
+use Rattle.byte_nfa.specs.Steps.{Accepts, NfaValue}
 use Rattle.bit_sets.specs.Texts.{AllBytes}
 use Rattle.byte_filter.specs.Hashes.{place_of}
 use Rattle.byte_filter.specs.Windows.{HasThreeBefore}
@@ -22,5 +22,5 @@ abbrev pub AreSigned : List ℕ → List ℕ → Type 0
 AreSigned y signs = (i : ℕ) → i < length signs → IsSign y (slice_index signs i)
 
 -- each text that leads from the state s to some end has each of the signs
-abbrev pub AreSignsFrom : Machine → ℕ → List ℕ → Type 0
+abbrev pub AreSignsFrom : NfaValue → ℕ → List ℕ → Type 0
 AreSignsFrom m s signs = (y : List ℕ) (k : ℕ) → AllBytes y → Accepts m.states k s y → AreSigned y signs

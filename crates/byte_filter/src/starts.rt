@@ -2,7 +2,7 @@
 
 ghost use Rattle.std.specs.Prelude.{◌≡◌, ℕ, ◌+◌, ◌*◌, ◌<◌, ◌≤◌, ◌⊎◌, ◌↔◌, length, slice_index, Contains, IsTrue, IfOk, IfSome, OnOk, MatchOption};
 ghost use Rattle.bit_sets.specs.Indexes.{has_index, index_capacity};
-ghost use Rattle.byte_nfa.specs.Steps.{Accepts, IsReached, Machine};
+ghost use Rattle.byte_nfa.specs.Steps.{Accepts, IsReached, NfaValue};
 ghost use Rattle.byte_filter.specs.Entries.{AreStartsBelow};
 ghost use Rattle.byte_filter.specs.Others.{AreOthersBelow};
 ghost use Rattle.byte_filter.specs.Starts.{IsGuarded, IsFilterOf, IsReachedMarked};
@@ -14,7 +14,7 @@ use crate::filter::Filter;
 use crate::others::{OtherStart, mark_others};
 use crate::window::{StartWindows, find_required, forced_bytes};
 use bit_sets::{IndexSet, Visits};
-use byte_nfa::Draft;
+use byte_nfa::Nfa;
 use std::alloc::{AllocError, Global};
 use std::marker::Model;
 
@@ -58,7 +58,7 @@ impl StartFilter {
     /// out. Returns an error if memory runs out.
     ///
     /// It reads the states below each start down to an end, twice.
-    pub fn new(alloc: Global, automaton: &Draft) -> Result<Option<StartFilter>, AllocError>
+    pub fn new(alloc: Global, automaton: &Nfa) -> Result<Option<StartFilter>, AllocError>
         ensures { IfOk result (λ made. IfSome made (λ filter. IsFilterOf automaton.now filter)) }
     {
         let count = automaton.starts().len();
@@ -89,8 +89,8 @@ impl StartFilter {
         requires { self.now.count ≤ index_capacity marks.old }
         ensures room { index_capacity marks.new ≡ index_capacity marks.old }
         ensures kept { (i : ℕ) → IsTrue (has_index marks.old i) → IsTrue (has_index marks.new i) }
-        ensures marks { (m : Machine) → IsFilterOf m self.now → (i k : ℕ) → i < length m.starts → Accepts m.states k (slice_index m.starts i) text.now → IsTrue (has_index marks.new i) }
-        ensures exact { (m : Machine) → IsFilterOf m self.now → (k : ℕ) → IsReached m text.now k ↔ IsReachedMarked m marks.new text.now k }
+        ensures marks { (m : NfaValue) → IsFilterOf m self.now → (i k : ℕ) → i < length m.starts → Accepts m.states k (slice_index m.starts i) text.now → IsTrue (has_index marks.new i) }
+        ensures exact { (m : NfaValue) → IsFilterOf m self.now → (k : ℕ) → IsReached m text.now k ↔ IsReachedMarked m marks.new text.now k }
         ensures visits { visits.new ≤ visits.old + length text.now * (3 * self.now.count) }
         ensures counted { visits.old ≤ visits.new }
     {
@@ -102,7 +102,7 @@ impl StartFilter {
 /// Counts the windows of all starts of an automaton. `bytes` has the byte that each state forces, and `windows` is room to work in.
 fn counted(
     alloc: Global,
-    automaton: &Draft,
+    automaton: &Nfa,
     bytes: &[u8],
     windows: &mut StartWindows,
 ) -> Result<Counts, AllocError>
@@ -126,7 +126,7 @@ fn guard(
     others: &mut Vec<OtherStart>,
 ) -> Result<(), AllocError>
     ensures guarded { OnOk result (IsGuardedBy windows.now.short.items windows.now.long.items windows.now.bytes.items filter.new others.new.items i) }
-    ensures kept { OnOk result ((m : Machine) (j : ℕ) → IsGuarded m filter.old others.old.items j → IsGuarded m filter.new others.new.items j) }
+    ensures kept { OnOk result ((m : NfaValue) (j : ℕ) → IsGuarded m filter.old others.old.items j → IsGuarded m filter.new others.new.items j) }
     ensures below { OnOk result ((n : ℕ) → i < n → AreStartsBelow n filter.old → AreStartsBelow n filter.new) }
     ensures others_below { OnOk result ((n : ℕ) → i < n → AreOthersBelow n others.old.items → AreOthersBelow n others.new.items) }
     ensures len { OnOk result (length filter.new ≤ length filter.old + 1) }

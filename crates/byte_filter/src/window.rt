@@ -3,11 +3,11 @@
 ghost use Rattle.std.specs.Prelude.{◌≡◌, ℕ, ◌+◌, ◌*◌, ◌<◌, ◌≤◌, length, IfOk, OnOk, MatchOption};
 ghost use Rattle.byte_nfa.specs.Forcing.{Forces};
 ghost use Rattle.byte_nfa.specs.Runs.{size};
-ghost use Rattle.byte_nfa.specs.Steps.{Machine, state};
+ghost use Rattle.byte_nfa.specs.Steps.{NfaValue, state};
 ghost use Rattle.byte_filter.specs.inner.Cuts.{AreForced, AreRequired, ReadsThree, Stands};
 ghost use Rattle.byte_filter.specs.inner.Others.{AreRequiredBytes};
 
-use byte_nfa::Draft;
+use byte_nfa::Nfa;
 use std::alloc::{AllocError, Global};
 
 /// The keys of windows of four bytes are not below this, and those of three bytes are. A folded byte is not 0.
@@ -36,7 +36,7 @@ impl StartWindows {
 }
 
 /// Returns the byte that each state forces, folded, or 0 where it forces none. Returns an error if memory runs out.
-pub fn forced_bytes(alloc: Global, automaton: &Draft) -> Result<Vec<u8>, AllocError>
+pub fn forced_bytes(alloc: Global, automaton: &Nfa) -> Result<Vec<u8>, AllocError>
     ensures { IfOk result (λ bytes. AreForced automaton.now bytes.items) }
 {
     let mut bytes = Vec::new(alloc);
@@ -47,7 +47,7 @@ pub fn forced_bytes(alloc: Global, automaton: &Draft) -> Result<Vec<u8>, AllocEr
 }
 
 /// Returns the byte that a state forces, folded, or 0 if it forces none.
-fn forced_byte(automaton: &Draft, s: usize) -> u8
+fn forced_byte(automaton: &Nfa, s: usize) -> u8
     requires { s < size automaton.now }
     ensures { 0 < result → Forces (state automaton.now.states s) s result }
 {
@@ -62,7 +62,7 @@ fn forced_byte(automaton: &Draft, s: usize) -> u8
 ///
 /// It reads the states from `start` down to an end.
 pub fn find_required(
-    automaton: &Draft,
+    automaton: &Nfa,
     bytes: &[u8],
     start: usize,
     windows: &mut StartWindows,
@@ -96,7 +96,7 @@ pub fn find_required(
 /// Pushes what the state `s` forces, if every text comes to `s`: if no state above it goes on to one below `least`, and `s` is not
 /// above that.
 fn push_required(
-    automaton: &Draft,
+    automaton: &Nfa,
     bytes: &[u8],
     start: usize,
     least: usize,
@@ -120,7 +120,7 @@ fn push_required(
 /// Pushes the byte that the state `s` forces, if it is not 0. Every text comes to `s`: no state above it goes on to one below
 /// `least`, and `s` is not above that.
 fn push_byte(
-    automaton: &Draft,
+    automaton: &Nfa,
     byte: u8,
     start: usize,
     least: usize,
@@ -141,7 +141,7 @@ fn push_byte(
 
 /// Pushes the keys of the windows that the state `s` forces. Every text comes to `s`, as for `push_byte`.
 fn push_windows(
-    automaton: &Draft,
+    automaton: &Nfa,
     bytes: &[u8],
     start: usize,
     least: usize,
@@ -171,7 +171,7 @@ fn push_windows(
 /// below it force them.
 fn forced_three(bytes: &[u8], s: usize) -> Option<u32>
     requires { s < length bytes.now }
-    ensures { MatchOption result (Unit {0}) (λ key. (3 ≤ s) × (key < 16777216) × ((m : Machine) → AreForced m bytes.now → ReadsThree m.states s key)) }
+    ensures { MatchOption result (Unit {0}) (λ key. (3 ≤ s) × (key < 16777216) × ((m : NfaValue) → AreForced m bytes.now → ReadsThree m.states s key)) }
 {
     if s < 3 {
         return None;

@@ -1,6 +1,6 @@
 -- What a push adds to an automaton.
 use Rattle.std.specs.Prelude.{◌≡◌, ℕ, ◌+◌, ◌<◌, ◌≤◌, List, [], ◌∷◌, ◌++◌, length}
-use Rattle.byte_nfa.specs.Steps.{State, state, Machine}
+use Rattle.byte_nfa.specs.Steps.{State, state, NfaValue}
 
 -- two lists have the same states from low on, below high
 abbrev pub Agrees : List State → List State → ℕ → ℕ → Type 0
@@ -15,7 +15,7 @@ abbrev pub Adds : List State → List State → ℕ → State → Type 0
 Adds old new s st = (a : List State) (low : ℕ) → low ≤ length old → Agrees a new low (length new) → state a s ≡ st
 
 -- the state st was pushed, and has the number s; `keeps` and `adds` follow from `states`
-pub record Pushes (old new : Machine) (s : ℕ) (st : State) : Type 0 where
+pub record Pushes (old new : NfaValue) (s : ℕ) (st : State) : Type 0 where
   pub at : s ≡ length old.states
   pub states : new.states ≡ old.states ++ st ∷ []
   pub starts : new.starts ≡ old.starts

@@ -3,7 +3,7 @@ use Rattle.std.specs.Prelude.{◌≡◌, ℕ, ◌<◌, ◌&&◌, ◌||◌, ◌==
 use Rattle.byte_nfa.specs.Runs.{size, AcceptsFrom}
 use Rattle.bit_sets.specs.Bytes.{has_byte}
 use Rattle.bit_sets.specs.StateSets.{has_state, state_capacity}
-use Rattle.byte_nfa.specs.Steps.{Accepts, Machine}
+use Rattle.byte_nfa.specs.Steps.{Accepts, NfaValue}
 use Rattle.byte_nfa.specs.declared.byte_steps.ByteSteps.{ByteSteps}
 use Rattle.byte_nfa.specs.declared.byte_steps.Step.{Step}
 use Rattle.bit_sets.specs.declared.state_set.StateSet.{StateSet}
@@ -39,5 +39,5 @@ abbrev pub step_capacity : ByteSteps → ℕ
 step_capacity steps = state_capacity steps.by_every
 
 -- a byte and what follows it lead from the set to an end exactly if what follows leads there from a state that the byte leads to
-abbrev pub AreStepsOf : Machine → StateSet → ByteSteps → Type 0
+abbrev pub AreStepsOf : NfaValue → StateSet → ByteSteps → Type 0
 AreStepsOf m from steps = (b : ℕ) → b < 256 → (y : List ℕ) (k : ℕ) → AcceptsFrom m from (b ∷ y) k ↔ ((t : ℕ) × (t < size m) × IsTrue (leads_to steps b t) × Accepts m.states k t y)

@@ -2,7 +2,7 @@
 use Rattle.std.specs.Prelude.{◌≡◌, ℕ, ◌+◌, ◌*◌, ◌<◌, ◌⊎◌, List, [], ◌∷◌, length}
 use Rattle.bit_sets.specs.declared.byte_set.ByteSet.{ByteSet}
 use Rattle.bit_sets.specs.Bytes.{HasEvery}
-use Rattle.byte_nfa.specs.Steps.{State, loop_state, match_state, state, Machine}
+use Rattle.byte_nfa.specs.Steps.{State, loop_state, match_state, state, NfaValue}
 
 -- the state s stays on every byte, and goes on to one state, which is an end of the index k
 abbrev pub Decides : List State → ℕ → ℕ → Type 0
@@ -14,7 +14,7 @@ IsAtEarlyMatch a n s st = ((k : ℕ) × Decides a s k × (st ≡ match_state (n 
 
 -- the new automaton is the old one with an end in place of each state that decides an index; the indexes of these ends are
 -- above the old indexes
-pub record EndsAtEarlyMatches (old new : Machine) : Type 0 where
+pub record EndsAtEarlyMatches (old new : NfaValue) : Type 0 where
   pub below : (s k : ℕ) → state old.states s ≡ match_state k → k < old.index_count
   pub states : (s : ℕ) → IsAtEarlyMatch old.states old.index_count s (state new.states s)
   pub len : length new.states ≡ length old.states

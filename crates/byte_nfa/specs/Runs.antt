@@ -2,34 +2,34 @@
 use Rattle.std.specs.Prelude.{ℕ, ◌+◌, ◌*◌, ◌<◌, ◌↔◌, List, [], ◌∷◌, ◌++◌, length, IsTrue}
 use Rattle.bit_sets.specs.Bytes.{has_byte}
 use Rattle.bit_sets.specs.StateSets.{has_state}
-use Rattle.byte_nfa.specs.Steps.{Accepts, Machine, IsReached}
+use Rattle.byte_nfa.specs.Steps.{Accepts, NfaValue, IsReached}
 use Rattle.bit_sets.specs.declared.byte_set.ByteSet.{ByteSet}
 use Rattle.bit_sets.specs.declared.state_set.StateSet.{StateSet}
 
 -- the number of states
-abbrev pub size : Machine → ℕ
+abbrev pub size : NfaValue → ℕ
 size m = length m.states
 
 -- the most reads of an automaton for each position of a text: its states, and for each start three entries of a filter
-abbrev pub max_reads : Machine → ℕ
+abbrev pub max_reads : NfaValue → ℕ
 max_reads m = size m + 3 * length m.starts
 
 -- from some state of the set the text leads to an end of the index k
-abbrev pub AcceptsFrom : Machine → StateSet → List ℕ → ℕ → Type 0
+abbrev pub AcceptsFrom : NfaValue → StateSet → List ℕ → ℕ → Type 0
 AcceptsFrom m set y k = (t : ℕ) × (t < size m) × IsTrue (has_state set t) × Accepts m.states k t y
 
 -- the same of the states below a bound alone
-abbrev pub AcceptsBelow : Machine → ℕ → StateSet → List ℕ → ℕ → Type 0
+abbrev pub AcceptsBelow : NfaValue → ℕ → StateSet → List ℕ → ℕ → Type 0
 AcceptsBelow m high set y k = (t : ℕ) × (t < high) × IsTrue (has_state set t) × Accepts m.states k t y
 
 -- some state of the automaton is in the set
-abbrev pub HasSome : Machine → StateSet → Type 0
+abbrev pub HasSome : NfaValue → StateSet → Type 0
 HasSome m set = (t : ℕ) × (t < size m) × IsTrue (has_state set t)
 
 -- the set has exactly the states that lead to some end without a byte
-abbrev pub AreAccepting : Machine → StateSet → Type 0
+abbrev pub AreAccepting : NfaValue → StateSet → Type 0
 AreAccepting m set = (s : ℕ) → s < size m → IsTrue (has_state set s) ↔ ((k : ℕ) × Accepts m.states k s [])
 
 -- the set has the last byte of each text that leads to an end
-abbrev pub HasLastBytes : Machine → ByteSet → Type 0
+abbrev pub HasLastBytes : NfaValue → ByteSet → Type 0
 HasLastBytes m set = (y : List ℕ) (b k : ℕ) → IsReached m (y ++ b ∷ []) k → IsTrue (has_byte set b)

@@ -1,12 +1,12 @@
 -- States that follow each other, and that lead nowhere else.
 use Rattle.std.specs.Prelude.{◌≡◌, ℕ, ◌<◌, ◌≤◌, false, IsTrue}
 use Rattle.bit_sets.specs.StateSets.{has_state}
-use Rattle.byte_nfa.specs.Steps.{Machine, state}
+use Rattle.byte_nfa.specs.Steps.{NfaValue, state}
 use Rattle.byte_nfa.specs.inner.Views.{GoesFrom}
 use Rattle.bit_sets.specs.declared.state_set.StateSet.{StateSet}
 
 -- no state from low on and below high goes on to a state below low
-abbrev pub IsClosed : Machine → ℕ → ℕ → Type 0
+abbrev pub IsClosed : NfaValue → ℕ → ℕ → Type 0
 IsClosed m low high = (s : ℕ) → low ≤ s → s < high → GoesFrom low (state m.states s)
 
 -- no state below low is in the set

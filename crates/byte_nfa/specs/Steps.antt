@@ -29,11 +29,11 @@ pub data Accepts (a : List State) (k : ℕ) : ℕ → List ℕ → Type 0 where
   by_stay : (s c : ℕ) (y : List ℕ) (w : ByteSet) (ts : List ℕ) → state a s ≡ loop_state w ts → IsTrue (has_byte w c) → Accepts a k s y → Accepts a k s (c ∷ y)
 
 -- the value of an automaton: its states, those that it begins in, and a number that the index of each end is below
-pub record Machine : Type 0 where
+pub record NfaValue : Type 0 where
   pub states : List State
   pub starts : List ℕ
   pub index_count : ℕ
 
 -- from some start the text leads to an end of the index k
-abbrev pub IsReached : Machine → List ℕ → ℕ → Type 0
+abbrev pub IsReached : NfaValue → List ℕ → ℕ → Type 0
 IsReached m y k = (s : ℕ) × HasNumber s m.starts × Accepts m.states k s y

@@ -1,14 +1,14 @@
 //! How an automaton is made.
 
 ghost use Rattle.std.specs.Prelude.{◌≡◌, ℕ, ◌<◌, ◌++◌, ◌∷◌, [], List, length, OnOk, OnErr, IfOk, IfSome};
-ghost use Rattle.byte_nfa.specs.Steps.{Machine, bytes_state, union_state, loop_state, match_state};
+ghost use Rattle.byte_nfa.specs.Steps.{NfaValue, bytes_state, union_state, loop_state, match_state};
 ghost use Rattle.bit_sets.specs.Numbers.{AreBelow};
 ghost use Rattle.byte_nfa.specs.Building.{Pushes};
 ghost use Rattle.byte_nfa.specs.Runs.{size};
 ghost use Rattle.bit_sets.specs.declared.byte_set.ByteSet.{ByteSet};
-ghost use Rattle.byte_nfa.specs.inner.Views.{AreSound, machine, set_at};
+ghost use Rattle.byte_nfa.specs.inner.Views.{AreSound, nfa, set_at};
 
-use crate::draft::Draft;
+use crate::nfa::Nfa;
 use crate::state::State;
 use bit_sets::ByteSet;
 use std::alloc::{AllocError, Global};
@@ -60,9 +60,9 @@ impl Drop for Builder {
 }
 
 impl Model for Builder {
-    ghost Value = { Machine };
+    ghost Value = { NfaValue };
 
-    ghost view = { λ b. machine b.sets.items b.targets.items b.states.items b.starts.items b.index_count };
+    ghost view = { λ b. nfa b.sets.items b.targets.items b.states.items b.starts.items b.index_count };
 
     ghost invariant = { λ b. AreSound b.sets.items b.targets.items b.states.items b.starts.items b.index_count };
 }
@@ -152,7 +152,7 @@ impl Builder {
 
     /// Returns the automaton, which is not run yet. It may take time linear in the states, to give back memory that they do not
     /// need.
-    pub fn finish(self) -> Draft
+    pub fn finish(self) -> Nfa
         ensures { result ≡ self }
     {
         let Builder {
@@ -168,7 +168,7 @@ impl Builder {
         sets.shrink_to_fit();
         targets.shrink_to_fit();
         starts.shrink_to_fit();
-        Draft::from_parts(states, sets, targets, starts, count)
+        Nfa::from_parts(states, sets, targets, starts, count)
     }
 }
 

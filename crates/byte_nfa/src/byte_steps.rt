@@ -3,7 +3,7 @@
 ghost use Rattle.bit_sets.specs.StateSets.{state_capacity};
 ghost use Rattle.byte_nfa.specs.inner.StepCapacity.{AreWithin};
 
-use crate::draft::Draft;
+use crate::nfa::Nfa;
 use bit_sets::{ByteSet, StateSet, Visits};
 use std::alloc::{AllocError, Global};
 
@@ -16,7 +16,7 @@ struct Step {
 
 /// The steps by a byte from the states of a set.
 ///
-/// [`Draft::byte_steps`] makes them in one pass over the states. After that [`ByteSteps::add_to`] finds what a byte leads
+/// [`Nfa::byte_steps`] makes them in one pass over the states. After that [`ByteSteps::add_to`] finds what a byte leads
 /// to in less time than a pass for each byte takes.
 #[derive(Drop)]
 pub struct ByteSteps {
@@ -31,7 +31,7 @@ impl ByteSteps {
     ghost use Rattle.std.specs.Prelude.{◌≡◌, ℕ, ◌+◌, ◌<◌, ◌≤◌, ◌&&◌, ◌||◌, ◌==◌, ◌↔◌, ◌∷◌, List, false, IsFalse, IsTrue, IfOk, OnOk};
     ghost use Rattle.bit_sets.specs.Bytes.{has_byte};
     ghost use Rattle.bit_sets.specs.StateSets.{has_state};
-    ghost use Rattle.byte_nfa.specs.Steps.{Machine};
+    ghost use Rattle.byte_nfa.specs.Steps.{NfaValue};
     ghost use Rattle.byte_nfa.specs.Runs.{AcceptsFrom};
     ghost use Rattle.bit_sets.specs.declared.state_set.StateSet.{StateSet};
     ghost use Rattle.byte_nfa.specs.ByteSteps.{is_by_some, leads_to, step_capacity, AreStepsOf, LeadAlike, LeadsAsEvery};
@@ -130,7 +130,7 @@ impl ByteSteps {
     }
 }
 
-impl Draft {
+impl Nfa {
     ghost use Rattle.std.specs.Prelude.{◌≡◌, ◌≤◌, OnOk};
     ghost use Rattle.byte_nfa.specs.Runs.{size};
     ghost use Rattle.byte_nfa.specs.ByteSteps.{step_capacity, AreStepsOf};

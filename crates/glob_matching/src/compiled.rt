@@ -13,8 +13,8 @@ use crate::rows::{RowCache, RowSource};
 use crate::simulation;
 use crate::table::Table;
 use bit_sets::{IndexSet, Visits};
-use byte_nfa::Draft;
-use nfa_simulation::{Nfa, StateSets};
+use byte_nfa::Nfa;
+use nfa_simulation::{Simulation, StateSets};
 use std::alloc::{AllocError, Global};
 use std::marker::Model;
 
@@ -22,7 +22,7 @@ use std::marker::Model;
 #[derive(Drop)]
 enum Strategy {
     Table(Box<Table>),
-    Whole(Nfa),
+    Whole(Simulation),
     Filtered(Box<Filtered>),
 }
 
@@ -46,14 +46,14 @@ impl Drop for Compiled {
 
 impl Model for Compiled {
     ghost use Rattle.std.specs.Prelude.{◌≡◌, IfSome};
-    ghost use Rattle.byte_nfa.specs.Steps.{Machine};
-    ghost use Rattle.glob_matching.specs.inner.Compiled.{machine_of};
+    ghost use Rattle.byte_nfa.specs.Steps.{NfaValue};
+    ghost use Rattle.glob_matching.specs.inner.Compiled.{nfa_of};
 
-    ghost Value = { Machine };
+    ghost Value = { NfaValue };
 
-    ghost view = { λ c. machine_of c.strategy };
+    ghost view = { λ c. nfa_of c.strategy };
 
-    ghost invariant = { λ c. IfSome c.rows (λ r. r ≡ machine_of c.strategy) };
+    ghost invariant = { λ c. IfSome c.rows (λ r. r ≡ nfa_of c.strategy) };
 }
 
 impl Compiled {
@@ -68,7 +68,7 @@ impl Compiled {
     ///
     /// Otherwise it is simulated, from the starts that a filter names if there are four or more. With a budget of no bytes it is
     /// simulated as a whole.
-    pub fn new(alloc: Global, budget: &mut Budget, automaton: Draft) -> Result<Compiled, AllocError>
+    pub fn new(alloc: Global, budget: &mut Budget, automaton: Nfa) -> Result<Compiled, AllocError>
         ensures { IfOk result (λ c. c ≡ automaton) }
     {
         Compiled::of(alloc, budget, automaton, None)
@@ -80,7 +80,7 @@ impl Compiled {
     pub fn with_rows(
         alloc: Global,
         budget: &mut Budget,
-        automaton: Draft,
+        automaton: Nfa,
         all_states: usize,
     ) -> Result<Compiled, AllocError>
         ensures { IfOk result (λ c. c ≡ automaton) }
@@ -93,13 +93,13 @@ impl Compiled {
     fn of(
         alloc: Global,
         budget: &mut Budget,
-        automaton: Draft,
+        automaton: Nfa,
         all_states: Option<usize>,
     ) -> Result<Compiled, AllocError>
         ensures { IfOk result (λ c. c ≡ automaton) }
     {
         if automaton.state_count() == 0 {
-            return Ok(Compiled::simulated(Nfa::new(automaton)));
+            return Ok(Compiled::simulated(Simulation::new(automaton)));
         }
         if let Some(table) = Table::new(alloc, budget, &automaton)? {
             return Ok(Compiled {
@@ -118,30 +118,26 @@ impl Compiled {
 
     /// Returns an automaton that is simulated: from the starts that a filter names, if the budget has bytes and there are four
     /// starts or more. Returns an error if memory runs out.
-    fn without_table(
-        alloc: Global,
-        budget: Budget,
-        automaton: Draft,
-    ) -> Result<Compiled, AllocError>
+    fn without_table(alloc: Global, budget: Budget, automaton: Nfa) -> Result<Compiled, AllocError>
         ensures { IfOk result (λ c. c ≡ automaton) }
     {
         if budget.simulates_all() {
-            return Ok(Compiled::simulated(Nfa::with_blocks(automaton)?));
+            return Ok(Compiled::simulated(Simulation::with_blocks(automaton)?));
         }
         match filter_for(alloc, &automaton)? {
             Some(filter) => {
-                let filtered = Filtered::of(Nfa::with_blocks(automaton)?, filter);
+                let filtered = Filtered::of(Simulation::with_blocks(automaton)?, filter);
                 Ok(Compiled {
                     strategy: Strategy::Filtered(Box::new(alloc, filtered)?),
                     rows: None,
                 })
             }
-            None => Ok(Compiled::simulated(Nfa::with_blocks(automaton)?)),
+            None => Ok(Compiled::simulated(Simulation::with_blocks(automaton)?)),
         }
     }
 
     /// Returns an automaton that is simulated as a whole. It allocates nothing.
-    pub fn simulated(automaton: Nfa) -> Compiled
+    pub fn simulated(automaton: Simulation) -> Compiled
         ensures { result ≡ automaton }
     {
         Compiled {
@@ -366,7 +362,7 @@ impl Compiled {
 fn rows_for(
     alloc: Global,
     budget: Budget,
-    automaton: &Draft,
+    automaton: &Nfa,
     all_states: usize,
 ) -> Result<Option<RowSource>, AllocError>
     ensures { IfOk result (λ made. IfSome made (λ rows. rows ≡ automaton.now)) }

@@ -13,14 +13,14 @@ use crate::rows::RowCache;
 use crate::simulation;
 use bit_sets::{IndexSet, Visits};
 use byte_filter::StartFilter;
-use byte_nfa::Draft;
-use nfa_simulation::{Nfa, Span, StateSets};
+use byte_nfa::Nfa;
+use nfa_simulation::{Simulation, Span, StateSets};
 use std::alloc::{AllocError, Global};
 use std::marker::Model;
 
 /// An automaton, and a filter that names the starts that a text may lead from to an end. Contracts see the automaton.
 pub struct Filtered {
-    automaton: Nfa,
+    automaton: Simulation,
     filter: StartFilter,
 }
 
@@ -35,11 +35,11 @@ impl Drop for Filtered {
 }
 
 impl Model for Filtered {
-    ghost use Rattle.byte_nfa.specs.Steps.{Machine};
+    ghost use Rattle.byte_nfa.specs.Steps.{NfaValue};
     ghost use Rattle.byte_filter.specs.Starts.{IsFilterOf};
     ghost use Rattle.glob_matching.specs.inner.Filtered.{AreApart};
 
-    ghost Value = { Machine };
+    ghost Value = { NfaValue };
 
     ghost view = { λ f. f.automaton };
 
@@ -48,7 +48,7 @@ impl Model for Filtered {
 
 impl Filtered {
     /// Returns an automaton with a filter for it.
-    pub fn of(automaton: Nfa, filter: StartFilter) -> Filtered
+    pub fn of(automaton: Simulation, filter: StartFilter) -> Filtered
         requires filter { IsFilterOf automaton filter }
         requires apart { AreApart automaton }
         ensures { result ≡ automaton }
@@ -212,7 +212,7 @@ fn has_at_most(most: usize, set: &IndexSet, bound: usize) -> bool {
 
 /// Returns a filter for an automaton, or `None` if there are fewer than four starts, or if a run from one start comes to states
 /// of another. Returns an error if memory runs out. It takes time and memory linear in the states.
-pub fn filter_for(alloc: Global, automaton: &Draft) -> Result<Option<StartFilter>, AllocError>
+pub fn filter_for(alloc: Global, automaton: &Nfa) -> Result<Option<StartFilter>, AllocError>
     ensures { IfOk result (λ made. IfSome made (λ filter. IsFilterOf automaton.now filter × AreApart automaton.now)) }
 {
     if !are_apart(automaton) {
@@ -222,7 +222,7 @@ pub fn filter_for(alloc: Global, automaton: &Draft) -> Result<Option<StartFilter
 }
 
 /// Returns whether a run from each start comes to no state but those behind the start before it. It reads each state.
-fn are_apart(automaton: &Draft) -> bool
+fn are_apart(automaton: &Nfa) -> bool
     ensures { IsTrue result → AreApart automaton.now }
 {
     let _states = automaton.state_count();
@@ -236,7 +236,7 @@ fn are_apart(automaton: &Draft) -> bool
 }
 
 /// Returns the states of a start: those behind the start before it.
-fn span_of(automaton: &Draft, i: usize) -> Span
+fn span_of(automaton: &Nfa, i: usize) -> Span
     requires { i < length automaton.now.starts }
     ensures span { result ≡ span_at automaton.now.starts i }
     ensures exists { result.start < size automaton.now }
@@ -251,7 +251,7 @@ fn span_of(automaton: &Draft, i: usize) -> Span
 }
 
 /// Returns the states of a start: those behind the start before it. It reads both starts, each of which is a visit.
-fn read_span(automaton: &Nfa, i: usize, visits: &mut Visits) -> Span
+fn read_span(automaton: &Simulation, i: usize, visits: &mut Visits) -> Span
     requires { i < length automaton.now.starts }
     ensures span { result ≡ span_at automaton.now.starts i }
     ensures exists { result.start < size automaton.now }
@@ -273,7 +273,7 @@ fn read_span(automaton: &Nfa, i: usize, visits: &mut Visits) -> Span
 /// Marks the starts that a text may lead from to an end, and no others than the filter names. It makes room in the sets for the
 /// states and starts. Returns an error if memory runs out.
 fn mark(
-    automaton: &Nfa,
+    automaton: &Simulation,
     filter: &StartFilter,
     text: &[u8],
     sets: &mut StateSets,
@@ -296,7 +296,7 @@ fn mark(
 
 /// Puts the index of each end that a text leads to from a marked start into a set, beside what it holds.
 fn find_from_marked(
-    automaton: &Nfa,
+    automaton: &Simulation,
     text: &[u8],
     sets: &mut StateSets,
     found: &mut IndexSet,
@@ -322,7 +322,7 @@ fn find_from_marked(
 
 /// Returns whether a text leads from a marked start to some end.
 fn is_match_from_marked(
-    automaton: &Nfa,
+    automaton: &Simulation,
     text: &[u8],
     sets: &mut StateSets,
     visits: &mut Visits,

@@ -9,7 +9,7 @@ ghost use Rattle.nfa_sharing.specs.Sharing.{Shares};
 
 use crate::turns::Turns;
 use bit_sets::{IndexSet, Visits};
-use byte_nfa::Draft;
+use byte_nfa::Nfa;
 use lazy_dfa::{Cache, LazyDfa};
 use nfa_sharing::shared;
 use std::alloc::{AllocError, Global};
@@ -23,7 +23,7 @@ pub struct RowSource {
     dfa: Arc<LazyDfa>,
     /// How many bytes the rows of a thread take.
     cache_bytes: usize,
-    source: Snapshot<Draft>,
+    source: Snapshot<Nfa>,
 }
 
 impl Drop for RowSource {
@@ -39,10 +39,10 @@ impl Drop for RowSource {
 
 impl Model for RowSource {
     ghost use Rattle.std.specs.Arc.{arc_value};
-    ghost use Rattle.byte_nfa.specs.Steps.{Machine};
+    ghost use Rattle.byte_nfa.specs.Steps.{NfaValue};
     ghost use Rattle.nfa_sharing.specs.Sharing.{Shares};
 
-    ghost Value = { Machine };
+    ghost Value = { NfaValue };
 
     ghost view = { λ r. r.source.value };
 
@@ -74,10 +74,10 @@ impl Drop for RowCache {
 impl Model for RowCache {
     ghost use Rattle.std.specs.Arc.{arc_value};
     ghost use Rattle.std.specs.Prelude.{◌≡◌};
-    ghost use Rattle.byte_nfa.specs.Steps.{Machine};
+    ghost use Rattle.byte_nfa.specs.Steps.{NfaValue};
     ghost use Rattle.nfa_sharing.specs.Sharing.{Shares};
 
-    ghost Value = { Machine };
+    ghost Value = { NfaValue };
 
     ghost view = { λ r. r.made_for.value };
 
@@ -92,7 +92,7 @@ impl RowSource {
     /// memory runs out.
     pub fn new(
         alloc: Global,
-        automaton: &Draft,
+        automaton: &Nfa,
         all_states: usize,
     ) -> Result<Option<RowSource>, AllocError>
         ensures { IfOk result (λ made. IfSome made (λ rows. rows ≡ automaton.now)) }
@@ -114,8 +114,8 @@ impl RowSource {
     /// Returns what rows of an automaton are made from, by one that leads to the same ends. The rows take at most `share` bytes.
     fn of(
         alloc: Global,
-        automaton: &Draft,
-        sharing: &Draft,
+        automaton: &Nfa,
+        sharing: &Nfa,
         share: usize,
     ) -> Result<Option<RowSource>, AllocError>
         requires { Shares automaton.now sharing.now }

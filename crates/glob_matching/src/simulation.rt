@@ -8,13 +8,13 @@ ghost use Rattle.nfa_simulation.specs.Sets.{sets_capacity};
 ghost use Rattle.byte_nfa.specs.Steps.{IsReached};
 
 use bit_sets::{IndexSet, Visits};
-use nfa_simulation::{Nfa, StateSets};
+use nfa_simulation::{Simulation, StateSets};
 use std::alloc::AllocError;
 
 /// Puts the index of each end that a text leads to into a set, beside what it holds. It makes room in the sets of states for those
 /// of the automaton. Returns an error if memory runs out.
 pub fn find(
-    automaton: &Nfa,
+    automaton: &Simulation,
     text: &[u8],
     sets: &mut StateSets,
     found: &mut IndexSet,
@@ -36,7 +36,7 @@ pub fn find(
 /// Returns whether a text leads to some end. It makes room in the sets of states for those of the automaton. Returns an error if
 /// memory runs out.
 pub fn is_match(
-    automaton: &Nfa,
+    automaton: &Simulation,
     text: &[u8],
     sets: &mut StateSets,
     visits: &mut Visits,
@@ -54,7 +54,7 @@ pub fn is_match(
 /// Returns whether some text that begins with `text` and then `byte` leads to some end. It makes room in the sets of states for
 /// those of the automaton. Returns an error if memory runs out.
 pub fn can_match_after(
-    automaton: &Nfa,
+    automaton: &Simulation,
     text: &[u8],
     byte: u8,
     sets: &mut StateSets,

@@ -9,7 +9,7 @@ ghost use Rattle.byte_nfa.specs.Steps.{IsReached};
 use crate::budget::Budget;
 use bit_sets::{IndexSet, Visits};
 use byte_dfa::Dfa;
-use byte_nfa::Draft;
+use byte_nfa::Nfa;
 use std::alloc::{AllocError, Global};
 use std::marker::Model;
 
@@ -53,10 +53,10 @@ impl Drop for Table {
 }
 
 impl Model for Table {
-    ghost use Rattle.byte_nfa.specs.Steps.{Machine};
+    ghost use Rattle.byte_nfa.specs.Steps.{NfaValue};
     ghost use Rattle.glob_matching.specs.inner.Table.{IsMeasured};
 
-    ghost Value = { Machine };
+    ghost Value = { NfaValue };
 
     ghost view = { λ t. t.dfa.source };
 
@@ -69,7 +69,7 @@ impl Table {
     pub fn new(
         alloc: Global,
         budget: &mut Budget,
-        automaton: &Draft,
+        automaton: &Nfa,
     ) -> Result<Option<Table>, AllocError>
         ensures { IfOk result (λ made. IfSome made (λ table. table ≡ automaton.now)) }
     {

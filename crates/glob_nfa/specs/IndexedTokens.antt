@@ -4,7 +4,7 @@ use Rattle.glob_syntax.specs.declared.options.Options.{Options}
 use Rattle.glob_syntax.specs.Token.{Tokens}
 use Rattle.glob_syntax.specs.TokensMatch.{tokens_match}
 use Rattle.glob_syntax.specs.After.{MeanAfter}
-use Rattle.byte_nfa.specs.Steps.{State, HasNumber, Accepts, Machine}
+use Rattle.byte_nfa.specs.Steps.{State, HasNumber, Accepts, NfaValue}
 use Rattle.byte_nfa.specs.Building.{Agrees}
 use Rattle.bit_sets.specs.Texts.{AllBytes}
 
@@ -38,6 +38,6 @@ SomeMeanAfter (x ∷ xs) y = MeanAfter x.options x.tokens y ⊎ SomeMeanAfter xs
 
 -- From its starts the automaton accepts the paths that these tokens match, each for its index. So does each automaton with
 -- the same starts that begins with these states.
-abbrev pub IsFor : Machine → List IndexedTokens → Type 0
+abbrev pub IsFor : NfaValue → List IndexedTokens → Type 0
 IsFor m xs = (a : List State) → Agrees a m.states 0 (length m.states) → (path : List ℕ) (k : ℕ) → AllBytes path
     → ((s : ℕ) × HasNumber s m.starts × Accepts a k s path) ↔ SomeMatches xs path k

@@ -1,7 +1,7 @@
 -- Globs that are matched against every beginning of a text, while it is read.
 use Rattle.std.specs.Prelude.{◌≤◌, ◌↔◌, ℕ, List, ◌++◌}
 use Rattle.byte_nfa.specs.Runs.{size, AcceptsFrom}
-use Rattle.byte_nfa.specs.Steps.{Machine, IsReached}
+use Rattle.byte_nfa.specs.Steps.{NfaValue, IsReached}
 use Rattle.bit_sets.specs.Texts.{AllBytes}
 use Rattle.bit_sets.specs.declared.state_set.StateSet.{StateSet}
 use Rattle.globset_glob.specs.GlobMatches.{GlobValue, glob_matches}
@@ -13,15 +13,15 @@ use Rattle.set_matcher.specs.Indexes.{passing_indexes}
 -- is its position in the list.
 pub record PrefixMatcherValue : Type 0 where
   pub globs : List GlobValue
-  pub machine : Machine
+  pub nfa : NfaValue
 
 -- the number of states of a matcher, which is the most visits for a byte
 abbrev pub prefix_states : PrefixMatcherValue → ℕ
-prefix_states m = size m.machine
+prefix_states m = size m.nfa
 
 -- how many globs may be added to a builder in all
 abbrev pub max_globs : PrefixMatcherValue → ℕ
-max_globs b = b.machine.index_count
+max_globs b = b.nfa.index_count
 
 -- ---- states
 
@@ -45,7 +45,7 @@ FitAsBefore old new = (m : PrefixMatcherValue) → FitsPrefixes old m → FitsPr
 -- The states are those of the matcher after this text: what follows leads from them to the ends that it leads to after the text.
 pub record IsAfter (m : PrefixMatcherValue) (held : PrefixStatesValue) (text : List ℕ) : Type 0 where
   pub bytes : AllBytes text
-  pub leads : (y : List ℕ) (k : ℕ) → AcceptsFrom m.machine held.current y k ↔ IsReached m.machine (text ++ y) k
+  pub leads : (y : List ℕ) (k : ℕ) → AcceptsFrom m.nfa held.current y k ↔ IsReached m.nfa (text ++ y) k
 
 -- ---- what is found
 

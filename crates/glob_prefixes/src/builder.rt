@@ -9,7 +9,7 @@ use byte_nfa::Builder;
 use glob_nfa::{add_tokens, new_builder};
 use glob_text::GivenGlobs;
 use globset_glob::{Glob, options_of, text_of, tokens_of};
-use nfa_simulation::Nfa;
+use nfa_simulation::Simulation;
 use std::alloc::{AllocError, Global};
 use std::marker::Model;
 
@@ -42,7 +42,7 @@ impl Model for PrefixMatcherBuilder {
 
     ghost view = { λ b. record {
       globs = b.globs;
-      machine = b.automaton;
+      nfa = b.automaton;
     } };
 
     ghost invariant = { λ b. AreAdded b.globs b.automaton b.added };
@@ -92,7 +92,7 @@ impl PrefixMatcherBuilder {
             automaton,
             added: _,
         } = self;
-        let automaton = Nfa::with_blocks(automaton.finish())?;
+        let automaton = Simulation::with_blocks(automaton.finish())?;
         Ok(PrefixMatcher { globs, automaton })
     }
 }

@@ -9,7 +9,7 @@ ghost use Rattle.glob_prefixes.specs.Prefixes.{FitAsBefore, FitsPrefixes, IsAfte
 use crate::states::PrefixStates;
 use bit_sets::{IndexSet, StateSet, Visits};
 use glob_text::GivenGlobs;
-use nfa_simulation::Nfa;
+use nfa_simulation::Simulation;
 use std::marker::Model;
 use std::mem::swap;
 
@@ -22,7 +22,7 @@ use std::mem::swap;
 /// It has at most four states for each byte of a glob's text, or 16 under `whole_character`, and four more for each glob.
 pub struct PrefixMatcher {
     pub(crate) globs: GivenGlobs,
-    pub(crate) automaton: Nfa,
+    pub(crate) automaton: Simulation,
 }
 
 impl Drop for PrefixMatcher {
@@ -43,7 +43,7 @@ impl Model for PrefixMatcher {
 
     ghost view = { λ m. record {
       globs = m.globs;
-      machine = m.automaton;
+      nfa = m.automaton;
     } };
 
     ghost invariant = { λ m. IsPrefixMatcherOf m.globs m.automaton };
@@ -137,7 +137,7 @@ impl PrefixMatcher {
         requires states { prefix_states self.now ≤ state_capacity current.now }
         requires asked { state_capacity asked.old ≡ state_capacity current.now }
         requires marks { max_globs self.now ≤ index_capacity marks.old }
-        ensures marked { (k : ℕ) → IsTrue (has_index marks.new k) ↔ AcceptsFrom self.now.machine current.now [] k }
+        ensures marked { (k : ℕ) → IsTrue (has_index marks.new k) ↔ AcceptsFrom self.now.nfa current.now [] k }
         ensures asked { state_capacity asked.new ≡ state_capacity current.now }
         ensures marks { index_capacity marks.new ≡ index_capacity marks.old }
         ensures visits { visits.new ≤ visits.old + prefix_states self.now }

@@ -1,12 +1,12 @@
 //! What the caches of all threads are made for.
 
 ghost use Rattle.std.specs.Prelude.{◌≡◌, IfOk, IfSome};
-ghost use Rattle.byte_nfa.specs.Steps.{Machine};
+ghost use Rattle.byte_nfa.specs.Steps.{NfaValue};
 ghost use Rattle.lazy_dfa.specs.inner.Sources.{IsMadeOf};
 
 use bit_sets::StateSet;
 use byte_dfa::ByteClasses;
-use byte_nfa::Draft;
+use byte_nfa::Nfa;
 use std::alloc::{AllocError, Global};
 use std::marker::Model;
 use std::snapshot::Snapshot;
@@ -15,11 +15,11 @@ use std::snapshot::Snapshot;
 pub struct LazyDfa {
     /// The automaton with an end in place of each state that decides an index. So an index that is decided is found once, and then
     /// takes no state any more.
-    pub(crate) automaton: Draft,
+    pub(crate) automaton: Nfa,
     pub(crate) classes: ByteClasses,
     /// The states from which some bytes lead to an end.
     pub(crate) live: StateSet,
-    pub(crate) source: Snapshot<Draft>,
+    pub(crate) source: Snapshot<Nfa>,
 }
 
 impl Drop for LazyDfa {
@@ -35,7 +35,7 @@ impl Drop for LazyDfa {
 }
 
 impl Model for LazyDfa {
-    ghost Value = { Machine };
+    ghost Value = { NfaValue };
 
     ghost view = { λ d. d.source.value };
 
@@ -47,7 +47,7 @@ impl LazyDfa {
     ///
     /// It reads each state, and takes about as much memory as the automaton. Returns `None` if twice as many indexes are too many
     /// for a `usize`, and an error if memory runs out.
-    pub fn new(alloc: Global, automaton: &Draft) -> Result<Option<LazyDfa>, AllocError>
+    pub fn new(alloc: Global, automaton: &Nfa) -> Result<Option<LazyDfa>, AllocError>
         ensures { IfOk result (λ made. IfSome made (λ dfa. dfa ≡ automaton.now)) }
     {
         let Some(early_match) = automaton.with_early_matches()? else {

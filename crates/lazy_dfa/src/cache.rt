@@ -4,7 +4,7 @@ ghost use Rattle.std.specs.Prelude.{◌≡◌, ℕ, ◌+◌, ◌*◌, ◌≤◌,
 ghost use Rattle.bit_sets.specs.Indexes.{has_index, index_capacity};
 ghost use Rattle.byte_nfa.specs.Live.{MatchesAfter};
 ghost use Rattle.byte_nfa.specs.Runs.{size};
-ghost use Rattle.byte_nfa.specs.Steps.{Machine, IsReached};
+ghost use Rattle.byte_nfa.specs.Steps.{NfaValue, IsReached};
 ghost use Rattle.lazy_dfa.specs.inner.Rows.{IsCacheOf};
 
 use crate::automaton::LazyDfa;
@@ -35,7 +35,7 @@ impl Drop for Cache {
 }
 
 impl Model for Cache {
-    ghost Value = { Machine };
+    ghost Value = { NfaValue };
 
     ghost view = { λ c. c.made_for.value };
 

@@ -1,6 +1,6 @@
 //! Deterministic automata over bytes whose rows are made while texts are read, in a memory of fixed size.
 //!
-//! A [`LazyDfa`] is made from a [`byte_nfa::Draft`], and finds exactly what that finds. It can be shared by threads. Each thread has
+//! A [`LazyDfa`] is made from an [`byte_nfa::Nfa`], and finds exactly what that finds. It can be shared by threads. Each thread has
 //! a [`Cache`], which holds the rows that its texts needed so far. A whole table, as `byte_dfa` makes it, may need very many rows
 //! more than texts ever lead to.
 #![tactic(auto)]

@@ -9,7 +9,7 @@ ghost use Rattle.byte_nfa.specs.inner.Views.{GoesBelow};
 ghost use Rattle.byte_nfa.specs.inner.Pass.{goes_now, goes_next, names};
 
 use bit_sets::{IndexSet, StateSet, Visits};
-use byte_nfa::Draft;
+use byte_nfa::Nfa;
 
 /// Puts the states that a byte leads to from the states of a set into `to`, and the index of each end that they lead to without a
 /// byte into `ends`. What `to` and `ends` held has no effect.
@@ -17,7 +17,7 @@ use byte_nfa::Draft;
 /// It reads each state at most once, and is one visit for each. What a state of `from` goes on to without a byte is put into `from`,
 /// before the pass comes to it.
 pub fn read(
-    automaton: &Draft,
+    automaton: &Nfa,
     byte: u8,
     from: &mut StateSet,
     to: &mut StateSet,
@@ -51,7 +51,7 @@ pub fn read(
 /// Takes the steps of a state of `from`: puts into `from` what it goes on to without a byte, into `to` what it goes on to by the
 /// byte, and its index into `ends` if it is an end.
 fn take(
-    automaton: &Draft,
+    automaton: &Nfa,
     s: usize,
     byte: u8,
     from: &mut StateSet,

@@ -18,7 +18,7 @@ use crate::lists::{
 use crate::pass::read;
 use bit_sets::{IndexSet, StateSet, Visits};
 use byte_dfa::{ByteClasses, put_listed};
-use byte_nfa::Draft;
+use byte_nfa::Nfa;
 use std::alloc::{AllocError, Global};
 use std::hash::{FoldHasher, Hasher};
 use std::mem;
@@ -125,7 +125,7 @@ impl Rows {
     /// Returns no rows, with room for as many as fit so many bytes, and for a few in each case.
     pub fn new(
         alloc: Global,
-        automaton: &Draft,
+        automaton: &Nfa,
         classes: &ByteClasses,
         bytes: usize,
     ) -> Result<Rows, AllocError>
@@ -185,7 +185,7 @@ impl Rows {
     }
 
     /// Returns the place of the row that a run begins in.
-    pub fn start(&mut self, automaton: &Draft) -> usize
+    pub fn start(&mut self, automaton: &Nfa) -> usize
         requires { IsSound automaton.now self.old }
         ensures sound { IsSound automaton.now self.new }
         ensures begins { BeginsAt automaton.now self.new result }
@@ -206,7 +206,7 @@ impl Rows {
     /// A known entry is one visit. If the entry is not known, each state is read at most once, and is one visit.
     // It is the loop of a run over a text, and mostly reads one entry.
     #[inline(always)]
-    pub fn step(&mut self, automaton: &Draft, place: usize, byte: u8, visits: &mut Visits) -> Step
+    pub fn step(&mut self, automaton: &Nfa, place: usize, byte: u8, visits: &mut Visits) -> Step
         requires sound { IsSound automaton.now self.old }
         requires row { (i : ℕ) × IsAt self.old i place }
         requires some { 0 < size automaton.now }
@@ -236,7 +236,7 @@ impl Rows {
     #[inline(always)]
     pub fn plain_next(
         &self,
-        automaton: &Draft,
+        automaton: &Nfa,
         place: usize,
         byte: u8,
         visits: &mut Visits,
@@ -260,7 +260,7 @@ impl Rows {
     /// known, which is one visit. Its marks are put into a set then. Otherwise [`Rows::step`] tells.
     pub fn marked_next(
         &self,
-        automaton: &Draft,
+        automaton: &Nfa,
         place: usize,
         byte: u8,
         found: &mut IndexSet,
@@ -305,7 +305,7 @@ impl Rows {
     #[inline(never)]
     fn step_marked(
         &mut self,
-        automaton: &Draft,
+        automaton: &Nfa,
         row: usize,
         byte: u8,
         entry: u32,
@@ -339,7 +339,7 @@ impl Rows {
     /// the row until it comes to one of these, and each is one visit.
     pub fn is_live(
         &self,
-        automaton: &Draft,
+        automaton: &Nfa,
         place: usize,
         live: &StateSet,
         visits: &mut Visits,
@@ -364,7 +364,7 @@ impl Rows {
     /// Returns whether the row at a place leads to some end without a byte. If it does, `ends` has afterwards the indexes of these.
     ///
     /// It is as many visits as [`Rows::finish_row`] makes.
-    pub fn finish(&mut self, automaton: &Draft, place: usize, visits: &mut Visits) -> bool
+    pub fn finish(&mut self, automaton: &Nfa, place: usize, visits: &mut Visits) -> bool
         requires sound { IsSound automaton.now self.old }
         requires row { (i : ℕ) × IsAt self.old i place }
         requires some { 0 < size automaton.now }
@@ -381,7 +381,7 @@ impl Rows {
     /// Returns whether a row leads to some end without a byte. If it does, `ends` has afterwards the indexes of these.
     ///
     /// If it is known that it leads to none, that is one visit. Otherwise each state is read at most once, and is one visit.
-    fn finish_row(&mut self, automaton: &Draft, row: usize, visits: &mut Visits) -> bool
+    fn finish_row(&mut self, automaton: &Nfa, row: usize, visits: &mut Visits) -> bool
         requires sound { IsSound automaton.now self.old }
         requires row { row < length self.old.starts.items }
         requires some { 0 < size automaton.now }
@@ -416,7 +416,7 @@ impl Rows {
     /// Returns where a byte leads from a row whose entry for it is not known, and writes the entry if the row has no marks.
     #[cold]
     #[inline(never)]
-    fn leave(&mut self, automaton: &Draft, row: usize, byte: u8, visits: &mut Visits) -> Step
+    fn leave(&mut self, automaton: &Nfa, row: usize, byte: u8, visits: &mut Visits) -> Step
         requires sound { IsSound automaton.now self.old }
         requires row { row < length self.old.starts.items }
         ensures sound { IsSound automaton.now self.new }
@@ -448,7 +448,7 @@ impl Rows {
     }
 
     /// Returns whether a row has marks, by the indexes in `ends`. If it has, their list is kept.
-    fn keep_marks(&mut self, automaton: &Draft, row: usize) -> bool
+    fn keep_marks(&mut self, automaton: &Nfa, row: usize) -> bool
         requires sound { IsSound automaton.now self.old }
         requires row { row < length self.old.starts.items }
         requires ends { HasEnds automaton.now self.old row self.old.ends }
@@ -466,7 +466,7 @@ impl Rows {
     }
 
     /// Keeps the list of the indexes in `ends`, to which a row leads without a byte, if there is room for it.
-    fn keep_ends(&mut self, automaton: &Draft, row: usize)
+    fn keep_ends(&mut self, automaton: &Nfa, row: usize)
         requires sound { IsSound automaton.now self.old }
         requires row { row < length self.old.starts.items }
         requires ends { HasEnds automaton.now self.old row self.old.ends }
@@ -488,7 +488,7 @@ impl Rows {
     }
 
     /// Makes `ends` the indexes of the list that is kept for a row.
-    fn load_ends(&mut self, automaton: &Draft, row: usize, end: u32)
+    fn load_ends(&mut self, automaton: &Nfa, row: usize, end: u32)
         requires sound { IsSound automaton.now self.old }
         requires row { row < length self.old.starts.items }
         requires known { 1 < end }
@@ -504,7 +504,7 @@ impl Rows {
     }
 
     /// Puts what a row leads to into `next` by a byte, and into `ends` without one. It is at most one visit for each state.
-    fn read_row(&mut self, automaton: &Draft, row: usize, byte: u8, visits: &mut Visits)
+    fn read_row(&mut self, automaton: &Nfa, row: usize, byte: u8, visits: &mut Visits)
         requires sound { IsSound automaton.now self.old }
         requires row { row < length self.old.starts.items }
         ensures sound { IsSound automaton.now self.new }
@@ -529,7 +529,7 @@ impl Rows {
     }
 
     /// Returns whether `ends` has an index that says that another is decided.
-    fn has_marks(&self, automaton: &Draft) -> bool
+    fn has_marks(&self, automaton: &Nfa) -> bool
         ensures { IsTrue result ↔ ((k : ℕ) × (k < half automaton.now) × IsTrue (has_index self.now.ends (half automaton.now + k))) }
     {
         let half = automaton.index_count() / 2;
@@ -547,7 +547,7 @@ impl Rows {
     }
 
     /// Writes an entry of a row.
-    fn write(&mut self, automaton: &Draft, row: usize, column: usize, entry: u32)
+    fn write(&mut self, automaton: &Nfa, row: usize, column: usize, entry: u32)
         requires sound { IsSound automaton.now self.old }
         requires row { row < length self.old.starts.items }
         requires column { column ≤ self.old.class_count }
@@ -562,7 +562,7 @@ impl Rows {
 
     /// Returns the row of the states in `next`, and makes it if it is not there. If there is no room for it, all rows are
     /// forgotten before.
-    fn seek(&mut self, automaton: &Draft) -> Found
+    fn seek(&mut self, automaton: &Nfa) -> Found
         requires { IsSound automaton.now self.old }
         ensures sound { IsSound automaton.now self.new }
         ensures row { result.row < length self.new.starts.items }
@@ -612,7 +612,7 @@ impl Rows {
     }
 
     /// Makes room for a row. Returns whether no row was forgotten.
-    fn make_room(&mut self, automaton: &Draft) -> bool
+    fn make_room(&mut self, automaton: &Nfa) -> bool
         requires { IsSound automaton.now self.old }
         ensures sound { IsSound automaton.now self.new }
         ensures space { HasSpace automaton.now self.new }
@@ -637,7 +637,7 @@ impl Rows {
     }
 
     /// Adds a row of the states in `list`, none of whose entries is known. Returns its number.
-    fn add(&mut self, automaton: &Draft, hash: u64) -> usize
+    fn add(&mut self, automaton: &Nfa, hash: u64) -> usize
         requires sound { IsSound automaton.now self.old }
         requires space { HasSpace automaton.now self.old }
         requires below { AreBelow (size automaton.now) self.old.list.items }

@@ -6,7 +6,7 @@ ghost use Rattle.bit_sets.specs.StateSets.{state_capacity};
 ghost use Rattle.bit_sets.specs.Texts.{AllBytes};
 ghost use Rattle.byte_nfa.specs.EarlyMatches.{EndsAtEarlyMatches};
 ghost use Rattle.byte_nfa.specs.Live.{AreLive};
-ghost use Rattle.byte_nfa.specs.Steps.{Machine, IsReached};
+ghost use Rattle.byte_nfa.specs.Steps.{NfaValue, IsReached};
 ghost use Rattle.byte_nfa.specs.Runs.{size};
 ghost use Rattle.byte_dfa.specs.inner.Building.{half};
 ghost use Rattle.lazy_dfa.specs.inner.Rows.{IsSound, FindsBy};
@@ -15,7 +15,7 @@ ghost use Rattle.lazy_dfa.specs.inner.Reached.{IsWhere};
 use crate::lists::put_lowered;
 use crate::rows::Rows;
 use bit_sets::{IndexSet, StateSet, Visits};
-use byte_nfa::Draft;
+use byte_nfa::Nfa;
 
 /// Where a text leads.
 #[derive(Clone, Copy)]
@@ -32,13 +32,7 @@ impl Rows {
     /// Puts the index of each end that a text leads to, and each index that is decided in it, into a set, beside what it holds.
     ///
     /// The automaton is one with early matches: what a row has marks of is told when the row is left, and where the text ends.
-    pub fn find(
-        &mut self,
-        automaton: &Draft,
-        text: &[u8],
-        found: &mut IndexSet,
-        visits: &mut Visits,
-    )
+    pub fn find(&mut self, automaton: &Nfa, text: &[u8], found: &mut IndexSet, visits: &mut Visits)
         requires sound { IsSound automaton.now self.old }
         requires room { half automaton.now ≤ index_capacity found.old }
         ensures sound { IsSound automaton.now self.new }
@@ -75,7 +69,7 @@ impl Rows {
     }
 
     /// Returns whether a text leads to some end. It stops at the first index that is decided.
-    pub fn is_match(&mut self, automaton: &Draft, text: &[u8], visits: &mut Visits) -> bool
+    pub fn is_match(&mut self, automaton: &Nfa, text: &[u8], visits: &mut Visits) -> bool
         requires { IsSound automaton.now self.old }
         ensures sound { IsSound automaton.now self.new }
         ensures some { IsTrue result ↔ ((k : ℕ) × FindsBy (half automaton.now) (IsReached automaton.now) text.now k) }
@@ -96,14 +90,14 @@ impl Rows {
     /// the states from which some bytes lead to an end.
     pub fn can_match_after(
         &mut self,
-        automaton: &Draft,
+        automaton: &Nfa,
         live: &StateSet,
         text: &[u8],
         byte: u8,
         visits: &mut Visits,
     ) -> bool
         requires sound { IsSound automaton.now self.old }
-        requires early { (source : Machine) × EndsAtEarlyMatches source automaton.now }
+        requires early { (source : NfaValue) × EndsAtEarlyMatches source automaton.now }
         requires live { AreLive automaton.now live.now }
         requires room { size automaton.now ≤ state_capacity live.now }
         ensures sound { IsSound automaton.now self.new }
@@ -131,7 +125,7 @@ impl Rows {
 
     /// Reads a text from its beginning, up to the first index that is decided.
     #[inline(always)]
-    fn read(&mut self, automaton: &Draft, text: &[u8], visits: &mut Visits) -> Reached
+    fn read(&mut self, automaton: &Nfa, text: &[u8], visits: &mut Visits) -> Reached
         requires sound { IsSound automaton.now self.old }
         requires some { 0 < size automaton.now }
         ensures sound { IsSound automaton.now self.new }

@@ -2,12 +2,12 @@
 
 ghost use Rattle.std.specs.Prelude.{◌≡◌, ◌+◌, ◌≤◌, IsTrue};
 
-use byte_nfa::Draft;
+use byte_nfa::Nfa;
 
 /// Returns how much work may be done for an automaton, where a state that is looked at in a list is 1.
 ///
 /// Each list is looked at twice, and a state is mostly in few lists.
-pub fn budget(automaton: &Draft) -> usize {
+pub fn budget(automaton: &Nfa) -> usize {
     automaton
         .state_count()
         .saturating_mul(32)

@@ -5,7 +5,7 @@ ghost use Rattle.byte_nfa.specs.Reading.{is_read};
 ghost use Rattle.byte_nfa.specs.Steps.{state};
 ghost use Rattle.nfa_sharing.specs.inner.Chunks.{with_next, IsChunk};
 
-use byte_nfa::{Draft, StateRef};
+use byte_nfa::{Nfa, StateRef};
 use std::alloc::{AllocError, Global};
 
 /// States that follow each other in a list, and are alike but for what they go on to.
@@ -24,7 +24,7 @@ impl Chunk {
     /// state there is a union.
     pub fn at(
         alloc: Global,
-        automaton: &Draft,
+        automaton: &Nfa,
         states: &[usize],
         start: usize,
     ) -> Result<Option<Chunk>, AllocError>
@@ -56,7 +56,7 @@ impl Chunk {
 }
 
 /// Returns what a state goes on to, if it is like another but for that. An end goes on to nothing: 0 stands for that.
-fn next_of(automaton: &Draft, s: usize, like: &StateRef<'_>) -> Option<usize>
+fn next_of(automaton: &Nfa, s: usize, like: &StateRef<'_>) -> Option<usize>
     ensures { IfSome result (λ next. state automaton.now.states s ≡ with_next (is_read like.now) next) }
 {
     match (automaton.state(s)?, like) {

@@ -4,13 +4,13 @@ ghost use Rattle.std.specs.Prelude.{◌≤◌, IfOk, IfSome};
 ghost use Rattle.nfa_sharing.specs.inner.Lists.{AcceptAlike};
 
 use crate::budget::spend;
-use byte_nfa::{Draft, StateRef};
+use byte_nfa::{Nfa, StateRef};
 use std::alloc::{AllocError, Global};
 
 /// Returns the states of a list with what a union goes on to in its place, and no unions. `None` if that is too much work.
 pub fn expanded(
     alloc: Global,
-    automaton: &Draft,
+    automaton: &Nfa,
     list: &[usize],
     left: &mut usize,
 ) -> Result<Option<Vec<usize>>, AllocError>

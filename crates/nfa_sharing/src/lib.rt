@@ -17,7 +17,7 @@ mod sets;
 mod sharing;
 
 use crate::sharing::start_state;
-use byte_nfa::{Builder, Draft};
+use byte_nfa::{Builder, Nfa};
 use std::alloc::{AllocError, Global};
 
 /// Returns an automaton that leads where `automaton` does and begins in one state, and in which texts that begin alike share
@@ -25,7 +25,7 @@ use std::alloc::{AllocError, Global};
 ///
 /// Returns `None` if there are no starts, or if that takes more states than there are, or more work than is linear in the states.
 /// Returns an error if memory runs out. It takes memory linear in the automaton.
-pub fn shared(alloc: Global, automaton: &Draft) -> Result<Option<Draft>, AllocError>
+pub fn shared(alloc: Global, automaton: &Nfa) -> Result<Option<Nfa>, AllocError>
     ensures { IfOk result (λ made. IfSome made (λ new. Shares automaton.now new)) }
 {
     if automaton.starts().is_empty() {

@@ -4,7 +4,7 @@ ghost use Rattle.std.specs.Prelude.{◌≡◌, ℕ, ◌↔◌, map, IfOk};
 ghost use Rattle.byte_nfa.specs.Steps.{HasNumber};
 
 use crate::sets::SetNumbers;
-use byte_nfa::{Draft, StateRef};
+use byte_nfa::{Nfa, StateRef};
 use std::alloc::{AllocError, Global};
 
 /// What a state is put in order by.
@@ -21,7 +21,7 @@ struct Key {
 /// number of what they go on to.
 pub fn ordered(
     alloc: Global,
-    automaton: &Draft,
+    automaton: &Nfa,
     states: &[usize],
     sets: &mut SetNumbers,
 ) -> Result<Vec<usize>, AllocError>
@@ -44,7 +44,7 @@ fn states_of(alloc: Global, keys: &[Key]) -> Result<Vec<usize>, AllocError>
 }
 
 /// Returns the key of a state.
-fn key_of(automaton: &Draft, state: usize, sets: &mut SetNumbers) -> Result<Key, AllocError>
+fn key_of(automaton: &Nfa, state: usize, sets: &mut SetNumbers) -> Result<Key, AllocError>
     ensures { IfOk result (λ key. key.state ≡ state) }
 {
     let (kind, number, next) = match automaton.state(state) {

@@ -13,7 +13,7 @@ use crate::expanded::expanded;
 use crate::known::KnownLists;
 use crate::order::ordered;
 use crate::sets::SetNumbers;
-use byte_nfa::{Builder, Draft, StateRef};
+use byte_nfa::{Builder, Nfa, StateRef};
 use std::alloc::{AllocError, Global};
 
 /// The lists that a state was made for, and those that wait for one.
@@ -30,7 +30,7 @@ struct Sharing {
 /// `None` if that is too much work or takes more states than the automaton has.
 pub fn start_state(
     alloc: Global,
-    automaton: &Draft,
+    automaton: &Nfa,
     builder: &mut Builder,
 ) -> Result<Option<usize>, AllocError>
     requires states { builder.old.states ≡ [] }
@@ -64,7 +64,7 @@ impl Sharing {
     fn take(
         &mut self,
         alloc: Global,
-        automaton: &Draft,
+        automaton: &Nfa,
         list: Vec<usize>,
         builder: &mut Builder,
     ) -> Result<bool, AllocError>
@@ -105,7 +105,7 @@ impl Sharing {
     fn in_order(
         &mut self,
         alloc: Global,
-        automaton: &Draft,
+        automaton: &Nfa,
         list: &[usize],
     ) -> Result<Option<Vec<usize>>, AllocError>
         ensures alike { IfOk result (λ made. IfSome made (λ states. AcceptAlike automaton.now list.now states.items)) }
@@ -128,7 +128,7 @@ impl Sharing {
 /// Returns the lists of what the chunks of a list go on to that no state was made for. `None` if the list has a union.
 fn missing_lists(
     alloc: Global,
-    automaton: &Draft,
+    automaton: &Nfa,
     states: &[usize],
     known: &KnownLists,
 ) -> Result<Option<Vec<Vec<usize>>>, AllocError> {
@@ -151,7 +151,7 @@ fn missing_lists(
 /// or leads to a list that no state was made for.
 fn push_list(
     alloc: Global,
-    automaton: &Draft,
+    automaton: &Nfa,
     states: &[usize],
     known: &KnownLists,
     builder: &mut Builder,
@@ -181,7 +181,7 @@ fn push_list(
 
 /// Pushes the state of a chunk. Returns its number, or `None` if no state was made for the list that the chunk goes on to.
 fn push_chunk(
-    automaton: &Draft,
+    automaton: &Nfa,
     chunk: &Chunk,
     known: &KnownLists,
     builder: &mut Builder,

@@ -11,7 +11,7 @@ ghost use Rattle.nfa_simulation.specs.Spans.{IsSpan};
 mod after;
 mod in_word;
 
-use crate::nfa::Nfa;
+use crate::simulation::Simulation;
 use crate::state_sets::StateSets;
 use bit_sets::{IndexSet, Visits};
 use std::mem::swap;
@@ -28,7 +28,7 @@ pub struct Span {
     pub start: usize,
 }
 
-impl Nfa {
+impl Simulation {
     /// Puts the index of each end that a text leads to into a set of indexes, beside what it holds.
     ///
     /// What the sets of states held has no effect. The run ends as soon as no state is left. It is at most

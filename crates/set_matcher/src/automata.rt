@@ -210,7 +210,7 @@ impl Automata {
     /// extension has an automaton.
     fn slot_of(&self, path: &PathParts<'_>, visits: &mut Visits) -> Option<usize>
         ensures slot { result ≡ slot_of self.now.extensions.slots (component_extension path.now) }
-        ensures held { (s : ℕ) → result ≡ Some s → s < length self.now.extensions.machines }
+        ensures held { (s : ℕ) → result ≡ Some s → s < length self.now.extensions.nfas }
         ensures visits { visits.new ≤ visits.old + 1 }
         ensures counted { visits.old ≤ visits.new }
     {
@@ -365,7 +365,7 @@ impl AutomataBuilder {
         requires index { index < self.old.extensions.index_count }
         ensures tokens { OnOk result (AddsTokensTo self.old.extensions self.new.extensions key.items (indexed options (tokens_of tokens.now) index)) }
         ensures reads { OnOk result (AddsReads self.old.extensions self.new.extensions key.items (weight options (tokens_of tokens.now) + 4)) }
-        ensures total { OnOk result (total_reads self.new.extensions.machines ≤ total_reads self.old.extensions.machines + (weight options (tokens_of tokens.now) + 4)) }
+        ensures total { OnOk result (total_reads self.new.extensions.nfas ≤ total_reads self.old.extensions.nfas + (weight options (tokens_of tokens.now) + 4)) }
         ensures count { self.new.extensions.index_count ≡ self.old.extensions.index_count }
         ensures path { self.new.by_path ≡ self.old.by_path }
         ensures component { self.new.by_component ≡ self.old.by_component }

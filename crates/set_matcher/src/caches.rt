@@ -4,7 +4,7 @@ ghost use Rattle.std.specs.Prelude.{◌≡◌, ◌+◌, ◌*◌, ◌≤◌, ◌+
 ghost use Rattle.bit_sets.specs.Indexes.{index_capacity};
 ghost use Rattle.bit_sets.specs.Texts.{AllBytes};
 ghost use Rattle.byte_nfa.specs.Runs.{size, max_reads};
-ghost use Rattle.byte_nfa.specs.Steps.{Machine};
+ghost use Rattle.byte_nfa.specs.Steps.{NfaValue};
 ghost use Rattle.glob_matching.specs.Matching.{AddsMatches, TellsMatch};
 ghost use Rattle.glob_nfa.specs.IndexedTokens.{IndexedTokens, IsFor, SomeMeanAfter};
 ghost use Rattle.nfa_simulation.specs.Sets.{sets_capacity};
@@ -84,9 +84,9 @@ impl Drop for SlotCaches {
 impl Model for SlotCaches {
     ghost use Rattle.std.specs.Prelude.{List, [], Option};
     ghost use Rattle.std.specs.Option.{option_map_or};
-    ghost use Rattle.byte_nfa.specs.Steps.{Machine};
+    ghost use Rattle.byte_nfa.specs.Steps.{NfaValue};
 
-    ghost Value = { List (Option Machine) };
+    ghost Value = { List (Option NfaValue) };
 
     ghost view = { λ s. option_map_or (λ v. v.items) s.caches [] };
 }

@@ -2,7 +2,7 @@
 use Rattle.std.proofs.Common.{◌≡◌, ℕ, zero, suc, arith, ◌+◌, ◌/◌, ◌<◌, Bool, true, false, true≢false, List, [], ◌∷◌, ◌++◌, drop, length, IsTrue, refl, sym, ◌∙◌, subst}
 use Rattle.std.specs.Prelude.{◌↔◌, slice_index_or}
 use Rattle.byte_nfa.specs.Live.{MatchesAfter}
-use Rattle.byte_nfa.specs.Steps.{Machine, IsReached}
+use Rattle.byte_nfa.specs.Steps.{NfaValue, IsReached}
 use Rattle.bit_sets.specs.Texts.{AllBytes}
 use Rattle.byte_nfa.proofs.lemmas.Live.{after_byte}
 use Rattle.byte_dfa.specs.inner.Tables.{Table, after, later, finds, IsRow, IsTable, AreLiveRows}
@@ -18,7 +18,7 @@ pub both_bytes : (y z : List ℕ) → AllBytes y → AllBytes z → AllBytes (y 
 both_bytes [] z h g = g
 both_bytes (c ∷ y) z h g = (h.0, both_bytes y z h.1 g)
 
-module _ (m : Machine) (d : Table) (is : (y : List ℕ) (k : ℕ) → AllBytes y → IsTrue (finds d y k) ↔ IsReached m y k) (text : List ℕ) (byte : ℕ) where
+module _ (m : NfaValue) (d : Table) (is : (y : List ℕ) (k : ℕ) → AllBytes y → IsTrue (finds d y k) ↔ IsReached m y k) (text : List ℕ) (byte : ℕ) where
   -- an index is found
   pub match_after_found : (k : ℕ) → AllBytes text → byte < 256 → IsTrue (finds d (text ++ byte ∷ []) k) → IsTrue true ↔ MatchesAfter m (text ++ byte ∷ [])
   match_after_found k bytes small found = (

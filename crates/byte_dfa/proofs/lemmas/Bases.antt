@@ -7,7 +7,7 @@ use Rattle.std.proofs.Math.Logic.{⊎_elim}
 use Rattle.byte_nfa.specs.ByteSteps.{leads_to, LeadAlike, LeadsAsEvery}
 use Rattle.byte_nfa.specs.Runs.{AcceptsFrom}
 use Rattle.bit_sets.specs.StateSets.{has_state}
-use Rattle.byte_nfa.specs.Steps.{Machine}
+use Rattle.byte_nfa.specs.Steps.{NfaValue}
 use Rattle.byte_nfa.specs.declared.byte_steps.ByteSteps.{ByteSteps}
 use Rattle.bit_sets.specs.declared.state_set.StateSet.{StateSet}
 use Rattle.byte_nfa.proofs.lemmas.Pass.{or_first, or_second}
@@ -30,17 +30,17 @@ whole_of true q r is h = absurd (true≢false (sym h ∙ is))
 whole_of false q r is h = sym is ∙ h
 
 -- the entry leads from the set by the byte
-abbrev pub IsUnder : Machine → List Found → List ℕ → ℕ → StateSet → ℕ → ℕ → Type 0
+abbrev pub IsUnder : NfaValue → List Found → List ℕ → ℕ → StateSet → ℕ → ℕ → Type 0
 IsUnder m found lists stride base b e = (j : ℕ) × (h : Found) × (slice_get found j ≡ Some h) × GoesTo m base b h.states × IsEntryTo lists stride j h e
 
 -- the row's base is one of the sets
-pub base_within : (m : Machine) (found : List Found) (row : Row) → IsRowOf m found row → row.base < length found
+pub base_within : (m : NfaValue) (found : List Found) (row : Row) → IsRowOf m found row → row.base < length found
 base_within m found row is = elim (cases_lt 0 row.base) [
   | inl some ↦ (let lt = is.this in let le = is.written some in omega arith)
   | inr none ↦ (let lt = is.this in omega arith)
 ]
 
-module _ (m : Machine) where
+module _ (m : NfaValue) where
   -- a set in two parts
   pub parted : (from base rest : StateSet) → ((s : ℕ) → has_state rest s ≡ (not (has_state base s) && has_state from s))
       → ((y : List ℕ) (k : ℕ) → AcceptsFrom m base y k → AcceptsFrom m from y k)
@@ -98,7 +98,7 @@ module _ (m : Machine) where
 pub base_place : (row : Row) (w col n : ℕ) → (0 < row.base → row.base < row.number) → row.number * (w + 2) ≤ n → col < w → 0 < row.base → row.base * (w + 2) + col < n
 base_place row w col n written le short some = let h = before_row row.base row.number w (written some) in omega (arith, h)
 
-module _ (m : Machine) (representatives : List ℕ) (w : ℕ) (found : List Found) (lists rows : List ℕ) (sets : AreFoundSets m found lists) (cells : AreCells m representatives w found lists rows) where
+module _ (m : NfaValue) (representatives : List ℕ) (w : ℕ) (found : List Found) (lists rows : List ℕ) (sets : AreFoundSets m found lists) (cells : AreCells m representatives w found lists rows) where
   pub under_is : (base col e : ℕ) (g : Found) → slice_get found base ≡ Some g → col < w → (0 < base → base * (w + 2) + col < length rows)
       → (base ≡ 0 → e ≡ special) → (0 < base → e ≡ slice_index rows (base * (w + 2) + col)) → IsUnder m found lists (w + 2) g.states (slice_index representatives col) e
   under_is base col e g at short within dead written = elim (cases_lt 0 base) [
@@ -138,7 +138,7 @@ pub entry_cases : (lists : List ℕ) (stride j e : ℕ) (h : Found) → IsEntryT
 entry_cases lists stride j e h (inl (is, none)) = inl is
 entry_cases lists stride j e h (inr is) = inr is
 
-module _ (m : Machine) (representatives : List ℕ) (w : ℕ) (found : List Found) (lists rows : List ℕ) (sets : AreFoundSets m found lists) (cells : AreCells m representatives w found lists rows)
+module _ (m : NfaValue) (representatives : List ℕ) (w : ℕ) (found : List Found) (lists rows : List ℕ) (sets : AreFoundSets m found lists) (cells : AreCells m representatives w found lists rows)
     (row : Row) (is : IsRowOf m found row) where
   pub under_row : (col e : ℕ) (g : Found) → slice_get found row.base ≡ Some g → row.number * (w + 2) ≤ length rows → col < w
       → (row.base ≡ 0 → e ≡ special) → (0 < row.base → e ≡ slice_index rows (row.base * (w + 2) + col)) → IsUnder m found lists (w + 2) g.states (slice_index representatives col) e

@@ -7,7 +7,7 @@ use Rattle.std.proofs.lemmas.Nat.{mul-le}
 use Rattle.std.proofs.Math.Logic.{⊎_elim}
 use Rattle.std.proofs.Math.Seq.{get_or-append_seam}
 use Rattle.byte_nfa.specs.Runs.{AcceptsFrom}
-use Rattle.byte_nfa.specs.Steps.{Machine}
+use Rattle.byte_nfa.specs.Steps.{NfaValue}
 use Rattle.byte_dfa.specs.declared.determinizer.Found.{Found}
 use Rattle.byte_dfa.specs.inner.Building.{half, GoesTo, IsEntryTo, IsCell, AreCells, AreFoundSets, KeepsFound}
 use Rattle.byte_dfa.specs.inner.Lists.{KeepsLists}
@@ -25,7 +25,7 @@ same_place i c row col w hc hcol e = ⊎_elim {C = (i ≡ row) × (c ≡ col)}
     (cases_lt row i))
     (cases_lt i row)
 
-module _ (m : Machine) (representatives : List ℕ) (w : ℕ) where
+module _ (m : NfaValue) (representatives : List ℕ) (w : ℕ) where
   pub cells_kept : (found : List Found) (old new rows : List ℕ) → AreFoundSets m found old → KeepsLists old new → AreCells m representatives w found old rows → AreCells m representatives w found new rows
   cells_kept found old new rows are keeps cells = λ i c hc lt.
       let cell = cells i c hc lt in

@@ -4,7 +4,7 @@ use Rattle.std.specs.Prelude.{◌↔◌, slice_get}
 use Rattle.std.proofs.Math.Logic.{⊎_elim}
 use Rattle.std.proofs.lemmas.Bool.{cases_lt}
 use Rattle.byte_nfa.specs.Runs.{AcceptsFrom}
-use Rattle.byte_nfa.specs.Steps.{Machine}
+use Rattle.byte_nfa.specs.Steps.{NfaValue}
 use Rattle.bit_sets.specs.declared.state_set.StateSet.{StateSet}
 use Rattle.byte_dfa.specs.declared.determinizer.Found.{Found}
 use Rattle.byte_dfa.specs.inner.Building.{half, IsLiveSet, AreSame, IsFound, AreFoundSets, KeepsFound}
@@ -50,7 +50,7 @@ pub keeps_trans : (a b c : List Found) → KeepsFound a b → KeepsFound b c →
 keeps_trans a b c f g = (let h = f.0 in let k = g.0 in omega arith, λ i x h. g.1 i x (f.1 i x h))
 
 -- sets with the same states lead to the same ends
-pub accepts_same : (m : Machine) (a b : StateSet) (y : List ℕ) (k : ℕ) → AreSame a b → AcceptsFrom m a y k ↔ AcceptsFrom m b y k
+pub accepts_same : (m : NfaValue) (a b : StateSet) (y : List ℕ) (k : ℕ) → AreSame a b → AcceptsFrom m a y k ↔ AcceptsFrom m b y k
 accepts_same m a b y k same = (
   λ (t, lt, at, h). (t, lt, sym (same t) ∙ at, h),
   λ (t, lt, at, h). (t, lt, same t ∙ at, h),
@@ -65,7 +65,7 @@ list_of_iff numbers n place P Q same is = record {
   );
 }
 
-module _ (m : Machine) where
+module _ (m : NfaValue) where
   pub found_lists : (old new : List ℕ) (f : Found) → KeepsLists old new → IsFound m old f → IsFound m new f
   found_lists old new f keeps is = record {
     room = is.room;
@@ -101,7 +101,7 @@ new_truth [] b = refl
 new_truth (x ∷ xs) b = new_truth xs b
 
 -- one set more is marked
-pub marked_more : (m : Machine) (found : List Found) (live : List Bool) (b : Bool) (n : ℕ) (f : Found) → length live ≡ n
+pub marked_more : (m : NfaValue) (found : List Found) (live : List Bool) (b : Bool) (n : ℕ) (f : Found) → length live ≡ n
     → ((i : ℕ) (g : Found) → i < n → slice_get found i ≡ Some g → IsTrue (slice_index_or live i false) ↔ IsLiveSet m g.states)
     → slice_get found n ≡ Some f → IsTrue b ↔ IsLiveSet m f.states
     → (i : ℕ) (g : Found) → i < n + 1 → slice_get found i ≡ Some g → IsTrue (slice_index_or (live ++ b ∷ []) i false) ↔ IsLiveSet m g.states

@@ -8,7 +8,7 @@ use Rattle.std.proofs.Math.Logic.{⊎_elim}
 use Rattle.std.proofs.Math.Nat.{add-mod_left, mul-div_cancel}
 use Rattle.byte_nfa.specs.EarlyMatches.{IsAtEarlyMatch, EndsAtEarlyMatches}
 use Rattle.byte_nfa.specs.Runs.{AcceptsFrom, HasLastBytes}
-use Rattle.byte_nfa.specs.Steps.{state, match_state, Machine, IsReached, Accepts, ends, by_byte, by_skip, by_out, by_stay}
+use Rattle.byte_nfa.specs.Steps.{state, match_state, NfaValue, IsReached, Accepts, ends, by_byte, by_skip, by_out, by_stay}
 use Rattle.bit_sets.specs.declared.byte_set.ByteSet.{ByteSet}
 use Rattle.bit_sets.specs.declared.state_set.StateSet.{StateSet}
 use Rattle.bit_sets.specs.Numbers.{has_number}
@@ -56,7 +56,7 @@ nothing_after (c ∷ y) = ap (λ z. c ∷ z) (nothing_after y)
 abbrev Named : ℕ → ℕ → Type 0
 Named n k = (k < n) ⊎ ((j : ℕ) × (j < n) × (k ≡ n + j))
 
-end_named : (old m : Machine) (made : EndsAtEarlyMatches old m) (s k : ℕ) → state m.states s ≡ match_state k → Named old.index_count k
+end_named : (old m : NfaValue) (made : EndsAtEarlyMatches old m) (s k : ℕ) → state m.states s ≡ match_state k → Named old.index_count k
 end_named old m made s k e = by_case (made.states s)
   where
     by_case : IsAtEarlyMatch old.states old.index_count s (state m.states s) → Named old.index_count k
@@ -65,14 +65,14 @@ end_named old m made s k e = by_case (made.states s)
         inr (j, made.below t j is, cc)
     by_case (inr (none, same)) = inl (made.below s k (sym same ∙ e))
 
-all_named : (old m : Machine) (made : EndsAtEarlyMatches old m) (k s : ℕ) (y : List ℕ) → Accepts m.states k s y → Named old.index_count k
+all_named : (old m : NfaValue) (made : EndsAtEarlyMatches old m) (k s : ℕ) (y : List ℕ) → Accepts m.states k s y → Named old.index_count k
 all_named old m made k s y (ends s' e) = end_named old m made s k e
 all_named old m made k s y (by_byte s' t c z w e has rest) = all_named old m made k t z rest
 all_named old m made k s y (by_skip s' t z ts e in' rest) = all_named old m made k t y rest
 all_named old m made k s y (by_out s' t z w ts e in' rest) = all_named old m made k t y rest
 all_named old m made k s y (by_stay s' c z w ts e has rest) = all_named old m made k s z rest
 
-module _ (m : Machine) (n : ℕ) where
+module _ (m : NfaValue) (n : ℕ) where
   -- what is found from a set of states: at the end of the text, or after the beginning of it
   abbrev pub FromHere : StateSet → List ℕ → ℕ → Type 0
   FromHere set y k = (k < n) × (AcceptsFrom m set y k ⊎ ((p : List ℕ) × (q : List ℕ) × (y ≡ p ++ q) × AcceptsFrom m set p (n + k)))
@@ -109,7 +109,7 @@ module _ (m : Machine) (n : ℕ) where
           let rest' : y ≡ p ++ q = cc in
           inr (lt, inr (p, q, rest', (goes p (n + k)).0 (subst (λ u. AcceptsFrom m set (u ∷ p) (n + k)) same a)))
 
-module _ (old m : Machine) (made : EndsAtEarlyMatches old m) (classes : ByteClasses) (equivalence : AreEquivalenceClasses m.states classes.class_of classes.representatives classes.count)
+module _ (old m : NfaValue) (made : EndsAtEarlyMatches old m) (classes : ByteClasses) (equivalence : AreEquivalenceClasses m.states classes.class_of classes.representatives classes.count)
     (found : List Found) (lists rows : List ℕ) (accepting : StateSet) (built : IsBuilt m classes found lists rows accepting) (whole : length rows ≡ length found * (classes.count + 2))
     (few : length found * (classes.count + 2) ≤ special) (start : ℕ) where
   abbrev n : ℕ

@@ -1,7 +1,7 @@
 -- Reading the table of a deterministic automaton.
 use Rattle.std.specs.Prelude.{◌≡◌, ℕ, ◌+◌, ◌*◌, ◌/◌, ◌%◌, ◌<◌, ◌↔◌, Bool, false, ◌||◌, IsTrue, List, [], ◌∷◌, length, slice_index, slice_index_or}
 use Rattle.byte_nfa.specs.Runs.{HasLastBytes}
-use Rattle.byte_nfa.specs.Steps.{Machine, IsReached}
+use Rattle.byte_nfa.specs.Steps.{NfaValue, IsReached}
 use Rattle.bit_sets.specs.declared.byte_set.ByteSet.{ByteSet}
 use Rattle.bit_sets.specs.Texts.{AllBytes}
 use Rattle.bit_sets.specs.Numbers.{has_number}
@@ -83,7 +83,7 @@ AreLiveRows d live = (s : ℕ) → IsRow d s → (s / (d.width + 2) < length liv
 
 -- the table finds what the automaton does, the set has the last byte of each text that leads to an end, and live rows
 -- are marked
-pub record IsTableOf (m : Machine) (d : Table) (last_bytes : ByteSet) (live : List Bool) : Type 0 where
+pub record IsTableOf (m : NfaValue) (d : Table) (last_bytes : ByteSet) (live : List Bool) : Type 0 where
   pub sound : IsTable d
   pub finds : (y : List ℕ) (k : ℕ) → AllBytes y → IsTrue (finds d y k) ↔ IsReached m y k
   pub count : d.count ≡ m.index_count

@@ -1,7 +1,7 @@
 -- What an automaton leads to, by the one with ends where an index is decided.
 use Rattle.std.proofs.Common.{◌≡◌, ℕ, ◌+◌, ◌<◌, ◌⊎◌, inl, inr, List, [], ◌∷◌, ◌++◌, arith, refl, ap, sym, subst, ◌∙◌}
 use Rattle.std.specs.Prelude.{◌↔◌}
-use Rattle.byte_nfa.specs.Steps.{State, bytes_state, union_state, loop_state, match_state, state, Machine, HasNumber, Accepts, IsReached, ends, by_byte, by_skip, by_out, by_stay}
+use Rattle.byte_nfa.specs.Steps.{State, bytes_state, union_state, loop_state, match_state, state, NfaValue, HasNumber, Accepts, IsReached, ends, by_byte, by_skip, by_out, by_stay}
 use Rattle.bit_sets.specs.Texts.{AllBytes}
 use Rattle.bit_sets.proofs.lemmas.Texts.{rest_bytes}
 use Rattle.byte_nfa.specs.EarlyMatches.{Decides, IsAtEarlyMatch, EndsAtEarlyMatches}
@@ -37,7 +37,7 @@ pub always_decided : (a : List State) (k s : ℕ) (q : List ℕ) → AllBytes q 
 always_decided a k s [] bytes (w, t, e, every, f) = by_out s t [] w (t ∷ []) e (inl refl) (ends t f)
 always_decided a k s (c ∷ q) bytes (w, t, e, every, f) = by_stay s c q w (t ∷ []) e (every c bytes.0) (always_decided a k s q bytes.1 (w, t, e, every, f))
 
-module _ (old new : Machine) (made : EndsAtEarlyMatches old new) (k : ℕ) where
+module _ (old new : NfaValue) (made : EndsAtEarlyMatches old new) (k : ℕ) where
   at_early_match : (s : ℕ) (y : List ℕ) → Accepts old.states k s y → IsAtEarlyMatch old.states old.index_count s (state new.states s) → (state new.states s ≡ state old.states s → LeadsOrAlwaysMatches new.states old.index_count s y k) → LeadsOrAlwaysMatches new.states old.index_count s y k
   at_early_match s y h (inl (j, always_matches, e)) other =
       let is : j ≡ k = only_early_matches old.states k j s y h always_matches in

@@ -7,10 +7,10 @@ use Rattle.std.proofs.Math.Logic.{⊎_elim}
 use Rattle.bit_sets.specs.declared.byte_set.ByteSet.{ByteSet}
 use Rattle.byte_nfa.specs.declared.state.State as declared
 use Rattle.byte_nfa.specs.declared.state.State.TheVariants.{Match}
-use Rattle.byte_nfa.specs.Steps.{State, bytes_state, union_state, loop_state, match_state, state, Machine}
+use Rattle.byte_nfa.specs.Steps.{State, bytes_state, union_state, loop_state, match_state, state, NfaValue}
 use Rattle.byte_nfa.specs.EarlyMatches.{Decides, IsAtEarlyMatch, EndsAtEarlyMatches}
 use Rattle.byte_nfa.specs.inner.Exits.{StaysBefore}
-use Rattle.byte_nfa.specs.inner.Views.{of_state, of_states, GoesBelow, NamesBelow, AreSound, machine}
+use Rattle.byte_nfa.specs.inner.Views.{of_state, of_states, GoesBelow, NamesBelow, AreSound, nfa}
 use Rattle.byte_nfa.proofs.lemmas.Pushing.{pushed_last, pushed_before, states_push, sound_push}
 use Rattle.byte_nfa.proofs.lemmas.Reading.{held_at, state_at, read_state}
 
@@ -52,15 +52,15 @@ each_next P sets targets xs x each this s lt =
     (cases_lt s (length xs)))
 
 -- the states so far, up to the state s
-pub record AreEarlyMatches (m : Machine) (sets : List ByteSet) (targets : List ℕ) (xs : List declared.State) (s : ℕ) : Type 0 where
+pub record AreEarlyMatches (m : NfaValue) (sets : List ByteSet) (targets : List ℕ) (xs : List declared.State) (s : ℕ) : Type 0 where
   pub len : length xs ≡ s
   pub sound : AreSound sets targets xs [] (m.index_count * 2)
   pub states : (t : ℕ) → t < s → IsAtEarlyMatch m.states m.index_count t (state (of_states sets targets xs) t)
 
-module _ (m : Machine) (sets : List ByteSet) (targets : List ℕ) (states : List declared.State) (starts : List ℕ) (n : ℕ) (value : machine sets targets states starts n ≡ m) (sound : AreSound sets targets states starts n)
+module _ (m : NfaValue) (sets : List ByteSet) (targets : List ℕ) (states : List declared.State) (starts : List ℕ) (n : ℕ) (value : nfa sets targets states starts n ≡ m) (sound : AreSound sets targets states starts n)
     (xs : List declared.State) (s : ℕ) (so_far : AreEarlyMatches m sets targets xs s) where
   count : n ≡ m.index_count
-  count = ap (λ (o : Machine). o.index_count) value
+  count = ap (λ (o : NfaValue). o.index_count) value
 
   one_more : (x : declared.State) → AreSound sets targets (xs ++ x ∷ []) [] (m.index_count * 2) → IsAtEarlyMatch m.states m.index_count s (of_state sets targets x) → AreEarlyMatches m sets targets (xs ++ x ∷ []) (s + 1)
   one_more x sound' at = record {
@@ -87,8 +87,8 @@ module _ (m : Machine) (sets : List ByteSet) (targets : List ℕ) (states : List
       (named_more n (m.index_count * 2) (of_state sets targets x) (omega arith) (subst (NamesBelow n) st (sound.named s))))
       (inr (none, sym (read_state m sets targets states starts n s x value lt is)))
 
-pub all_decisions : (m new : Machine) (sets : List ByteSet) (targets : List ℕ) (xs : List declared.State) (starts : List ℕ)
-    → machine sets targets xs starts (m.index_count * 2) ≡ new → starts ≡ m.starts → length xs ≡ length m.states
+pub all_decisions : (m new : NfaValue) (sets : List ByteSet) (targets : List ℕ) (xs : List declared.State) (starts : List ℕ)
+    → nfa sets targets xs starts (m.index_count * 2) ≡ new → starts ≡ m.starts → length xs ≡ length m.states
     → ((s : ℕ) → s < length xs → IsAtEarlyMatch m.states m.index_count s (state (of_states sets targets xs) s))
     → ((s : ℕ) → NamesBelow m.index_count (state m.states s))
     → EndsAtEarlyMatches m new

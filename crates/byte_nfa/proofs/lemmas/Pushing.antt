@@ -3,10 +3,10 @@ use Rattle.std.proofs.Common.{◌≡◌, ℕ, zero, suc, ◌+◌, ◌-◌, ◌<�
 use Rattle.std.proofs.lemmas.Bool.{cases_lt}
 use Rattle.std.proofs.lemmas.List.{length-map, length-append, map-append, get_or_append_left, get_or_push, get_or_past, length-drop, take-append-le, drop-append-le, take_all, append_assoc}
 use Rattle.std.proofs.Math.Seq.{drop-append_seam, get_or-append_seam}
-use Rattle.byte_nfa.specs.Steps.{State, bytes_state, union_state, loop_state, state, Machine}
+use Rattle.byte_nfa.specs.Steps.{State, bytes_state, union_state, loop_state, state, NfaValue}
 use Rattle.bit_sets.specs.Numbers.{AreBelow}
 use Rattle.byte_nfa.specs.Building.{Pushes}
-use Rattle.byte_nfa.specs.inner.Views.{exits_at, of_state, of_states, IsHeld, AreHeld, GoesBelow, NamesBelow, AreSound, machine}
+use Rattle.byte_nfa.specs.inner.Views.{exits_at, of_state, of_states, IsHeld, AreHeld, GoesBelow, NamesBelow, AreSound, nfa}
 use Rattle.std.specs.Prelude.{Result, Ok, Err, OnErr}
 use Rattle.bit_sets.specs.declared.byte_set.ByteSet.{ByteSet}
 use Rattle.byte_nfa.specs.declared.state.State as declared
@@ -20,7 +20,7 @@ pushed_last old st = get_or_push old st (union_state []) (length old) refl
 pub pushed_before : (old : List State) (st : State) (s : ℕ) → s < length old → state (old ++ st ∷ []) s ≡ state old s
 pushed_before old st s h = get_or_append_left old (st ∷ []) (union_state []) s h
 
-pub pushes : (old new : Machine) (st : State) → new.states ≡ old.states ++ st ∷ [] → new.starts ≡ old.starts → new.index_count ≡ old.index_count
+pub pushes : (old new : NfaValue) (st : State) → new.states ≡ old.states ++ st ∷ [] → new.starts ≡ old.starts → new.index_count ≡ old.index_count
     → Pushes old new (length old.states) st
 pushes old new st is starts count =
     let len : length new.states ≡ length old.states + 1 = ap length is ∙ length-append old.states (st ∷ []) in record {
@@ -119,8 +119,8 @@ pub list_held : (sets : List ByteSet) (xs list : List ℕ) → IsHeld sets (xs +
 list_held sets xs list = omega (arith, get_or-append_seam xs (length list) list 0, length-append xs (length list ∷ list))
 
 -- the parts of an automaton, and its lists with more
-module _ (m : Machine) (sets sets' ss : List ByteSet) (targets targets' more : List ℕ) (are : sets' ≡ sets ++ ss) (targets_are : targets' ≡ targets ++ more)
-    (xs : List declared.State) (starts : List ℕ) (n : ℕ) (value : machine sets targets xs starts n ≡ m) (sound : AreSound sets targets xs starts n) where
+module _ (m : NfaValue) (sets sets' ss : List ByteSet) (targets targets' more : List ℕ) (are : sets' ≡ sets ++ ss) (targets_are : targets' ≡ targets ++ more)
+    (xs : List declared.State) (starts : List ℕ) (n : ℕ) (value : nfa sets targets xs starts n ≡ m) (sound : AreSound sets targets xs starts n) where
   same : of_states sets' targets' xs ≡ of_states sets targets xs
   same = rw (are, targets_are) (states_more sets ss targets more xs sound.held)
 
@@ -134,11 +134,11 @@ module _ (m : Machine) (sets sets' ss : List ByteSet) (targets targets' more : L
   }
 
   -- the value is as it was
-  pub machine_more : machine sets' targets' xs starts n ≡ m
-  machine_more = ap (λ l. machine_of l starts n) same ∙ value
+  pub nfa_more : nfa sets' targets' xs starts n ≡ m
+  nfa_more = ap (λ l. nfa_of l starts n) same ∙ value
     where
-      machine_of : List State → List ℕ → ℕ → Machine
-      machine_of states starts' n' = record {
+      nfa_of : List State → List ℕ → ℕ → NfaValue
+      nfa_of states starts' n' = record {
         states = states;
         starts = starts';
         index_count = n';
@@ -150,13 +150,13 @@ module _ (m : Machine) (sets sets' ss : List ByteSet) (targets targets' more : L
     sound_with held below named =
         sound_push sets' targets' xs x starts n sound_more held (subst (GoesBelow (length xs)) (sym is) below) (subst (NamesBelow n) (sym is) named)
 
-    pub pushes_with : (s : ℕ) → s ≡ length xs → Pushes m (machine sets' targets' (xs ++ x ∷ []) starts n) s st
+    pub pushes_with : (s : ℕ) → s ≡ length xs → Pushes m (nfa sets' targets' (xs ++ x ∷ []) starts n) s st
     pushes_with s at =
-        let old = machine sets targets xs starts n in
-        let new = machine sets' targets' (xs ++ x ∷ []) starts n in
+        let old = nfa sets targets xs starts n in
+        let new = nfa sets' targets' (xs ++ x ∷ []) starts n in
         let one : new.states ≡ old.states ++ st ∷ [] = states_push sets' targets' xs x ∙ ap (λ l. l ++ of_state sets' targets' x ∷ []) same ∙ ap (λ u. of_states sets targets xs ++ u ∷ []) is in
         let number : length old.states ≡ s = length-map xs (of_state sets targets) ∙ sym at in
-        subst (λ (o : Machine). Pushes o new s st) value (subst (λ k. Pushes old new k st) number (pushes old new st one refl refl))
+        subst (λ (o : NfaValue). Pushes o new s st) value (subst (λ k. Pushes old new k st) number (pushes old new st one refl refl))
 
 pub one_below : (t n : ℕ) → t < n → AreBelow n (t ∷ [])
 one_below t n lt zero within = lt

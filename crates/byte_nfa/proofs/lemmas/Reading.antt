@@ -3,12 +3,12 @@ use Rattle.std.proofs.Common.{◌≡◌, ℕ, zero, suc, ◌<◌, List, [], ◌�
 use Rattle.std.specs.Prelude.{◌↔◌, Option, Some, None, MatchOption}
 use Rattle.std.proofs.lemmas.Bool.{or_cases}
 use Rattle.std.proofs.Math.Logic.{⊎_elim}
-use Rattle.byte_nfa.specs.Steps.{State, state, match_state, Machine, HasNumber, IsReached}
+use Rattle.byte_nfa.specs.Steps.{State, state, match_state, NfaValue, HasNumber, IsReached}
 use Rattle.bit_sets.specs.Numbers.{AreBelow, has_number}
 use Rattle.byte_nfa.specs.Runs.{size}
 use Rattle.byte_nfa.specs.inner.Pass.{names, AcceptsNow}
 use Rattle.byte_nfa.proofs.lemmas.Pass.{listed_in, in_listed, listed_below, or_first}
-use Rattle.byte_nfa.specs.inner.Views.{set_at, of_state, of_states, IsHeld, AreHeld, NamesBelow, machine}
+use Rattle.byte_nfa.specs.inner.Views.{set_at, of_state, of_states, IsHeld, AreHeld, NamesBelow, nfa}
 use Rattle.bit_sets.specs.declared.byte_set.ByteSet.{ByteSet}
 use Rattle.byte_nfa.specs.declared.state.State as declared
 use Rattle.byte_nfa.specs.declared.state.State.TheVariants.{Bytes, Union, Loop, Match}
@@ -36,7 +36,7 @@ state_at sets targets (y ∷ ys) zero x lt e = ap (of_state sets targets) (sym e
 state_at sets targets (y ∷ ys) (suc s) x lt e = state_at sets targets ys s x (omega arith) e
 
 -- the states that a run begins in, put into a set
-pub starts_put : (m : Machine) (starts : List ℕ) (n : ℕ) (cleared into : ℕ → Bool) → starts ≡ m.starts → n ≡ size m → AreBelow n starts
+pub starts_put : (m : NfaValue) (starts : List ℕ) (n : ℕ) (cleared into : ℕ → Bool) → starts ≡ m.starts → n ≡ size m → AreBelow n starts
     → ((t : ℕ) → t < n → cleared t ≡ false) → ((t : ℕ) → into t ≡ (has_number t starts || cleared t))
     → (y : List ℕ) (k : ℕ) → AcceptsNow m.states into (size m) y k ↔ IsReached m y k
 starts_put m starts n cleared into is count below none has y k = (there, back)
@@ -54,18 +54,18 @@ starts_put m starts n cleared into is count below none has y k = (there, back)
         (t, omega arith, has t ∙ or_first (has_number t starts) (cleared t) listed, h)
 
 -- a state as contracts see it
-pub read_state : (m : Machine) (sets : List ByteSet) (targets : List ℕ) (xs : List declared.State) (starts : List ℕ) (n s : ℕ) (x : declared.State)
-    → machine sets targets xs starts n ≡ m → s < length xs → x ≡ get_or xs s x → state m.states s ≡ of_state sets targets x
-read_state m sets targets xs starts n s x value lt is = sym (ap (λ (o : Machine). state o.states s) value) ∙ state_at sets targets xs s x lt is
+pub read_state : (m : NfaValue) (sets : List ByteSet) (targets : List ℕ) (xs : List declared.State) (starts : List ℕ) (n s : ℕ) (x : declared.State)
+    → nfa sets targets xs starts n ≡ m → s < length xs → x ≡ get_or xs s x → state m.states s ≡ of_state sets targets x
+read_state m sets targets xs starts n s x value lt is = sym (ap (λ (o : NfaValue). state o.states s) value) ∙ state_at sets targets xs s x lt is
 
 item_at : (sets : List ByteSet) (targets : List ℕ) (xs : List declared.State) (s : ℕ) (d : declared.State) → s < length xs → state (of_states sets targets xs) s ≡ of_state sets targets (get_or xs s d)
 item_at sets targets [] s d lt = absurd (omega arith)
 item_at sets targets (y ∷ ys) zero d lt = refl
 item_at sets targets (y ∷ ys) (suc s) d lt = item_at sets targets ys s d (omega arith)
 
-pub read_item : (m : Machine) (sets : List ByteSet) (targets : List ℕ) (xs : List declared.State) (starts : List ℕ) (n s : ℕ) (d : declared.State)
-    → machine sets targets xs starts n ≡ m → s < length xs → state m.states s ≡ of_state sets targets (get_or xs s d)
-read_item m sets targets xs starts n s d value lt = sym (ap (λ (o : Machine). state o.states s) value) ∙ item_at sets targets xs s d lt
+pub read_item : (m : NfaValue) (sets : List ByteSet) (targets : List ℕ) (xs : List declared.State) (starts : List ℕ) (n s : ℕ) (d : declared.State)
+    → nfa sets targets xs starts n ≡ m → s < length xs → state m.states s ≡ of_state sets targets (get_or xs s d)
+read_item m sets targets xs starts n s d value lt = sym (ap (λ (o : NfaValue). state o.states s) value) ∙ item_at sets targets xs s d lt
 
 -- a state that contracts see as an end is one
 pub is_end : (sets : List ByteSet) (targets : List ℕ) (x : declared.State) (k : ℕ) → of_state sets targets x ≡ match_state k → x ≡ Match k

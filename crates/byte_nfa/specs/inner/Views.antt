@@ -1,6 +1,6 @@
 -- The states as an automaton keeps them: sets of bytes lie in one list, and what a state goes on to without a byte in another.
 use Rattle.std.specs.Prelude.{ℕ, ◌+◌, ◌<◌, ◌≤◌, List, [], ◌∷◌, map, length, slice_index, slice_index_or, slice_range}
-use Rattle.byte_nfa.specs.Steps.{State, bytes_state, union_state, loop_state, match_state, state, Machine}
+use Rattle.byte_nfa.specs.Steps.{State, bytes_state, union_state, loop_state, match_state, state, NfaValue}
 use Rattle.bit_sets.specs.Bytes.{no_bytes}
 use Rattle.bit_sets.specs.Numbers.{AreBelow, AreFrom}
 use Rattle.bit_sets.specs.declared.byte_set.ByteSet.{ByteSet}
@@ -64,8 +64,8 @@ pub record AreSound (sets : List ByteSet) (targets : List ℕ) (states : List de
   pub begun : AreBelow (length states) starts
 
 -- the value of an automaton of these parts
-abbrev pub machine : List ByteSet → List ℕ → List declared.State → List ℕ → ℕ → Machine
-machine sets targets states starts n = record {
+abbrev pub nfa : List ByteSet → List ℕ → List declared.State → List ℕ → ℕ → NfaValue
+nfa sets targets states starts n = record {
   states = of_states sets targets states;
   starts = starts;
   index_count = n;

@@ -3,7 +3,7 @@ use Rattle.std.proofs.Common.{ℕ, ◌<◌, ◌⊎◌, inl, inr, List, [], ◌�
 use Rattle.std.specs.Prelude.{◌↔◌, Result, Ok, Err, OnOk, IfOk}
 use Rattle.std.proofs.Math.Logic.{⊎_elim}
 use Rattle.byte_nfa.specs.Live.{MatchesAfter}
-use Rattle.byte_nfa.specs.Steps.{Machine, IsReached}
+use Rattle.byte_nfa.specs.Steps.{NfaValue, IsReached}
 use Rattle.bit_sets.specs.Texts.{AllBytes}
 use Rattle.glob_nfa.specs.IndexedTokens.{SomeMeanAfter}
 use Rattle.glob_nfa.specs.IndexedTokens.{IndexedTokens, SomeMatches, IsFor}
@@ -11,7 +11,7 @@ use Rattle.bit_sets.proofs.lemmas.Texts.{all_bytes}
 use Rattle.glob_nfa.proofs.lemmas.IndexedTokens.{reached_matches}
 
 -- beside what was found before
-pub finds_matches : {Now Before : Type 0} (m : Machine) (xs : List IndexedTokens) (path : List ℕ) (k : ℕ) → ((i : ℕ) → slice_index path i < 256)
+pub finds_matches : {Now Before : Type 0} (m : NfaValue) (xs : List IndexedTokens) (path : List ℕ) (k : ℕ) → ((i : ℕ) → slice_index path i < 256)
     → Now ↔ (IsReached m path k ⊎ Before) → IsFor m xs → Now ↔ (SomeMatches xs path k ⊎ Before)
 finds_matches {Now = Now} {Before = Before} m xs path k bytes found is =
     let same = reached_matches m xs path k is (all_bytes path bytes) in (
@@ -20,7 +20,7 @@ finds_matches {Now = Now} {Before = Before} m xs path k bytes found is =
     )
 
 -- whether there is any
-pub has_matches : {Some : Type 0} (m : Machine) (xs : List IndexedTokens) (path : List ℕ) → ((i : ℕ) → slice_index path i < 256)
+pub has_matches : {Some : Type 0} (m : NfaValue) (xs : List IndexedTokens) (path : List ℕ) → ((i : ℕ) → slice_index path i < 256)
     → Some ↔ ((k : ℕ) × IsReached m path k) → IsFor m xs → Some ↔ ((k : ℕ) × SomeMatches xs path k)
 has_matches m xs path bytes some is =
     let same : (k : ℕ) → IsReached m path k ↔ SomeMatches xs path k = λ k. reached_matches m xs path k is (all_bytes path bytes) in (
@@ -45,7 +45,7 @@ after_some (x ∷ xs) y (inl (rest, bytes, h)) = (x.index, rest, bytes, inl (ref
 after_some (x ∷ xs) y (inr h) = let (k, rest, bytes, g) = after_some xs y h in (k, rest, bytes, inr g)
 
 -- whether some tokens match a text that begins so
-pub after_matches : {Some : Type 0} (m : Machine) (xs : List IndexedTokens) (text : List ℕ) (byte : ℕ) → ((i : ℕ) → slice_index text i < 256) → byte < 256
+pub after_matches : {Some : Type 0} (m : NfaValue) (xs : List IndexedTokens) (text : List ℕ) (byte : ℕ) → ((i : ℕ) → slice_index text i < 256) → byte < 256
     → Some ↔ MatchesAfter m (text ++ byte ∷ []) → IsFor m xs → Some ↔ SomeMeanAfter xs (text ++ byte ∷ [])
 after_matches m xs text byte bytes small some is =
     let y = text ++ byte ∷ [] in

@@ -6,12 +6,12 @@ use Rattle.std.proofs.lemmas.Nat.{mul-le}
 use Rattle.std.proofs.Math.Logic.{⊎_elim}
 use Rattle.bit_sets.specs.Indexes.{has_index}
 use Rattle.byte_nfa.specs.Runs.{size}
-use Rattle.byte_nfa.specs.Steps.{Machine, Accepts}
+use Rattle.byte_nfa.specs.Steps.{NfaValue, Accepts}
 use Rattle.bit_sets.specs.declared.index_set.IndexSet.{IndexSet}
 use Rattle.byte_filter.specs.Starts.{IsReachedMarked}
 use Rattle.glob_matching.specs.inner.Filtered.{low_of, AreApart, IsReachedBefore}
 
-module _ (m : Machine) (apart : AreApart m) where
+module _ (m : NfaValue) (apart : AreApart m) where
   -- the spans follow each other
   pub low_more : (from i : ℕ) → from ≤ i → i ≤ length m.starts → low_of m.starts from ≤ low_of m.starts i
   low_more from zero le lt = let none : from ≡ 0 = omega arith in subst (λ n. low_of m.starts n ≤ 0) (sym none) (omega arith)
@@ -63,7 +63,7 @@ module _ (m : Machine) (apart : AreApart m) where
   runs_all p from before now le so_far =
       let all = mul-le p (low_of m.starts from) p (size m) (omega arith) (low_within from le) in omega (arith, so_far, all)
 
-module _ (m : Machine) (marks : IndexSet) (y : List ℕ) (k : ℕ) where
+module _ (m : NfaValue) (marks : IndexSet) (y : List ℕ) (k : ℕ) where
   -- one more start was run, and those before it are not marked
   pub before_more : (from i : ℕ) → from ≤ i → i < length m.starts → has_index marks i ≡ true → ((j : ℕ) → from ≤ j → j < i → has_index marks j ≡ false)
       → IsReachedBefore m marks (i + 1) y k ↔ (Accepts m.states k (slice_index m.starts i) y ⊎ IsReachedBefore m marks from y k)

@@ -3,10 +3,10 @@ use Rattle.std.proofs.Common.{ℕ, ◌⊎◌, inl, inr, List, [], ◌∷◌, ◌
 use Rattle.std.specs.Prelude.{◌↔◌}
 use Rattle.std.proofs.Math.Logic.{⊎_elim}
 use Rattle.byte_nfa.specs.Live.{MatchesAfter}
-use Rattle.byte_nfa.specs.Steps.{Machine, IsReached}
+use Rattle.byte_nfa.specs.Steps.{NfaValue, IsReached}
 use Rattle.nfa_sharing.specs.Sharing.{Shares}
 
-module _ (m sharing : Machine) (shares : Shares m sharing) (y : List ℕ) where
+module _ (m sharing : NfaValue) (shares : Shares m sharing) (y : List ℕ) where
   -- beside what was found before
   pub found_by : {Now Before : Type 0} (k : ℕ) → Now ↔ (IsReached sharing y k ⊎ Before) → Now ↔ (IsReached m y k ⊎ Before)
   found_by {Now = Now} {Before = Before} k found = (
@@ -22,7 +22,7 @@ module _ (m sharing : Machine) (shares : Shares m sharing) (y : List ℕ) where
   )
 
 -- whether the text can go on
-pub after_by : (m sharing : Machine) → Shares m sharing → (text : List ℕ) (byte : ℕ) → {Some : Type 0} → Some ↔ MatchesAfter sharing (text ++ byte ∷ []) → Some ↔ MatchesAfter m (text ++ byte ∷ [])
+pub after_by : (m sharing : NfaValue) → Shares m sharing → (text : List ℕ) (byte : ℕ) → {Some : Type 0} → Some ↔ MatchesAfter sharing (text ++ byte ∷ []) → Some ↔ MatchesAfter m (text ++ byte ∷ [])
 after_by m sharing shares text byte some = (
   λ h. let (k, rest, all, at) = some.0 h in (k, rest, all, (shares.reached ((text ++ byte ∷ []) ++ rest) k).0 at),
   λ (k, rest, all, at). some.1 (k, rest, all, (shares.reached ((text ++ byte ∷ []) ++ rest) k).1 at),

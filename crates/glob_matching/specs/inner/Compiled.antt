@@ -1,10 +1,10 @@
 -- Automata that are run by a table, whole, or from the starts that a filter names.
-use Rattle.byte_nfa.specs.Steps.{Machine}
+use Rattle.byte_nfa.specs.Steps.{NfaValue}
 use Rattle.glob_matching.specs.declared.compiled.Strategy.{Strategy}
 use Rattle.glob_matching.specs.declared.compiled.Strategy.TheVariants.{Table, Whole, Filtered}
 
 -- the automaton, or the one that the table is of, or the one that there is a filter for
-abbrev pub machine_of : Strategy → Machine
-machine_of (Table b) = b.value
-machine_of (Whole m) = m
-machine_of (Filtered b) = b.value
+abbrev pub nfa_of : Strategy → NfaValue
+nfa_of (Table b) = b.value
+nfa_of (Whole m) = m
+nfa_of (Filtered b) = b.value

@@ -1,7 +1,7 @@
 -- States that are added to an automaton.
 use Rattle.std.proofs.Common.{ℕ, ◌≤◌, Bool, List, [], ◌∷◌, ◌++◌, length, refl, sym, ◌∙◌, subst, arith}
 use Rattle.glob_syntax.specs.declared.options.Options.{Options}
-use Rattle.byte_nfa.specs.Steps.{State, bytes_state, union_state, Machine}
+use Rattle.byte_nfa.specs.Steps.{State, bytes_state, union_state, NfaValue}
 use Rattle.byte_nfa.specs.Building.{Agrees, Keeps, Pushes}
 use Rattle.bit_sets.specs.declared.byte_set.ByteSet.{ByteSet}
 use Rattle.glob_syntax.specs.Characters.{is_between}
@@ -11,21 +11,21 @@ use Rattle.glob_nfa.specs.inner.Building.{Grows, BuildsText, BuildsRow, BuildsCh
 
 -- ---- growing
 
-pub grows_none : (m : Machine) → Grows m m
+pub grows_none : (m : NfaValue) → Grows m m
 grows_none m = record {
   keeps = (omega arith, λ s low high. refl);
   starts = refl;
   index_count = refl;
 }
 
-pub grows_then : (m n r : Machine) → Grows m n → Grows n r → Grows m r
+pub grows_then : (m n r : NfaValue) → Grows m n → Grows n r → Grows m r
 grows_then m n r f g = record {
   keeps = (let p = f.keeps.0 in let q = g.keeps.0 in omega arith, λ s low high. (let p = f.keeps.0 in g.keeps.1 s low (omega arith)) ∙ f.keeps.1 s low high);
   starts = g.starts ∙ f.starts;
   index_count = g.index_count ∙ f.index_count;
 }
 
-pub grows_push : (m n : Machine) (s : ℕ) (st : State) → Pushes m n s st → Grows m n
+pub grows_push : (m n : NfaValue) (s : ℕ) (st : State) → Pushes m n s st → Grows m n
 grows_push m n s st p = record {
   keeps = p.keeps;
   starts = p.starts;
@@ -42,7 +42,7 @@ agrees_higher a new low high h agrees = λ s le lt. agrees s (omega arith) lt
 -- ---- literals
 
 -- one more byte, before the others
-pub text_more : (o : Options) (b : ℕ) (bs : List ℕ) (old mid new : Machine) (w : ByteSet) (s t e : ℕ)
+pub text_more : (o : Options) (b : ℕ) (bs : List ℕ) (old mid new : NfaValue) (w : ByteSet) (s t e : ℕ)
     → BuildsText o bs old.states mid.states t e → Keeps old.states mid.states → Pushes mid new s (bytes_state w t) → IsSetOf (is_letter o b) w → BuildsText o (b ∷ bs) old.states new.states s e
 text_more o b bs old mid new w s t e rest kept p letter = λ a agrees.
     (t, (w, p.adds a (length old.states) kept.0 agrees, letter), rest a (agrees_old a mid.states new.states (length old.states) p.keeps agrees))
@@ -50,17 +50,17 @@ text_more o b bs old mid new w s t e rest kept p letter = λ a agrees.
 -- ---- rows of tests
 
 -- one state
-pub row_one : (test : ℕ → Bool) (old new : Machine) (w : ByteSet) (s e : ℕ) → Pushes old new s (bytes_state w e) → IsSetOf test w → BuildsRow (test ∷ []) old.states new.states s e
+pub row_one : (test : ℕ → Bool) (old new : NfaValue) (w : ByteSet) (s e : ℕ) → Pushes old new s (bytes_state w e) → IsSetOf test w → BuildsRow (test ∷ []) old.states new.states s e
 row_one test old new w s e p set = λ a agrees. (e, (w, p.adds a (length old.states) (omega arith) agrees, set), refl)
 
 -- one more state, before the others
-pub row_more : (test : ℕ → Bool) (tests : List (ℕ → Bool)) (old mid new : Machine) (w : ByteSet) (s t e : ℕ)
+pub row_more : (test : ℕ → Bool) (tests : List (ℕ → Bool)) (old mid new : NfaValue) (w : ByteSet) (s t e : ℕ)
     → BuildsRow tests old.states mid.states t e → Keeps old.states mid.states → Pushes mid new s (bytes_state w t) → IsSetOf test w → BuildsRow (test ∷ tests) old.states new.states s e
 row_more test tests old mid new w s t e rest kept p set = λ a agrees.
     (t, (w, p.adds a (length old.states) kept.0 agrees, set), rest a (agrees_old a mid.states new.states (length old.states) p.keeps agrees))
 
 -- what is built stays built, and so does what is built later
-pub row_within : (tests : List (ℕ → Bool)) (old low high new : Machine) (s e : ℕ)
+pub row_within : (tests : List (ℕ → Bool)) (old low high new : NfaValue) (s e : ℕ)
     → Grows old low → Grows high new → BuildsRow tests low.states high.states s e → BuildsRow tests old.states new.states s e
 row_within tests old low high new s e before after built = λ a agrees.
     built a (agrees_higher a high.states (length old.states) (length low.states) before.keeps.0 (agrees_old a high.states new.states (length old.states) after.keeps agrees))
@@ -71,7 +71,7 @@ row_then a [] vs s t e is rest = subst (λ x. ReadsEach a x vs e) (sym is) rest
 row_then a (u ∷ us) vs s t e (x, read, more) rest = (x, read, row_then a us vs x t e more rest)
 
 -- the states of a whole character: those of its last bytes, of first bytes by the length of the character, and one before them
-pub character_built : (o : Options) (old lasts ascii_added pair_added threes fours new : Machine) (wa wp : ByteSet) (e one two three ascii pair low3 middle3 high3 low4 middle4 high4 s : ℕ)
+pub character_built : (o : Options) (old lasts ascii_added pair_added threes fours new : NfaValue) (wa wp : ByteSet) (e one two three ascii pair low3 middle3 high3 low4 middle4 high4 s : ℕ)
     → Grows old lasts → BuildsRow (continues ∷ []) old.states lasts.states one e → BuildsRow (continues ∷ continues ∷ []) old.states lasts.states two e
     → BuildsRow (continues ∷ continues ∷ continues ∷ []) old.states lasts.states three e
     → Pushes lasts ascii_added ascii (bytes_state wa e) → IsSetOf (is_ascii_wild o) wa

@@ -13,7 +13,7 @@ use Rattle.glob_syntax.specs.Views.{flat_of}
 use Rattle.glob_syntax.specs.inner.Weight.{weight, token_weight, branches_weight}
 use Rattle.glob_syntax.proofs.lemmas.FlatTokens.{IsSole}
 use Rattle.glob_syntax.specs.Blank.{is_blank_token, is_kept, any_kept}
-use Rattle.byte_nfa.specs.Steps.{State, union_state, state, Machine}
+use Rattle.byte_nfa.specs.Steps.{State, union_state, state, NfaValue}
 use Rattle.bit_sets.specs.Numbers.{AreBelow}
 use Rattle.byte_nfa.specs.Building.{Pushes}
 use Rattle.byte_nfa.specs.Runs.{size}
@@ -138,7 +138,7 @@ weight_group o f g fs (bs, branch ts us ∷ more) (blank, rest, outer) = omega a
 
 -- ---- the steps
 
-stands_token : (o : Options) (old mid new : Machine) (f : Frame) (fs : List Frame) (l : Levels) (t : Token) (s : ℕ) (b : Bool) (e : ℕ)
+stands_token : (o : Options) (old mid new : NfaValue) (f : Frame) (fs : List Frame) (l : Levels) (t : Token) (s : ℕ) (b : Bool) (e : ℕ)
     → Stands o old mid (f ∷ fs) (all_levels l) e → b ≡ is_blank_token t → s < size new → size new ≤ size mid + token_weight o t
     → Grows mid new → BuildsToken o t mid.states new.states s f.start
     → Stands o old new (led s b f ∷ fs) (all_levels (in_level (t ∷ []) l)) e
@@ -151,7 +151,7 @@ stands_token o old mid new f fs l t s b e stands is lt count grows builds = reco
       (builds a (agrees_higher a new.states (size old) (size mid) stands.grows.keeps.0 agrees));
 }
 
-pub stands_close : (o : Options) (old new : Machine) (f : Frame) (fs : List Frame) (l : Levels) (e : ℕ)
+pub stands_close : (o : Options) (old new : NfaValue) (f : Frame) (fs : List Frame) (l : Levels) (e : ℕ)
     → Stands o old new (f ∷ fs) (all_levels l) e → Stands o old new (fresh f.start ∷ f ∷ fs) (all_levels (close_level l)) e
 stands_close o old new f fs l e stands = record {
   grows = stands.grows;
@@ -165,7 +165,7 @@ pub within_ended : (n : ℕ) (k : Bool) (s : ℕ) (ss : List ℕ) → s < n → 
 within_ended n true s ss lt h = below_cons n s ss lt h
 within_ended n false s ss lt h = h
 
-pub stands_comma : (o : Options) (old new : Machine) (f : Frame) (fs : List Frame) (l : Levels) (e : ℕ)
+pub stands_comma : (o : Options) (old new : NfaValue) (f : Frame) (fs : List Frame) (l : Levels) (e : ℕ)
     → Stands o old new (f ∷ fs) (all_levels l) e → Stands o old new (ended o f ∷ fs) (all_levels (next_branch l)) e
 stands_comma o old new f fs l e stands = record {
   grows = stands.grows;
@@ -176,7 +176,7 @@ stands_comma o old new f fs l e stands = record {
 }
 
 -- after the first branch of the group is done
-pub stands_group : (o : Options) (old mid new : Machine) (f g : Frame) (fs : List Frame) (l : Levels) (s e : ℕ)
+pub stands_group : (o : Options) (old mid new : NfaValue) (f g : Frame) (fs : List Frame) (l : Levels) (s e : ℕ)
     → Stands o old mid (f ∷ g ∷ fs) (all_levels (next_branch l)) e → Pushes mid new s (union_state (targets_of f.starts f.exit))
     → Stands o old new (led s f.rest_blank g ∷ fs) (all_levels (open_level l)) e
 stands_group o old mid new f g fs l s e stands p = record {
@@ -188,7 +188,7 @@ stands_group o old mid new f g fs l s e stands p = record {
   builds = λ a agrees. open_group o a f g fs l s f.rest_blank e (stands.builds a (agrees_old a mid.states new.states (size old) p.keeps agrees)) (p.adds a (size old) stands.grows.keeps.0 agrees);
 }
 
-pub stands_flat : (o : Options) (old mid new : Machine) (f : Frame) (fs : List Frame) (l : Levels) (t : Flat) (s e : ℕ)
+pub stands_flat : (o : Options) (old mid new : NfaValue) (f : Frame) (fs : List Frame) (l : Levels) (t : Flat) (s e : ℕ)
     → Stands o old mid (f ∷ fs) (all_levels l) e → IsNotBlank t → s < size new → size new ≤ size mid + flat_weight o t
     → Grows mid new → BuildsFlat o t mid.states new.states s f.start
     → Stands o old new (led s false f ∷ fs) (all_levels (level t l)) e
@@ -210,7 +210,7 @@ not_blank variants.Comma = tt
 not_blank variants.Close = tt
 
 -- at the end the whole list is one branch, around which nothing is open
-pub stands_whole : (o : Options) (old new : Machine) (f : Frame) (fs : List Frame) (l : Levels) (e : ℕ)
+pub stands_whole : (o : Options) (old new : NfaValue) (f : Frame) (fs : List Frame) (l : Levels) (e : ℕ)
     → Stands o old new (f ∷ fs) (all_levels l) e → length l.1 ≡ 0 → Builds o (first_branch l.0) old.states new.states f.start e
 stands_whole o old new f fs (none, more) e stands h = absurd stands.blank
 stands_whole o old new f [] (branch ts bs, more) e stands h = λ a agrees. let b = stands.builds a agrees in subst (λ x. IsBuilt o a f.start ts x) b.2 b.0

@@ -7,7 +7,7 @@ use Rattle.glob_syntax.specs.Token.{Tokens}
 use Rattle.glob_syntax.specs.inner.Weight.{weight}
 use Rattle.glob_syntax.specs.TokenMatches.{tokens_match_each}
 use Rattle.glob_syntax.specs.TokensMatch.{tokens_match, is_prefix_alone}
-use Rattle.byte_nfa.specs.Steps.{state, loop_state, match_state, HasNumber, Accepts, Machine, IsReached}
+use Rattle.byte_nfa.specs.Steps.{state, loop_state, match_state, HasNumber, Accepts, NfaValue, IsReached}
 use Rattle.byte_nfa.specs.Building.{Agrees, Pushes}
 use Rattle.bit_sets.specs.declared.byte_set.ByteSet.{ByteSet}
 use Rattle.glob_nfa.specs.inner.TokenStates.{IsSetOf, is_any_byte}
@@ -22,7 +22,7 @@ use Rattle.glob_nfa.proofs.lemmas.TokenStates.{tokens_accept, everything_accepts
 -- ---- the tokens of one glob
 
 -- by the states of each
-pub whole_built : (o : Options) (ts : Tokens) (j : ℕ) (old mid new : Machine) (s e : ℕ)
+pub whole_built : (o : Options) (ts : Tokens) (j : ℕ) (old mid new : NfaValue) (s e : ℕ)
     → is_prefix_alone ts ≡ false → Pushes old mid e (match_state j) → Grows mid new → Builds o ts mid.states new.states s e → BuildsWhole o ts j old.states new.states s
 whole_built o ts j old mid new s e alone p grows builds = λ a agrees path k bytes.
     let more : length old.states ≤ length mid.states = omega (arith, p.len) in
@@ -34,7 +34,7 @@ whole_built o ts j old mid new s e alone p grows builds = λ a agrees path k byt
     )
 
 -- `**` alone
-pub everything_built : (o : Options) (ts : Tokens) (j : ℕ) (old mid new : Machine) (w : ByteSet) (s e : ℕ)
+pub everything_built : (o : Options) (ts : Tokens) (j : ℕ) (old mid new : NfaValue) (w : ByteSet) (s e : ℕ)
     → is_prefix_alone ts ≡ true → Pushes old mid e (match_state j) → Pushes mid new s (loop_state w (e ∷ [])) → IsSetOf is_any_byte w → BuildsWhole o ts j old.states new.states s
 everything_built o ts j old mid new w s e alone p q set = λ a agrees path k bytes.
     let more : length old.states ≤ length mid.states = omega (arith, p.len) in
@@ -73,11 +73,11 @@ some_push x (y ∷ ys) path k = (
       (λ last. inr ((some_push x ys path k).1 (inr last))) h,
 )
 
-pub none_for : (m : Machine) → m.starts ≡ [] → IsFor m []
+pub none_for : (m : NfaValue) → m.starts ≡ [] → IsFor m []
 none_for m is = λ a agrees path k bytes. (λ (s, at, h). subst (HasNumber s) is at, λ h. absurd h)
 
 -- states that were added and that nothing leads to change nothing
-pub still_for : (old new : Machine) (xs : List IndexedTokens) → Grows old new → IsFor old xs → IsFor new xs
+pub still_for : (old new : NfaValue) (xs : List IndexedTokens) → Grows old new → IsFor old xs → IsFor new xs
 still_for old new xs grows is = λ a agrees path k bytes.
     let before = is a (agrees_old a old.states new.states 0 grows.keeps agrees) path k bytes in (
       λ (s, at, h). before.0 (s, subst (HasNumber s) grows.starts at, h),
@@ -88,7 +88,7 @@ pub on_err : {X E P : Type 0} (r : Result X E) → P → OnErr r P
 on_err (Ok x) p = tt
 on_err (Err e) p = p
 
-pub one_more : (o : Options) (ts : Tokens) (j : ℕ) (old mid new : Machine) (s : ℕ) (xs : List IndexedTokens)
+pub one_more : (o : Options) (ts : Tokens) (j : ℕ) (old mid new : NfaValue) (s : ℕ) (xs : List IndexedTokens)
     → Grows old mid → BuildsWhole o ts j old.states mid.states s → new.states ≡ mid.states → new.starts ≡ mid.starts ++ s ∷ []
     → IsFor old xs → IsFor new (xs ++ indexed o ts j ∷ [])
 one_more o ts j old mid new s xs grows built states starts before = λ a agrees' path k bytes.
@@ -110,5 +110,5 @@ one_more o ts j old mid new s xs grows built states starts before = λ a agrees'
 -- ---- runs
 
 -- what a run reaches is what the tokens match
-pub reached_matches : (m : Machine) (xs : List IndexedTokens) (path : List ℕ) (k : ℕ) → IsFor m xs → AllBytes path → IsReached m path k ↔ SomeMatches xs path k
+pub reached_matches : (m : NfaValue) (xs : List IndexedTokens) (path : List ℕ) (k : ℕ) → IsFor m xs → AllBytes path → IsReached m path k ↔ SomeMatches xs path k
 reached_matches m xs path k is bytes = is m.states (λ s low high. refl) path k bytes

@@ -2,14 +2,14 @@
 use Rattle.std.specs.Prelude.{◌≡◌, ◌↔◌, ℕ, Bool, List, length, IsTrue}
 use Rattle.glob_syntax.specs.declared.options.Options.{Options}
 use Rattle.glob_syntax.specs.Token.{Token, Tokens}
-use Rattle.byte_nfa.specs.Steps.{State, Accepts, Machine}
+use Rattle.byte_nfa.specs.Steps.{State, Accepts, NfaValue}
 use Rattle.byte_nfa.specs.Building.{Agrees, Keeps}
 use Rattle.glob_syntax.specs.TokensMatch.{tokens_match}
 use Rattle.bit_sets.specs.Texts.{AllBytes}
 use Rattle.glob_nfa.specs.inner.TokenStates.{IsSpelled, IsToSlash, ReadsEach, IsCharacter, IsBuilt, IsBuiltToken}
 
 -- states were added, and nothing else changed
-pub record Grows (old new : Machine) : Type 0 where
+pub record Grows (old new : NfaValue) : Type 0 where
   pub keeps : Keeps old.states new.states
   pub starts : new.starts ≡ old.starts
   pub index_count : new.index_count ≡ old.index_count

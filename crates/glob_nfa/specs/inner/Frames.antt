@@ -5,7 +5,7 @@ use Rattle.glob_syntax.specs.Token.{Branches, none, branch}
 use Rattle.glob_syntax.specs.FlatTokens.{Flat, simple, opening, comma, closing}
 use Rattle.glob_syntax.specs.inner.Weight.{token_weight, branches_weight}
 use Rattle.glob_syntax.specs.Blank.{is_blank, is_blank_token, are_blank}
-use Rattle.byte_nfa.specs.Steps.{State, Machine}
+use Rattle.byte_nfa.specs.Steps.{State, NfaValue}
 use Rattle.bit_sets.specs.Numbers.{AreBelow}
 use Rattle.byte_nfa.specs.Building.{Agrees}
 use Rattle.byte_nfa.specs.Runs.{size}
@@ -100,7 +100,7 @@ levels_weight o [] = 0
 levels_weight o (bs ∷ more) = branches_weight o bs + levels_weight o more
 
 -- the states that were added are those of the levels of the tokens so far
-pub record Stands (o : Options) (old new : Machine) (fs : List Frame) (levels : List Branches) (e : ℕ) : Type 0 where
+pub record Stands (o : Options) (old new : NfaValue) (fs : List Frame) (levels : List Branches) (e : ℕ) : Type 0 where
   pub grows : Grows old new
   pub count : size new ≤ size old + levels_weight o levels
   pub within : AreWithin (size new) fs

@@ -5,7 +5,7 @@ use Rattle.std.specs.List.{range_with_len}
 use Rattle.std.proofs.Math.Logic.{⊎_elim}
 use Rattle.byte_nfa.specs.Runs.{AcceptsFrom}
 use Rattle.bit_sets.specs.StateSets.{has_state}
-use Rattle.byte_nfa.specs.Steps.{Machine, IsReached}
+use Rattle.byte_nfa.specs.Steps.{NfaValue, IsReached}
 use Rattle.bit_sets.specs.Texts.{AllBytes}
 use Rattle.bit_sets.specs.declared.state_set.StateSet.{StateSet}
 use Rattle.glob_nfa.specs.IndexedTokens.{IndexedTokens, indexed, IsFor, SomeMatches}
@@ -29,7 +29,7 @@ indexed_more j (h ∷ gs) g =
     (indexed_more (j + 1) gs g ∙ ap (λ (n : ℕ). indexed_globs (j + 1) gs ++ indexed g.options (tokens_of_glob g) n ∷ []) e)
 
 -- the tokens of a glob were added, under the number of the globs before it
-pub glob_added : (globs : List GlobValue) (g : GlobValue) (o : Options) (ts : Tokens) (n : ℕ) (old new : Machine)
+pub glob_added : (globs : List GlobValue) (g : GlobValue) (o : Options) (ts : Tokens) (n : ℕ) (old new : NfaValue)
     → o ≡ g.options → tokens_of_glob g ≡ ts → n < old.index_count → new.index_count ≡ old.index_count
     → ((xs : List IndexedTokens) → IsFor old xs → IsFor new (xs ++ indexed o ts n ∷ []))
     → AreAdded globs old n → AreAdded (globs ++ g ∷ []) new (n + 1)
@@ -48,7 +48,7 @@ glob_added globs g o ts n old new options tokens room same adds h =
     }
 
 -- nothing was added, although there may be more states
-pub globs_kept : (globs : List GlobValue) (n : ℕ) (old new : Machine) → new.index_count ≡ old.index_count → ((xs : List IndexedTokens) → IsFor old xs → IsFor new xs)
+pub globs_kept : (globs : List GlobValue) (n : ℕ) (old new : NfaValue) → new.index_count ≡ old.index_count → ((xs : List IndexedTokens) → IsFor old xs → IsFor new xs)
     → AreAdded globs old n → AreAdded globs new n
 globs_kept globs n old new same keeps h = record {
   are = record {
@@ -90,7 +90,7 @@ none_past test (x ∷ xs) zero h = absurd (omega (arith, h))
 none_past test (x ∷ xs) (suc k) h = none_past test xs k (omega (arith, h))
 
 -- an index is reached exactly if the glob at it matches
-reached_at : (globs : List GlobValue) (m : Machine) (text : List ℕ) (k : ℕ) → IsPrefixMatcherOf globs m → AllBytes text
+reached_at : (globs : List GlobValue) (m : NfaValue) (text : List ℕ) (k : ℕ) → IsPrefixMatcherOf globs m → AllBytes text
     → IsReached m text k ↔ IsTrue (passes_at (λ g. glob_matches g text) globs k)
 reached_at globs m text k is bytes =
     let runs = is.tokens m.states (λ s low high. refl) text k bytes in
@@ -102,7 +102,7 @@ reached_at globs m text k is bytes =
     )
 
 -- the indexes that are reached, ascending
-pub reached_are : (globs : List GlobValue) (m : Machine) (text : List ℕ) (has : ℕ → Bool) (found : List ℕ) → IsPrefixMatcherOf globs m → AllBytes text
+pub reached_are : (globs : List GlobValue) (m : NfaValue) (text : List ℕ) (has : ℕ → Bool) (found : List ℕ) → IsPrefixMatcherOf globs m → AllBytes text
     → ((k : ℕ) → IsTrue (has k) ↔ IsReached m text k) → found ≡ filter has (range_with_len 0 m.index_count) → found ≡ all_matching_indexes globs text
 reached_are globs m text has found is bytes marked e =
     let test = passes_at (λ (g : GlobValue). glob_matches g text) globs in
@@ -118,20 +118,20 @@ bytes_more (d ∷ ds) c l b = (b.0, bytes_more ds c l b.1)
 
 -- one byte more was read
 pub byte_read : (m : PrefixMatcherValue) (old new : PrefixStatesValue) (stepped : StateSet) (text : List ℕ) (byte : ℕ) → byte < 256
-    → ((y : List ℕ) (k : ℕ) → AcceptsFrom m.machine old.current (byte ∷ y) k ↔ AcceptsFrom m.machine stepped y k) → new.current ≡ stepped
+    → ((y : List ℕ) (k : ℕ) → AcceptsFrom m.nfa old.current (byte ∷ y) k ↔ AcceptsFrom m.nfa stepped y k) → new.current ≡ stepped
     → IsAfter m old text → IsAfter m new (text ++ byte ∷ [])
 byte_read m old new stepped text byte lt steps same h = record {
   bytes = bytes_more text byte lt h.bytes;
   leads = λ y k.
       let e : text ++ byte ∷ y ≡ (text ++ byte ∷ []) ++ y = sym (append_assoc text (byte ∷ []) y) in
-      subst (λ (set : StateSet). AcceptsFrom m.machine set y k ↔ IsReached m.machine ((text ++ byte ∷ []) ++ y) k) (sym same) (
-        λ a. subst (λ (t : List ℕ). IsReached m.machine t k) e ((h.leads (byte ∷ y) k).0 ((steps y k).1 a)),
-        λ r. (steps y k).0 ((h.leads (byte ∷ y) k).1 (subst (λ (t : List ℕ). IsReached m.machine t k) (sym e) r)),
+      subst (λ (set : StateSet). AcceptsFrom m.nfa set y k ↔ IsReached m.nfa ((text ++ byte ∷ []) ++ y) k) (sym same) (
+        λ a. subst (λ (t : List ℕ). IsReached m.nfa t k) e ((h.leads (byte ∷ y) k).0 ((steps y k).1 a)),
+        λ r. (steps y k).0 ((h.leads (byte ∷ y) k).1 (subst (λ (t : List ℕ). IsReached m.nfa t k) (sym e) r)),
       );
 }
 
 -- the ends that states lead to, by a copy of the states
-pub ends_found : (m : Machine) (current asked : StateSet) (k : ℕ) (found before : Bool)
+pub ends_found : (m : NfaValue) (current asked : StateSet) (k : ℕ) (found before : Bool)
     → ((s : ℕ) → has_state asked s ≡ has_state current s) → before ≡ false
     → IsTrue found ↔ (AcceptsFrom m asked [] k ⊎ IsTrue before) → IsTrue found ↔ AcceptsFrom m current [] k
 ends_found m current asked k found before same none ends = (
@@ -141,17 +141,17 @@ ends_found m current asked k found before same none ends = (
 
 -- the states after a text lead to the ends of the text
 pub ends_reached : (m : PrefixMatcherValue) (held : PrefixStatesValue) (text : List ℕ) (k : ℕ) (found : Bool)
-    → IsTrue found ↔ AcceptsFrom m.machine held.current [] k → IsAfter m held text → IsTrue found ↔ IsReached m.machine text k
+    → IsTrue found ↔ AcceptsFrom m.nfa held.current [] k → IsAfter m held text → IsTrue found ↔ IsReached m.nfa text k
 ends_reached m held text k found marked after =
     let lead = after.leads [] k in
     let all : text ++ [] ≡ text = append-nil text in (
-      λ yes. subst (λ (t : List ℕ). IsReached m.machine t k) all (lead.0 (marked.0 yes)),
-      λ r. marked.1 (lead.1 (subst (λ (t : List ℕ). IsReached m.machine t k) (sym all) r)),
+      λ yes. subst (λ (t : List ℕ). IsReached m.nfa t k) all (lead.0 (marked.0 yes)),
+      λ r. marked.1 (lead.1 (subst (λ (t : List ℕ). IsReached m.nfa t k) (sym all) r)),
     )
 
 -- states are after a text by their current set alone
 pub same_current : (m : PrefixMatcherValue) (old new : PrefixStatesValue) (text : List ℕ) → new.current ≡ old.current → IsAfter m old text → IsAfter m new text
 same_current m old new text e h = record {
   bytes = h.bytes;
-  leads = λ y k. subst (λ (set : StateSet). AcceptsFrom m.machine set y k ↔ IsReached m.machine (text ++ y) k) (sym e) (h.leads y k);
+  leads = λ y k. subst (λ (set : StateSet). AcceptsFrom m.nfa set y k ↔ IsReached m.nfa (text ++ y) k) (sym e) (h.leads y k);
 }

@@ -10,7 +10,7 @@ use Rattle.glob_syntax.specs.Token.{Tokens}
 use Rattle.glob_syntax.specs.Reading.{reading}
 use Rattle.glob_syntax.specs.StatesPerByte.{states_per_byte}
 use Rattle.glob_syntax.specs.inner.Weight.{weight}
-use Rattle.byte_nfa.specs.Steps.{Machine}
+use Rattle.byte_nfa.specs.Steps.{NfaValue}
 use Rattle.byte_nfa.specs.Runs.{max_reads}
 use Rattle.glob_syntax.specs.After.{MeanAfter}
 use Rattle.glob_nfa.specs.IndexedTokens.{SomeMeanAfter}
@@ -25,7 +25,7 @@ use Rattle.globset_glob.specs.inner.GlobNfa.{IsAutomatonOf}
 use Rattle.glob_text.proofs.lemmas.Globs.{tokens_are}
 
 -- an automaton to which the glob's tokens were added, and nothing else
-pub automaton_is : (g : GlobValue) (o : Options) (ts : Tokens) (old new : Machine) → o ≡ g.options → reading g.options (chars g.text) ≡ Ok ts → weight o ts ≤ states_per_byte o * length g.text
+pub automaton_is : (g : GlobValue) (o : Options) (ts : Tokens) (old new : NfaValue) → o ≡ g.options → reading g.options (chars g.text) ≡ Ok ts → weight o ts ≤ states_per_byte o * length g.text
     → IsFor old [] → max_reads old ≡ 0 → ((xs : List IndexedTokens) → IsFor old xs → IsFor new (xs ++ indexed o ts 0 ∷ [])) → max_reads new ≤ max_reads old + (weight o ts + 4) → IsAutomatonOf g new
 automaton_is g o ts old new options read few none empty adds count = record {
   tokens = subst (λ us. IsFor new (indexed g.options us 0 ∷ [])) (sym (tokens_are g ts read)) (subst (λ p. IsFor new (indexed p ts 0 ∷ [])) options (adds [] none));

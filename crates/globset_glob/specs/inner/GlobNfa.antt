@@ -1,7 +1,7 @@
 -- By what a matcher decides: the key or the automaton of one glob.
 use Rattle.std.specs.Prelude.{◌≤◌, ℕ, [], ◌∷◌}
 use Rattle.std.specs.Arc.{arc_value}
-use Rattle.byte_nfa.specs.Steps.{Machine}
+use Rattle.byte_nfa.specs.Steps.{NfaValue}
 use Rattle.byte_nfa.specs.Runs.{size, max_reads}
 use Rattle.glob_nfa.specs.IndexedTokens.{indexed, IsFor}
 use Rattle.glob_strategy.specs.inner.DecidedByKey.{IsDecidedBy}
@@ -9,20 +9,20 @@ use Rattle.glob_path.specs.Key.{key_seen}
 use Rattle.glob_text.specs.GlobMatches.{GlobValue, tokens_of_glob}
 use Rattle.glob_text.specs.Cost.{cost}
 use Rattle.globset_glob.specs.declared.matcher.strategy.Strategy.{Strategy}
-use Rattle.globset_glob.specs.declared.matcher.strategy.Strategy.TheVariants.{Key, Nfa}
+use Rattle.globset_glob.specs.declared.matcher.strategy.Strategy.TheVariants.{Key, Simulation}
 
 -- An automaton is for the tokens of the glob, under the index 0. At each position of a path it has at most as many reads
 -- as the glob may have visits.
-pub record IsAutomatonOf (g : GlobValue) (m : Machine) : Type 0 where
+pub record IsAutomatonOf (g : GlobValue) (m : NfaValue) : Type 0 where
   pub tokens : IsFor m (indexed g.options (tokens_of_glob g) 0 ∷ [])
   pub reads : max_reads m ≤ cost g
 
 -- A key decides which paths the glob matches. An automaton is that of the glob.
 abbrev pub IsStrategyOfMatcher : GlobValue → Strategy → Type 0
 IsStrategyOfMatcher g (Key key) = IsDecidedBy g.options (tokens_of_glob g) (key_seen key)
-IsStrategyOfMatcher g (Nfa m) = IsAutomatonOf g (arc_value m)
+IsStrategyOfMatcher g (Simulation m) = IsAutomatonOf g (arc_value m)
 
 -- the states of the automaton; a key has none
 abbrev pub form_states : Strategy → ℕ
 form_states (Key key) = 0
-form_states (Nfa m) = size (arc_value m)
+form_states (Simulation m) = size (arc_value m)

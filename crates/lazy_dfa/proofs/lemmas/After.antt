@@ -12,7 +12,7 @@ use Rattle.byte_nfa.proofs.lemmas.Pass.{or_first, or_second}
 use Rattle.byte_nfa.specs.EarlyMatches.{IsAtEarlyMatch, EndsAtEarlyMatches}
 use Rattle.byte_nfa.specs.Live.{AreLive, MatchesAfter}
 use Rattle.byte_nfa.specs.Runs.{size}
-use Rattle.byte_nfa.specs.Steps.{Machine, state, match_state, Accepts, IsReached, ends, by_byte, by_skip, by_out, by_stay}
+use Rattle.byte_nfa.specs.Steps.{NfaValue, state, match_state, Accepts, IsReached, ends, by_byte, by_skip, by_out, by_stay}
 use Rattle.byte_dfa.proofs.lemmas.After.{both_bytes}
 use Rattle.byte_dfa.specs.inner.Building.{half}
 use Rattle.lazy_dfa.specs.inner.Rows.{AcceptsIn, FindsBy}
@@ -31,7 +31,7 @@ number_place t (x ∷ xs) at = ⊎_elim {C = (n : ℕ) × (n < length (x ∷ xs)
     (λ rest. let (n, lt, is) = number_place t xs rest in (suc n, omega (arith, lt), is))
     (or_cases (t == x) (has_number t xs) at)
 
-module _ (m : Machine) (live : StateSet) (are : AreLive m live) (list : List ℕ) (below : AreBelow (size m) list) where
+module _ (m : NfaValue) (live : StateSet) (are : AreLive m live) (list : List ℕ) (below : AreBelow (size m) list) where
   -- a live state is in the list
   pub some_live : (n : ℕ) → n < length list → IsTrue (has_state live (slice_index list n)) → (k : ℕ) × (y : List ℕ) × AllBytes y × AcceptsIn m list y k
   some_live n lt has = let (k, y, all, a) = (are (slice_index list n) (below n lt)).0 has in (k, y, all, (slice_index list n, has_number_at list n lt, a))
@@ -44,7 +44,7 @@ module _ (m : Machine) (live : StateSet) (are : AreLive m live) (list : List ℕ
       true≢false (sym lives ∙ none n lt)
 
 -- each index of the automaton with early matches is below twice the old number
-pub index_below : (old m : Machine) → EndsAtEarlyMatches old m → (k s : ℕ) (y : List ℕ) → Accepts m.states k s y → k < half m + half m
+pub index_below : (old m : NfaValue) → EndsAtEarlyMatches old m → (k s : ℕ) (y : List ℕ) → Accepts m.states k s y → k < half m + half m
 index_below old m made k s y (ends s' e) = ended (made.states s)
   where
     ended : IsAtEarlyMatch old.states old.index_count s (state m.states s) → k < half m + half m
@@ -85,7 +85,7 @@ live_finds n P below = (there, back)
     back (k, y, all, (lt, inr (p, q, e, a))) = (n + k, p, first_bytes p q (subst AllBytes e all), a)
 
 -- what the automaton with early matches finds after a text, the other automaton matches
-pub after_is : (old m : Machine) → EndsAtEarlyMatches old m → (text : List ℕ) (byte : ℕ) → AllBytes text → byte < 256
+pub after_is : (old m : NfaValue) → EndsAtEarlyMatches old m → (text : List ℕ) (byte : ℕ) → AllBytes text → byte < 256
     → ((k : ℕ) × (y : List ℕ) × AllBytes y × FindsBy (half m) (IsReached m) (text ++ byte ∷ y) k) ↔ MatchesAfter old (text ++ byte ∷ [])
 after_is old m made text byte bytes small = (
   λ (k, y, all, h). (k, y, all, subst (λ z. IsReached old z k) (sym (after_byte text y byte)) ((found_is old m made (text ++ byte ∷ y) (both_bytes text (byte ∷ y) bytes (small, all)) k).0 h)),

@@ -6,7 +6,7 @@ use Rattle.std.proofs.lemmas.Nat.{mul-le}
 use Rattle.std.proofs.Math.Logic.{⊎_elim}
 use Rattle.byte_nfa.proofs.lemmas.Pass.{iff_trans}
 use Rattle.byte_dfa.proofs.lemmas.Found.{iff_sym}
-use Rattle.byte_nfa.specs.Steps.{Machine, IsReached}
+use Rattle.byte_nfa.specs.Steps.{NfaValue, IsReached}
 use Rattle.byte_nfa.specs.EarlyMatches.{EndsAtEarlyMatches}
 use Rattle.byte_nfa.proofs.lemmas.Deciding.{reached_by}
 use Rattle.bit_sets.specs.Texts.{AllBytes}
@@ -143,7 +143,7 @@ pub some_same : {P Q : ℕ → Type 0} → ((k : ℕ) → P k ↔ Q k) → ((k :
 some_same same = (λ (k, p). (k, (same k).0 p), λ (k, q). (k, (same k).1 q))
 
 -- what the automaton with early matches finds
-pub found_is : (old m : Machine) → EndsAtEarlyMatches old m → (y : List ℕ) → AllBytes y → (k : ℕ) → FindsBy (half m) (IsReached m) y k ↔ IsReached old y k
+pub found_is : (old m : NfaValue) → EndsAtEarlyMatches old m → (y : List ℕ) → AllBytes y → (k : ℕ) → FindsBy (half m) (IsReached m) y k ↔ IsReached old y k
 found_is old m made y bytes k =
     let two = made.index_count in
     let is : old.index_count ≡ half m = omega arith in

@@ -9,7 +9,7 @@ use Rattle.std.proofs.Math.Logic.{⊎_elim}
 use Rattle.bit_sets.specs.Numbers.{has_number, AreBelow}
 use Rattle.bit_sets.specs.StateSets.{has_state}
 use Rattle.bit_sets.specs.declared.state_set.StateSet.{StateSet}
-use Rattle.byte_nfa.specs.Steps.{Machine, IsReached, state}
+use Rattle.byte_nfa.specs.Steps.{NfaValue, IsReached, state}
 use Rattle.byte_nfa.specs.Equivalent.{AreEquivalent, reads_byte}
 use Rattle.byte_nfa.proofs.lemmas.Equivalent.{accepts_equivalent}
 use Rattle.byte_nfa.specs.Runs.{size, AcceptsFrom}
@@ -40,7 +40,7 @@ same_place i c j d w hc hd e = ⊎_elim {C = (i ≡ j) × (c ≡ d)}
 
 -- states of a set, and of a list
 
-pub accepts_listed : (m : Machine) (set : StateSet) (list : List ℕ) → ((t : ℕ) → IsTrue (has_number t list) ↔ ((t < size m) × IsTrue (has_state set t)))
+pub accepts_listed : (m : NfaValue) (set : StateSet) (list : List ℕ) → ((t : ℕ) → IsTrue (has_number t list) ↔ ((t < size m) × IsTrue (has_state set t)))
     → (y : List ℕ) (k : ℕ) → AcceptsFrom m set y k ↔ AcceptsIn m list y k
 accepts_listed m set list has y k = (
   λ (t, lt, at, h). (t, (has t).1 (lt, at), h),
@@ -48,7 +48,7 @@ accepts_listed m set list has y k = (
 )
 
 -- the states of a list were put into an empty set
-pub accepts_loaded : (m : Machine) (empty set : StateSet) (list : List ℕ) → ((t : ℕ) → has_state empty t ≡ false) → ((t : ℕ) → has_state set t ≡ (has_number t list || has_state empty t))
+pub accepts_loaded : (m : NfaValue) (empty set : StateSet) (list : List ℕ) → ((t : ℕ) → has_state empty t ≡ false) → ((t : ℕ) → has_state set t ≡ (has_number t list || has_state empty t))
     → (y : List ℕ) (k : ℕ) → AcceptsIn m list y k ↔ AcceptsFrom m set y k
 accepts_loaded m empty set list none has y k = (
   λ (t, at, h). (t, accepts_within m.states k t y h, has t ∙ or_first (has_number t list) (has_state empty t) at, h),
@@ -68,7 +68,7 @@ list_kept lists more starts more' n i lt is =
     (ap (list_at (lists ++ more)) same ∙ states, subst (IsList (lists ++ more) n) (sym same) list)
 
 -- a row that is still there leads where it did
-pub accepts_kept : (m : Machine) (old new : Rows) (i : ℕ) (y : List ℕ) (k : ℕ) → states_of new i ≡ states_of old i → AcceptsRow m old i y k ↔ AcceptsRow m new i y k
+pub accepts_kept : (m : NfaValue) (old new : Rows) (i : ℕ) (y : List ℕ) (k : ℕ) → states_of new i ≡ states_of old i → AcceptsRow m old i y k ↔ AcceptsRow m new i y k
 accepts_kept m old new i y k same = (λ a. subst (λ l. AcceptsIn m l y k) (sym same) a, λ a. subst (λ l. AcceptsIn m l y k) same a)
 
 -- a row that is still there is where it was
@@ -76,7 +76,7 @@ pub at_kept : (old new : Rows) (j p : ℕ) → KeepsRows old new → IsAt old j 
 at_kept old new j p keeps (lt, is) = ((let more = keeps.more in omega arith), rw keeps.class_count is)
 
 -- an entry is right where rows were added
-module _ (m : Machine) (old new : Rows) (i : ℕ) (keeps : KeepsRows old new) (lt : i < length old.starts.items) where
+module _ (m : NfaValue) (old new : Rows) (i : ℕ) (keeps : KeepsRows old new) (lt : i < length old.starts.items) where
   pub marks_still : HasMarks m old i → HasMarks m new i
   marks_still (k, low, a) = (k, low, (accepts_kept m old new i [] (half m + k) (keeps.states i lt)).0 a)
 
@@ -131,17 +131,17 @@ same_keeps old new is = record {
 }
 
 -- where a run begins
-abbrev pub Begins : Machine → Rows → Type 0
+abbrev pub Begins : NfaValue → Rows → Type 0
 Begins m rows = (p : ℕ) → rows.begin ≡ Some p → BeginsAt m rows p
 
-pub begins_at_kept : (m : Machine) (old new : Rows) (p : ℕ) → KeepsRows old new → BeginsAt m old p → BeginsAt m new p
+pub begins_at_kept : (m : NfaValue) (old new : Rows) (p : ℕ) → KeepsRows old new → BeginsAt m old p → BeginsAt m new p
 begins_at_kept m old new p keeps (j, at, begins) =
     (j, at_kept old new j p keeps at, λ y k. subst (λ l. AcceptsIn m l y k ↔ IsReached m y k) (sym (keeps.states j at.0)) (begins y k))
 
-begins_kept : (m : Machine) (old new : Rows) → HasSameRows old new → new.begin ≡ old.begin → Begins m old → Begins m new
+begins_kept : (m : NfaValue) (old new : Rows) → HasSameRows old new → new.begin ≡ old.begin → Begins m old → Begins m new
 begins_kept m old new is begin before p at = begins_at_kept m old new p (same_keeps old new is) (before p (sym begin ∙ at))
 
-pub begun_sound : (m : Machine) (old new : Rows) → HasSameRows old new → new.entries.items ≡ old.entries.items → HasRoomFor m new → Begins m new → IsSound m old → IsSound m new
+pub begun_sound : (m : NfaValue) (old new : Rows) → HasSameRows old new → new.entries.items ≡ old.entries.items → HasRoomFor m new → Begins m new → IsSound m old → IsSound m new
 begun_sound m old new is entries room begins sound = record {
   room = room;
   representatives = sound.representatives;
@@ -159,11 +159,11 @@ begun_sound m old new is entries room begins sound = record {
   begins = begins;
 }
 
-pub same_sound : (m : Machine) (old new : Rows) → HasSameRows old new → new.entries.items ≡ old.entries.items → new.begin ≡ old.begin → HasRoomFor m new → IsSound m old → IsSound m new
+pub same_sound : (m : NfaValue) (old new : Rows) → HasSameRows old new → new.entries.items ≡ old.entries.items → new.begin ≡ old.begin → HasRoomFor m new → IsSound m old → IsSound m new
 same_sound m old new is entries begin room sound = begun_sound m old new is entries room (begins_kept m old new is begin sound.begins) sound
 
 -- an entry was written
-pub entry_written : (m : Machine) (rows : Rows) (entries : List ℕ) (w n row column e i c : ℕ) → length entries ≡ n * (w + 1) → row < n → column ≤ w → c ≤ w
+pub entry_written : (m : NfaValue) (rows : Rows) (entries : List ℕ) (w n row column e i c : ℕ) → length entries ≡ n * (w + 1) → row < n → column ≤ w → c ≤ w
     → IsEntry m rows row column e → ((j d : ℕ) → j < n → d ≤ w → 0 < slice_index entries (j * (w + 1) + d) → IsEntry m rows j d (slice_index entries (j * (w + 1) + d)))
     → i < n → 0 < slice_index (slice_set entries (row * (w + 1) + column) e) (i * (w + 1) + c) → IsEntry m rows i c (slice_index (slice_set entries (row * (w + 1) + column) e) (i * (w + 1) + c))
 entry_written m rows entries w n row column e i c len here hcol hc is known lt some = ⊎_elim {C = IsEntry m rows i c (slice_index new at)}
@@ -217,7 +217,7 @@ pub record HasAdded (old new : Rows) (list : List ℕ) : Type 0 where
   pub class_count : new.class_count ≡ old.class_count
   pub begin : new.begin ≡ old.begin
 
-module _ (m : Machine) (old new : Rows) (list : List ℕ) (is : HasAdded old new list) (sound : IsSound m old) where
+module _ (m : NfaValue) (old new : Rows) (list : List ℕ) (is : HasAdded old new list) (sound : IsSound m old) where
   more_starts : length new.starts.items ≡ length old.starts.items + 1
   more_starts = ap length is.starts ∙ length-append old.starts.items (length old.lists.items ∷ [])
 
@@ -299,7 +299,7 @@ in_range from end set None r is none = (
 in_range from end set (Some k) r is (low, high, at, before) = (λ _. (k, low, high, at), λ _. is)
 
 -- one entry of the rows was written
-pub written_sound : (m : Machine) (old new : Rows) (row column e : ℕ) → HasSameRows old new → new.entries.items ≡ slice_set old.entries.items (place_of old row column) e → new.begin ≡ old.begin → HasRoomFor m new
+pub written_sound : (m : NfaValue) (old new : Rows) (row column e : ℕ) → HasSameRows old new → new.entries.items ≡ slice_set old.entries.items (place_of old row column) e → new.begin ≡ old.begin → HasRoomFor m new
     → row < length old.starts.items → column ≤ old.class_count → IsEntry m old row column e → IsSound m old → IsSound m new
 written_sound m old new row column e is entries begin room here short entry sound = record {
   room = room;
@@ -325,23 +325,23 @@ written_sound m old new row column e is entries begin room here short entry soun
 
 -- bytes of one class lead to the same ends
 
-in_equivalent : (m : Machine) (list : List ℕ) (b c : ℕ) (y : List ℕ) (k : ℕ) → AreEquivalent m.states b c → AcceptsIn m list (b ∷ y) k → AcceptsIn m list (c ∷ y) k
+in_equivalent : (m : NfaValue) (list : List ℕ) (b c : ℕ) (y : List ℕ) (k : ℕ) → AreEquivalent m.states b c → AcceptsIn m list (b ∷ y) k → AcceptsIn m list (c ∷ y) k
 in_equivalent m list b c y k same (t, at, h) = (t, at, accepts_equivalent m.states k b c y same t (b ∷ y) h refl)
 
-same_class : (m : Machine) (rows : Rows) (b c : ℕ) → IsSound m rows → b < 256 → c < 256 → slice_index rows.class_of b ≡ slice_index rows.class_of c → AreEquivalent m.states b c
+same_class : (m : NfaValue) (rows : Rows) (b c : ℕ) → IsSound m rows → b < 256 → c < 256 → slice_index rows.class_of b ≡ slice_index rows.class_of c → AreEquivalent m.states b c
 same_class m rows b c sound small small' class s =
     let first = (sound.classes b small).1 s in
     let second = (sound.classes c small').1 s in
     sym first ∙ ap (λ d. reads_byte (state m.states s) (slice_index sound.representatives d)) class ∙ second
 
-next_by : (m : Machine) (rows : Rows) (i b c e : ℕ) → AreEquivalent m.states c b → AreEquivalent m.states b c → IsNext m rows i b e → IsNext m rows i c e
+next_by : (m : NfaValue) (rows : Rows) (i b c e : ℕ) → AreEquivalent m.states c b → AreEquivalent m.states b c → IsNext m rows i b e → IsNext m rows i c e
 next_by m rows i b c e there back is = record {
   dead = λ d y k a. is.dead d y k (in_equivalent m (states_of rows i) c b y k there a);
   row = λ some. let (j, at, goes) = is.row some in (j, at, λ y k. (λ a. (goes y k).0 (in_equivalent m (states_of rows i) c b y k there a), λ a. in_equivalent m (states_of rows i) b c y k back ((goes y k).1 a)));
 }
 
 -- what an entry says of one byte, it says of each of the class
-pub entry_by : (m : Machine) (rows : Rows) (i b e marks : ℕ) → IsSound m rows → b < 256 → 0 < e → e < marked → MarksAre m rows i marks → IsNext m rows i b e → IsEntry m rows i (slice_index rows.class_of b) (e + marks)
+pub entry_by : (m : NfaValue) (rows : Rows) (i b e marks : ℕ) → IsSound m rows → b < 256 → 0 < e → e < marked → MarksAre m rows i marks → IsNext m rows i b e → IsEntry m rows i (slice_index rows.class_of b) (e + marks)
 entry_by m rows i b e marks sound small some low are is = record {
   byte = λ c small' class.
       let next = next_by m rows i b c e (same_class m rows c b sound small' small class) (same_class m rows b c sound small small' (sym class)) is in
@@ -364,35 +364,35 @@ entry_by m rows i b e marks sound small some low are is = record {
         }
 
 -- marks, by the indexes of ends
-pub marks_by_ends : (m : Machine) (rows : Rows) (i : ℕ) (ends : IndexSet) (marks : Bool) → IsTrue marks ↔ ((k : ℕ) × (k < half m) × IsTrue (has_index ends (half m + k)))
+pub marks_by_ends : (m : NfaValue) (rows : Rows) (i : ℕ) (ends : IndexSet) (marks : Bool) → IsTrue marks ↔ ((k : ℕ) × (k < half m) × IsTrue (has_index ends (half m + k)))
     → HasEnds m rows i ends → IsTrue marks ↔ HasMarks m rows i
 marks_by_ends m rows i ends marks is has = (
   λ h. let (k, lt, at) = is.0 h in (k, lt, (has (half m + k) (omega arith)).0 at),
   λ (k, lt, a). is.1 (k, lt, (has (half m + k) (omega arith)).1 a),
 )
 
-pub marks_kept : (m : Machine) (old new : Rows) (i n : ℕ) → KeepsRows old new → i < length old.starts.items → MarksAre m old i n → MarksAre m new i n
+pub marks_kept : (m : NfaValue) (old new : Rows) (i n : ℕ) → KeepsRows old new → i < length old.starts.items → MarksAre m old i n → MarksAre m new i n
 marks_kept m old new i n keeps lt (inl (has, is)) = inl (marks_still m old new i keeps lt has, is)
 marks_kept m old new i n keeps lt (inr (none, is)) = inr (λ h. none (marks_before m old new i keeps lt h), is)
 
-pub marks_are : (m : Machine) (rows : Rows) (i n : ℕ) (r : Bool) → IsTrue r ↔ HasMarks m rows i → (IsTrue r × (n ≡ marked)) ⊎ (IsFalse r × (n ≡ 0)) → MarksAre m rows i n
+pub marks_are : (m : NfaValue) (rows : Rows) (i n : ℕ) (r : Bool) → IsTrue r ↔ HasMarks m rows i → (IsTrue r × (n ≡ marked)) ⊎ (IsFalse r × (n ≡ 0)) → MarksAre m rows i n
 marks_are m rows i n r has (inl (on, is)) = inl (has.0 on, is)
 marks_are m rows i n r has (inr (off, is)) = inr (λ h. true≢false (sym (has.1 h) ∙ off), is)
 
-pub ends_kept : (m : Machine) (old new : Rows) (i : ℕ) (ends : IndexSet) → KeepsRows old new → i < length old.starts.items → HasEnds m old i ends → HasEnds m new i ends
+pub ends_kept : (m : NfaValue) (old new : Rows) (i : ℕ) (ends : IndexSet) → KeepsRows old new → i < length old.starts.items → HasEnds m old i ends → HasEnds m new i ends
 ends_kept m old new i ends keeps lt has k small = iff_trans (has k small) (accepts_kept m old new i [] k (keeps.states i lt))
 
 -- an entry that is taken
-pub next_is : (m : Machine) (rows : Rows) (i b e : ℕ) (o : Option ℕ) → MatchOption o (e ≡ 1) (λ p. (1 < e) × (p ≡ e - 2)) → IsNext m rows i b e → MatchOption o (IsDeadBy m rows i b) (GoesTo m rows i b rows)
+pub next_is : (m : NfaValue) (rows : Rows) (i b e : ℕ) (o : Option ℕ) → MatchOption o (e ≡ 1) (λ p. (1 < e) × (p ≡ e - 2)) → IsNext m rows i b e → MatchOption o (IsDeadBy m rows i b) (GoesTo m rows i b rows)
 next_is m rows i b e None one is = is.dead one
 next_is m rows i b e (Some p) (some, same) is = subst (GoesTo m rows i b rows) (sym same) (is.row some)
 
-pub next_later : (m : Machine) (old new : Rows) (i b : ℕ) (o : Option ℕ) → KeepsRows old new → MatchOption o (IsDeadBy m old i b) (GoesTo m old i b old) → MatchOption o (IsDeadBy m old i b) (GoesTo m old i b new)
+pub next_later : (m : NfaValue) (old new : Rows) (i b : ℕ) (o : Option ℕ) → KeepsRows old new → MatchOption o (IsDeadBy m old i b) (GoesTo m old i b old) → MatchOption o (IsDeadBy m old i b) (GoesTo m old i b new)
 next_later m old new i b None keeps dead = dead
 next_later m old new i b (Some p) keeps (j, at, goes) = (j, at_kept old new j p keeps at, λ y k. iff_trans (goes y k) (accepts_kept m old new j y k (keeps.states j at.0)))
 
 -- the entry of a byte, and that of the end of the text
-module _ (m : Machine) (rows : Rows) (i : ℕ) (sound : IsSound m rows) (lt : i < length rows.starts.items) where
+module _ (m : NfaValue) (rows : Rows) (i : ℕ) (sound : IsSound m rows) (lt : i < length rows.starts.items) where
   pub read_entry : (b e : ℕ) → b < 256 → e ≡ slice_index rows.entries.items (place_of rows i (slice_index rows.class_of b)) → 0 < e → IsEntryBy m rows i b e
   read_entry b e small is some =
       let short = (sound.classes b small).0 in
@@ -420,7 +420,7 @@ pub record HasListed (old new : Rows) (row : ℕ) (list : List ℕ) : Type 0 whe
   pub class_count : new.class_count ≡ old.class_count
   pub begin : new.begin ≡ old.begin
 
-module _ (m : Machine) (old new : Rows) (row : ℕ) (list : List ℕ) (is : HasListed old new row list) (sound : IsSound m old) (here : row < length old.starts.items) where
+module _ (m : NfaValue) (old new : Rows) (row : ℕ) (list : List ℕ) (is : HasListed old new row list) (sound : IsSound m old) (here : row < length old.starts.items) where
   pub listed_keeps : KeepsRows old new
   listed_keeps = record {
     more = rw is.starts (omega arith);
@@ -467,9 +467,9 @@ module _ (m : Machine) (old new : Rows) (row : ℕ) (list : List ℕ) (is : HasL
   }
 
 -- no state is in the set
-pub none_accepted : (m : Machine) (set : StateSet) → ((t : ℕ) → has_state set t ≡ false) → (y : List ℕ) (k : ℕ) → AcceptsFrom m set y k → ⊥
+pub none_accepted : (m : NfaValue) (set : StateSet) → ((t : ℕ) → has_state set t ≡ false) → (y : List ℕ) (k : ℕ) → AcceptsFrom m set y k → ⊥
 none_accepted m set none y k (t, lt, at, h) = true≢false (sym at ∙ none t)
 
 -- an automaton with no states leads to no end
-pub none_reached : (m : Machine) → size m ≡ 0 → (y : List ℕ) (k : ℕ) → IsReached m y k → ⊥
+pub none_reached : (m : NfaValue) → size m ≡ 0 → (y : List ℕ) (k : ℕ) → IsReached m y k → ⊥
 none_reached m none y k (s, begins, h) = let lt = accepts_within m.states k s y h in absurd (omega (arith, lt, none))

@@ -1,6 +1,6 @@
 -- There is one automaton with ends in place of the states of another that decide an index.
 use Rattle.std.proofs.Common.{◌≡◌, ℕ, suc, ◌+◌, inl, inr, List, [], ◌∷◌, length, refl, ap, sym, ◌∙◌, arith}
-use Rattle.byte_nfa.specs.Steps.{State, loop_state, match_state, state, Machine}
+use Rattle.byte_nfa.specs.Steps.{State, loop_state, match_state, state, NfaValue}
 use Rattle.byte_nfa.specs.EarlyMatches.{Decides, IsAtEarlyMatch, EndsAtEarlyMatches}
 
 decided_once : (a : List State) (s k j : ℕ) → Decides a s k → Decides a s j → k ≡ j
@@ -25,15 +25,15 @@ one_list (x ∷ xs) (y ∷ ys) len each =
     let rest : xs ≡ ys = one_list xs ys (omega (arith, len)) (λ s. each (suc s)) in
     cc
 
-one_machine : (m m' : Machine) → m.states ≡ m'.states → m.starts ≡ m'.starts → m.index_count ≡ m'.index_count → m ≡ m'
-one_machine m m' states starts count =
+one_nfa : (m m' : NfaValue) → m.states ≡ m'.states → m.starts ≡ m'.starts → m.index_count ≡ m'.index_count → m ≡ m'
+one_nfa m m' states starts count =
     ap (λ a. of a m.starts m.index_count) states ∙ ap (λ s. of m'.states s m.index_count) starts ∙ ap (of m'.states m'.starts) count
   where
-    of : List State → List ℕ → ℕ → Machine
+    of : List State → List ℕ → ℕ → NfaValue
     of a s n = record { states = a; starts = s; index_count = n }
 
-pub one_automaton : (old m m' : Machine) → EndsAtEarlyMatches old m → EndsAtEarlyMatches old m' → m ≡ m'
-one_automaton old m m' made made' = one_machine m m'
+pub one_automaton : (old m m' : NfaValue) → EndsAtEarlyMatches old m → EndsAtEarlyMatches old m' → m ≡ m'
+one_automaton old m m' made made' = one_nfa m m'
     (one_list m.states m'.states (made.len ∙ sym made'.len) (λ s. one_state old.states old.index_count s (state m.states s) (state m'.states s) (made.states s) (made'.states s)))
     (made.starts ∙ sym made'.starts)
     (made.index_count ∙ sym made'.index_count)

@@ -4,7 +4,7 @@ use Rattle.bit_sets.specs.declared.index_set.IndexSet.{IndexSet}
 use Rattle.bit_sets.specs.Indexes.{has_index, index_capacity}
 use Rattle.bit_sets.specs.StateSets.{state_capacity}
 use Rattle.bit_sets.specs.Numbers.{has_number}
-use Rattle.byte_nfa.specs.Steps.{Accepts, Machine, IsReached}
+use Rattle.byte_nfa.specs.Steps.{Accepts, NfaValue, IsReached}
 use Rattle.byte_nfa.specs.EarlyMatches.{EndsAtEarlyMatches}
 use Rattle.byte_nfa.specs.Runs.{size}
 use Rattle.byte_dfa.specs.inner.Building.{half}
@@ -22,15 +22,15 @@ abbrev pub AreListed : Rows → Type 0
 AreListed rows = (i : ℕ) → i < length rows.starts.items → slice_index rows.starts.items i + 1 + slice_index rows.lists.items (slice_index rows.starts.items i) ≤ length rows.lists.items
 
 -- from some state of a list the text leads to an end of the index k
-abbrev pub AcceptsIn : Machine → List ℕ → List ℕ → ℕ → Type 0
+abbrev pub AcceptsIn : NfaValue → List ℕ → List ℕ → ℕ → Type 0
 AcceptsIn m list y k = (t : ℕ) × IsTrue (has_number t list) × Accepts m.states k t y
 
 -- from some state of the row of number i the text leads to an end of the index k
-abbrev pub AcceptsRow : Machine → Rows → ℕ → List ℕ → ℕ → Type 0
+abbrev pub AcceptsRow : NfaValue → Rows → ℕ → List ℕ → ℕ → Type 0
 AcceptsRow m rows i = AcceptsIn m (states_of rows i)
 
 -- the row leads without a byte to an end that says that an index is decided
-abbrev pub HasMarks : Machine → Rows → ℕ → Type 0
+abbrev pub HasMarks : NfaValue → Rows → ℕ → Type 0
 HasMarks m rows i = (k : ℕ) × (k < half m) × AcceptsRow m rows i [] (half m + k)
 
 -- the entries of the row of number i begin at the place p
@@ -38,15 +38,15 @@ abbrev pub IsAt : Rows → ℕ → ℕ → Type 0
 IsAt rows i p = (i < length rows.starts.items) × (p ≡ i * (rows.class_count + 1))
 
 -- the byte leads from the row of number i of the old rows to where the row at the place p of the new ones is
-abbrev pub GoesTo : Machine → Rows → ℕ → ℕ → Rows → ℕ → Type 0
+abbrev pub GoesTo : NfaValue → Rows → ℕ → ℕ → Rows → ℕ → Type 0
 GoesTo m old i b new p = (j : ℕ) × IsAt new j p × ((y : List ℕ) (k : ℕ) → AcceptsRow m old i (b ∷ y) k ↔ AcceptsRow m new j y k)
 
 -- the byte leads from the row to no end
-abbrev pub IsDeadBy : Machine → Rows → ℕ → ℕ → Type 0
+abbrev pub IsDeadBy : NfaValue → Rows → ℕ → ℕ → Type 0
 IsDeadBy m rows i b = (y : List ℕ) (k : ℕ) → AcceptsRow m rows i (b ∷ y) k → ⊥
 
 -- the set has the indexes of the ends to which the row leads without a byte
-abbrev pub HasEnds : Machine → Rows → ℕ → IndexSet → Type 0
+abbrev pub HasEnds : NfaValue → Rows → ℕ → IndexSet → Type 0
 HasEnds m rows i ends = (k : ℕ) → k < half m + half m → IsTrue (has_index ends k) ↔ AcceptsRow m rows i [] k
 
 -- from here on entries are of rows with marks
@@ -54,49 +54,49 @@ abbrev pub marked : ℕ
 marked = 2147483648
 
 -- what is added to the entries of a row
-abbrev pub MarksAre : Machine → Rows → ℕ → ℕ → Type 0
+abbrev pub MarksAre : NfaValue → Rows → ℕ → ℕ → Type 0
 MarksAre m rows i n = (HasMarks m rows i × (n ≡ marked)) ⊎ ((HasMarks m rows i → ⊥) × (n ≡ 0))
 
 -- where a run begins: at the place p is a row that leads to the same ends as the automaton
-abbrev pub BeginsAt : Machine → Rows → ℕ → Type 0
+abbrev pub BeginsAt : NfaValue → Rows → ℕ → Type 0
 BeginsAt m rows p = (j : ℕ) × IsAt rows j p × ((y : List ℕ) (k : ℕ) → AcceptsRow m rows j y k ↔ IsReached m y k)
 
 -- where a byte leads from the row of number i of the old rows: to no end, or to a row of the new ones; and whether the row that was left
 -- has marks, and which
-pub record IsStep (m : Machine) (old : Rows) (i b : ℕ) (step : Step) (new : Rows) : Type 0 where
+pub record IsStep (m : NfaValue) (old : Rows) (i b : ℕ) (step : Step) (new : Rows) : Type 0 where
   pub next : MatchOption step.next (IsDeadBy m old i b) (GoesTo m old i b new)
   pub marks : IsTrue step.has_marks ↔ HasMarks m old i
   pub ends : IsTrue step.has_marks → HasEnds m old i new.ends
 
 -- the row of number i has no marks, and the byte leads from it to the row at the place p
-abbrev pub IsPlainStep : Machine → Rows → ℕ → ℕ → ℕ → Type 0
+abbrev pub IsPlainStep : NfaValue → Rows → ℕ → ℕ → ℕ → Type 0
 IsPlainStep m rows i b p = (HasMarks m rows i → ⊥) × GoesTo m rows i b rows p
 
 -- the byte leads from the row of number i to the row at the place p, and the new set has what the row has marks of, beside what the old one
 -- has
-pub record IsMarkedStep (m : Machine) (rows : Rows) (i b : ℕ) (old new : IndexSet) (p : ℕ) : Type 0 where
+pub record IsMarkedStep (m : NfaValue) (rows : Rows) (i b : ℕ) (old new : IndexSet) (p : ℕ) : Type 0 where
   pub next : GoesTo m rows i b rows p
   pub told : (k : ℕ) → IsTrue (has_index new k) ↔ (((k < half m) × AcceptsRow m rows i [] (half m + k)) ⊎ IsTrue (has_index old k))
 
 -- what an entry without marks says of a byte: it is 1 where nothing follows, and otherwise 2 more than the place of a row
-pub record IsNext (m : Machine) (rows : Rows) (i b e : ℕ) : Type 0 where
+pub record IsNext (m : NfaValue) (rows : Rows) (i b e : ℕ) : Type 0 where
   pub dead : e ≡ 1 → IsDeadBy m rows i b
   pub row : 1 < e → GoesTo m rows i b rows (e - 2)
 
 -- what an entry says of a byte
-pub record IsEntryBy (m : Machine) (rows : Rows) (i b e : ℕ) : Type 0 where
+pub record IsEntryBy (m : NfaValue) (rows : Rows) (i b e : ℕ) : Type 0 where
   pub plain : e < marked → (HasMarks m rows i → ⊥) × IsNext m rows i b e
   pub marks : marked ≤ e → HasMarks m rows i × (0 < e - marked) × IsNext m rows i b (e - marked)
 
 -- what the entry for the end of the text says: it is 1 where the row leads to no end without a byte, and otherwise 2 more than the place
 -- of the list of the indexes of these
-pub record IsEnd (m : Machine) (rows : Rows) (i e : ℕ) : Type 0 where
+pub record IsEnd (m : NfaValue) (rows : Rows) (i e : ℕ) : Type 0 where
   pub none : e ≡ 1 → (k : ℕ) → k < half m + half m → AcceptsRow m rows i [] k → ⊥
   pub some : 1 < e → (k : ℕ) × (k < half m + half m) × AcceptsRow m rows i [] k
   pub listed : 1 < e → IsListOf rows.lists.items (half m + half m) (e - 2) (AcceptsRow m rows i [])
 
 -- what an entry says, if it is known: of each byte of a class; or behind the classes of the end of the text
-pub record IsEntry (m : Machine) (rows : Rows) (i c e : ℕ) : Type 0 where
+pub record IsEntry (m : NfaValue) (rows : Rows) (i c e : ℕ) : Type 0 where
   pub byte : (b : ℕ) → b < 256 → slice_index rows.class_of b ≡ c → IsEntryBy m rows i b e
   pub end : c ≡ rows.class_count → IsEnd m rows i e
 
@@ -105,7 +105,7 @@ abbrev pub max_entries : ℕ
 max_entries = 2147483646
 
 -- there is room for one row, whatever its states are, and for one pass
-pub record HasRoomFor (m : Machine) (rows : Rows) : Type 0 where
+pub record HasRoomFor (m : NfaValue) (rows : Rows) : Type 0 where
   pub from : size m ≤ state_capacity rows.from
   pub next : size m ≤ state_capacity rows.next
   pub ends : m.index_count ≤ index_capacity rows.ends
@@ -121,7 +121,7 @@ abbrev pub place_of : Rows → ℕ → ℕ → ℕ
 place_of rows i c = i * (rows.class_count + 1) + c
 
 -- the rows are right, as far as they are known
-pub record IsSound (m : Machine) (rows : Rows) : Type 0 where
+pub record IsSound (m : NfaValue) (rows : Rows) : Type 0 where
   pub room : HasRoomFor m rows
   pub representatives : List ℕ
   pub classes : AreEquivalenceClasses m.states rows.class_of representatives rows.class_count
@@ -143,7 +143,7 @@ pub record KeepsRows (old new : Rows) : Type 0 where
   pub class_count : new.class_count ≡ old.class_count
 
 -- there is room for a row more, whatever its states are
-pub record HasSpace (m : Machine) (rows : Rows) : Type 0 where
+pub record HasSpace (m : NfaValue) (rows : Rows) : Type 0 where
   pub lists : length rows.lists.items + size m < vec_capacity rows.lists
   pub starts : length rows.starts.items < vec_capacity rows.starts
   pub few : length rows.starts.items < max_entries
@@ -151,8 +151,8 @@ pub record HasSpace (m : Machine) (rows : Rows) : Type 0 where
   pub entries : length rows.entries.items + rows.class_count < vec_capacity rows.entries
 
 -- the rows are those of an automaton with an end in place of each state of the source that decides an index
-abbrev pub IsCacheOf : Machine → Rows → Type 0
-IsCacheOf source rows = (m : Machine) × EndsAtEarlyMatches source m × IsSound m rows
+abbrev pub IsCacheOf : NfaValue → Rows → Type 0
+IsCacheOf source rows = (m : NfaValue) × EndsAtEarlyMatches source m × IsSound m rows
 
 -- a text leads to an end of the index k, or its beginning to the end that says that k is decided
 abbrev pub FindsBy : ℕ → (List ℕ → ℕ → Type 0) → List ℕ → ℕ → Type 0

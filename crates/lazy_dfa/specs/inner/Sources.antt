@@ -1,6 +1,6 @@
 -- What a lazy automaton is made of.
 use Rattle.std.specs.Prelude.{◌≤◌}
-use Rattle.byte_nfa.specs.Steps.{Machine}
+use Rattle.byte_nfa.specs.Steps.{NfaValue}
 use Rattle.byte_nfa.specs.Live.{AreLive}
 use Rattle.byte_nfa.specs.Runs.{size}
 use Rattle.bit_sets.specs.StateSets.{state_capacity}
@@ -11,7 +11,7 @@ use Rattle.byte_dfa.specs.inner.Classes.{AreEquivalenceClasses}
 
 -- the source with an end in place of each state that decides an index, and of that the classes of bytes, and the states from which some
 -- bytes lead to an end
-pub record IsMadeOf (source automaton : Machine) (classes : ByteClasses) (leading : StateSet) : Type 0 where
+pub record IsMadeOf (source automaton : NfaValue) (classes : ByteClasses) (leading : StateSet) : Type 0 where
   pub early : EndsAtEarlyMatches source automaton
   pub few : classes.count ≤ 256
   pub equivalence : AreEquivalenceClasses automaton.states classes.class_of classes.representatives classes.count

@@ -8,7 +8,7 @@ use Rattle.bit_sets.specs.Numbers.{AreBelow}
 use Rattle.bit_sets.specs.declared.byte_set.ByteSet.{ByteSet}
 use Rattle.byte_nfa.specs.Building.{Agrees, Pushes}
 use Rattle.byte_nfa.specs.Runs.{size}
-use Rattle.byte_nfa.specs.Steps.{State, bytes_state, union_state, loop_state, match_state, state, Machine, HasNumber, Accepts, ends, by_byte, by_skip, by_out, by_stay}
+use Rattle.byte_nfa.specs.Steps.{State, bytes_state, union_state, loop_state, match_state, state, NfaValue, HasNumber, Accepts, ends, by_byte, by_skip, by_out, by_stay}
 use Rattle.nfa_sharing.specs.declared.known.Known.{Known}
 use Rattle.nfa_sharing.specs.inner.Chunks.{with_next, IsChunk, IsPushedFor}
 use Rattle.nfa_sharing.specs.inner.Known.{IsSharing}
@@ -111,19 +111,19 @@ between_after a l low high le y k = (
 )
 
 -- what is true when a chunk's state was pushed
-pub record AreChunked (old new : Machine) (entries : List Known) (l : List ℕ) (high : ℕ) (parts : List ℕ) : Type 0 where
+pub record AreChunked (old new : NfaValue) (entries : List Known) (l : List ℕ) (high : ℕ) (parts : List ℕ) : Type 0 where
   pub sharing : IsSharing old new entries
   pub below : AreBelow (size new) parts
   pub stand : StandForFirst old new l high parts
 
-pub sharing_kept : (old new more : Machine) (entries : List Known) (u : ℕ) (st : State) → Pushes new more u st → IsSharing old new entries → IsSharing old more entries
+pub sharing_kept : (old new more : NfaValue) (entries : List Known) (u : ℕ) (st : State) → Pushes new more u st → IsSharing old new entries → IsSharing old more entries
 sharing_kept old new more entries u st pushes sharing = record {
   known = λ l v is. kept old new more l v pushes.keeps (sharing.known l v is);
   starts = pushes.starts ∙ sharing.starts;
   index_count = pushes.index_count ∙ sharing.index_count;
 }
 
-module _ (old new more : Machine) (entries : List Known) (l : List ℕ) (low high : ℕ) (parts nexts : List ℕ) (u : ℕ) (some : low < high) where
+module _ (old new more : NfaValue) (entries : List Known) (l : List ℕ) (low high : ℕ) (parts nexts : List ℕ) (u : ℕ) (some : low < high) where
   -- a state that stands for the chunk beside the parts that stand for what is before it
   with_part : (st : State) → Pushes new more u st
       → ((a : List State) → Agrees a more.states 0 (size more) → (y : List ℕ) (k : ℕ) → Accepts a k u y ↔ AcceptsBetween old.states l low high y k)
@@ -203,7 +203,7 @@ pub chunk_again : (a : List State) (l : List ℕ) (low high n : ℕ) (st : State
 chunk_again a l low high n st nexts order chunk is at = chunk_more a l low high n st nexts nexts order chunk is at (λ m h. h) (λ m h. inl h)
 
 -- no chunk was read yet
-pub chunked_none : (old new : Machine) (entries : List Known) (l : List ℕ) → IsSharing old new entries → AreChunked old new entries l 0 []
+pub chunked_none : (old new : NfaValue) (entries : List Known) (l : List ℕ) → IsSharing old new entries → AreChunked old new entries l 0 []
 chunked_none old new entries l sharing = record {
   sharing = sharing;
   below = λ i lt. absurd (omega arith);
@@ -211,7 +211,7 @@ chunked_none old new entries l sharing = record {
 }
 
 -- all chunks were, and there is one
-pub whole_one : (old new : Machine) (entries : List Known) (l parts : List ℕ) (n u : ℕ) → n ≡ length l → parts ≡ u ∷ [] → AreChunked old new entries l n parts → IsStateFor old new l u
+pub whole_one : (old new : NfaValue) (entries : List Known) (l parts : List ℕ) (n u : ℕ) → n ≡ length l → parts ≡ u ∷ [] → AreChunked old new entries l n parts → IsStateFor old new l u
 whole_one old new entries l parts n u len are chunked = record {
   below = (subst (AreBelow (size new)) are chunked.below) 0 (omega arith);
   stands = λ a agrees y k.
@@ -222,7 +222,7 @@ whole_one old new entries l parts n u len are chunked = record {
 }
 
 -- there are several, and a union of them was pushed
-pub whole_union : (old new more : Machine) (entries : List Known) (l parts : List ℕ) (n u : ℕ) → n ≡ length l → AreChunked old new entries l n parts → Pushes new more u (union_state parts) → IsStateFor old more l u
+pub whole_union : (old new more : NfaValue) (entries : List Known) (l parts : List ℕ) (n u : ℕ) → n ≡ length l → AreChunked old new entries l n parts → Pushes new more u (union_state parts) → IsStateFor old more l u
 whole_union old new more entries l parts n u len chunked pushes = record {
   below = omega (arith, pushes.len, pushes.at);
   stands = λ a agrees y k.

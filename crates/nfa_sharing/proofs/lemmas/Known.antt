@@ -2,7 +2,7 @@
 use Rattle.std.proofs.Common.{◌≡◌, ℕ, zero, suc, ◌⊎◌, inl, inr, List, [], ◌∷◌, ◌++◌, ap, subst}
 use Rattle.std.specs.Prelude.{Some, None, slice_get}
 use Rattle.std.proofs.Math.Logic.{⊎_elim}
-use Rattle.byte_nfa.specs.Steps.{Machine}
+use Rattle.byte_nfa.specs.Steps.{NfaValue}
 use Rattle.nfa_sharing.specs.declared.known.Known.{Known}
 use Rattle.nfa_sharing.specs.inner.Known.{IsKnown, IsSharing}
 use Rattle.nfa_sharing.specs.inner.Lists.{AcceptAlike, IsStateFor}
@@ -24,7 +24,7 @@ known_at (y ∷ ys) zero x e = let eq : Some y ≡ Some x = e in let same : y �
 known_at (y ∷ ys) (suc i) x e = inr (known_at ys i x e)
 
 -- a state was made for one list more
-pub sharing_more : (old new : Machine) (xs ys : List Known) (list in_order : List ℕ) (state : ℕ) → IsSharing old new xs → AcceptAlike old list in_order
+pub sharing_more : (old new : NfaValue) (xs ys : List Known) (list in_order : List ℕ) (state : ℕ) → IsSharing old new xs → AcceptAlike old list in_order
     → IsStateFor old new in_order state
     → ((l : List ℕ) (u : ℕ) → IsKnown ys l u → IsKnown xs l u ⊎ ((list ≡ l) × (state ≡ u))) → IsSharing old new ys
 sharing_more old new xs ys list in_order state sharing alike made adds = record {

@@ -7,7 +7,7 @@ use Rattle.std.proofs.Math.Logic.{⊎_elim}
 use Rattle.bit_sets.specs.Numbers.{AreBelow}
 use Rattle.byte_nfa.specs.Building.{Agrees, Keeps}
 use Rattle.byte_nfa.specs.Runs.{size}
-use Rattle.byte_nfa.specs.Steps.{State, union_state, state, Machine, HasNumber, Accepts, ends, by_byte, by_skip, by_out, by_stay}
+use Rattle.byte_nfa.specs.Steps.{State, union_state, state, NfaValue, HasNumber, Accepts, ends, by_byte, by_skip, by_out, by_stay}
 use Rattle.nfa_sharing.specs.inner.Lists.{AcceptsSome, AcceptsBefore, AcceptAlike, IsStateFor}
 
 -- members
@@ -80,27 +80,27 @@ module _ (a : List State) (y : List ℕ) (k : ℕ) where
   )
 
 -- lists with the same members are alike
-pub alike_members : (m : Machine) (xs ys : List ℕ) → ((s : ℕ) → HasNumber s xs ↔ HasNumber s ys) → AcceptAlike m xs ys
+pub alike_members : (m : NfaValue) (xs ys : List ℕ) → ((s : ℕ) → HasNumber s xs ↔ HasNumber s ys) → AcceptAlike m xs ys
 alike_members m xs ys same y k = (λ (s, at, h). (s, (same s).0 at, h), λ (s, at, h). (s, (same s).1 at, h))
 
 -- a list is alike another whose members, in some order, are those of a list that it is alike
-pub alike_in_order : (m : Machine) (list states in_order : List ℕ) → AcceptAlike m list states → ((s : ℕ) → HasNumber s in_order ↔ HasNumber s states) → AcceptAlike m list in_order
+pub alike_in_order : (m : NfaValue) (list states in_order : List ℕ) → AcceptAlike m list states → ((s : ℕ) → HasNumber s in_order ↔ HasNumber s states) → AcceptAlike m list in_order
 alike_in_order m list states in_order alike members y k =
     let same : AcceptAlike m in_order states = alike_members m in_order states members in
     (λ h. (same y k).1 ((alike y k).0 h), λ h. (alike y k).1 ((same y k).0 h))
 
 -- what holds in each list that agrees holds after more pushes
 
-pub agrees_before : (a : List State) (old new : Machine) → Keeps old.states new.states → Agrees a new.states 0 (size new) → Agrees a old.states 0 (size old)
+pub agrees_before : (a : List State) (old new : NfaValue) → Keeps old.states new.states → Agrees a new.states 0 (size new) → Agrees a old.states 0 (size old)
 agrees_before a old new keeps agrees s low high = agrees s low (let le = keeps.0 in omega arith) ∙ keeps.1 s low high
 
-pub kept : (old new more : Machine) (l : List ℕ) (u : ℕ) → Keeps new.states more.states → IsStateFor old new l u → IsStateFor old more l u
+pub kept : (old new more : NfaValue) (l : List ℕ) (u : ℕ) → Keeps new.states more.states → IsStateFor old new l u → IsStateFor old more l u
 kept old new more l u keeps made = record {
   below = let le = keeps.0 in let lt = made.below in omega arith;
   stands = λ a agrees. made.stands a (agrees_before a new more keeps agrees);
 }
 
-pub state_of_alike : (old new : Machine) (l l' : List ℕ) (u : ℕ) → AcceptAlike old l l' → IsStateFor old new l' u → IsStateFor old new l u
+pub state_of_alike : (old new : NfaValue) (l l' : List ℕ) (u : ℕ) → AcceptAlike old l l' → IsStateFor old new l' u → IsStateFor old new l u
 state_of_alike old new l l' u alike made = record {
   below = made.below;
   stands = λ a agrees y k. (λ h. (alike y k).1 ((made.stands a agrees y k).0 h), λ h. (made.stands a agrees y k).1 ((alike y k).0 h));

@@ -1,7 +1,7 @@
 -- Chunks: states of one kind with the same bytes.
 use Rattle.std.specs.Prelude.{◌≡◌, ℕ, ◌<◌, ◌≤◌, List, [], ◌∷◌, slice_index}
 use Rattle.byte_nfa.specs.Building.{Pushes}
-use Rattle.byte_nfa.specs.Steps.{State, bytes_state, union_state, loop_state, match_state, state, Machine, HasNumber}
+use Rattle.byte_nfa.specs.Steps.{State, bytes_state, union_state, loop_state, match_state, state, NfaValue, HasNumber}
 use Rattle.nfa_sharing.specs.declared.known.Known.{Known}
 use Rattle.nfa_sharing.specs.inner.Known.{IsKnown}
 
@@ -18,7 +18,7 @@ pub record IsChunk (a : List State) (l : List ℕ) (low high : ℕ) (st : State)
   pub comes : (n : ℕ) → HasNumber n nexts → (i : ℕ) × (low ≤ i) × (i < high) × (state a (slice_index l i) ≡ with_next st n)
 
 -- the state u was pushed, which is st but goes on to the state of the list nexts; an end goes on to none, and st is no union
-abbrev pub IsPushedFor : Machine → Machine → List Known → State → List ℕ → ℕ → Type 0
+abbrev pub IsPushedFor : NfaValue → NfaValue → List Known → State → List ℕ → ℕ → Type 0
 IsPushedFor old new entries (bytes_state w t) nexts u = (n : ℕ) × IsKnown entries nexts n × Pushes old new u (bytes_state w n)
 IsPushedFor old new entries (union_state us) nexts u = ⊥
 IsPushedFor old new entries (loop_state w us) nexts u = (n : ℕ) × IsKnown entries nexts n × Pushes old new u (loop_state w (n ∷ []))

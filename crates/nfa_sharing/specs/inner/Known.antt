@@ -1,6 +1,6 @@
 -- Lists that a state was made for.
 use Rattle.std.specs.Prelude.{◌≡◌, ℕ, ◌⊎◌, List, [], ◌∷◌}
-use Rattle.byte_nfa.specs.Steps.{Machine}
+use Rattle.byte_nfa.specs.Steps.{NfaValue}
 use Rattle.nfa_sharing.specs.declared.known.Known.{Known}
 use Rattle.nfa_sharing.specs.inner.Lists.{IsStateFor}
 
@@ -10,7 +10,7 @@ IsKnown [] l u = ⊥
 IsKnown (x ∷ xs) l u = ((x.list.items ≡ l) × (x.state ≡ u)) ⊎ IsKnown xs l u
 
 -- what is true of an automaton while its states are made: each entry's state stands for the entry's list
-pub record IsSharing (old new : Machine) (entries : List Known) : Type 0 where
+pub record IsSharing (old new : NfaValue) (entries : List Known) : Type 0 where
   pub known : (l : List ℕ) (u : ℕ) → IsKnown entries l u → IsStateFor old new l u
   pub starts : new.starts ≡ []
   pub index_count : new.index_count ≡ old.index_count

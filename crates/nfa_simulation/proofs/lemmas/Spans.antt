@@ -5,7 +5,7 @@ use Rattle.std.proofs.lemmas.Bool.{eqb-true, eq-eqb, or_cases, cases_Bool, cases
 use Rattle.std.proofs.Math.Logic.{⊎_elim}
 use Rattle.bit_sets.specs.Bytes.{has_byte}
 use Rattle.bit_sets.specs.StateSets.{has_state}
-use Rattle.byte_nfa.specs.Steps.{State, bytes_state, union_state, loop_state, match_state, Machine, Accepts}
+use Rattle.byte_nfa.specs.Steps.{State, bytes_state, union_state, loop_state, match_state, NfaValue, Accepts}
 use Rattle.bit_sets.specs.Numbers.{AreFrom, has_number}
 use Rattle.byte_nfa.specs.Runs.{size, AcceptsBelow, AcceptsFrom}
 use Rattle.byte_nfa.specs.Spans.{IsFrom, IsWithin}
@@ -81,7 +81,7 @@ none_lower a low limit k y now next found le none = (there, back)
     back (inr r) = inr r
 
 -- a set within bounds accepts by the states below the upper one
-pub within_below : (m : Machine) (low high : ℕ) (set : StateSet) → high ≤ size m → IsWithin low high set → (y : List ℕ) (k : ℕ)
+pub within_below : (m : NfaValue) (low high : ℕ) (set : StateSet) → high ≤ size m → IsWithin low high set → (y : List ℕ) (k : ℕ)
     → AcceptsFrom m set y k ↔ AcceptsBelow m high set y k
 within_below m low high set le within y k =
     (λ (t, lt, at, h). (t, (within t at).1, at, h), λ (t, lt, at, h). (t, omega arith, at, h))
@@ -97,7 +97,7 @@ pub one_put : (start : ℕ) (cleared put : ℕ → Bool) → ((t : ℕ) → clea
 one_put start cleared put none has t = has t ∙ ap (λ q. (t == start) || q) (none t)
 
 -- the last state of a span alone is in the set
-pub one_accepts : (m : Machine) (start : ℕ) (has : ℕ → Bool) → start < size m → ((t : ℕ) → has t ≡ ((t == start) || false)) → (y : List ℕ) (k : ℕ)
+pub one_accepts : (m : NfaValue) (start : ℕ) (has : ℕ → Bool) → start < size m → ((t : ℕ) → has t ≡ ((t == start) || false)) → (y : List ℕ) (k : ℕ)
     → Accepts m.states k start y ↔ AcceptsNow m.states has (size m) y k
 one_accepts m start has lt is y k = (λ h. (start, lt, is start ∙ or_first (start == start) false (eq-eqb start start refl), h), back)
   where

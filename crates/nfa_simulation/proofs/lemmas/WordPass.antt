@@ -4,7 +4,7 @@ use Rattle.std.specs.Prelude.{◌↔◌, ◌==◌, ◌||◌, ◌&&◌}
 use Rattle.std.proofs.lemmas.Bool.{cases_Bool, cases_eq, cases_lt}
 use Rattle.std.proofs.Math.Logic.{⊎_elim}
 use Rattle.byte_nfa.specs.Runs.{size}
-use Rattle.byte_nfa.specs.Steps.{State, state, Machine}
+use Rattle.byte_nfa.specs.Steps.{State, state, NfaValue}
 use Rattle.byte_nfa.specs.inner.Views.{GoesBelow}
 use Rattle.byte_nfa.specs.inner.Pass.{head, goes_now, goes_next, names, AcceptsNow, PassInvariant}
 use Rattle.byte_nfa.proofs.lemmas.Pass.{iff_trans, or_none, goes_below_later, read_taken}
@@ -27,7 +27,7 @@ same_below a s limit k y now now' next found le same none = (there, back)
     back (inr r) = inr r
 
 -- a set of no states leads nowhere
-pub none_accepts : (m : Machine) (has : ℕ → Bool) → ((t : ℕ) → has t ≡ false) → (y : List ℕ) (k : ℕ) → AcceptsNow m.states has (size m) y k → ⊥
+pub none_accepts : (m : NfaValue) (has : ℕ → Bool) → ((t : ℕ) → has t ≡ false) → (y : List ℕ) (k : ℕ) → AcceptsNow m.states has (size m) y k → ⊥
 none_accepts m has none y k (t, lt, at, h) = true≢false (sym at ∙ none t)
 
 -- the highest state of a set is taken out, and what it goes on to without a byte is put in

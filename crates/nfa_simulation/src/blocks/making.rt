@@ -9,7 +9,7 @@ ghost use Rattle.nfa_simulation.specs.inner.Blocks.{AreBlocks, AreMasks};
 use crate::blocks::Blocks;
 use bit_sets::ByteSet;
 use bit_sets::words::set_bit;
-use byte_nfa::Draft;
+use byte_nfa::Nfa;
 use std::alloc::AllocError;
 
 /// The fewest states in a row that blocks are made of.
@@ -17,27 +17,27 @@ const FEWEST: usize = 64;
 
 impl Blocks {
     /// Returns the blocks of an automaton. Returns an error if memory runs out.
-    pub fn of(draft: &Draft) -> Result<Blocks, AllocError>
-        ensures { IfOk result (λ made. AreBlocks draft.now.states made.by_word.items made.masks.items) }
+    pub fn of(nfa: &Nfa) -> Result<Blocks, AllocError>
+        ensures { IfOk result (λ made. AreBlocks nfa.now.states made.by_word.items made.masks.items) }
     {
-        let count = draft.state_count();
-        let mut made = Blocks::none(draft.allocator());
+        let count = nfa.state_count();
+        let mut made = Blocks::none(nfa.allocator());
         let mut low = 1;
         for s in 1..count {
-            if draft.read_down(s).is_none() {
-                made.add_row(draft, low, s)?;
+            if nfa.read_down(s).is_none() {
+                made.add_row(nfa, low, s)?;
                 low = s + 1;
             }
         }
-        made.add_row(draft, low, count)?;
+        made.add_row(nfa, low, count)?;
         Ok(made)
     }
 
     /// Adds the blocks of the states from `low` on and below `high`, if they are not too few.
-    fn add_row(&mut self, draft: &Draft, low: usize, high: usize) -> Result<(), AllocError>
+    fn add_row(&mut self, nfa: &Nfa, low: usize, high: usize) -> Result<(), AllocError>
         requires some { 0 < low }
-        requires exist { high ≤ size draft.now }
-        ensures { OnOk result (AreBlocks draft.now.states self.old.by_word.items self.old.masks.items → AreBlocks draft.now.states self.new.by_word.items self.new.masks.items) }
+        requires exist { high ≤ size nfa.now }
+        ensures { OnOk result (AreBlocks nfa.now.states self.old.by_word.items self.old.masks.items → AreBlocks nfa.now.states self.new.by_word.items self.new.masks.items) }
     {
         if high < low || high - low < FEWEST {
             return Ok(());
@@ -45,7 +45,7 @@ impl Blocks {
         let mut from = low;
         while from < high {
             let limit = from + (64 - from % 64).min(high - from);
-            if let Some(table) = table_of(draft, from, limit) {
+            if let Some(table) = table_of(nfa, from, limit) {
                 self.push(from, limit, &table)?;
             }
             from = limit;
@@ -56,16 +56,16 @@ impl Blocks {
 
 /// Returns the masks of the states from `low` on and below `high`, if each of them reads a byte and goes on to the state
 /// below.
-fn table_of(draft: &Draft, low: usize, high: usize) -> Option<[u64; 256]>
+fn table_of(nfa: &Nfa, low: usize, high: usize) -> Option<[u64; 256]>
     requires some { 0 < low }
-    requires exist { high ≤ size draft.now }
+    requires exist { high ≤ size nfa.now }
     requires order { low ≤ high }
     requires word { high ≤ 64 * (low / 64) + 64 }
-    ensures { IfSome result (λ table. AreMasks draft.now.states low high table 0) }
+    ensures { IfSome result (λ table. AreMasks nfa.now.states low high table 0) }
 {
     let mut table = [0u64; 256];
     for s in low..high {
-        let bytes = draft.read_down(s)?;
+        let bytes = nfa.read_down(s)?;
         add_column(&mut table, s % 64, &bytes);
     }
     Some(table)

@@ -5,11 +5,11 @@ ghost use Rattle.byte_nfa.specs.Live.{MatchesAfter};
 ghost use Rattle.byte_nfa.specs.Runs.{size};
 ghost use Rattle.nfa_simulation.specs.Sets.{sets_capacity};
 
-use crate::nfa::Nfa;
+use crate::simulation::Simulation;
 use crate::state_sets::StateSets;
 use bit_sets::Visits;
 
-impl Nfa {
+impl Simulation {
     /// Returns whether some text that begins with `text` and then `byte` leads to some end.
     ///
     /// What the sets held has no effect. The run ends as soon as no state is left. It is at most

@@ -6,11 +6,11 @@ ghost use Rattle.byte_nfa.specs.Steps.{Accepts};
 ghost use Rattle.nfa_simulation.specs.Spans.{IsSpan};
 ghost use Rattle.nfa_simulation.specs.inner.WordSets.{IsOfSpan, AcceptsInWord};
 
-use crate::nfa::Nfa;
 use crate::run::Span;
+use crate::simulation::Simulation;
 use bit_sets::{IndexSet, Visits, WordSet};
 
-impl Nfa {
+impl Simulation {
     /// Puts the index of each end that a text leads to from the last state of a span into a set of indexes, beside what it
     /// holds. It is at most `(text bytes + 1) * states of the span` visits.
     pub(crate) fn find_in_word(

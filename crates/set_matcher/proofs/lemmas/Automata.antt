@@ -6,7 +6,7 @@ use Rattle.std.proofs.Math.Nat.{mul-le-mul_right}
 use Rattle.std.proofs.Math.Seq.{take-append_seam}
 use Rattle.std.proofs.lemmas.List.{length-append}
 use Rattle.byte_nfa.specs.Runs.{size}
-use Rattle.byte_nfa.specs.Steps.{State, Machine, state, union_state, HasNumber, Accepts, ends, by_byte, by_skip, by_out, by_stay}
+use Rattle.byte_nfa.specs.Steps.{State, NfaValue, state, union_state, HasNumber, Accepts, ends, by_byte, by_skip, by_out, by_stay}
 use Rattle.bit_sets.specs.Texts.{AllBytes}
 use Rattle.glob_nfa.specs.IndexedTokens.{IndexedTokens, SomeMatches, IsFor}
 use Rattle.glob_strategy.proofs.lemmas.TokenMeaning.{extension_end}
@@ -83,7 +83,7 @@ none_accepted [] k s y e h = no_state k s y refl h
 none_accepted (x ∷ xs) k s y e h = absurd (omega (arith, e))
 
 -- it is for tokens that match nothing
-pub no_matches : (m : Machine) (xs : List IndexedTokens) (path : List ℕ) (k : ℕ) → size m ≡ 0 → IsFor m xs → AllBytes path → SomeMatches xs path k → ⊥
+pub no_matches : (m : NfaValue) (xs : List IndexedTokens) (path : List ℕ) (k : ℕ) → size m ≡ 0 → IsFor m xs → AllBytes path → SomeMatches xs path k → ⊥
 no_matches m xs path k none is bytes some =
     let (s, at, accepts) = (is m.states (λ s low high. refl) path k bytes).1 some in none_accepted m.states k s path none accepts
 

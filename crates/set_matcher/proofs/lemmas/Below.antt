@@ -6,7 +6,7 @@ use Rattle.std.proofs.lemmas.List.Sums.{sum_by-append}
 use Rattle.std.proofs.lemmas.Nat.{mul-le}
 use Rattle.byte_nfa.specs.Live.{MatchesAfter}
 use Rattle.byte_nfa.specs.Runs.{max_reads}
-use Rattle.byte_nfa.specs.Steps.{Machine}
+use Rattle.byte_nfa.specs.Steps.{NfaValue}
 use Rattle.bit_sets.specs.Texts.{AllBytes}
 use Rattle.glob_nfa.specs.IndexedTokens.{SomeMeanAfter}
 use Rattle.glob_nfa.specs.IndexedTokens.{IndexedTokens, IsFor}
@@ -22,7 +22,7 @@ use Rattle.set_matcher.specs.inner.SetMatcher.{SetMatcherParts, IsSetMatcherOf}
 -- ---- automata
 
 -- some text leads to an end just if tokens match some text
-pub some_text : (m : Machine) (xs : List IndexedTokens) → IsFor m xs → MatchesAfter m [] ↔ SomeMeanAfter xs []
+pub some_text : (m : NfaValue) (xs : List IndexedTokens) → IsFor m xs → MatchesAfter m [] ↔ SomeMeanAfter xs []
 some_text m xs is = (
   λ (k, rest, bytes, reached). some_after xs [] rest k bytes ((reached_matches m xs rest k is bytes).0 reached),
   λ h. let (k, rest, bytes, matched) = after_some xs [] h in (k, rest, bytes, (reached_matches m xs rest k is bytes).1 matched),
@@ -36,7 +36,7 @@ last_of_three {Yes} {A} {B} {C} no_a no_b last = (
 )
 
 -- the largest automaton has at most the reads of all
-pub max_within : (ms : List Machine) → max_size ms ≤ total_reads ms
+pub max_within : (ms : List NfaValue) → max_size ms ≤ total_reads ms
 max_within [] = omega arith
 max_within (m ∷ ms) = let rest = max_within ms in let sum = sum_by-append max_reads (m ∷ []) ms in omega (arith, rest, sum)
 

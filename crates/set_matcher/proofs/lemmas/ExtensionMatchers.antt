@@ -10,7 +10,7 @@ use Rattle.std.proofs.lemmas.Bool.Decides.{eqb_tells}
 use Rattle.std.proofs.lemmas.List.Sums.{sum_by-append}
 use Rattle.std.proofs.lemmas.Nat.{mul-le}
 use Rattle.std.proofs.lemmas.List.{take_more, get_or_push, get_or_append_left, get_or-set_same, get_or-set_other, length-append, length-set}
-use Rattle.byte_nfa.specs.Steps.{HasNumber, Machine}
+use Rattle.byte_nfa.specs.Steps.{HasNumber, NfaValue}
 use Rattle.byte_nfa.specs.Runs.{size, max_reads}
 use Rattle.byte_keys.specs.Entries.{Entry, entry, indexes_under}
 use Rattle.byte_keys.proofs.lemmas.Entries.{with_index}
@@ -18,13 +18,13 @@ use Rattle.byte_keys.proofs.lemmas.Entries.{indexes_added}
 use Rattle.glob_syntax.specs.After.{MeanAfter}
 use Rattle.glob_nfa.specs.IndexedTokens.{SomeMeanAfter}
 use Rattle.glob_nfa.specs.IndexedTokens.{IndexedTokens, IsFor}
-use Rattle.set_matcher.specs.inner.Automata.{ExtensionParts, AreExtensionMatchers, AreFor, KeepsTokens, AddsTokens, SomeExtensionAfter, first, max_size, slot_of, tokens_under, total_reads, machine_under}
+use Rattle.set_matcher.specs.inner.Automata.{ExtensionParts, AreExtensionMatchers, AreFor, KeepsTokens, AddsTokens, SomeExtensionAfter, first, max_size, slot_of, tokens_under, total_reads, nfa_under}
 use Rattle.set_matcher.proofs.lemmas.Tables.{first_in, under_push, first_push}
 
-abbrev pub extension_parts : List Entry → List Machine → Machine → ℕ → ExtensionParts
-extension_parts slots machines none n = record {
+abbrev pub extension_parts : List Entry → List NfaValue → NfaValue → ℕ → ExtensionParts
+extension_parts slots nfas none n = record {
   slots = slots;
-  machines = machines;
+  nfas = nfas;
   none = none;
   index_count = n;
 }
@@ -45,32 +45,32 @@ replaced_other s xs before t n =
 
 -- ---- one automaton more
 
-pushed_at : (machines : List Machine) (m : Machine) (s : ℕ) (d : Machine) → s < length (machines ++ m ∷ [])
-    → ((s < length machines) × (get_or (machines ++ m ∷ []) s d ≡ get_or machines s d)) ⊎ ((s ≡ length machines) × (get_or (machines ++ m ∷ []) s d ≡ m))
-pushed_at machines m s d lt =
-    let len : length (machines ++ m ∷ []) ≡ length machines + 1 = length-append machines (m ∷ []) in
-    ⊎_elim {C = ((s < length machines) × (get_or (machines ++ m ∷ []) s d ≡ get_or machines s d)) ⊎ ((s ≡ length machines) × (get_or (machines ++ m ∷ []) s d ≡ m))}
-    (λ is. inr (is, get_or_push machines m d s (sym is)))
-    (λ other. let within : s < length machines = omega (arith, lt, len, other) in inl (within, get_or_append_left machines (m ∷ []) d s within))
-    (equal_or_not s (length machines))
+pushed_at : (nfas : List NfaValue) (m : NfaValue) (s : ℕ) (d : NfaValue) → s < length (nfas ++ m ∷ [])
+    → ((s < length nfas) × (get_or (nfas ++ m ∷ []) s d ≡ get_or nfas s d)) ⊎ ((s ≡ length nfas) × (get_or (nfas ++ m ∷ []) s d ≡ m))
+pushed_at nfas m s d lt =
+    let len : length (nfas ++ m ∷ []) ≡ length nfas + 1 = length-append nfas (m ∷ []) in
+    ⊎_elim {C = ((s < length nfas) × (get_or (nfas ++ m ∷ []) s d ≡ get_or nfas s d)) ⊎ ((s ≡ length nfas) × (get_or (nfas ++ m ∷ []) s d ≡ m))}
+    (λ is. inr (is, get_or_push nfas m d s (sym is)))
+    (λ other. let within : s < length nfas = omega (arith, lt, len, other) in inl (within, get_or_append_left nfas (m ∷ []) d s within))
+    (equal_or_not s (length nfas))
 
 -- what is true of the parts stays true
-pub matchers_push : (slots : List Entry) (machines : List Machine) (none : Machine) (n : ℕ) (m : Machine) → m.index_count ≡ n → AreExtensionMatchers slots machines none n → AreExtensionMatchers slots (machines ++ m ∷ []) none n
-matchers_push slots machines none n m is before = record {
+pub matchers_push : (slots : List Entry) (nfas : List NfaValue) (none : NfaValue) (n : ℕ) (m : NfaValue) → m.index_count ≡ n → AreExtensionMatchers slots nfas none n → AreExtensionMatchers slots (nfas ++ m ∷ []) none n
+matchers_push slots nfas none n m is before = record {
   held = λ extension s there.
-      let lt = before.held extension s there in let len : length (machines ++ m ∷ []) ≡ length machines + 1 = length-append machines (m ∷ []) in omega (arith, lt, len);
+      let lt = before.held extension s there in let len : length (nfas ++ m ∷ []) ≡ length nfas + 1 = length-append nfas (m ∷ []) in omega (arith, lt, len);
   apart = before.apart;
   counted = λ s d lt.
-      ⊎_elim {C = (get_or (machines ++ m ∷ []) s d).index_count ≡ n} (λ old. ap (λ (x : Machine). x.index_count) old.1 ∙ before.counted s d old.0)
-      (λ new. ap (λ (x : Machine). x.index_count) new.1 ∙ is) (pushed_at machines m s d lt);
+      ⊎_elim {C = (get_or (nfas ++ m ∷ []) s d).index_count ≡ n} (λ old. ap (λ (x : NfaValue). x.index_count) old.1 ∙ before.counted s d old.0)
+      (λ new. ap (λ (x : NfaValue). x.index_count) new.1 ∙ is) (pushed_at nfas m s d lt);
   none_counted = before.none_counted;
   empty = before.empty;
   for_none = before.for_none;
 }
 
 -- no extension has a slot
-pub matchers_cleared : (slots : List Entry) (machines : List Machine) (none : Machine) (n : ℕ) → AreExtensionMatchers slots machines none n → AreExtensionMatchers [] machines none n
-matchers_cleared slots machines none n before = record {
+pub matchers_cleared : (slots : List Entry) (nfas : List NfaValue) (none : NfaValue) (n : ℕ) → AreExtensionMatchers slots nfas none n → AreExtensionMatchers [] nfas none n
+matchers_cleared slots nfas none n before = record {
   held = λ extension s there. absurd there;
   apart = λ a b s of_a of_b. absurd (cc);
   counted = before.counted;
@@ -82,13 +82,13 @@ matchers_cleared slots machines none n before = record {
 -- ---- a new slot
 
 -- no other extension has it
-pub matchers_insert : (slots : List Entry) (machines : List Machine) (none : Machine) (n : ℕ) (m : Machine) (key : List ℕ) (slot : ℕ) → m.index_count ≡ n → slot ≡ length machines
-    → AreExtensionMatchers slots machines none n → AreExtensionMatchers (slots ++ entry key slot ∷ []) (machines ++ m ∷ []) none n
-matchers_insert slots machines none n m key slot is at before =
-    let more = matchers_push slots machines none n m is before in
-    let len : length (machines ++ m ∷ []) ≡ length machines + 1 = length-append machines (m ∷ []) in record {
+pub matchers_insert : (slots : List Entry) (nfas : List NfaValue) (none : NfaValue) (n : ℕ) (m : NfaValue) (key : List ℕ) (slot : ℕ) → m.index_count ≡ n → slot ≡ length nfas
+    → AreExtensionMatchers slots nfas none n → AreExtensionMatchers (slots ++ entry key slot ∷ []) (nfas ++ m ∷ []) none n
+matchers_insert slots nfas none n m key slot is at before =
+    let more = matchers_push slots nfas none n m is before in
+    let len : length (nfas ++ m ∷ []) ≡ length nfas + 1 = length-append nfas (m ∷ []) in record {
       held = λ extension s there.
-          ⊎_elim {C = s < length (machines ++ m ∷ [])} (λ old. more.held extension s old) (λ new. omega (arith, new, at, len)) (under_push slots key slot extension s there);
+          ⊎_elim {C = s < length (nfas ++ m ∷ [])} (λ old. more.held extension s old) (λ new. omega (arith, new, at, len)) (under_push slots key slot extension s there);
       apart = λ a b s of_a of_b.
           ⊎_elim {C = a ≡ b}
           (λ old_a. ⊎_elim {C = a ≡ b} (λ old_b. before.apart a b s old_a old_b) (λ new_b. absurd (is_new a s old_a new_b.1)) (first_push slots key slot b s of_b))
@@ -112,23 +112,23 @@ first_new true n (x ∷ xs) now before none new same = same x (inl refl)
 first_new false n (x ∷ xs) now before none new same = same x (inl refl)
 
 -- no tokens are in it
-pub slot_keeps : (old new : ExtensionParts) (key : List ℕ) (n : ℕ) (m : Machine) → n ≡ length old.machines → AreExtensionMatchers old.slots old.machines old.none old.index_count → IsFor m []
-    → new.slots ≡ old.slots ++ entry key n ∷ [] → new.machines ≡ old.machines ++ m ∷ [] → (before : ℕ → List IndexedTokens) → AreFor old.machines before → KeepsTokens old before new
-slot_keeps old new key n m at is_old empty slots machines before are = record {
+pub slot_keeps : (old new : ExtensionParts) (key : List ℕ) (n : ℕ) (m : NfaValue) → n ≡ length old.nfas → AreExtensionMatchers old.slots old.nfas old.none old.index_count → IsFor m []
+    → new.slots ≡ old.slots ++ entry key n ∷ [] → new.nfas ≡ old.nfas ++ m ∷ [] → (before : ℕ → List IndexedTokens) → AreFor old.nfas before → KeepsTokens old before new
+slot_keeps old new key n m at is_old empty slots nfas before are = record {
   tokens = replaced n [] before;
-  are_for = subst (λ ms. AreFor ms (replaced n [] before)) (sym machines)
-      (λ s d lt. ⊎_elim {C = IsFor (get_or (old.machines ++ m ∷ []) s d) (replaced n [] before s)}
+  are_for = subst (λ ms. AreFor ms (replaced n [] before)) (sym nfas)
+      (λ s d lt. ⊎_elim {C = IsFor (get_or (old.nfas ++ m ∷ []) s d) (replaced n [] before s)}
       (λ o. let other : s ≢ n = (λ e. let within = o.0 in absurd (omega (arith, e, at, within))) in
-      subst (IsFor (get_or (old.machines ++ m ∷ []) s d)) (sym (replaced_other n [] before s other)) (subst (λ x. IsFor x (before s)) (sym o.1) (are s d o.0)))
-      (λ new. let is = new.0 in subst (IsFor (get_or (old.machines ++ m ∷ []) s d)) (sym (replaced_at n [] before s (omega (arith, is, at)))) (subst (λ x. IsFor x []) (sym new.1) empty))
-      (pushed_at old.machines m s d lt));
+      subst (IsFor (get_or (old.nfas ++ m ∷ []) s d)) (sym (replaced_other n [] before s other)) (subst (λ x. IsFor x (before s)) (sym o.1) (are s d o.0)))
+      (λ new. let is = new.0 in subst (IsFor (get_or (old.nfas ++ m ∷ []) s d)) (sym (replaced_at n [] before s (omega (arith, is, at)))) (subst (λ x. IsFor x []) (sym new.1) empty))
+      (pushed_at old.nfas m s d lt));
   same = λ extension.
       ap (λ es. tokens_under (replaced n [] before) es extension) slots
       ∙ ap (λ xs. option_map_or (replaced n [] before) (first xs) []) (indexes_added old.slots key n extension)
       ∙ first_new (bytes_eq key extension) n (indexes_under old.slots extension) (replaced n [] before) before [] (replaced_at n [] before n refl)
       (λ t there. let within = is_old.held extension t there in replaced_other n [] before t (λ e. absurd (omega (arith, e, at, within))));
-  after = λ y. let long = ap length machines in let len = length-append old.machines (m ∷ []) in (
-    λ (s, lt, some). ⊎_elim {C = SomeExtensionAfter (length old.machines) before y}
+  after = λ y. let long = ap length nfas in let len = length-append old.nfas (m ∷ []) in (
+    λ (s, lt, some). ⊎_elim {C = SomeExtensionAfter (length old.nfas) before y}
         (λ is. absurd (subst (λ xs. SomeMeanAfter xs y) (replaced_at n [] before s is) some))
         (λ other. (s, omega (arith, lt, long, len, at, other), subst (λ xs. SomeMeanAfter xs y) (replaced_other n [] before s other) some))
         (equal_or_not s n),
@@ -142,38 +142,38 @@ slot_keeps old new key n m at is_old empty slots machines before are = record {
 
 -- ---- the reads of the automaton of an extension
 
-abbrev reads_at : List Machine → Machine → ℕ → ℕ
-reads_at machines none s = max_reads (get_or machines s none)
+abbrev reads_at : List NfaValue → NfaValue → ℕ → ℕ
+reads_at nfas none s = max_reads (get_or nfas s none)
 
-reads_of : (machines : List Machine) (none : Machine) (o : Option ℕ) → max_reads (option_map_or (λ s. get_or machines s none) o none) ≡ option_map_or (reads_at machines none) o (max_reads none)
-reads_of machines none None = refl
-reads_of machines none (Some s) = refl
+reads_of : (nfas : List NfaValue) (none : NfaValue) (o : Option ℕ) → max_reads (option_map_or (λ s. get_or nfas s none) o none) ≡ option_map_or (reads_at nfas none) o (max_reads none)
+reads_of nfas none None = refl
+reads_of nfas none (Some s) = refl
 
 -- a new slot has none
-pub slot_reads : (old new : ExtensionParts) (key : List ℕ) (n : ℕ) (m : Machine) → n ≡ length old.machines → AreExtensionMatchers old.slots old.machines old.none old.index_count → max_reads m ≡ 0
-    → new.slots ≡ old.slots ++ entry key n ∷ [] → new.machines ≡ old.machines ++ m ∷ [] → new.none ≡ old.none → (extension : List ℕ) → max_reads (machine_under new extension) ≡ max_reads (machine_under old extension)
-slot_reads old new key n m at is_old no_states slots machines none extension =
-    reads_of new.machines new.none (slot_of new.slots extension)
-    ∙ ap (λ ms. option_map_or (reads_at ms new.none) (slot_of new.slots extension) (max_reads new.none)) machines
-    ∙ ap (λ d. option_map_or (reads_at (old.machines ++ m ∷ []) d) (slot_of new.slots extension) (max_reads d)) none
-    ∙ ap (λ es. option_map_or (reads_at (old.machines ++ m ∷ []) old.none) (slot_of es extension) (max_reads old.none)) slots
-    ∙ ap (λ xs. option_map_or (reads_at (old.machines ++ m ∷ []) old.none) (first xs) (max_reads old.none)) (indexes_added old.slots key n extension)
-    ∙ first_new (bytes_eq key extension) n (indexes_under old.slots extension) (reads_at (old.machines ++ m ∷ []) old.none) (reads_at old.machines old.none) (max_reads old.none)
-    (ap max_reads (get_or_push old.machines m old.none n (sym at)) ∙ no_states ∙ sym is_old.empty)
-    (λ t there. ap max_reads (get_or_append_left old.machines (m ∷ []) old.none t (is_old.held extension t there)))
-    ∙ sym (reads_of old.machines old.none (slot_of old.slots extension))
+pub slot_reads : (old new : ExtensionParts) (key : List ℕ) (n : ℕ) (m : NfaValue) → n ≡ length old.nfas → AreExtensionMatchers old.slots old.nfas old.none old.index_count → max_reads m ≡ 0
+    → new.slots ≡ old.slots ++ entry key n ∷ [] → new.nfas ≡ old.nfas ++ m ∷ [] → new.none ≡ old.none → (extension : List ℕ) → max_reads (nfa_under new extension) ≡ max_reads (nfa_under old extension)
+slot_reads old new key n m at is_old no_states slots nfas none extension =
+    reads_of new.nfas new.none (slot_of new.slots extension)
+    ∙ ap (λ ms. option_map_or (reads_at ms new.none) (slot_of new.slots extension) (max_reads new.none)) nfas
+    ∙ ap (λ d. option_map_or (reads_at (old.nfas ++ m ∷ []) d) (slot_of new.slots extension) (max_reads d)) none
+    ∙ ap (λ es. option_map_or (reads_at (old.nfas ++ m ∷ []) old.none) (slot_of es extension) (max_reads old.none)) slots
+    ∙ ap (λ xs. option_map_or (reads_at (old.nfas ++ m ∷ []) old.none) (first xs) (max_reads old.none)) (indexes_added old.slots key n extension)
+    ∙ first_new (bytes_eq key extension) n (indexes_under old.slots extension) (reads_at (old.nfas ++ m ∷ []) old.none) (reads_at old.nfas old.none) (max_reads old.none)
+    (ap max_reads (get_or_push old.nfas m old.none n (sym at)) ∙ no_states ∙ sym is_old.empty)
+    (λ t there. ap max_reads (get_or_append_left old.nfas (m ∷ []) old.none t (is_old.held extension t there)))
+    ∙ sym (reads_of old.nfas old.none (slot_of old.slots extension))
 
 -- ---- the reads of all automata
 
 -- a new one without states has none
-pub total_push : (machines : List Machine) (m : Machine) → max_reads m ≡ 0 → total_reads (machines ++ m ∷ []) ≡ total_reads machines
-total_push machines m none = let sum = sum_by-append max_reads machines (m ∷ []) in omega (arith, sum, none)
+pub total_push : (nfas : List NfaValue) (m : NfaValue) → max_reads m ≡ 0 → total_reads (nfas ++ m ∷ []) ≡ total_reads nfas
+total_push nfas m none = let sum = sum_by-append max_reads nfas (m ∷ []) in omega (arith, sum, none)
 
-total_cons : (m : Machine) (ms : List Machine) → total_reads (m ∷ ms) ≡ max_reads m + total_reads ms
+total_cons : (m : NfaValue) (ms : List NfaValue) → total_reads (m ∷ ms) ≡ max_reads m + total_reads ms
 total_cons m ms = let sum = sum_by-append max_reads (m ∷ []) ms in omega (arith, sum)
 
 -- one automaton has at most so many more
-pub total_set : (machines : List Machine) (i more : ℕ) (d now : Machine) → i < length machines → max_reads now ≤ max_reads (get_or machines i d) + more → total_reads (set machines i now) ≤ total_reads machines + more
+pub total_set : (nfas : List NfaValue) (i more : ℕ) (d now : NfaValue) → i < length nfas → max_reads now ≤ max_reads (get_or nfas i d) + more → total_reads (set nfas i now) ≤ total_reads nfas + more
 total_set [] i more d now lt few = absurd (omega (arith, lt))
 total_set (m ∷ ms) zero more d now lt few = let old = total_cons m ms in let new = total_cons now ms in omega (arith, few, old, new)
 total_set (m ∷ ms) (suc i) more d now lt few =
@@ -197,25 +197,25 @@ after_push (z ∷ zs) x y =
           (λ this. inr (rest.1 (inr this))) h,
     )
 
-set_at_slot : (machines : List Machine) (i : ℕ) (m : Machine) (s : ℕ) (d : Machine) → i < length machines
-    → ((s ≡ i) × (get_or (set machines i m) s d ≡ m)) ⊎ ((s ≢ i) × (get_or (set machines i m) s d ≡ get_or machines s d))
-set_at_slot machines i m s d lt =
-    ⊎_elim {C = ((s ≡ i) × (get_or (set machines i m) s d ≡ m)) ⊎ ((s ≢ i) × (get_or (set machines i m) s d ≡ get_or machines s d))}
-    (λ is. inl (is, ap (λ j. get_or (set machines i m) j d) is ∙ get_or-set_same machines i m d lt))
-    (λ other. inr (other, get_or-set_other machines i s m d other))
+set_at_slot : (nfas : List NfaValue) (i : ℕ) (m : NfaValue) (s : ℕ) (d : NfaValue) → i < length nfas
+    → ((s ≡ i) × (get_or (set nfas i m) s d ≡ m)) ⊎ ((s ≢ i) × (get_or (set nfas i m) s d ≡ get_or nfas s d))
+set_at_slot nfas i m s d lt =
+    ⊎_elim {C = ((s ≡ i) × (get_or (set nfas i m) s d ≡ m)) ⊎ ((s ≢ i) × (get_or (set nfas i m) s d ≡ get_or nfas s d))}
+    (λ is. inl (is, ap (λ j. get_or (set nfas i m) j d) is ∙ get_or-set_same nfas i m d lt))
+    (λ other. inr (other, get_or-set_other nfas i s m d other))
     (equal_or_not s i)
 
 -- what is true of the parts stays true
-pub matchers_set : (slots : List Entry) (machines : List Machine) (none : Machine) (n i : ℕ) (m : Machine) → i < length machines → m.index_count ≡ n → AreExtensionMatchers slots machines none n
-    → AreExtensionMatchers slots (set machines i m) none n
-matchers_set slots machines none n i m lt is before =
-    let len : length (set machines i m) ≡ length machines = length-set machines i m in record {
+pub matchers_set : (slots : List Entry) (nfas : List NfaValue) (none : NfaValue) (n i : ℕ) (m : NfaValue) → i < length nfas → m.index_count ≡ n → AreExtensionMatchers slots nfas none n
+    → AreExtensionMatchers slots (set nfas i m) none n
+matchers_set slots nfas none n i m lt is before =
+    let len : length (set nfas i m) ≡ length nfas = length-set nfas i m in record {
       held = λ extension s there. let within = before.held extension s there in omega (arith, within, len);
       apart = before.apart;
       counted = λ s d within.
-          ⊎_elim {C = (get_or (set machines i m) s d).index_count ≡ n} (λ this. ap (λ (x : Machine). x.index_count) this.1 ∙ is)
-          (λ other. ap (λ (x : Machine). x.index_count) other.1 ∙ before.counted s d (omega (arith, within, len)))
-          (set_at_slot machines i m s d lt);
+          ⊎_elim {C = (get_or (set nfas i m) s d).index_count ≡ n} (λ this. ap (λ (x : NfaValue). x.index_count) this.1 ∙ is)
+          (λ other. ap (λ (x : NfaValue). x.index_count) other.1 ∙ before.counted s d (omega (arith, within, len)))
+          (set_at_slot nfas i m s d lt);
       none_counted = before.none_counted;
       empty = before.empty;
       for_none = before.for_none;
@@ -225,19 +225,19 @@ kept_at : (o : Option ℕ) (s : ℕ) (xs : List IndexedTokens) (before : ℕ →
 kept_at None s xs before other = refl
 kept_at (Some t) s xs before other = replaced_other s xs before t (λ e. other (ap Some e))
 
-pub slot_adds : (old mid new : ExtensionParts) (key : List ℕ) (s : ℕ) (x : IndexedTokens) (d now : Machine)
-    → AreExtensionMatchers mid.slots mid.machines mid.none mid.index_count → slot_of mid.slots key ≡ Some s → s < length mid.machines → new.slots ≡ mid.slots → new.machines ≡ set mid.machines s now
-    → ((xs : List IndexedTokens) → IsFor (get_or mid.machines s d) xs → IsFor now (xs ++ x ∷ []))
+pub slot_adds : (old mid new : ExtensionParts) (key : List ℕ) (s : ℕ) (x : IndexedTokens) (d now : NfaValue)
+    → AreExtensionMatchers mid.slots mid.nfas mid.none mid.index_count → slot_of mid.slots key ≡ Some s → s < length mid.nfas → new.slots ≡ mid.slots → new.nfas ≡ set mid.nfas s now
+    → ((xs : List IndexedTokens) → IsFor (get_or mid.nfas s d) xs → IsFor now (xs ++ x ∷ []))
     → (before : ℕ → List IndexedTokens) → KeepsTokens old before mid → AddsTokens old before new key x
-slot_adds old mid new key s x d now is_mid at lt slots machines adds before kept = record {
+slot_adds old mid new key s x d now is_mid at lt slots nfas adds before kept = record {
   tokens = tokens;
-  are_for = subst (λ ms. AreFor ms tokens) (sym machines)
-      (λ t e within. ⊎_elim {C = IsFor (get_or (set mid.machines s now) t e) (tokens t)}
-      (λ this. subst (IsFor (get_or (set mid.machines s now) t e)) (sym (replaced_at s (kept.tokens s ++ x ∷ []) kept.tokens t this.0))
+  are_for = subst (λ ms. AreFor ms tokens) (sym nfas)
+      (λ t e within. ⊎_elim {C = IsFor (get_or (set mid.nfas s now) t e) (tokens t)}
+      (λ this. subst (IsFor (get_or (set mid.nfas s now) t e)) (sym (replaced_at s (kept.tokens s ++ x ∷ []) kept.tokens t this.0))
       (subst (λ m. IsFor m (kept.tokens s ++ x ∷ [])) (sym this.1) (adds (kept.tokens s) (kept.are_for s d lt))))
-      (λ other. subst (IsFor (get_or (set mid.machines s now) t e)) (sym (replaced_other s (kept.tokens s ++ x ∷ []) kept.tokens t other.0))
-      (subst (λ m. IsFor m (kept.tokens t)) (sym other.1) (kept.are_for t e (let len : length (set mid.machines s now) ≡ length mid.machines = length-set mid.machines s now in omega (arith, within, len)))))
-      (set_at_slot mid.machines s now t e lt));
+      (λ other. subst (IsFor (get_or (set mid.nfas s now) t e)) (sym (replaced_other s (kept.tokens s ++ x ∷ []) kept.tokens t other.0))
+      (subst (λ m. IsFor m (kept.tokens t)) (sym other.1) (kept.are_for t e (let len : length (set mid.nfas s now) ≡ length mid.nfas = length-set mid.nfas s now in omega (arith, within, len)))))
+      (set_at_slot mid.nfas s now t e lt));
   added = λ extension is.
       let here : slot_of mid.slots extension ≡ Some s = ap (λ q. slot_of mid.slots q) is ∙ at in
       ap (λ es. tokens_under tokens es extension) slots
@@ -250,26 +250,26 @@ slot_adds old mid new key s x d now is_mid at lt slots machines adds before kept
       ∙ kept_at (slot_of mid.slots extension) s (kept.tokens s ++ x ∷ []) kept.tokens (λ e. absurd (other (is_mid.apart extension key s e at)))
       ∙ kept.same extension;
   after = λ y. (
-    λ h. ⊎_elim {C = SomeExtensionAfter (length old.machines) before y ⊎ MeanAfter x.options x.tokens y} (λ was. inl ((kept.after y).0 was)) (λ this. inr this) ((slot_pushed y).0 h),
-    λ h. (slot_pushed y).1 (⊎_elim {C = SomeExtensionAfter (length mid.machines) kept.tokens y ⊎ MeanAfter x.options x.tokens y} (λ was. inl ((kept.after y).1 was)) (λ this. inr this) h),
+    λ h. ⊎_elim {C = SomeExtensionAfter (length old.nfas) before y ⊎ MeanAfter x.options x.tokens y} (λ was. inl ((kept.after y).0 was)) (λ this. inr this) ((slot_pushed y).0 h),
+    λ h. (slot_pushed y).1 (⊎_elim {C = SomeExtensionAfter (length mid.nfas) kept.tokens y ⊎ MeanAfter x.options x.tokens y} (λ was. inl ((kept.after y).1 was)) (λ this. inr this) h),
   );
 }
   where
     tokens : ℕ → List IndexedTokens
     tokens = replaced s (kept.tokens s ++ x ∷ []) kept.tokens
 
-    slot_pushed : (y : List ℕ) → SomeExtensionAfter (length new.machines) tokens y ↔ (SomeExtensionAfter (length mid.machines) kept.tokens y ⊎ MeanAfter x.options x.tokens y)
+    slot_pushed : (y : List ℕ) → SomeExtensionAfter (length new.nfas) tokens y ↔ (SomeExtensionAfter (length mid.nfas) kept.tokens y ⊎ MeanAfter x.options x.tokens y)
     slot_pushed y =
-        let long = ap length machines in let len : length (set mid.machines s now) ≡ length mid.machines = length-set mid.machines s now in
-        let both = SomeExtensionAfter (length mid.machines) kept.tokens y ⊎ MeanAfter x.options x.tokens y in
+        let long = ap length nfas in let len : length (set mid.nfas s now) ≡ length mid.nfas = length-set mid.nfas s now in
+        let both = SomeExtensionAfter (length mid.nfas) kept.tokens y ⊎ MeanAfter x.options x.tokens y in
         let push = after_push (kept.tokens s) x y in (
           λ (t, within, some). ⊎_elim {C = both}
               (λ is. ⊎_elim {C = both} (λ was. inl (s, lt, was)) (λ this. inr this)
               (push.0 (subst (λ xs. SomeMeanAfter xs y) (replaced_at s (kept.tokens s ++ x ∷ []) kept.tokens t is) some)))
               (λ other. inl (t, omega (arith, within, long, len), subst (λ xs. SomeMeanAfter xs y) (replaced_other s (kept.tokens s ++ x ∷ []) kept.tokens t other) some))
               (equal_or_not t s),
-          λ h. ⊎_elim {C = SomeExtensionAfter (length new.machines) tokens y}
-              (λ (t, within, some). ⊎_elim {C = SomeExtensionAfter (length new.machines) tokens y}
+          λ h. ⊎_elim {C = SomeExtensionAfter (length new.nfas) tokens y}
+              (λ (t, within, some). ⊎_elim {C = SomeExtensionAfter (length new.nfas) tokens y}
               (λ is. (
                 s,
                 omega (arith, lt, long, len),
@@ -288,88 +288,88 @@ slot_adds old mid new key s x d now is_mid at lt slots machines adds before kept
               )) h,
         )
 
-pub any_default : (machines : List Machine) (s : ℕ) (d e : Machine) → s < length machines → get_or machines s d ≡ get_or machines s e
+pub any_default : (nfas : List NfaValue) (s : ℕ) (d e : NfaValue) → s < length nfas → get_or nfas s d ≡ get_or nfas s e
 any_default [] s d e lt = absurd (omega (arith, lt))
 any_default (m ∷ ms) zero d e lt = refl
 any_default (m ∷ ms) (suc s) d e lt = any_default ms s d e (omega (arith, lt))
 
 -- one automaton has at most so many reads more
-set_reads : (machines : List Machine) (none : Machine) (s more : ℕ) (now : Machine) (o : Option ℕ) (b : Bool) → s < length machines → max_reads now ≤ max_reads (get_or machines s none) + more → (o ≡ Some s → b ≡ true)
-    → max_reads (option_map_or (λ t. get_or (set machines s now) t none) o none) ≤ max_reads (option_map_or (λ t. get_or machines t none) o none) + cond b more 0
-set_reads machines none s more now None b lt few tells = omega arith
-set_reads machines none s more now (Some t) b lt few tells =
-    ⊎_elim {C = max_reads (get_or (set machines s now) t none) ≤ max_reads (get_or machines t none) + cond b more 0}
+set_reads : (nfas : List NfaValue) (none : NfaValue) (s more : ℕ) (now : NfaValue) (o : Option ℕ) (b : Bool) → s < length nfas → max_reads now ≤ max_reads (get_or nfas s none) + more → (o ≡ Some s → b ≡ true)
+    → max_reads (option_map_or (λ t. get_or (set nfas s now) t none) o none) ≤ max_reads (option_map_or (λ t. get_or nfas t none) o none) + cond b more 0
+set_reads nfas none s more now None b lt few tells = omega arith
+set_reads nfas none s more now (Some t) b lt few tells =
+    ⊎_elim {C = max_reads (get_or (set nfas s now) t none) ≤ max_reads (get_or nfas t none) + cond b more 0}
     (λ this.
     let b_is = ap (λ v. cond v more 0) (tells (ap Some this.0)) in
     let new = ap max_reads this.1 in
-    let old = ap (λ u. max_reads (get_or machines u none)) this.0 in omega (arith, few, b_is, new, old))
+    let old = ap (λ u. max_reads (get_or nfas u none)) this.0 in omega (arith, few, b_is, new, old))
     (λ other. let same = ap max_reads other.1 in omega (arith, same))
-    (set_at_slot machines s now t none lt)
+    (set_at_slot nfas s now t none lt)
 
-pub slot_reads_added : (mid new : ExtensionParts) (key : List ℕ) (s more : ℕ) (d now : Machine) → AreExtensionMatchers mid.slots mid.machines mid.none mid.index_count → slot_of mid.slots key ≡ Some s → s < length mid.machines
-    → new.slots ≡ mid.slots → new.machines ≡ set mid.machines s now → new.none ≡ mid.none → max_reads now ≤ max_reads (get_or mid.machines s d) + more
-    → (extension : List ℕ) → max_reads (machine_under new extension) ≤ max_reads (machine_under mid extension) + cond (bytes_eq key extension) more 0
-slot_reads_added mid new key s more d now is_mid at lt slots machines none few extension =
-    let is : max_reads (machine_under new extension) ≡ max_reads (option_map_or (λ t. get_or (set mid.machines s now) t mid.none) (slot_of mid.slots extension) mid.none) =
-    ap (λ es. max_reads (option_map_or (λ t. get_or new.machines t new.none) (slot_of es extension) new.none)) slots
-    ∙ ap (λ ms. max_reads (option_map_or (λ t. get_or ms t new.none) (slot_of mid.slots extension) new.none)) machines
-    ∙ ap (λ d. max_reads (option_map_or (λ t. get_or (set mid.machines s now) t d) (slot_of mid.slots extension) d)) none in
-    let d_is = ap max_reads (any_default mid.machines s d mid.none lt) in
-    let within : max_reads now ≤ max_reads (get_or mid.machines s mid.none) + more = omega (arith, few, d_is) in
-    let le = set_reads mid.machines mid.none s more now (slot_of mid.slots extension) (bytes_eq key extension) lt within (λ e. (bytes_decides key extension).1 (is_mid.apart key extension s at e)) in
+pub slot_reads_added : (mid new : ExtensionParts) (key : List ℕ) (s more : ℕ) (d now : NfaValue) → AreExtensionMatchers mid.slots mid.nfas mid.none mid.index_count → slot_of mid.slots key ≡ Some s → s < length mid.nfas
+    → new.slots ≡ mid.slots → new.nfas ≡ set mid.nfas s now → new.none ≡ mid.none → max_reads now ≤ max_reads (get_or mid.nfas s d) + more
+    → (extension : List ℕ) → max_reads (nfa_under new extension) ≤ max_reads (nfa_under mid extension) + cond (bytes_eq key extension) more 0
+slot_reads_added mid new key s more d now is_mid at lt slots nfas none few extension =
+    let is : max_reads (nfa_under new extension) ≡ max_reads (option_map_or (λ t. get_or (set mid.nfas s now) t mid.none) (slot_of mid.slots extension) mid.none) =
+    ap (λ es. max_reads (option_map_or (λ t. get_or new.nfas t new.none) (slot_of es extension) new.none)) slots
+    ∙ ap (λ ms. max_reads (option_map_or (λ t. get_or ms t new.none) (slot_of mid.slots extension) new.none)) nfas
+    ∙ ap (λ d. max_reads (option_map_or (λ t. get_or (set mid.nfas s now) t d) (slot_of mid.slots extension) d)) none in
+    let d_is = ap max_reads (any_default mid.nfas s d mid.none lt) in
+    let within : max_reads now ≤ max_reads (get_or mid.nfas s mid.none) + more = omega (arith, few, d_is) in
+    let le = set_reads mid.nfas mid.none s more now (slot_of mid.slots extension) (bytes_eq key extension) lt within (λ e. (bytes_decides key extension).1 (is_mid.apart key extension s at e)) in
     omega (arith, is, le)
 
 -- ---- the automaton of a slot
 
 -- it is for the tokens of the extension
-pub slot_tokens : (machines : List Machine) (tokens : ℕ → List IndexedTokens) (slots : List Entry) (extension : List ℕ) (s : ℕ) (m : Machine) → Some s ≡ slot_of slots extension
-    → s < length machines → m ≡ get_or machines s m → AreFor machines tokens → IsFor m (tokens_under tokens slots extension)
-slot_tokens machines tokens slots extension s m at lt is are =
+pub slot_tokens : (nfas : List NfaValue) (tokens : ℕ → List IndexedTokens) (slots : List Entry) (extension : List ℕ) (s : ℕ) (m : NfaValue) → Some s ≡ slot_of slots extension
+    → s < length nfas → m ≡ get_or nfas s m → AreFor nfas tokens → IsFor m (tokens_under tokens slots extension)
+slot_tokens nfas tokens slots extension s m at lt is are =
     subst (λ o. IsFor m (option_map_or tokens o [])) at (subst (λ x. IsFor x (tokens s)) (sym is) (are s m lt))
 
 -- ---- the largest automaton
 
-pub max_more : (ms : List Machine) (m : Machine) → max_size (ms ++ m ∷ []) ≡ max (size m) (max_size ms)
+pub max_more : (ms : List NfaValue) (m : NfaValue) → max_size (ms ++ m ∷ []) ≡ max (size m) (max_size ms)
 max_more [] m = omega arith
 max_more (x ∷ xs) m = let rest = max_more xs m in omega (arith, rest)
 
-pub max_bounds : (machines : List Machine) (s : ℕ) (d : Machine) → s < length machines → size (get_or machines s d) ≤ max_size machines
+pub max_bounds : (nfas : List NfaValue) (s : ℕ) (d : NfaValue) → s < length nfas → size (get_or nfas s d) ≤ max_size nfas
 max_bounds [] s d lt = absurd (omega (arith, lt))
 max_bounds (m ∷ ms) zero d lt = omega arith
 max_bounds (m ∷ ms) (suc s) d lt = let rest = max_bounds ms s d (omega (arith, lt)) in omega (arith, rest)
 
 -- ---- runs over one automaton after another
 
-total_take : (ms : List Machine) (i : ℕ) → total_reads (take i ms) ≤ total_reads ms
+total_take : (ms : List NfaValue) (i : ℕ) → total_reads (take i ms) ≤ total_reads ms
 total_take [] zero = omega arith
 total_take [] (suc i) = omega arith
 total_take (m ∷ ms) zero = let all = total_cons m ms in omega (arith, all)
 total_take (m ∷ ms) (suc i) = let rest = total_take ms i in let all = total_cons m ms in let some = total_cons m (take i ms) in omega (arith, rest, all, some)
 
-module _ (machines : List Machine) (i : ℕ) (m : Machine) (lt : i < length machines) (is : m ≡ get_or machines i m) where
-  total_more : total_reads (take (i + 1) machines) ≡ total_reads (take i machines) + max_reads m
+module _ (nfas : List NfaValue) (i : ℕ) (m : NfaValue) (lt : i < length nfas) (is : m ≡ get_or nfas i m) where
+  total_more : total_reads (take (i + 1) nfas) ≡ total_reads (take i nfas) + max_reads m
   total_more =
-      let taken : take (i + 1) machines ≡ take i machines ++ m ∷ [] = take_more machines i m lt ∙ ap (λ x. take i machines ++ x ∷ []) (sym is) in
-      let sum = sum_by-append max_reads (take i machines) (m ∷ []) in omega (arith, ap total_reads taken, sum)
+      let taken : take (i + 1) nfas ≡ take i nfas ++ m ∷ [] = take_more nfas i m lt ∙ ap (λ x. take i nfas ++ x ∷ []) (sym is) in
+      let sum = sum_by-append max_reads (take i nfas) (m ∷ []) in omega (arith, ap total_reads taken, sum)
 
   -- the visits of the runs so far
-  pub visits_more : (n u w v : ℕ) → v ≤ w + n * size m → w ≤ u + n * total_reads (take i machines) → v ≤ u + n * total_reads (take (i + 1) machines)
+  pub visits_more : (n u w v : ℕ) → v ≤ w + n * size m → w ≤ u + n * total_reads (take i nfas) → v ≤ u + n * total_reads (take (i + 1) nfas)
   visits_more n u w v this before =
       let more = mul-le n (size m) n (max_reads m) (omega arith) (omega arith) in
-      let sum : n * (total_reads (take i machines) + max_reads m) ≡ n * total_reads (take i machines) + n * max_reads m = omega arith in
+      let sum : n * (total_reads (take i nfas) + max_reads m) ≡ n * total_reads (take i nfas) + n * max_reads m = omega arith in
       let all = ap (λ (k : ℕ). n * k) total_more in omega (arith, this, before, more, sum, all)
 
   -- they are within those of all runs
-  pub visits_within : (n u w v : ℕ) → v ≤ w + n * size m → w ≤ u + n * total_reads (take i machines) → v ≤ u + n * total_reads machines
+  pub visits_within : (n u w v : ℕ) → v ≤ w + n * size m → w ≤ u + n * total_reads (take i nfas) → v ≤ u + n * total_reads nfas
   visits_within n u w v this before =
       let some = visits_more n u w v this before in
-      let maximum = mul-le n (total_reads (take (i + 1) machines)) n (total_reads machines) (omega arith) (total_take machines (i + 1)) in omega (arith, some, maximum)
+      let maximum = mul-le n (total_reads (take (i + 1) nfas)) n (total_reads nfas) (omega arith) (total_take nfas (i + 1)) in omega (arith, some, maximum)
 
   -- it is not larger than the largest
-  pub size_within : size m ≤ max_size machines
-  size_within = let bound = max_bounds machines i m lt in omega (arith, bound, ap size is)
+  pub size_within : size m ≤ max_size nfas
+  size_within = let bound = max_bounds nfas i m lt in omega (arith, bound, ap size is)
 
-  pub is_for : (tokens : ℕ → List IndexedTokens) → AreFor machines tokens → IsFor m (tokens i)
+  pub is_for : (tokens : ℕ → List IndexedTokens) → AreFor nfas tokens → IsFor m (tokens i)
   is_for tokens are = subst (λ x. IsFor x (tokens i)) (sym is) (are i m lt)
 
 -- no slot before the next one, and not this one

@@ -7,7 +7,7 @@ use Rattle.byte_nfa.specs.Live.{MatchesAfter}
 use Rattle.glob_matching.proofs.lemmas.Compiled.{after_matches}
 use Rattle.glob_path.specs.Below.{folder_start}
 use Rattle.glob_path.specs.PathParts.{last_component}
-use Rattle.set_matcher.specs.inner.Automata.{AreForLists, AreFoundBelow, AreIdle, AutomataParts, TokenLists, automata_or_none, no_automata, no_machine}
+use Rattle.set_matcher.specs.inner.Automata.{AreForLists, AreFoundBelow, AreIdle, AutomataParts, TokenLists, automata_or_none, no_automata, no_nfa}
 use Rattle.set_matcher.proofs.lemmas.Automata.{component_bytes, no_matches}
 use Rattle.set_matcher.proofs.lemmas.Below.{some_text}
 
@@ -20,15 +20,15 @@ kept_is n is at = ap (automata_or_none n) is ∙ sym at
 idle : (n : ℕ) (path : List ℕ) → AllBytes path → AreIdle (no_automata n) path
 idle n path bytes = record {
   size = refl;
-  none = λ t are k found. ⊎_elim {C = ⊥} (λ by_path. no_matches (no_machine n) t.by_path path k refl are.path bytes by_path)
-      (λ later. ⊎_elim {C = ⊥} (λ by_component. no_matches (no_machine n) t.by_component (last_component path) k refl are.component (component_bytes path bytes) by_component) (λ none. none) later) found;
+  none = λ t are k found. ⊎_elim {C = ⊥} (λ by_path. no_matches (no_nfa n) t.by_path path k refl are.path bytes by_path)
+      (λ later. ⊎_elim {C = ⊥} (λ by_component. no_matches (no_nfa n) t.by_component (last_component path) k refl are.component (component_bytes path bytes) by_component) (λ none. none) later) found;
 }
 
 -- nothing is found for a path
 pub none_idle : {automata : Option (Box AutomataParts)} (n : ℕ) (path : List ℕ) → automata ≡ None → AllBytes path → AreIdle (automata_or_none n automata) path
 none_idle n path is bytes = subst (λ a. AreIdle a path) (sym (ap (automata_or_none n) is)) (idle n path bytes)
 
-no_text : (n : ℕ) (y : List ℕ) → MatchesAfter (no_machine n) y → ⊥
+no_text : (n : ℕ) (y : List ℕ) → MatchesAfter (no_nfa n) y → ⊥
 no_text n y (k, rest, bytes, (s, at, accepts)) = at
 
 -- nothing is found below a folder
@@ -37,6 +37,6 @@ pub none_below : {automata : Option (Box AutomataParts)} (n : ℕ) (folder : Lis
 none_below {automata = automata} n folder t is bytes = subst (λ a. AreForLists a t → AreFoundBelow a.extensions t folder → ⊥) (sym (ap (automata_or_none n) is)) none
   where
     none : AreForLists (no_automata n) t → AreFoundBelow (no_automata n).extensions t folder → ⊥
-    none are found = ⊎_elim {C = ⊥} (λ by_component. no_text n [] ((some_text (no_machine n) t.by_component are.component).1 by_component))
-        (λ later. ⊎_elim {C = ⊥} (λ by_path. no_text n (folder_start folder) ((after_matches (no_machine n) t.by_path folder 47 bytes (omega arith) (λ h. h, λ h. h) are.path).1 by_path))
+    none are found = ⊎_elim {C = ⊥} (λ by_component. no_text n [] ((some_text (no_nfa n) t.by_component are.component).1 by_component))
+        (λ later. ⊎_elim {C = ⊥} (λ by_path. no_text n (folder_start folder) ((after_matches (no_nfa n) t.by_path folder 47 bytes (omega arith) (λ h. h, λ h. h) are.path).1 by_path))
         (λ slot. absurd (omega (arith, slot.1))) later) found

@@ -25,7 +25,7 @@ use Rattle.set_matcher.specs.Below.{SomeReportedBelow, load_below, reads_below}
 use Rattle.set_matcher.specs.Globs.{TokenGlob, is_reported, is_reported_at, reads, load}
 use Rattle.literal_index.specs.Below.{MatchesBelow}
 use Rattle.literal_index.specs.LiteralIndex.{KeyParts, MoreIn, keys_found}
-use Rattle.set_matcher.specs.inner.Automata.{AutomataParts, ExtensionParts, TokenLists, AreForLists, AreFor, AreFound, AreFoundBelow, AddsTokens, before_extension, folder_reads, machine_under, no_automata, no_machine, reads_for, tokens_under, total_reads}
+use Rattle.set_matcher.specs.inner.Automata.{AutomataParts, ExtensionParts, TokenLists, AreForLists, AreFor, AreFound, AreFoundBelow, AddsTokens, before_extension, folder_reads, nfa_under, no_automata, no_nfa, reads_for, tokens_under, total_reads}
 use Rattle.set_matcher.specs.inner.SetMatcher.{SetMatcherParts, IsSetMatcherOf, set_matcher_parts, listed_count}
 use Rattle.set_matcher.proofs.lemmas.Automata.{extension_cut}
 use Rattle.set_matcher.proofs.lemmas.Matching.{some_listed}
@@ -218,14 +218,14 @@ by_path_added globs g n old new at keys tells needs adds few component extension
     (record {
       path = adds before.tokens.by_path before.are_for.path;
       component = subst (λ m. IsFor m before.tokens.by_component) (sym component) before.are_for.component;
-      matchers = subst (λ (e : ExtensionParts). AreFor e.machines before.tokens.by_slot) (sym extensions) before.are_for.matchers;
+      matchers = subst (λ (e : ExtensionParts). AreFor e.nfas before.tokens.by_slot) (sym extensions) before.are_for.matchers;
     })
     (λ path k. subst (λ (e : ExtensionParts). AreFound e.slots tokens path k ↔ (AreFound old.automata.extensions.slots before.tokens path k ⊎ IsNew n g path k)) (sym extensions)
     (left_more (some_added (indexed g.options g.tokens n) before.tokens.by_path g n path path k refl (tells path))))
-    (λ path. let one = ap max_reads component in let two = ap (λ (e : ExtensionParts). max_reads (machine_under e (component_extension path))) extensions in let maximum = needed g path (needs path) in omega (arith, few, one, two, maximum))
+    (λ path. let one = ap max_reads component in let two = ap (λ (e : ExtensionParts). max_reads (nfa_under e (component_extension path))) extensions in let maximum = needed g path (needs path) in omega (arith, few, one, two, maximum))
     (λ folder bytes. subst (λ (e : ExtensionParts). AreFoundBelow e tokens folder ↔ (AreFoundBelow old.automata.extensions before.tokens folder ⊎ AreReportedBelow g.options g.tokens folder)) (sym extensions)
     (right_more (left_more (as_listed (after_push before.tokens.by_path (indexed g.options g.tokens n) (folder_start folder)) (sound_below folder bytes)))))
-    (let all = ap (λ (e : ExtensionParts). total_reads e.machines) extensions in let maximum = needed_below g indirect in omega (arith, few, all, maximum))
+    (let all = ap (λ (e : ExtensionParts). total_reads e.nfas) extensions in let maximum = needed_below g indirect in omega (arith, few, all, maximum))
   where
     tokens : TokenLists
     tokens = record {
@@ -244,16 +244,16 @@ by_component_added globs g n ts old new at keys rest tells needs adds few by_pat
     (record {
       path = subst (λ m. IsFor m before.tokens.by_path) (sym by_path) before.are_for.path;
       component = adds before.tokens.by_component before.are_for.component;
-      matchers = subst (λ (e : ExtensionParts). AreFor e.machines before.tokens.by_slot) (sym extensions) before.are_for.matchers;
+      matchers = subst (λ (e : ExtensionParts). AreFor e.nfas before.tokens.by_slot) (sym extensions) before.are_for.matchers;
     })
     (λ path k. subst (λ (e : ExtensionParts). AreFound e.slots tokens path k ↔ (AreFound old.automata.extensions.slots before.tokens path k ⊎ IsNew n g path k)) (sym extensions)
     (right_more (left_more (some_added (indexed g.options ts n) before.tokens.by_component g n (last_component path) path k refl (tells path ∙ ap (λ us. tokens_match g.options us (last_component path)) (sym rest))))))
-    (λ path. let one = ap max_reads by_path in let two = ap (λ (e : ExtensionParts). max_reads (machine_under e (component_extension path))) extensions in let maximum = needed g path (needs path) in
+    (λ path. let one = ap max_reads by_path in let two = ap (λ (e : ExtensionParts). max_reads (nfa_under e (component_extension path))) extensions in let maximum = needed g path (needs path) in
     let fewer = weight_after g.options g.tokens in let same = ap (weight g.options) rest in omega (arith, few, one, two, maximum, fewer, same))
     (λ folder bytes. subst (λ (e : ExtensionParts). AreFoundBelow e tokens folder ↔ (AreFoundBelow old.automata.extensions before.tokens folder ⊎ AreReportedBelow g.options g.tokens folder)) (sym extensions)
     (left_more (as_listed (after_push before.tokens.by_component (indexed g.options ts n) [])
     (subst (λ us. AreReportedBelow g.options g.tokens folder ↔ MeanAfter g.options us []) (sym rest) (sound_below folder bytes)))))
-    (let one = ap max_reads by_path in let all = ap (λ (e : ExtensionParts). total_reads e.machines) extensions in omega (arith, one, all))
+    (let one = ap max_reads by_path in let all = ap (λ (e : ExtensionParts). total_reads e.nfas) extensions in omega (arith, one, all))
   where
     tokens : TokenLists
     tokens = record {
@@ -265,9 +265,9 @@ by_component_added globs g n ts old new at keys rest tells needs adds few by_pat
 pub by_extension_added : (globs : List TokenGlob) (g : TokenGlob) (n : ℕ) (key : List ℕ) (ts : Tokens) (old new : SetMatcherParts) → n ≡ length globs → new.keys ≡ old.keys → ts ≡ before_ending g.tokens
     → ((path : List ℕ) → (IsTrue (is_reported g path) → component_extension path ≡ key) × ((front : List ℕ) → front ++ key ≡ path → is_reported g path ≡ tokens_match g.options (before_ending g.tokens) front))
     → ((path : List ℕ) → bytes_eq key (component_extension path) ≡ true → needs_automaton g.options g.tokens path ≡ true)
-    → ((before : ℕ → List IndexedTokens) → AreFor old.automata.extensions.machines before → AddsTokens old.automata.extensions before new.automata.extensions key (indexed g.options ts n))
-    → ((extension : List ℕ) → max_reads (machine_under new.automata.extensions extension) ≤ max_reads (machine_under old.automata.extensions extension) + cond (bytes_eq key extension) (weight g.options ts + 4) 0)
-    → total_reads new.automata.extensions.machines ≤ total_reads old.automata.extensions.machines + (weight g.options ts + 4)
+    → ((before : ℕ → List IndexedTokens) → AreFor old.automata.extensions.nfas before → AddsTokens old.automata.extensions before new.automata.extensions key (indexed g.options ts n))
+    → ((extension : List ℕ) → max_reads (nfa_under new.automata.extensions extension) ≤ max_reads (nfa_under old.automata.extensions extension) + cond (bytes_eq key extension) (weight g.options ts + 4) 0)
+    → total_reads new.automata.extensions.nfas ≤ total_reads old.automata.extensions.nfas + (weight g.options ts + 4)
     → new.automata.by_path ≡ old.automata.by_path → new.automata.by_component ≡ old.automata.by_component → is_direct g.options g.tokens ≡ false
     → ((folder : List ℕ) → AllBytes folder → AreReportedBelow g.options g.tokens folder ↔ MeanAfter g.options (before_ending g.tokens) (folder_start folder)) → IsSetMatcherOf globs old → IsSetMatcherOf (globs ++ g ∷ []) new
 by_extension_added globs g n key ts old new at keys rest tells needs adds few many by_path component indirect sound_below before =
@@ -337,8 +337,8 @@ pub no_globs : (keys : KeyParts) (n : ℕ) → ((path : List ℕ) → keys_found
 no_globs keys n nil no_folder = record {
   tokens = record { by_path = []; by_component = []; by_slot = λ s. [] };
   are_for = record {
-    path = none_for (no_machine n) refl;
-    component = none_for (no_machine n) refl;
+    path = none_for (no_nfa n) refl;
+    component = none_for (no_nfa n) refl;
     matchers = λ s d lt. absurd (omega (arith, lt));
   };
   same = λ path k. (

@@ -4,7 +4,7 @@ use Rattle.std.specs.Global.{Box}
 use Rattle.std.specs.Option.{option_map_or}
 use Rattle.std.specs.Str.{bytes_eq}
 use Rattle.byte_nfa.specs.Live.{MatchesAfter}
-use Rattle.byte_nfa.specs.Steps.{HasNumber, Machine}
+use Rattle.byte_nfa.specs.Steps.{HasNumber, NfaValue}
 use Rattle.byte_nfa.specs.Runs.{size, max_reads}
 use Rattle.bit_sets.specs.Indexes.{has_index, index_capacity}
 use Rattle.bit_sets.specs.declared.index_set.IndexSet.{IndexSet}
@@ -24,8 +24,8 @@ first indexes = slice_get indexes 0
 -- For each such extension its slot, which is the position of an automaton; and an automaton without states for the others.
 pub record ExtensionParts : Type 0 where
   pub slots : List Entry
-  pub machines : List Machine
-  pub none : Machine
+  pub nfas : List NfaValue
+  pub none : NfaValue
   pub index_count : ℕ
 
 -- the slot of an extension, if it has one
@@ -33,93 +33,93 @@ abbrev pub slot_of : List Entry → List ℕ → Option ℕ
 slot_of slots extension = first (indexes_under slots extension)
 
 -- what is true of the parts of each such value
-pub record AreExtensionMatchers (slots : List Entry) (machines : List Machine) (none : Machine) (n : ℕ) : Type 0 where
+pub record AreExtensionMatchers (slots : List Entry) (nfas : List NfaValue) (none : NfaValue) (n : ℕ) : Type 0 where
   -- each slot is a position of an automaton
-  pub held : (extension : List ℕ) (s : ℕ) → HasNumber s (indexes_under slots extension) → s < length machines
+  pub held : (extension : List ℕ) (s : ℕ) → HasNumber s (indexes_under slots extension) → s < length nfas
   -- no two extensions have the same slot
   pub apart : (a b : List ℕ) (s : ℕ) → slot_of slots a ≡ Some s → slot_of slots b ≡ Some s → a ≡ b
   -- each automaton names indexes below n
-  pub counted : (s : ℕ) (d : Machine) → s < length machines → (get_or machines s d).index_count ≡ n
+  pub counted : (s : ℕ) (d : NfaValue) → s < length nfas → (get_or nfas s d).index_count ≡ n
   pub none_counted : none.index_count ≡ n
   -- the automaton for the others has no states
   pub empty : max_reads none ≡ 0
   pub for_none : IsFor none []
 
 -- each automaton is for the tokens of its slot
-abbrev pub AreFor : List Machine → (ℕ → List IndexedTokens) → Type 0
-AreFor machines tokens = (s : ℕ) (d : Machine) → s < length machines → IsFor (get_or machines s d) (tokens s)
+abbrev pub AreFor : List NfaValue → (ℕ → List IndexedTokens) → Type 0
+AreFor nfas tokens = (s : ℕ) (d : NfaValue) → s < length nfas → IsFor (get_or nfas s d) (tokens s)
 
 -- the tokens of an extension, or none if it has no slot
 abbrev pub tokens_under : (ℕ → List IndexedTokens) → List Entry → List ℕ → List IndexedTokens
 tokens_under tokens slots extension = option_map_or tokens (slot_of slots extension) []
 
 -- the automaton of a slot, or one without states
-abbrev pub machine_at : ExtensionParts → Option ℕ → Machine
-machine_at e slot = option_map_or (λ s. get_or e.machines s e.none) slot e.none
+abbrev pub nfa_at : ExtensionParts → Option ℕ → NfaValue
+nfa_at e slot = option_map_or (λ s. get_or e.nfas s e.none) slot e.none
 
 -- the automaton of an extension; one without states if it has no slot
-abbrev pub machine_under : ExtensionParts → List ℕ → Machine
-machine_under e extension = machine_at e (slot_of e.slots extension)
+abbrev pub nfa_under : ExtensionParts → List ℕ → NfaValue
+nfa_under e extension = nfa_at e (slot_of e.slots extension)
 
 -- the tokens of one of the first n slots match some text that begins with y
 abbrev pub SomeExtensionAfter : ℕ → (ℕ → List IndexedTokens) → List ℕ → Type 0
 SomeExtensionAfter n tokens y = (s : ℕ) × (s < n) × SomeMeanAfter (tokens s) y
 
 -- the most reads of all automata at a position of a text
-abbrev pub total_reads : List Machine → ℕ
-total_reads machines = sum_by max_reads machines
+abbrev pub total_reads : List NfaValue → ℕ
+total_reads nfas = sum_by max_reads nfas
 
 -- each extension has the tokens that it had, and no slot has others
 pub record KeepsTokens (old : ExtensionParts) (before : ℕ → List IndexedTokens) (new : ExtensionParts) : Type 0 where
   pub tokens : ℕ → List IndexedTokens
-  pub are_for : AreFor new.machines tokens
+  pub are_for : AreFor new.nfas tokens
   pub same : (extension : List ℕ) → tokens_under tokens new.slots extension ≡ tokens_under before old.slots extension
-  pub after : (y : List ℕ) → SomeExtensionAfter (length new.machines) tokens y ↔ SomeExtensionAfter (length old.machines) before y
+  pub after : (y : List ℕ) → SomeExtensionAfter (length new.nfas) tokens y ↔ SomeExtensionAfter (length old.nfas) before y
 
 -- one extension has these tokens in addition, and the others have those that they had; so it is with all slots together
 pub record AddsTokens (old : ExtensionParts) (before : ℕ → List IndexedTokens) (new : ExtensionParts) (key : List ℕ) (x : IndexedTokens) : Type 0 where
   pub tokens : ℕ → List IndexedTokens
-  pub are_for : AreFor new.machines tokens
+  pub are_for : AreFor new.nfas tokens
   pub added : (extension : List ℕ) → (extension ≡ key) → tokens_under tokens new.slots extension ≡ tokens_under before old.slots extension ++ x ∷ []
   pub others : (extension : List ℕ) → (extension ≢ key) → tokens_under tokens new.slots extension ≡ tokens_under before old.slots extension
-  pub after : (y : List ℕ) → SomeExtensionAfter (length new.machines) tokens y ↔ (SomeExtensionAfter (length old.machines) before y ⊎ MeanAfter x.options x.tokens y)
+  pub after : (y : List ℕ) → SomeExtensionAfter (length new.nfas) tokens y ↔ (SomeExtensionAfter (length old.nfas) before y ⊎ MeanAfter x.options x.tokens y)
 
 -- the same of whatever tokens the automata were for
 abbrev pub AddsTokensTo : ExtensionParts → ExtensionParts → List ℕ → IndexedTokens → Type 0
-AddsTokensTo old new key x = (before : ℕ → List IndexedTokens) → AreFor old.machines before → AddsTokens old before new key x
+AddsTokensTo old new key x = (before : ℕ → List IndexedTokens) → AreFor old.nfas before → AddsTokens old before new key x
 
 -- the automaton of one extension may have so many more reads, and those of the others no more than they had
 abbrev pub AddsReads : ExtensionParts → ExtensionParts → List ℕ → ℕ → Type 0
-AddsReads old new key n = (extension : List ℕ) → max_reads (machine_under new extension) ≤ max_reads (machine_under old extension) + cond (bytes_eq key extension) n 0
+AddsReads old new key n = (extension : List ℕ) → max_reads (nfa_under new extension) ≤ max_reads (nfa_under old extension) + cond (bytes_eq key extension) n 0
 
 -- the answer is whether the tokens of some extension match some text that begins with y
 abbrev pub TellsSomeAfter : ExtensionParts → List ℕ → Bool → Type 0
-TellsSomeAfter e y answer = (by_slot : ℕ → List IndexedTokens) → AreFor e.machines by_slot → IsTrue answer ↔ SomeExtensionAfter (length e.machines) by_slot y
+TellsSomeAfter e y answer = (by_slot : ℕ → List IndexedTokens) → AreFor e.nfas by_slot → IsTrue answer ↔ SomeExtensionAfter (length e.nfas) by_slot y
 
 -- ---- all of them
 
 -- automata that are run on the whole path, on its last component, and before its extension
 pub record AutomataParts : Type 0 where
-  pub by_path : Machine
-  pub by_component : Machine
+  pub by_path : NfaValue
+  pub by_component : NfaValue
   pub extensions : ExtensionParts
 
 -- the number of states of the largest of some automata
-abbrev pub max_size : List Machine → ℕ
+abbrev pub max_size : List NfaValue → ℕ
 max_size [] = 0
 max_size (m ∷ ms) = max (size m) (max_size ms)
 
 -- the number of states of the largest of all of them
 abbrev pub max_states : AutomataParts → ℕ
-max_states a = max (max (size a.by_path) (size a.by_component)) (max_size a.extensions.machines)
+max_states a = max (max (size a.by_path) (size a.by_component)) (max_size a.extensions.nfas)
 
 -- the number that each index is below is the same for all of them
-pub record HaveOneCount (by_path by_component : Machine) (extensions : ExtensionParts) : Type 0 where
+pub record HaveOneCount (by_path by_component : NfaValue) (extensions : ExtensionParts) : Type 0 where
   pub of_path : by_path.index_count ≡ extensions.index_count
   pub of_component : by_component.index_count ≡ extensions.index_count
 
 -- and the largest of them has so many states, and whether some text leads to an end of the one for last components
-pub record AreMeasured (by_path by_component : Machine) (extensions : ExtensionParts) (maximum : ℕ) (has_component : Bool) : Type 0 where
+pub record AreMeasured (by_path by_component : NfaValue) (extensions : ExtensionParts) (maximum : ℕ) (has_component : Bool) : Type 0 where
   pub counts : HaveOneCount by_path by_component extensions
   pub largest : maximum ≡ max_states (record { by_path = by_path; by_component = by_component; extensions = extensions })
   pub component : IsTrue has_component ↔ MatchesAfter by_component []
@@ -133,7 +133,7 @@ pub record TokenLists : Type 0 where
 pub record AreForLists (a : AutomataParts) (t : TokenLists) : Type 0 where
   pub path : IsFor a.by_path t.by_path
   pub component : IsFor a.by_component t.by_component
-  pub matchers : AreFor a.extensions.machines t.by_slot
+  pub matchers : AreFor a.extensions.nfas t.by_slot
 
 -- the bytes of a path before the extension of its last component
 abbrev pub before_extension : List ℕ → List ℕ
@@ -147,19 +147,19 @@ AreFound slots t path k =
 -- Tokens match the part that they are run on of some path below the folder: the last component may be any text, whatever the
 -- folder is, and so may the extension, before which the path still has the folder and its `/`.
 abbrev pub AreFoundBelow : ExtensionParts → TokenLists → List ℕ → Type 0
-AreFoundBelow e t folder = SomeMeanAfter t.by_component [] ⊎ (SomeMeanAfter t.by_path (folder_start folder) ⊎ SomeExtensionAfter (length e.machines) t.by_slot (folder_start folder))
+AreFoundBelow e t folder = SomeMeanAfter t.by_component [] ⊎ (SomeMeanAfter t.by_path (folder_start folder) ⊎ SomeExtensionAfter (length e.nfas) t.by_slot (folder_start folder))
 
 -- the states that are run for a path
 abbrev pub states_for : AutomataParts → List ℕ → ℕ
-states_for a path = size a.by_path + (size a.by_component + size (machine_under a.extensions (component_extension path)))
+states_for a path = size a.by_path + (size a.by_component + size (nfa_under a.extensions (component_extension path)))
 
 -- the most reads at a position of a path
 abbrev pub reads_for : AutomataParts → List ℕ → ℕ
-reads_for a path = max_reads a.by_path + (max_reads a.by_component + max_reads (machine_under a.extensions (component_extension path)))
+reads_for a path = max_reads a.by_path + (max_reads a.by_component + max_reads (nfa_under a.extensions (component_extension path)))
 
 -- the most reads at a position of a folder
 abbrev pub folder_reads : AutomataParts → ℕ
-folder_reads a = max_reads a.by_path + total_reads a.extensions.machines
+folder_reads a = max_reads a.by_path + total_reads a.extensions.nfas
 
 -- No state is run for a path, and nothing is found.
 pub record AreIdle (a : AutomataParts) (path : List ℕ) : Type 0 where
@@ -175,16 +175,16 @@ pub record IsFoundSet (a : AutomataParts) (path : List ℕ) (found : IndexSet) :
 -- ---- where no glob needs an automaton
 
 -- an automaton without states
-abbrev pub no_machine : ℕ → Machine
-no_machine n = record { states = []; starts = []; index_count = n }
+abbrev pub no_nfa : ℕ → NfaValue
+no_nfa n = record { states = []; starts = []; index_count = n }
 
 -- Where no glob needs an automaton, none is made, and contracts see these: they have no states, and no extension has a slot. The
 -- number that each index is below is n.
 abbrev pub no_automata : ℕ → AutomataParts
 no_automata n = record {
-  by_path = no_machine n;
-  by_component = no_machine n;
-  extensions = record { slots = []; machines = []; none = no_machine n; index_count = n };
+  by_path = no_nfa n;
+  by_component = no_nfa n;
+  extensions = record { slots = []; nfas = []; none = no_nfa n; index_count = n };
 }
 
 -- the automata, or those without states if none are made

@@ -1,19 +1,19 @@
 -- The rows that a caller keeps for automata, and the automata that these are of.
 use Rattle.std.specs.Prelude.{◌≡◌, ℕ, List, Option, None, IfSome, get_or, slice_index_or}
-use Rattle.byte_nfa.specs.Steps.{Machine}
+use Rattle.byte_nfa.specs.Steps.{NfaValue}
 use Rattle.set_matcher.specs.declared.caches.Caches.{Caches}
 use Rattle.set_matcher.specs.inner.Automata.{AutomataParts}
 
 -- the cache of a slot, if there is one, is of the automaton
-abbrev pub IsCacheAt : List (Option Machine) → ℕ → Machine → Type 0
+abbrev pub IsCacheAt : List (Option NfaValue) → ℕ → NfaValue → Type 0
 IsCacheAt caches slot m = IfSome (slice_index_or caches slot None) (λ c. c ≡ m)
 
 -- the cache of each slot is of its automaton
-abbrev pub AreSlotCaches : List Machine → Machine → List (Option Machine) → Type 0
-AreSlotCaches machines none caches = (s : ℕ) → IsCacheAt caches s (get_or machines s none)
+abbrev pub AreSlotCaches : List NfaValue → NfaValue → List (Option NfaValue) → Type 0
+AreSlotCaches nfas none caches = (s : ℕ) → IsCacheAt caches s (get_or nfas s none)
 
 -- each cache that is there is one of the automaton that it is used with
 pub record AreCachesOf (a : AutomataParts) (caches : Caches) : Type 0 where
   pub path : IfSome caches.by_path (λ c. c ≡ a.by_path)
   pub component : IfSome caches.by_component (λ c. c ≡ a.by_component)
-  pub slots : AreSlotCaches a.extensions.machines a.extensions.none caches.by_slot
+  pub slots : AreSlotCaches a.extensions.nfas a.extensions.none caches.by_slot

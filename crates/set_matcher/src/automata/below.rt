@@ -9,7 +9,7 @@ ghost use Rattle.set_matcher.specs.inner.Caches.{AreCachesOf};
 use crate::automata::Automata;
 use crate::caches::Caches;
 use bit_sets::{StateSet, Visits};
-use byte_nfa::Draft;
+use byte_nfa::Nfa;
 use nfa_simulation::StateSets;
 use std::alloc::{AllocError, Global};
 
@@ -54,7 +54,7 @@ impl Automata {
 /// Returns whether some text leads to an end of an automaton.
 ///
 /// It reads each state, and takes two bits of memory for each of them until it returns. Returns an error if memory runs out.
-pub fn has_text(alloc: Global, automaton: &Draft) -> Result<bool, AllocError>
+pub fn has_text(alloc: Global, automaton: &Nfa) -> Result<bool, AllocError>
     ensures { IfOk result (λ yes. IsTrue yes ↔ MatchesAfter automaton.now []) }
 {
     let mut starts = StateSet::new(alloc, automaton.state_count())?;

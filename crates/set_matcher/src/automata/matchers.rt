@@ -8,7 +8,7 @@ ghost use Rattle.glob_nfa.specs.IndexedTokens.{IndexedTokens, IsFor, indexed};
 ghost use Rattle.glob_syntax.specs.FlatTokens.{IsNested};
 ghost use Rattle.glob_syntax.specs.Views.{flats, tokens_of};
 ghost use Rattle.glob_syntax.specs.inner.Weight.{weight};
-ghost use Rattle.set_matcher.specs.inner.Automata.{AddsReads, AddsTokensTo, AreFor, KeepsTokens, TellsSomeAfter, machine_at, machine_under, max_size, slot_of, total_reads};
+ghost use Rattle.set_matcher.specs.inner.Automata.{AddsReads, AddsTokensTo, AreFor, KeepsTokens, TellsSomeAfter, nfa_at, nfa_under, max_size, slot_of, total_reads};
 ghost use Rattle.set_matcher.specs.inner.Caches.{AreSlotCaches};
 
 use super::slots::ExtensionSlots;
@@ -19,7 +19,7 @@ use byte_nfa::Builder;
 use glob_matching::{Budget, Compiled};
 use glob_nfa::{add_tokens, new_builder};
 use glob_syntax::{Options, Token};
-use nfa_simulation::{Nfa, StateSets};
+use nfa_simulation::{Simulation, StateSets};
 use std::alloc::{AllocError, Global};
 use std::marker::Model;
 
@@ -50,7 +50,7 @@ impl Model for ExtensionMatchers {
 
     ghost view = { λ e. record {
       slots = e.slots;
-      machines = e.automata.items;
+      nfas = e.automata.items;
       none = e.none;
       index_count = e.index_count;
     } };
@@ -68,7 +68,7 @@ impl ExtensionMatchers {
 
     /// Returns the number of states of the largest automaton. It takes time linear in the number of automata.
     pub fn max_states(&self) -> usize
-        ensures { result ≡ max_size self.now.machines }
+        ensures { result ≡ max_size self.now.nfas }
     {
         let mut maximum = 0;
         for automaton in &self.automata {
@@ -96,7 +96,7 @@ impl ExtensionMatchers {
     /// Returns the slot of an extension, if it has one. It is one visit.
     pub fn slot_of(&self, extension: &[u8], visits: &mut Visits) -> Option<usize>
         ensures slot { result ≡ slot_of self.now.slots extension.now }
-        ensures held { (s : ℕ) → result ≡ Some s → s < length self.now.machines }
+        ensures held { (s : ℕ) → result ≡ Some s → s < length self.now.nfas }
         ensures visits { visits.new ≡ visits.old + 1 }
     {
         match self.slots.get(extension, visits, &mut Visits::new()) {
@@ -107,11 +107,11 @@ impl ExtensionMatchers {
 
     /// Returns the automaton of a slot, or one without states if there is none.
     pub fn automaton_at(&self, slot: Option<usize>) -> &Compiled
-        requires { (s : ℕ) → slot ≡ Some s → s < length self.now.machines }
-        ensures automaton { result.now ≡ machine_at self.now slot }
-        ensures maximum { size result.now ≤ max_size self.now.machines }
+        requires { (s : ℕ) → slot ≡ Some s → s < length self.now.nfas }
+        ensures automaton { result.now ≡ nfa_at self.now slot }
+        ensures maximum { size result.now ≤ max_size self.now.nfas }
         ensures count { result.now.index_count ≡ self.now.index_count }
-        ensures tokens { (by_slot : ℕ → List IndexedTokens) → AreFor self.now.machines by_slot → IsFor result.now (option_map_or by_slot slot []) }
+        ensures tokens { (by_slot : ℕ → List IndexedTokens) → AreFor self.now.nfas by_slot → IsFor result.now (option_map_or by_slot slot []) }
         ensures none { slot ≡ None → size result.now ≡ 0 }
     {
         match slot {
@@ -123,7 +123,7 @@ impl ExtensionMatchers {
     /// Returns caches with no rows for the automata, where runs need one. All memory that they need is taken here. Returns an
     /// error if memory runs out.
     pub fn new_caches(&self, alloc: Global) -> Result<SlotCaches, AllocError>
-        ensures { IfOk result (λ caches. AreSlotCaches self.now.machines self.now.none caches) }
+        ensures { IfOk result (λ caches. AreSlotCaches self.now.nfas self.now.none caches) }
     {
         if !self.have_rows() {
             return Ok(SlotCaches::none());
@@ -159,12 +159,12 @@ impl ExtensionMatchers {
         caches: &mut SlotCaches,
         visits: &mut Visits,
     ) -> Result<bool, AllocError>
-        requires { AreSlotCaches self.now.machines self.now.none caches.old }
+        requires { AreSlotCaches self.now.nfas self.now.none caches.old }
         ensures caches { caches.new ≡ caches.old }
         ensures some { IfOk result (λ yes. TellsSomeAfter self.now (text.now ++ byte ∷ []) yes) }
         ensures kept { sets_capacity sets.old ≤ sets_capacity sets.new }
-        ensures room { max_size self.now.machines ≤ sets_capacity sets.old → IsOk result }
-        ensures visits { visits.new ≤ visits.old + (length text.now + 2) * total_reads self.now.machines }
+        ensures room { max_size self.now.nfas ≤ sets_capacity sets.old → IsOk result }
+        ensures visits { visits.new ≤ visits.old + (length text.now + 2) * total_reads self.now.nfas }
         ensures counted { visits.old ≤ visits.new }
     {
         for (slot, automaton) in self.automata.iter().enumerate() {
@@ -203,7 +203,7 @@ impl Model for ExtensionMatchersBuilder {
 
     ghost view = { λ e. record {
       slots = e.slots;
-      machines = e.builders.items;
+      nfas = e.builders.items;
       none = e.none;
       index_count = e.index_count;
     } };
@@ -215,7 +215,7 @@ impl ExtensionMatchersBuilder {
     /// Returns a builder that nothing was added to. Indexes have to be below `index_count`. It allocates nothing.
     pub fn new(alloc: Global, index_count: usize) -> ExtensionMatchersBuilder
         ensures slots { result.slots ≡ [] }
-        ensures machines { result.machines ≡ [] }
+        ensures nfas { result.nfas ≡ [] }
         ensures count { result.index_count ≡ index_count }
         ensures none { max_reads result.none ≡ 0 }
     {
@@ -248,7 +248,7 @@ impl ExtensionMatchersBuilder {
         requires index { index < self.old.index_count }
         ensures tokens { OnOk result (AddsTokensTo self.old self.new key.items (indexed options (tokens_of tokens.now) index)) }
         ensures reads { OnOk result (AddsReads self.old self.new key.items (weight options (tokens_of tokens.now) + 4)) }
-        ensures total { OnOk result (total_reads self.new.machines ≤ total_reads self.old.machines + (weight options (tokens_of tokens.now) + 4)) }
+        ensures total { OnOk result (total_reads self.new.nfas ≤ total_reads self.old.nfas + (weight options (tokens_of tokens.now) + 4)) }
         ensures count { self.new.index_count ≡ self.old.index_count }
     {
         let slot = self.slot_of(alloc, key)?;
@@ -258,9 +258,9 @@ impl ExtensionMatchersBuilder {
     /// Returns the slot of an extension, which is a new one if it has none.
     fn slot_of(&mut self, alloc: Global, key: Vec<u8>) -> Result<usize, AllocError>
         ensures slot { IfOk result (λ slot. slot_of self.new.slots key.items ≡ Some slot) }
-        ensures tokens { OnOk result ((before : ℕ → List IndexedTokens) → AreFor self.old.machines before → KeepsTokens self.old before self.new) }
-        ensures reads { OnOk result ((extension : List ℕ) → max_reads (machine_under self.new extension) ≡ max_reads (machine_under self.old extension)) }
-        ensures total { OnOk result (total_reads self.new.machines ≡ total_reads self.old.machines) }
+        ensures tokens { OnOk result ((before : ℕ → List IndexedTokens) → AreFor self.old.nfas before → KeepsTokens self.old before self.new) }
+        ensures reads { OnOk result ((extension : List ℕ) → max_reads (nfa_under self.new extension) ≡ max_reads (nfa_under self.old extension)) }
+        ensures total { OnOk result (total_reads self.new.nfas ≡ total_reads self.old.nfas) }
         ensures count { self.new.index_count ≡ self.old.index_count }
     {
         if let Some(slot) = self.slots.get(&key) {
@@ -273,9 +273,9 @@ impl ExtensionMatchersBuilder {
     fn add_slot(&mut self, alloc: Global, key: Vec<u8>) -> Result<usize, AllocError>
         requires { slot_of self.old.slots key.items ≡ None }
         ensures slot { IfOk result (λ slot. slot_of self.new.slots key.items ≡ Some slot) }
-        ensures tokens { OnOk result ((before : ℕ → List IndexedTokens) → AreFor self.old.machines before → KeepsTokens self.old before self.new) }
-        ensures reads { OnOk result ((extension : List ℕ) → max_reads (machine_under self.new extension) ≡ max_reads (machine_under self.old extension)) }
-        ensures total { OnOk result (total_reads self.new.machines ≡ total_reads self.old.machines) }
+        ensures tokens { OnOk result ((before : ℕ → List IndexedTokens) → AreFor self.old.nfas before → KeepsTokens self.old before self.new) }
+        ensures reads { OnOk result ((extension : List ℕ) → max_reads (nfa_under self.new extension) ≡ max_reads (nfa_under self.old extension)) }
+        ensures total { OnOk result (total_reads self.new.nfas ≡ total_reads self.old.nfas) }
         ensures count { self.new.index_count ≡ self.old.index_count }
     {
         let slot = self.builders.len();
@@ -311,7 +311,7 @@ impl ExtensionMatchersBuilder {
         Ok(ExtensionMatchers {
             slots: slots.build()?,
             automata: finished(alloc, budget, all_states, builders)?,
-            none: Compiled::simulated(Nfa::new(none.finish())),
+            none: Compiled::simulated(Simulation::new(none.finish())),
             index_count,
         })
     }

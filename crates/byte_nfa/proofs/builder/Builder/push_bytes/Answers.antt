@@ -4,7 +4,7 @@ use Rattle.byte_nfa.specs.Steps.{bytes_state}
 use Rattle.byte_nfa.specs.Runs.{size}
 use Rattle.byte_nfa.specs.inner.Views.{of_state}
 use Rattle.byte_nfa.specs.declared.state.State.TheVariants.{Bytes}
-use Rattle.byte_nfa.proofs.lemmas.Pushing.{sound_more, sound_with, pushes_with, machine_more, on_err}
+use Rattle.byte_nfa.proofs.lemmas.Pushing.{sound_more, sound_with, pushes_with, nfa_more, on_err}
 use Rattle.byte_nfa.proofs.builder.Builder.push_bytes.Goals as goal
 
 pub invariant_of-self : goal.invariant_of-self
@@ -20,7 +20,7 @@ returns-in_err-set-clause-unchanged c =
     let inside = c.self.inside in
     let targets = inside.targets.items in
     let more = c.in_err-set.ensures.more in
-    on_err c.from_residual.result (machine_more c.args.self.now inside.sets.items c.hold_set.new.sets.items more.0 targets targets [] more.1 (sym (append-nil targets))
+    on_err c.from_residual.result (nfa_more c.args.self.now inside.sets.items c.hold_set.new.sets.items more.0 targets targets [] more.1 (sym (append-nil targets))
     inside.states.items inside.starts.items inside.index_count c.self.view_is c.self.invariant)
 
 pub invariant_of-self-in_err-push : goal.invariant_of-self-in_err-push
@@ -36,7 +36,7 @@ returns-in_err-push-clause-unchanged c =
     let inside = c.self.inside in
     let targets = inside.targets.items in
     let more = c.in_ok-set.ensures.more in
-    on_err c.from_residual-in_err-push.result (rw c.in_err-push.ensures.items (machine_more c.args.self.now inside.sets.items c.hold_set.new.sets.items more.0 targets targets [] more.1 (sym (append-nil targets))
+    on_err c.from_residual-in_err-push.result (rw c.in_err-push.ensures.items (nfa_more c.args.self.now inside.sets.items c.hold_set.new.sets.items more.0 targets targets [] more.1 (sym (append-nil targets))
     inside.states.items inside.starts.items inside.index_count c.self.view_is c.self.invariant))
 
 pub invariant_of-self-2 : goal.invariant_of-self-2

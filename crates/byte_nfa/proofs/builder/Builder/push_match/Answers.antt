@@ -1,6 +1,6 @@
 use Rattle.std.proofs.Common.{[], ap, sym, refl, arith}
 use Rattle.std.proofs.lemmas.List.{append-nil}
-use Rattle.byte_nfa.specs.Steps.{Machine, match_state}
+use Rattle.byte_nfa.specs.Steps.{NfaValue, match_state}
 use Rattle.byte_nfa.specs.declared.state.State.TheVariants.{Match}
 use Rattle.byte_nfa.proofs.lemmas.Pushing.{sound_push, pushes_with}
 use Rattle.byte_nfa.proofs.builder.Builder.push_match.Goals as goal
@@ -8,7 +8,7 @@ use Rattle.byte_nfa.proofs.builder.Builder.push_match.Goals as goal
 pub invariant_of-self-2 : goal.invariant_of-self-2
 invariant_of-self-2 c =
     rw c.in_ok-push.ensures.items (sound_push c.self.inside.sets.items c.self.inside.targets.items c.self.inside.states.items (Match c.args.index) c.self.inside.starts.items c.self.inside.index_count c.self.invariant
-    tt tt (omega (arith, c.requires, ap (λ (m : Machine). m.index_count) c.self.view_is)))
+    tt tt (omega (arith, c.requires, ap (λ (m : NfaValue). m.index_count) c.self.view_is)))
 
 pub returns-clause-pushed : goal.returns-clause-pushed
 returns-clause-pushed c =

@@ -4,7 +4,7 @@ use Rattle.byte_nfa.specs.Steps.{union_state}
 use Rattle.byte_nfa.specs.Runs.{size}
 use Rattle.byte_nfa.specs.inner.Views.{of_state}
 use Rattle.byte_nfa.specs.declared.state.State.TheVariants.{Union}
-use Rattle.byte_nfa.proofs.lemmas.Pushing.{sound_more, sound_with, pushes_with, machine_more, list_last, list_held, on_err}
+use Rattle.byte_nfa.proofs.lemmas.Pushing.{sound_more, sound_with, pushes_with, nfa_more, list_last, list_held, on_err}
 use Rattle.byte_nfa.proofs.builder.Builder.push_union.Goals as goal
 
 pub invariant_of-self : goal.invariant_of-self
@@ -20,7 +20,7 @@ returns-in_err-list-clause-unchanged c =
     let inside = c.self.inside in
     let sets = inside.sets.items in
     let more = c.in_err-list.ensures.more in
-    on_err c.from_residual.result (machine_more c.args.self.now sets sets [] inside.targets.items c.hold_list.new.held.items more.0 (sym (append-nil sets)) more.1
+    on_err c.from_residual.result (nfa_more c.args.self.now sets sets [] inside.targets.items c.hold_list.new.held.items more.0 (sym (append-nil sets)) more.1
     inside.states.items inside.starts.items inside.index_count c.self.view_is c.self.invariant)
 
 pub invariant_of-self-in_err-push : goal.invariant_of-self-in_err-push
@@ -36,7 +36,7 @@ returns-in_err-push-clause-unchanged c =
     let inside = c.self.inside in
     let sets = inside.sets.items in
     let more = c.in_ok-list.ensures.more in
-    on_err c.from_residual-in_err-push.result (rw c.in_err-push.ensures.items (machine_more c.args.self.now sets sets [] inside.targets.items c.hold_list.new.held.items more.0 (sym (append-nil sets)) more.1
+    on_err c.from_residual-in_err-push.result (rw c.in_err-push.ensures.items (nfa_more c.args.self.now sets sets [] inside.targets.items c.hold_list.new.held.items more.0 (sym (append-nil sets)) more.1
     inside.states.items inside.starts.items inside.index_count c.self.view_is c.self.invariant))
 
 pub invariant_of-self-2 : goal.invariant_of-self-2

@@ -1,5 +1,5 @@
 use Rattle.std.proofs.Common.{arith, subst}
-use Rattle.byte_nfa.specs.Steps.{Machine}
+use Rattle.byte_nfa.specs.Steps.{NfaValue}
 use Rattle.nfa_sharing.specs.Sharing.{Shares}
 use Rattle.glob_matching.proofs.lemmas.Compiled.{has_matches}
 use Rattle.glob_matching.proofs.lemmas.Rows.{some_by}
@@ -10,5 +10,5 @@ returns-clause-some c = λ xs is.
     let m = c.args.self.now in
     let text = c.args.text.now in
     let (shares, same) = c.self.invariant in
-    let here : Shares m c.self.inside.cache = subst (λ (x : Machine). Shares x c.self.inside.cache) c.self.view_is (subst (λ (x : Machine). Shares c.self.inside.made_for.value x) same shares) in
+    let here : Shares m c.self.inside.cache = subst (λ (x : NfaValue). Shares x c.self.inside.cache) c.self.view_is (subst (λ (x : NfaValue). Shares c.self.inside.made_for.value x) same shares) in
     has_matches m xs text (λ i. omega (arith, c.type_inv.text i)) (some_by m c.self.inside.cache here text c.is_match-is_match.ensures.some) is

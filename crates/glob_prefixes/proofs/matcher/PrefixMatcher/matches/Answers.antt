@@ -12,14 +12,14 @@ use Rattle.glob_prefixes.proofs.matcher.PrefixMatcher.matches.Goals as goal
 pub returns-clause-matching : goal.returns-clause-matching
 returns-clause-matching c = λ text after.
     let m = c.args.self.now in
-    let is = subst (λ (m : PrefixMatcherValue). IsPrefixMatcherOf m.globs m.machine) c.self.view_is c.self.invariant in
+    let is = subst (λ (m : PrefixMatcherValue). IsPrefixMatcherOf m.globs m.nfa) c.self.view_is c.self.invariant in
     let has = has_index c.mark.new.marks in
     let indexes = c.push_below.new.into.items in
     let pushed = subst (λ r. OnOk r (indexes ≡ filter has (range_with_len 0 c.index_count-count.result))) c.unwrap.ensures c.push_below.ensures.pushed in
     let current = ap (λ (v : PrefixStatesValue). v.current) c.states.view_is in
-    let marked = λ (k : ℕ). subst (λ (set : StateSet). IsTrue (has k) ↔ AcceptsFrom m.machine set [] k) current (c.mark.ensures.marked k) in
-    reached_are m.globs m.machine text has indexes is after.bytes (λ k. ends_reached m c.args.states.now text k (has k) (marked k) after)
-    (subst (λ (n : ℕ). indexes ≡ filter has (range_with_len 0 n)) (c.index_count-count.ensures ∙ ap (λ (m : PrefixMatcherValue). m.machine.index_count) c.self.view_is) pushed)
+    let marked = λ (k : ℕ). subst (λ (set : StateSet). IsTrue (has k) ↔ AcceptsFrom m.nfa set [] k) current (c.mark.ensures.marked k) in
+    reached_are m.globs m.nfa text has indexes is after.bytes (λ k. ends_reached m c.args.states.now text k (has k) (marked k) after)
+    (subst (λ (n : ℕ). indexes ≡ filter has (range_with_len 0 n)) (c.index_count-count.ensures ∙ ap (λ (m : PrefixMatcherValue). m.nfa.index_count) c.self.view_is) pushed)
 
 pub returns-clause-after : goal.returns-clause-after
 returns-clause-after c = λ text after.

@@ -5,5 +5,5 @@ pub loop-from-preserved-in_ok-push : goal.loop-from-preserved-in_ok-push
 loop-from-preserved-in_ok-push c =
     let inv = c.loop-from.invariant in record {
       some = omega (arith, inv.some);
-      blocks = λ old. c.in_ok-push.ensures c.args.draft.now.states (inv.blocks old) c.in-Some.ensures;
+      blocks = λ old. c.in_ok-push.ensures c.args.nfa.now.states (inv.blocks old) c.in-Some.ensures;
     }

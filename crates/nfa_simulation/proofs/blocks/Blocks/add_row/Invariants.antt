@@ -5,7 +5,7 @@ use Rattle.nfa_simulation.proofs.blocks.Blocks.add_row.Given as goal
 abbrev pub invariant-loop-from : goal.invariant-loop-from
 invariant-loop-from l = record {
   some : 0 < l.from;
-  blocks : AreBlocks l.draft.states l.fn.self.by_word.items l.fn.self.masks.items → AreBlocks l.draft.states l.self.by_word.items l.self.masks.items;
+  blocks : AreBlocks l.nfa.states l.fn.self.by_word.items l.fn.self.masks.items → AreBlocks l.nfa.states l.self.by_word.items l.self.masks.items;
 }
 
 abbrev pub decreases-loop-from : goal.decreases-loop-from

@@ -12,7 +12,7 @@ loop-s-init c = record {
 pub loop-s-preserved : goal.loop-s-preserved
 loop-s-preserved c =
     let inv = c.loop-s.invariant in
-    let a = c.args.draft.now.states in
+    let a = c.args.nfa.now.states in
     let s = c.loop-s.s in
     let old = c.loop-s.table in
     let new = c.add_column.new.table in

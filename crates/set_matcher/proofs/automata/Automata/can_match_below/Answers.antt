@@ -21,7 +21,7 @@ pub returns-clause-some : goal.returns-clause-some
 returns-clause-some c =
     let folder = c.args.folder.now in
     IfOk-weaker c.can_match_after.result
-    (λ yes. (by_slot : ℕ → List IndexedTokens) → AreFor c.self.inside.extensions.machines by_slot → IsTrue yes ↔ SomeExtensionAfter (length c.self.inside.extensions.machines) by_slot (folder_start folder))
+    (λ yes. (by_slot : ℕ → List IndexedTokens) → AreFor c.self.inside.extensions.nfas by_slot → IsTrue yes ↔ SomeExtensionAfter (length c.self.inside.extensions.nfas) by_slot (folder_start folder))
     (λ yes. (t : TokenLists) → AreForLists c.args.self.now t → IsTrue yes ↔ AreFoundBelow c.args.self.now.extensions t folder)
     (λ yes tells t are.
     let inside = subst (λ (a : AutomataParts). AreForLists a t) (sym c.self.view_is) are in
@@ -34,6 +34,6 @@ returns-clause-some c =
 
 pub returns-clause-memory : goal.returns-clause-memory
 returns-clause-memory c = λ none.
-    let reads = ap (λ (a : AutomataParts). total_reads a.extensions.machines) c.self.view_is in
-    let few = max_within c.self.inside.extensions.machines in
+    let reads = ap (λ (a : AutomataParts). total_reads a.extensions.nfas) c.self.view_is in
+    let few = max_within c.self.inside.extensions.nfas in
     c.can_match_after.ensures.room (omega (arith, none, reads, few))

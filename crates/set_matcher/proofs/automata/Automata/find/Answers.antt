@@ -2,12 +2,12 @@ use Rattle.std.proofs.Common.{◌≡◌, ◌+◌, ◌*◌, ◌≤◌, length, ap
 use Rattle.glob_nfa.specs.IndexedTokens.{IsFor}
 use Rattle.byte_nfa.specs.Runs.{size, max_reads}
 use Rattle.nfa_simulation.specs.Sets.{sets_capacity}
-use Rattle.byte_nfa.specs.Steps.{Machine}
+use Rattle.byte_nfa.specs.Steps.{NfaValue}
 use Rattle.std.proofs.Math.Logic.{⊎_elim}
 use Rattle.glob_path.specs.PathParts.{last_component, component_extension, last_position, is_separator}
-use Rattle.set_matcher.specs.inner.Automata.{AutomataParts, before_extension, machine_under, max_states, tokens_under}
+use Rattle.set_matcher.specs.inner.Automata.{AutomataParts, before_extension, nfa_under, max_states, tokens_under}
 use Rattle.set_matcher.proofs.lemmas.Automata.{before_bytes, bytes_after, no_matches, three_runs}
-use Rattle.set_matcher.proofs.lemmas.Slots.{cache_by_slot, machine_by_slot, tokens_by_slot}
+use Rattle.set_matcher.proofs.lemmas.Slots.{cache_by_slot, nfa_by_slot, tokens_by_slot}
 use Rattle.set_matcher.proofs.lemmas.Visits.{looked_runs}
 use Rattle.set_matcher.proofs.automata.Automata.find.Goals as goal
 
@@ -15,7 +15,7 @@ pub returns-then-is_idle-clause-idle : goal.returns-then-is_idle-clause-idle
 returns-then-is_idle-clause-idle c = λ off.
     let path = c.args.path.now in
     let nil = c.is_idle.ensures.0 c.if-is_idle.true in
-    let last = ap size (machine_by_slot (component_extension c.args.path.now) c.self.view_is c.automaton_at-by_extension.ensures.automaton c.slot_of-slot.ensures.slot) in
+    let last = ap size (nfa_by_slot (component_extension c.args.path.now) c.self.view_is c.automaton_at-by_extension.ensures.automaton c.slot_of-slot.ensures.slot) in
     let bytes = c.requires.bytes in record {
       size = omega (arith, nil, last);
       none = λ t are k found. ⊎_elim {C = ⊥} (λ by_path. no_matches c.args.self.now.by_path t.by_path path k (omega (arith, nil)) are.path bytes by_path)
@@ -29,7 +29,7 @@ returns-then-is_idle-clause-idle c = λ off.
 pub returns-clause-found : goal.returns-clause-found
 returns-clause-found c = λ on. record {
   size =
-      let last = ap size (machine_by_slot (component_extension c.args.path.now) c.self.view_is c.automaton_at-by_extension.ensures.automaton c.slot_of-slot.ensures.slot) in
+      let last = ap size (nfa_by_slot (component_extension c.args.path.now) c.self.view_is c.automaton_at-by_extension.ensures.automaton c.slot_of-slot.ensures.slot) in
       let some : (size c.args.self.now.by_path + (size c.args.self.now.by_component + size c.automaton_at-by_extension.result.now) ≡ 0) → ⊥ = (λ nil. true≢false (sym (c.is_idle.ensures.1 nil) ∙ c.if-is_idle.false)) in
       omega (arith, last, some);
   room = omega (arith, c.in_ok-reserve.ensures.ok, c.index_count.ensures, c.in_ok-run.ensures.room, c.in_ok-run-2.ensures.room, c.in_ok-run-3.ensures.room);
@@ -46,7 +46,7 @@ pub returns-in_err-run-clause-visits : goal.returns-in_err-run-clause-visits
 returns-in_err-run-clause-visits c =
     let a = c.args.self.now in
     let n = length c.args.path.now in
-    looked_runs n (max_reads a.by_path) (max_reads a.by_component) (max_reads (machine_under a.extensions (component_extension c.args.path.now))) c.args.visits.now c.slot_of-slot.new.visits
+    looked_runs n (max_reads a.by_path) (max_reads a.by_component) (max_reads (nfa_under a.extensions (component_extension c.args.path.now))) c.args.visits.now c.slot_of-slot.new.visits
     c.run.new.visits c.run.new.visits c.run.new.visits
     c.slot_of-slot.ensures.visits
     (subst (λ (p : AutomataParts). c.run.new.visits ≤ c.slot_of-slot.new.visits + (n + 1) * max_reads p.by_path) c.self.view_is c.run.ensures.visits)
@@ -56,7 +56,7 @@ pub returns-in_err-run-2-clause-visits : goal.returns-in_err-run-2-clause-visits
 returns-in_err-run-2-clause-visits c =
     let a = c.args.self.now in
     let n = length c.args.path.now in
-    looked_runs n (max_reads a.by_path) (max_reads a.by_component) (max_reads (machine_under a.extensions (component_extension c.args.path.now))) c.args.visits.now c.slot_of-slot.new.visits
+    looked_runs n (max_reads a.by_path) (max_reads a.by_component) (max_reads (nfa_under a.extensions (component_extension c.args.path.now))) c.args.visits.now c.slot_of-slot.new.visits
     c.run.new.visits c.run-2.new.visits c.run-2.new.visits
     c.slot_of-slot.ensures.visits
     (subst (λ (p : AutomataParts). c.run.new.visits ≤ c.slot_of-slot.new.visits + (n + 1) * max_reads p.by_path) c.self.view_is c.run.ensures.visits)
@@ -67,44 +67,44 @@ pub returns-in_err-run-3-clause-visits : goal.returns-in_err-run-3-clause-visits
 returns-in_err-run-3-clause-visits c =
     let a = c.args.self.now in
     let n = length c.args.path.now in
-    looked_runs n (max_reads a.by_path) (max_reads a.by_component) (max_reads (machine_under a.extensions (component_extension c.args.path.now))) c.args.visits.now c.slot_of-slot.new.visits
+    looked_runs n (max_reads a.by_path) (max_reads a.by_component) (max_reads (nfa_under a.extensions (component_extension c.args.path.now))) c.args.visits.now c.slot_of-slot.new.visits
     c.run.new.visits c.run-2.new.visits c.run-3.new.visits
     c.slot_of-slot.ensures.visits
     (subst (λ (p : AutomataParts). c.run.new.visits ≤ c.slot_of-slot.new.visits + (n + 1) * max_reads p.by_path) c.self.view_is c.run.ensures.visits)
     (subst (λ (p : AutomataParts). c.run-2.new.visits ≤ c.run.new.visits + (n + 1) * max_reads p.by_component) c.self.view_is c.run-2.ensures.visits)
-    (subst (λ (m : Machine). c.run-3.new.visits ≤ c.run-2.new.visits + (n + 1) * max_reads m)
-    (machine_by_slot (component_extension c.args.path.now) c.self.view_is c.automaton_at-by_extension.ensures.automaton c.slot_of-slot.ensures.slot) c.run-3.ensures.visits)
+    (subst (λ (m : NfaValue). c.run-3.new.visits ≤ c.run-2.new.visits + (n + 1) * max_reads m)
+    (nfa_by_slot (component_extension c.args.path.now) c.self.view_is c.automaton_at-by_extension.ensures.automaton c.slot_of-slot.ensures.slot) c.run-3.ensures.visits)
 
 pub returns-clause-visits : goal.returns-clause-visits
 returns-clause-visits c =
     let a = c.args.self.now in
     let n = length c.args.path.now in
-    looked_runs n (max_reads a.by_path) (max_reads a.by_component) (max_reads (machine_under a.extensions (component_extension c.args.path.now))) c.args.visits.now c.slot_of-slot.new.visits
+    looked_runs n (max_reads a.by_path) (max_reads a.by_component) (max_reads (nfa_under a.extensions (component_extension c.args.path.now))) c.args.visits.now c.slot_of-slot.new.visits
     c.run.new.visits c.run-2.new.visits c.run-3.new.visits
     c.slot_of-slot.ensures.visits
     (subst (λ (p : AutomataParts). c.run.new.visits ≤ c.slot_of-slot.new.visits + (n + 1) * max_reads p.by_path) c.self.view_is c.run.ensures.visits)
     (subst (λ (p : AutomataParts). c.run-2.new.visits ≤ c.run.new.visits + (n + 1) * max_reads p.by_component) c.self.view_is c.run-2.ensures.visits)
-    (subst (λ (m : Machine). c.run-3.new.visits ≤ c.run-2.new.visits + (n + 1) * max_reads m)
-    (machine_by_slot (component_extension c.args.path.now) c.self.view_is c.automaton_at-by_extension.ensures.automaton c.slot_of-slot.ensures.slot) c.run-3.ensures.visits)
+    (subst (λ (m : NfaValue). c.run-3.new.visits ≤ c.run-2.new.visits + (n + 1) * max_reads m)
+    (nfa_by_slot (component_extension c.args.path.now) c.self.view_is c.automaton_at-by_extension.ensures.automaton c.slot_of-slot.ensures.slot) c.run-3.ensures.visits)
 
 pub returns-in_err-reserve-clause-memory : goal.returns-in_err-reserve-clause-memory
 returns-in_err-reserve-clause-memory c = λ none.
-    let last = ap size (machine_by_slot (component_extension c.args.path.now) c.self.view_is c.automaton_at-by_extension.ensures.automaton c.slot_of-slot.ensures.slot) in
+    let last = ap size (nfa_by_slot (component_extension c.args.path.now) c.self.view_is c.automaton_at-by_extension.ensures.automaton c.slot_of-slot.ensures.slot) in
     let on = c.is_idle.ensures.1 (omega (arith, none, last)) in absurd (true≢false (sym on ∙ c.if-is_idle.false))
 
 pub returns-in_err-run-clause-memory : goal.returns-in_err-run-clause-memory
 returns-in_err-run-clause-memory c = λ none.
-    let last = ap size (machine_by_slot (component_extension c.args.path.now) c.self.view_is c.automaton_at-by_extension.ensures.automaton c.slot_of-slot.ensures.slot) in
+    let last = ap size (nfa_by_slot (component_extension c.args.path.now) c.self.view_is c.automaton_at-by_extension.ensures.automaton c.slot_of-slot.ensures.slot) in
     let on = c.is_idle.ensures.1 (omega (arith, none, last)) in absurd (true≢false (sym on ∙ c.if-is_idle.false))
 
 pub returns-in_err-run-2-clause-memory : goal.returns-in_err-run-2-clause-memory
 returns-in_err-run-2-clause-memory c = λ none.
-    let last = ap size (machine_by_slot (component_extension c.args.path.now) c.self.view_is c.automaton_at-by_extension.ensures.automaton c.slot_of-slot.ensures.slot) in
+    let last = ap size (nfa_by_slot (component_extension c.args.path.now) c.self.view_is c.automaton_at-by_extension.ensures.automaton c.slot_of-slot.ensures.slot) in
     let on = c.is_idle.ensures.1 (omega (arith, none, last)) in absurd (true≢false (sym on ∙ c.if-is_idle.false))
 
 pub returns-in_err-run-3-clause-memory : goal.returns-in_err-run-3-clause-memory
 returns-in_err-run-3-clause-memory c = λ none.
-    let last = ap size (machine_by_slot (component_extension c.args.path.now) c.self.view_is c.automaton_at-by_extension.ensures.automaton c.slot_of-slot.ensures.slot) in
+    let last = ap size (nfa_by_slot (component_extension c.args.path.now) c.self.view_is c.automaton_at-by_extension.ensures.automaton c.slot_of-slot.ensures.slot) in
     let on = c.is_idle.ensures.1 (omega (arith, none, last)) in absurd (true≢false (sym on ∙ c.if-is_idle.false))
 
 pub returns-in_err-reserve-clause-room : goal.returns-in_err-reserve-clause-room

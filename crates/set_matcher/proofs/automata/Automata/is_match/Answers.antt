@@ -4,9 +4,9 @@ use Rattle.std.proofs.lemmas.Result.{IfOk-weaker}
 use Rattle.byte_nfa.specs.Runs.{max_reads}
 use Rattle.glob_nfa.specs.IndexedTokens.{IndexedTokens, SomeMatches, IsFor}
 use Rattle.glob_path.specs.PathParts.{component_extension}
-use Rattle.set_matcher.specs.inner.Automata.{AutomataParts, TokenLists, AreForLists, AreFound, before_extension, machine_under, tokens_under}
+use Rattle.set_matcher.specs.inner.Automata.{AutomataParts, TokenLists, AreForLists, AreFound, before_extension, nfa_under, tokens_under}
 use Rattle.set_matcher.proofs.lemmas.Automata.{last_run}
-use Rattle.set_matcher.proofs.lemmas.Slots.{cache_by_slot, machine_by_slot, tokens_by_slot}
+use Rattle.set_matcher.proofs.lemmas.Slots.{cache_by_slot, nfa_by_slot, tokens_by_slot}
 use Rattle.set_matcher.proofs.lemmas.Visits.{three_runs, two_runs}
 use Rattle.set_matcher.proofs.automata.Automata.is_match.Goals as goal
 
@@ -45,7 +45,7 @@ returns-in_err-matches_part-2-clause-visits c =
     let a = c.args.self.now in
     let path = c.args.path.now in
     two_runs (length path) (length path) (length path) (max_reads a.by_path) (max_reads c.self.inside.by_path) (max_reads a.by_component)
-    (max_reads (machine_under a.extensions (component_extension path))) c.args.visits.now c.matches_part.new.visits c.matches_part-2.new.visits
+    (max_reads (nfa_under a.extensions (component_extension path))) c.args.visits.now c.matches_part.new.visits c.matches_part-2.new.visits
     refl refl (ap (λ (p : AutomataParts). max_reads p.by_path) c.self.view_is) c.matches_part.ensures.visits (subst (λ (p : AutomataParts). c.matches_part-2.new.visits ≤ c.matches_part.new.visits + (length path + 1) * max_reads p.by_component) c.self.view_is c.matches_part-2.ensures.visits)
 
 pub returns-then-branch-2-clause-visits : goal.returns-then-branch-2-clause-visits
@@ -53,7 +53,7 @@ returns-then-branch-2-clause-visits c =
     let a = c.args.self.now in
     let path = c.args.path.now in
     two_runs (length path) (length path) (length path) (max_reads a.by_path) (max_reads c.self.inside.by_path) (max_reads a.by_component)
-    (max_reads (machine_under a.extensions (component_extension path))) c.args.visits.now c.matches_part.new.visits c.matches_part-2.new.visits
+    (max_reads (nfa_under a.extensions (component_extension path))) c.args.visits.now c.matches_part.new.visits c.matches_part-2.new.visits
     refl refl (ap (λ (p : AutomataParts). max_reads p.by_path) c.self.view_is) c.matches_part.ensures.visits (subst (λ (p : AutomataParts). c.matches_part-2.new.visits ≤ c.matches_part.new.visits + (length path + 1) * max_reads p.by_component) c.self.view_is c.matches_part-2.ensures.visits)
 
 pub returns-clause-visits : goal.returns-clause-visits
@@ -61,10 +61,10 @@ returns-clause-visits c =
     let a = c.args.self.now in
     let path = c.args.path.now in
     three_runs (length path) (length path) (length path) (length path) (max_reads a.by_path) (max_reads c.self.inside.by_path) (max_reads a.by_component)
-    (max_reads (machine_under a.extensions (component_extension path))) (max_reads c.automaton_at-by_extension.result.now) c.args.visits.now c.matches_part.new.visits c.matches_part-2.new.visits
+    (max_reads (nfa_under a.extensions (component_extension path))) (max_reads c.automaton_at-by_extension.result.now) c.args.visits.now c.matches_part.new.visits c.matches_part-2.new.visits
     c.slot_of-slot.new.visits c.matches.new.visits
     refl refl refl (ap (λ (p : AutomataParts). max_reads p.by_path) c.self.view_is)
-    (ap max_reads (machine_by_slot (component_extension path) c.self.view_is c.automaton_at-by_extension.ensures.automaton c.slot_of-slot.ensures.slot))
+    (ap max_reads (nfa_by_slot (component_extension path) c.self.view_is c.automaton_at-by_extension.ensures.automaton c.slot_of-slot.ensures.slot))
     c.matches_part.ensures.visits (subst (λ (p : AutomataParts). c.matches_part-2.new.visits ≤ c.matches_part.new.visits + (length path + 1) * max_reads p.by_component) c.self.view_is c.matches_part-2.ensures.visits) c.slot_of-slot.ensures.visits c.matches.ensures.visits
 
 pub matches-requires-clause-cache : goal.matches-requires-clause-cache

@@ -17,5 +17,5 @@ invariant_of-self c =
 pub returns-clause-tokens : goal.returns-clause-tokens
 returns-clause-tokens c =
     let is = ap built c.deref_mut.ensures.value ∙ c.in_ok-builders.ensures.taken in
-    subst (λ (a : AutomataParts). OnOk c.add_tokens-added.result ((before : ℕ → List IndexedTokens) → AreFor a.extensions.machines before → AddsTokens a.extensions before c.add_tokens-added.new.self c.args.key.items (indexed c.args.options (tokens_of c.args.tokens.now) c.args.index)))
+    subst (λ (a : AutomataParts). OnOk c.add_tokens-added.result ((before : ℕ → List IndexedTokens) → AreFor a.extensions.nfas before → AddsTokens a.extensions before c.add_tokens-added.new.self c.args.key.items (indexed c.args.options (tokens_of c.args.tokens.now) c.args.index)))
     is c.add_tokens-added.ensures.tokens

@@ -37,15 +37,15 @@ returns-clause-ok c =
     ]) in
     let ready : Ready c.if-not-are_run.marks = elim c.if-not-are_run.branch [
       | then-not-are_run+in_ok-reserve w ↦ subst Ready (sym w.marks-is) (
-          omega (arith, globs_count c.self.inside.globs, of_globs.counted, of_globs.indexed, c.self.invariant.count, w.in_ok-reserve.ensures.ok),
-          λ k. (λ yes. absurd (true≢false (sym yes ∙ w.reserve.ensures.has k ∙ w.clear-then-not-are_run.ensures.none k)), λ found. absurd ((idle w.if-not-are_run.true).none matcher.tokens matcher.are_for k found)),
-        )
+        omega (arith, globs_count c.self.inside.globs, of_globs.counted, of_globs.indexed, c.self.invariant.count, w.in_ok-reserve.ensures.ok),
+        λ k. (λ yes. absurd (true≢false (sym yes ∙ w.reserve.ensures.has k ∙ w.clear-then-not-are_run.ensures.none k)), λ found. absurd ((idle w.if-not-are_run.true).none matcher.tokens matcher.are_for k found)),
+      )
       | else-not-are_run w ↦ subst Ready (sym w.marks-is) (
           let by_automata = run w.if-not-are_run.false in (
             omega (arith, globs_count c.self.inside.globs, of_globs.counted, of_globs.indexed, by_automata.room),
             by_automata.same matcher.tokens matcher.are_for,
           )
-        )
+          )
     ] in
     let marked : (k : ℕ) → IsTrue (has_index c.find-2.new.found k) ↔ IsTrue (is_reported_at (matcher_globs c.args.self.now) c.args.path.now k) =
     subst (λ p. (k : ℕ) → IsTrue (has_index c.find-2.new.found k) ↔ IsTrue (is_reported_at (matcher_globs c.args.self.now) p k)) (c.parts_of-parts.ensures.path ∙ c.path.ensures)

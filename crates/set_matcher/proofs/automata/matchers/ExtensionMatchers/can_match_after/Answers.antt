@@ -1,6 +1,6 @@
 use Rattle.std.proofs.Common.{◌≡◌, ◌+◌, ◌*◌, ◌<◌, ◌≤◌, ◌++◌, ◌∷◌, [], List, get_or, length, refl, ap, sym, subst, ◌∙◌, true≢false, arith}
 use Rattle.std.proofs.lemmas.List.{take_all}
-use Rattle.byte_nfa.specs.Steps.{Machine}
+use Rattle.byte_nfa.specs.Steps.{NfaValue}
 use Rattle.set_matcher.specs.inner.Automata.{ExtensionParts, total_reads}
 use Rattle.set_matcher.specs.inner.Caches.{IsCacheAt}
 use Rattle.set_matcher.proofs.lemmas.ExtensionMatchers.{any_default, is_for, none_limit, size_within, visits_more, visits_within}
@@ -9,66 +9,66 @@ use Rattle.set_matcher.proofs.automata.matchers.ExtensionMatchers.can_match_afte
 pub loop-slot-preserved : goal.loop-slot-preserved
 loop-slot-preserved c =
     let inv = c.loop-slot.invariant in
-    let machines = c.args.self.now.machines in
+    let nfas = c.args.self.now.nfas in
     let i = c.loop-slot.slot in
     let m = c.automaton-item.result in
-    let same : c.deref-automaton-items.result.now ≡ machines = c.deref-automaton-items.ensures.value ∙ ap (λ (e : ExtensionParts). e.machines) c.self.view_is in
-    let lt : i < length machines = omega (arith, c.loop-slot-test.true, ap length same) in
-    let is = subst (λ (ms : List Machine). m ≡ get_or ms i m) same c.automaton-item.is in
+    let same : c.deref-automaton-items.result.now ≡ nfas = c.deref-automaton-items.ensures.value ∙ ap (λ (e : ExtensionParts). e.nfas) c.self.view_is in
+    let lt : i < length nfas = omega (arith, c.loop-slot-test.true, ap length same) in
+    let is = subst (λ (ms : List NfaValue). m ≡ get_or ms i m) same c.automaton-item.is in
     record {
       none = λ by_slot are. none_limit by_slot i (c.args.text.now ++ c.args.byte ∷ []) (inv.none by_slot are)
-          (λ some. true≢false (sym ((c.in_ok-can_match_after.ensures.some (by_slot i) (is_for machines i m lt is by_slot are)).1 some) ∙ c.if-branch.false));
+          (λ some. true≢false (sym ((c.in_ok-can_match_after.ensures.some (by_slot i) (is_for nfas i m lt is by_slot are)).1 some) ∙ c.if-branch.false));
       caches = c.can_match_after.ensures.caches ∙ inv.caches;
       kept = omega (arith, c.can_match_after.ensures.kept, inv.kept);
-      visits = visits_more machines i m lt is (length c.args.text.now + 2) c.args.visits.now c.loop-slot.visits c.can_match_after.new.visits c.can_match_after.ensures.visits inv.visits;
+      visits = visits_more nfas i m lt is (length c.args.text.now + 2) c.args.visits.now c.loop-slot.visits c.can_match_after.new.visits c.can_match_after.ensures.visits inv.visits;
       counted = omega (arith, c.can_match_after.ensures.counted, inv.counted);
     }
 
 pub returns-then-branch-clause-some : goal.returns-then-branch-clause-some
 returns-then-branch-clause-some c = λ by_slot are.
-    let machines = c.args.self.now.machines in
+    let nfas = c.args.self.now.nfas in
     let i = c.loop-slot.slot in
     let m = c.automaton-item.result in
-    let same : c.deref-automaton-items.result.now ≡ machines = c.deref-automaton-items.ensures.value ∙ ap (λ (e : ExtensionParts). e.machines) c.self.view_is in
-    let lt : i < length machines = omega (arith, c.loop-slot-test.true, ap length same) in
-    let is = subst (λ (ms : List Machine). m ≡ get_or ms i m) same c.automaton-item.is in
-    (λ yes. (i, lt, (c.in_ok-can_match_after.ensures.some (by_slot i) (is_for machines i m lt is by_slot are)).0 c.if-branch.true), λ some. refl)
+    let same : c.deref-automaton-items.result.now ≡ nfas = c.deref-automaton-items.ensures.value ∙ ap (λ (e : ExtensionParts). e.nfas) c.self.view_is in
+    let lt : i < length nfas = omega (arith, c.loop-slot-test.true, ap length same) in
+    let is = subst (λ (ms : List NfaValue). m ≡ get_or ms i m) same c.automaton-item.is in
+    (λ yes. (i, lt, (c.in_ok-can_match_after.ensures.some (by_slot i) (is_for nfas i m lt is by_slot are)).0 c.if-branch.true), λ some. refl)
 
 pub returns-then-branch-clause-visits : goal.returns-then-branch-clause-visits
 returns-then-branch-clause-visits c =
-    let machines = c.args.self.now.machines in
+    let nfas = c.args.self.now.nfas in
     let i = c.loop-slot.slot in
     let m = c.automaton-item.result in
-    let same : c.deref-automaton-items.result.now ≡ machines = c.deref-automaton-items.ensures.value ∙ ap (λ (e : ExtensionParts). e.machines) c.self.view_is in
-    let lt : i < length machines = omega (arith, c.loop-slot-test.true, ap length same) in
-    let is = subst (λ (ms : List Machine). m ≡ get_or ms i m) same c.automaton-item.is in
-    visits_within machines i m lt is (length c.args.text.now + 2) c.args.visits.now c.loop-slot.visits c.can_match_after.new.visits c.can_match_after.ensures.visits c.loop-slot.invariant.visits
+    let same : c.deref-automaton-items.result.now ≡ nfas = c.deref-automaton-items.ensures.value ∙ ap (λ (e : ExtensionParts). e.nfas) c.self.view_is in
+    let lt : i < length nfas = omega (arith, c.loop-slot-test.true, ap length same) in
+    let is = subst (λ (ms : List NfaValue). m ≡ get_or ms i m) same c.automaton-item.is in
+    visits_within nfas i m lt is (length c.args.text.now + 2) c.args.visits.now c.loop-slot.visits c.can_match_after.new.visits c.can_match_after.ensures.visits c.loop-slot.invariant.visits
 
 pub returns-in_err-can_match_after-clause-visits : goal.returns-in_err-can_match_after-clause-visits
 returns-in_err-can_match_after-clause-visits c =
-    let machines = c.args.self.now.machines in
+    let nfas = c.args.self.now.nfas in
     let i = c.loop-slot.slot in
     let m = c.automaton-item.result in
-    let same : c.deref-automaton-items.result.now ≡ machines = c.deref-automaton-items.ensures.value ∙ ap (λ (e : ExtensionParts). e.machines) c.self.view_is in
-    let lt : i < length machines = omega (arith, c.loop-slot-test.true, ap length same) in
-    let is = subst (λ (ms : List Machine). m ≡ get_or ms i m) same c.automaton-item.is in
-    visits_within machines i m lt is (length c.args.text.now + 2) c.args.visits.now c.loop-slot.visits c.can_match_after.new.visits c.can_match_after.ensures.visits c.loop-slot.invariant.visits
+    let same : c.deref-automaton-items.result.now ≡ nfas = c.deref-automaton-items.ensures.value ∙ ap (λ (e : ExtensionParts). e.nfas) c.self.view_is in
+    let lt : i < length nfas = omega (arith, c.loop-slot-test.true, ap length same) in
+    let is = subst (λ (ms : List NfaValue). m ≡ get_or ms i m) same c.automaton-item.is in
+    visits_within nfas i m lt is (length c.args.text.now + 2) c.args.visits.now c.loop-slot.visits c.can_match_after.new.visits c.can_match_after.ensures.visits c.loop-slot.invariant.visits
 
 pub returns-in_err-can_match_after-clause-room : goal.returns-in_err-can_match_after-clause-room
 returns-in_err-can_match_after-clause-room c = λ enough.
-    let machines = c.args.self.now.machines in
+    let nfas = c.args.self.now.nfas in
     let i = c.loop-slot.slot in
     let m = c.automaton-item.result in
-    let same : c.deref-automaton-items.result.now ≡ machines = c.deref-automaton-items.ensures.value ∙ ap (λ (e : ExtensionParts). e.machines) c.self.view_is in
-    let lt : i < length machines = omega (arith, c.loop-slot-test.true, ap length same) in
-    let is = subst (λ (ms : List Machine). m ≡ get_or ms i m) same c.automaton-item.is in
-    let size = size_within machines i m lt is in
+    let same : c.deref-automaton-items.result.now ≡ nfas = c.deref-automaton-items.ensures.value ∙ ap (λ (e : ExtensionParts). e.nfas) c.self.view_is in
+    let lt : i < length nfas = omega (arith, c.loop-slot-test.true, ap length same) in
+    let is = subst (λ (ms : List NfaValue). m ≡ get_or ms i m) same c.automaton-item.is in
+    let size = size_within nfas i m lt is in
     absurd (true≢false (sym (c.in_err-can_match_after.ensures.memory (omega (arith, size, enough, c.loop-slot.invariant.kept)))))
 
 pub returns-clause-some : goal.returns-clause-some
 returns-clause-some c = λ by_slot are.
-    let machines = c.args.self.now.machines in
-    let same : c.deref-automaton-items.result.now ≡ machines = c.deref-automaton-items.ensures.value ∙ ap (λ (e : ExtensionParts). e.machines) c.self.view_is in (
+    let nfas = c.args.self.now.nfas in
+    let same : c.deref-automaton-items.result.now ≡ nfas = c.deref-automaton-items.ensures.value ∙ ap (λ (e : ExtensionParts). e.nfas) c.self.view_is in (
       λ yes. absurd (true≢false (sym yes)),
       λ (s, lt, some). absurd (c.loop-slot.invariant.none by_slot are (s, omega (arith, lt, c.loop-slot-test.false, ap length same), some)),
     )
@@ -93,17 +93,17 @@ returns-clause-counted c = c.loop-slot.invariant.counted
 
 pub returns-clause-visits : goal.returns-clause-visits
 returns-clause-visits c =
-    let machines = c.args.self.now.machines in
-    let same : c.deref-automaton-items.result.now ≡ machines = c.deref-automaton-items.ensures.value ∙ ap (λ (e : ExtensionParts). e.machines) c.self.view_is in
-    subst (λ (ms : List Machine). c.loop-slot.visits ≤ c.args.visits.now + (length c.args.text.now + 2) * total_reads ms)
-    (take_all c.loop-slot.slot machines (omega (arith, c.loop-slot-test.false, ap length same))) c.loop-slot.invariant.visits
+    let nfas = c.args.self.now.nfas in
+    let same : c.deref-automaton-items.result.now ≡ nfas = c.deref-automaton-items.ensures.value ∙ ap (λ (e : ExtensionParts). e.nfas) c.self.view_is in
+    subst (λ (ms : List NfaValue). c.loop-slot.visits ≤ c.args.visits.now + (length c.args.text.now + 2) * total_reads ms)
+    (take_all c.loop-slot.slot nfas (omega (arith, c.loop-slot-test.false, ap length same))) c.loop-slot.invariant.visits
 
 pub can_match_after-requires : goal.can_match_after-requires
 can_match_after-requires c =
-    let machines = c.args.self.now.machines in
+    let nfas = c.args.self.now.nfas in
     let i = c.loop-slot.slot in
     let m = c.automaton-item.result in
-    let same : c.deref-automaton-items.result.now ≡ machines = c.deref-automaton-items.ensures.value ∙ ap (λ (e : ExtensionParts). e.machines) c.self.view_is in
-    let lt : i < length machines = omega (arith, c.loop-slot-test.true, ap length same) in
-    let is = subst (λ (ms : List Machine). m ≡ get_or ms i m) same c.automaton-item.is in
-    subst (λ cs. IsCacheAt cs i m) (sym c.loop-slot.invariant.caches) (subst (IsCacheAt c.args.caches.now i) (sym (is ∙ any_default machines i m c.args.self.now.none lt)) (c.requires i))
+    let same : c.deref-automaton-items.result.now ≡ nfas = c.deref-automaton-items.ensures.value ∙ ap (λ (e : ExtensionParts). e.nfas) c.self.view_is in
+    let lt : i < length nfas = omega (arith, c.loop-slot-test.true, ap length same) in
+    let is = subst (λ (ms : List NfaValue). m ≡ get_or ms i m) same c.automaton-item.is in
+    subst (λ cs. IsCacheAt cs i m) (sym c.loop-slot.invariant.caches) (subst (IsCacheAt c.args.caches.now i) (sym (is ∙ any_default nfas i m c.args.self.now.none lt)) (c.requires i))

@@ -6,9 +6,9 @@ use Rattle.set_matcher.proofs.automata.matchers.ExtensionMatchers.can_match_afte
 
 abbrev pub invariant-loop-slot : goal.invariant-loop-slot
 invariant-loop-slot l = record {
-  none : (by_slot : ℕ → List IndexedTokens) → AreFor l.self.machines by_slot → SomeExtensionAfter l.slot by_slot (l.text ++ l.byte ∷ []) → ⊥;
+  none : (by_slot : ℕ → List IndexedTokens) → AreFor l.self.nfas by_slot → SomeExtensionAfter l.slot by_slot (l.text ++ l.byte ∷ []) → ⊥;
   caches : l.caches ≡ l.fn.caches;
   kept : sets_capacity l.fn.sets ≤ sets_capacity l.sets;
-  visits : l.visits ≤ l.fn.visits + (length l.text + 2) * total_reads (take l.slot l.self.machines);
+  visits : l.visits ≤ l.fn.visits + (length l.text + 2) * total_reads (take l.slot l.self.nfas);
   counted : l.fn.visits ≤ l.visits;
 }

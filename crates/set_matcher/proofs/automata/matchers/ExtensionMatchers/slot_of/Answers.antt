@@ -16,7 +16,7 @@ returns-in-len1-up-clause-held c = λ s is.
     let slot = slice_index_or c.get.result.now 0 0 in
     let at : slot_of c.self.inside.slots c.args.extension.now ≡ Some slot = ap first (sym c.get.ensures.indexes) ∙ first_some c.get.result.now 0 c.in-len1-up.len_at_least in
     let lt = c.self.invariant.held c.args.extension.now s (first_in (indexes_under c.self.inside.slots c.args.extension.now) s (at ∙ is)) in
-    omega (arith, lt, ap (λ (e : ExtensionParts). length e.machines) c.self.view_is)
+    omega (arith, lt, ap (λ (e : ExtensionParts). length e.nfas) c.self.view_is)
 
 pub returns-clause-slot : goal.returns-clause-slot
 returns-clause-slot c =

@@ -1,7 +1,0 @@
-use Rattle.std.proofs.Common.{◌≡◌, ℕ, ◌<◌}
-use Rattle.bit_sets.specs.Bytes.{has_byte}
-use Rattle.byte_nfa.specs.inner.Views.{set_at}
-use Rattle.byte_nfa.proofs.draft.Draft.reads_alike.Given as goal
-
-abbrev pub invariant-loop-set : goal.invariant-loop-set
-invariant-loop-set l = (n : ℕ) → n < l.set-index → has_byte (set_at l.set-items n) l.first ≡ has_byte (set_at l.set-items n) l.second

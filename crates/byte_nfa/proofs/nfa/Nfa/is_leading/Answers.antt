@@ -1,0 +1,33 @@
+use Rattle.std.proofs.Common.{◌≡◌, ◌<◌, length, arith, ap, sym, subst, ◌∙◌}
+use Rattle.std.proofs.lemmas.List.{length-map}
+use Rattle.byte_nfa.specs.Steps.{NfaValue, state}
+use Rattle.byte_nfa.specs.Runs.{size}
+use Rattle.byte_nfa.specs.inner.Views.{GoesBelow, of_state}
+use Rattle.byte_nfa.proofs.lemmas.Reading.{held_at, state_at}
+use Rattle.byte_nfa.proofs.nfa.Nfa.is_leading.Goals as goal
+
+pub is_leading-requires-clause-held : goal.is_leading-requires-clause-held
+is_leading-requires-clause-held c =
+    let sets = c.self.inside.sets.items in
+    let targets = c.self.inside.targets.items in
+    let states = c.self.inside.states.items in
+    let lt : c.args.s < length states = omega (arith, c.requires.exists, ap size c.self.view_is, length-map states (of_state sets targets)) in
+    rw (c.deref.ensures.value, c.deref-2.ensures.value) (held_at sets targets states c.args.s c.index.result.now c.self.invariant.held lt c.index.ensures)
+
+pub is_leading-requires-clause-below : goal.is_leading-requires-clause-below
+is_leading-requires-clause-below c =
+    let sets = c.self.inside.sets.items in
+    let targets = c.self.inside.targets.items in
+    let states = c.self.inside.states.items in
+    let lt : c.args.s < length states = omega (arith, c.requires.exists, ap size c.self.view_is, length-map states (of_state sets targets)) in
+    rw (c.deref.ensures.value, c.deref-2.ensures.value) (subst (GoesBelow c.args.s) (state_at sets targets states c.args.s c.index.result.now lt c.index.ensures) (c.self.invariant.down c.args.s))
+
+pub returns-clause-leads : goal.returns-clause-leads
+returns-clause-leads c =
+    let sets = c.self.inside.sets.items in
+    let targets = c.self.inside.targets.items in
+    let states = c.self.inside.states.items in
+    let lt : c.args.s < length states = omega (arith, c.requires.exists, ap size c.self.view_is, length-map states (of_state sets targets)) in
+    let is : state c.args.self.now.states c.args.s ≡ of_state sets targets c.index.result.now =
+    sym (ap (λ (m : NfaValue). state m.states c.args.s) c.self.view_is) ∙ state_at sets targets states c.args.s c.index.result.now lt c.index.ensures in
+    rw is (rw (c.deref.ensures.value, c.deref-2.ensures.value) at c.is_leading.ensures)

@@ -1,0 +1,23 @@
+use Rattle.std.proofs.Common.{◌≡◌, ℕ, ◌+◌, ◌<◌, ◌≤◌, [], ◌⊎◌, false, IsTrue}
+use Rattle.std.specs.Prelude.{◌↔◌}
+use Rattle.bit_sets.specs.Indexes.{has_index, index_capacity}
+use Rattle.bit_sets.specs.StateSets.{has_state, state_capacity}
+use Rattle.byte_nfa.specs.inner.Pass.{AcceptsNow, PassInvariant}
+use Rattle.nfa_simulation.proofs.simulation.Simulation.ends_in.Given as goal
+
+abbrev pub invariant-loop-limit : goal.invariant-loop-limit
+invariant-loop-limit l =
+    let a = l.self.states in
+    record {
+      below : l.limit ≤ l.high;
+      none : (t : ℕ) → t < l.low → has_state l.from t ≡ false;
+      from_capacity : state_capacity l.from ≡ state_capacity l.fn.from;
+      into_capacity : index_capacity l.into ≡ index_capacity l.fn.into;
+      holds : (k : ℕ) → (AcceptsNow a (has_state l.fn.from) l.high [] k ⊎ IsTrue (has_index l.fn.into k)) ↔ PassInvariant a (has_state l.from) l.limit (λ _. false) (has_index l.into) [] k;
+      visits : l.visits + l.limit ≤ l.fn.visits + l.high;
+      counted : l.fn.visits ≤ l.visits;
+      least_visits : l.visits + l.low ≤ l.fn.visits + l.high;
+    }
+
+abbrev pub decreases-loop-limit : goal.decreases-loop-limit
+decreases-loop-limit l = l.limit
