@@ -11,7 +11,7 @@ use byte_nfa::Nfa;
 use std::alloc::{AllocError, Global};
 
 /// The keys of windows of four bytes are not below this, and those of three bytes are. A folded byte is not 0.
-pub const LONG: u32 = 16_777_216;
+pub const LONG: u32 = 1 << 24;
 
 /// The keys of the windows that every text has which leads from a start to an end, and such bytes.
 #[derive(Drop)]

@@ -61,7 +61,11 @@ impl Rules {
     {
         let mut builder = RulesBuilder::new(alloc);
         builder.push_lines(alloc, after_mark(file))?;
-        let (globs, entries, unread) = builder.into_parts();
+        let RulesBuilder {
+            globs,
+            entries,
+            unread,
+        } = builder;
         let stored = Arc::new(alloc, StoredRules::new(alloc, globs, entries, file)?)?;
         Ok(Rules { stored, unread })
     }

@@ -6,7 +6,7 @@ use byte_dfa::Dfa;
 pub const DEFAULT_DFA_SIZE_LIMIT: usize = 1 << 24;
 
 /// The most numbers that are made for tables, with those of tables that are given up, however few bytes may be kept.
-const MAX_NUMBERS: usize = 1 << 22;
+const MAX_NUMBERS_TOGETHER: usize = 1 << 22;
 
 /// The bytes that a number of a table takes. One of a list takes more.
 const BYTES_PER_NUMBER: usize = 4;
@@ -34,7 +34,7 @@ impl Budget {
         Budget {
             simulates_all: dfa_size_limit == 0,
             bytes: dfa_size_limit,
-            numbers: MAX_NUMBERS.max(dfa_size_limit / BYTES_PER_NUMBER),
+            numbers: MAX_NUMBERS_TOGETHER.max(dfa_size_limit / BYTES_PER_NUMBER),
             tables: MAX_TABLES,
         }
     }

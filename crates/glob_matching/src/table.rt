@@ -18,7 +18,7 @@ const MAX_STATES: usize = 2_048;
 
 /// The most numbers in the table and the lists of an automaton with one start, and for each of its states. Most that need more
 /// have a number of states that is exponential in those of the automaton.
-const MAX_NUMBERS: usize = 40_960;
+const MAX_TABLE_NUMBERS: usize = 40_960;
 
 const NUMBERS_PER_STATE: usize = 512;
 
@@ -148,7 +148,7 @@ fn max_numbers(states: usize, starts: usize) -> usize {
         return 0;
     }
     let maximum = if starts == 1 {
-        (NUMBERS_PER_STATE * states).min(MAX_NUMBERS)
+        (NUMBERS_PER_STATE * states).min(MAX_TABLE_NUMBERS)
     } else {
         let joint = JOINT_NUMBERS_PER_STATE * states + JOINT_NUMBERS;
         if starts > MANY_STARTS {

@@ -44,21 +44,38 @@ fn ascii_bytes(options: Options) -> ByteSet
     }
 }
 
+/// The states that read the last bytes of a character, where these may be any: one byte, two and three.
+#[derive(Clone, Copy)]
+struct LastBytes {
+    one: usize,
+    two: usize,
+    three: usize,
+}
+
+/// The states of the first bytes of characters of one length: of the lowest first byte and the highest, which want a second byte of
+/// their own, and of those between.
+#[derive(Clone, Copy)]
+struct FirstBytes {
+    low: usize,
+    middle: usize,
+    high: usize,
+}
+
 /// Adds the states that read the last byte of a character, the last two and the last three, where these may be any.
-fn add_last_bytes(builder: &mut Builder, exit: usize) -> Result<(usize, usize, usize), AllocError>
+fn add_last_bytes(builder: &mut Builder, exit: usize) -> Result<LastBytes, AllocError>
     requires { exit < size builder.old }
-    ensures within { IfOk result (λ r. (r.0 < size builder.new) × (r.1 < size builder.new) × (r.2 < size builder.new)) }
+    ensures within { IfOk result (λ r. (r.one < size builder.new) × (r.two < size builder.new) × (r.three < size builder.new)) }
     ensures count { OnOk result (size builder.new ≡ size builder.old + 3) }
     ensures grows { Grows builder.old builder.new }
-    ensures one { IfOk result (λ r. BuildsRow (continues ∷ []) builder.old.states builder.new.states r.0 exit) }
-    ensures two { IfOk result (λ r. BuildsRow (continues ∷ continues ∷ []) builder.old.states builder.new.states r.1 exit) }
-    ensures three { IfOk result (λ r. BuildsRow (continues ∷ continues ∷ continues ∷ []) builder.old.states builder.new.states r.2 exit) }
+    ensures one { IfOk result (λ r. BuildsRow (continues ∷ []) builder.old.states builder.new.states r.one exit) }
+    ensures two { IfOk result (λ r. BuildsRow (continues ∷ continues ∷ []) builder.old.states builder.new.states r.two exit) }
+    ensures three { IfOk result (λ r. BuildsRow (continues ∷ continues ∷ continues ∷ []) builder.old.states builder.new.states r.three exit) }
 {
     let bytes = bytes_between(0x80, 0xBF);
     let one = builder.push_bytes(bytes, exit)?;
     let two = builder.push_bytes(bytes, one)?;
     let three = builder.push_bytes(bytes, two)?;
-    Ok((one, two, three))
+    Ok(LastBytes { one, two, three })
 }
 
 /// Adds the states of a first byte that wants a second byte of its own.
@@ -80,46 +97,38 @@ fn add_first_two(
 
 /// Adds the states of the first bytes of characters of three bytes. `one` and `two` are the states of the last byte and of the
 /// last two.
-fn add_three_bytes(
-    builder: &mut Builder,
-    one: usize,
-    two: usize,
-) -> Result<(usize, usize, usize), AllocError>
+fn add_three_bytes(builder: &mut Builder, one: usize, two: usize) -> Result<FirstBytes, AllocError>
     requires one { one < size builder.old }
     requires two { two < size builder.old }
-    ensures within { IfOk result (λ r. (r.0 < size builder.new) × (r.1 < size builder.new) × (r.2 < size builder.new)) }
+    ensures within { IfOk result (λ r. (r.low < size builder.new) × (r.middle < size builder.new) × (r.high < size builder.new)) }
     ensures count { OnOk result (size builder.new ≡ size builder.old + 5) }
     ensures grows { Grows builder.old builder.new }
-    ensures low { IfOk result (λ r. BuildsRow (is_between (0xE0, 0xE0) ∷ is_between (0xA0, 0xBF) ∷ []) builder.old.states builder.new.states r.0 one) }
-    ensures middle { IfOk result (λ r. BuildsRow (begins_three ∷ []) builder.old.states builder.new.states r.1 two) }
-    ensures high { IfOk result (λ r. BuildsRow (is_between (0xED, 0xED) ∷ is_between (0x80, 0x9F) ∷ []) builder.old.states builder.new.states r.2 one) }
+    ensures low { IfOk result (λ r. BuildsRow (is_between (0xE0, 0xE0) ∷ is_between (0xA0, 0xBF) ∷ []) builder.old.states builder.new.states r.low one) }
+    ensures middle { IfOk result (λ r. BuildsRow (begins_three ∷ []) builder.old.states builder.new.states r.middle two) }
+    ensures high { IfOk result (λ r. BuildsRow (is_between (0xED, 0xED) ∷ is_between (0x80, 0x9F) ∷ []) builder.old.states builder.new.states r.high one) }
 {
     let low = add_first_two(builder, 0xE0, (0xA0, 0xBF), one)?;
     let high = add_first_two(builder, 0xED, (0x80, 0x9F), one)?;
     let middle = builder.push_bytes(bytes_between(0xE1, 0xEF).without(0xED), two)?;
-    Ok((low, middle, high))
+    Ok(FirstBytes { low, middle, high })
 }
 
 /// Adds the states of the first bytes of characters of four bytes. `two` and `three` are the states of the last two bytes and
 /// of the last three.
-fn add_four_bytes(
-    builder: &mut Builder,
-    two: usize,
-    three: usize,
-) -> Result<(usize, usize, usize), AllocError>
+fn add_four_bytes(builder: &mut Builder, two: usize, three: usize) -> Result<FirstBytes, AllocError>
     requires two { two < size builder.old }
     requires three { three < size builder.old }
-    ensures within { IfOk result (λ r. (r.0 < size builder.new) × (r.1 < size builder.new) × (r.2 < size builder.new)) }
+    ensures within { IfOk result (λ r. (r.low < size builder.new) × (r.middle < size builder.new) × (r.high < size builder.new)) }
     ensures count { OnOk result (size builder.new ≡ size builder.old + 5) }
     ensures grows { Grows builder.old builder.new }
-    ensures low { IfOk result (λ r. BuildsRow (is_between (0xF0, 0xF0) ∷ is_between (0x90, 0xBF) ∷ []) builder.old.states builder.new.states r.0 two) }
-    ensures middle { IfOk result (λ r. BuildsRow (is_between (0xF1, 0xF3) ∷ []) builder.old.states builder.new.states r.1 three) }
-    ensures high { IfOk result (λ r. BuildsRow (is_between (0xF4, 0xF4) ∷ is_between (0x80, 0x8F) ∷ []) builder.old.states builder.new.states r.2 two) }
+    ensures low { IfOk result (λ r. BuildsRow (is_between (0xF0, 0xF0) ∷ is_between (0x90, 0xBF) ∷ []) builder.old.states builder.new.states r.low two) }
+    ensures middle { IfOk result (λ r. BuildsRow (is_between (0xF1, 0xF3) ∷ []) builder.old.states builder.new.states r.middle three) }
+    ensures high { IfOk result (λ r. BuildsRow (is_between (0xF4, 0xF4) ∷ is_between (0x80, 0x8F) ∷ []) builder.old.states builder.new.states r.high two) }
 {
     let low = add_first_two(builder, 0xF0, (0x90, 0xBF), two)?;
     let high = add_first_two(builder, 0xF4, (0x80, 0x8F), two)?;
     let middle = builder.push_bytes(bytes_between(0xF1, 0xF3), three)?;
-    Ok((low, middle, high))
+    Ok(FirstBytes { low, middle, high })
 }
 
 /// Adds the states of a character, which lead to a state. Returns where they begin.
@@ -134,11 +143,19 @@ pub fn add_character(
     ensures grows { Grows builder.old builder.new }
     ensures builds { IfOk result (λ s. BuildsCharacter options builder.old.states builder.new.states s exit) }
 {
-    let (one, two, three) = add_last_bytes(builder, exit)?;
+    let LastBytes { one, two, three } = add_last_bytes(builder, exit)?;
     let ascii = builder.push_bytes(ascii_bytes(options), exit)?;
     let pair = builder.push_bytes(bytes_between(0xC2, 0xDF), one)?;
-    let (low3, middle3, high3) = add_three_bytes(builder, one, two)?;
-    let (low4, middle4, high4) = add_four_bytes(builder, two, three)?;
+    let FirstBytes {
+        low: low3,
+        middle: middle3,
+        high: high3,
+    } = add_three_bytes(builder, one, two)?;
+    let FirstBytes {
+        low: low4,
+        middle: middle4,
+        high: high4,
+    } = add_four_bytes(builder, two, three)?;
     let start = builder.push_union(&[ascii, pair, low3, middle3, high3, low4, middle4, high4])?;
     Ok(start)
 }

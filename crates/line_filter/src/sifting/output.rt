@@ -16,10 +16,10 @@ use std::io::Write;
 
 /// The pending output is written before each read, and once it has at least this many bytes: more than are read at once, so that
 /// the plain output for what is read at once is mostly one write.
-const FULL: usize = 69632;
+const FULL: usize = (64 + 4) << 10;
 
 /// The first capacity of the pending output: as much as is collected, and a line more.
-const ROOM: usize = 73728;
+const ROOM: usize = FULL + (4 << 10);
 
 /// The output for lines: what it is made with, what is still to be written, and whether there was any. The vectors keep their
 /// capacity from line to line.
