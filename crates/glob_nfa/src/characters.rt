@@ -143,19 +143,20 @@ pub fn add_character(
     ensures grows { Grows builder.old builder.new }
     ensures builds { IfOk result (λ s. BuildsCharacter options builder.old.states builder.new.states s exit) }
 {
-    let LastBytes { one, two, three } = add_last_bytes(builder, exit)?;
+    let last = add_last_bytes(builder, exit)?;
     let ascii = builder.push_bytes(ascii_bytes(options), exit)?;
-    let pair = builder.push_bytes(bytes_between(0xC2, 0xDF), one)?;
-    let FirstBytes {
-        low: low3,
-        middle: middle3,
-        high: high3,
-    } = add_three_bytes(builder, one, two)?;
-    let FirstBytes {
-        low: low4,
-        middle: middle4,
-        high: high4,
-    } = add_four_bytes(builder, two, three)?;
-    let start = builder.push_union(&[ascii, pair, low3, middle3, high3, low4, middle4, high4])?;
+    let pair = builder.push_bytes(bytes_between(0xC2, 0xDF), last.one)?;
+    let three = add_three_bytes(builder, last.one, last.two)?;
+    let four = add_four_bytes(builder, last.two, last.three)?;
+    let start = builder.push_union(&[
+        ascii,
+        pair,
+        three.low,
+        three.middle,
+        three.high,
+        four.low,
+        four.middle,
+        four.high,
+    ])?;
     Ok(start)
 }

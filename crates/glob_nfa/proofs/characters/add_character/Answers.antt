@@ -6,12 +6,12 @@ use Rattle.glob_nfa.proofs.characters.add_character.Goals as goal
 pub returns-clause-builds : goal.returns-clause-builds
 returns-clause-builds c =
     character_built c.args.options c.args.builder.now c.add_last_bytes.new.builder c.push_bytes.new.self c.push_bytes-2.new.self c.add_three_bytes.new.builder c.add_four_bytes.new.builder c.push_union.new.self
-    c.ascii_bytes.result c.bytes_between.result c.args.exit c.in_ok-one.one c.in_ok-one.two c.in_ok-one.three c.in_ok-ascii.ascii c.in_ok-pair.pair
-    c.in_ok-low3.low3 c.in_ok-low3.middle3 c.in_ok-low3.high3 c.in_ok-low4.low4 c.in_ok-low4.middle4 c.in_ok-low4.high4 c.in_ok-start.start
-    c.add_last_bytes.ensures.grows c.in_ok-one.ensures.one c.in_ok-one.ensures.two c.in_ok-one.ensures.three
+    c.ascii_bytes.result c.bytes_between.result c.args.exit c.in_ok-last.last.one c.in_ok-last.last.two c.in_ok-last.last.three c.in_ok-ascii.ascii c.in_ok-pair.pair
+    c.in_ok-three.three.low c.in_ok-three.three.middle c.in_ok-three.three.high c.in_ok-four.four.low c.in_ok-four.four.middle c.in_ok-four.four.high c.in_ok-start.start
+    c.add_last_bytes.ensures.grows c.in_ok-last.ensures.one c.in_ok-last.ensures.two c.in_ok-last.ensures.three
     c.in_ok-ascii.ensures.pushed c.ascii_bytes.ensures c.in_ok-pair.ensures.pushed c.bytes_between.ensures
-    c.add_three_bytes.ensures.grows c.in_ok-low3.ensures.low c.in_ok-low3.ensures.middle c.in_ok-low3.ensures.high
-    c.add_four_bytes.ensures.grows c.in_ok-low4.ensures.low c.in_ok-low4.ensures.middle c.in_ok-low4.ensures.high
+    c.add_three_bytes.ensures.grows c.in_ok-three.ensures.low c.in_ok-three.ensures.middle c.in_ok-three.ensures.high
+    c.add_four_bytes.ensures.grows c.in_ok-four.ensures.low c.in_ok-four.ensures.middle c.in_ok-four.ensures.high
     c.in_ok-start.ensures.pushed
 
 pub returns-in_err-ascii-clause-grows : goal.returns-in_err-ascii-clause-grows
@@ -30,8 +30,8 @@ returns-in_err-pair-clause-grows c =
     let to2 = grows_then old m1 m2 to1 (grows_push m1 m2 c.in_ok-ascii.ascii _ c.in_ok-ascii.ensures.pushed) in
     subst (Grows old) (sym c.in_err-pair.ensures.unchanged) to2
 
-pub returns-in_err-low3-clause-grows : goal.returns-in_err-low3-clause-grows
-returns-in_err-low3-clause-grows c =
+pub returns-in_err-three-clause-grows : goal.returns-in_err-three-clause-grows
+returns-in_err-three-clause-grows c =
     let old = c.args.builder.now in
     let m1 = c.add_last_bytes.new.builder in
     let to1 = c.add_last_bytes.ensures.grows in
@@ -43,8 +43,8 @@ returns-in_err-low3-clause-grows c =
     let to4 = grows_then old m3 m4 to3 c.add_three_bytes.ensures.grows in
     to4
 
-pub returns-in_err-low4-clause-grows : goal.returns-in_err-low4-clause-grows
-returns-in_err-low4-clause-grows c =
+pub returns-in_err-four-clause-grows : goal.returns-in_err-four-clause-grows
+returns-in_err-four-clause-grows c =
     let old = c.args.builder.now in
     let m1 = c.add_last_bytes.new.builder in
     let to1 = c.add_last_bytes.ensures.grows in
@@ -96,4 +96,4 @@ returns-clause-within c =
 
 pub returns-clause-count : goal.returns-clause-count
 returns-clause-count c =
-    omega (arith, c.in_ok-one.ensures.count, c.in_ok-ascii.ensures.pushed.len, c.in_ok-pair.ensures.pushed.len, c.in_ok-low3.ensures.count, c.in_ok-low4.ensures.count, c.in_ok-start.ensures.pushed.len)
+    omega (arith, c.in_ok-last.ensures.count, c.in_ok-ascii.ensures.pushed.len, c.in_ok-pair.ensures.pushed.len, c.in_ok-three.ensures.count, c.in_ok-four.ensures.count, c.in_ok-start.ensures.pushed.len)
