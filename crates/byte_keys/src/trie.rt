@@ -77,6 +77,8 @@ impl Trie {
     /// for. It takes no memory.
     ///
     /// It is at most one visit for each byte of the path, and one more.
+    // Most sets have no texts with this anchor: the test for that is a part of the caller.
+    #[inline(always)]
     pub fn find(&self, path: &[u8], into: &mut IndexSet, visits: &mut Visits)
         ensures room { index_capacity into.new ≡ index_capacity into.old }
         ensures found { HasAlso into.old into.new (found self.now path.now) }
@@ -91,6 +93,7 @@ impl Trie {
     /// Returns whether the path begins or ends with some text. It stops at the first, and takes no memory.
     ///
     /// It is at most one visit for each byte of the path, and one more.
+    #[inline(always)]
     pub fn is_match(&self, path: &[u8], visits: &mut Visits) -> bool
         ensures some { IsTrue result ↔ (found self.now path.now ≢ []) }
         ensures visits { visits.new ≤ visits.old + (length path.now + 1) }
@@ -105,6 +108,7 @@ impl Trie {
     /// Returns how many indexes of texts the path begins or ends with, each as often as it was given. It takes no memory.
     ///
     /// It is at most one visit for each byte of the path, and one more.
+    #[inline(always)]
     pub fn count_matches(&self, path: &[u8], visits: &mut Visits) -> usize
         ensures count { result ≡ length (found self.now path.now) }
         ensures visits { visits.new ≤ visits.old + (length path.now + 1) }

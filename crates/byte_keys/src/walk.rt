@@ -10,6 +10,7 @@ use crate::tree::Tree;
 use bit_sets::{IndexSet, Visits};
 
 /// Puts the indexes of the nodes along a path into a set, beside what it holds: those that it has room for.
+#[inline(never)]
 pub fn find(tree: &Tree, anchor: Anchor, path: &[u8], into: &mut IndexSet, visits: &mut Visits)
     requires { IsTree tree.now }
     ensures room { index_capacity into.new ≡ index_capacity into.old }
@@ -29,6 +30,7 @@ pub fn find(tree: &Tree, anchor: Anchor, path: &[u8], into: &mut IndexSet, visit
 }
 
 /// Returns whether some node along a path has an index.
+#[inline(never)]
 pub fn has_some(tree: &Tree, anchor: Anchor, path: &[u8], visits: &mut Visits) -> bool
     requires { IsTree tree.now }
     ensures some { IsTrue result ↔ (along (under tree.now 0) (from_anchor anchor path.now) ≢ []) }
@@ -50,6 +52,7 @@ pub fn has_some(tree: &Tree, anchor: Anchor, path: &[u8], visits: &mut Visits) -
 }
 
 /// Returns how many indexes the nodes along a path have.
+#[inline(never)]
 pub fn count(tree: &Tree, anchor: Anchor, path: &[u8], visits: &mut Visits) -> usize
     requires tree { IsTree tree.now }
     requires fits { length (along (under tree.now 0) (from_anchor anchor path.now)) < 2 ^ 64 }
