@@ -1,13 +1,10 @@
 //! Matchers, and the steps of what they read.
 
-ghost use Rattle.std.specs.Prelude.{◌≡◌, ◌+◌, ◌*◌, ◌≤◌, ◌↔◌, ◌++◌, ◌∷◌, [], ℕ, List, length, IsTrue};
-ghost use Rattle.bit_sets.specs.Indexes.{has_index, index_capacity};
-ghost use Rattle.bit_sets.specs.StateSets.{state_capacity};
-ghost use Rattle.byte_nfa.specs.Runs.{AcceptsFrom};
+ghost use Rattle.std.specs.Prelude.{◌≡◌, ◌+◌, ◌*◌, ◌≤◌, ◌++◌, ◌∷◌, [], ℕ, List, length};
 ghost use Rattle.glob_prefixes.specs.Prefixes.{FitAsBefore, FitsPrefixes, IsAfter, all_matching_indexes, matching_of, max_globs, prefix_states};
 
 use crate::states::PrefixStates;
-use bit_sets::{IndexSet, StateSet, Visits};
+use bit_sets::Visits;
 use glob_text::GivenGlobs;
 use nfa_simulation::Simulation;
 use std::marker::Model;
@@ -112,40 +109,13 @@ impl PrefixMatcher {
         ensures counted { visits.old ≤ visits.new }
     {
         let count = self.automaton.index_count();
-        self.mark(
-            &states.current,
-            &mut states.asked,
-            &mut states.marks,
-            visits,
-        );
+        states.marks.clear();
+        self.automaton
+            .ends(&mut states.current, &mut states.marks, visits);
         states.matching.clear();
         states
             .marks
             .push_below(count, &mut states.matching)
             .unwrap();
-    }
-
-    /// Marks the indexes of the ends that states lead to, and no others. It works in `asked`, and what that and the marks held has
-    /// no effect.
-    fn mark(
-        &self,
-        current: &StateSet,
-        asked: &mut StateSet,
-        marks: &mut IndexSet,
-        visits: &mut Visits,
-    )
-        requires states { prefix_states self.now ≤ state_capacity current.now }
-        requires asked { state_capacity asked.old ≡ state_capacity current.now }
-        requires marks { max_globs self.now ≤ index_capacity marks.old }
-        ensures marked { (k : ℕ) → IsTrue (has_index marks.new k) ↔ AcceptsFrom self.now.nfa current.now [] k }
-        ensures asked { state_capacity asked.new ≡ state_capacity current.now }
-        ensures marks { index_capacity marks.new ≡ index_capacity marks.old }
-        ensures visits { visits.new ≤ visits.old + prefix_states self.now }
-        ensures counted { visits.old ≤ visits.new }
-    {
-        // To look for ends changes the set that is looked into.
-        asked.copy_from(current);
-        marks.clear();
-        self.automaton.ends(asked, marks, visits);
     }
 }

@@ -13,7 +13,7 @@ use std::marker::Model;
 /// No call of a matcher can fail with states that fit it. They can be used with each matcher that they fit, which
 /// [`PrefixStates::fits`] tells: what they hold has no effect after [`PrefixMatcher::start`].
 pub struct PrefixStates {
-    /// The number of states that each of the three sets has room for.
+    /// The number of states that each of the two sets has room for.
     states: usize,
     /// The number of indexes that can be marked and listed.
     indexes: usize,
@@ -21,8 +21,6 @@ pub struct PrefixStates {
     pub(crate) current: StateSet,
     /// Those that a byte more leads to, while it is read.
     pub(crate) next: StateSet,
-    /// A copy of the current ones, which are looked into for ends.
-    pub(crate) asked: StateSet,
     /// The indexes that were found when they were last asked.
     pub(crate) marks: IndexSet,
     /// The same indexes, ascending.
@@ -37,7 +35,6 @@ impl Drop for PrefixStates {
             indexes: _,
             current: _,
             next: _,
-            asked: _,
             marks: _,
             matching: _,
         } = self;
@@ -58,13 +55,13 @@ impl Model for PrefixStates {
       matching = s.matching.items;
     } };
 
-    ghost invariant = { λ s. HasCapacity s.states s.indexes s.current s.next s.asked s.marks (vec_capacity s.matching) };
+    ghost invariant = { λ s. HasCapacity s.states s.indexes s.current s.next s.marks (vec_capacity s.matching) };
 }
 
 impl PrefixStates {
     /// Returns states that fit a matcher. [`PrefixMatcher::start`] begins a run with them.
     ///
-    /// They take three bits of memory for each state of the matcher, and a bit and a `usize` for each of the globs that it may
+    /// They take two bits of memory for each state of the matcher, and a bit and a `usize` for each of the globs that it may
     /// have. Returns an error if memory runs out.
     pub fn new(alloc: Global, matcher: &PrefixMatcher) -> Result<PrefixStates, AllocError>
         ensures states { IfOk result (λ held. held.states ≡ prefix_states matcher.now) }
@@ -74,7 +71,6 @@ impl PrefixStates {
         let (states, indexes) = (matcher.state_count(), matcher.index_count());
         let current = StateSet::new(alloc, states)?;
         let next = current.clone()?;
-        let asked = current.clone()?;
         let marks = IndexSet::new(alloc, indexes)?;
         let matching = Vec::with_capacity(alloc, indexes)?;
         Ok(PrefixStates {
@@ -82,7 +78,6 @@ impl PrefixStates {
             indexes,
             current,
             next,
-            asked,
             marks,
             matching,
         })

@@ -130,14 +130,15 @@ impl Simulation {
         self.step_in(0, self.state_count(), from, byte, to, visits)
     }
 
-    /// Puts the index of each end that the states of a set lead to without a byte into a set of indexes, beside what it
-    /// holds. It is at most one visit for each state.
+    /// Puts the index of each end that the states of a set lead to without a byte into a set of indexes, beside what it holds. It
+    /// is at most one visit for each state. What they go on to without a byte is put into their set: it leads to the same ends.
     pub fn ends(&self, from: &mut StateSet, into: &mut IndexSet, visits: &mut Visits)
         requires from_capacity { size self.now ≤ state_capacity from.old }
         requires into_capacity { self.now.index_count ≤ index_capacity into.old }
         ensures from_capacity { state_capacity from.new ≡ state_capacity from.old }
         ensures into_capacity { index_capacity into.new ≡ index_capacity into.old }
         ensures ends { (k : ℕ) → IsTrue (has_index into.new k) ↔ (AcceptsFrom self.now from.old [] k ⊎ IsTrue (has_index into.old k)) }
+        ensures same { (y : List ℕ) (k : ℕ) → AcceptsFrom self.now from.new y k ↔ AcceptsFrom self.now from.old y k }
         ensures visits { visits.new ≤ visits.old + size self.now }
         ensures counted { visits.old ≤ visits.new }
     {

@@ -130,13 +130,12 @@ byte_read m old new stepped text byte lt steps same h = record {
       );
 }
 
--- the ends that states lead to, by a copy of the states
-pub ends_found : (m : NfaValue) (current asked : StateSet) (k : ℕ) (found before : Bool)
-    → ((s : ℕ) → has_state asked s ≡ has_state current s) → before ≡ false
-    → IsTrue found ↔ (AcceptsFrom m asked [] k ⊎ IsTrue before) → IsTrue found ↔ AcceptsFrom m current [] k
-ends_found m current asked k found before same none ends = (
-  λ yes. ⊎_elim {C = AcceptsFrom m current [] k} (λ (t, within, at, accepts). (t, within, sym (same t) ∙ at, accepts)) (λ b. absurd (true≢false (sym b ∙ none))) (ends.0 yes),
-  λ (t, within, at, accepts). ends.1 (inl (t, within, same t ∙ at, accepts)),
+-- the ends that states lead to, if no index was marked before
+pub ends_found : (m : NfaValue) (current : StateSet) (k : ℕ) (found before : Bool) → before ≡ false
+    → IsTrue found ↔ (AcceptsFrom m current [] k ⊎ IsTrue before) → IsTrue found ↔ AcceptsFrom m current [] k
+ends_found m current k found before none ends = (
+  λ yes. ⊎_elim {C = AcceptsFrom m current [] k} (λ a. a) (λ b. absurd (true≢false (sym b ∙ none))) (ends.0 yes),
+  λ a. ends.1 (inl a),
 )
 
 -- the states after a text lead to the ends of the text
@@ -149,9 +148,10 @@ ends_reached m held text k found marked after =
       λ r. marked.1 (lead.1 (subst (λ (t : List ℕ). IsReached m.nfa t k) (sym all) r)),
     )
 
--- states are after a text by their current set alone
-pub same_current : (m : PrefixMatcherValue) (old new : PrefixStatesValue) (text : List ℕ) → new.current ≡ old.current → IsAfter m old text → IsAfter m new text
-same_current m old new text e h = record {
+-- states are after a text by what their current set leads to
+pub same_current : (m : PrefixMatcherValue) (old new : PrefixStatesValue) (text : List ℕ)
+    → ((y : List ℕ) (k : ℕ) → AcceptsFrom m.nfa new.current y k ↔ AcceptsFrom m.nfa old.current y k) → IsAfter m old text → IsAfter m new text
+same_current m old new text same h = record {
   bytes = h.bytes;
-  leads = λ y k. subst (λ (set : StateSet). AcceptsFrom m.nfa set y k ↔ IsReached m.nfa (text ++ y) k) (sym e) (h.leads y k);
+  leads = λ y k. (λ a. (h.leads y k).0 ((same y k).0 a), λ r. (same y k).1 ((h.leads y k).1 r));
 }

@@ -1,17 +1,17 @@
 -- States that lead to no lower state than those of a range.
-use Rattle.std.proofs.Common.{◌≡◌, ℕ, suc, ◌+◌, ◌<◌, ◌≤◌, inl, inr, Bool, true, false, true≢false, List, [], ◌∷◌, Some, refl, ap, subst, sym, ◌∙◌, arith}
+use Rattle.std.proofs.Common.{◌≡◌, ℕ, suc, ◌+◌, ◌<◌, ◌≤◌, inl, inr, Bool, true, false, true≢false, List, [], ◌∷◌, length, Some, refl, ap, subst, sym, ◌∙◌, arith}
 use Rattle.std.specs.Prelude.{◌↔◌, ◌==◌, ◌||◌}
 use Rattle.std.proofs.lemmas.Bool.{eqb-true, eq-eqb, or_cases, cases_Bool, cases_lt}
 use Rattle.std.proofs.Math.Logic.{⊎_elim}
 use Rattle.bit_sets.specs.Bytes.{has_byte}
 use Rattle.bit_sets.specs.StateSets.{has_state}
-use Rattle.byte_nfa.specs.Steps.{State, bytes_state, union_state, loop_state, match_state, NfaValue, Accepts}
+use Rattle.byte_nfa.specs.Steps.{State, bytes_state, union_state, loop_state, match_state, state, NfaValue, Accepts}
 use Rattle.bit_sets.specs.Numbers.{AreFrom, has_number}
 use Rattle.byte_nfa.specs.Runs.{size, AcceptsBelow, AcceptsFrom}
 use Rattle.byte_nfa.specs.Spans.{IsFrom, IsWithin}
 use Rattle.byte_nfa.specs.inner.Views.{GoesFrom, GoesBelow}
 use Rattle.byte_nfa.specs.inner.Pass.{goes_now, goes_next, AcceptsNow, PassInvariant}
-use Rattle.byte_nfa.proofs.lemmas.Pass.{and_second, or_first}
+use Rattle.byte_nfa.proofs.lemmas.Pass.{accepts_within, and_second, or_first, or_second, step_back}
 use Rattle.bit_sets.specs.declared.state_set.StateSet.{StateSet}
 
 -- every state goes on to states from 0 on
@@ -44,6 +44,17 @@ still_from low st from now now' is none t lt = ⊎_elim {C = now' t ≡ false}
     (or_cases (goes_now st t) (now t) (sym (is t) ∙ yes)))
     (λ no. no)
     (cases_Bool (now' t))
+
+-- a set leads to the same ends with what one of its states goes on to without a byte
+pub leads_same : (a : List State) (s : ℕ) (old new : ℕ → Bool) → old s ≡ true → ((t : ℕ) → new t ≡ (goes_now (state a s) t || old t)) → (y : List ℕ) (k : ℕ)
+    → ((t : ℕ) × (t < length a) × (new t ≡ true) × Accepts a k t y) ↔ ((t : ℕ) × (t < length a) × (old t ≡ true) × Accepts a k t y)
+leads_same a s old new at is y k = (there, λ (t, lt, on, h). (t, lt, is t ∙ or_second (goes_now (state a s) t) (old t) on, h))
+  where
+    there : (t : ℕ) × (t < length a) × (new t ≡ true) × Accepts a k t y → (t : ℕ) × (t < length a) × (old t ≡ true) × Accepts a k t y
+    there (t, lt, on, h) = ⊎_elim {C = (u : ℕ) × (u < length a) × (old u ≡ true) × Accepts a k u y}
+        (λ go. let from : Accepts a k s y = step_back a s k y (state a s) refl (inl (t, go, h)) in (s, accepts_within a k s y from, at, from))
+        (λ was. (t, lt, was, h))
+        (or_cases (goes_now (state a s) t) (old t) (sym (is t) ∙ on))
 
 -- a state that is in the set is from the bound on
 pub read_from : (low s : ℕ) (now : ℕ → Bool) → ((t : ℕ) → t < low → now t ≡ false) → now s ≡ true → low ≤ s

@@ -104,6 +104,7 @@ impl Simulation {
         ensures from_capacity { state_capacity from.new ≡ state_capacity from.old }
         ensures into_capacity { index_capacity into.new ≡ index_capacity into.old }
         ensures ends { (k : ℕ) → IsTrue (has_index into.new k) ↔ (AcceptsBelow self.now high from.old [] k ⊎ IsTrue (has_index into.old k)) }
+        ensures same { (y : List ℕ) (k : ℕ) → AcceptsFrom self.now from.new y k ↔ AcceptsFrom self.now from.old y k }
         ensures visits { visits.new + low ≤ visits.old + high }
         ensures counted { visits.old ≤ visits.new }
     {

@@ -3,7 +3,7 @@ use Rattle.bit_sets.specs.Indexes.{has_index}
 use Rattle.bit_sets.specs.StateSets.{has_state}
 use Rattle.byte_nfa.specs.Steps.{state}
 use Rattle.byte_nfa.proofs.lemmas.Pass.{iff_trans, some_found, read_passed, read_taken, stays_at_end, names_it, names_none, last_position}
-use Rattle.nfa_simulation.proofs.lemmas.Spans.{none_lower, read_from, still_from}
+use Rattle.nfa_simulation.proofs.lemmas.Spans.{leads_same, none_lower, read_from, still_from}
 use Rattle.nfa_simulation.proofs.simulation.Simulation.ends_in.Goals as goal
 
 pub loop-limit-preserved-in-Some : goal.loop-limit-preserved-in-Some
@@ -25,6 +25,7 @@ loop-limit-preserved-in-Some c =
           (has_state c.follow_epsilons.new.from) (λ _. false) (has_index c.put.new.self)
           last.below last.between (sym last.marked ∙ c.if-seen.true) left.below left.from (λ t. stays_at_end st s t)
           (λ t. c.put.ensures.has t ∙ names_it st c.in-Some.index t (has_index c.loop-limit.into t) left.end.0));
+      same = λ y k. iff_trans (leads_same c.args.self.now.states s (has_state c.loop-limit.from) (has_state c.follow_epsilons.new.from) (sym last.marked ∙ c.if-seen.true) left.from y k) (inv.same y k);
       visits = omega (arith, last.below);
       counted = omega arith;
       least_visits = omega (arith, inv.visits);
@@ -49,6 +50,7 @@ loop-limit-preserved-in_default c =
           (has_state c.follow_epsilons.new.from) (λ _. false) (has_index c.loop-limit.into)
           last.below last.between (sym last.marked ∙ c.if-seen.true) left.below left.from (λ t. stays_at_end st s t)
           (λ t. names_none st t (has_index c.loop-limit.into t) (left.end t)));
+      same = λ y k. iff_trans (leads_same c.args.self.now.states s (has_state c.loop-limit.from) (has_state c.follow_epsilons.new.from) (sym last.marked ∙ c.if-seen.true) left.from y k) (inv.same y k);
       visits = omega (arith, last.below);
       counted = omega arith;
       least_visits = omega (arith, inv.visits);
@@ -66,6 +68,7 @@ loop-limit-preserved c =
       into_capacity = inv.into_capacity;
       holds = λ k. iff_trans (inv.holds k) (read_passed c.args.self.now.states s c.loop-limit.limit k [] (has_state c.loop-limit.from) (λ _. false) (has_index c.loop-limit.into)
           last.below last.between (sym last.marked ∙ c.if-seen.false));
+      same = inv.same;
       visits = omega (arith, last.below);
       counted = omega arith;
       least_visits = omega (arith, inv.visits);
@@ -77,6 +80,7 @@ loop-limit-init c = record {
   none = c.requires.from;
   from_capacity = refl;
   into_capacity = refl;
+  same = λ y k. (λ h. h, λ h. h);
   holds = λ k. some_found c.args.self.now.states c.args.high (has_state c.args.from.now) (λ _. false) (has_index c.args.into.now) k (λ _. refl);
   visits = omega arith;
   counted = omega arith;
