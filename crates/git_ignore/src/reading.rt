@@ -97,6 +97,19 @@ impl RulesBuilder {
         Ok(self.globs.push(glob)?)
     }
 
+    /// Returns the globs, the entries, and the numbers of unread lines.
+    pub fn into_parts(self) -> (Vec<Glob>, Vec<RuleEntry>, Vec<usize>)
+        ensures globs { result.0.items ≡ self.globs.items }
+        ensures entries { result.1.items ≡ self.entries.items }
+    {
+        let RulesBuilder {
+            globs,
+            entries,
+            unread,
+        } = self;
+        (globs, entries, unread)
+    }
+
     /// Keeps the number of a line that matches nothing, unless it is blank or a comment. Returns an error if memory runs out, and no
     /// other.
     fn push_unread(&mut self, number: usize, line: &[u8]) -> Result<(), Error>

@@ -61,11 +61,7 @@ impl Rules {
     {
         let mut builder = RulesBuilder::new(alloc);
         builder.push_lines(alloc, after_mark(file))?;
-        let RulesBuilder {
-            globs,
-            entries,
-            unread,
-        } = builder;
+        let (globs, entries, unread) = builder.into_parts();
         let stored = Arc::new(alloc, StoredRules::new(alloc, globs, entries, file)?)?;
         Ok(Rules { stored, unread })
     }

@@ -7,4 +7,5 @@ use Rattle.git_ignore.proofs.rules.Rules.new.Goals as goal
 pub new-requires : goal.new-requires
 unfolding rules_of
 new-requires c =
-    subst (λ (bytes : List ℕ). AreEntriesOf (rules_from 1 (lines_of bytes)) c.push_lines.new.self.globs.items c.push_lines.new.self.entries.items) c.after_mark.ensures c.in_ok-push_lines.ensures.rules
+    rw (c.into_parts-globs.ensures.globs, c.into_parts-globs.ensures.entries)
+    (subst (λ (bytes : List ℕ). AreEntriesOf (rules_from 1 (lines_of bytes)) c.push_lines.new.self.globs.items c.push_lines.new.self.entries.items) c.after_mark.ensures c.in_ok-push_lines.ensures.rules)
