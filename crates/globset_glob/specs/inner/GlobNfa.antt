@@ -9,7 +9,7 @@ use Rattle.glob_path.specs.Key.{key_seen}
 use Rattle.glob_text.specs.GlobMatches.{GlobValue, tokens_of_glob}
 use Rattle.glob_text.specs.Cost.{cost}
 use Rattle.globset_glob.specs.declared.matcher.strategy.Strategy.{Strategy}
-use Rattle.globset_glob.specs.declared.matcher.strategy.Strategy.TheVariants.{Key, Simulation}
+use Rattle.globset_glob.specs.declared.matcher.strategy.Strategy.TheVariants.{Key, Automaton}
 
 -- An automaton is for the tokens of the glob, under the index 0. At each position of a path it has at most as many reads
 -- as the glob may have visits.
@@ -20,9 +20,9 @@ pub record IsAutomatonOf (g : GlobValue) (m : NfaValue) : Type 0 where
 -- A key decides which paths the glob matches. An automaton is that of the glob.
 abbrev pub IsStrategyOfMatcher : GlobValue → Strategy → Type 0
 IsStrategyOfMatcher g (Key key) = IsDecidedBy g.options (tokens_of_glob g) (key_seen key)
-IsStrategyOfMatcher g (Simulation m) = IsAutomatonOf g (arc_value m)
+IsStrategyOfMatcher g (Automaton m) = IsAutomatonOf g (arc_value m)
 
 -- the states of the automaton; a key has none
 abbrev pub form_states : Strategy → ℕ
 form_states (Key key) = 0
-form_states (Simulation m) = size (arc_value m)
+form_states (Automaton m) = size (arc_value m)

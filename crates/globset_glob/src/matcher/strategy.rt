@@ -23,7 +23,7 @@ pub enum Strategy {
     /// A key, which is compared with the path or a part of it.
     Key(Key),
     /// An automaton, which is run over the path. Clones of a matcher share it.
-    Simulation(Arc<Compiled>),
+    Automaton(Arc<Compiled>),
 }
 
 impl Strategy {
@@ -40,14 +40,14 @@ impl Strategy {
             return Ok(Strategy::Key(key));
         }
         let automaton = automaton_of(glob, dfa_size_limit)?;
-        Ok(Strategy::Simulation(Arc::new(glob.allocator(), automaton)?))
+        Ok(Strategy::Automaton(Arc::new(glob.allocator(), automaton)?))
     }
 
     /// Returns how many bytes the table of a deterministic automaton takes, or 0 if there is none.
     pub fn table_bytes(&self) -> usize {
         match self {
             Strategy::Key(_) => 0,
-            Strategy::Simulation(automaton) => automaton.table_bytes(),
+            Strategy::Automaton(automaton) => automaton.table_bytes(),
         }
     }
 
@@ -71,7 +71,7 @@ impl Strategy {
                 visits.tick();
                 Ok(key.matches(path))
             }
-            Strategy::Simulation(automaton) => automaton.is_match(path.path(), sets, visits),
+            Strategy::Automaton(automaton) => automaton.is_match(path.path(), sets, visits),
         }
     }
 
@@ -94,7 +94,7 @@ impl Strategy {
                 visits.tick();
                 Ok(key.can_match_below(folder.path()))
             }
-            Strategy::Simulation(automaton) => {
+            Strategy::Automaton(automaton) => {
                 automaton.can_match_after(folder.path(), b'/', sets, visits)
             }
         }
@@ -108,7 +108,7 @@ impl Strategy {
     {
         match self {
             Strategy::Key(_) => Strategy::of(glob, DEFAULT_DFA_SIZE_LIMIT),
-            Strategy::Simulation(automaton) => Ok(Strategy::Simulation(Arc::try_clone(automaton)?)),
+            Strategy::Automaton(automaton) => Ok(Strategy::Automaton(Arc::try_clone(automaton)?)),
         }
     }
 }
