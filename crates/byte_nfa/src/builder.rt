@@ -150,7 +150,7 @@ impl Builder {
         Ok(())
     }
 
-    /// Returns the automaton, which is not run yet. It may take time linear in the states, to give back memory that they do not
+    /// Returns the automaton. It may take time linear in the states, to give back memory that they do not
     /// need.
     pub fn finish(self) -> Nfa
         ensures { result ≡ self }

@@ -27,8 +27,8 @@ pub trait NeedsScratch {
         ensures { result ≡ indexes self.now };
 }
 
-/// All the memory that sets and matchers need to match a path. A set needs two bits for each state of its largest automaton,
-/// and one for each glob; a matcher a byte for each byte of its glob's text and one more, or four times as much under
+/// All the memory that sets and matchers need to match a path. A set needs three bits for each state of its largest automaton,
+/// and one for each glob; a matcher at most 12 bits for each byte of its glob's text and 12 more, or four times as much under
 /// `whole_character`.
 ///
 /// With a scratch that fits the set, `GlobSet::is_match_with` and `GlobSet::matches_all_with` cannot fail, and nor can
@@ -106,8 +106,8 @@ impl Scratch {
         }
     }
 
-    /// Returns a scratch that fits the set or the matcher. It takes two bits of memory for each state of the set's largest
-    /// automaton, and one for each glob; for a matcher at most a byte for each byte of the glob's text and one more, or four times
+    /// Returns a scratch that fits the set or the matcher. It takes three bits of memory for each state of the set's largest
+    /// automaton, and one for each glob; for a matcher at most 12 bits for each byte of the glob's text and 12 more, or four times
     /// as much under `whole_character`.
     ///
     /// Returns an error if memory runs out, and no other.

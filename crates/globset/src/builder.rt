@@ -58,7 +58,7 @@ impl GlobSetBuilder {
     /// The limit is for memory and time, and changes no answer. The globs that need an automaton share a few, and each of these gets a
     /// table, as far as the limit allows, and the time that it takes to make one. A run of a table reads one entry of it for each
     /// byte of a path. An automaton without a table is simulated: each byte of a path then takes as many steps as the automaton is in
-    /// states, and calls without a scratch take two bits of memory for each of its states. If it has four globs or more, a filter
+    /// states, and calls without a scratch take three bits of memory for each of its states. If it has four globs or more, a filter
     /// names the few that a path may match, where their texts allow one; and a [`Searcher`](crate::Searcher) keeps rows of it.
     ///
     /// With 0 there are no tables, no filters and no rows: the set takes the least time and memory to make, which is best for few

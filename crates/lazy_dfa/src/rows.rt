@@ -204,7 +204,7 @@ impl Rows {
     /// byte.
     ///
     /// A known entry is one visit. If the entry is not known, each state is read at most once, and is one visit.
-    // It is the loop of a run over a text, and mostly reads one entry.
+    // It is a part of the loop of a run over a text.
     #[inline(always)]
     pub fn step(&mut self, automaton: &Nfa, place: usize, byte: u8, visits: &mut Visits) -> Step
         requires sound { IsSound automaton.now self.old }
@@ -413,7 +413,7 @@ impl Rows {
         false
     }
 
-    /// Returns where a byte leads from a row whose entry for it is not known, and writes the entry if the row has no marks.
+    /// Returns where a byte leads from a row whose entry for it is not known. It writes the entry, unless all rows are forgotten.
     #[cold]
     #[inline(never)]
     fn leave(&mut self, automaton: &Nfa, row: usize, byte: u8, visits: &mut Visits) -> Step

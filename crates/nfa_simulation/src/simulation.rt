@@ -56,8 +56,8 @@ impl Simulation {
     /// Returns a simulation whose runs take many states at once, where at least 64 states follow each other that each read a byte
     /// and go on to the state below. Returns an error if memory runs out.
     ///
-    /// Of such states those of a word of a set of states are taken together, which is one visit. It takes time linear in the
-    /// states, and at most 2,048 bytes of memory for each word of such states, and none if there are no such states.
+    /// Of such states those of a word of a set of states are taken together, and each of them is at most one visit. It takes time
+    /// linear in the states, and at most 2,048 bytes of memory for each word of such states, and none if there are no such states.
     pub fn with_blocks(nfa: Nfa) -> Result<Simulation, AllocError>
         ensures { IfOk result (λ made. made ≡ nfa) }
     {

@@ -13,9 +13,9 @@ impl Simulation {
     /// Puts the states that a byte leads to from the states of a set into another set. Returns whether there are any. What
     /// the other set held has no effect.
     ///
-    /// It reads the states below `high` alone, from the highest on, and none below `low`. It reads each at most once, and is one
-    /// visit for each, or for the states of a block together. What a state of `from` goes on to without a byte is put into `from`,
-    /// before the pass comes to it.
+    /// It reads the states below `high` alone, from the highest on, and none below `low`. It reads each at most once, and is at
+    /// most one visit for each, those of a block too. What a state of `from` goes on to without a byte is put into `from`, before
+    /// the pass comes to it.
     pub(crate) fn step_in(
         &self,
         low: usize,
