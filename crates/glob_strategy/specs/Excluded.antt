@@ -12,11 +12,8 @@ is_dot t = false
 -- The tokens are RecursivePrefix, the literal `.` and the literal `.`, and no more. `**/..`, `**/**/..` and `**/\..`
 -- all have these tokens.
 abbrev pub is_prefix_dot_dot : Tokens → Bool
-is_prefix_dot_dot end = false
-is_prefix_dot_dot (and_then t end) = false
-is_prefix_dot_dot (and_then t (and_then u end)) = false
 is_prefix_dot_dot (and_then t (and_then u (and_then v end))) = is_prefix t && (is_dot u && is_dot v)
-is_prefix_dot_dot (and_then t (and_then u (and_then v (and_then w ts)))) = false
+is_prefix_dot_dot _ = false
 
 -- A glob with these tokens is excluded under the options: no set returns its index, for any path. `**/[.][.]` matches the
 -- same paths as `**/..`, but has other tokens, and is not excluded.

@@ -1,6 +1,6 @@
 -- A glob's text, a list of characters, is split from left to right into lexemes: plain characters, `?`, runs of `*`,
 -- classes, braces and commas.
-use Rattle.std.specs.Prelude.{◌≡◌, ℕ, zero, suc, ◌+◌, List, [], ◌∷◌, Bool, true, false, ◌||◌, ◌&&◌, ◌==◌, if◌then◌else◌, take, drop, Option, Some, None}
+use Rattle.std.specs.Prelude.{ℕ, zero, suc, ◌+◌, List, [], ◌∷◌, Bool, true, false, ◌||◌, ◌&&◌, ◌==◌, if◌then◌else◌, take, drop, Option, Some, None}
 use Rattle.std.specs.List.{prefix_len, position}
 use Rattle.glob_syntax.specs.declared.options.Options.{Options}
 use Rattle.glob_syntax.specs.declared.parse_error_kind.ParseErrorKind.{ParseErrorKind}
@@ -31,10 +31,6 @@ pub data Lexeme : Type 0 where
 -- `]`
 abbrev pub is_closer : ℕ → Bool
 is_closer c = c == 93
-
--- none of these characters is a `]`
-abbrev pub NoCloser : List ℕ → Type 0
-NoCloser cs = position is_closer cs ≡ None
 
 -- the first character is `!` or `^`
 abbrev pub is_negated : List ℕ → Bool

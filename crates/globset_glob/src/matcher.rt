@@ -2,7 +2,7 @@
 
 ghost use Rattle.std.specs.Prelude.{◌≡◌, ◌+◌, ◌≤◌, ◌↔◌, IfOk, IfErr, IsOk, IsTrue};
 ghost use Rattle.nfa_simulation.specs.Sets.{sets_capacity};
-ghost use Rattle.glob_scratch.specs.ScratchValue.{FitsMatcher};
+ghost use Rattle.glob_matching.specs.ScratchValue.{FitsMatcher};
 ghost use Rattle.glob_text.specs.Errors.{out_of_memory};
 ghost use Rattle.glob_text.specs.Cost.{cost, max_visits, max_visits_below};
 ghost use Rattle.globset_glob.specs.GlobBelow.{GlobMatchesBelow};
@@ -13,7 +13,7 @@ mod strategy;
 use crate::glob::Glob;
 use bit_sets::Visits;
 use glob_path::{AsPath, Candidate};
-use glob_scratch::{NeedsScratch, Scratch};
+use glob_matching::{NeedsScratch, Scratch};
 use glob_text::Error;
 use nfa_simulation::StateSets;
 pub use searcher::MatcherSearcher;

@@ -11,7 +11,7 @@ ghost use Rattle.set_matcher.specs.Indexes.{ContainsAllBelow};
 use crate::stored::Stored;
 use bit_sets::Visits;
 use glob_path::Candidate;
-use glob_scratch::Scratch;
+use glob_matching::Scratch;
 use glob_text::Error;
 use set_matcher::Caches;
 use std::alloc::Global;
@@ -38,7 +38,7 @@ impl Drop for StoredSearcher {
 
 impl Model for StoredSearcher {
     ghost use Rattle.std.specs.Prelude.{length};
-    ghost use Rattle.glob_scratch.specs.ScratchValue.{HasCapacity};
+    ghost use Rattle.glob_matching.specs.ScratchValue.{HasCapacity};
     ghost use Rattle.globset_set.specs.SetValue.{set_globs, set_states};
     ghost use Rattle.globset_set.specs.inner.StoredValue.{StoredValue};
     ghost use Rattle.set_matcher.specs.inner.Caches.{AreCachesOf};

@@ -1,7 +1,7 @@
 //! What a set stores, which its clones and its searchers share.
 
 ghost use Rattle.std.specs.Prelude.{◌≡◌, ◌≢◌, ◌↔◌, [], ℕ, ◌+◌, ◌≤◌, All, IfOk, IfErr, IsOk, OnOk, OnErr, IsTrue, length, vec_capacity};
-ghost use Rattle.glob_scratch.specs.ScratchValue.{HasCapacity};
+ghost use Rattle.glob_matching.specs.ScratchValue.{HasCapacity};
 ghost use Rattle.glob_text.specs.Errors.{out_of_memory};
 ghost use Rattle.glob_text.specs.GlobMatches.{IsRead};
 ghost use Rattle.globset_set.specs.Answer.{matching_indexes};
@@ -15,7 +15,7 @@ ghost use Rattle.set_matcher.specs.inner.Caches.{AreCachesOf};
 use crate::searcher::StoredSearcher;
 use bit_sets::Visits;
 use glob_path::Candidate;
-use glob_scratch::{NeedsScratch, Scratch};
+use glob_matching::{NeedsScratch, Scratch};
 use glob_text::{Error, GivenGlobs};
 use set_matcher::{Caches, SetMatcher};
 use std::alloc::{AllocError, Global};

@@ -1,7 +1,7 @@
 //! Whether some glob of a list matches some path below a folder.
 
 ghost use Rattle.std.specs.Prelude.{◌≡◌, ◌+◌, ◌≤◌, ◌↔◌, IfOk, IsOk, IsTrue};
-ghost use Rattle.glob_scratch.specs.ScratchValue.{HasCapacity};
+ghost use Rattle.glob_matching.specs.ScratchValue.{HasCapacity};
 ghost use Rattle.set_matcher.specs.Below.{SomeReportedBelow, load_below, max_visits_below};
 ghost use Rattle.set_matcher.specs.SetMatcherValue.{matcher_globs};
 ghost use Rattle.set_matcher.specs.inner.Caches.{AreCachesOf};
@@ -9,7 +9,7 @@ ghost use Rattle.set_matcher.specs.inner.Caches.{AreCachesOf};
 use crate::caches::Caches;
 use crate::matcher::SetMatcher;
 use bit_sets::Visits;
-use glob_scratch::Scratch;
+use glob_matching::Scratch;
 use std::alloc::AllocError;
 
 impl SetMatcher {

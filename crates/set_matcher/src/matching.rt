@@ -4,7 +4,7 @@ ghost use Rattle.std.specs.Prelude.{◌≡◌, ◌≢◌, ◌+◌, ◌≤◌, �
 ghost use Rattle.bit_sets.specs.Indexes.{has_index, index_capacity};
 ghost use Rattle.bit_sets.specs.Texts.{AllBytes};
 ghost use Rattle.nfa_simulation.specs.Sets.{sets_capacity};
-ghost use Rattle.glob_scratch.specs.ScratchValue.{HasCapacity};
+ghost use Rattle.glob_matching.specs.ScratchValue.{HasCapacity};
 ghost use Rattle.set_matcher.specs.Globs.{is_reported_at, reported_indexes, load, max_visits};
 ghost use Rattle.set_matcher.specs.SetMatcherValue.{matcher_globs};
 ghost use Rattle.set_matcher.specs.Indexes.{ContainsAllBelow};
@@ -14,7 +14,7 @@ use crate::caches::Caches;
 use crate::matcher::SetMatcher;
 use bit_sets::Visits;
 use glob_path::{Candidate, PathParts};
-use glob_scratch::Scratch;
+use glob_matching::Scratch;
 use std::alloc::{AllocError, Global};
 
 impl SetMatcher {

@@ -3,7 +3,7 @@ use Rattle.std.specs.Prelude.{ℕ, zero, suc, ◌+◌, ◌-◌, true, false, Lis
 use Prim.Native.String.{String}
 use Rattle.glob_syntax.specs.declared.options.Options.{Options}
 use Rattle.glob_syntax.specs.declared.options.TheConstants.Options.{DEFAULT}
-use Rattle.glob_syntax.specs.Token.{Token, Literal, Class, Group, Tokens, end, and_then, none, before, ahead}
+use Rattle.glob_syntax.specs.Token.{Token, Literal, Class, Group, Tokens, end, and_then, Branches, none, branch, before}
 use Rattle.glob_syntax.specs.Reading.{reading}
 use Rattle.glob_syntax.specs.ClassBytes.{class_has}
 
@@ -40,6 +40,11 @@ tokens ts = before ts end
 -- a literal for each character
 abbrev pub literals : String → List Token
 literals text = map Literal (codes text)
+
+-- these branches, and then those
+abbrev pub ahead : List Tokens → Branches → Branches
+ahead [] bs = bs
+ahead (ts ∷ front) bs = branch ts (ahead front bs)
 
 -- a group, by its branches
 abbrev pub group : List (List Token) → Token

@@ -2,7 +2,7 @@
 use Rattle.std.proofs.Common.{◌≡◌, ℕ, zero, suc, ◌+◌, List, [], ◌∷◌, Bool, true, false, Option, Some, None, drop, ◌==◌, cond, refl, sym, ap, subst, ◌∙◌}
 use Rattle.std.specs.List.{position_from}
 use Rattle.std.proofs.lemmas.Iterator.Adapters.{position_from-zero}
-use Rattle.glob_syntax.specs.Lexemes.{NoCloser}
+use Rattle.glob_syntax.specs.inner.LexemeViews.{NoCloser}
 
 none_cons : (i j : ℕ) (b : Bool) (r s : Option ℕ) → (r ≡ None → s ≡ None) → cond b (Some i) r ≡ None → cond b (Some j) s ≡ None
 none_cons i j true r s f h = cc

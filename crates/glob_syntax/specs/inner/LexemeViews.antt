@@ -1,5 +1,6 @@
 -- Lexemes as contracts see them, whatever memory holds them.
-use Rattle.std.specs.Prelude.{◌≡◌, ℕ, ◌++◌, List, map, Result, Ok, Err}
+use Rattle.std.specs.Prelude.{◌≡◌, ℕ, ◌++◌, List, map, None, Result, Ok, Err}
+use Rattle.std.specs.List.{position}
 use Rattle.glob_syntax.specs.declared.lexemes.lexeme.Lexeme.{Lexeme}
 use Rattle.glob_syntax.specs.declared.lexemes.lexeme.Lexeme.TheVariants as held
 use Rattle.glob_syntax.specs.declared.token.Token as tokens
@@ -8,6 +9,10 @@ use Rattle.glob_syntax.specs.Lexemes as lexemes
 use Rattle.glob_syntax.specs.Ranges.{ranges}
 use Rattle.glob_syntax.specs.FlatTokens.{simple}
 use Rattle.glob_syntax.specs.Views.{flats}
+
+-- none of these characters is a `]`
+abbrev pub NoCloser : List ℕ → Type 0
+NoCloser cs = position lexemes.is_closer cs ≡ None
 
 -- a lexeme; that of a class by the ranges of its body
 abbrev pub lexeme_of : Lexeme → lexemes.Lexeme

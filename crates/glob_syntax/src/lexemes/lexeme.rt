@@ -2,8 +2,8 @@
 
 ghost use Rattle.std.specs.Prelude.{◌≡◌, ◌<◌, ◌≤◌, length, None, IfSome, IsFalse, drop, ◌==◌, ◌+◌};
 ghost use Rattle.std.specs.List.{prefix_len, position};
-ghost use Rattle.glob_syntax.specs.Lexemes.{is_closer, members, unclosed_lexeme, class_lexeme, class_at, lexeme_at, NoCloser};
-ghost use Rattle.glob_syntax.specs.inner.LexemeViews.{lexeme_of};
+ghost use Rattle.glob_syntax.specs.Lexemes.{is_closer, members, unclosed_lexeme, class_lexeme, class_at, lexeme_at};
+ghost use Rattle.glob_syntax.specs.inner.LexemeViews.{NoCloser, lexeme_of};
 
 use crate::class::bad_range;
 use crate::options::Options;

@@ -9,7 +9,7 @@ ghost use Rattle.globset_glob.specs.GlobBelow.{GlobMatchesBelow};
 use crate::matcher::GlobMatcher;
 use bit_sets::Visits;
 use glob_path::Candidate;
-use glob_scratch::Scratch;
+use glob_matching::Scratch;
 use glob_text::Error;
 use std::alloc::Global;
 use std::marker::Model;
@@ -43,7 +43,7 @@ impl Drop for MatcherSearcher {
 }
 
 impl Model for MatcherSearcher {
-    ghost use Rattle.glob_scratch.specs.ScratchValue.{FitsMatcher};
+    ghost use Rattle.glob_matching.specs.ScratchValue.{FitsMatcher};
     ghost use Rattle.glob_text.specs.GlobMatches.{GlobValue};
 
     ghost Value = { GlobValue };

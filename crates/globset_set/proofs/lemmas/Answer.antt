@@ -15,7 +15,7 @@ use Rattle.globset_set.specs.Answer.{matching_indexes}
 use Rattle.globset_set.specs.Below.{MatchesBelow}
 use Rattle.globset_set.specs.Work.{load, load_below, max_set_visits, max_set_visits_below}
 use Rattle.set_matcher.specs.SetMatcherValue.{SetMatcherValue, matcher_globs}
-use Rattle.glob_scratch.specs.ScratchValue.{HasCapacity, ScratchValue}
+use Rattle.glob_matching.specs.ScratchValue.{HasCapacity, ScratchValue}
 use Rattle.globset_set.specs.SetValue.{SetValue, set_globs, set_states}
 use Rattle.globset_set.specs.inner.StoredGlobs.{AreStored, by_tokens}
 

@@ -1,6 +1,6 @@
 use Rattle.std.proofs.Common.{◌≡◌, ◌≤◌, ◌==◌, drop, if◌then◌else◌, length, encode_utf8_all, arith, sym, ap, subst, rules}
 use Rattle.std.specs.Option.{option_map}
-use Rattle.glob_syntax.specs.Lexemes.{NoCloser}
+use Rattle.glob_syntax.specs.inner.LexemeViews.{NoCloser}
 use Rattle.glob_syntax.specs.ErrorOffset.{first_error}
 use Rattle.glob_syntax.proofs.lemmas.Lists.{one_cell}
 use Rattle.glob_syntax.proofs.lemmas.UnclosedClasses.{no_closer_next}

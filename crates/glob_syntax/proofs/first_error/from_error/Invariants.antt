@@ -1,5 +1,5 @@
 use Rattle.std.proofs.Common.{◌≡◌, ◌+◌, ◌≤◌, zero, length, drop, encode_utf8_all, IsFalse}
-use Rattle.glob_syntax.specs.Lexemes.{NoCloser}
+use Rattle.glob_syntax.specs.inner.LexemeViews.{NoCloser}
 use Rattle.glob_syntax.specs.ErrorOffset.{lexemes_from, error_from, first_error}
 use Rattle.glob_syntax.proofs.first_error.from_error.Given as goal
 

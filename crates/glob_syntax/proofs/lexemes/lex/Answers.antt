@@ -1,7 +1,7 @@
 use Rattle.std.proofs.Common.{◌≡◌, zero, [], ◌∷◌, ◌++◌, drop, arith, sym, subst}
 use Rattle.std.proofs.lemmas.List.{map_push}
-use Rattle.glob_syntax.specs.inner.LexemeViews.{lexeme_of, lexemes_of}
-use Rattle.glob_syntax.specs.Lexemes.{lexemes, NoCloser}
+use Rattle.glob_syntax.specs.inner.LexemeViews.{NoCloser, lexeme_of, lexemes_of}
+use Rattle.glob_syntax.specs.Lexemes.{lexemes}
 use Rattle.glob_syntax.specs.Nesting.{nested}
 use Rattle.glob_syntax.proofs.lemmas.Lists.{one_cell}
 use Rattle.glob_syntax.proofs.lemmas.UnclosedClasses.{no_closer_next}

@@ -1,7 +1,7 @@
 use Rattle.std.proofs.Common.{◌≡◌, ◌+◌, ◌≤◌, zero, length, drop, IsFalse}
-use Rattle.glob_syntax.specs.Lexemes.{lexemes, NoCloser}
+use Rattle.glob_syntax.specs.Lexemes.{lexemes}
 use Rattle.glob_syntax.specs.Nesting.{nested}
-use Rattle.glob_syntax.specs.inner.LexemeViews.{lexemes_of}
+use Rattle.glob_syntax.specs.inner.LexemeViews.{NoCloser, lexemes_of}
 use Rattle.glob_syntax.proofs.lemmas.Lexemes.{with_front}
 use Rattle.glob_syntax.proofs.lexemes.lex.Given as goal
 

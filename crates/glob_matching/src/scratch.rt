@@ -2,7 +2,7 @@
 
 ghost use Rattle.std.specs.Prelude.{◌≡◌, ◌≤◌, ◌^◌, ◌↔◌, ℕ, MatchOption, IfOk, IfErr, IsOk, OnOk, OnErr, IsTrue};
 ghost use Rattle.glob_text.specs.Errors.{out_of_memory};
-ghost use Rattle.glob_scratch.specs.ScratchValue.{FitsAsBefore, HasCapacity, raised};
+ghost use Rattle.glob_matching.specs.ScratchValue.{FitsAsBefore, HasCapacity, raised};
 
 use bit_sets::IndexSet;
 use glob_text::Error;
@@ -80,7 +80,7 @@ impl Model for Scratch {
     ghost use Rattle.std.specs.Prelude.{◌≤◌};
     ghost use Rattle.bit_sets.specs.Indexes.{index_capacity};
     ghost use Rattle.nfa_simulation.specs.Sets.{sets_capacity};
-    ghost use Rattle.glob_scratch.specs.ScratchValue.{ScratchValue};
+    ghost use Rattle.glob_matching.specs.ScratchValue.{ScratchValue};
 
     ghost Value = { ScratchValue };
 
