@@ -38,7 +38,7 @@ struct Found {
     on_entry: usize,
     /// The list of the indexes that are found where the text ends.
     at_end: usize,
-    /// The number of a state that may have some of these states. It is 0 if none is known.
+    /// The number of a state whose set may be within this one. It is 0, that of the dead state, if no other is known.
     below: usize,
 }
 

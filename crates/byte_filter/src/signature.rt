@@ -1,6 +1,6 @@
 //! Signatures of texts: which windows of three bytes a text may have.
 
-ghost use Rattle.std.specs.Prelude.{◌≡◌, ℕ, ◌<◌, ◌↔◌, false, length, slice_index, IsTrue};
+ghost use Rattle.std.specs.Prelude.{◌≡◌, ℕ, ◌<◌, ◌↔◌, None, length, slice_index, IsTrue};
 ghost use Rattle.bit_sets.specs.Bits.{bit_of};
 ghost use Rattle.byte_filter.specs.Signs.{sign_of, AreSigned};
 ghost use Rattle.byte_filter.specs.inner.Signatures.{HasSigns, IsOf};
@@ -16,19 +16,15 @@ pub const ANY_TEXT: u8 = 255;
 /// A bit for each sign, which is set if a text has it. It is made when it is first asked, since most texts have no key.
 #[derive(Clone, Copy)]
 pub struct Signature {
-    words: [u64; 4],
-    is_made: bool,
+    words: Option<[u64; 4]>,
 }
 
 impl Signature {
     /// Returns a signature that is not made yet.
     pub fn new() -> Signature
-        ensures { result.is_made ≡ false }
+        ensures { result.words ≡ None }
     {
-        Signature {
-            words: [0; 4],
-            is_made: false,
-        }
+        Signature { words: None }
     }
 
     /// Returns whether a text has each of some signs. It has to be the same text in each call.
@@ -37,11 +33,12 @@ impl Signature {
         ensures of { IsOf text.now self.new }
         ensures all { IsTrue result ↔ AreSigned text.now signs.now }
     {
-        if !self.is_made {
-            self.words = words_of(text);
-            self.is_made = true;
-        }
-        has_signs(&self.words, signs)
+        let words = match self.words {
+            Some(words) => words,
+            None => words_of(text),
+        };
+        self.words = Some(words);
+        has_signs(&words, signs)
     }
 }
 

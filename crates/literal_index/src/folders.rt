@@ -1,6 +1,6 @@
 //! The folders of keys: below which folders some of many keys are.
 
-ghost use Rattle.std.specs.Prelude.{◌≡◌, ◌+◌, ◌++◌, ◌↔◌, [], map, IsTrue, IfOk, OnOk};
+ghost use Rattle.std.specs.Prelude.{◌≡◌, ◌+◌, ◌++◌, ◌↔◌, map, IsTrue, IfOk, OnOk};
 ghost use Rattle.byte_keys.specs.Texts.{entry_of};
 ghost use Rattle.glob_path.specs.Below.{folder_start};
 ghost use Rattle.literal_index.specs.inner.Folders.{AreFolders, AreRising, SomeBelow, bytes_of, place_of, shown_of, start_of};
@@ -37,15 +37,6 @@ impl Model for Folders {
 }
 
 impl Folders {
-    /// Returns no folders. It allocates nothing.
-    pub fn none(alloc: Global) -> Folders
-        ensures { result ≡ [] }
-    {
-        Folders {
-            texts: Vec::new(alloc),
-        }
-    }
-
     /// Returns the folders of paths and of beginnings.
     ///
     /// Returns an error if memory runs out. The time is linear in the bytes of all keys, except that their folders are sorted. A copy

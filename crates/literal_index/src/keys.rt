@@ -1,6 +1,6 @@
 //! Indexes under keys, and the indexes that a path finds.
 
-ghost use Rattle.std.specs.Prelude.{◌≡◌, ◌≢◌, ◌+◌, ◌*◌, ◌≤◌, ◌↔◌, ◌<◌, ◌^◌, [], ℕ, List, length, map, IsTrue, IsFalse, MatchOption, OnOk, IfOk};
+ghost use Rattle.std.specs.Prelude.{◌≡◌, ◌≢◌, ◌+◌, ◌*◌, ◌≤◌, ◌↔◌, ◌<◌, ◌^◌, [], ℕ, List, length, map, IsTrue, MatchOption, OnOk, IfOk};
 ghost use Rattle.bit_sets.specs.Indexes.{index_capacity, HasAlso};
 ghost use Rattle.byte_keys.specs.Entries.{indexes_under};
 ghost use Rattle.byte_keys.specs.Texts.{entry_of};
@@ -8,8 +8,7 @@ ghost use Rattle.glob_path.specs.Key.{KeyMatches, KeyMayMatchBelow, key_seen};
 ghost use Rattle.glob_path.specs.PathParts.{component_extension, last_component};
 ghost use Rattle.literal_index.specs.Below.{BelowMore, MatchesBelow};
 ghost use Rattle.literal_index.specs.LiteralIndex.{FindsMore, keys_found, no_keys, with_beginning, with_components, with_end, with_key, with_path};
-ghost use Rattle.literal_index.specs.inner.Folders.{AreFolders};
-ghost use Rattle.literal_index.specs.inner.Parts.{HasOthers, tables_count};
+ghost use Rattle.literal_index.specs.inner.Parts.{HasFolders, HasOthers, tables_count};
 
 use crate::folders::Folders;
 use bit_sets::{IndexSet, Visits};
@@ -25,10 +24,9 @@ pub struct LiteralIndex {
     extensions: Table,
     prefixes: Trie,
     ends: Trie,
-    // Whether there are keys for last components, extensions or ends of paths: then some path below each folder may find one.
-    has_others: bool,
-    // The folders of the paths and of the beginnings. They are only needed, and only kept, if there are no other keys.
-    folders: Folders,
+    // The folders of the paths and of the beginnings. It is `None` if there are keys for last components, extensions or ends of
+    // paths: then some path below each folder may find one.
+    folders: Option<Folders>,
 }
 
 impl Drop for LiteralIndex {
@@ -40,7 +38,6 @@ impl Drop for LiteralIndex {
             extensions: _,
             prefixes: _,
             ends: _,
-            has_others: _,
             folders: _,
         } = self;
     }
@@ -60,7 +57,7 @@ impl Model for LiteralIndex {
       ends = k.ends.entries;
     } };
 
-    ghost invariant = { λ k. AreParts k.paths k.components k.extensions k.prefixes k.ends k.has_others k.folders };
+    ghost invariant = { λ k. AreParts k.paths k.components k.extensions k.prefixes k.ends k.folders };
 }
 
 impl LiteralIndex {
@@ -124,10 +121,10 @@ impl LiteralIndex {
         ensures visits { visits.new ≤ visits.old + (length folder.now + 2) }
         ensures counted { visits.old ≤ visits.new }
     {
-        if self.has_others {
+        let Some(folders) = &self.folders else {
             return true;
-        }
-        if self.folders.has_below(folder, visits) {
+        };
+        if folders.has_below(folder, visits) {
             return true;
         }
         self.prefixes.is_match(folder, visits)
@@ -265,7 +262,7 @@ impl LiteralIndexBuilder {
     pub fn finish(self, alloc: Global) -> Result<LiteralIndex, AllocError>
         ensures { IfOk result (λ keys. keys ≡ self) }
     {
-        let has_others = self.has_others();
+        let folders = self.folders(alloc)?;
         let LiteralIndexBuilder {
             paths,
             components,
@@ -273,14 +270,12 @@ impl LiteralIndexBuilder {
             prefixes,
             ends,
         } = self;
-        let folders = folders_of(alloc, has_others, &paths, &prefixes)?;
         Ok(LiteralIndex {
             paths: table_of(alloc, paths)?,
             components: components.build()?,
             extensions: extensions.build()?,
             prefixes: Trie::new(alloc, Anchor::Start, prefixes)?,
             ends: Trie::new(alloc, Anchor::End, ends)?,
-            has_others,
             folders,
         })
     }
@@ -347,21 +342,19 @@ impl LiteralIndexBuilder {
         }
         !self.ends.is_empty()
     }
-}
 
-/// Returns the folders of paths and beginnings, or none if there are other keys. Returns an error if memory runs out.
-fn folders_of(
-    alloc: Global,
-    has_others: bool,
-    paths: &[Text],
-    prefixes: &[Text],
-) -> Result<Folders, AllocError>
-    ensures { IfOk result (λ folders. IsFalse has_others → AreFolders folders (map entry_of paths.now) (map entry_of prefixes.now)) }
-{
-    if has_others {
-        return Ok(Folders::none(alloc));
+    /// Returns the folders of paths and beginnings, or `None` if there are other keys. Returns an error if memory runs out.
+    fn folders(&self, alloc: Global) -> Result<Option<Folders>, AllocError>
+        ensures { IfOk result (λ folders. HasFolders folders self.now.paths self.now.components self.now.extensions self.now.prefixes self.now.ends) }
+    {
+        if self.has_others() {
+            return Ok(None);
+        }
+        match Folders::new(alloc, &self.paths, &self.prefixes) {
+            Ok(folders) => Ok(Some(folders)),
+            Err(error) => Err(error),
+        }
     }
-    Folders::new(alloc, paths, prefixes)
 }
 
 /// Returns a table of texts. Returns an error if memory runs out.

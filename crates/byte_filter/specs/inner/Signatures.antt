@@ -1,5 +1,5 @@
 -- Signatures of texts, and signs of windows.
-use Rattle.std.specs.Prelude.{◌≡◌, ℕ, ◌<◌, ◌⊎◌, ◌↔◌, List, slice_index, Contains, IsTrue, true}
+use Rattle.std.specs.Prelude.{◌≡◌, ℕ, ◌<◌, ◌⊎◌, ◌↔◌, List, slice_index, Contains, IsTrue, IfSome}
 use Rattle.bit_sets.specs.Bits.{bit_of}
 use Rattle.byte_filter.specs.Signs.{sign_of, IsSign}
 use Rattle.byte_filter.specs.declared.signature.Signature.{Signature}
@@ -10,7 +10,7 @@ HasSigns y words = (s : ℕ) → s < 256 → IsTrue (bit_of words s) ↔ IsSign 
 
 -- if the signature is made, it is that of the text
 abbrev pub IsOf : List ℕ → Signature → Type 0
-IsOf y signature = signature.is_made ≡ true → HasSigns y signature.words
+IsOf y signature = IfSome signature.words (λ words. HasSigns y words)
 
 -- the number is the sign of one of the keys, or the one that each text has
 abbrev pub IsSignOfSome : List ℕ → ℕ → Type 0

@@ -168,11 +168,6 @@ places_rise (x ∷ xs) start h zero (suc j) d le lt = place_rises x (get_or xs j
 places_rise (x ∷ xs) start h (suc i) zero d le lt = absurd (omega (arith, le))
 places_rise (x ∷ xs) start h (suc i) (suc j) d le lt = places_rise xs start h.1 i j d (omega (arith, le)) (omega (arith, lt))
 
-pub none_rising : (texts : List (List ℕ)) → texts ≡ [] → AreRising texts
-unfolding IsStrictlySortedBy
-none_rising [] is = tt
-none_rising (x ∷ xs) is = absurd (omega (arith, ap length is))
-
 -- ---- sorted starts, each once
 
 each_shown : (x : Bor (List ℕ)) (ys : List (Bor (List ℕ))) → AllByRecursion (λ y. on (λ b. b.now) (slice_cmp nat_cmp) x y ≡ Less) ys → AllByRecursion (λ y. slice_cmp nat_cmp x.now y ≡ Less) (shown_of ys)

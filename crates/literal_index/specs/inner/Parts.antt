@@ -1,5 +1,5 @@
 -- Keys in parts: how many indexes the tables have for a path, and what is true of all keys.
-use Rattle.std.specs.Prelude.{◌≡◌, ◌≢◌, ℕ, ◌+◌, ◌↔◌, ◌⊎◌, Bool, IsTrue, IsFalse, List, [], length}
+use Rattle.std.specs.Prelude.{◌≡◌, ◌≢◌, ℕ, ◌+◌, ◌↔◌, ◌⊎◌, Option, MatchOption, List, [], length}
 use Rattle.byte_keys.specs.Entries.{Entry, indexes_under}
 use Rattle.byte_keys.specs.declared.anchor.Anchor.TheVariants.{Start, End}
 use Rattle.byte_keys.specs.Texts.{Texts}
@@ -15,10 +15,13 @@ tables_count t path = length (indexes_under t.paths path) + length (indexes_unde
 abbrev pub HasOthers : List Entry → List Entry → List Entry → Type 0
 HasOthers components extensions ends = (components ≢ []) ⊎ ((extensions ≢ []) ⊎ (ends ≢ []))
 
--- The tries look at the sides that they are for. It is known whether there are keys of other kinds than paths and beginnings, and if
--- not, below which folders some path or some beginning is.
-pub record AreParts (paths components extensions : List Entry) (prefixes ends : Texts) (has_others : Bool) (folders : List (List ℕ)) : Type 0 where
+-- The folders are known below which some path or some beginning is, exactly if there are no keys of other kinds.
+abbrev pub HasFolders : Option (List (List ℕ)) → (paths components extensions prefixes ends : List Entry) → Type 0
+HasFolders folders paths components extensions prefixes ends =
+    MatchOption folders (HasOthers components extensions ends) (λ texts. (HasOthers components extensions ends → ⊥) × AreFolders texts paths prefixes)
+
+-- the tries look at the sides that they are for, and there are folders
+pub record AreParts (paths components extensions : List Entry) (prefixes ends : Texts) (folders : Option (List (List ℕ))) : Type 0 where
   pub at_beginning : prefixes.anchor ≡ Start
   pub at_end : ends.anchor ≡ End
-  pub some_others : IsTrue has_others ↔ HasOthers components extensions ends.entries
-  pub all_folders : IsFalse has_others → AreFolders folders paths prefixes.entries
+  pub has_folders : HasFolders folders paths components extensions prefixes.entries ends.entries
