@@ -91,7 +91,9 @@ impl ByteSet {
 
     /// Returns the set with each byte `b` more for which another set has one of `b` and `b + 1`, and not both.
     pub fn with_boundaries(self, other: &ByteSet) -> ByteSet
-        ensures { (b : ℕ) → b + 1 < 256 → has_byte result b ≡ (differ (has_byte other.now b) (has_byte other.now (b + 1)) || has_byte self b) }
+        ensures { (b : ℕ) → b + 1 < 256
+            → has_byte result b
+            ≡ (differ (has_byte other.now b) (has_byte other.now (b + 1)) || has_byte self b) }
     {
         let [a, b, c, d] = other.words;
         ByteSet {

@@ -129,7 +129,8 @@ impl IndexSet {
     /// some of them are pushed then. It needs no memory if the vector has a capacity of `end`.
     pub fn push_below(&self, end: usize, into: &mut Vec<usize>) -> Result<(), AllocError>
         requires { into.old.items ≡ [] }
-        ensures pushed { OnOk result (into.new.items ≡ filter (has_index self.now) (range_with_len 0 end)) }
+        ensures pushed { OnOk result
+            (into.new.items ≡ filter (has_index self.now) (range_with_len 0 end)) }
         ensures memory { end ≤ vec_capacity into.old → IsOk result }
         ensures capacity { vec_capacity into.old ≤ vec_capacity into.new }
     {

@@ -113,7 +113,8 @@ impl StateSet {
     pub fn add(&mut self, other: &StateSet)
         requires { state_capacity other.now ≡ state_capacity self.old }
         ensures room { state_capacity self.new ≡ state_capacity self.old }
-        ensures has { (s : ℕ) → has_state self.new s ≡ (has_state other.now s || has_state self.old s) }
+        ensures has { (s : ℕ)
+            → has_state self.new s ≡ (has_state other.now s || has_state self.old s) }
     {
         if other.last < other.first {
             return;
@@ -127,7 +128,8 @@ impl StateSet {
     pub fn keep(&mut self, other: &StateSet)
         requires { state_capacity other.now ≡ state_capacity self.old }
         ensures room { state_capacity self.new ≡ state_capacity self.old }
-        ensures has { (s : ℕ) → has_state self.new s ≡ (has_state other.now s && has_state self.old s) }
+        ensures has { (s : ℕ)
+            → has_state self.new s ≡ (has_state other.now s && has_state self.old s) }
     {
         keep_bits(&mut self.words, &other.words);
     }
@@ -136,7 +138,8 @@ impl StateSet {
     pub fn remove(&mut self, other: &StateSet)
         requires { state_capacity other.now ≡ state_capacity self.old }
         ensures room { state_capacity self.new ≡ state_capacity self.old }
-        ensures has { (s : ℕ) → has_state self.new s ≡ (not (has_state other.now s) && has_state self.old s) }
+        ensures has { (s : ℕ)
+            → has_state self.new s ≡ (not (has_state other.now s) && has_state self.old s) }
     {
         remove_bits(&mut self.words, &other.words);
     }
@@ -163,7 +166,8 @@ impl StateSet {
     pub fn put_all(&mut self, states: &[usize])
         requires { AreBelow (state_capacity self.old) states.now }
         ensures room { state_capacity self.new ≡ state_capacity self.old }
-        ensures has { (t : ℕ) → has_state self.new t ≡ (has_number t states.now || has_state self.old t) }
+        ensures has { (t : ℕ)
+            → has_state self.new t ≡ (has_number t states.now || has_state self.old t) }
     {
         for state in states {
             self.put(*state);
@@ -193,7 +197,8 @@ impl StateSet {
     /// there is room for.
     pub fn is_within(&self, other: &StateSet, visits: &mut Visits) -> bool
         requires { state_capacity other.now ≡ state_capacity self.now }
-        ensures within { IsTrue result → (s : ℕ) → IsTrue (has_state self.now s) → IsTrue (has_state other.now s) }
+        ensures within { IsTrue result → (s : ℕ) → IsTrue (has_state self.now s)
+            → IsTrue (has_state other.now s) }
         ensures visits { visits.new ≡ visits.old + state_capacity self.now }
     {
         self.count_all(visits);
@@ -202,7 +207,8 @@ impl StateSet {
 
     /// Returns whether no state is in both of two sets. It is one visit for each state that there is room for.
     pub fn is_disjoint(&self, other: &StateSet, visits: &mut Visits) -> bool
-        ensures disjoint { IsTrue result ↔ ((s : ℕ) → IsTrue (has_state self.now s) → has_state other.now s ≡ false) }
+        ensures disjoint { IsTrue result
+            ↔ ((s : ℕ) → IsTrue (has_state self.now s) → has_state other.now s ≡ false) }
         ensures visits { visits.new ≡ visits.old + state_capacity self.now }
     {
         self.count_all(visits);

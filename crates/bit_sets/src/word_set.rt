@@ -44,7 +44,8 @@ impl WordSet {
         requires from { AreFrom self.old.low numbers.now }
         requires within { AreBelow (self.old.low + 64) numbers.now }
         ensures low { self.new.low ≡ self.old.low }
-        ensures has { (n : ℕ) → has_in_word self.new n ≡ (has_number n numbers.now || has_in_word self.old n) }
+        ensures has { (n : ℕ)
+            → has_in_word self.new n ≡ (has_number n numbers.now || has_in_word self.old n) }
     {
         for number in numbers {
             self.put(*number);
@@ -56,7 +57,8 @@ impl WordSet {
         requires { AreInWordBelow 18446744073709551616 self.old }
         ensures low { self.new.low ≡ self.old.low }
         ensures highest { TellsHighest self.old self.new result }
-        ensures visits { MatchOption result (visits.new ≡ visits.old) (λ _. visits.new ≡ visits.old + 1) }
+        ensures visits { MatchOption result (visits.new ≡ visits.old)
+            (λ _. visits.new ≡ visits.old + 1) }
     {
         if self.word == 0 {
             return None;

@@ -71,7 +71,8 @@ pub fn clear_bit(words: &mut [u64], k: usize)
 /// Returns a word that has each bit in which a word and the same word moved down by one bit are different. The lowest bit of
 /// `next` moves in.
 pub fn changes(word: u64, next: u64) -> u64
-    ensures inside { (i : ℕ) → i < 63 → bit_at result i ≡ (bit_at word i + bit_at word (i + 1)) % 2 }
+    ensures inside { (i : ℕ) → i < 63
+        → bit_at result i ≡ (bit_at word i + bit_at word (i + 1)) % 2 }
     ensures last { bit_at result 63 ≡ (bit_at word 63 + bit_at next 0) % 2 }
 {
     word ^ ((word >> 1) | ((next & 1) << 63))
@@ -178,7 +179,8 @@ pub fn clear_all(words: &mut [u64])
 /// Clears all bits of the words whose places are set in other words.
 pub fn clear_words(words: &mut [u64], places: &[u64])
     requires { 64 * length places.now ≤ 2 ^ 64 }
-    ensures { (k : ℕ) → bit_of words.new k ≡ (not (bit_of places.now (k / 64)) && bit_of words.old k) }
+    ensures { (k : ℕ) → bit_of words.new k
+        ≡ (not (bit_of places.now (k / 64)) && bit_of words.old k) }
 {
     let mut from = 0;
     while let Some(place) = first_from(places, from) {

@@ -21,7 +21,8 @@ impl ByteClasses {
     pub fn new(automaton: &Nfa) -> ByteClasses
         ensures some { 0 < result.count }
         ensures few { result.count ≤ 256 }
-        ensures equivalence { AreEquivalenceClasses automaton.now.states result.class_of result.representatives result.count }
+        ensures equivalence { AreEquivalenceClasses automaton.now.states result.class_of
+            result.representatives result.count }
     {
         let changes = automaton.class_boundaries();
         let mut class_of = [0u8; 256];
@@ -63,7 +64,9 @@ fn class_like(
     byte: u8,
     kind: u64,
 ) -> Option<u8>
-    ensures { IfSome result (λ class. (class ≤ last) × AreEquivalent automaton.now.states (slice_index representatives.now class) byte) }
+    ensures { IfSome result
+        (λ class. (class ≤ last)
+        × AreEquivalent automaton.now.states (slice_index representatives.now class) byte) }
 {
     for class in 0..=last {
         if kinds[class as usize] == kind {

@@ -92,7 +92,9 @@ impl Determinizer {
     ) -> Result<Option<(Determinizer, usize)>, AllocError>
         requires room { room < special }
         requires classes { classes.now.count ≤ 256 }
-        ensures { IfOk result (λ made. IfSome made (λ whole. IsComplete automaton.now classes.now room whole.0 whole.1)) }
+        ensures { IfOk result
+            (λ made. IfSome made
+            (λ whole. IsComplete automaton.now classes.now room whole.0 whole.1)) }
     {
         let mut built = Determinizer::new(alloc, automaton, room)?;
         let mut states = StateSet::new(alloc, automaton.state_count())?;
@@ -137,8 +139,10 @@ impl Determinizer {
         requires none { self.old.found.items ≡ [] }
         requires dead { (s : ℕ) → has_state states.old s ≡ false }
         ensures room { state_capacity states.new ≡ state_capacity states.old }
-        ensures grows { IfOk result (λ made. IfSome made (λ start. Grows automaton.now classes.now self.old self.new)) }
-        ensures begins { IfOk result (λ made. IfSome made (λ start. BeginsAt automaton.now self.new.found.items start)) }
+        ensures grows { IfOk result
+            (λ made. IfSome made (λ start. Grows automaton.now classes.now self.old self.new)) }
+        ensures begins { IfOk result
+            (λ made. IfSome made (λ start. BeginsAt automaton.now self.new.found.items start)) }
     {
         let dead = self.state_id(automaton, classes, states, 0)?;
         let Some(_) = dead else {
@@ -161,10 +165,15 @@ impl Determinizer {
         requires sound { IsSound automaton.now classes.now self.old }
         requires few { total classes.now self.old ≤ special }
         requires none { self.old.rows.items ≡ [] }
-        ensures sound { IfOk result (λ fits. IsTrue fits → IsSound automaton.now classes.now self.new) }
-        ensures few { IfOk result (λ fits. IsTrue fits → total classes.now self.new ≤ total classes.now self.old) }
-        ensures keeps { IfOk result (λ fits. IsTrue fits → KeepsFound self.old.found.items self.new.found.items) }
-        ensures rows { IfOk result (λ fits. IsTrue fits → length self.new.rows.items ≡ length self.new.found.items * (classes.now.count + 2)) }
+        ensures sound { IfOk result
+            (λ fits. IsTrue fits → IsSound automaton.now classes.now self.new) }
+        ensures few { IfOk result
+            (λ fits. IsTrue fits → total classes.now self.new ≤ total classes.now self.old) }
+        ensures keeps { IfOk result
+            (λ fits. IsTrue fits → KeepsFound self.old.found.items self.new.found.items) }
+        ensures rows { IfOk result
+            (λ fits. IsTrue fits
+            → length self.new.rows.items ≡ length self.new.found.items * (classes.now.count + 2)) }
     {
         let steps = ByteSteps::new(*self.lists.allocator(), automaton.state_count())?;
         let mut current = Row {
@@ -238,9 +247,12 @@ impl Determinizer {
         requires room { HasCapacityFor automaton.now states.now }
         requires classes { classes.now.count ≤ 256 }
         requires sound { IsSound automaton.now classes.now self.old }
-        requires dead { length self.old.found.items ≡ 0 → (y : List ℕ) (k : ℕ) → AcceptsFrom automaton.now states.now y k → ⊥ }
-        ensures grows { IfOk result (λ made. IfSome made (λ j. Grows automaton.now classes.now self.old self.new)) }
-        ensures number { IfOk result (λ made. IfSome made (λ j. IsNumbered self.new.found.items j states.now)) }
+        requires dead { length self.old.found.items ≡ 0 → (y : List ℕ) (k : ℕ)
+            → AcceptsFrom automaton.now states.now y k → ⊥ }
+        ensures grows { IfOk result
+            (λ made. IfSome made (λ j. Grows automaton.now classes.now self.old self.new)) }
+        ensures number { IfOk result
+            (λ made. IfSome made (λ j. IsNumbered self.new.found.items j states.now)) }
     {
         let key = hash_of(states);
         if let Some(number) = self.known(key, states) {
@@ -271,7 +283,9 @@ impl Determinizer {
     fn ends_of(&self, automaton: &Nfa, states: &StateSet) -> Result<IndexSet, AllocError>
         requires room { HasCapacityFor automaton.now states.now }
         requires accepting { AreAllAccepting automaton.now self.now.accepting }
-        ensures { IfOk result (λ set. (k : ℕ) → IsTrue (has_index set k) ↔ AcceptsFrom automaton.now states.now [] k) }
+        ensures { IfOk result
+            (λ set. (k : ℕ) → IsTrue (has_index set k)
+            ↔ AcceptsFrom automaton.now states.now [] k) }
     {
         let alloc = *self.lists.allocator();
         // What is read while a table is made is no visit.
@@ -297,9 +311,13 @@ impl Determinizer {
         requires room { HasCapacityFor automaton.now states.now }
         requires classes { classes.now.count ≤ 256 }
         requires sound { IsSound automaton.now classes.now self.old }
-        requires dead { length self.old.found.items ≡ 0 → (y : List ℕ) (k : ℕ) → AcceptsFrom automaton.now states.now y k → ⊥ }
-        ensures grows { IfOk result (λ fits. IsTrue fits → Grows automaton.now classes.now self.old self.new) }
-        ensures number { IfOk result (λ fits. IsTrue fits → IsNumbered self.new.found.items (length self.old.found.items) states.now) }
+        requires dead { length self.old.found.items ≡ 0 → (y : List ℕ) (k : ℕ)
+            → AcceptsFrom automaton.now states.now y k → ⊥ }
+        ensures grows { IfOk result
+            (λ fits. IsTrue fits → Grows automaton.now classes.now self.old self.new) }
+        ensures number { IfOk result
+            (λ fits. IsTrue fits
+            → IsNumbered self.new.found.items (length self.old.found.items) states.now) }
     {
         let alloc = *self.lists.allocator();
         let half = automaton.index_count() / 2;
@@ -343,10 +361,15 @@ impl Determinizer {
         requires row { IsRowOf automaton.now self.old.found.items row.now }
         requires place { length self.old.rows.items ≡ row.now.number * (classes.now.count + 2) }
         ensures room { state_capacity to.new ≡ state_capacity to.old }
-        ensures sound { IfOk result (λ fits. IsTrue fits → IsSound automaton.now classes.now self.new) }
-        ensures few { IfOk result (λ fits. IsTrue fits → total classes.now self.new ≤ total classes.now self.old) }
-        ensures keeps { IfOk result (λ fits. IsTrue fits → KeepsFound self.old.found.items self.new.found.items) }
-        ensures place { IfOk result (λ fits. IsTrue fits → length self.new.rows.items ≡ (row.now.number + 1) * (classes.now.count + 2)) }
+        ensures sound { IfOk result
+            (λ fits. IsTrue fits → IsSound automaton.now classes.now self.new) }
+        ensures few { IfOk result
+            (λ fits. IsTrue fits → total classes.now self.new ≤ total classes.now self.old) }
+        ensures keeps { IfOk result
+            (λ fits. IsTrue fits → KeepsFound self.old.found.items self.new.found.items) }
+        ensures place { IfOk result
+            (λ fits. IsTrue fits
+            → length self.new.rows.items ≡ (row.now.number + 1) * (classes.now.count + 2)) }
     {
         let some = row.steps.some_bytes();
         made.clear();
@@ -384,10 +407,13 @@ impl Determinizer {
         requires few { total classes.now self.now ≤ special }
         requires classes { classes.now.count ≤ 256 }
         requires row { IsRowOf automaton.now self.now.found.items row.now }
-        requires place { length self.now.rows.items ≡ row.now.number * (classes.now.count + 2) + class }
+        requires place { length self.now.rows.items
+            ≡ row.now.number * (classes.now.count + 2) + class }
         requires class { class < classes.now.count }
         requires some { (b : ℕ) → has_byte some.now b ≡ false → LeadsAsEvery row.now.steps b }
-        ensures { IfSome result (λ transition. IsCellOf automaton.now classes.now self.now row.now.number class transition) }
+        ensures { IfSome result
+            (λ transition. IsCellOf automaton.now classes.now self.now row.now.number class
+            transition) }
     {
         let stride = classes.count + 2;
         let byte = classes.representatives[class];
@@ -427,11 +453,17 @@ impl Determinizer {
         requires few { total classes.now self.old ≤ special }
         requires classes { classes.now.count ≤ 256 }
         requires row { IsRowOf automaton.now self.old.found.items row.now }
-        requires place { length self.old.rows.items ≡ row.now.number * (classes.now.count + 2) + class }
+        requires place { length self.old.rows.items
+            ≡ row.now.number * (classes.now.count + 2) + class }
         requires class { class < classes.now.count }
         ensures room { state_capacity to.new ≡ state_capacity to.old }
-        ensures grows { IfOk result (λ made. IfSome made (λ transition. Grows automaton.now classes.now self.old self.new)) }
-        ensures cell { IfOk result (λ made. IfSome made (λ transition. IsCellOf automaton.now classes.now self.new row.now.number class transition)) }
+        ensures grows { IfOk result
+            (λ made. IfSome made
+            (λ transition. Grows automaton.now classes.now self.old self.new)) }
+        ensures cell { IfOk result
+            (λ made. IfSome made
+            (λ transition. IsCellOf automaton.now classes.now self.new row.now.number class
+            transition)) }
     {
         let stride = classes.count + 2;
         let below = target(self.entry_under(row.base, stride, class), stride);
@@ -448,7 +480,8 @@ impl Determinizer {
     fn entry_under(&self, base: usize, stride: usize, class: usize) -> u32
         requires { 0 < base → base * stride + class < length self.now.rows.items }
         ensures dead { base ≡ 0 → result ≡ special }
-        ensures written { 0 < base → result ≡ slice_index self.now.rows.items (base * stride + class) }
+        ensures written { 0 < base
+            → result ≡ slice_index self.now.rows.items (base * stride + class) }
     {
         if base == 0 {
             // The row of the dead state may not be written yet.
@@ -517,8 +550,10 @@ impl Determinizer {
     fn transition(&self, number: usize, stride: usize) -> u32
         requires number { number < length self.now.found.items }
         requires few { length self.now.found.items * stride ≤ special }
-        requires list { (g : Found) → slice_get self.now.found.items number ≡ Some g → g.on_entry < length self.now.lists.items }
-        ensures { (g : Found) → slice_get self.now.found.items number ≡ Some g → IsEntryTo self.now.lists.items stride number g result }
+        requires list { (g : Found) → slice_get self.now.found.items number ≡ Some g
+            → g.on_entry < length self.now.lists.items }
+        ensures { (g : Found) → slice_get self.now.found.items number ≡ Some g
+            → IsEntryTo self.now.lists.items stride number g result }
     {
         let place = number * stride;
         if number == 0 || self.lists[self.found[number].on_entry] > 0 {
@@ -548,7 +583,8 @@ fn are_alike(row: &Row, some: &ByteSet, first: u8, second: u8) -> bool
 /// Returns the number of the state that an entry leads to.
 fn target(transition: u32, stride: usize) -> usize
     requires { 0 < stride }
-    ensures { (j : ℕ) → j * stride < special → ((transition ≡ j * stride) ⊎ (transition ≡ special + j * stride)) → result ≡ j }
+    ensures { (j : ℕ) → j * stride < special
+        → ((transition ≡ j * stride) ⊎ (transition ≡ special + j * stride)) → result ≡ j }
 {
     (transition as usize % SPECIAL) / stride
 }

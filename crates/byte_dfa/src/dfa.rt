@@ -128,7 +128,9 @@ impl Dfa {
     pub fn find(&self, text: &[u8], into: &mut IndexSet, visits: &mut Visits)
         requires { self.now.source.index_count ≤ index_capacity into.old }
         ensures room { index_capacity into.new ≡ index_capacity into.old }
-        ensures found { (k : ℕ) → IsTrue (has_index into.new k) ↔ (IsReached self.now.source text.now k ⊎ IsTrue (has_index into.old k)) }
+        ensures found { (k : ℕ)
+            → IsTrue (has_index into.new k)
+            ↔ (IsReached self.now.source text.now k ⊎ IsTrue (has_index into.old k)) }
         ensures visits { visits.new ≤ visits.old + (length text.now + 2) }
         ensures counted { visits.old < visits.new }
     {
@@ -224,7 +226,8 @@ impl Dfa {
 
     /// Returns whether a text that ends with a byte may lead to an end.
     fn may_end_with(&self, byte: u8) -> bool
-        ensures { (y : List ℕ) (k : ℕ) → IsReached self.now.source (y ++ byte ∷ []) k → IsTrue result }
+        ensures { (y : List ℕ) (k : ℕ) → IsReached self.now.source (y ++ byte ∷ []) k
+            → IsTrue result }
     {
         self.last_bytes.has(byte)
     }

@@ -12,7 +12,9 @@ use std::alloc::{AllocError, Global};
 pub fn put_listed(numbers: &[usize], place: usize, into: &mut IndexSet)
     requires { IsList numbers.now (index_capacity into.old) place }
     ensures room { index_capacity into.new ≡ index_capacity into.old }
-    ensures has { (k : ℕ) → has_index into.new k ≡ (has_number k (list_at numbers.now place) || has_index into.old k) }
+    ensures has { (k : ℕ)
+        → has_index into.new k
+        ≡ (has_number k (list_at numbers.now place) || has_index into.old k) }
 {
     let count = numbers[place];
     for index in &numbers[place + 1..place + 1 + count] {
@@ -42,7 +44,9 @@ pub fn push_list(
     requires none { HasNoneFirst numbers.old.items }
     ensures none { OnOk result (HasNoneFirst numbers.new.items) }
     ensures keeps { OnOk result (KeepsLists numbers.old.items numbers.new.items) }
-    ensures list { IfOk result (λ place. IsListOf numbers.new.items count place (λ k. IsTrue (has_index set.now (from + k)))) }
+    ensures list { IfOk result
+        (λ place. IsListOf numbers.new.items count place
+        (λ k. IsTrue (has_index set.now (from + k)))) }
 {
     let list = indexes_from(alloc, set, from, count)?;
     if list.is_empty() {
@@ -62,8 +66,11 @@ fn indexes_from(
     count: usize,
 ) -> Result<Vec<usize>, AllocError>
     requires { from + count < 2 ^ 64 }
-    ensures below { IfOk result (λ list. (x : ℕ) → x < length list.items → slice_index list.items x < count) }
-    ensures has { IfOk result (λ list. (k : ℕ) → IsTrue (has_number k list.items) ↔ ((k < count) × IsTrue (has_index set.now (from + k)))) }
+    ensures below { IfOk result
+        (λ list. (x : ℕ) → x < length list.items → slice_index list.items x < count) }
+    ensures has { IfOk result
+        (λ list. (k : ℕ) → IsTrue (has_number k list.items)
+        ↔ ((k < count) × IsTrue (has_index set.now (from + k)))) }
 {
     let mut list = Vec::new(alloc);
     let mut at = from;

@@ -117,7 +117,9 @@ impl RarestSigns {
 
     /// Takes a sign in place of the one of the highest frequency, if its own is lower.
     fn offer(&mut self, sign: u8, frequency: u64)
-        ensures { (i : ℕ) → i < 8 → (slice_index self.new.signs i ≡ sign) ⊎ (slice_index self.new.signs i ≡ slice_index self.old.signs i) }
+        ensures { (i : ℕ) → i < 8
+            → (slice_index self.new.signs i ≡ sign)
+            ⊎ (slice_index self.new.signs i ≡ slice_index self.old.signs i) }
     {
         let highest = self.highest();
         if frequency < self.frequencies[highest] && !self.signs.contains(&sign) {

@@ -124,7 +124,9 @@ impl Filter {
     pub fn mark(&self, text: &[u8], marks: &mut IndexSet, visits: &mut Visits)
         requires { AreStartsBelow (index_capacity marks.old) self.now }
         ensures room { index_capacity marks.new ≡ index_capacity marks.old }
-        ensures marks { (k : ℕ) → IsTrue (has_index marks.new k) ↔ (IsNamed self.now text.now k ⊎ IsTrue (has_index marks.old k)) }
+        ensures marks { (k : ℕ)
+            → IsTrue (has_index marks.new k)
+            ↔ (IsNamed self.now text.now k ⊎ IsTrue (has_index marks.old k)) }
         ensures visits { visits.new ≤ visits.old + length text.now * (2 * (2 + length self.now)) }
         ensures counted { visits.old ≤ visits.new }
     {
@@ -155,7 +157,9 @@ impl Filter {
         requires of { IsOf text.now signature.old }
         ensures of { IsOf text.now signature.new }
         ensures room { index_capacity marks.new ≡ index_capacity marks.old }
-        ensures marks { (k : ℕ) → IsTrue (has_index marks.new k) ↔ (HasEntry self.now text.now (key % 16777216) k ⊎ IsTrue (has_index marks.old k)) }
+        ensures marks { (k : ℕ)
+            → IsTrue (has_index marks.new k)
+            ↔ (HasEntry self.now text.now (key % 16777216) k ⊎ IsTrue (has_index marks.old k)) }
         ensures visits { visits.new ≤ visits.old + (2 + length self.now) }
         ensures counted { visits.old ≤ visits.new }
     {
@@ -177,7 +181,9 @@ impl Filter {
         requires of { IsOf text.now signature.old }
         ensures of { IsOf text.now signature.new }
         ensures room { index_capacity marks.new ≡ index_capacity marks.old }
-        ensures marks { (k : ℕ) → IsTrue (has_index marks.new k) ↔ (HasEntry self.now text.now key k ⊎ IsTrue (has_index marks.old k)) }
+        ensures marks { (k : ℕ)
+            → IsTrue (has_index marks.new k)
+            ↔ (HasEntry self.now text.now key k ⊎ IsTrue (has_index marks.old k)) }
         ensures visits { visits.new ≤ visits.old + (2 + length self.now) }
         ensures counted { visits.old ≤ visits.new }
     {
@@ -200,7 +206,9 @@ impl Filter {
         requires of { IsOf text.now signature.old }
         ensures of { IsOf text.now signature.new }
         ensures room { index_capacity marks.new ≡ index_capacity marks.old }
-        ensures marks { (k : ℕ) → IsTrue (has_index marks.new k) ↔ (HasEntry self.now text.now key k ⊎ IsTrue (has_index marks.old k)) }
+        ensures marks { (k : ℕ)
+            → IsTrue (has_index marks.new k)
+            ↔ (HasEntry self.now text.now key k ⊎ IsTrue (has_index marks.old k)) }
         ensures visits { visits.new ≤ visits.old + (1 + length self.now) }
         ensures counted { visits.old ≤ visits.new }
     {

@@ -35,7 +35,8 @@ impl KeyBits {
     /// Puts a key in.
     pub fn put(&mut self, key: u32)
         ensures has { IsTrue (has_key self.new key) }
-        ensures kept { (other : ℕ) → IsTrue (has_key self.old other) → IsTrue (has_key self.new other) }
+        ensures kept { (other : ℕ) → IsTrue (has_key self.old other)
+            → IsTrue (has_key self.new other) }
     {
         let bit = place(key, 64 * self.words.len());
         set_bit(&mut self.words, bit);

@@ -69,7 +69,8 @@ fn words_of(text: &[u8]) -> [u64; 4]
 
 /// Returns whether the bit of each of some signs is set.
 pub fn has_signs(words: &[u64; 4], signs: &[u8]) -> bool
-    ensures { IsTrue result ↔ ((i : ℕ) → i < length signs.now → IsTrue (bit_of words.now (slice_index signs.now i))) }
+    ensures { IsTrue result
+        ↔ ((i : ℕ) → i < length signs.now → IsTrue (bit_of words.now (slice_index signs.now i))) }
 {
     for sign in signs {
         if !has_bit(words, *sign as usize) {

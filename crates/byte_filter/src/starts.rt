@@ -89,8 +89,11 @@ impl StartFilter {
         requires { self.now.count ≤ index_capacity marks.old }
         ensures room { index_capacity marks.new ≡ index_capacity marks.old }
         ensures kept { (i : ℕ) → IsTrue (has_index marks.old i) → IsTrue (has_index marks.new i) }
-        ensures marks { (m : NfaValue) → IsFilterOf m self.now → (i k : ℕ) → i < length m.starts → Accepts m.states k (slice_index m.starts i) text.now → IsTrue (has_index marks.new i) }
-        ensures exact { (m : NfaValue) → IsFilterOf m self.now → (k : ℕ) → IsReached m text.now k ↔ IsReachedMarked m marks.new text.now k }
+        ensures marks { (m : NfaValue) → IsFilterOf m self.now → (i k : ℕ) → i < length m.starts
+            → Accepts m.states k (slice_index m.starts i) text.now
+            → IsTrue (has_index marks.new i) }
+        ensures exact { (m : NfaValue) → IsFilterOf m self.now → (k : ℕ)
+            → IsReached m text.now k ↔ IsReachedMarked m marks.new text.now k }
         ensures visits { visits.new ≤ visits.old + length text.now * (3 * self.now.count) }
         ensures counted { visits.old ≤ visits.new }
     {
@@ -125,10 +128,16 @@ fn guard(
     filter: &mut Filter,
     others: &mut Vec<OtherStart>,
 ) -> Result<(), AllocError>
-    ensures guarded { OnOk result (IsGuardedBy windows.now.short.items windows.now.long.items windows.now.bytes.items filter.new others.new.items i) }
-    ensures kept { OnOk result ((m : NfaValue) (j : ℕ) → IsGuarded m filter.old others.old.items j → IsGuarded m filter.new others.new.items j) }
-    ensures below { OnOk result ((n : ℕ) → i < n → AreStartsBelow n filter.old → AreStartsBelow n filter.new) }
-    ensures others_below { OnOk result ((n : ℕ) → i < n → AreOthersBelow n others.old.items → AreOthersBelow n others.new.items) }
+    ensures guarded { OnOk result
+        (IsGuardedBy windows.now.short.items windows.now.long.items windows.now.bytes.items
+        filter.new others.new.items i) }
+    ensures kept { OnOk result
+        ((m : NfaValue) (j : ℕ) → IsGuarded m filter.old others.old.items j
+        → IsGuarded m filter.new others.new.items j) }
+    ensures below { OnOk result
+        ((n : ℕ) → i < n → AreStartsBelow n filter.old → AreStartsBelow n filter.new) }
+    ensures others_below { OnOk result
+        ((n : ℕ) → i < n → AreOthersBelow n others.old.items → AreOthersBelow n others.new.items) }
     ensures len { OnOk result (length filter.new ≤ length filter.old + 1) }
 {
     if let Ok(start) = u32::try_from(i) {
@@ -144,7 +153,8 @@ fn guard(
 
 /// Returns the key of the rarest window of four bytes, or if there is none, of three.
 fn rarest(windows: &StartWindows, counts: &Counts) -> Option<u32>
-    ensures { MatchOption result (Unit {0}) (λ key. Contains windows.now.long.items key ⊎ Contains windows.now.short.items key) }
+    ensures { MatchOption result (Unit {0})
+        (λ key. Contains windows.now.long.items key ⊎ Contains windows.now.short.items key) }
 {
     match counts.rarest(&windows.long) {
         Some(key) => Some(key),

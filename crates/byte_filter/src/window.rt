@@ -68,7 +68,8 @@ pub fn find_required(
     windows: &mut StartWindows,
 ) -> Result<(), AllocError>
     requires { AreForced automaton.now bytes.now }
-    ensures windows { OnOk result (AreRequired automaton.now start windows.new.short.items windows.new.long.items) }
+    ensures windows { OnOk result
+        (AreRequired automaton.now start windows.new.short.items windows.new.long.items) }
     ensures bytes { OnOk result (AreRequiredBytes automaton.now start windows.new.bytes.items) }
 {
     windows.short.clear();
@@ -107,8 +108,12 @@ fn push_required(
     requires within { s < size automaton.now }
     requires order { s ≤ start }
     requires stands { (t : ℕ) → s < t → t ≤ start → Stands automaton.now.states least t }
-    ensures bytes { OnOk result (AreRequiredBytes automaton.now start windows.old.bytes.items → AreRequiredBytes automaton.now start windows.new.bytes.items) }
-    ensures windows { OnOk result (AreRequired automaton.now start windows.old.short.items windows.old.long.items → AreRequired automaton.now start windows.new.short.items windows.new.long.items) }
+    ensures bytes { OnOk result
+        (AreRequiredBytes automaton.now start windows.old.bytes.items
+        → AreRequiredBytes automaton.now start windows.new.bytes.items) }
+    ensures windows { OnOk result
+        (AreRequired automaton.now start windows.old.short.items windows.old.long.items
+        → AreRequired automaton.now start windows.new.short.items windows.new.long.items) }
 {
     if s > least {
         return Ok(());
@@ -131,7 +136,9 @@ fn push_byte(
     requires limit { s ≤ least }
     requires order { s ≤ start }
     requires stands { (t : ℕ) → s < t → t ≤ start → Stands automaton.now.states least t }
-    ensures { OnOk result (AreRequiredBytes automaton.now start bytes.old.items → AreRequiredBytes automaton.now start bytes.new.items) }
+    ensures { OnOk result
+        (AreRequiredBytes automaton.now start bytes.old.items
+        → AreRequiredBytes automaton.now start bytes.new.items) }
 {
     if byte > 0 {
         bytes.push(byte)?;
@@ -154,7 +161,9 @@ fn push_windows(
     requires order { s ≤ start }
     requires stands { (t : ℕ) → s < t → t ≤ start → Stands automaton.now.states least t }
     ensures bytes { windows.new.bytes ≡ windows.old.bytes }
-    ensures windows { OnOk result (AreRequired automaton.now start windows.old.short.items windows.old.long.items → AreRequired automaton.now start windows.new.short.items windows.new.long.items) }
+    ensures windows { OnOk result
+        (AreRequired automaton.now start windows.old.short.items windows.old.long.items
+        → AreRequired automaton.now start windows.new.short.items windows.new.long.items) }
 {
     let Some(three) = forced_three(bytes, s) else {
         return Ok(());
@@ -171,7 +180,9 @@ fn push_windows(
 /// below it force them.
 fn forced_three(bytes: &[u8], s: usize) -> Option<u32>
     requires { s < length bytes.now }
-    ensures { MatchOption result (Unit {0}) (λ key. (3 ≤ s) × (key < 16777216) × ((m : NfaValue) → AreForced m bytes.now → ReadsThree m.states s key)) }
+    ensures { MatchOption result (Unit {0})
+        (λ key. (3 ≤ s) × (key < 16777216)
+        × ((m : NfaValue) → AreForced m bytes.now → ReadsThree m.states s key)) }
 {
     if s < 3 {
         return None;

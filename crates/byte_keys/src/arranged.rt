@@ -23,7 +23,9 @@ pub(crate) struct Arranged {
 /// Keys can be chosen so that many have one hash. Then they are arranged again, by hashes with a seed of all keys.
 pub(crate) fn arrange(alloc: Global, bytes: &[u8], pairs: Vec<Pair>) -> Result<Arranged, AllocError>
     requires { All (IsKept 0 bytes.now) pairs.items }
-    ensures { IfOk result (λ a. IsArranged bytes.now pairs.items a.directory.seed a.pairs.items a.rows.items a.directory.shift a.directory.starts.items) }
+    ensures { IfOk result
+        (λ a. IsArranged bytes.now pairs.items a.directory.seed a.pairs.items a.rows.items
+        a.directory.shift a.directory.starts.items) }
 {
     let arranged = arrange_by(alloc, bytes, 0, pairs)?;
     if !arranged.directory.is_crowded() {
@@ -42,7 +44,9 @@ fn arrange_by(
     mut pairs: Vec<Pair>,
 ) -> Result<Arranged, AllocError>
     requires { All (IsKept seed bytes.now) pairs.items }
-    ensures { IfOk result (λ a. IsArranged bytes.now pairs.items a.directory.seed a.pairs.items a.rows.items a.directory.shift a.directory.starts.items) }
+    ensures { IfOk result
+        (λ a. IsArranged bytes.now pairs.items a.directory.seed a.pairs.items a.rows.items
+        a.directory.shift a.directory.starts.items) }
 {
     sort(bytes, seed, &mut pairs)?;
     let rows = rows_of(alloc, bytes, seed, &pairs)?;

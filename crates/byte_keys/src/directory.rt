@@ -35,7 +35,8 @@ impl Directory {
     /// Returns the rows among which the row of a key with a hash is, if there is one.
     #[tactic(auto, unfolding(crate::specs::inner::Starts::rows_near))]
     pub(crate) fn near<'a>(&self, rows: &'a [Row], hash: u32) -> &'a [Row]
-        ensures { result.now ≡ rows_near rows.now self.now.starts.items (hash / 2 ^ self.now.shift) }
+        ensures { result.now
+            ≡ rows_near rows.now self.now.starts.items (hash / 2 ^ self.now.shift) }
     {
         let bucket = (hash >> self.shift) as usize;
         if bucket + 1 >= self.starts.len() {

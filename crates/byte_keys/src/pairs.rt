@@ -36,7 +36,9 @@ pub(crate) fn sort(bytes: &[u8], seed: u64, pairs: &mut Vec<Pair>) -> Result<(),
     ensures kept { All (IsKept seed bytes.now) pairs.new.items }
     ensures len { length pairs.new.items ≡ length pairs.old.items }
     ensures sorted { OnOk result (IsSortedBy (pair_below seed bytes.now) pairs.new.items) }
-    ensures same { (q : List ℕ) → indexes_under (entries_of bytes.now pairs.new.items) q ≡ indexes_under (entries_of bytes.now pairs.old.items) q }
+    ensures same { (q : List ℕ)
+        → indexes_under (entries_of bytes.now pairs.new.items) q
+        ≡ indexes_under (entries_of bytes.now pairs.old.items) q }
 {
     // Most pairs differ in their hashes, so most keys need not be read.
     pairs.sort_by(|a, b| match a.hash.cmp(&b.hash) {

@@ -42,7 +42,8 @@ impl Row {
 fn ends_group(bytes: &[u8], seed: u64, pairs: &[Pair], at: usize) -> bool
     requires kept { All (IsKept seed bytes.now) pairs.now }
     requires at { at < length pairs.now }
-    ensures { MatchBool result (IsOtherKey bytes.now pairs.now at) (IsSameKey bytes.now pairs.now at) }
+    ensures { MatchBool result (IsOtherKey bytes.now pairs.now at)
+        (IsSameKey bytes.now pairs.now at) }
 {
     let next = at + 1;
     if next == pairs.len() {
@@ -64,7 +65,9 @@ pub(crate) fn rows_of(
 ) -> Result<Vec<Row>, AllocError>
     requires kept { All (IsKept seed bytes.now) pairs.now }
     requires sorted { IsSortedBy (pair_below seed bytes.now) pairs.now }
-    ensures { IfOk result (λ rows. HasRows seed bytes.now rows.items (map (λ p. p.index) pairs.now) (entries_of bytes.now pairs.now)) }
+    ensures { IfOk result
+        (λ rows. HasRows seed bytes.now rows.items (map (λ p. p.index) pairs.now)
+        (entries_of bytes.now pairs.now)) }
 {
     let mut rows = Vec::with_capacity(alloc, pairs.len())?;
     let mut from = 0;
@@ -102,7 +105,8 @@ pub(crate) fn find(
     requires sorted { IsSortedBy (row_below directory.now.seed bytes.now) rows.now }
     requires ends { HasEnds bytes.now rows.now ends.now }
     requires starts { HasStarts rows.now directory.now.shift directory.now.starts.items }
-    ensures row { MatchOption result (HasNoRow bytes.now rows.now key.now) (λ r. Contains rows.now r × (row_key bytes.now r ≡ key.now)) }
+    ensures row { MatchOption result (HasNoRow bytes.now rows.now key.now)
+        (λ r. Contains rows.now r × (row_key bytes.now r ≡ key.now)) }
     ensures compared { (k : ℕ) → length rows.now < 2 ^ k → compared.new ≤ compared.old + max 8 k }
     ensures counted { compared.old ≤ compared.new }
 {
@@ -122,7 +126,8 @@ pub(crate) fn find(
 
 /// Finds the row with a key by comparing each row.
 fn scan(bytes: &[u8], rows: &[Row], key: &[u8], compared: &mut Visits) -> Option<Row>
-    ensures row { MatchOption result (HasNoRow bytes.now rows.now key.now) (λ r. Contains rows.now r × (row_key bytes.now r ≡ key.now)) }
+    ensures row { MatchOption result (HasNoRow bytes.now rows.now key.now)
+        (λ r. Contains rows.now r × (row_key bytes.now r ≡ key.now)) }
     ensures compared { compared.new ≤ compared.old + length rows.now }
     ensures counted { compared.old ≤ compared.new }
 {
@@ -147,7 +152,8 @@ fn search(
     requires hash { hash ≡ hash_of seed key.now }
     requires hashed { All (IsHashed seed bytes.now) rows.now }
     requires sorted { IsSortedBy (row_below seed bytes.now) rows.now }
-    ensures row { MatchOption result (HasNoRow bytes.now rows.now key.now) (λ r. Contains rows.now r × (row_key bytes.now r ≡ key.now)) }
+    ensures row { MatchOption result (HasNoRow bytes.now rows.now key.now)
+        (λ r. Contains rows.now r × (row_key bytes.now r ≡ key.now)) }
     ensures compared { (k : ℕ) → length rows.now < 2 ^ k → compared.new ≤ compared.old + k }
     ensures counted { compared.old ≤ compared.new }
 {

@@ -101,7 +101,8 @@ impl Table {
     pub fn get(&self, key: &[u8], visits: &mut Visits, compared: &mut Visits) -> &[usize]
         ensures indexes { result.now ≡ indexes_under self.now key.now }
         ensures visits { visits.new ≡ visits.old + 1 }
-        ensures compared { (k : ℕ) → length self.now < 2 ^ k → compared.new ≤ compared.old + max 8 k }
+        ensures compared { (k : ℕ) → length self.now < 2 ^ k
+            → compared.new ≤ compared.old + max 8 k }
         ensures counted { compared.old ≤ compared.new }
     {
         visits.tick();

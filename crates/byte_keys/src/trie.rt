@@ -54,7 +54,8 @@ impl Trie {
     /// Returns an error if memory runs out. The time is linear in the bytes of all texts, except that the texts are sorted. With no
     /// texts it allocates nothing.
     pub fn new(alloc: Global, anchor: Anchor, texts: Vec<Text>) -> Result<Trie, AllocError>
-        ensures { IfOk result (λ t. t ≡ record { anchor = anchor; entries = map entry_of texts.items }) }
+        ensures { IfOk result
+            (λ t. t ≡ record { anchor = anchor; entries = map entry_of texts.items }) }
     {
         let entries = Snapshot::of(&texts);
         if texts.is_empty() {
@@ -124,7 +125,10 @@ impl Trie {
 /// Returns texts as they are read from a side of a path, in order.
 fn sorted(anchor: Anchor, mut texts: Vec<Text>) -> Result<Vec<Text>, AllocError>
     ensures order { IfOk result (λ v. IsOrdered v.items 0 0 (length v.items)) }
-    ensures same { IfOk result (λ v. (w : List ℕ) → indexes_under (map entry_of v.items) w ≡ indexes_under (map (entry_from_anchor anchor) (map entry_of texts.items)) w) }
+    ensures same { IfOk result
+        (λ v. (w : List ℕ)
+        → indexes_under (map entry_of v.items) w
+        ≡ indexes_under (map (entry_from_anchor anchor) (map entry_of texts.items)) w) }
 {
     match anchor {
         Anchor::Start => {}

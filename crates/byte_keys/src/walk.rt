@@ -14,7 +14,8 @@ use bit_sets::{IndexSet, Visits};
 pub fn find(tree: &Tree, anchor: Anchor, path: &[u8], into: &mut IndexSet, visits: &mut Visits)
     requires { IsTree tree.now }
     ensures room { index_capacity into.new ≡ index_capacity into.old }
-    ensures found { HasAlso into.old into.new (along (under tree.now 0) (from_anchor anchor path.now)) }
+    ensures found { HasAlso into.old into.new
+        (along (under tree.now 0) (from_anchor anchor path.now)) }
     ensures visits { visits.new ≤ visits.old + (length path.now + 1) }
     ensures counted { visits.old ≤ visits.new }
 {

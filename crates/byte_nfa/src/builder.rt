@@ -118,7 +118,8 @@ impl Builder {
     /// Pushes a state that stays on each byte of the set, and goes on to a state without a byte. Returns its number.
     pub fn push_loop(&mut self, bytes: ByteSet, exit: usize) -> Result<usize, AllocError>
         requires { exit < size self.old }
-        ensures pushed { IfOk result (λ s. Pushes self.old self.new s (loop_state bytes (exit ∷ []))) }
+        ensures pushed { IfOk result
+            (λ s. Pushes self.old self.new s (loop_state bytes (exit ∷ []))) }
         ensures unchanged { OnErr result (self.new ≡ self.old) }
     {
         let at = self.states.len();
@@ -195,7 +196,8 @@ fn hold_set(
     recent: &mut Vec<u32>,
     bytes: ByteSet,
 ) -> Result<u32, AllocError>
-    ensures held { IfOk result (λ n. (n < length sets.new.items) × (set_at sets.new.items n ≡ bytes)) }
+    ensures held { IfOk result
+        (λ n. (n < length sets.new.items) × (set_at sets.new.items n ≡ bytes)) }
     ensures more { (more : List ByteSet) × (sets.new.items ≡ sets.old.items ++ more) }
 {
     let place = bytes.place();

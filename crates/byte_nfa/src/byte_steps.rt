@@ -61,7 +61,10 @@ impl ByteSteps {
     pub(crate) fn put(&mut self, bytes: &ByteSet, to: usize) -> Result<(), AllocError>
         requires { to < step_capacity self.old }
         ensures room { step_capacity self.new ≡ step_capacity self.old }
-        ensures leads { OnOk result ((b t : ℕ) → b < 256 → leads_to self.new b t ≡ ((has_byte bytes.now b && (t == to)) || leads_to self.old b t)) }
+        ensures leads { OnOk result
+            ((b t : ℕ) → b < 256
+            → leads_to self.new b t
+            ≡ ((has_byte bytes.now b && (t == to)) || leads_to self.old b t)) }
     {
         if bytes.is_everything() {
             self.by_every.put(to);
@@ -119,7 +122,8 @@ impl ByteSteps {
     pub fn add_to(&self, byte: u8, to: &mut StateSet)
         requires { state_capacity to.old ≡ step_capacity self.now }
         ensures room { state_capacity to.new ≡ state_capacity to.old }
-        ensures has { (t : ℕ) → has_state to.new t ≡ (leads_to self.now byte t || has_state to.old t) }
+        ensures has { (t : ℕ)
+            → has_state to.new t ≡ (leads_to self.now byte t || has_state to.old t) }
     {
         to.add(&self.by_every);
         for step in &self.by_some {

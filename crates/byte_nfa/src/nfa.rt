@@ -103,7 +103,8 @@ impl Nfa {
     /// Returns a number that the index of each end is below, as [`Nfa::index_count`] does. Its contract says this of each end.
     pub fn index_bound(&self) -> usize
         ensures bound { result ≡ self.now.index_count }
-        ensures below { (s k : ℕ) → state self.now.states s ≡ match_state k → k < self.now.index_count }
+        ensures below { (s k : ℕ) → state self.now.states s ≡ match_state k
+            → k < self.now.index_count }
     {
         self.index_count
     }
@@ -120,7 +121,8 @@ impl Nfa {
     pub fn start(&self, into: &mut StateSet)
         requires { size self.now ≤ state_capacity into.old }
         ensures room { state_capacity into.new ≡ state_capacity into.old }
-        ensures starts { (y : List ℕ) (k : ℕ) → AcceptsFrom self.now into.new y k ↔ IsReached self.now y k }
+        ensures starts { (y : List ℕ) (k : ℕ)
+            → AcceptsFrom self.now into.new y k ↔ IsReached self.now y k }
     {
         into.clear();
         into.put_all(&self.starts);
@@ -133,7 +135,9 @@ impl Nfa {
         requires into_capacity { self.now.index_count ≤ index_capacity into.old }
         ensures from_capacity { state_capacity from.new ≡ state_capacity from.old }
         ensures into_capacity { index_capacity into.new ≡ index_capacity into.old }
-        ensures ends { (k : ℕ) → IsTrue (has_index into.new k) ↔ (AcceptsFrom self.now from.old [] k ⊎ IsTrue (has_index into.old k)) }
+        ensures ends { (k : ℕ)
+            → IsTrue (has_index into.new k)
+            ↔ (AcceptsFrom self.now from.old [] k ⊎ IsTrue (has_index into.old k)) }
     {
         let mut limit = self.state_count();
         while limit > 0 {
@@ -153,7 +157,8 @@ impl Nfa {
     ///
     /// It reads each state.
     pub fn class_boundaries(&self) -> ByteSet
-        ensures { (b : ℕ) → b + 1 < 256 → IsFalse (has_byte result b) ↔ AreEquivalent self.now.states b (b + 1) }
+        ensures { (b : ℕ) → b + 1 < 256
+            → IsFalse (has_byte result b) ↔ AreEquivalent self.now.states b (b + 1) }
     {
         let mut changes = ByteSet::nothing();
         for state in &self.states {
@@ -203,8 +208,13 @@ impl Nfa {
         ensures from_capacity { state_capacity from.new ≡ state_capacity from.old }
         ensures into_capacity { step_capacity into.new ≡ step_capacity into.old }
         ensures below { GoesBelow s (state self.now.states s) }
-        ensures from { (t : ℕ) → has_state from.new t ≡ (goes_now (state self.now.states s) t || has_state from.old t) }
-        ensures into { OnOk result ((b t : ℕ) → b < 256 → leads_to into.new b t ≡ (goes_next (state self.now.states s) s (Some b) t || leads_to into.old b t)) }
+        ensures from { (t : ℕ)
+            → has_state from.new t
+            ≡ (goes_now (state self.now.states s) t || has_state from.old t) }
+        ensures into { OnOk result
+            ((b t : ℕ) → b < 256
+            → leads_to into.new b t
+            ≡ (goes_next (state self.now.states s) s (Some b) t || leads_to into.old b t)) }
     {
         self.states[s].put_steps(s, &self.sets, &self.targets, from, into)
     }

@@ -53,10 +53,18 @@ impl State {
         requires to_capacity { s < state_capacity to.old }
         ensures from_capacity { state_capacity from.new ≡ state_capacity from.old }
         ensures to_capacity { state_capacity to.new ≡ state_capacity to.old }
-        ensures from { (t : ℕ) → has_state from.new t ≡ (goes_now (of_state sets.now targets.now self.now) t || has_state from.old t) }
-        ensures to { (t : ℕ) → has_state to.new t ≡ (goes_next (of_state sets.now targets.now self.now) s (Some byte) t || has_state to.old t) }
-        ensures some { IsTrue result → (t : ℕ) × (t ≤ s) × IsTrue (goes_next (of_state sets.now targets.now self.now) s (Some byte) t) }
-        ensures none { IsFalse result → (t : ℕ) → goes_next (of_state sets.now targets.now self.now) s (Some byte) t ≡ false }
+        ensures from { (t : ℕ)
+            → has_state from.new t
+            ≡ (goes_now (of_state sets.now targets.now self.now) t || has_state from.old t) }
+        ensures to { (t : ℕ)
+            → has_state to.new t
+            ≡ (goes_next (of_state sets.now targets.now self.now) s (Some byte) t
+            || has_state to.old t) }
+        ensures some { IsTrue result
+            → (t : ℕ) × (t ≤ s)
+            × IsTrue (goes_next (of_state sets.now targets.now self.now) s (Some byte) t) }
+        ensures none { IsFalse result → (t : ℕ)
+            → goes_next (of_state sets.now targets.now self.now) s (Some byte) t ≡ false }
     {
         match self {
             State::Bytes(set, next) => {
@@ -98,8 +106,14 @@ impl State {
         requires into_capacity { s < step_capacity into.old }
         ensures from_capacity { state_capacity from.new ≡ state_capacity from.old }
         ensures into_capacity { step_capacity into.new ≡ step_capacity into.old }
-        ensures from { (t : ℕ) → has_state from.new t ≡ (goes_now (of_state sets.now targets.now self.now) t || has_state from.old t) }
-        ensures into { OnOk result ((b t : ℕ) → b < 256 → leads_to into.new b t ≡ (goes_next (of_state sets.now targets.now self.now) s (Some b) t || leads_to into.old b t)) }
+        ensures from { (t : ℕ)
+            → has_state from.new t
+            ≡ (goes_now (of_state sets.now targets.now self.now) t || has_state from.old t) }
+        ensures into { OnOk result
+            ((b t : ℕ) → b < 256
+            → leads_to into.new b t
+            ≡ (goes_next (of_state sets.now targets.now self.now) s (Some b) t
+            || leads_to into.old b t)) }
     {
         match self {
             State::Bytes(set, next) => into.put(set_of(sets, *set), *next),
@@ -118,10 +132,13 @@ impl State {
     /// Takes the steps of a state at the end of the text: puts into `from` what it goes on to without a byte. Returns its index
     /// if it is an end.
     pub fn follow_epsilons(&self, s: usize, targets: &[usize], from: &mut StateSet) -> Option<usize>
-        requires below { (sets : List ByteSet) × IsHeld sets targets.now self.now × GoesBelow s (of_state sets targets.now self.now) }
+        requires below { (sets : List ByteSet) × IsHeld sets targets.now self.now
+            × GoesBelow s (of_state sets targets.now self.now) }
         requires room { s < state_capacity from.old }
         ensures room { state_capacity from.new ≡ state_capacity from.old }
-        ensures from { (sets : List ByteSet) (t : ℕ) → has_state from.new t ≡ (goes_now (of_state sets targets.now self.now) t || has_state from.old t) }
+        ensures from { (sets : List ByteSet) (t : ℕ)
+            → has_state from.new t
+            ≡ (goes_now (of_state sets targets.now self.now) t || has_state from.old t) }
         ensures end { (sets : List ByteSet) → TellsEnd (of_state sets targets.now self.now) result }
     {
         match self {
@@ -140,9 +157,12 @@ impl State {
 
     /// Returns whether a state is an end, or goes on to a state of a set without a byte.
     pub fn is_accepting(&self, s: usize, targets: &[usize], accepting: &StateSet) -> bool
-        requires below { (sets : List ByteSet) × IsHeld sets targets.now self.now × GoesBelow s (of_state sets targets.now self.now) }
+        requires below { (sets : List ByteSet) × IsHeld sets targets.now self.now
+            × GoesBelow s (of_state sets targets.now self.now) }
         requires room { s < state_capacity accepting.now }
-        ensures { (sets : List ByteSet) → IsTrue result ↔ EndsBy (of_state sets targets.now self.now) (has_state accepting.now) }
+        ensures { (sets : List ByteSet)
+            → IsTrue result ↔ EndsBy (of_state sets targets.now self.now)
+            (has_state accepting.now) }
     {
         match self {
             State::Bytes(_, _) => false,
@@ -158,7 +178,8 @@ impl State {
         requires held { IsHeld sets.now targets.now self.now }
         requires below { GoesBelow s (of_state sets.now targets.now self.now) }
         requires room { s < state_capacity live.now }
-        ensures { IsTrue result ↔ LeadsBy (of_state sets.now targets.now self.now) s (has_state live.now) }
+        ensures { IsTrue result
+            ↔ LeadsBy (of_state sets.now targets.now self.now) s (has_state live.now) }
     {
         match self {
             State::Bytes(set, next) => is_in(live, *next) && set_of(sets, *set).has_some(),
@@ -176,10 +197,13 @@ impl State {
         accepting: &StateSet,
         bytes: ByteSet,
     ) -> ByteSet
-        requires below { (targets : List ℕ) × IsHeld sets.now targets self.now × GoesBelow s (of_state sets.now targets self.now) }
+        requires below { (targets : List ℕ) × IsHeld sets.now targets self.now
+            × GoesBelow s (of_state sets.now targets self.now) }
         requires room { s < state_capacity accepting.now }
         ensures keeps { (c : ℕ) → IsTrue (has_byte bytes c) → IsTrue (has_byte result c) }
-        ensures last { (targets : List ℕ) (c t : ℕ) → IsTrue (goes_next (of_state sets.now targets self.now) s (Some c) t) → IsTrue (has_state accepting.now t) → IsTrue (has_byte result c) }
+        ensures last { (targets : List ℕ) (c t : ℕ)
+            → IsTrue (goes_next (of_state sets.now targets self.now) s (Some c) t)
+            → IsTrue (has_state accepting.now t) → IsTrue (has_byte result c) }
     {
         match self {
             State::Bytes(set, next) if is_in(accepting, *next) => bytes.with_all(set_of(
@@ -193,7 +217,8 @@ impl State {
     /// Returns a set with each byte `b` more for which a state reads or stays on one of `b` and `b + 1`, and not both.
     pub fn add_boundaries(&self, sets: &[ByteSet], bytes: ByteSet) -> ByteSet
         requires { (targets : List ℕ) × IsHeld sets.now targets self.now }
-        ensures { (targets : List ℕ) → HasAlsoBoundaries (of_state sets.now targets self.now) bytes result }
+        ensures { (targets : List ℕ)
+            → HasAlsoBoundaries (of_state sets.now targets self.now) bytes result }
     {
         match self {
             State::Bytes(set, _) => bytes.with_boundaries(set_of(sets, *set)),
@@ -205,8 +230,10 @@ impl State {
 
     /// Returns the only state that a state goes on to, if it stays on every byte.
     pub fn only_exit(&self, s: usize, sets: &[ByteSet]) -> Option<usize>
-        requires below { (targets : List ℕ) × IsHeld sets.now targets self.now × GoesBelow s (of_state sets.now targets self.now) }
-        ensures exit { (targets : List ℕ) → TellsExit (of_state sets.now targets self.now) s result }
+        requires below { (targets : List ℕ) × IsHeld sets.now targets self.now
+            × GoesBelow s (of_state sets.now targets self.now) }
+        ensures exit { (targets : List ℕ)
+            → TellsExit (of_state sets.now targets self.now) s result }
     {
         match self {
             State::Loop(set, exit) if set_of(sets, *set).is_everything() => Some(*exit),
@@ -216,7 +243,8 @@ impl State {
 
     /// Returns a number that nothing that a state goes on to is below, or `None` if it is an end.
     pub fn least_next(&self, s: usize, targets: &[usize]) -> Option<usize>
-        requires below { (sets : List ByteSet) × IsHeld sets targets.now self.now × GoesBelow s (of_state sets targets.now self.now) }
+        requires below { (sets : List ByteSet) × IsHeld sets targets.now self.now
+            × GoesBelow s (of_state sets targets.now self.now) }
         ensures { (sets : List ByteSet) → TellsLeast (of_state sets targets.now self.now) result }
     {
         match self {
@@ -256,7 +284,8 @@ pub fn is_in(set: &StateSet, state: usize) -> bool
 /// Returns whether one of several states is in a set.
 fn has_any(set: &StateSet, states: &[usize]) -> bool
     requires { AreBelow (state_capacity set.now) states.now }
-    ensures { IsTrue result ↔ ((t : ℕ) × IsTrue (has_number t states.now) × IsTrue (has_state set.now t)) }
+    ensures { IsTrue result
+        ↔ ((t : ℕ) × IsTrue (has_number t states.now) × IsTrue (has_state set.now t)) }
 {
     for state in states {
         if is_in(set, *state) {

@@ -64,7 +64,9 @@ impl FileRules {
         start: usize,
         decisions: &mut [Decision],
     ) -> Result<(), Error>
-        ensures put { OnOk result (ArePut (λ folder. decision (file_value self.old).file folder true) path.now start decisions.old decisions.new) }
+        ensures put { OnOk result
+            (ArePut (λ folder. decision (file_value self.old).file folder true) path.now start
+            decisions.old decisions.new) }
         ensures kept { self.new ≡ self.old }
         ensures err { IfErr result (λ e. e ≡ out_of_memory) }
     {

@@ -48,7 +48,8 @@ impl FolderRules {
         most_bytes: usize,
         scratch: &mut IgnoreScratch,
     ) -> Result<FolderRules, Error>
-        ensures file { IfOk result (λ r. file_of r ≡ record { folder = folder.now; bytes = file.now }) }
+        ensures file { IfOk result
+            (λ r. file_of r ≡ record { folder = folder.now; bytes = file.now }) }
         ensures fits { IfOk result (λ r. FitsRules scratch.new (file_value r.rules)) }
         ensures others { FitsAsBefore scratch.old scratch.new }
         ensures err { IfErr result (λ e. e ≡ out_of_memory) }
@@ -79,7 +80,8 @@ impl FolderRules {
     /// folder, unless there is a decision already. All other items stay as they are. Returns an error if memory runs out.
     fn decide_folders(&mut self, path: &[u8], decisions: &mut [Decision]) -> Result<(), Error>
         requires { length path.now ≤ length decisions.old }
-        ensures added { OnOk result (IsFileAdded (file_of self.old) path.now decisions.old decisions.new) }
+        ensures added { OnOk result
+            (IsFileAdded (file_of self.old) path.now decisions.old decisions.new) }
         ensures kept { self.new ≡ self.old }
         ensures err { IfErr result (λ e. e ≡ out_of_memory) }
     {
@@ -128,7 +130,8 @@ pub fn decide_below(
     requires fits { FitAll scratch.old files.old }
     requires within { start ≤ length path.now }
     requires above { is_below_ignored (files_of files.old) (take start path.now) ≡ false }
-    ensures decision { IfOk result (λ d. d ≡ decision_below (files_of files.old) path.now is_folder) }
+    ensures decision { IfOk result
+        (λ d. d ≡ decision_below (files_of files.old) path.now is_folder) }
     ensures files { files.new ≡ files.old }
     ensures scratch { scratch.new ≡ scratch.old }
     ensures err { IfErr result (λ e. e ≡ out_of_memory) }
@@ -151,7 +154,8 @@ fn ignores_above(
     requires fits { FitAll scratch.old files.old }
     requires within { start ≤ length path.now }
     requires above { is_below_ignored (files_of files.old) (take start path.now) ≡ false }
-    ensures ignored { IfOk result (λ ignored. ignored ≡ is_below_ignored (files_of files.old) path.now) }
+    ensures ignored { IfOk result
+        (λ ignored. ignored ≡ is_below_ignored (files_of files.old) path.now) }
     ensures files { files.new ≡ files.old }
     ensures scratch { scratch.new ≡ scratch.old }
     ensures err { IfErr result (λ e. e ≡ out_of_memory) }
@@ -215,7 +219,9 @@ fn ignores_folder(
 ) -> bool
     requires fits { FitAll scratch.old files.old }
     requires within { end < length path.now }
-    ensures ignored { result ≡ (slice_index path.now end == 47 && ignores (files_decision (files_of files.old) (take end path.now) true)) }
+    ensures ignored { result
+        ≡ (slice_index path.now end == 47
+        && ignores (files_decision (files_of files.old) (take end path.now) true)) }
     ensures files { files.new ≡ files.old }
     ensures scratch { scratch.new ≡ scratch.old }
 {
@@ -231,7 +237,8 @@ fn ignores_above_at_once(
 ) -> Result<bool, Error>
     requires within { start ≤ length path.now }
     requires above { is_below_ignored (files_of files.old) (take start path.now) ≡ false }
-    ensures ignored { IfOk result (λ ignored. ignored ≡ is_below_ignored (files_of files.old) path.now) }
+    ensures ignored { IfOk result
+        (λ ignored. ignored ≡ is_below_ignored (files_of files.old) path.now) }
     ensures files { files.new ≡ files.old }
     ensures err { IfErr result (λ e. e ≡ out_of_memory) }
 {
@@ -248,7 +255,8 @@ fn ignores_above_at_once(
 fn is_ignored_at(path: &[u8], decisions: &[Decision], end: usize) -> bool
     requires within { end < length path.now }
     requires known { end < length decisions.now }
-    ensures { result ≡ (slice_index path.now end == 47 && ignores (get_or decisions.now end Undecided)) }
+    ensures { result ≡ (slice_index path.now end == 47
+        && ignores (get_or decisions.now end Undecided)) }
 {
     path[end] == b'/' && decisions[end].is_ignored()
 }
@@ -262,7 +270,8 @@ fn decide_folders(
     path: &[u8],
 ) -> Result<Vec<Decision>, Error>
     ensures count { IfOk result (λ decisions. length decisions.items ≡ length path.now) }
-    ensures decisions { IfOk result (λ decisions. AreOfFiles (files_of files.old) path.now decisions.items) }
+    ensures decisions { IfOk result
+        (λ decisions. AreOfFiles (files_of files.old) path.now decisions.items) }
     ensures files { files.new ≡ files.old }
     ensures err { IfErr result (λ e. e ≡ out_of_memory) }
 {

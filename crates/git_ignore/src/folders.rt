@@ -23,7 +23,8 @@ pub fn put_decisions(
     decisions: &mut [Decision],
 )
     requires { FitsPrefixes states.old prefixes.now }
-    ensures put { ArePut (said_of_folder prefixes.now.globs entries.now) path.now start decisions.old decisions.new }
+    ensures put { ArePut (said_of_folder prefixes.now.globs entries.now) path.now start
+        decisions.old decisions.new }
     ensures fits { FitsPrefixes states.new prefixes.now }
 {
     prefixes.start(states);
@@ -43,8 +44,10 @@ fn next_decision(
     before: Decision,
 ) -> Decision
     requires { FitsPrefixes states.old prefixes.now }
-    ensures decision { (read : List ℕ) → IsAfter prefixes.now states.old read → result ≡ put_at byte before (said_of_folder prefixes.now.globs entries.now read) }
-    ensures same { (read : List ℕ) → IsAfter prefixes.now states.old read → IsAfter prefixes.now states.new read }
+    ensures decision { (read : List ℕ) → IsAfter prefixes.now states.old read
+        → result ≡ put_at byte before (said_of_folder prefixes.now.globs entries.now read) }
+    ensures same { (read : List ℕ) → IsAfter prefixes.now states.old read
+        → IsAfter prefixes.now states.new read }
     ensures fits { FitsPrefixes states.new prefixes.now }
 {
     if byte != b'/' {

@@ -6,7 +6,7 @@ ghost use Rattle.globset.specs.SetValue.{set_globs};
 ghost use Rattle.ignore_pattern.specs.Lines.{lines_of, without_byte_order_mark};
 ghost use Rattle.ignore_pattern.specs.Patterns.{read_pattern};
 ghost use Rattle.git_ignore.specs.Rules.{Rule, rules_from};
-ghost use Rattle.git_ignore.specs.inner.Entries.{AreEntriesOf, rule_at};
+ghost use Rattle.git_ignore.specs.inner.Entries.{AddsRules, AreEntriesOf, rule_at};
 
 use crate::entry::RuleEntry;
 use glob_prefixes::{PrefixMatcher, PrefixMatcherBuilder};
@@ -52,7 +52,9 @@ impl RulesBuilder {
     /// Adds the rules of some lines, the first of which has the number 1. Returns an error if memory runs out, and no other.
     pub fn push_lines(&mut self, alloc: Global, bytes: &[u8]) -> Result<(), Error>
         requires { AreEntriesOf [] self.old.globs.items self.old.entries.items }
-        ensures rules { OnOk result (AreEntriesOf (rules_from 1 (lines_of bytes.now)) self.new.globs.items self.new.entries.items) }
+        ensures rules { OnOk result
+            (AreEntriesOf (rules_from 1 (lines_of bytes.now)) self.new.globs.items
+            self.new.entries.items) }
         ensures err { IfErr result (λ e. e ≡ out_of_memory) }
     {
         let mut rest = bytes;
@@ -67,8 +69,9 @@ impl RulesBuilder {
 
     /// Adds the rule of a line, if it has one. Returns an error if memory runs out, and no other.
     fn push_line(&mut self, alloc: Global, number: usize, line: &[u8]) -> Result<(), Error>
-        ensures rule { OnOk result ((done : List Rule) → AreEntriesOf done self.old.globs.items self.old.entries.items →
-            AreEntriesOf (done ++ rule_at number (read_pattern line.now)) self.new.globs.items self.new.entries.items) }
+        ensures rule { OnOk result
+            (AddsRules (rule_at number (read_pattern line.now)) self.old.globs.items
+            self.old.entries.items self.new.globs.items self.new.entries.items) }
         ensures err { IfErr result (λ e. e ≡ out_of_memory) }
     {
         match pattern_of_line(alloc, line)? {
@@ -79,9 +82,16 @@ impl RulesBuilder {
 
     /// Adds a rule. Returns an error if memory runs out, and no other.
     fn push_rule(&mut self, line: usize, pattern: IgnorePattern) -> Result<(), Error>
-        ensures glob { OnOk result (self.new.globs.items ≡ self.old.globs.items ++ pattern.glob ∷ []) }
-        ensures entry { OnOk result (self.new.entries.items ≡ self.old.entries.items
-            ++ record { line = line; is_negated = pattern.is_negated; is_folders_only = pattern.is_folders_only } ∷ []) }
+        ensures glob { OnOk result
+            (self.new.globs.items ≡ self.old.globs.items ++ pattern.glob ∷ []) }
+        ensures entry { OnOk result
+            (self.new.entries.items
+            ≡ self.old.entries.items
+            ++ record {
+              line = line;
+              is_negated = pattern.is_negated;
+              is_folders_only = pattern.is_folders_only;
+            } ∷ []) }
         ensures err { IfErr result (λ e. e ≡ out_of_memory) }
     {
         let IgnorePattern {

@@ -125,7 +125,9 @@ impl Rules {
         start: usize,
         decisions: &mut [Decision],
     ) -> Result<(), Error>
-        ensures put { OnOk result (ArePut (λ folder. decision self.now.file folder true) path.now start decisions.old decisions.new) }
+        ensures put { OnOk result
+            (ArePut (λ folder. decision self.now.file folder true) path.now start decisions.old
+            decisions.new) }
         ensures kept { OnErr result (decisions.new ≡ decisions.old) }
         ensures err { IfErr result (λ e. e ≡ out_of_memory) }
     {
@@ -149,7 +151,8 @@ impl Rules {
         scratch: &mut IgnoreScratch,
     ) -> Option<RuleEntry>
         requires { FitsRules scratch.old self.now }
-        ensures entry { result ≡ entry_of_rule (last_rule path.now is_folder (rules_of self.now.file)) }
+        ensures entry { result
+            ≡ entry_of_rule (last_rule path.now is_folder (rules_of self.now.file)) }
         ensures scratch { scratch.new ≡ scratch.old }
     {
         let path = Candidate::from_bytes(path);

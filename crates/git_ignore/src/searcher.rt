@@ -111,7 +111,8 @@ impl RulesSearcher {
 
     /// Decides about all folders above a path at once, as [`Rules::decide_folders`] does.
     pub fn decide_folders(&mut self, path: &[u8], start: usize, decisions: &mut [Decision])
-        ensures put { ArePut (λ folder. decision self.old.file folder true) path.now start decisions.old decisions.new }
+        ensures put { ArePut (λ folder. decision self.old.file folder true) path.now start
+            decisions.old decisions.new }
         ensures kept { self.new ≡ self.old }
     {
         self.stored
@@ -120,7 +121,8 @@ impl RulesSearcher {
 
     /// Returns the entry of the last rule that applies to a path.
     fn last_entry(&mut self, path: &[u8], is_folder: bool) -> Option<RuleEntry>
-        ensures entry { result ≡ entry_of_rule (last_rule path.now is_folder (rules_of self.old.file)) }
+        ensures entry { result
+            ≡ entry_of_rule (last_rule path.now is_folder (rules_of self.old.file)) }
         ensures kept { self.new ≡ self.old }
     {
         self.searcher.find(&Candidate::from_bytes(path));

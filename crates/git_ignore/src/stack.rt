@@ -163,7 +163,9 @@ impl IgnoreStack {
     /// Returns an error if memory runs out, and no other: the folder's path is put before it, and a path with more than 256
     /// folders takes memory for decisions about them.
     pub fn decide(&mut self, path: &[u8], is_folder: bool) -> Result<Decision, Error>
-        ensures decision { IfOk result (λ d. d ≡ decision_below (stack_files self.old) (self.old.here.path ++ path.now) is_folder) }
+        ensures decision { IfOk result
+            (λ d. d ≡ decision_below (stack_files self.old) (self.old.here.path ++ path.now)
+            is_folder) }
         ensures same { self.new ≡ self.old }
         ensures err { IfErr result (λ e. e ≡ out_of_memory) }
     {
@@ -186,7 +188,9 @@ impl IgnoreStack {
 
     /// Goes down into a folder of this name, which is ignored or not. Returns an error if memory runs out; nothing changed then.
     fn push_level(&mut self, name: &[u8], is_ignored: bool) -> Result<(), AllocError>
-        requires { is_ignored ≡ ignores (decision_below (stack_files self.old) (self.old.here.path ++ name.now) true) }
+        requires { is_ignored
+            ≡ ignores (decision_below (stack_files self.old) (self.old.here.path ++ name.now)
+            true) }
         ensures entered { OnOk result (self.new ≡ entered self.old name.now) }
         ensures kept { OnErr result (self.new ≡ self.old) }
     {

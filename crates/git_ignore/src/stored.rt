@@ -119,7 +119,8 @@ impl StoredRules {
         decisions: &mut [Decision],
     )
         requires { FitsPrefixes states.old self.now.prefixes }
-        ensures put { ArePut (λ folder. decision self.now.file folder true) path.now start decisions.old decisions.new }
+        ensures put { ArePut (λ folder. decision self.now.file folder true) path.now start
+            decisions.old decisions.new }
         ensures fits { FitsPrefixes states.new self.now.prefixes }
     {
         put_decisions(

@@ -316,7 +316,9 @@ impl Compiled {
         sets: &mut StateSets,
         visits: &mut Visits,
     ) -> Result<bool, AllocError>
-        ensures some { IfOk result (λ yes. (xs : List IndexedTokens) → IsFor self.now xs → IsTrue yes ↔ SomeMeanAfter xs (text.now ++ byte ∷ [])) }
+        ensures some { IfOk result
+            (λ yes. (xs : List IndexedTokens) → IsFor self.now xs
+            → IsTrue yes ↔ SomeMeanAfter xs (text.now ++ byte ∷ [])) }
         ensures kept { sets_capacity sets.old ≤ sets_capacity sets.new }
         ensures memory { size self.now ≤ sets_capacity sets.old → IsOk result }
         ensures visits { visits.new ≤ visits.old + (length text.now + 2) * size self.now }
@@ -344,7 +346,9 @@ impl Compiled {
     ) -> Result<bool, AllocError>
         requires { IfSome cache.old (λ c. c ≡ self.now) }
         ensures cache { cache.new ≡ cache.old }
-        ensures some { IfOk result (λ yes. (xs : List IndexedTokens) → IsFor self.now xs → IsTrue yes ↔ SomeMeanAfter xs (text.now ++ byte ∷ [])) }
+        ensures some { IfOk result
+            (λ yes. (xs : List IndexedTokens) → IsFor self.now xs
+            → IsTrue yes ↔ SomeMeanAfter xs (text.now ++ byte ∷ [])) }
         ensures kept { sets_capacity sets.old ≤ sets_capacity sets.new }
         ensures memory { size self.now ≤ sets_capacity sets.old → IsOk result }
         ensures visits { visits.new ≤ visits.old + (length text.now + 2) * size self.now }

@@ -76,7 +76,9 @@ impl Filtered {
     ) -> Result<(), AllocError>
         requires { self.now.index_count ≤ index_capacity found.old }
         ensures room { index_capacity found.new ≡ index_capacity found.old }
-        ensures found { OnOk result ((k : ℕ) → IsTrue (has_index found.new k) ↔ (IsReached self.now text.now k ⊎ IsTrue (has_index found.old k))) }
+        ensures found { OnOk result
+            ((k : ℕ) → IsTrue (has_index found.new k)
+            ↔ (IsReached self.now text.now k ⊎ IsTrue (has_index found.old k))) }
         ensures kept { sets_capacity sets.old ≤ sets_capacity sets.new }
         ensures memory { size self.now ≤ sets_capacity sets.old → IsOk result }
         ensures visits { visits.new ≤ visits.old + (length text.now + 1) * max_reads self.now }
@@ -122,7 +124,9 @@ impl Filtered {
         visits: &mut Visits,
     ) -> Result<bool, AllocError>
         ensures rows { rows.new ≡ rows.old }
-        ensures marked { IfOk result (λ few. IsTrue few → (k : ℕ) → IsReached self.now text.now k ↔ IsReachedMarked self.now sets.new.starts text.now k) }
+        ensures marked { IfOk result
+            (λ few. IsTrue few → (k : ℕ)
+            → IsReached self.now text.now k ↔ IsReachedMarked self.now sets.new.starts text.now k) }
         ensures room { IfOk result (λ few. IsTrue few → size self.now ≤ sets_capacity sets.new) }
         ensures kept { sets_capacity sets.old ≤ sets_capacity sets.new }
         ensures memory { size self.now ≤ sets_capacity sets.old → IsOk result }
@@ -152,8 +156,12 @@ impl Filtered {
         requires found_capacity { self.now.index_count ≤ index_capacity found.old }
         ensures room { sets_capacity sets.new ≡ sets_capacity sets.old }
         ensures found_capacity { index_capacity found.new ≡ index_capacity found.old }
-        ensures found { (k : ℕ) → IsTrue (has_index found.new k) ↔ (IsReachedMarked self.now sets.old.starts text.now k ⊎ IsTrue (has_index found.old k)) }
-        ensures visits { visits.new ≤ visits.old + (length text.now + 1) * size self.now + 2 * length self.now.starts }
+        ensures found { (k : ℕ)
+            → IsTrue (has_index found.new k)
+            ↔ (IsReachedMarked self.now sets.old.starts text.now k
+            ⊎ IsTrue (has_index found.old k)) }
+        ensures visits { visits.new
+            ≤ visits.old + (length text.now + 1) * size self.now + 2 * length self.now.starts }
         ensures counted { visits.old ≤ visits.new }
     {
         find_from_marked(&self.automaton, text, sets, found, visits);
@@ -163,8 +171,10 @@ impl Filtered {
     pub fn is_match_marked(&self, text: &[u8], sets: &mut StateSets, visits: &mut Visits) -> bool
         requires { size self.now ≤ sets_capacity sets.old }
         ensures room { sets_capacity sets.new ≡ sets_capacity sets.old }
-        ensures some { IsTrue result ↔ ((k : ℕ) × IsReachedMarked self.now sets.old.starts text.now k) }
-        ensures visits { visits.new ≤ visits.old + (length text.now + 1) * size self.now + 2 * length self.now.starts }
+        ensures some { IsTrue result
+            ↔ ((k : ℕ) × IsReachedMarked self.now sets.old.starts text.now k) }
+        ensures visits { visits.new
+            ≤ visits.old + (length text.now + 1) * size self.now + 2 * length self.now.starts }
         ensures counted { visits.old ≤ visits.new }
     {
         is_match_from_marked(&self.automaton, text, sets, visits)
@@ -184,7 +194,8 @@ impl Filtered {
         sets: &mut StateSets,
         visits: &mut Visits,
     ) -> Result<bool, AllocError>
-        ensures some { IfOk result (λ yes. IsTrue yes ↔ MatchesAfter self.now (text.now ++ byte ∷ [])) }
+        ensures some { IfOk result
+            (λ yes. IsTrue yes ↔ MatchesAfter self.now (text.now ++ byte ∷ [])) }
         ensures kept { sets_capacity sets.old ≤ sets_capacity sets.new }
         ensures memory { size self.now ≤ sets_capacity sets.old → IsOk result }
         ensures visits { visits.new ≤ visits.old + (length text.now + 2) * size self.now }
@@ -213,7 +224,8 @@ fn has_at_most(most: usize, set: &IndexSet, bound: usize) -> bool {
 /// Returns a filter for an automaton, or `None` if there are fewer than four starts, or if a run from one start comes to states
 /// of another. Returns an error if memory runs out. It takes time and memory linear in the states.
 pub fn filter_for(alloc: Global, automaton: &Nfa) -> Result<Option<StartFilter>, AllocError>
-    ensures { IfOk result (λ made. IfSome made (λ filter. IsFilterOf automaton.now filter × AreApart automaton.now)) }
+    ensures { IfOk result
+        (λ made. IfSome made (λ filter. IsFilterOf automaton.now filter × AreApart automaton.now)) }
 {
     if !are_apart(automaton) {
         return Ok(None);
@@ -281,7 +293,9 @@ fn mark(
 ) -> Result<(), AllocError>
     requires filter { IsFilterOf automaton.now filter.now }
     requires apart { AreApart automaton.now }
-    ensures marked { OnOk result ((k : ℕ) → IsReached automaton.now text.now k ↔ IsReachedMarked automaton.now sets.new.starts text.now k) }
+    ensures marked { OnOk result
+        ((k : ℕ) → IsReached automaton.now text.now k
+        ↔ IsReachedMarked automaton.now sets.new.starts text.now k) }
     ensures room { OnOk result (size automaton.now ≤ sets_capacity sets.new) }
     ensures kept { sets_capacity sets.old ≤ sets_capacity sets.new }
     ensures memory { size automaton.now ≤ sets_capacity sets.old → IsOk result }
@@ -307,8 +321,13 @@ fn find_from_marked(
     requires found_capacity { automaton.now.index_count ≤ index_capacity found.old }
     ensures room { sets_capacity sets.new ≡ sets_capacity sets.old }
     ensures found_capacity { index_capacity found.new ≡ index_capacity found.old }
-    ensures found { (k : ℕ) → IsTrue (has_index found.new k) ↔ (IsReachedMarked automaton.now sets.old.starts text.now k ⊎ IsTrue (has_index found.old k)) }
-    ensures visits { visits.new ≤ visits.old + (length text.now + 1) * size automaton.now + 2 * length automaton.now.starts }
+    ensures found { (k : ℕ)
+        → IsTrue (has_index found.new k)
+        ↔ (IsReachedMarked automaton.now sets.old.starts text.now k
+        ⊎ IsTrue (has_index found.old k)) }
+    ensures visits { visits.new
+        ≤ visits.old + (length text.now + 1) * size automaton.now
+        + 2 * length automaton.now.starts }
     ensures counted { visits.old ≤ visits.new }
 {
     let count = automaton.start_count();
@@ -330,8 +349,11 @@ fn is_match_from_marked(
     requires apart { AreApart automaton.now }
     requires room { size automaton.now ≤ sets_capacity sets.old }
     ensures room { sets_capacity sets.new ≡ sets_capacity sets.old }
-    ensures some { IsTrue result ↔ ((k : ℕ) × IsReachedMarked automaton.now sets.old.starts text.now k) }
-    ensures visits { visits.new ≤ visits.old + (length text.now + 1) * size automaton.now + 2 * length automaton.now.starts }
+    ensures some { IsTrue result
+        ↔ ((k : ℕ) × IsReachedMarked automaton.now sets.old.starts text.now k) }
+    ensures visits { visits.new
+        ≤ visits.old + (length text.now + 1) * size automaton.now
+        + 2 * length automaton.now.starts }
     ensures counted { visits.old ≤ visits.new }
 {
     let count = automaton.start_count();

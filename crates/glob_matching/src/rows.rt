@@ -199,7 +199,8 @@ impl RowCache {
     /// It is at most `(text bytes + 2) * states` visits. It takes no memory.
     pub fn can_match_after(&mut self, text: &[u8], byte: u8, visits: &mut Visits) -> bool
         ensures same { self.new ≡ self.old }
-        ensures some { (xs : List IndexedTokens) → IsFor self.old xs → IsTrue result ↔ SomeMeanAfter xs (text.now ++ byte ∷ []) }
+        ensures some { (xs : List IndexedTokens) → IsFor self.old xs
+            → IsTrue result ↔ SomeMeanAfter xs (text.now ++ byte ∷ []) }
         ensures visits { visits.new ≤ visits.old + (length text.now + 2) * size self.old }
         ensures counted { visits.old ≤ visits.new }
     {

@@ -114,7 +114,8 @@ impl Scratch {
     pub fn new<S: NeedsScratch>(alloc: Global, set: &S) -> Result<Scratch, Error>
         ensures states { IfOk result (λ scratch. scratch.states ≡ S.states set.now) }
         ensures indexes { IfOk result (λ scratch. scratch.indexes ≡ S.indexes set.now) }
-        ensures fits { IfOk result (λ scratch. HasCapacity scratch (S.states set.now) (S.indexes set.now)) }
+        ensures fits { IfOk result
+            (λ scratch. HasCapacity scratch (S.states set.now) (S.indexes set.now)) }
         ensures err { IfErr result (λ e. e ≡ out_of_memory) }
     {
         let mut scratch = Scratch::empty(alloc);
@@ -141,11 +142,13 @@ impl Scratch {
     /// assert!(rt; tests.is_match_with(&path, &mut scratch, &mut visits));
     /// ```
     pub fn fit<S: NeedsScratch>(&mut self, set: &S) -> Result<(), Error>
-        ensures raised { OnOk result (self.new ≡ raised self.old (S.states set.now) (S.indexes set.now)) }
+        ensures raised { OnOk result
+            (self.new ≡ raised self.old (S.states set.now) (S.indexes set.now)) }
         ensures fits { OnOk result (HasCapacity self.new (S.states set.now) (S.indexes set.now)) }
         ensures kept { OnErr result (self.new ≡ self.old) }
         ensures others { FitsAsBefore self.old self.new }
-        ensures succeeds_if_fits { HasCapacity self.old (S.states set.now) (S.indexes set.now) → IsOk result }
+        ensures succeeds_if_fits { HasCapacity self.old (S.states set.now) (S.indexes set.now)
+            → IsOk result }
         ensures err { IfErr result (λ e. e ≡ out_of_memory) }
     {
         let states = self.states.max(set.states_needed().ok_or(AllocError)?);

@@ -22,7 +22,9 @@ pub fn find(
 ) -> Result<(), AllocError>
     requires { automaton.now.index_count ≤ index_capacity found.old }
     ensures room { index_capacity found.new ≡ index_capacity found.old }
-    ensures found { OnOk result ((k : ℕ) → IsTrue (has_index found.new k) ↔ (IsReached automaton.now text.now k ⊎ IsTrue (has_index found.old k))) }
+    ensures found { OnOk result
+        ((k : ℕ) → IsTrue (has_index found.new k)
+        ↔ (IsReached automaton.now text.now k ⊎ IsTrue (has_index found.old k))) }
     ensures kept { sets_capacity sets.old ≤ sets_capacity sets.new }
     ensures memory { size automaton.now ≤ sets_capacity sets.old → IsOk result }
     ensures visits { visits.new ≤ visits.old + (length text.now + 1) * size automaton.now }
@@ -41,7 +43,8 @@ pub fn is_match(
     sets: &mut StateSets,
     visits: &mut Visits,
 ) -> Result<bool, AllocError>
-    ensures some { IfOk result (λ yes. IsTrue yes ↔ ((k : ℕ) × IsReached automaton.now text.now k)) }
+    ensures some { IfOk result
+        (λ yes. IsTrue yes ↔ ((k : ℕ) × IsReached automaton.now text.now k)) }
     ensures kept { sets_capacity sets.old ≤ sets_capacity sets.new }
     ensures memory { size automaton.now ≤ sets_capacity sets.old → IsOk result }
     ensures visits { visits.new ≤ visits.old + (length text.now + 1) * size automaton.now }
@@ -60,7 +63,8 @@ pub fn can_match_after(
     sets: &mut StateSets,
     visits: &mut Visits,
 ) -> Result<bool, AllocError>
-    ensures some { IfOk result (λ yes. IsTrue yes ↔ MatchesAfter automaton.now (text.now ++ byte ∷ [])) }
+    ensures some { IfOk result
+        (λ yes. IsTrue yes ↔ MatchesAfter automaton.now (text.now ++ byte ∷ [])) }
     ensures kept { sets_capacity sets.old ≤ sets_capacity sets.new }
     ensures memory { size automaton.now ≤ sets_capacity sets.old → IsOk result }
     ensures visits { visits.new ≤ visits.old + (length text.now + 2) * size automaton.now }

@@ -112,7 +112,9 @@ impl Table {
     pub fn find(&self, text: &[u8], found: &mut IndexSet, visits: &mut Visits)
         requires { self.now.index_count ≤ index_capacity found.old }
         ensures room { index_capacity found.new ≡ index_capacity found.old }
-        ensures found { (k : ℕ) → IsTrue (has_index found.new k) ↔ (IsReached self.now text.now k ⊎ IsTrue (has_index found.old k)) }
+        ensures found { (k : ℕ)
+            → IsTrue (has_index found.new k)
+            ↔ (IsReached self.now text.now k ⊎ IsTrue (has_index found.old k)) }
         ensures visits { visits.new ≤ visits.old + (length text.now + 1) * max_reads self.now }
         ensures counted { visits.old ≤ visits.new }
     {

@@ -64,12 +64,19 @@ struct FirstBytes {
 /// Adds the states that read the last byte of a character, the last two and the last three, where these may be any.
 fn add_last_bytes(builder: &mut Builder, exit: usize) -> Result<LastBytes, AllocError>
     requires { exit < size builder.old }
-    ensures within { IfOk result (λ r. (r.one < size builder.new) × (r.two < size builder.new) × (r.three < size builder.new)) }
+    ensures within { IfOk result
+        (λ r. (r.one < size builder.new) × (r.two < size builder.new)
+        × (r.three < size builder.new)) }
     ensures count { OnOk result (size builder.new ≡ size builder.old + 3) }
     ensures grows { Grows builder.old builder.new }
-    ensures one { IfOk result (λ r. BuildsRow (continues ∷ []) builder.old.states builder.new.states r.one exit) }
-    ensures two { IfOk result (λ r. BuildsRow (continues ∷ continues ∷ []) builder.old.states builder.new.states r.two exit) }
-    ensures three { IfOk result (λ r. BuildsRow (continues ∷ continues ∷ continues ∷ []) builder.old.states builder.new.states r.three exit) }
+    ensures one { IfOk result
+        (λ r. BuildsRow (continues ∷ []) builder.old.states builder.new.states r.one exit) }
+    ensures two { IfOk result
+        (λ r. BuildsRow (continues ∷ continues ∷ []) builder.old.states builder.new.states r.two
+        exit) }
+    ensures three { IfOk result
+        (λ r. BuildsRow (continues ∷ continues ∷ continues ∷ []) builder.old.states
+        builder.new.states r.three exit) }
 {
     let bytes = bytes_between(0x80, 0xBF);
     let one = builder.push_bytes(bytes, exit)?;
@@ -89,7 +96,9 @@ fn add_first_two(
     ensures within { IfOk result (λ s. s < size builder.new) }
     ensures count { OnOk result (size builder.new ≡ size builder.old + 2) }
     ensures grows { Grows builder.old builder.new }
-    ensures builds { IfOk result (λ s. BuildsRow (is_between (first, first) ∷ is_between second ∷ []) builder.old.states builder.new.states s next) }
+    ensures builds { IfOk result
+        (λ s. BuildsRow (is_between (first, first) ∷ is_between second ∷ []) builder.old.states
+        builder.new.states s next) }
 {
     let then = builder.push_bytes(bytes_between(second.0, second.1), next)?;
     builder.push_bytes(bytes_between(first, first), then)
@@ -100,12 +109,19 @@ fn add_first_two(
 fn add_three_bytes(builder: &mut Builder, one: usize, two: usize) -> Result<FirstBytes, AllocError>
     requires one { one < size builder.old }
     requires two { two < size builder.old }
-    ensures within { IfOk result (λ r. (r.low < size builder.new) × (r.middle < size builder.new) × (r.high < size builder.new)) }
+    ensures within { IfOk result
+        (λ r. (r.low < size builder.new) × (r.middle < size builder.new)
+        × (r.high < size builder.new)) }
     ensures count { OnOk result (size builder.new ≡ size builder.old + 5) }
     ensures grows { Grows builder.old builder.new }
-    ensures low { IfOk result (λ r. BuildsRow (is_between (0xE0, 0xE0) ∷ is_between (0xA0, 0xBF) ∷ []) builder.old.states builder.new.states r.low one) }
-    ensures middle { IfOk result (λ r. BuildsRow (begins_three ∷ []) builder.old.states builder.new.states r.middle two) }
-    ensures high { IfOk result (λ r. BuildsRow (is_between (0xED, 0xED) ∷ is_between (0x80, 0x9F) ∷ []) builder.old.states builder.new.states r.high one) }
+    ensures low { IfOk result
+        (λ r. BuildsRow (is_between (0xE0, 0xE0) ∷ is_between (0xA0, 0xBF) ∷ []) builder.old.states
+        builder.new.states r.low one) }
+    ensures middle { IfOk result
+        (λ r. BuildsRow (begins_three ∷ []) builder.old.states builder.new.states r.middle two) }
+    ensures high { IfOk result
+        (λ r. BuildsRow (is_between (0xED, 0xED) ∷ is_between (0x80, 0x9F) ∷ []) builder.old.states
+        builder.new.states r.high one) }
 {
     let low = add_first_two(builder, 0xE0, (0xA0, 0xBF), one)?;
     let high = add_first_two(builder, 0xED, (0x80, 0x9F), one)?;
@@ -118,12 +134,20 @@ fn add_three_bytes(builder: &mut Builder, one: usize, two: usize) -> Result<Firs
 fn add_four_bytes(builder: &mut Builder, two: usize, three: usize) -> Result<FirstBytes, AllocError>
     requires two { two < size builder.old }
     requires three { three < size builder.old }
-    ensures within { IfOk result (λ r. (r.low < size builder.new) × (r.middle < size builder.new) × (r.high < size builder.new)) }
+    ensures within { IfOk result
+        (λ r. (r.low < size builder.new) × (r.middle < size builder.new)
+        × (r.high < size builder.new)) }
     ensures count { OnOk result (size builder.new ≡ size builder.old + 5) }
     ensures grows { Grows builder.old builder.new }
-    ensures low { IfOk result (λ r. BuildsRow (is_between (0xF0, 0xF0) ∷ is_between (0x90, 0xBF) ∷ []) builder.old.states builder.new.states r.low two) }
-    ensures middle { IfOk result (λ r. BuildsRow (is_between (0xF1, 0xF3) ∷ []) builder.old.states builder.new.states r.middle three) }
-    ensures high { IfOk result (λ r. BuildsRow (is_between (0xF4, 0xF4) ∷ is_between (0x80, 0x8F) ∷ []) builder.old.states builder.new.states r.high two) }
+    ensures low { IfOk result
+        (λ r. BuildsRow (is_between (0xF0, 0xF0) ∷ is_between (0x90, 0xBF) ∷ []) builder.old.states
+        builder.new.states r.low two) }
+    ensures middle { IfOk result
+        (λ r. BuildsRow (is_between (0xF1, 0xF3) ∷ []) builder.old.states builder.new.states
+        r.middle three) }
+    ensures high { IfOk result
+        (λ r. BuildsRow (is_between (0xF4, 0xF4) ∷ is_between (0x80, 0x8F) ∷ []) builder.old.states
+        builder.new.states r.high two) }
 {
     let low = add_first_two(builder, 0xF0, (0x90, 0xBF), two)?;
     let high = add_first_two(builder, 0xF4, (0x80, 0x8F), two)?;
@@ -141,7 +165,8 @@ pub fn add_character(
     ensures within { IfOk result (λ s. s < size builder.new) }
     ensures count { OnOk result (size builder.new ≡ size builder.old + 16) }
     ensures grows { Grows builder.old builder.new }
-    ensures builds { IfOk result (λ s. BuildsCharacter options builder.old.states builder.new.states s exit) }
+    ensures builds { IfOk result
+        (λ s. BuildsCharacter options builder.old.states builder.new.states s exit) }
 {
     let last = add_last_bytes(builder, exit)?;
     let ascii = builder.push_bytes(ascii_bytes(options), exit)?;

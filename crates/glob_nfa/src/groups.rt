@@ -75,7 +75,8 @@ impl Frame {
 
     /// Returns what the group skips to: its kept branches, or its exit if it has none.
     fn targets(self) -> Result<Vec<usize>, AllocError>
-        ensures { IfOk result (λ targets. targets.items ≡ targets_of (frame_of self).starts self.exit) }
+        ensures { IfOk result
+            (λ targets. targets.items ≡ targets_of (frame_of self).starts self.exit) }
     {
         let mut targets = self.starts;
         if targets.is_empty() {
@@ -111,9 +112,11 @@ pub fn add_sequence(
     requires nested { IsNested (flats tokens.now) }
     requires exit { exit < size builder.old }
     ensures within { IfOk result (λ s. s < size builder.new) }
-    ensures count { OnOk result (size builder.new ≤ size builder.old + weight options (tokens_of tokens.now)) }
+    ensures count { OnOk result
+        (size builder.new ≤ size builder.old + weight options (tokens_of tokens.now)) }
     ensures grows { Grows builder.old builder.new }
-    ensures builds { IfOk result (λ s. Builds options (tokens_of tokens.now) builder.old.states builder.new.states s exit) }
+    ensures builds { IfOk result
+        (λ s. Builds options (tokens_of tokens.now) builder.old.states builder.new.states s exit) }
 {
     let mut frame = Frame::new(alloc, exit);
     let mut around = Vec::new(alloc);

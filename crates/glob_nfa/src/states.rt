@@ -62,7 +62,8 @@ fn add_text(
     ensures within { IfOk result (λ s. s < size builder.new) }
     ensures count { OnOk result (size builder.new ≡ size builder.old + length bytes.now) }
     ensures grows { Grows builder.old builder.new }
-    ensures builds { IfOk result (λ s. BuildsText options bytes.now builder.old.states builder.new.states s exit) }
+    ensures builds { IfOk result
+        (λ s. BuildsText options bytes.now builder.old.states builder.new.states s exit) }
 {
     let mut at = exit;
     for i in 0..bytes.len() {
@@ -90,7 +91,8 @@ fn add_any(builder: &mut Builder, options: Options, exit: usize) -> Result<usize
     ensures within { IfOk result (λ s. s < size builder.new) }
     ensures count { OnOk result (size builder.new ≡ size builder.old + any_weight options) }
     ensures grows { Grows builder.old builder.new }
-    ensures builds { IfOk result (λ s. BuildsToken options Any builder.old.states builder.new.states s exit) }
+    ensures builds { IfOk result
+        (λ s. BuildsToken options Any builder.old.states builder.new.states s exit) }
 {
     if options.whole_character {
         add_character(builder, options, exit)
@@ -110,9 +112,11 @@ pub fn add_token(
     requires simple { IsSimple (flat_of token.now) }
     requires exit { exit < size builder.old }
     ensures within { IfOk result (λ s. s < size builder.new) }
-    ensures count { OnOk result (size builder.new ≤ size builder.old + flat_weight options (flat_of token.now)) }
+    ensures count { OnOk result
+        (size builder.new ≤ size builder.old + flat_weight options (flat_of token.now)) }
     ensures grows { Grows builder.old builder.new }
-    ensures builds { IfOk result (λ s. BuildsFlat options (flat_of token.now) builder.old.states builder.new.states s exit) }
+    ensures builds { IfOk result
+        (λ s. BuildsFlat options (flat_of token.now) builder.old.states builder.new.states s exit) }
 {
     match token {
         Token::Literal(c) => {

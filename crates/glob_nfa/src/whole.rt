@@ -37,9 +37,12 @@ fn add_whole(
     requires nested { IsNested (flats tokens.now) }
     requires index { index < builder.old.index_count }
     ensures within { IfOk result (λ s. s < size builder.new) }
-    ensures count { OnOk result (size builder.new ≤ size builder.old + (weight options (tokens_of tokens.now) + 1)) }
+    ensures count { OnOk result
+        (size builder.new ≤ size builder.old + (weight options (tokens_of tokens.now) + 1)) }
     ensures grows { Grows builder.old builder.new }
-    ensures builds { IfOk result (λ s. BuildsWhole options (tokens_of tokens.now) index builder.old.states builder.new.states s) }
+    ensures builds { IfOk result
+        (λ s. BuildsWhole options (tokens_of tokens.now) index builder.old.states builder.new.states
+        s) }
 {
     let end = builder.push_match(index)?;
     if is_prefix_alone(tokens) {
@@ -65,11 +68,17 @@ pub fn add_tokens(
 ) -> Result<(), AllocError>
     requires nested { IsNested (flats tokens.now) }
     requires index { index < builder.old.index_count }
-    ensures tokens { OnOk result ((xs : List IndexedTokens) → IsFor builder.old xs → IsFor builder.new (xs ++ indexed options (tokens_of tokens.now) index ∷ [])) }
-    ensures kept { OnErr result ((xs : List IndexedTokens) → IsFor builder.old xs → IsFor builder.new xs) }
+    ensures tokens { OnOk result
+        ((xs : List IndexedTokens) → IsFor builder.old xs
+        → IsFor builder.new (xs ++ indexed options (tokens_of tokens.now) index ∷ [])) }
+    ensures kept { OnErr result
+        ((xs : List IndexedTokens) → IsFor builder.old xs → IsFor builder.new xs) }
     ensures index_count { builder.new.index_count ≡ builder.old.index_count }
-    ensures size { OnOk result (size builder.new ≤ size builder.old + (weight options (tokens_of tokens.now) + 1)) }
-    ensures reads { OnOk result (max_reads builder.new ≤ max_reads builder.old + (weight options (tokens_of tokens.now) + 4)) }
+    ensures size { OnOk result
+        (size builder.new ≤ size builder.old + (weight options (tokens_of tokens.now) + 1)) }
+    ensures reads { OnOk result
+        (max_reads builder.new
+        ≤ max_reads builder.old + (weight options (tokens_of tokens.now) + 4)) }
 {
     let start = add_whole(alloc, builder, options, tokens, index)?;
     builder.add_start(start)?;

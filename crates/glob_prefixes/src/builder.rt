@@ -72,7 +72,8 @@ impl PrefixMatcherBuilder {
         ensures glob { OnOk result (self.new.globs ≡ self.old.globs ++ glob.now ∷ []) }
         ensures kept { OnErr result (self.new.globs ≡ self.old.globs) }
         ensures count { max_globs self.new ≡ max_globs self.old }
-        ensures states { OnOk result (prefix_states self.new ≤ prefix_states self.old + cost glob.now) }
+        ensures states { OnOk result
+            (prefix_states self.new ≤ prefix_states self.old + cost glob.now) }
     {
         let (options, tokens) = (options_of(glob), tokens_of(glob));
         add_tokens(self.alloc, &mut self.automaton, options, tokens, self.added)?;

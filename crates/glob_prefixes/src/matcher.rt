@@ -73,7 +73,8 @@ impl PrefixMatcher {
     /// Reads a byte more. It is at most one visit for each state.
     pub fn push(&self, byte: u8, states: &mut PrefixStates, visits: &mut Visits)
         requires { FitsPrefixes states.old self.now }
-        ensures after { (text : List ℕ) → IsAfter self.now states.old text → IsAfter self.now states.new (text ++ byte ∷ []) }
+        ensures after { (text : List ℕ) → IsAfter self.now states.old text
+            → IsAfter self.now states.new (text ++ byte ∷ []) }
         ensures fits { FitAsBefore states.old states.new }
         ensures visits { visits.new ≤ visits.old + prefix_states self.now }
         ensures counted { visits.old ≤ visits.new }
@@ -86,7 +87,8 @@ impl PrefixMatcher {
     /// Reads some bytes more. It is at most `bytes * states` visits.
     pub fn push_all(&self, bytes: &[u8], states: &mut PrefixStates, visits: &mut Visits)
         requires { FitsPrefixes states.old self.now }
-        ensures after { (text : List ℕ) → IsAfter self.now states.old text → IsAfter self.now states.new (text ++ bytes.now) }
+        ensures after { (text : List ℕ) → IsAfter self.now states.old text
+            → IsAfter self.now states.new (text ++ bytes.now) }
         ensures fits { FitAsBefore states.old states.new }
         ensures visits { visits.new ≤ visits.old + length bytes.now * prefix_states self.now }
         ensures counted { visits.old ≤ visits.new }
@@ -102,8 +104,10 @@ impl PrefixMatcher {
     /// Excluded globs are found as others are, which a set leaves out.
     pub fn matches(&self, states: &mut PrefixStates, visits: &mut Visits)
         requires { FitsPrefixes states.old self.now }
-        ensures matching { (text : List ℕ) → IsAfter self.now states.old text → matching_of states.new ≡ all_matching_indexes self.now.globs text }
-        ensures after { (text : List ℕ) → IsAfter self.now states.old text → IsAfter self.now states.new text }
+        ensures matching { (text : List ℕ) → IsAfter self.now states.old text
+            → matching_of states.new ≡ all_matching_indexes self.now.globs text }
+        ensures after { (text : List ℕ) → IsAfter self.now states.old text
+            → IsAfter self.now states.new text }
         ensures fits { FitAsBefore states.old states.new }
         ensures visits { visits.new ≤ visits.old + prefix_states self.now }
         ensures counted { visits.old ≤ visits.new }

@@ -103,7 +103,8 @@ fn sensitive_strategy(
     tokens: &[Token],
 ) -> Result<MatchStrategy, AllocError>
     requires { IsNested (flats tokens.now) }
-    ensures { IfOk result (λ strategy. strategy_seen strategy ≡ sensitive_strategy options (tokens_of tokens.now)) }
+    ensures { IfOk result
+        (λ strategy. strategy_seen strategy ≡ sensitive_strategy options (tokens_of tokens.now)) }
 {
     if is_whole_path(tokens) {
         return Ok(MatchStrategy::Key(Key::WholePath(literal_text(alloc, tokens)?)));

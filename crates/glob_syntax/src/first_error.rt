@@ -13,8 +13,10 @@ use std::alloc::{AllocError, Global};
 
 /// Returns the text from its first error on, if it has one.
 fn from_error<'a>(options: Options, text: &'a [char]) -> Option<&'a [char]>
-    ensures value { option_map (λ l. l.now) result ≡ option_map (λ e. e.1) (first_error options text.now) }
-    ensures within { IfSome result (λ l. length (encode_utf8_all l.now) ≤ length (encode_utf8_all text.now)) }
+    ensures value { option_map (λ l. l.now) result
+        ≡ option_map (λ e. e.1) (first_error options text.now) }
+    ensures within { IfSome result
+        (λ l. length (encode_utf8_all l.now) ≤ length (encode_utf8_all text.now)) }
 {
     let mut depth = 0;
     let mut closable = true;

@@ -28,8 +28,11 @@ fn push_lexeme(
     tokens: &mut Vec<Token>,
     position: Position<'_, '_>,
 ) -> Result<usize, AllocError>
-    requires { Follows (flats tokens.old.items) (lexeme_of position.lexeme ∷ lexemes_of position.after.now) }
-    ensures read { IfOk result (λ more. ReadsPiece tokens.old.items position.entry.start position.entry.lexeme position.entry.after.now tokens.new.items more) }
+    requires { Follows (flats tokens.old.items)
+        (lexeme_of position.lexeme ∷ lexemes_of position.after.now) }
+    ensures read { IfOk result
+        (λ more. ReadsPiece tokens.old.items position.entry.start position.entry.lexeme
+        position.entry.after.now tokens.new.items more) }
     ensures within { IfOk result (λ more. more ≤ length position.entry.after.now) }
 {
     match position.lexeme {

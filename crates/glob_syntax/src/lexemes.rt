@@ -20,7 +20,8 @@ pub fn nested_lexeme<'a>(
     lexeme: Lexeme<'a>,
 ) -> Result<(usize, Lexeme<'a>), ParseErrorKind>
     requires { depth + 1 < 2 ^ 64 }
-    ensures value { map_ok (λ s. (s.0, lexeme_of s.1)) result ≡ nested_lexeme depth (lexeme_of lexeme.entry) }
+    ensures value { map_ok (λ s. (s.0, lexeme_of s.1)) result
+        ≡ nested_lexeme depth (lexeme_of lexeme.entry) }
     ensures one_more { IfOk result (λ s. s.0 ≤ depth + 1) }
 {
     match lexeme {
@@ -45,7 +46,8 @@ pub fn lex<'a>(
     options: Options,
     text: &'a [char],
 ) -> Result<Vec<Lexeme<'a>>, ReadError>
-    ensures { AgreesWith (λ v. lexemes_of v.items) result (nested zero (lexemes options zero text.now)) }
+    ensures { AgreesWith (λ v. lexemes_of v.items) result
+        (nested zero (lexemes options zero text.now)) }
 {
     let mut out = Vec::with_capacity(alloc, text.len())?;
     let mut depth = 0;

@@ -46,7 +46,8 @@ pub fn read_tokens(alloc: Global, options: Options, text: &str) -> Result<Vec<To
     ensures value { AgreesWith (λ v. tokens_of v.items) result (reading options (chars text.now)) }
     ensures nested { IfOk result (λ v. IsNested (flats v.items)) }
     ensures well_formed { IfOk result (λ v. AreWellFormed (tokens_of v.items)) }
-    ensures weight { IfOk result (λ v. weight options (tokens_of v.items) ≤ states_per_byte options * length text.now) }
+    ensures weight { IfOk result
+        (λ v. weight options (tokens_of v.items) ≤ states_per_byte options * length text.now) }
 {
     let characters = characters(alloc, text)?;
     let lexemes = lex(alloc, options, &characters)?;

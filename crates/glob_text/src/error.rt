@@ -70,7 +70,8 @@ impl Error {
         text: &str,
         parse_error_kind: ParseErrorKind,
     ) -> Error
-        ensures { (result ≡ out_of_memory) ⊎ (result ≡ parse_error options text.now parse_error_kind) }
+        ensures { (result ≡ out_of_memory)
+            ⊎ (result ≡ parse_error options text.now parse_error_kind) }
     {
         let Ok(offset) = error_offset(alloc, options, text) else {
             return Error::out_of_memory();

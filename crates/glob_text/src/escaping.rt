@@ -26,8 +26,11 @@ use std::alloc::{AllocError, Global};
 /// ```
 pub fn escape(alloc: Global, text: &str) -> Result<String, Error>
     ensures text { IfOk result (λ s. string_bytes s ≡ escaped text.now) }
-    ensures escape_default { IfOk result (λ s. IsTrue (has_no_backslash text.now) → MeansOnly (default_glob (string_bytes s)) text.now) }
-    ensures escape_plain { IfOk result (λ s. MeansOnly (record { text = string_bytes s; options = plain_options }) text.now) }
+    ensures escape_default { IfOk result
+        (λ s. IsTrue (has_no_backslash text.now)
+        → MeansOnly (default_glob (string_bytes s)) text.now) }
+    ensures escape_plain { IfOk result
+        (λ s. MeansOnly (record { text = string_bytes s; options = plain_options }) text.now) }
     ensures err { IfErr result (λ e. e ≡ out_of_memory) }
 {
     let mut out = String::new(alloc);
@@ -39,7 +42,8 @@ pub fn escape(alloc: Global, text: &str) -> Result<String, Error>
 
 /// Appends a character, in brackets if it is special.
 fn push_escaped(out: &mut String, c: char) -> Result<(), AllocError>
-    ensures { OnOk result (string_bytes out.new ≡ string_bytes out.old ++ encode_utf8_all (escaped_char c)) }
+    ensures { OnOk result
+        (string_bytes out.new ≡ string_bytes out.old ++ encode_utf8_all (escaped_char c)) }
 {
     if is_special(c) {
         out.push('[')?;

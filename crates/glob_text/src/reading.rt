@@ -22,7 +22,8 @@ pub fn tokens_of_text(alloc: Global, options: Options, text: &str) -> Result<Vec
     ensures read { IfOk result (λ v. reading options (chars text.now) ≡ Ok (tokens_of v.items)) }
     ensures nested { IfOk result (λ v. IsNested (flats v.items)) }
     ensures well_formed { IfOk result (λ v. AreWellFormed (tokens_of v.items)) }
-    ensures weight { IfOk result (λ v. weight options (tokens_of v.items) ≤ states_per_byte options * length text.now) }
+    ensures weight { IfOk result
+        (λ v. weight options (tokens_of v.items) ≤ states_per_byte options * length text.now) }
     ensures err { IfErr result (IsParseErrorOf options text.now) }
 {
     match read_tokens(alloc, options, text) {

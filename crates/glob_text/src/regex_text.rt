@@ -51,7 +51,9 @@ fn push_body(
     tokens: &[Token],
 ) -> Result<(), AllocError>
     requires { IsNested (flats tokens.now) }
-    ensures { OnOk result (string_bytes text.new ≡ string_bytes text.old ++ body_text options (tokens_of tokens.now)) }
+    ensures { OnOk result
+        (string_bytes text.new
+        ≡ string_bytes text.old ++ body_text options (tokens_of tokens.now)) }
 {
     if is_prefix_alone(tokens) {
         text.push_str(".*")
@@ -79,7 +81,9 @@ fn push_tokens(
     tokens: &[Token],
 ) -> Result<(), AllocError>
     requires { IsNested (flats tokens.now) }
-    ensures { OnOk result (string_bytes text.new ≡ string_bytes text.old ++ tokens_text options (tokens_of tokens.now)) }
+    ensures { OnOk result
+        (string_bytes text.new
+        ≡ string_bytes text.old ++ tokens_text options (tokens_of tokens.now)) }
 {
     push_each(text, options, tokens, &mut Vec::new(alloc))
 }
@@ -95,7 +99,9 @@ fn push_each(
 ) -> Result<(), AllocError>
     requires nested { IsNested (flats tokens.now) }
     requires none { groups.old.items ≡ [] }
-    ensures { OnOk result (string_bytes text.new ≡ string_bytes text.old ++ tokens_text options (tokens_of tokens.now)) }
+    ensures { OnOk result
+        (string_bytes text.new
+        ≡ string_bytes text.old ++ tokens_text options (tokens_of tokens.now)) }
 {
     let mut kept = false;
     for token in tokens {
@@ -136,7 +142,9 @@ fn start_branch(
     outer_kept: bool,
 ) -> Result<(), AllocError>
     ensures text { OnOk result (string_bytes text.new ≡ string_bytes text.old ++ opener first) }
-    ensures group { OnOk result (groups.new.items ≡ groups.old.items ++ record { len = string_len text.old; first = first; outer_kept = outer_kept } ∷ []) }
+    ensures group { OnOk result
+        (groups.new.items ≡ groups.old.items
+        ++ record { len = string_len text.old; first = first; outer_kept = outer_kept } ∷ []) }
 {
     let len = text.len();
     text.push_str(if first { "(?:" } else { "|" })?;
@@ -152,7 +160,9 @@ fn start_branch(
 /// branch of the group has been written.
 fn end_branch(text: &mut String, options: Options, group: OpenGroup, kept: bool) -> bool
     requires { IsSplitPoint (string_bytes text.old) group.len }
-    ensures text { string_bytes text.new ≡ chosen (options.empty_alternates || kept) (string_bytes text.old) (take group.len (string_bytes text.old)) }
+    ensures text { string_bytes text.new
+        ≡ chosen (options.empty_alternates || kept) (string_bytes text.old)
+        (take group.len (string_bytes text.old)) }
     ensures none { result ≡ (group.first && not (options.empty_alternates || kept)) }
 {
     if options.empty_alternates || kept {
@@ -176,7 +186,8 @@ fn end_group(text: &mut String, group: OpenGroup, none: bool) -> Result<bool, Al
 /// Pushes the text of a token that is no brace or comma.
 fn push_simple(text: &mut String, options: Options, token: &Token) -> Result<(), AllocError>
     requires { IsSimple (flat_of token.now) }
-    ensures { OnOk result (string_bytes text.new ≡ string_bytes text.old ++ simple_text options (flat_of token.now)) }
+    ensures { OnOk result
+        (string_bytes text.new ≡ string_bytes text.old ++ simple_text options (flat_of token.now)) }
 {
     match token {
         Token::Literal(c) => push_char(text, *c),
@@ -216,7 +227,9 @@ fn push_any(text: &mut String, options: Options) -> Result<(), AllocError>
 
 /// Pushes the text of a `?` that matches a whole character.
 fn push_character(text: &mut String, options: Options) -> Result<(), AllocError>
-    ensures { OnOk result (string_bytes text.new ≡ string_bytes text.old ++ group_text (ascii_text options ∷ longer_texts)) }
+    ensures { OnOk result
+        (string_bytes text.new
+        ≡ string_bytes text.old ++ group_text (ascii_text options ∷ longer_texts)) }
 {
     text.push_str(ascii_characters(options))?;
     text.push_str(LONGER_CHARACTERS)?;
@@ -236,7 +249,9 @@ fn ascii_characters(options: Options) -> &'static str
 
 /// Pushes the text of a class.
 fn push_class(text: &mut String, class: &Class) -> Result<(), AllocError>
-    ensures { OnOk result (string_bytes text.new ≡ string_bytes text.old ++ class_text class.now.negated class.now.ranges) }
+    ensures { OnOk result
+        (string_bytes text.new
+        ≡ string_bytes text.old ++ class_text class.now.negated class.now.ranges) }
 {
     text.push_str(if class.negated() { "[^" } else { "[" })?;
     for range in class.ranges() {

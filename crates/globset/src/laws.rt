@@ -67,8 +67,9 @@ pub fn failed_add_keeps(builder: &mut GlobSetBuilder, glob: Glob) -> Result<(), 
 /// assert!(rt; builder.build()?.is_match(if first { "a" } else { "b" })?);
 /// ```
 pub fn add_after_error(builder: &mut GlobSetBuilder, glob: Glob, other: Glob) -> Result<bool, Error>
-    ensures ok { IfOk result (λ first.
-        builder_globs builder.new ≡ builder_globs builder.old ++ (if first then glob else other) ∷ []) }
+    ensures ok { IfOk result
+        (λ first. builder_globs builder.new
+        ≡ builder_globs builder.old ++ (if first then glob else other) ∷ []) }
     ensures kept { OnErr result (builder_globs builder.new ≡ builder_globs builder.old) }
     ensures err { IfErr result (λ e. e ≡ out_of_memory) }
 {

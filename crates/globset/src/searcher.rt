@@ -125,7 +125,8 @@ impl Searcher {
     pub fn is_match_visits(&mut self, path: &Candidate<'_>, visits: &mut Visits) -> bool
         ensures some { IsTrue result ↔ (matching_indexes (set_globs self.old.set) path.now ≢ []) }
         ensures kept { self.new ≡ self.old }
-        ensures visits { visits.new ≤ visits.old + max_set_visits (set_globs self.old.set) path.now }
+        ensures visits { visits.new
+            ≤ visits.old + max_set_visits (set_globs self.old.set) path.now }
         ensures counted { visits.old ≤ visits.new }
         ensures no_visits_if_empty { set_globs self.old.set ≡ [] → visits.new ≡ visits.old }
     {
@@ -138,7 +139,8 @@ impl Searcher {
     /// Returns whether every glob matches the candidate's path and none is excluded, as [`GlobSet::matches_all_candidate`] does.
     pub fn matches_all(&mut self, path: &Candidate<'_>) -> bool
         ensures all { IsTrue result
-            ↔ ContainsAllBelow (matching_indexes (set_globs self.old.set) path.now) (length (set_globs self.old.set)) }
+            ↔ ContainsAllBelow (matching_indexes (set_globs self.old.set) path.now)
+            (length (set_globs self.old.set)) }
         ensures kept { self.new ≡ self.old }
     {
         let mut visits = Visits::new();
@@ -149,9 +151,11 @@ impl Searcher {
     /// [`GlobSet::matches_all_visits`] may.
     pub fn matches_all_visits(&mut self, path: &Candidate<'_>, visits: &mut Visits) -> bool
         ensures all { IsTrue result
-            ↔ ContainsAllBelow (matching_indexes (set_globs self.old.set) path.now) (length (set_globs self.old.set)) }
+            ↔ ContainsAllBelow (matching_indexes (set_globs self.old.set) path.now)
+            (length (set_globs self.old.set)) }
         ensures kept { self.new ≡ self.old }
-        ensures visits { visits.new ≤ visits.old + max_set_visits (set_globs self.old.set) path.now }
+        ensures visits { visits.new
+            ≤ visits.old + max_set_visits (set_globs self.old.set) path.now }
         ensures counted { visits.old ≤ visits.new }
         ensures no_visits_if_empty { set_globs self.old.set ≡ [] → visits.new ≡ visits.old }
     {
@@ -176,7 +180,8 @@ impl Searcher {
     pub fn find_visits(&mut self, path: &Candidate<'_>, visits: &mut Visits)
         ensures found { self.new.found ≡ matching_indexes (set_globs self.old.set) path.now }
         ensures set { self.new.set ≡ self.old.set }
-        ensures visits { visits.new ≤ visits.old + max_set_visits (set_globs self.old.set) path.now }
+        ensures visits { visits.new
+            ≤ visits.old + max_set_visits (set_globs self.old.set) path.now }
         ensures counted { visits.old ≤ visits.new }
         ensures no_visits_if_empty { set_globs self.old.set ≡ [] → visits.new ≡ visits.old }
     {
@@ -242,7 +247,8 @@ impl Searcher {
     pub fn can_match_below_visits(&mut self, folder: &Candidate<'_>, visits: &mut Visits) -> bool
         ensures some { IsTrue result ↔ MatchesBelow (set_globs self.old.set) folder.now }
         ensures kept { self.new ≡ self.old }
-        ensures visits { visits.new ≤ visits.old + max_set_visits_below (set_globs self.old.set) folder.now }
+        ensures visits { visits.new
+            ≤ visits.old + max_set_visits_below (set_globs self.old.set) folder.now }
         ensures counted { visits.old ≤ visits.new }
         ensures no_visits_if_empty { set_globs self.old.set ≡ [] → visits.new ≡ visits.old }
     {

@@ -126,8 +126,10 @@ impl GlobSet {
         globs: I,
     ) -> Result<GlobSet, Error>
     where
-        requires { (s : I.IntoIter) → I.into_iter_gives globs s → I.IntoIter.can_next s × IsFinite (I.IntoIter.remaining s) }
-        ensures ok { IfOk result (λ set. (s : I.IntoIter) × (xs : List (Bor GlobValue)) × I.into_iter_gives globs s
+        requires { (s : I.IntoIter) → I.into_iter_gives globs s
+            → I.IntoIter.can_next s × IsFinite (I.IntoIter.remaining s) }
+        ensures ok { IfOk result
+            (λ set. (s : I.IntoIter) × (xs : List (Bor GlobValue)) × I.into_iter_gives globs s
             × Drains I.IntoIter.next_gives s xs × (set_globs set ≡ map (λ g. g.now) xs)) }
         ensures err { IfErr result (λ e. e ≡ out_of_memory) }
     {

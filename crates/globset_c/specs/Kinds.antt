@@ -37,6 +37,10 @@ abbrev pub IfSearcher : Option Object → (SearcherValue → Type 0) → Type 0
 IfSearcher (Some (Searcher s)) P = P s
 IfSearcher _ P = ⊥
 
+-- both are searchers, and P of them
+abbrev pub IfSearchers : Option Object → Option Object → (SearcherValue → SearcherValue → Type 0) → Type 0
+IfSearchers old new P = IfSearcher old (λ s. IfSearcher new (λ t. P s t))
+
 abbrev pub IsGlob : Option Object → Type 0
 IsGlob o = IfGlob o (λ _. ⊤)
 

@@ -26,11 +26,12 @@ pub extern "C" fn globset_raw_set_matches_all(
     ensures same_set { set.new ≡ set.old }
     ensures yes { result ≡ YES → IfSet (Some set.old.object) (λ s. IsAll s path.now) }
     ensures no { result ≡ NO → IfSet (Some set.old.object) (λ s. ¬ (IsAll s path.now)) }
-    ensures fits { IfSet (Some set.old.object) (λ s. IfWork work.old.object (λ w. Fits w.scratch s)) →
-        (result ≡ YES) ⊎ (result ≡ NO) }
+    ensures fits { IfSet (Some set.old.object) (λ s. IfWork work.old.object (λ w. Fits w.scratch s))
+        → (result ≡ YES) ⊎ (result ≡ NO) }
     ensures grown { IsGrown work.old.object work.new.object }
     ensures same_of_wrong_kind { result ≡ WRONG_KIND → work.new.object ≡ work.old.object }
-    ensures right_kind { IsSet (Some set.old.object) → IsWork work.old.object → result ≢ WRONG_KIND }
+    ensures right_kind { IsSet (Some set.old.object) → IsWork work.old.object
+        → result ≢ WRONG_KIND }
     ensures other_kind { ¬ (IsSet (Some set.old.object)) → result ≡ WRONG_KIND }
     ensures no_work { ¬ (IsWork work.old.object) → result ≡ WRONG_KIND }
     ensures statuses { IsOneOf (NO ∷ YES ∷ OUT_OF_MEMORY ∷ WRONG_KIND ∷ []) result }
@@ -46,11 +47,12 @@ pub extern "C" fn globset_raw_set_matches_all(
 fn matches_all_of(object: &Object, boxed: Box<Object>, path: &[u8]) -> (Box<Object>, Status)
     ensures yes { result.1 ≡ YES → IfSet (Some object.now) (λ s. IsAll s path.now) }
     ensures no { result.1 ≡ NO → IfSet (Some object.now) (λ s. ¬ (IsAll s path.now)) }
-    ensures fits { IfSet (Some object.now) (λ s. IfWork (Some boxed.value) (λ w. Fits w.scratch s)) →
-        (result.1 ≡ YES) ⊎ (result.1 ≡ NO) }
+    ensures fits { IfSet (Some object.now) (λ s. IfWork (Some boxed.value) (λ w. Fits w.scratch s))
+        → (result.1 ≡ YES) ⊎ (result.1 ≡ NO) }
     ensures grown { IsGrown (Some boxed.value) (Some result.0.value) }
     ensures same_of_wrong_kind { result.1 ≡ WRONG_KIND → result.0.value ≡ boxed.value }
-    ensures right_kind { IsSet (Some object.now) → IsWork (Some boxed.value) → result.1 ≢ WRONG_KIND }
+    ensures right_kind { IsSet (Some object.now) → IsWork (Some boxed.value)
+        → result.1 ≢ WRONG_KIND }
     ensures other_kind { ¬ (IsSet (Some object.now)) → result.1 ≡ WRONG_KIND }
     ensures no_work { ¬ (IsWork (Some boxed.value)) → result.1 ≡ WRONG_KIND }
     ensures statuses { IsOneOf (NO ∷ YES ∷ OUT_OF_MEMORY ∷ WRONG_KIND ∷ []) result.1 }

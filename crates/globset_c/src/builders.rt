@@ -37,7 +37,8 @@ pub extern "C" fn globset_raw_builder_add(builder: &mut Owned, glob: &mut Lent) 
         IfBuilder builder.old.object (λ b.
         IfBuilder builder.new.object (λ c. builder_globs c ≡ builder_globs b ++ g ∷ []))) }
     ensures kept { result ≢ DONE → builder.new.object ≡ builder.old.object }
-    ensures right_kind { IsBuilder builder.old.object → IsGlob (Some glob.old.object) → result ≢ WRONG_KIND }
+    ensures right_kind { IsBuilder builder.old.object → IsGlob (Some glob.old.object)
+        → result ≢ WRONG_KIND }
     ensures other_kind { ¬ (IsGlob (Some glob.old.object)) → result ≡ WRONG_KIND }
     ensures no_builder { ¬ (IsBuilder builder.old.object) → result ≡ WRONG_KIND }
     ensures statuses { IsOneOf (DONE ∷ OUT_OF_MEMORY ∷ WRONG_KIND ∷ []) result }
@@ -128,7 +129,8 @@ pub extern "C" fn globset_raw_builder_build(
 }
 
 fn build(object: &mut Object) -> Result<GlobSet, Failure>
-    ensures built { IfOk result (λ s. IfBuilder (Some object.old) (λ b. set_globs s ≡ builder_globs b)) }
+    ensures built { IfOk result
+        (λ s. IfBuilder (Some object.old) (λ b. set_globs s ≡ builder_globs b)) }
     ensures emptied { OnOk result (IfBuilder (Some object.new) (λ b. builder_globs b ≡ [])) }
     ensures kept { OnErr result (object.new ≡ object.old) }
     ensures wrong_kind { IfErr result (λ why. why ≡ WrongKind → ¬ (IsBuilder (Some object.old))) }

@@ -24,8 +24,10 @@ pub extern "C" fn globset_raw_error_text(
     room: &mut [u8],
     needed: &mut usize,
 ) -> Status
-    ensures done { result ≡ DONE → IfTold error.now text.now (λ said. IsWritten said room.old room.new needed.new) }
-    ensures too_small { result ≡ TOO_SMALL → IfTold error.now text.now (λ said. IsTooLong said room.old room.new needed.new) }
+    ensures done { result ≡ DONE
+        → IfTold error.now text.now (λ said. IsWritten said room.old room.new needed.new) }
+    ensures too_small { result ≡ TOO_SMALL
+        → IfTold error.now text.now (λ said. IsTooLong said room.old room.new needed.new) }
     // The error is looked at first, and then the bytes.
     ensures no_error { result ≡ NO → (k : ErrorKind) → ¬ (IsTold error.now k) }
     ensures an_error { result ≢ NO → (k : ErrorKind) × IsTold error.now k }

@@ -19,7 +19,8 @@ pub extern "C" fn globset_raw_escape(
     needed: &mut usize,
 ) -> Status
     ensures done { result ≡ DONE → IsWritten (escaped text.now) room.old room.new needed.new }
-    ensures too_small { result ≡ TOO_SMALL → IsTooLong (escaped text.now) room.old room.new needed.new }
+    ensures too_small { result ≡ TOO_SMALL
+        → IsTooLong (escaped text.now) room.old room.new needed.new }
     ensures not_utf8 { result ≡ NOT_UTF8 → ¬ (IsUtf8 text.now) }
     ensures utf8 { result ≢ NOT_UTF8 → IsUtf8 text.now }
     ensures refused { result ≢ DONE → room.new ≡ room.old }

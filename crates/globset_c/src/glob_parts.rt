@@ -22,8 +22,10 @@ pub extern "C" fn globset_raw_glob_text(
     needed: &mut usize,
 ) -> Status
     ensures same_glob { glob.new ≡ glob.old }
-    ensures done { result ≡ DONE → IfGlob (Some glob.old.object) (λ g. IsWritten g.text room.old room.new needed.new) }
-    ensures too_small { result ≡ TOO_SMALL → IfGlob (Some glob.old.object) (λ g. IsTooLong g.text room.old room.new needed.new) }
+    ensures done { result ≡ DONE
+        → IfGlob (Some glob.old.object) (λ g. IsWritten g.text room.old room.new needed.new) }
+    ensures too_small { result ≡ TOO_SMALL
+        → IfGlob (Some glob.old.object) (λ g. IsTooLong g.text room.old room.new needed.new) }
     ensures refused { result ≢ DONE → room.new ≡ room.old }
     ensures same_needed { result ≢ DONE → result ≢ TOO_SMALL → needed.new ≡ needed.old }
     ensures right_kind { IsGlob (Some glob.old.object) → result ≢ WRONG_KIND }
@@ -55,7 +57,8 @@ fn text_of(alloc: Global, object: &Object) -> Result<String, Failure>
 #[unsafe(no_mangle)]
 pub extern "C" fn globset_raw_glob_options(glob: &mut Lent, options: &mut u32) -> Status
     ensures same_glob { glob.new ≡ glob.old }
-    ensures options { result ≡ DONE → IfGlob (Some glob.old.object) (λ g. options_of options.new ≡ g.options) }
+    ensures options { result ≡ DONE
+        → IfGlob (Some glob.old.object) (λ g. options_of options.new ≡ g.options) }
     ensures known { result ≡ DONE → IsKnown options.new }
     ensures refused { result ≢ DONE → options.new ≡ options.old }
     ensures right_kind { IsGlob (Some glob.old.object) → result ≡ DONE }
@@ -71,7 +74,8 @@ pub extern "C" fn globset_raw_glob_options(glob: &mut Lent, options: &mut u32) -
 }
 
 fn bits_of(object: &Object) -> Option<u32>
-    ensures options { IfSome result (λ bits. IfGlob (Some object.now) (λ g. options_of bits ≡ g.options)) }
+    ensures options { IfSome result
+        (λ bits. IfGlob (Some object.now) (λ g. options_of bits ≡ g.options)) }
     ensures known { IfSome result (λ bits. IsKnown bits) }
     ensures wrong_kind { result ≡ None → ¬ (IsGlob (Some object.now)) }
 {

@@ -35,12 +35,15 @@ enum Unread {
 
 /// Reads a glob under the options that the bits stand for.
 fn read(alloc: Global, text: &[u8], options: u32) -> Result<Result<Glob, Error>, Unread>
-    ensures made { IfOk result (λ read. IfOk read (λ g. (g ≡ glob_of text.now options) × IsRead g)) }
-    ensures rejected { IfOk result (λ read. IfErr read (IsParseErrorOf (options_of options) text.now)) }
+    ensures made { IfOk result
+        (λ read. IfOk read (λ g. (g ≡ glob_of text.now options) × IsRead g)) }
+    ensures rejected { IfOk result
+        (λ read. IfErr read (IsParseErrorOf (options_of options) text.now)) }
     ensures known { OnOk result (IsKnown options) }
     ensures utf8 { OnOk result (IsUtf8 text.now) }
     ensures unknown { IfErr result (λ why. why ≡ UnknownOption → ¬ (IsKnown options)) }
-    ensures not_utf8 { IfErr result (λ why. why ≡ NotUtf8 → IsKnown options × (¬ (IsUtf8 text.now))) }
+    ensures not_utf8 { IfErr result
+        (λ why. why ≡ NotUtf8 → IsKnown options × (¬ (IsUtf8 text.now))) }
 {
     if !are_known(options) {
         return Err(Unread::UnknownOption);
@@ -70,7 +73,8 @@ pub extern "C" fn globset_raw_glob_new(
     ensures utf8 { result ≢ UNKNOWN_OPTION → result ≢ NOT_UTF8 → IsUtf8 text.now }
     ensures refused { result ≢ DONE → out.new ≡ out.old }
     ensures same_error { result ≢ REJECTED → error.new ≡ error.old }
-    ensures statuses { IsOneOf (DONE ∷ OUT_OF_MEMORY ∷ REJECTED ∷ NOT_UTF8 ∷ UNKNOWN_OPTION ∷ []) result }
+    ensures statuses { IsOneOf (DONE ∷ OUT_OF_MEMORY ∷ REJECTED ∷ NOT_UTF8 ∷ UNKNOWN_OPTION ∷ [])
+        result }
 {
     match read(alloc, text, options) {
         Ok(Ok(glob)) => match hand_out(alloc, Object::Glob(ReadGlob::of(glob, options)), out) {
@@ -116,7 +120,9 @@ pub extern "C" fn globset_raw_glob_regex(
 }
 
 fn regex_of(alloc: Global, object: &Object) -> Result<String, Failure>
-    ensures text { IfOk result (λ s. IfGlob (Some object.now) (λ g. string_bytes s ≡ regex_text g.options (tokens_of_glob g))) }
+    ensures text { IfOk result
+        (λ s. IfGlob (Some object.now)
+        (λ g. string_bytes s ≡ regex_text g.options (tokens_of_glob g))) }
     ensures wrong_kind { IfErr result (λ why. why ≡ WrongKind → ¬ (IsGlob (Some object.now))) }
     ensures other_kind { ¬ (IsGlob (Some object.now)) → result ≡ Err WrongKind }
 {

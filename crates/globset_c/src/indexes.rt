@@ -37,13 +37,17 @@ pub extern "C" fn globset_raw_set_find(
         w.found.items ≡ matching_indexes (set_globs s) path.now)) }
     ensures count { result ≡ DONE → IfSet (Some set.old.object) (λ s.
         count.new ≡ length (matching_indexes (set_globs s) path.now)) }
-    ensures fits { result ≡ DONE → IfSet (Some set.old.object) (λ s. IfWork work.new.object (λ w. HoldsIndexesOf w s)) }
-    ensures grown { result ≡ DONE → IfWork work.old.object (λ w. IfWork work.new.object (λ v. HasGrown w v)) }
+    ensures fits { result ≡ DONE
+        → IfSet (Some set.old.object) (λ s. IfWork work.new.object (λ w. HoldsIndexesOf w s)) }
+    ensures grown { result ≡ DONE
+        → IfWork work.old.object (λ w. IfWork work.new.object (λ v. HasGrown w v)) }
     ensures kept { result ≢ DONE → IsGrown work.old.object work.new.object }
     ensures refused { result ≢ DONE → count.new ≡ count.old }
     ensures same_of_wrong_kind { result ≡ WRONG_KIND → work.new.object ≡ work.old.object }
-    ensures succeeds_if_fits { IfSet (Some set.old.object) (λ s. IfWork work.old.object (λ w. HoldsIndexesOf w s)) → result ≡ DONE }
-    ensures right_kind { IsSet (Some set.old.object) → IsWork work.old.object → result ≢ WRONG_KIND }
+    ensures succeeds_if_fits { IfSet (Some set.old.object)
+        (λ s. IfWork work.old.object (λ w. HoldsIndexesOf w s)) → result ≡ DONE }
+    ensures right_kind { IsSet (Some set.old.object) → IsWork work.old.object
+        → result ≢ WRONG_KIND }
     ensures other_kind { ¬ (IsSet (Some set.old.object)) → result ≡ WRONG_KIND }
     ensures no_work { ¬ (IsWork work.old.object) → result ≡ WRONG_KIND }
     ensures statuses { IsOneOf (DONE ∷ OUT_OF_MEMORY ∷ WRONG_KIND ∷ []) result }
@@ -64,15 +68,24 @@ pub extern "C" fn globset_raw_set_find(
 }
 
 fn find(object: &Object, boxed: Box<Object>, path: &[u8]) -> (Box<Object>, Result<usize, Failure>)
-    ensures found { IfOk result.1 (λ n. IfSet (Some object.now) (λ s. IfWork (Some result.0.value) (λ w.
-        w.found.items ≡ matching_indexes (set_globs s) path.now))) }
-    ensures count { IfOk result.1 (λ n. IfSet (Some object.now) (λ s. n ≡ length (matching_indexes (set_globs s) path.now))) }
-    ensures fits { IfOk result.1 (λ n. IfSet (Some object.now) (λ s. IfWork (Some result.0.value) (λ w. HoldsIndexesOf w s))) }
-    ensures grown { IfOk result.1 (λ n. IfWork (Some boxed.value) (λ w. IfWork (Some result.0.value) (λ v. HasGrown w v))) }
+    ensures found { IfOk result.1
+        (λ n. IfSet (Some object.now)
+        (λ s. IfWork (Some result.0.value)
+        (λ w. w.found.items ≡ matching_indexes (set_globs s) path.now))) }
+    ensures count { IfOk result.1
+        (λ n. IfSet (Some object.now) (λ s. n ≡ length (matching_indexes (set_globs s) path.now))) }
+    ensures fits { IfOk result.1
+        (λ n. IfSet (Some object.now)
+        (λ s. IfWork (Some result.0.value) (λ w. HoldsIndexesOf w s))) }
+    ensures grown { IfOk result.1
+        (λ n. IfWork (Some boxed.value) (λ w. IfWork (Some result.0.value) (λ v. HasGrown w v))) }
     ensures kept { IfErr result.1 (λ why. IsGrown (Some boxed.value) (Some result.0.value)) }
-    ensures same_of_wrong_kind { IfErr result.1 (λ why. why ≡ WrongKind → result.0.value ≡ boxed.value) }
-    ensures succeeds_if_fits { IfSet (Some object.now) (λ s. IfWork (Some boxed.value) (λ w. HoldsIndexesOf w s)) → IsOk result.1 }
-    ensures wrong_kind { IfErr result.1 (λ why. why ≡ WrongKind → IsSet (Some object.now) → ¬ (IsWork (Some boxed.value))) }
+    ensures same_of_wrong_kind { IfErr result.1
+        (λ why. why ≡ WrongKind → result.0.value ≡ boxed.value) }
+    ensures succeeds_if_fits { IfSet (Some object.now)
+        (λ s. IfWork (Some boxed.value) (λ w. HoldsIndexesOf w s)) → IsOk result.1 }
+    ensures wrong_kind { IfErr result.1
+        (λ why. why ≡ WrongKind → IsSet (Some object.now) → ¬ (IsWork (Some boxed.value))) }
     ensures other_kind { ¬ (IsSet (Some object.now)) → result.1 ≡ Err WrongKind }
     ensures no_work { ¬ (IsWork (Some boxed.value)) → result.1 ≡ Err WrongKind }
 {
@@ -91,7 +104,8 @@ fn find(object: &Object, boxed: Box<Object>, path: &[u8]) -> (Box<Object>, Resul
 }
 
 fn find_in(set: &GlobSet, work: &mut Work, path: &[u8]) -> Result<usize, AllocError>
-    ensures found { IfOk result (λ n. work.new.found.items ≡ matching_indexes (set_globs set.now) path.now) }
+    ensures found { IfOk result
+        (λ n. work.new.found.items ≡ matching_indexes (set_globs set.now) path.now) }
     ensures count { IfOk result (λ n. n ≡ length (matching_indexes (set_globs set.now) path.now)) }
     ensures fits { IfOk result (λ n. HoldsIndexesOf work.new set.now) }
     ensures grown { HasGrown work.old work.new }
@@ -117,7 +131,8 @@ pub extern "C" fn globset_raw_work_found<'a>(
     indexes: &mut Indexes<'a>,
 ) -> Status
     requires owned { IsSome work.old.object }
-    ensures found { result ≡ DONE → IfWork work.old.object (λ w. indexes.new.items.now ≡ w.found.items) }
+    ensures found { result ≡ DONE
+        → IfWork work.old.object (λ w. indexes.new.items.now ≡ w.found.items) }
     ensures empty_after_errors { result ≢ DONE → indexes.new.items.now ≡ [] }
     ensures right_kind { IsWork work.old.object → result ≡ DONE }
     ensures statuses { IsOneOf (DONE ∷ WRONG_KIND ∷ []) result }
@@ -135,7 +150,8 @@ pub extern "C" fn globset_raw_work_found<'a>(
 }
 
 fn found_of(object: &mut Object) -> Option<&[usize]>
-    ensures found { IfSome result (λ items. IfWork (Some object.old) (λ w. items.now ≡ w.found.items)) }
+    ensures found { IfSome result
+        (λ items. IfWork (Some object.old) (λ w. items.now ≡ w.found.items)) }
     ensures wrong_kind { result ≡ None → ¬ (IsWork (Some object.old)) }
 {
     match object {

@@ -32,7 +32,8 @@ impl Lent {
     /// Lends an object to `f`, which gives it back.
     pub fn lend<X, R, F: FnOnce(Lent, X) -> (R, Lent)>(object: &Object, x: X, f: F) -> R
         requires asks { (l : Lent) → l.object ≡ object.now → F.pre f l x }
-        requires back { (l : Lent) → l.object ≡ object.now → (r : R) → (m : Lent) → F.post f l x (r, m) → m ≡ l }
+        requires back { (l : Lent) → l.object ≡ object.now → (r : R) → (m : Lent)
+            → F.post f l x (r, m) → m ≡ l }
         ensures { (l : Lent) × (l.object ≡ object.now) × F.post f l x (result, l) }
     {
         let lent = Lent {
@@ -64,7 +65,8 @@ impl Lent {
 
     unsafe fn call_at<X, R, F: FnOnce(&Object, X) -> R>(lent: Lent, x: X, f: F) -> (R, Lent)
         requires { (r : Bor Object) → r.now ≡ lent.object → F.pre f r x }
-        ensures { (result.1 ≡ lent) × ((r : Bor Object) × (r.now ≡ lent.object) × F.post f r x result.0) }
+        ensures { (result.1 ≡ lent)
+            × ((r : Bor Object) × (r.now ≡ lent.object) × F.post f r x result.0) }
     {
         let answer = f(&*(lent.at as *const Object), x);
         (answer, lent)

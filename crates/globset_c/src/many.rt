@@ -41,7 +41,8 @@ pub extern "C" fn globset_raw_set_is_match_many(
     ensures grown { IsGrown work.old.object work.new.object }
     ensures same_after_bad_ends { result ≡ BAD_ENDS → work.new.object ≡ work.old.object }
     ensures same_of_wrong_kind { result ≡ WRONG_KIND → work.new.object ≡ work.old.object }
-    ensures right_kind { IsSet (Some set.old.object) → IsWork work.old.object → result ≢ WRONG_KIND }
+    ensures right_kind { IsSet (Some set.old.object) → IsWork work.old.object
+        → result ≢ WRONG_KIND }
     ensures other_kind { ¬ (IsSet (Some set.old.object)) → result ≢ BAD_ENDS → result ≡ WRONG_KIND }
     ensures no_work { ¬ (IsWork work.old.object) → result ≢ BAD_ENDS → result ≡ WRONG_KIND }
     ensures statuses { IsOneOf (DONE ∷ OUT_OF_MEMORY ∷ WRONG_KIND ∷ BAD_ENDS ∷ []) result }
@@ -77,8 +78,10 @@ fn answer_boxed(
         v.items ≡ answers_for (set_globs s) paths.now 0 ends.now)) }
     ensures len { IfOk result.1 (λ v. length v.items ≡ length ends.now) }
     ensures grown { IsGrown (Some boxed.value) (Some result.0.value) }
-    ensures same_of_wrong_kind { IfErr result.1 (λ why. why ≡ WrongKind → result.0.value ≡ boxed.value) }
-    ensures right_kind { IfErr result.1 (λ why. why ≡ WrongKind → IsSet (Some object.now) → ¬ (IsWork (Some boxed.value))) }
+    ensures same_of_wrong_kind { IfErr result.1
+        (λ why. why ≡ WrongKind → result.0.value ≡ boxed.value) }
+    ensures right_kind { IfErr result.1
+        (λ why. why ≡ WrongKind → IsSet (Some object.now) → ¬ (IsWork (Some boxed.value))) }
     ensures other_kind { ¬ (IsSet (Some object.now)) → result.1 ≡ Err WrongKind }
     ensures no_work { ¬ (IsWork (Some boxed.value)) → result.1 ≡ Err WrongKind }
 {
@@ -104,7 +107,8 @@ fn answer_in(
     ends: &[usize],
 ) -> Result<Vec<u8>, AllocError>
     requires { AreEnds (length paths.now) 0 ends.now }
-    ensures answered { IfOk result (λ v. v.items ≡ answers_for (set_globs set.now) paths.now 0 ends.now) }
+    ensures answered { IfOk result
+        (λ v. v.items ≡ answers_for (set_globs set.now) paths.now 0 ends.now) }
     ensures len { IfOk result (λ v. length v.items ≡ length ends.now) }
     ensures others { FitsAsBefore work.old.scratch work.new.scratch }
     ensures same_found { work.new.found ≡ work.old.found }
@@ -124,7 +128,8 @@ fn answer_each(
 ) -> Result<Vec<u8>, AllocError>
     requires fits { Fits scratch.old set.now }
     requires in_order { AreEnds (length paths.now) 0 ends.now }
-    ensures answered { IfOk result (λ v. v.items ≡ answers_for (set_globs set.now) paths.now 0 ends.now) }
+    ensures answered { IfOk result
+        (λ v. v.items ≡ answers_for (set_globs set.now) paths.now 0 ends.now) }
     ensures len { IfOk result (λ v. length v.items ≡ length ends.now) }
     ensures kept { scratch.new ≡ scratch.old }
 {

@@ -21,7 +21,8 @@ use std::alloc::Global;
 #[unsafe(no_mangle)]
 pub extern "C" fn globset_raw_matcher_new(alloc: Global, glob: &mut Lent, out: &mut Owned) -> Status
     ensures same_glob { glob.new ≡ glob.old }
-    ensures made { result ≡ DONE → IfGlob (Some glob.old.object) (λ g. IfMatcher out.new.object (λ m. m ≡ g)) }
+    ensures made { result ≡ DONE
+        → IfGlob (Some glob.old.object) (λ g. IfMatcher out.new.object (λ m. m ≡ g)) }
     ensures refused { result ≢ DONE → out.new ≡ out.old }
     ensures right_kind { IsGlob (Some glob.old.object) → result ≢ WRONG_KIND }
     ensures other_kind { ¬ (IsGlob (Some glob.old.object)) → result ≡ WRONG_KIND }
@@ -32,7 +33,8 @@ pub extern "C" fn globset_raw_matcher_new(alloc: Global, glob: &mut Lent, out: &
 }
 
 fn matcher_of(object: &Object) -> Result<Object, Failure>
-    ensures made { IfOk result (λ made. IfGlob (Some object.now) (λ g. IfMatcher (Some made) (λ m. m ≡ g))) }
+    ensures made { IfOk result
+        (λ made. IfGlob (Some object.now) (λ g. IfMatcher (Some made) (λ m. m ≡ g))) }
     ensures wrong_kind { IfErr result (λ why. why ≡ WrongKind → ¬ (IsGlob (Some object.now))) }
     ensures other_kind { ¬ (IsGlob (Some object.now)) → result ≡ Err WrongKind }
 {
@@ -55,13 +57,17 @@ pub extern "C" fn globset_raw_matcher_is_match(
     requires owned { IsSome work.old.object }
     ensures owned { IsSome work.new.object }
     ensures same_matcher { matcher.new ≡ matcher.old }
-    ensures yes { result ≡ YES → IfMatcher (Some matcher.old.object) (λ m. glob_matches m path.now ≡ true) }
-    ensures no { result ≡ NO → IfMatcher (Some matcher.old.object) (λ m. glob_matches m path.now ≡ false) }
-    ensures fits { IfMatcher (Some matcher.old.object) (λ m. IfWork work.old.object (λ w. FitsMatcher w.scratch m)) →
-        (result ≡ YES) ⊎ (result ≡ NO) }
+    ensures yes { result ≡ YES
+        → IfMatcher (Some matcher.old.object) (λ m. glob_matches m path.now ≡ true) }
+    ensures no { result ≡ NO
+        → IfMatcher (Some matcher.old.object) (λ m. glob_matches m path.now ≡ false) }
+    ensures fits { IfMatcher (Some matcher.old.object)
+        (λ m. IfWork work.old.object (λ w. FitsMatcher w.scratch m))
+        → (result ≡ YES) ⊎ (result ≡ NO) }
     ensures grown { IsGrown work.old.object work.new.object }
     ensures same_of_wrong_kind { result ≡ WRONG_KIND → work.new.object ≡ work.old.object }
-    ensures right_kind { IsMatcher (Some matcher.old.object) → IsWork work.old.object → result ≢ WRONG_KIND }
+    ensures right_kind { IsMatcher (Some matcher.old.object) → IsWork work.old.object
+        → result ≢ WRONG_KIND }
     ensures other_kind { ¬ (IsMatcher (Some matcher.old.object)) → result ≡ WRONG_KIND }
     ensures no_work { ¬ (IsWork work.old.object) → result ≡ WRONG_KIND }
     ensures statuses { IsOneOf (NO ∷ YES ∷ OUT_OF_MEMORY ∷ WRONG_KIND ∷ []) result }
@@ -75,13 +81,17 @@ pub extern "C" fn globset_raw_matcher_is_match(
 }
 
 fn is_match_of(object: &Object, boxed: Box<Object>, path: &[u8]) -> (Box<Object>, Status)
-    ensures yes { result.1 ≡ YES → IfMatcher (Some object.now) (λ m. glob_matches m path.now ≡ true) }
-    ensures no { result.1 ≡ NO → IfMatcher (Some object.now) (λ m. glob_matches m path.now ≡ false) }
-    ensures fits { IfMatcher (Some object.now) (λ m. IfWork (Some boxed.value) (λ w. FitsMatcher w.scratch m)) →
-        (result.1 ≡ YES) ⊎ (result.1 ≡ NO) }
+    ensures yes { result.1 ≡ YES
+        → IfMatcher (Some object.now) (λ m. glob_matches m path.now ≡ true) }
+    ensures no { result.1 ≡ NO
+        → IfMatcher (Some object.now) (λ m. glob_matches m path.now ≡ false) }
+    ensures fits { IfMatcher (Some object.now)
+        (λ m. IfWork (Some boxed.value) (λ w. FitsMatcher w.scratch m))
+        → (result.1 ≡ YES) ⊎ (result.1 ≡ NO) }
     ensures grown { IsGrown (Some boxed.value) (Some result.0.value) }
     ensures same_of_wrong_kind { result.1 ≡ WRONG_KIND → result.0.value ≡ boxed.value }
-    ensures right_kind { IsMatcher (Some object.now) → IsWork (Some boxed.value) → result.1 ≢ WRONG_KIND }
+    ensures right_kind { IsMatcher (Some object.now) → IsWork (Some boxed.value)
+        → result.1 ≢ WRONG_KIND }
     ensures other_kind { ¬ (IsMatcher (Some object.now)) → result.1 ≡ WRONG_KIND }
     ensures no_work { ¬ (IsWork (Some boxed.value)) → result.1 ≡ WRONG_KIND }
     ensures statuses { IsOneOf (NO ∷ YES ∷ OUT_OF_MEMORY ∷ WRONG_KIND ∷ []) result.1 }

@@ -65,7 +65,8 @@ impl Owned {
     pub fn lend<X, R, F: FnOnce(Lent, X) -> (R, Lent)>(&mut self, x: X, f: F) -> R
         requires owns { IsSome self.old.object }
         requires asks { (l : Lent) → Some l.object ≡ self.old.object → F.pre f l x }
-        requires back { (l : Lent) → Some l.object ≡ self.old.object → (r : R) → (m : Lent) → F.post f l x (r, m) → m ≡ l }
+        requires back { (l : Lent) → Some l.object ≡ self.old.object → (r : R) → (m : Lent)
+            → F.post f l x (r, m) → m ≡ l }
         ensures same { self.new.object ≡ self.old.object }
         ensures answer { (l : Lent) × (Some l.object ≡ self.old.object) × F.post f l x (result, l) }
     {

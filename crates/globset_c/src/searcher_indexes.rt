@@ -37,26 +37,32 @@ pub extern "C" fn globset_raw_searcher_matches_many(
 ) -> Status
     requires owned { IsSome searcher.old.object }
     ensures owned { IsSome searcher.new.object }
-    ensures done { result ≡ DONE → IfSearcher searcher.old.object (λ s.
-        IsWritten (indexes_for (set_globs s.set) paths.now 0 ends.now) room.old room.new needed.new) }
+    ensures done { result ≡ DONE
+        → IfSearcher searcher.old.object
+        (λ s. IsWritten (indexes_for (set_globs s.set) paths.now 0 ends.now) room.old room.new
+        needed.new) }
     ensures index_ends { result ≡ DONE → IfSearcher searcher.old.object (λ s.
         index_ends.new ≡ index_ends_for (set_globs s.set) paths.now 0 ends.now) }
-    ensures too_small { result ≡ TOO_SMALL → IfSearcher searcher.old.object (λ s.
-        IsTooLong (indexes_for (set_globs s.set) paths.now 0 ends.now) room.old room.new needed.new) }
+    ensures too_small { result ≡ TOO_SMALL
+        → IfSearcher searcher.old.object
+        (λ s. IsTooLong (indexes_for (set_globs s.set) paths.now 0 ends.now) room.old room.new
+        needed.new) }
     ensures in_order { result ≢ BAD_ENDS → AreEnds (length paths.now) 0 ends.now }
     ensures one_for_each { result ≢ BAD_ENDS → length ends.now ≡ length index_ends.old }
     ensures bad_ends { result ≡ BAD_ENDS →
         (length ends.now ≢ length index_ends.old) ⊎ (¬ (AreEnds (length paths.now) 0 ends.now)) }
     ensures refused { result ≢ DONE → (room.new ≡ room.old) × (index_ends.new ≡ index_ends.old) }
     ensures same_needed { result ≢ DONE → result ≢ TOO_SMALL → needed.new ≡ needed.old }
-    ensures same_set { result ≢ BAD_ENDS → result ≢ WRONG_KIND → IfSearcher searcher.old.object (λ s.
-        IfSearcher searcher.new.object (λ t. t.set ≡ s.set)) }
-    ensures found { result ≢ BAD_ENDS → result ≢ WRONG_KIND → IfSearcher searcher.old.object (λ s.
-        IfSearcher searcher.new.object (λ t. t.found ≡ last_indexes_for (set_globs s.set) s.found paths.now 0 ends.now)) }
+    ensures same_set { result ≢ BAD_ENDS → result ≢ WRONG_KIND
+        → IfSearchers searcher.old.object searcher.new.object (λ s t. t.set ≡ s.set) }
+    ensures found { result ≢ BAD_ENDS → result ≢ WRONG_KIND
+        → IfSearchers searcher.old.object searcher.new.object
+        (λ s t. t.found ≡ last_indexes_for (set_globs s.set) s.found paths.now 0 ends.now) }
     ensures same_after_bad_ends { result ≡ BAD_ENDS → searcher.new.object ≡ searcher.old.object }
     ensures same_of_wrong_kind { result ≡ WRONG_KIND → searcher.new.object ≡ searcher.old.object }
     ensures right_kind { IsSearcher searcher.old.object → result ≢ WRONG_KIND }
-    ensures statuses { IsOneOf (DONE ∷ OUT_OF_MEMORY ∷ WRONG_KIND ∷ BAD_ENDS ∷ TOO_SMALL ∷ []) result }
+    ensures statuses { IsOneOf (DONE ∷ OUT_OF_MEMORY ∷ WRONG_KIND ∷ BAD_ENDS ∷ TOO_SMALL ∷ [])
+        result }
 {
     if ends.len() != index_ends.len() || !are_ends(paths.len(), ends) {
         return BAD_ENDS;
@@ -80,10 +86,11 @@ fn find_of(
     ensures ends { IfOk result (λ f. IfSearcher (Some object.old) (λ s.
         f.ends.items ≡ index_ends_for (set_globs s.set) paths.now 0 ends.now)) }
     ensures len { IfOk result (λ f. length f.ends.items ≡ length ends.now) }
-    ensures same_set { IsSearcher (Some object.old) → IfSearcher (Some object.old) (λ s.
-        IfSearcher (Some object.new) (λ t. t.set ≡ s.set)) }
-    ensures found { IsSearcher (Some object.old) → IfSearcher (Some object.old) (λ s.
-        IfSearcher (Some object.new) (λ t. t.found ≡ last_indexes_for (set_globs s.set) s.found paths.now 0 ends.now)) }
+    ensures same_set { IsSearcher (Some object.old)
+        → IfSearchers (Some object.old) (Some object.new) (λ s t. t.set ≡ s.set) }
+    ensures found { IsSearcher (Some object.old)
+        → IfSearchers (Some object.old) (Some object.new)
+        (λ s t. t.found ≡ last_indexes_for (set_globs s.set) s.found paths.now 0 ends.now) }
     ensures same_of_wrong_kind { IfErr result (λ why. why ≡ WrongKind → object.new ≡ object.old) }
     ensures wrong_kind { IfErr result (λ why. why ≡ WrongKind → ¬ (IsSearcher (Some object.old))) }
     ensures other_kind { IfErr result (λ why. why ≢ WrongKind → IsSearcher (Some object.old)) }
@@ -106,11 +113,14 @@ fn find_each(
     ends: &[usize],
 ) -> Result<Found, AllocError>
     requires { AreEnds (length paths.now) 0 ends.now }
-    ensures indexes { IfOk result (λ f. f.indexes.items ≡ indexes_for (set_globs searcher.old.set) paths.now 0 ends.now) }
-    ensures ends { IfOk result (λ f. f.ends.items ≡ index_ends_for (set_globs searcher.old.set) paths.now 0 ends.now) }
+    ensures indexes { IfOk result
+        (λ f. f.indexes.items ≡ indexes_for (set_globs searcher.old.set) paths.now 0 ends.now) }
+    ensures ends { IfOk result
+        (λ f. f.ends.items ≡ index_ends_for (set_globs searcher.old.set) paths.now 0 ends.now) }
     ensures len { IfOk result (λ f. length f.ends.items ≡ length ends.now) }
     ensures same_set { searcher.new.set ≡ searcher.old.set }
-    ensures found { searcher.new.found ≡ last_indexes_for (set_globs searcher.old.set) searcher.old.found paths.now 0 ends.now }
+    ensures found { searcher.new.found
+        ≡ last_indexes_for (set_globs searcher.old.set) searcher.old.found paths.now 0 ends.now }
 {
     let mut found = Found {
         indexes: Vec::new(alloc),
@@ -133,8 +143,10 @@ fn find_each(
 
 /// Adds the indexes of a path to those of others, and where they end.
 fn keep(of_path: &[usize], found: &mut Found) -> Result<(), AllocError>
-    ensures indexes { OnOk result (found.new.indexes.items ≡ found.old.indexes.items ++ of_path.now) }
-    ensures ends { OnOk result (found.new.ends.items ≡ found.old.ends.items ++ length found.new.indexes.items ∷ []) }
+    ensures indexes { OnOk result
+        (found.new.indexes.items ≡ found.old.indexes.items ++ of_path.now) }
+    ensures ends { OnOk result
+        (found.new.ends.items ≡ found.old.ends.items ++ length found.new.indexes.items ∷ []) }
 {
     found.indexes.extend_from_slice(of_path)?;
     found.ends.push(found.indexes.len())?;
@@ -146,7 +158,9 @@ fn keep(of_path: &[usize], found: &mut Found) -> Result<(), AllocError>
 fn find_last(searcher: &mut Searcher, paths: &[u8], start: usize, ends: &[usize])
     requires { AreEnds (length paths.now) start ends.now }
     ensures same_set { searcher.new.set ≡ searcher.old.set }
-    ensures found { searcher.new.found ≡ last_indexes_for (set_globs searcher.old.set) searcher.old.found paths.now start ends.now }
+    ensures found { searcher.new.found
+        ≡ last_indexes_for (set_globs searcher.old.set) searcher.old.found paths.now start
+        ends.now }
 {
     let mut start = start;
     let mut rest = ends;
@@ -170,7 +184,8 @@ fn hand_over(
     requires { length found.now.ends.items ≡ length index_ends.old }
     ensures done { result ≡ DONE → IsWritten found.now.indexes.items room.old room.new needed.new }
     ensures ends { result ≡ DONE → index_ends.new ≡ found.now.ends.items }
-    ensures too_small { result ≡ TOO_SMALL → IsTooLong found.now.indexes.items room.old room.new needed.new }
+    ensures too_small { result ≡ TOO_SMALL
+        → IsTooLong found.now.indexes.items room.old room.new needed.new }
     ensures refused { result ≢ DONE → (room.new ≡ room.old) × (index_ends.new ≡ index_ends.old) }
     ensures same_needed { result ≢ DONE → result ≢ TOO_SMALL → needed.new ≡ needed.old }
     ensures statuses { IsOneOf (DONE ∷ TOO_SMALL ∷ []) result }

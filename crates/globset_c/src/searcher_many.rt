@@ -34,7 +34,8 @@ pub extern "C" fn globset_raw_searcher_is_match_many(
         (length ends.now ≢ length answers.old) ⊎ (¬ (AreEnds (length paths.now) 0 ends.now)) }
     ensures refused { result ≢ DONE → answers.new ≡ answers.old }
     ensures right_kind { IsSearcher searcher.old.object → result ≢ WRONG_KIND }
-    ensures other_kind { ¬ (IsSearcher searcher.old.object) → result ≢ BAD_ENDS → result ≡ WRONG_KIND }
+    ensures other_kind { ¬ (IsSearcher searcher.old.object) → result ≢ BAD_ENDS
+        → result ≡ WRONG_KIND }
     ensures statuses { IsOneOf (DONE ∷ OUT_OF_MEMORY ∷ WRONG_KIND ∷ BAD_ENDS ∷ []) result }
 {
     if ends.len() != answers.len() || !are_ends(paths.len(), ends) {
@@ -82,7 +83,8 @@ fn answer_each(
     ends: &[usize],
 ) -> Result<Vec<u8>, AllocError>
     requires { AreEnds (length paths.now) 0 ends.now }
-    ensures answered { IfOk result (λ v. v.items ≡ answers_for (set_globs searcher.old.set) paths.now 0 ends.now) }
+    ensures answered { IfOk result
+        (λ v. v.items ≡ answers_for (set_globs searcher.old.set) paths.now 0 ends.now) }
     ensures len { IfOk result (λ v. length v.items ≡ length ends.now) }
     ensures kept { searcher.new ≡ searcher.old }
 {

@@ -22,8 +22,11 @@ use std::alloc::Global;
 #[unsafe(no_mangle)]
 pub extern "C" fn globset_raw_searcher_new(alloc: Global, set: &mut Lent, out: &mut Owned) -> Status
     ensures same_set { set.new ≡ set.old }
-    ensures made { result ≡ DONE → IfSet (Some set.old.object) (λ s. IfSearcher out.new.object (λ searcher. searcher.set ≡ s)) }
-    ensures nothing_found { result ≡ DONE → IfSearcher out.new.object (λ searcher. searcher.found ≡ []) }
+    ensures made { result ≡ DONE
+        → IfSet (Some set.old.object)
+        (λ s. IfSearcher out.new.object (λ searcher. searcher.set ≡ s)) }
+    ensures nothing_found { result ≡ DONE
+        → IfSearcher out.new.object (λ searcher. searcher.found ≡ []) }
     ensures refused { result ≢ DONE → out.new ≡ out.old }
     ensures right_kind { IsSet (Some set.old.object) → result ≢ WRONG_KIND }
     ensures other_kind { ¬ (IsSet (Some set.old.object)) → result ≡ WRONG_KIND }
@@ -34,8 +37,11 @@ pub extern "C" fn globset_raw_searcher_new(alloc: Global, set: &mut Lent, out: &
 }
 
 fn searcher_of(alloc: Global, object: &Object) -> Result<Object, Failure>
-    ensures made { IfOk result (λ made. IfSet (Some object.now) (λ s. IfSearcher (Some made) (λ searcher. searcher.set ≡ s))) }
-    ensures nothing_found { IfOk result (λ made. IfSearcher (Some made) (λ searcher. searcher.found ≡ [])) }
+    ensures made { IfOk result
+        (λ made. IfSet (Some object.now)
+        (λ s. IfSearcher (Some made) (λ searcher. searcher.set ≡ s))) }
+    ensures nothing_found { IfOk result
+        (λ made. IfSearcher (Some made) (λ searcher. searcher.found ≡ [])) }
     ensures wrong_kind { IfErr result (λ why. why ≡ WrongKind → ¬ (IsSet (Some object.now))) }
     ensures other_kind { ¬ (IsSet (Some object.now)) → result ≡ Err WrongKind }
 {
@@ -53,8 +59,10 @@ fn searcher_of(alloc: Global, object: &Object) -> Result<Object, Failure>
 pub extern "C" fn globset_raw_searcher_is_match(searcher: &mut Owned, path: &[u8]) -> Status
     requires owned { IsSome searcher.old.object }
     ensures same_searcher { searcher.new.object ≡ searcher.old.object }
-    ensures yes { result ≡ YES → IfSearcher searcher.old.object (λ s. matching_indexes (set_globs s.set) path.now ≢ []) }
-    ensures no { result ≡ NO → IfSearcher searcher.old.object (λ s. matching_indexes (set_globs s.set) path.now ≡ []) }
+    ensures yes { result ≡ YES
+        → IfSearcher searcher.old.object (λ s. matching_indexes (set_globs s.set) path.now ≢ []) }
+    ensures no { result ≡ NO
+        → IfSearcher searcher.old.object (λ s. matching_indexes (set_globs s.set) path.now ≡ []) }
     ensures right_kind { IsSearcher searcher.old.object → result ≢ WRONG_KIND }
     ensures statuses { IsOneOf (NO ∷ YES ∷ WRONG_KIND ∷ []) result }
 {
@@ -63,8 +71,10 @@ pub extern "C" fn globset_raw_searcher_is_match(searcher: &mut Owned, path: &[u8
 
 fn is_match_of(object: &mut Object, path: &[u8]) -> Status
     ensures same { object.new ≡ object.old }
-    ensures yes { result ≡ YES → IfSearcher (Some object.old) (λ s. matching_indexes (set_globs s.set) path.now ≢ []) }
-    ensures no { result ≡ NO → IfSearcher (Some object.old) (λ s. matching_indexes (set_globs s.set) path.now ≡ []) }
+    ensures yes { result ≡ YES
+        → IfSearcher (Some object.old) (λ s. matching_indexes (set_globs s.set) path.now ≢ []) }
+    ensures no { result ≡ NO
+        → IfSearcher (Some object.old) (λ s. matching_indexes (set_globs s.set) path.now ≡ []) }
     ensures right_kind { IsSearcher (Some object.old) → result ≢ WRONG_KIND }
     ensures statuses { IsOneOf (NO ∷ YES ∷ WRONG_KIND ∷ []) result }
 {
@@ -136,9 +146,11 @@ pub extern "C" fn globset_raw_searcher_find(
 ) -> Status
     requires owned { IsSome searcher.old.object }
     ensures owned { IsSome searcher.new.object }
-    ensures same_set { result ≡ DONE → IfSearcher searcher.old.object (λ s. IfSearcher searcher.new.object (λ t. t.set ≡ s.set)) }
-    ensures found { result ≡ DONE → IfSearcher searcher.old.object (λ s. IfSearcher searcher.new.object (λ t.
-        t.found ≡ matching_indexes (set_globs s.set) path.now)) }
+    ensures same_set { result ≡ DONE
+        → IfSearchers searcher.old.object searcher.new.object (λ s t. t.set ≡ s.set) }
+    ensures found { result ≡ DONE
+        → IfSearchers searcher.old.object searcher.new.object
+        (λ s t. t.found ≡ matching_indexes (set_globs s.set) path.now) }
     ensures count { result ≡ DONE → IfSearcher searcher.old.object (λ s.
         count.new ≡ length (matching_indexes (set_globs s.set) path.now)) }
     ensures kept { result ≢ DONE → searcher.new.object ≡ searcher.old.object }
@@ -150,9 +162,11 @@ pub extern "C" fn globset_raw_searcher_find(
 }
 
 fn find_of(object: &mut Object, path: &[u8], count: &mut usize) -> Status
-    ensures same_set { result ≡ DONE → IfSearcher (Some object.old) (λ s. IfSearcher (Some object.new) (λ t. t.set ≡ s.set)) }
-    ensures found { result ≡ DONE → IfSearcher (Some object.old) (λ s. IfSearcher (Some object.new) (λ t.
-        t.found ≡ matching_indexes (set_globs s.set) path.now)) }
+    ensures same_set { result ≡ DONE
+        → IfSearchers (Some object.old) (Some object.new) (λ s t. t.set ≡ s.set) }
+    ensures found { result ≡ DONE
+        → IfSearchers (Some object.old) (Some object.new)
+        (λ s t. t.found ≡ matching_indexes (set_globs s.set) path.now) }
     ensures count { result ≡ DONE → IfSearcher (Some object.old) (λ s.
         count.new ≡ length (matching_indexes (set_globs s.set) path.now)) }
     ensures kept { result ≢ DONE → object.new ≡ object.old }
@@ -185,7 +199,8 @@ pub extern "C" fn globset_raw_searcher_found<'a>(
     indexes: &mut Indexes<'a>,
 ) -> Status
     requires owned { IsSome searcher.old.object }
-    ensures found { result ≡ DONE → IfSearcher searcher.old.object (λ s. indexes.new.items.now ≡ s.found) }
+    ensures found { result ≡ DONE
+        → IfSearcher searcher.old.object (λ s. indexes.new.items.now ≡ s.found) }
     ensures empty_after_errors { result ≢ DONE → indexes.new.items.now ≡ [] }
     ensures right_kind { IsSearcher searcher.old.object → result ≡ DONE }
     ensures statuses { IsOneOf (DONE ∷ WRONG_KIND ∷ []) result }
@@ -203,7 +218,8 @@ pub extern "C" fn globset_raw_searcher_found<'a>(
 }
 
 fn found_of(object: &mut Object) -> Option<&[usize]>
-    ensures found { IfSome result (λ items. IfSearcher (Some object.old) (λ s. items.now ≡ s.found)) }
+    ensures found { IfSome result
+        (λ items. IfSearcher (Some object.old) (λ s. items.now ≡ s.found)) }
     ensures wrong_kind { result ≡ None → ¬ (IsSearcher (Some object.old)) }
 {
     match object {
@@ -220,8 +236,10 @@ pub extern "C" fn globset_raw_searcher_can_match_below(
 ) -> Status
     requires owned { IsSome searcher.old.object }
     ensures same_searcher { searcher.new.object ≡ searcher.old.object }
-    ensures yes { result ≡ YES → IfSearcher searcher.old.object (λ s. MatchesBelow (set_globs s.set) folder.now) }
-    ensures no { result ≡ NO → IfSearcher searcher.old.object (λ s. ¬ (MatchesBelow (set_globs s.set) folder.now)) }
+    ensures yes { result ≡ YES
+        → IfSearcher searcher.old.object (λ s. MatchesBelow (set_globs s.set) folder.now) }
+    ensures no { result ≡ NO
+        → IfSearcher searcher.old.object (λ s. ¬ (MatchesBelow (set_globs s.set) folder.now)) }
     ensures right_kind { IsSearcher searcher.old.object → result ≢ WRONG_KIND }
     ensures statuses { IsOneOf (NO ∷ YES ∷ WRONG_KIND ∷ []) result }
 {
@@ -230,8 +248,10 @@ pub extern "C" fn globset_raw_searcher_can_match_below(
 
 fn can_match_below_of(object: &mut Object, folder: &[u8]) -> Status
     ensures same { object.new ≡ object.old }
-    ensures yes { result ≡ YES → IfSearcher (Some object.old) (λ s. MatchesBelow (set_globs s.set) folder.now) }
-    ensures no { result ≡ NO → IfSearcher (Some object.old) (λ s. ¬ (MatchesBelow (set_globs s.set) folder.now)) }
+    ensures yes { result ≡ YES
+        → IfSearcher (Some object.old) (λ s. MatchesBelow (set_globs s.set) folder.now) }
+    ensures no { result ≡ NO
+        → IfSearcher (Some object.old) (λ s. ¬ (MatchesBelow (set_globs s.set) folder.now)) }
     ensures right_kind { IsSearcher (Some object.old) → result ≢ WRONG_KIND }
     ensures statuses { IsOneOf (NO ∷ YES ∷ WRONG_KIND ∷ []) result }
 {

@@ -44,9 +44,10 @@ pub extern "C" fn globset_raw_work_fit(work: &mut Owned, asked: &mut Lent) -> St
     ensures grown { IsGrown work.old.object work.new.object }
     ensures succeeds_if_fits { IsFitFor (Some asked.old.object) work.old.object → result ≡ DONE }
     ensures same_of_wrong_kind { result ≡ WRONG_KIND → work.new.object ≡ work.old.object }
-    ensures right_kind { IsSet (Some asked.old.object) ⊎ IsMatcher (Some asked.old.object) → IsWork work.old.object →
-        result ≢ WRONG_KIND }
-    ensures other_kind { ¬ (IsSet (Some asked.old.object)) → ¬ (IsMatcher (Some asked.old.object)) → result ≡ WRONG_KIND }
+    ensures right_kind { IsSet (Some asked.old.object) ⊎ IsMatcher (Some asked.old.object)
+        → IsWork work.old.object → result ≢ WRONG_KIND }
+    ensures other_kind { ¬ (IsSet (Some asked.old.object)) → ¬ (IsMatcher (Some asked.old.object))
+        → result ≡ WRONG_KIND }
     ensures no_work { ¬ (IsWork work.old.object) → result ≡ WRONG_KIND }
     ensures statuses { IsOneOf (DONE ∷ OUT_OF_MEMORY ∷ WRONG_KIND ∷ []) result }
 {
@@ -61,9 +62,10 @@ fn fit_boxed(object: &Object, boxed: Box<Object>) -> (Box<Object>, Status)
     ensures grown { IsGrown (Some boxed.value) (Some result.0.value) }
     ensures succeeds_if_fits { IsFitFor (Some object.now) (Some boxed.value) → result.1 ≡ DONE }
     ensures same_of_wrong_kind { result.1 ≡ WRONG_KIND → result.0.value ≡ boxed.value }
-    ensures right_kind { IsSet (Some object.now) ⊎ IsMatcher (Some object.now) → IsWork (Some boxed.value) →
-        result.1 ≢ WRONG_KIND }
-    ensures other_kind { ¬ (IsSet (Some object.now)) → ¬ (IsMatcher (Some object.now)) → result.1 ≡ WRONG_KIND }
+    ensures right_kind { IsSet (Some object.now) ⊎ IsMatcher (Some object.now)
+        → IsWork (Some boxed.value) → result.1 ≢ WRONG_KIND }
+    ensures other_kind { ¬ (IsSet (Some object.now)) → ¬ (IsMatcher (Some object.now))
+        → result.1 ≡ WRONG_KIND }
     ensures no_work { ¬ (IsWork (Some boxed.value)) → result.1 ≡ WRONG_KIND }
     ensures statuses { IsOneOf (DONE ∷ OUT_OF_MEMORY ∷ WRONG_KIND ∷ []) result.1 }
 {
@@ -81,8 +83,10 @@ fn fit_object(object: &Object, work: &mut Work) -> Status
     ensures same_found { work.new.found.items ≡ work.old.found.items }
     ensures same_of_wrong_kind { result ≡ WRONG_KIND → work.new ≡ work.old }
     ensures succeeds_if_fits { IsFitFor (Some object.now) (as_object work.old) → result ≡ DONE }
-    ensures right_kind { IsSet (Some object.now) ⊎ IsMatcher (Some object.now) → result ≢ WRONG_KIND }
-    ensures other_kind { ¬ (IsSet (Some object.now)) → ¬ (IsMatcher (Some object.now)) → result ≡ WRONG_KIND }
+    ensures right_kind { IsSet (Some object.now) ⊎ IsMatcher (Some object.now)
+        → result ≢ WRONG_KIND }
+    ensures other_kind { ¬ (IsSet (Some object.now)) → ¬ (IsMatcher (Some object.now))
+        → result ≡ WRONG_KIND }
     ensures statuses { IsOneOf (DONE ∷ OUT_OF_MEMORY ∷ WRONG_KIND ∷ []) result }
 {
     let fitted = match object {

@@ -49,7 +49,8 @@ impl<'a> GlobBuilder<'a> {
     /// Sets whether ASCII letters match in both cases. Off by default.
     pub fn case_insensitive(&mut self, yes: bool) -> &mut GlobBuilder<'a>
         ensures same_reference { result.ghost_name ≡ self.entry.ghost_name }
-        ensures value { result.now ≡ record self.old { options = record self.old.options { case_insensitive = yes } } }
+        ensures value { result.now
+            ≡ record self.old { options = record self.old.options { case_insensitive = yes } } }
     {
         self.options.case_insensitive = yes;
         self
@@ -59,7 +60,8 @@ impl<'a> GlobBuilder<'a> {
     /// it in both cases. Off by default.
     pub fn literal_separator(&mut self, yes: bool) -> &mut GlobBuilder<'a>
         ensures same_reference { result.ghost_name ≡ self.entry.ghost_name }
-        ensures value { result.now ≡ record self.old { options = record self.old.options { literal_separator = yes } } }
+        ensures value { result.now
+            ≡ record self.old { options = record self.old.options { literal_separator = yes } } }
     {
         self.options.literal_separator = yes;
         self
@@ -77,7 +79,8 @@ impl<'a> GlobBuilder<'a> {
     /// ```
     pub fn backslash_escape(&mut self, yes: bool) -> &mut GlobBuilder<'a>
         ensures same_reference { result.ghost_name ≡ self.entry.ghost_name }
-        ensures value { result.now ≡ record self.old { options = record self.old.options { backslash_escape = yes } } }
+        ensures value { result.now
+            ≡ record self.old { options = record self.old.options { backslash_escape = yes } } }
     {
         self.options.backslash_escape = yes;
         self
@@ -97,7 +100,8 @@ impl<'a> GlobBuilder<'a> {
     /// ```
     pub fn empty_alternates(&mut self, yes: bool) -> &mut GlobBuilder<'a>
         ensures same_reference { result.ghost_name ≡ self.entry.ghost_name }
-        ensures value { result.now ≡ record self.old { options = record self.old.options { empty_alternates = yes } } }
+        ensures value { result.now
+            ≡ record self.old { options = record self.old.options { empty_alternates = yes } } }
     {
         self.options.empty_alternates = yes;
         self
@@ -114,7 +118,8 @@ impl<'a> GlobBuilder<'a> {
     /// ```
     pub fn allow_unclosed_class(&mut self, yes: bool) -> &mut GlobBuilder<'a>
         ensures same_reference { result.ghost_name ≡ self.entry.ghost_name }
-        ensures value { result.now ≡ record self.old { options = record self.old.options { allow_unclosed_class = yes } } }
+        ensures value { result.now
+            ≡ record self.old { options = record self.old.options { allow_unclosed_class = yes } } }
     {
         self.options.allow_unclosed_class = yes;
         self
@@ -134,7 +139,8 @@ impl<'a> GlobBuilder<'a> {
     /// ```
     pub fn whole_character(&mut self, yes: bool) -> &mut GlobBuilder<'a>
         ensures same_reference { result.ghost_name ≡ self.entry.ghost_name }
-        ensures value { result.now ≡ record self.old { options = record self.old.options { whole_character = yes } } }
+        ensures value { result.now
+            ≡ record self.old { options = record self.old.options { whole_character = yes } } }
     {
         self.options.whole_character = yes;
         self

@@ -216,7 +216,8 @@ impl Glob {
     pub(crate) fn tokens(&self) -> &[Token]
         ensures read { reading self.now.options (chars self.now.text) ≡ Ok (tokens_of result.now) }
         ensures nested { IsNested (flats result.now) }
-        ensures weight { weight self.now.options (tokens_of result.now) ≤ states_per_byte self.now.options * length self.now.text }
+        ensures weight { weight self.now.options (tokens_of result.now)
+            ≤ states_per_byte self.now.options * length self.now.text }
     {
         &self.tokens
     }
@@ -261,7 +262,8 @@ impl PartialEq for Glob {
         ensures result { result ≡ same_glob self.now other.now }
         ensures fields { IsTrue result ↔ (self.now ≡ other.now) }
         ensures tokens { IsTrue result → tokens_of_glob self.now ≡ tokens_of_glob other.now }
-        ensures paths { IsTrue result → (path : List ℕ) → glob_matches self.now path ≡ glob_matches other.now path }
+        ensures paths { IsTrue result → (path : List ℕ)
+            → glob_matches self.now path ≡ glob_matches other.now path }
     {
         self.text == other.text && self.options == other.options
     }

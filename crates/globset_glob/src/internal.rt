@@ -18,7 +18,8 @@ pub fn tokens_of(glob: &Glob) -> &[Token]
     ensures read { reading glob.now.options (chars glob.now.text) ≡ Ok (tokens_of result.now) }
     ensures tokens { tokens_of_glob glob.now ≡ tokens_of result.now }
     ensures nested { IsNested (flats result.now) }
-    ensures weight { weight glob.now.options (tokens_of result.now) ≤ states_per_byte glob.now.options * length glob.now.text }
+    ensures weight { weight glob.now.options (tokens_of result.now)
+        ≤ states_per_byte glob.now.options * length glob.now.text }
 {
     glob.tokens()
 }

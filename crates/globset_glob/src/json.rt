@@ -1,6 +1,6 @@
 //! Globs as JSON values.
 
-ghost use Rattle.std.specs.Prelude.{◌≡◌, Err, IfOk, IfErr, MatchResult, Ok};
+ghost use Rattle.std.specs.Prelude.{◌≡◌, Err, IfOk, IfErr, Ok};
 ghost use Rattle.serde_json.specs.View.{view};
 ghost use Rattle.glob_text.specs.Errors.{glob_or_parse_error, out_of_memory};
 ghost use Rattle.glob_text.specs.GlobMatches.{IsRead};
@@ -68,9 +68,9 @@ impl Glob {
 /// Returns the first of these errors: [`ValueErrorKind::NotText`], [`ValueErrorKind::UnknownKey`],
 /// [`ValueErrorKind::NotBool`].
 fn text_and_options(value: &Value) -> Result<(&str, Options), ValueErrorKind>
-    ensures { MatchResult result
-        (λ (text, options). glob_of_value (view value.now) ≡ of_text (glob_or_parse_error (record { text = text.now; options = options })))
-        (λ kind. glob_of_value (view value.now) ≡ Err (of_kind kind)) }
+    ensures ok { IfOk result (λ (text, options). glob_of_value (view value.now)
+        ≡ of_text (glob_or_parse_error (record { text = text.now; options = options }))) }
+    ensures err { IfErr result (λ kind. glob_of_value (view value.now) ≡ Err (of_kind kind)) }
 {
     match value {
         Value::String(text) => Ok((text.as_str(), Options::DEFAULT)),

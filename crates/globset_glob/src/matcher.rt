@@ -12,8 +12,8 @@ mod strategy;
 
 use crate::glob::Glob;
 use bit_sets::Visits;
-use glob_path::{AsPath, Candidate};
 use glob_matching::{NeedsScratch, Scratch};
+use glob_path::{AsPath, Candidate};
 use glob_text::Error;
 use nfa_simulation::StateSets;
 pub use searcher::MatcherSearcher;

@@ -70,10 +70,13 @@ impl StoredBuilder {
         tokens: &[Token],
     ) -> Result<(), AllocError>
         requires room { length self.old.given < self.old.count }
-        requires read { reading options (chars (string_bytes text.now)) ≡ Ok (tokens_of tokens.now) }
+        requires read { reading options (chars (string_bytes text.now))
+            ≡ Ok (tokens_of tokens.now) }
         requires nested { IsNested (flats tokens.now) }
-        requires weight { weight options (tokens_of tokens.now) ≤ states_per_byte options * length (string_bytes text.now) }
-        ensures glob { OnOk result (self.new.given ≡ self.old.given ++ glob_value (string_bytes text.now) options ∷ []) }
+        requires weight { weight options (tokens_of tokens.now)
+            ≤ states_per_byte options * length (string_bytes text.now) }
+        ensures glob { OnOk result
+            (self.new.given ≡ self.old.given ++ glob_value (string_bytes text.now) options ∷ []) }
         ensures none { OnErr result (self.new.given ≡ []) }
         ensures count { self.new.count ≡ self.old.count }
     {

@@ -10,8 +10,8 @@ ghost use Rattle.set_matcher.specs.Indexes.{ContainsAllBelow};
 
 use crate::stored::Stored;
 use bit_sets::Visits;
-use glob_path::Candidate;
 use glob_matching::Scratch;
+use glob_path::Candidate;
 use glob_text::Error;
 use set_matcher::Caches;
 use std::alloc::Global;
@@ -78,7 +78,8 @@ impl StoredSearcher {
         ensures found { into.new.items ≡ matching_indexes (set_globs self.old.set) path.now }
         ensures capacity { vec_capacity into.old ≤ vec_capacity into.new }
         ensures kept { self.new ≡ self.old }
-        ensures visits { visits.new ≤ visits.old + max_set_visits (set_globs self.old.set) path.now }
+        ensures visits { visits.new
+            ≤ visits.old + max_set_visits (set_globs self.old.set) path.now }
         ensures counted { visits.old ≤ visits.new }
     {
         self.stored
@@ -90,7 +91,8 @@ impl StoredSearcher {
     pub fn is_match(&mut self, path: &Candidate<'_>, visits: &mut Visits) -> bool
         ensures some { IsTrue result ↔ (matching_indexes (set_globs self.old.set) path.now ≢ []) }
         ensures kept { self.new ≡ self.old }
-        ensures visits { visits.new ≤ visits.old + max_set_visits (set_globs self.old.set) path.now }
+        ensures visits { visits.new
+            ≤ visits.old + max_set_visits (set_globs self.old.set) path.now }
         ensures counted { visits.old ≤ visits.new }
     {
         self.stored
@@ -100,9 +102,12 @@ impl StoredSearcher {
 
     /// Returns whether every glob matches the path and none is excluded.
     pub fn matches_all(&mut self, path: &Candidate<'_>, visits: &mut Visits) -> bool
-        ensures all { IsTrue result ↔ ContainsAllBelow (matching_indexes (set_globs self.old.set) path.now) (length (set_globs self.old.set)) }
+        ensures all { IsTrue result
+            ↔ ContainsAllBelow (matching_indexes (set_globs self.old.set) path.now)
+            (length (set_globs self.old.set)) }
         ensures kept { self.new ≡ self.old }
-        ensures visits { visits.new ≤ visits.old + max_set_visits (set_globs self.old.set) path.now }
+        ensures visits { visits.new
+            ≤ visits.old + max_set_visits (set_globs self.old.set) path.now }
         ensures counted { visits.old ≤ visits.new }
     {
         self.stored
@@ -114,7 +119,8 @@ impl StoredSearcher {
     pub fn can_match_below(&mut self, folder: &Candidate<'_>, visits: &mut Visits) -> bool
         ensures some { IsTrue result ↔ MatchesBelow (set_globs self.old.set) folder.now }
         ensures kept { self.new ≡ self.old }
-        ensures visits { visits.new ≤ visits.old + max_set_visits_below (set_globs self.old.set) folder.now }
+        ensures visits { visits.new
+            ≤ visits.old + max_set_visits_below (set_globs self.old.set) folder.now }
         ensures counted { visits.old ≤ visits.new }
     {
         self.stored

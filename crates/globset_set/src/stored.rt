@@ -14,8 +14,8 @@ ghost use Rattle.set_matcher.specs.inner.Caches.{AreCachesOf};
 
 use crate::searcher::StoredSearcher;
 use bit_sets::Visits;
-use glob_path::Candidate;
 use glob_matching::{NeedsScratch, Scratch};
+use glob_path::Candidate;
 use glob_text::{Error, GivenGlobs};
 use set_matcher::{Caches, SetMatcher};
 use std::alloc::{AllocError, Global};
@@ -137,13 +137,17 @@ impl Stored {
     ) -> Result<(), Error>
         requires { AreCachesOf self.now.automata caches.old }
         ensures caches { caches.new ≡ caches.old }
-        ensures ok { OnOk result (into.new.items ≡ matching_indexes (set_globs self.now.set) path.now) }
+        ensures ok { OnOk result
+            (into.new.items ≡ matching_indexes (set_globs self.now.set) path.now) }
         ensures err { IfErr result (λ e. e ≡ out_of_memory) }
         ensures cleared { OnErr result (into.new.items ≡ []) }
         ensures kept { scratch.new ≡ scratch.old }
-        ensures room { HasCapacity scratch.old (set_states self.now.set) (length (set_globs self.now.set)) → length (set_globs self.now.set) ≤ vec_capacity into.old → IsOk result }
+        ensures room { HasCapacity scratch.old (set_states self.now.set)
+            (length (set_globs self.now.set))
+            → length (set_globs self.now.set) ≤ vec_capacity into.old → IsOk result }
         ensures capacity { vec_capacity into.old ≤ vec_capacity into.new }
-        ensures visits { visits.new ≤ visits.old + max_set_visits (set_globs self.now.set) path.now }
+        ensures visits { visits.new
+            ≤ visits.old + max_set_visits (set_globs self.now.set) path.now }
         ensures counted { visits.old ≤ visits.new }
     {
         self.matcher().find(path, scratch, caches, into, visits)?;
@@ -162,12 +166,16 @@ impl Stored {
     ) -> Result<bool, Error>
         requires { AreCachesOf self.now.automata caches.old }
         ensures caches { caches.new ≡ caches.old }
-        ensures ok { IfOk result (λ yes. IsTrue yes ↔ (matching_indexes (set_globs self.now.set) path.now ≢ [])) }
+        ensures ok { IfOk result
+            (λ yes. IsTrue yes ↔ (matching_indexes (set_globs self.now.set) path.now ≢ [])) }
         ensures err { IfErr result (λ e. e ≡ out_of_memory) }
         ensures kept { scratch.new ≡ scratch.old }
-        ensures room { HasCapacity scratch.old (set_states self.now.set) (length (set_globs self.now.set)) → IsOk result }
-        ensures succeeds_without_automata { load (set_globs self.now.set) path.now ≡ 0 → IsOk result }
-        ensures visits { visits.new ≤ visits.old + max_set_visits (set_globs self.now.set) path.now }
+        ensures room { HasCapacity scratch.old (set_states self.now.set)
+            (length (set_globs self.now.set)) → IsOk result }
+        ensures succeeds_without_automata { load (set_globs self.now.set) path.now ≡ 0
+            → IsOk result }
+        ensures visits { visits.new
+            ≤ visits.old + max_set_visits (set_globs self.now.set) path.now }
         ensures counted { visits.old ≤ visits.new }
     {
         Ok(self.matcher().is_match(path, scratch, caches, visits)?)
@@ -185,12 +193,15 @@ impl Stored {
     ) -> Result<bool, Error>
         requires { AreCachesOf self.now.automata caches.old }
         ensures caches { caches.new ≡ caches.old }
-        ensures ok { IfOk result (λ yes. IsTrue yes ↔ MatchesBelow (set_globs self.now.set) folder.now) }
+        ensures ok { IfOk result
+            (λ yes. IsTrue yes ↔ MatchesBelow (set_globs self.now.set) folder.now) }
         ensures err { IfErr result (λ e. e ≡ out_of_memory) }
         ensures kept { scratch.new ≡ scratch.old }
-        ensures room { HasCapacity scratch.old (set_states self.now.set) (length (set_globs self.now.set)) → IsOk result }
+        ensures room { HasCapacity scratch.old (set_states self.now.set)
+            (length (set_globs self.now.set)) → IsOk result }
         ensures succeeds_without_automata { load_below (set_globs self.now.set) ≡ 0 → IsOk result }
-        ensures visits { visits.new ≤ visits.old + max_set_visits_below (set_globs self.now.set) folder.now }
+        ensures visits { visits.new
+            ≤ visits.old + max_set_visits_below (set_globs self.now.set) folder.now }
         ensures counted { visits.old ≤ visits.new }
     {
         Ok(
@@ -211,12 +222,18 @@ impl Stored {
     ) -> Result<bool, Error>
         requires { AreCachesOf self.now.automata caches.old }
         ensures caches { caches.new ≡ caches.old }
-        ensures ok { IfOk result (λ yes. IsTrue yes ↔ ContainsAllBelow (matching_indexes (set_globs self.now.set) path.now) (length (set_globs self.now.set))) }
+        ensures ok { IfOk result
+            (λ yes. IsTrue yes
+            ↔ ContainsAllBelow (matching_indexes (set_globs self.now.set) path.now)
+            (length (set_globs self.now.set))) }
         ensures err { IfErr result (λ e. e ≡ out_of_memory) }
         ensures kept { scratch.new ≡ scratch.old }
-        ensures room { HasCapacity scratch.old (set_states self.now.set) (length (set_globs self.now.set)) → IsOk result }
-        ensures succeeds_without_automata { load (set_globs self.now.set) path.now ≡ 0 → IsOk result }
-        ensures visits { visits.new ≤ visits.old + max_set_visits (set_globs self.now.set) path.now }
+        ensures room { HasCapacity scratch.old (set_states self.now.set)
+            (length (set_globs self.now.set)) → IsOk result }
+        ensures succeeds_without_automata { load (set_globs self.now.set) path.now ≡ 0
+            → IsOk result }
+        ensures visits { visits.new
+            ≤ visits.old + max_set_visits (set_globs self.now.set) path.now }
         ensures counted { visits.old ≤ visits.new }
     {
         Ok(self.matcher().matches_all(path, scratch, caches, visits)?)

@@ -17,7 +17,9 @@ fn closes(first: bool, c: char) -> bool
 /// Returns the items of a class that begins with `cs`, after its `[` and its negation, and how many characters it has with
 /// its `]`; `None` if it cannot be read. Returns an error if memory runs out.
 pub fn class_items(alloc: Global, cs: &[char]) -> Result<Option<(Vec<Item>, usize)>, AllocError>
-    ensures value { IfOk result (λ r. option_map (λ class. (class.0.items, class.1)) r ≡ class_items zero true None cs.now) }
+    ensures value { IfOk result
+        (λ r. option_map (λ class. (class.0.items, class.1)) r
+        ≡ class_items zero true None cs.now) }
     ensures within { IfOk result (λ r. IfSome r (λ class. class.1 ≤ length cs.now)) }
 {
     let mut items = Vec::new(alloc);

@@ -90,7 +90,9 @@ fn push_unplaced(
     c: char,
 ) -> Result<(), AllocError>
     requires { c < 128 }
-    ensures { OnOk result (out.new.items ≡ out.old.items ++ filter (λ d. not (has_place d) && is_written negated items.now d) (c ∷ [])) }
+    ensures { OnOk result
+        (out.new.items ≡ out.old.items
+        ++ filter (λ d. not (has_place d) && is_written negated items.now d) (c ∷ [])) }
 {
     if !has_place(c) && is_written(negated, items, c) {
         out.push(c)?;
@@ -100,7 +102,9 @@ fn push_unplaced(
 
 /// Pushes the ASCII characters of the class that have no place of their own.
 fn push_ascii(out: &mut Vec<char>, negated: bool, items: &[Item]) -> Result<(), AllocError>
-    ensures { OnOk result (out.new.items ≡ out.old.items ++ filter (λ d. not (has_place d) && is_written negated items.now d) ascii) }
+    ensures { OnOk result
+        (out.new.items ≡ out.old.items
+        ++ filter (λ d. not (has_place d) && is_written negated items.now d) ascii) }
 {
     for byte in 0..128u8 {
         push_unplaced(out, negated, items, char::from(byte))?;
@@ -195,7 +199,9 @@ fn body_end(alloc: Global, negated: bool, items: &[Item]) -> Result<Vec<char>, A
 
 /// Writes a choice of these characters. Returns whether there are any.
 fn push_choice(out: &mut String, members: &[char]) -> Result<bool, AllocError>
-    ensures { IfOk result (λ done. outcome done (string_bytes out.new) ≡ followed (string_bytes out.old) (choice members.now)) }
+    ensures { IfOk result
+        (λ done. outcome done (string_bytes out.new)
+        ≡ followed (string_bytes out.old) (choice members.now)) }
 {
     let [first, others @ ..] = members else {
         return Ok(false);
@@ -217,7 +223,10 @@ fn push_brackets(
     start: &[char],
     end: &[char],
 ) -> Result<(), AllocError>
-    ensures { OnOk result (string_bytes out.new ≡ string_bytes out.old ++ opening.now ++ encode_utf8_all (start.now ++ end.now ++ 93 ∷ [])) }
+    ensures { OnOk result
+        (string_bytes out.new
+        ≡ string_bytes out.old ++ opening.now
+        ++ encode_utf8_all (start.now ++ end.now ++ 93 ∷ [])) }
 {
     out.push_str(opening)?;
     push_all(out, start)?;
@@ -228,7 +237,9 @@ fn push_brackets(
 
 /// Writes a class that is not negated, by the two parts of its body. Returns whether anything is in it.
 fn push_positive(out: &mut String, start: &[char], end: &[char]) -> Result<bool, AllocError>
-    ensures { IfOk result (λ done. outcome done (string_bytes out.new) ≡ followed (string_bytes out.old) (positive start.now end.now)) }
+    ensures { IfOk result
+        (λ done. outcome done (string_bytes out.new)
+        ≡ followed (string_bytes out.old) (positive start.now end.now)) }
 {
     match start {
         [] => push_choice(out, end),
@@ -250,7 +261,9 @@ pub fn push_class(
     negated: bool,
     items: &[Item],
 ) -> Result<bool, AllocError>
-    ensures { IfOk result (λ done. outcome done (string_bytes out.new) ≡ followed (string_bytes out.old) (class_text negated items.now)) }
+    ensures { IfOk result
+        (λ done. outcome done (string_bytes out.new)
+        ≡ followed (string_bytes out.old) (class_text negated items.now)) }
 {
     let start = body_start(alloc, negated, items)?;
     let end = body_end(alloc, negated, items)?;

@@ -5,7 +5,8 @@ ghost use Rattle.ignore_pattern.specs.Ends.{ends_with, without_last};
 
 /// Returns the characters before the last one, if that is `c`.
 pub fn before_last(c: char, cs: &[char]) -> Option<&[char]>
-    ensures some { IfSome result (λ front. (ends_with c cs.now ≡ true) × (front.now ≡ without_last c cs.now)) }
+    ensures some { IfSome result
+        (λ front. (ends_with c cs.now ≡ true) × (front.now ≡ without_last c cs.now)) }
     ensures none { IfNone result ((ends_with c cs.now ≡ false) × (without_last c cs.now ≡ cs.now)) }
 {
     match cs {

@@ -17,7 +17,9 @@ use std::alloc::{AllocError, Global};
 ///
 /// Returns an error if memory runs out.
 pub fn text_of(alloc: Global, whole: bool, cs: &[char]) -> Result<Option<String>, AllocError>
-    ensures { IfOk result (λ r. option_map string_bytes r ≡ followed [] (option_and_then (text_of whole) (elements whole Start zero cs.now))) }
+    ensures { IfOk result
+        (λ r. option_map string_bytes r
+        ≡ followed [] (option_and_then (text_of whole) (elements whole Start zero cs.now))) }
 {
     if cs.is_empty() {
         Ok(None)
@@ -30,7 +32,9 @@ pub fn text_of(alloc: Global, whole: bool, cs: &[char]) -> Result<Option<String>
 
 /// Returns the text of the glob for a pattern that is matched against whole paths.
 fn whole_text(alloc: Global, cs: &[char]) -> Result<Option<String>, AllocError>
-    ensures { IfOk result (λ r. option_map string_bytes r ≡ followed [] (option_and_then whole_text (elements true Start zero cs.now))) }
+    ensures { IfOk result
+        (λ r. option_map string_bytes r
+        ≡ followed [] (option_and_then whole_text (elements true Start zero cs.now))) }
 {
     match folders_at(cs) {
         Some(count) => after_folders(alloc, true, Place::AfterSlash, cs.split_at(count).1),
@@ -66,7 +70,8 @@ fn folders_after(more: usize, rest: &[char]) -> Option<usize>
 
 /// Returns the text of the elements of `cs`, in a pattern that is matched against whole paths.
 fn plain_text(alloc: Global, cs: &[char]) -> Result<Option<String>, AllocError>
-    ensures { IfOk result (λ r. option_map string_bytes r ≡ followed [] (text_from true Start zero cs.now)) }
+    ensures { IfOk result
+        (λ r. option_map string_bytes r ≡ followed [] (text_from true Start zero cs.now)) }
 {
     let mut text = String::new(alloc);
     if push_elements(alloc, &mut text, true, Place::Start, cs)? {
@@ -83,7 +88,9 @@ fn after_folders(
     place: Place,
     cs: &[char],
 ) -> Result<Option<String>, AllocError>
-    ensures { IfOk result (λ r. option_map string_bytes r ≡ followed [] (option_and_then after_folders (elements whole place zero cs.now))) }
+    ensures { IfOk result
+        (λ r. option_map string_bytes r
+        ≡ followed [] (option_and_then after_folders (elements whole place zero cs.now))) }
 {
     let mut text = String::from_str(alloc, "**/")?;
     if push_elements(alloc, &mut text, whole, place, cs)? {

@@ -47,7 +47,8 @@ fn characters(alloc: Global, text: &str) -> Result<Vec<char>, AllocError>
 /// Returns the pattern of the characters of a line.
 #[tactic(auto, unfolding(crate::specs::CharacterPatterns::pattern_of_chars))]
 fn pattern_of_chars(alloc: Global, cs: &[char]) -> Result<Option<PatternText>, AllocError>
-    ensures { IfOk result (λ r. option_map with_glob r ≡ option_and_then glob_of_pattern (pattern_of_chars cs.now)) }
+    ensures { IfOk result
+        (λ r. option_map with_glob r ≡ option_and_then glob_of_pattern (pattern_of_chars cs.now)) }
 {
     match cs {
         ['#', ..] => Ok(None),
@@ -62,7 +63,9 @@ fn pattern_after(
     is_negated: bool,
     cs: &[char],
 ) -> Result<Option<PatternText>, AllocError>
-    ensures { IfOk result (λ r. option_map with_glob r ≡ option_and_then glob_of_pattern (pattern_after is_negated cs.now)) }
+    ensures { IfOk result
+        (λ r. option_map with_glob r
+        ≡ option_and_then glob_of_pattern (pattern_after is_negated cs.now)) }
 {
     match before_last('/', cs) {
         Some(front) => pattern_between(alloc, is_negated, true, front),
@@ -77,7 +80,9 @@ fn pattern_between(
     is_folders_only: bool,
     cs: &[char],
 ) -> Result<Option<PatternText>, AllocError>
-    ensures { IfOk result (λ r. option_map with_glob r ≡ option_and_then glob_of_pattern (pattern_between is_negated is_folders_only cs.now)) }
+    ensures { IfOk result
+        (λ r. option_map with_glob r
+        ≡ option_and_then glob_of_pattern (pattern_between is_negated is_folders_only cs.now)) }
 {
     match cs {
         ['/', after @ ..] => pattern_with(alloc, is_negated, is_folders_only, true, after),
@@ -93,7 +98,10 @@ fn pattern_with(
     whole: bool,
     cs: &[char],
 ) -> Result<Option<PatternText>, AllocError>
-    ensures { IfOk result (λ r. option_map with_glob r ≡ option_and_then glob_of_pattern (pattern_with is_negated is_folders_only whole (elements whole Start zero cs.now))) }
+    ensures { IfOk result
+        (λ r. option_map with_glob r
+        ≡ option_and_then glob_of_pattern
+        (pattern_with is_negated is_folders_only whole (elements whole Start zero cs.now))) }
 {
     match text_of(alloc, whole, cs)? {
         None => Ok(None),

@@ -29,7 +29,8 @@ fn is_special(c: char) -> bool
 
 /// Writes a character that matches itself.
 fn push_literal(out: &mut String, c: char) -> Result<(), AllocError>
-    ensures { OnOk result (string_bytes out.new ≡ string_bytes out.old ++ encode_utf8_all (literal_text c)) }
+    ensures { OnOk result
+        (string_bytes out.new ≡ string_bytes out.old ++ encode_utf8_all (literal_text c)) }
 {
     if is_special(c) {
         out.push('\\')?;
@@ -40,7 +41,9 @@ fn push_literal(out: &mut String, c: char) -> Result<(), AllocError>
 /// Writes an element. Returns whether it matches something; if not, it has no text.
 #[tactic(auto, unfolding(crate::specs::Translation::element_text))]
 pub fn push_element(alloc: Global, out: &mut String, element: &Element) -> Result<bool, AllocError>
-    ensures { IfOk result (λ done. outcome done (string_bytes out.new) ≡ followed (string_bytes out.old) (element_text (element_of element.now))) }
+    ensures { IfOk result
+        (λ done. outcome done (string_bytes out.new)
+        ≡ followed (string_bytes out.old) (element_text (element_of element.now))) }
 {
     match element {
         Element::Literal(c) => push_literal(out, *c)?,
@@ -59,7 +62,9 @@ fn push_found(
     out: &mut String,
     found: ElementAt,
 ) -> Result<Option<(usize, Place)>, AllocError>
-    ensures text { IfOk result (λ r. outcome (is_some r) (string_bytes out.new) ≡ followed (string_bytes out.old) (element_text (element_of found.element))) }
+    ensures text { IfOk result
+        (λ r. outcome (is_some r) (string_bytes out.new)
+        ≡ followed (string_bytes out.old) (element_text (element_of found.element))) }
     ensures next { IfOk result (λ r. IfSome r (λ s. (s.0 ≡ found.more) × (s.1 ≡ found.place))) }
 {
     let next = (found.more, found.place);
@@ -80,7 +85,9 @@ fn push_next(
     c: char,
     cs: &[char],
 ) -> Result<Option<(usize, Place)>, AllocError>
-    ensures text { IfOk result (λ r. continued whole cs.now (string_bytes out.new) r ≡ followed (string_bytes out.old) (text_from whole place zero (c ∷ cs.now))) }
+    ensures text { IfOk result
+        (λ r. continued whole cs.now (string_bytes out.new) r
+        ≡ followed (string_bytes out.old) (text_from whole place zero (c ∷ cs.now))) }
     ensures within { IfOk result (λ r. IfSome r (λ s. s.0 ≤ length cs.now)) }
 {
     match element_at(alloc, whole, place, c, cs)? {
@@ -102,7 +109,9 @@ pub fn push_elements(
     place: Place,
     cs: &[char],
 ) -> Result<bool, AllocError>
-    ensures { IfOk result (λ done. outcome done (string_bytes out.new) ≡ followed (string_bytes out.old) (text_from whole place zero cs.now)) }
+    ensures { IfOk result
+        (λ done. outcome done (string_bytes out.new)
+        ≡ followed (string_bytes out.old) (text_from whole place zero cs.now)) }
 {
     let mut place = place;
     let mut rest = cs;

@@ -72,7 +72,9 @@ impl Cache {
         requires room { self.old.index_count ≤ index_capacity found.old }
         ensures same { self.new ≡ self.old }
         ensures room { index_capacity found.new ≡ index_capacity found.old }
-        ensures found { (k : ℕ) → IsTrue (has_index found.new k) ↔ (IsReached self.old text.now k ⊎ IsTrue (has_index found.old k)) }
+        ensures found { (k : ℕ)
+            → IsTrue (has_index found.new k)
+            ↔ (IsReached self.old text.now k ⊎ IsTrue (has_index found.old k)) }
         ensures visits { visits.new ≤ visits.old + (length text.now + 1) * size self.old }
         ensures counted { visits.old ≤ visits.new }
     {

@@ -11,7 +11,8 @@ use bit_sets::{IndexSet, StateSet, Visits};
 /// Returns the list of states of a row, by the places where the lists of rows stand.
 pub fn states_at<'a>(starts: &[usize], lists: &'a [usize], row: usize) -> &'a [usize]
     requires row { row < length starts.now }
-    requires list { slice_index starts.now row + 1 + slice_index lists.now (slice_index starts.now row) ≤ length lists.now }
+    requires list { slice_index starts.now row + 1
+        + slice_index lists.now (slice_index starts.now row) ≤ length lists.now }
     ensures { result.now ≡ list_at lists.now (slice_index starts.now row) }
 {
     let start = starts[row];
@@ -25,7 +26,8 @@ pub fn list_of(set: &StateSet, limit: usize, list: &mut Vec<usize>)
     requires room { limit ≤ vec_capacity list.old }
     ensures below { AreBelow limit list.new.items }
     ensures few { length list.new.items ≤ limit }
-    ensures has { (t : ℕ) → IsTrue (has_number t list.new.items) ↔ ((t < limit) × IsTrue (has_state set.now t)) }
+    ensures has { (t : ℕ)
+        → IsTrue (has_number t list.new.items) ↔ ((t < limit) × IsTrue (has_state set.now t)) }
     ensures capacity { vec_capacity list.old ≤ vec_capacity list.new }
 {
     list.clear();
@@ -45,7 +47,8 @@ pub fn list_indexes(set: &IndexSet, limit: usize, list: &mut Vec<usize>)
     requires { limit ≤ vec_capacity list.old }
     ensures below { AreBelow limit list.new.items }
     ensures few { length list.new.items ≤ limit }
-    ensures has { (k : ℕ) → IsTrue (has_number k list.new.items) ↔ ((k < limit) × IsTrue (has_index set.now k)) }
+    ensures has { (k : ℕ)
+        → IsTrue (has_number k list.new.items) ↔ ((k < limit) × IsTrue (has_index set.now k)) }
     ensures capacity { vec_capacity list.old ≤ vec_capacity list.new }
 {
     list.clear();
@@ -88,7 +91,9 @@ pub fn put_lowered(set: &IndexSet, from: usize, count: usize, into: &mut IndexSe
     requires fits { from + count < 2 ^ 64 }
     requires room { count ≤ index_capacity into.old }
     ensures room { index_capacity into.new ≡ index_capacity into.old }
-    ensures has { (k : ℕ) → IsTrue (has_index into.new k) ↔ (((k < count) × IsTrue (has_index set.now (from + k))) ⊎ IsTrue (has_index into.old k)) }
+    ensures has { (k : ℕ)
+        → IsTrue (has_index into.new k)
+        ↔ (((k < count) × IsTrue (has_index set.now (from + k))) ⊎ IsTrue (has_index into.old k)) }
 {
     let mut at = from;
     while let Some(index) = set.next_below(at, from + count) {
@@ -102,7 +107,10 @@ pub fn put_marks(numbers: &[usize], place: usize, half: usize, into: &mut IndexS
     requires list { IsList numbers.now (half + half) place }
     requires room { half ≤ index_capacity into.old }
     ensures room { index_capacity into.new ≡ index_capacity into.old }
-    ensures has { (k : ℕ) → IsTrue (has_index into.new k) ↔ (IsTrue (has_number (half + k) (list_at numbers.now place)) ⊎ IsTrue (has_index into.old k)) }
+    ensures has { (k : ℕ)
+        → IsTrue (has_index into.new k)
+        ↔ (IsTrue (has_number (half + k) (list_at numbers.now place))
+        ⊎ IsTrue (has_index into.old k)) }
 {
     let count = numbers[place];
     for index in &numbers[place + 1..place + 1 + count] {

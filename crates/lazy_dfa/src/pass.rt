@@ -30,8 +30,10 @@ pub fn read(
     ensures from_capacity { state_capacity from.new ≡ state_capacity from.old }
     ensures to_capacity { state_capacity to.new ≡ state_capacity to.old }
     ensures ends_capacity { index_capacity ends.new ≡ index_capacity ends.old }
-    ensures steps { (y : List ℕ) (k : ℕ) → AcceptsFrom automaton.now from.old (byte ∷ y) k ↔ AcceptsFrom automaton.now to.new y k }
-    ensures ends { (k : ℕ) → IsTrue (has_index ends.new k) ↔ AcceptsFrom automaton.now from.old [] k }
+    ensures steps { (y : List ℕ) (k : ℕ)
+        → AcceptsFrom automaton.now from.old (byte ∷ y) k ↔ AcceptsFrom automaton.now to.new y k }
+    ensures ends { (k : ℕ)
+        → IsTrue (has_index ends.new k) ↔ AcceptsFrom automaton.now from.old [] k }
     ensures visits { visits.new ≤ visits.old + size automaton.now }
     ensures counted { visits.old ≤ visits.new }
 {
@@ -66,9 +68,15 @@ fn take(
     ensures to_capacity { state_capacity to.new ≡ state_capacity to.old }
     ensures ends_capacity { index_capacity ends.new ≡ index_capacity ends.old }
     ensures below { GoesBelow s (state automaton.now.states s) }
-    ensures from { (t : ℕ) → has_state from.new t ≡ (goes_now (state automaton.now.states s) t || has_state from.old t) }
-    ensures to { (t : ℕ) → has_state to.new t ≡ (goes_next (state automaton.now.states s) s (Some byte) t || has_state to.old t) }
-    ensures ends { (k : ℕ) → has_index ends.new k ≡ (names (state automaton.now.states s) None k || has_index ends.old k) }
+    ensures from { (t : ℕ)
+        → has_state from.new t
+        ≡ (goes_now (state automaton.now.states s) t || has_state from.old t) }
+    ensures to { (t : ℕ)
+        → has_state to.new t
+        ≡ (goes_next (state automaton.now.states s) s (Some byte) t || has_state to.old t) }
+    ensures ends { (k : ℕ)
+        → has_index ends.new k
+        ≡ (names (state automaton.now.states s) None k || has_index ends.old k) }
 {
     match automaton.follow_epsilons(s, from) {
         Some(index) => ends.put(index),

@@ -130,7 +130,8 @@ impl Rows {
         bytes: usize,
     ) -> Result<Rows, AllocError>
         requires few { classes.now.count ≤ 256 }
-        requires equivalence { AreEquivalenceClasses automaton.now.states classes.now.class_of classes.now.representatives classes.now.count }
+        requires equivalence { AreEquivalenceClasses automaton.now.states classes.now.class_of
+            classes.now.representatives classes.now.count }
         ensures { IfOk result (λ rows. IsSound automaton.now rows) }
     {
         let states = automaton.state_count();
@@ -211,7 +212,8 @@ impl Rows {
         requires row { (i : ℕ) × IsAt self.old i place }
         requires some { 0 < size automaton.now }
         ensures sound { IsSound automaton.now self.new }
-        ensures step { (i : ℕ) → IsAt self.old i place → IsStep automaton.now self.old i byte result self.new }
+        ensures step { (i : ℕ) → IsAt self.old i place
+            → IsStep automaton.now self.old i byte result self.new }
         ensures visits { visits.new ≤ visits.old + size automaton.now }
         ensures counted { visits.old ≤ visits.new }
     {
@@ -243,8 +245,10 @@ impl Rows {
     ) -> Option<usize>
         requires sound { IsSound automaton.now self.now }
         requires row { (i : ℕ) × IsAt self.now i place }
-        ensures next { (i : ℕ) → IsAt self.now i place → IfSome result (IsPlainStep automaton.now self.now i byte) }
-        ensures visits { MatchOption result (visits.new ≡ visits.old) (λ _. visits.new ≡ visits.old + 1) }
+        ensures next { (i : ℕ) → IsAt self.now i place
+            → IfSome result (IsPlainStep automaton.now self.now i byte) }
+        ensures visits { MatchOption result (visits.new ≡ visits.old)
+            (λ _. visits.new ≡ visits.old + 1) }
     {
         let _automaton = automaton;
         let entry = entry_at(&self.entries, place, self.class_of[byte as usize] as usize);
@@ -270,8 +274,11 @@ impl Rows {
         requires row { (i : ℕ) × IsAt self.now i place }
         requires room { half automaton.now ≤ index_capacity found.old }
         ensures room { index_capacity found.new ≡ index_capacity found.old }
-        ensures next { (i : ℕ) → IsAt self.now i place → MatchOption result (found.new ≡ found.old) (IsMarkedStep automaton.now self.now i byte found.old found.new) }
-        ensures visits { MatchOption result (visits.new ≡ visits.old) (λ _. visits.new ≡ visits.old + 1) }
+        ensures next { (i : ℕ) → IsAt self.now i place
+            → MatchOption result (found.new ≡ found.old)
+            (IsMarkedStep automaton.now self.now i byte found.old found.new) }
+        ensures visits { MatchOption result (visits.new ≡ visits.old)
+            (λ _. visits.new ≡ visits.old + 1) }
     {
         let entry = entry_at(&self.entries, place, self.class_of[byte as usize] as usize);
         let end = entry_at(&self.entries, place, self.class_count);
@@ -295,7 +302,8 @@ impl Rows {
     /// Returns the place where the entries of a row begin.
     fn place_of_row(&self, row: usize) -> usize
         requires row { row < length self.now.starts.items }
-        requires len { length self.now.entries.items ≡ length self.now.starts.items * (self.now.class_count + 1) }
+        requires len { length self.now.entries.items
+            ≡ length self.now.starts.items * (self.now.class_count + 1) }
         ensures { result ≡ row * (self.now.class_count + 1) }
     {
         row * (self.class_count + 1)
@@ -348,7 +356,9 @@ impl Rows {
         requires row { (i : ℕ) × IsAt self.now i place }
         requires live { AreLive automaton.now live.now }
         requires room { size automaton.now ≤ state_capacity live.now }
-        ensures some { (i : ℕ) → IsAt self.now i place → IsTrue result ↔ ((k : ℕ) × (y : List ℕ) × AllBytes y × AcceptsRow automaton.now self.now i y k) }
+        ensures some { (i : ℕ) → IsAt self.now i place
+            → IsTrue result ↔ ((k : ℕ) × (y : List ℕ) × AllBytes y
+            × AcceptsRow automaton.now self.now i y k) }
         ensures visits { visits.new ≤ visits.old + size automaton.now }
         ensures counted { visits.old ≤ visits.new }
     {
@@ -369,8 +379,11 @@ impl Rows {
         requires row { (i : ℕ) × IsAt self.old i place }
         requires some { 0 < size automaton.now }
         ensures sound { IsSound automaton.now self.new }
-        ensures some { (i : ℕ) → IsAt self.old i place → IsTrue result ↔ ((k : ℕ) × (k < half automaton.now + half automaton.now) × AcceptsRow automaton.now self.old i [] k) }
-        ensures ends { (i : ℕ) → IsAt self.old i place → IsTrue result → HasEnds automaton.now self.old i self.new.ends }
+        ensures some { (i : ℕ) → IsAt self.old i place
+            → IsTrue result ↔ ((k : ℕ) × (k < half automaton.now + half automaton.now)
+            × AcceptsRow automaton.now self.old i [] k) }
+        ensures ends { (i : ℕ) → IsAt self.old i place → IsTrue result
+            → HasEnds automaton.now self.old i self.new.ends }
         ensures visits { visits.new ≤ visits.old + size automaton.now }
         ensures counted { visits.old ≤ visits.new }
     {
@@ -386,7 +399,9 @@ impl Rows {
         requires row { row < length self.old.starts.items }
         requires some { 0 < size automaton.now }
         ensures sound { IsSound automaton.now self.new }
-        ensures some { IsTrue result ↔ ((k : ℕ) × (k < half automaton.now + half automaton.now) × AcceptsRow automaton.now self.old row [] k) }
+        ensures some { IsTrue result
+            ↔ ((k : ℕ) × (k < half automaton.now + half automaton.now)
+            × AcceptsRow automaton.now self.old row [] k) }
         ensures ends { IsTrue result → HasEnds automaton.now self.old row self.new.ends }
         ensures visits { visits.new ≤ visits.old + size automaton.now }
         ensures counted { visits.old ≤ visits.new }
@@ -470,7 +485,8 @@ impl Rows {
         requires sound { IsSound automaton.now self.old }
         requires row { row < length self.old.starts.items }
         requires ends { HasEnds automaton.now self.old row self.old.ends }
-        requires some { (k : ℕ) × (k < half automaton.now + half automaton.now) × AcceptsRow automaton.now self.old row [] k }
+        requires some { (k : ℕ) × (k < half automaton.now + half automaton.now)
+            × AcceptsRow automaton.now self.old row [] k }
         ensures sound { IsSound automaton.now self.new }
         ensures kept { KeepsRows self.old self.new }
         ensures ends { self.new.ends ≡ self.old.ends }
@@ -509,7 +525,9 @@ impl Rows {
         requires row { row < length self.old.starts.items }
         ensures sound { IsSound automaton.now self.new }
         ensures kept { KeepsRows self.old self.new }
-        ensures steps { (y : List ℕ) (k : ℕ) → AcceptsRow automaton.now self.old row (byte ∷ y) k ↔ AcceptsFrom automaton.now self.new.next y k }
+        ensures steps { (y : List ℕ) (k : ℕ)
+            → AcceptsRow automaton.now self.old row (byte ∷ y) k
+            ↔ AcceptsFrom automaton.now self.new.next y k }
         ensures ends { HasEnds automaton.now self.old row self.new.ends }
         ensures visits { visits.new ≤ visits.old + size automaton.now }
         ensures counted { visits.old ≤ visits.new }
@@ -530,7 +548,9 @@ impl Rows {
 
     /// Returns whether `ends` has an index that says that another is decided.
     fn has_marks(&self, automaton: &Nfa) -> bool
-        ensures { IsTrue result ↔ ((k : ℕ) × (k < half automaton.now) × IsTrue (has_index self.now.ends (half automaton.now + k))) }
+        ensures { IsTrue result
+            ↔ ((k : ℕ) × (k < half automaton.now)
+            × IsTrue (has_index self.now.ends (half automaton.now + k))) }
     {
         let half = automaton.index_count() / 2;
         self.ends.next_below(half, half + half).is_some()
@@ -540,7 +560,8 @@ impl Rows {
     fn entry(&self, row: usize, column: usize) -> u32
         requires row { row < length self.now.starts.items }
         requires column { column ≤ self.now.class_count }
-        requires len { length self.now.entries.items ≡ length self.now.starts.items * (self.now.class_count + 1) }
+        requires len { length self.now.entries.items
+            ≡ length self.now.starts.items * (self.now.class_count + 1) }
         ensures { result ≡ slice_index self.now.entries.items (place_of self.now row column) }
     {
         self.entries[row * (self.class_count + 1) + column]
@@ -566,7 +587,9 @@ impl Rows {
         requires { IsSound automaton.now self.old }
         ensures sound { IsSound automaton.now self.new }
         ensures row { result.row < length self.new.starts.items }
-        ensures states { (y : List ℕ) (k : ℕ) → AcceptsFrom automaton.now self.old.next y k ↔ AcceptsRow automaton.now self.new result.row y k }
+        ensures states { (y : List ℕ) (k : ℕ)
+            → AcceptsFrom automaton.now self.old.next y k
+            ↔ AcceptsRow automaton.now self.new result.row y k }
         ensures kept { IsTrue result.is_kept → KeepsRows self.old self.new }
         ensures ends { self.new.ends ≡ self.old.ends }
     {
@@ -586,7 +609,9 @@ impl Rows {
     /// Returns the row of the states in `list`, if it is found. Another row can be of the same states: nothing hangs on that.
     fn known(&self, hash: u64) -> Option<usize>
         requires { AreListed self.now }
-        ensures { IfSome result (λ i. (i < length self.now.starts.items) × (states_of self.now i ≡ self.now.list.items)) }
+        ensures { IfSome result
+            (λ i. (i < length self.now.starts.items)
+            × (states_of self.now i ≡ self.now.list.items)) }
     {
         for probe in 0..PROBES {
             let number = *self.table.get(place_of(hash, probe, self.table.len()))? as usize;
@@ -603,7 +628,9 @@ impl Rows {
     /// Returns whether a row is there, and is that of the states in `list`.
     fn has_list(&self, row: usize) -> bool
         requires { AreListed self.now }
-        ensures { IsTrue result → (row < length self.now.starts.items) × (states_of self.now row ≡ self.now.list.items) }
+        ensures { IsTrue result
+            → (row < length self.now.starts.items)
+            × (states_of self.now row ≡ self.now.list.items) }
     {
         if row >= self.starts.len() {
             return false;

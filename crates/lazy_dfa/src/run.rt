@@ -37,7 +37,10 @@ impl Rows {
         requires room { half automaton.now ≤ index_capacity found.old }
         ensures sound { IsSound automaton.now self.new }
         ensures room { index_capacity found.new ≡ index_capacity found.old }
-        ensures found { (k : ℕ) → IsTrue (has_index found.new k) ↔ (FindsBy (half automaton.now) (IsReached automaton.now) text.now k ⊎ IsTrue (has_index found.old k)) }
+        ensures found { (k : ℕ)
+            → IsTrue (has_index found.new k)
+            ↔ (FindsBy (half automaton.now) (IsReached automaton.now) text.now k
+            ⊎ IsTrue (has_index found.old k)) }
         ensures visits { visits.new ≤ visits.old + (length text.now + 1) * size automaton.now }
         ensures counted { visits.old ≤ visits.new }
     {
@@ -72,7 +75,8 @@ impl Rows {
     pub fn is_match(&mut self, automaton: &Nfa, text: &[u8], visits: &mut Visits) -> bool
         requires { IsSound automaton.now self.old }
         ensures sound { IsSound automaton.now self.new }
-        ensures some { IsTrue result ↔ ((k : ℕ) × FindsBy (half automaton.now) (IsReached automaton.now) text.now k) }
+        ensures some { IsTrue result
+            ↔ ((k : ℕ) × FindsBy (half automaton.now) (IsReached automaton.now) text.now k) }
         ensures visits { visits.new ≤ visits.old + (length text.now + 1) * size automaton.now }
         ensures counted { visits.old ≤ visits.new }
     {
@@ -101,7 +105,9 @@ impl Rows {
         requires live { AreLive automaton.now live.now }
         requires room { size automaton.now ≤ state_capacity live.now }
         ensures sound { IsSound automaton.now self.new }
-        ensures some { IsTrue result ↔ ((k : ℕ) × (y : List ℕ) × AllBytes y × FindsBy (half automaton.now) (IsReached automaton.now) (text.now ++ byte ∷ y) k) }
+        ensures some { IsTrue result
+            ↔ ((k : ℕ) × (y : List ℕ) × AllBytes y
+            × FindsBy (half automaton.now) (IsReached automaton.now) (text.now ++ byte ∷ y) k) }
         ensures visits { visits.new ≤ visits.old + (length text.now + 2) * size automaton.now }
         ensures counted { visits.old ≤ visits.new }
     {
@@ -157,7 +163,10 @@ impl Rows {
         requires fits { half + half < 2 ^ 64 }
         requires room { half ≤ index_capacity found.old }
         ensures room { index_capacity found.new ≡ index_capacity found.old }
-        ensures has { (k : ℕ) → IsTrue (has_index found.new k) ↔ (((k < half) × IsTrue has_marks × IsTrue (has_index self.now.ends (half + k))) ⊎ IsTrue (has_index found.old k)) }
+        ensures has { (k : ℕ)
+            → IsTrue (has_index found.new k)
+            ↔ (((k < half) × IsTrue has_marks × IsTrue (has_index self.now.ends (half + k)))
+            ⊎ IsTrue (has_index found.old k)) }
     {
         if has_marks {
             put_lowered(&self.ends, half, half, found);

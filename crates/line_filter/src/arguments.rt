@@ -1,6 +1,6 @@
 //! From the arguments of a command line to a command.
 
-ghost use Rattle.std.specs.Prelude.{◌≡◌, map, MatchResult, Ok, string_bytes};
+ghost use Rattle.std.specs.Prelude.{◌≡◌, map, IfErr, IfOk, Ok, string_bytes};
 ghost use Rattle.line_filter.specs.Command.{IsFaultOf, command_of, command_value};
 
 pub mod fault;
@@ -30,8 +30,9 @@ use std::alloc::Global;
 ///
 /// Returns the first error from the left, or an error if memory runs out.
 pub fn command(alloc: Global, arguments: &[String]) -> Result<Command, CommandFault>
-    ensures { MatchResult result (λ command. command_of (map string_bytes arguments.now) ≡ Ok (command_value command))
-        (IsFaultOf (command_of (map string_bytes arguments.now))) }
+    ensures ok { IfOk result
+        (λ command. command_of (map string_bytes arguments.now) ≡ Ok (command_value command)) }
+    ensures err { IfErr result (IsFaultOf (command_of (map string_bytes arguments.now))) }
 {
     match split_at_set(arguments) {
         Some((before, after)) => command_of_set(alloc, before, after),

@@ -1,6 +1,6 @@
 //! What a command line asks for, done.
 
-ghost use Rattle.std.specs.Prelude.{map, MatchResult, string_bytes};
+ghost use Rattle.std.specs.Prelude.{map, IfErr, IfOk, string_bytes};
 ghost use Rattle.line_filter.specs.Program.{Succeeds, Fails};
 
 use crate::arguments::command;
@@ -19,11 +19,10 @@ pub fn write_matching_lines<R: Read, W: Write>(
     reader: &mut R,
     writer: &mut W,
 ) -> Result<bool, Fault>
-    ensures { MatchResult result
-        (Succeeds (map string_bytes arguments.now) (R.remaining reader.old) (R.remaining reader.new)
-        (W.contents writer.old) (W.contents writer.new))
-        (Fails (map string_bytes arguments.now) (R.remaining reader.old) (R.remaining reader.new)
-        (W.contents writer.old) (W.contents writer.new)) }
+    ensures ok { IfOk result (Succeeds (map string_bytes arguments.now) (R.remaining reader.old)
+        (R.remaining reader.new) (W.contents writer.old) (W.contents writer.new)) }
+    ensures err { IfErr result (Fails (map string_bytes arguments.now) (R.remaining reader.old)
+        (R.remaining reader.new) (W.contents writer.old) (W.contents writer.new)) }
 {
     let command = command(alloc, arguments)?;
     Ok(sift(alloc, &command.set, command.numbered, reader, writer)?)

@@ -1,6 +1,6 @@
 //! From a reader to a writer: the lines that a set of globs matches.
 
-ghost use Rattle.std.specs.Prelude.{◌≡◌, MatchResult, IfOk, length};
+ghost use Rattle.std.specs.Prelude.{◌≡◌, IfErr, IfOk, length};
 ghost use Rattle.globset.specs.SetValue.{set_globs};
 ghost use Rattle.line_filter.specs.Output.{SiftSucceeds, SiftFails};
 
@@ -56,11 +56,10 @@ pub fn sift<R: Read, W: Write>(
     reader: &mut R,
     writer: &mut W,
 ) -> Result<bool, SiftFault>
-    ensures { MatchResult result
-        (SiftSucceeds (set_globs set.now) numbered (R.remaining reader.old) (R.remaining reader.new)
-        (W.contents writer.old) (W.contents writer.new))
-        (SiftFails (set_globs set.now) numbered (R.remaining reader.old) (R.remaining reader.new)
-        (W.contents writer.old) (W.contents writer.new)) }
+    ensures ok { IfOk result (SiftSucceeds (set_globs set.now) numbered (R.remaining reader.old)
+        (R.remaining reader.new) (W.contents writer.old) (W.contents writer.new)) }
+    ensures err { IfErr result (SiftFails (set_globs set.now) numbered (R.remaining reader.old)
+        (R.remaining reader.new) (W.contents writer.old) (W.contents writer.new)) }
 {
     let mut chunk = zeros(alloc, CHUNK)?;
     let mut sifter = Sifter::new(alloc, set, numbered)?;

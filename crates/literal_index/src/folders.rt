@@ -42,7 +42,8 @@ impl Folders {
     /// Returns an error if memory runs out. The time is linear in the bytes of all keys, except that their folders are sorted. A copy
     /// is kept of each folder that differs from the others; until then, a few words are taken for each key.
     pub fn new(alloc: Global, paths: &[Text], prefixes: &[Text]) -> Result<Folders, AllocError>
-        ensures { IfOk result (λ folders. AreFolders folders (map entry_of paths.now) (map entry_of prefixes.now)) }
+        ensures { IfOk result
+            (λ folders. AreFolders folders (map entry_of paths.now) (map entry_of prefixes.now)) }
     {
         let mut starts = Vec::with_capacity(alloc, paths.len())?;
         push_starts(&mut starts, paths)?;
@@ -71,7 +72,9 @@ impl Folders {
 
 /// Adds the folder of each key.
 fn push_starts<'k>(starts: &mut Vec<&'k [u8]>, keys: &'k [Text]) -> Result<(), AllocError>
-    ensures { OnOk result (shown_of starts.new.items ≡ shown_of starts.old.items ++ map (λ t. start_of t.bytes.items) keys.now) }
+    ensures { OnOk result
+        (shown_of starts.new.items
+        ≡ shown_of starts.old.items ++ map (λ t. start_of t.bytes.items) keys.now) }
 {
     for key in keys {
         starts.push(start_of(&key.bytes))?;

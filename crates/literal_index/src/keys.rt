@@ -132,7 +132,8 @@ impl LiteralIndex {
 
     /// Returns how many indexes the path finds, or `None` if these are more than a `usize` can count. It takes no memory.
     pub fn count_found(&self, path: &PathParts<'_>, visits: &mut Visits) -> Option<usize>
-        ensures count { MatchOption result (2 ^ 64 ≤ length (keys_found self.now path.now)) (λ count. count ≡ length (keys_found self.now path.now)) }
+        ensures count { MatchOption result (2 ^ 64 ≤ length (keys_found self.now path.now))
+            (λ count. count ≡ length (keys_found self.now path.now)) }
         ensures visits { visits.new ≤ visits.old + (3 + 2 * (length path.now + 1)) }
         ensures counted { visits.old ≤ visits.new }
     {
@@ -144,7 +145,8 @@ impl LiteralIndex {
 
     /// Returns how many indexes the path finds in tables.
     fn count_in_tables(&self, path: &PathParts<'_>, visits: &mut Visits) -> Option<usize>
-        ensures count { MatchOption result (2 ^ 64 ≤ tables_count self.now path.now) (λ count. count ≡ tables_count self.now path.now) }
+        ensures count { MatchOption result (2 ^ 64 ≤ tables_count self.now path.now)
+            (λ count. count ≡ tables_count self.now path.now) }
         ensures visits { visits.new ≤ visits.old + 3 }
         ensures counted { visits.old ≤ visits.new }
     {
@@ -181,7 +183,8 @@ impl LiteralIndex {
 
     /// Returns the indexes under the extension of the path's last component.
     fn by_extension(&self, path: &PathParts<'_>, visits: &mut Visits) -> &[usize]
-        ensures found { result.now ≡ indexes_under self.now.extensions (component_extension path.now) }
+        ensures found { result.now
+            ≡ indexes_under self.now.extensions (component_extension path.now) }
         ensures visits { visits.new ≤ visits.old + 1 }
         ensures counted { visits.old ≤ visits.new }
     {
@@ -250,8 +253,10 @@ impl LiteralIndexBuilder {
     /// Adds an index for the paths that a key matches. Returns an error if memory runs out.
     pub fn add(&mut self, key: Key, index: usize) -> Result<(), AllocError>
         ensures keys { OnOk result (self.new ≡ with_key self.old (key_seen key) index) }
-        ensures found { OnOk result (FindsMore self.old self.new index (KeyMatches (key_seen key))) }
-        ensures below { OnOk result (BelowMore self.old self.new (KeyMayMatchBelow (key_seen key))) }
+        ensures found { OnOk result
+            (FindsMore self.old self.new index (KeyMatches (key_seen key))) }
+        ensures below { OnOk result
+            (BelowMore self.old self.new (KeyMayMatchBelow (key_seen key))) }
     {
         self.put(key, index)
     }
@@ -345,7 +350,9 @@ impl LiteralIndexBuilder {
 
     /// Returns the folders of paths and beginnings, or `None` if there are other keys. Returns an error if memory runs out.
     fn folders(&self, alloc: Global) -> Result<Option<Folders>, AllocError>
-        ensures { IfOk result (λ folders. HasFolders folders self.now.paths self.now.components self.now.extensions self.now.prefixes self.now.ends) }
+        ensures { IfOk result
+            (λ folders. HasFolders folders self.now.paths self.now.components self.now.extensions
+            self.now.prefixes self.now.ends) }
     {
         if self.has_others() {
             return Ok(None);

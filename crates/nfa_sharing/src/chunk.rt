@@ -29,8 +29,12 @@ impl Chunk {
         start: usize,
     ) -> Result<Option<Chunk>, AllocError>
         requires { start < length states.now }
-        ensures more { IfOk result (λ made. IfSome made (λ chunk. (start < chunk.end) × (chunk.end ≤ length states.now))) }
-        ensures alike { IfOk result (λ made. IfSome made (λ chunk. IsChunk automaton.now.states states.now start chunk.end (state automaton.now.states chunk.first) chunk.nexts.items)) }
+        ensures more { IfOk result
+            (λ made. IfSome made (λ chunk. (start < chunk.end) × (chunk.end ≤ length states.now))) }
+        ensures alike { IfOk result
+            (λ made. IfSome made
+            (λ chunk. IsChunk automaton.now.states states.now start chunk.end
+            (state automaton.now.states chunk.first) chunk.nexts.items)) }
     {
         let first = states[start];
         let Some(like) = automaton.state(first) else {
@@ -57,7 +61,8 @@ impl Chunk {
 
 /// Returns what a state goes on to, if it is like another but for that. An end goes on to nothing: 0 stands for that.
 fn next_of(automaton: &Nfa, s: usize, like: &StateRef<'_>) -> Option<usize>
-    ensures { IfSome result (λ next. state automaton.now.states s ≡ with_next (is_read like.now) next) }
+    ensures { IfSome result
+        (λ next. state automaton.now.states s ≡ with_next (is_read like.now) next) }
 {
     match (automaton.state(s)?, like) {
         (StateRef::Bytes(bytes, next), StateRef::Bytes(set, _)) if bytes.is(set) => Some(next),

@@ -14,7 +14,8 @@ pub fn expanded(
     list: &[usize],
     left: &mut usize,
 ) -> Result<Option<Vec<usize>>, AllocError>
-    ensures alike { IfOk result (λ made. IfSome made (λ states. AcceptAlike automaton.now list.now states.items)) }
+    ensures alike { IfOk result
+        (λ made. IfSome made (λ states. AcceptAlike automaton.now list.now states.items)) }
     ensures left { left.new ≤ left.old }
 {
     let mut states = Vec::new(alloc);

@@ -78,7 +78,9 @@ impl KnownLists {
 
     /// Adds a list and its state. Returns an error if memory runs out.
     pub fn add(&mut self, list: Vec<usize>, state: usize) -> Result<(), AllocError>
-        ensures { OnOk result ((l : List ℕ) (u : ℕ) → IsKnown self.new.entries.items l u → IsKnown self.old.entries.items l u ⊎ ((list.items ≡ l) × (state ≡ u))) }
+        ensures { OnOk result
+            ((l : List ℕ) (u : ℕ) → IsKnown self.new.entries.items l u
+            → IsKnown self.old.entries.items l u ⊎ ((list.items ≡ l) × (state ≡ u))) }
     {
         let place = self.entries.len();
         self.keep_place(&list, place)?;

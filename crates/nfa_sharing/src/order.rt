@@ -25,7 +25,8 @@ pub fn ordered(
     states: &[usize],
     sets: &mut SetNumbers,
 ) -> Result<Vec<usize>, AllocError>
-    ensures { IfOk result (λ in_order. (s : ℕ) → HasNumber s in_order.items ↔ HasNumber s states.now) }
+    ensures { IfOk result
+        (λ in_order. (s : ℕ) → HasNumber s in_order.items ↔ HasNumber s states.now) }
 {
     let mut keys = Vec::with_capacity(alloc, states.len())?;
     for s in states {

@@ -36,10 +36,13 @@ pub fn start_state(
     requires states { builder.old.states ≡ [] }
     requires starts { builder.old.starts ≡ [] }
     requires index_count { builder.old.index_count ≡ automaton.now.index_count }
-    ensures state { IfOk result (λ made. IfSome made (λ u. IsStateFor automaton.now builder.new automaton.now.starts u)) }
-    ensures states { IfOk result (λ made. IfSome made (λ u. size builder.new ≤ size automaton.now)) }
+    ensures state { IfOk result
+        (λ made. IfSome made (λ u. IsStateFor automaton.now builder.new automaton.now.starts u)) }
+    ensures states { IfOk result
+        (λ made. IfSome made (λ u. size builder.new ≤ size automaton.now)) }
     ensures starts { IfOk result (λ made. IfSome made (λ u. builder.new.starts ≡ [])) }
-    ensures index_count { IfOk result (λ made. IfSome made (λ u. builder.new.index_count ≡ automaton.now.index_count)) }
+    ensures index_count { IfOk result
+        (λ made. IfSome made (λ u. builder.new.index_count ≡ automaton.now.index_count)) }
 {
     let mut sharing = Sharing {
         known: KnownLists::new(alloc, automaton.state_count())?,
@@ -70,8 +73,11 @@ impl Sharing {
     ) -> Result<bool, AllocError>
         requires sharing { IsSharing automaton.now builder.old self.old.known.entries.items }
         requires states { size builder.old ≤ size automaton.now }
-        ensures sharing { IfOk result (λ goes_on. IsTrue goes_on → IsSharing automaton.now builder.new self.new.known.entries.items) }
-        ensures states { IfOk result (λ goes_on. IsTrue goes_on → size builder.new ≤ size automaton.now) }
+        ensures sharing { IfOk result
+            (λ goes_on. IsTrue goes_on
+            → IsSharing automaton.now builder.new self.new.known.entries.items) }
+        ensures states { IfOk result
+            (λ goes_on. IsTrue goes_on → size builder.new ≤ size automaton.now) }
         ensures left { IfOk result (λ goes_on. IsTrue goes_on → self.new.left + 1 ≤ self.old.left) }
     {
         if !spend(&mut self.left, 1) {
@@ -108,7 +114,8 @@ impl Sharing {
         automaton: &Nfa,
         list: &[usize],
     ) -> Result<Option<Vec<usize>>, AllocError>
-        ensures alike { IfOk result (λ made. IfSome made (λ states. AcceptAlike automaton.now list.now states.items)) }
+        ensures alike { IfOk result
+            (λ made. IfSome made (λ states. AcceptAlike automaton.now list.now states.items)) }
         ensures known { self.new.known ≡ self.old.known }
         ensures left { self.new.left ≤ self.old.left }
     {
@@ -157,8 +164,10 @@ fn push_list(
     builder: &mut Builder,
 ) -> Result<Option<usize>, AllocError>
     requires { IsSharing automaton.now builder.old known.now.entries.items }
-    ensures sharing { IfOk result (λ made. IfSome made (λ u. IsSharing automaton.now builder.new known.now.entries.items)) }
-    ensures state { IfOk result (λ made. IfSome made (λ u. IsStateFor automaton.now builder.new states.now u)) }
+    ensures sharing { IfOk result
+        (λ made. IfSome made (λ u. IsSharing automaton.now builder.new known.now.entries.items)) }
+    ensures state { IfOk result
+        (λ made. IfSome made (λ u. IsStateFor automaton.now builder.new states.now u)) }
 {
     let mut parts = Vec::new(alloc);
     let mut at = 0;
@@ -187,7 +196,10 @@ fn push_chunk(
     builder: &mut Builder,
 ) -> Result<Option<usize>, AllocError>
     requires { IsSharing automaton.now builder.old known.now.entries.items }
-    ensures { IfOk result (λ made. IfSome made (λ u. IsPushedFor builder.old builder.new known.now.entries.items (state automaton.now.states chunk.now.first) chunk.now.nexts.items u)) }
+    ensures { IfOk result
+        (λ made. IfSome made
+        (λ u. IsPushedFor builder.old builder.new known.now.entries.items
+        (state automaton.now.states chunk.now.first) chunk.now.nexts.items u)) }
 {
     match automaton.state(chunk.first) {
         Some(StateRef::Bytes(bytes, _)) => {

@@ -65,7 +65,9 @@ impl Blocks {
     /// replaced. Returns an error if memory runs out.
     pub fn push(&mut self, low: usize, high: usize, masks: &[u64]) -> Result<(), AllocError>
         requires { length masks.now ≡ 256 }
-        ensures { OnOk result (KeepsBlocks low high masks.now self.old.by_word.items self.old.masks.items self.new.by_word.items self.new.masks.items) }
+        ensures { OnOk result
+            (KeepsBlocks low high masks.now self.old.by_word.items self.old.masks.items
+            self.new.by_word.items self.new.masks.items) }
     {
         let place = self.place_of(masks)?;
         let word = low / 64;
@@ -77,8 +79,11 @@ impl Blocks {
     /// Adds masks, if they are not the last ones. Returns where they begin.
     fn place_of(&mut self, masks: &[u64]) -> Result<usize, AllocError>
         ensures blocks { self.new.by_word ≡ self.old.by_word }
-        ensures kept { OnOk result ((more : List ℕ) × (self.new.masks.items ≡ self.old.masks.items ++ more)) }
-        ensures place { IfOk result (λ place. (before : List ℕ) × (self.new.masks.items ≡ before ++ masks.now) × (length before ≡ place)) }
+        ensures kept { OnOk result
+            ((more : List ℕ) × (self.new.masks.items ≡ self.old.masks.items ++ more)) }
+        ensures place { IfOk result
+            (λ place. (before : List ℕ) × (self.new.masks.items ≡ before ++ masks.now)
+            × (length before ≡ place)) }
     {
         if self.masks.ends_with(masks) {
             return Ok(self.masks.len() - masks.len());
@@ -92,7 +97,9 @@ impl Blocks {
     fn reach(&mut self, word: usize) -> Result<(), AllocError>
         ensures masks { self.new.masks ≡ self.old.masks }
         ensures room { OnOk result (word < length self.new.by_word.items) }
-        ensures blocks { (w : ℕ) → slice_index_or self.new.by_word.items w None ≡ slice_index_or self.old.by_word.items w None }
+        ensures blocks { (w : ℕ)
+            → slice_index_or self.new.by_word.items w None
+            ≡ slice_index_or self.old.by_word.items w None }
     {
         while self.by_word.len() <= word {
             self.by_word.push(None)?;
@@ -112,14 +119,17 @@ impl Blocks {
         to: &mut StateSet,
         visits: &mut Visits,
     ) -> Option<Taken>
-        requires blocks { (a : List State) × AreBlocks a self.now.by_word.items self.now.masks.items }
+        requires blocks { (a : List State)
+            × AreBlocks a self.now.by_word.items self.now.masks.items }
         requires some { low < limit }
         requires from_capacity { limit ≤ state_capacity from.now }
         requires to_capacity { limit ≤ state_capacity to.old }
         ensures room { state_capacity to.new ≡ state_capacity to.old }
-        ensures visits { MatchOption result (visits.new ≡ visits.old) (λ taken. visits.new + max low taken.limit ≤ visits.old + limit) }
+        ensures visits { MatchOption result (visits.new ≡ visits.old)
+            (λ taken. visits.new + max low taken.limit ≤ visits.old + limit) }
         ensures counted { visits.old ≤ visits.new }
-        ensures taken { (a : List State) → AreBlocks a self.now.by_word.items self.now.masks.items → TellsTaken a byte limit from.now to.old to.new result }
+        ensures taken { (a : List State) → AreBlocks a self.now.by_word.items self.now.masks.items
+            → TellsTaken a byte limit from.now to.old to.new result }
     {
         let at = (limit - 1) / 64;
         let block = self.block(at)?;

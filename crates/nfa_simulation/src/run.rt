@@ -38,7 +38,9 @@ impl Simulation {
         requires into_capacity { self.now.index_count ≤ index_capacity into.old }
         ensures room { sets_capacity sets.new ≡ sets_capacity sets.old }
         ensures into_capacity { index_capacity into.new ≡ index_capacity into.old }
-        ensures found { (k : ℕ) → IsTrue (has_index into.new k) ↔ (IsReached self.now text.now k ⊎ IsTrue (has_index into.old k)) }
+        ensures found { (k : ℕ)
+            → IsTrue (has_index into.new k)
+            ↔ (IsReached self.now text.now k ⊎ IsTrue (has_index into.old k)) }
         ensures visits { visits.new ≤ visits.old + (length text.now + 1) * size self.now }
         ensures counted { visits.old ≤ visits.new }
     {
@@ -83,8 +85,11 @@ impl Simulation {
         ensures room { sets_capacity sets.new ≡ sets_capacity sets.old }
         ensures starts { sets.new.starts ≡ sets.old.starts }
         ensures into_capacity { index_capacity into.new ≡ index_capacity into.old }
-        ensures found { (k : ℕ) → IsTrue (has_index into.new k) ↔ (Accepts self.now.states k span.start text.now ⊎ IsTrue (has_index into.old k)) }
-        ensures visits { (width : ℕ) → span.start < span.low + width → visits.new ≤ visits.old + (length text.now + 1) * width }
+        ensures found { (k : ℕ)
+            → IsTrue (has_index into.new k)
+            ↔ (Accepts self.now.states k span.start text.now ⊎ IsTrue (has_index into.old k)) }
+        ensures visits { (width : ℕ) → span.start < span.low + width
+            → visits.new ≤ visits.old + (length text.now + 1) * width }
         ensures counted { visits.old ≤ visits.new }
     {
         let _states = self.state_count();
@@ -114,7 +119,8 @@ impl Simulation {
         ensures room { sets_capacity sets.new ≡ sets_capacity sets.old }
         ensures starts { sets.new.starts ≡ sets.old.starts }
         ensures some { IsTrue result ↔ ((k : ℕ) × Accepts self.now.states k span.start text.now) }
-        ensures visits { (width : ℕ) → span.start < span.low + width → visits.new ≤ visits.old + (length text.now + 1) * width }
+        ensures visits { (width : ℕ) → span.start < span.low + width
+            → visits.new ≤ visits.old + (length text.now + 1) * width }
         ensures counted { visits.old ≤ visits.new }
     {
         let _states = self.state_count();
@@ -135,9 +141,13 @@ impl Simulation {
         ensures room { sets_capacity sets.new ≡ sets_capacity sets.old }
         ensures starts { sets.new.starts ≡ sets.old.starts }
         ensures from { IsFrom span.low sets.new.current }
-        ensures some { IsTrue result → (k : ℕ) → Accepts self.now.states k span.start text.now ↔ AcceptsBelow self.now (span.start + 1) sets.new.current [] k }
-        ensures none { IsFalse result → (k : ℕ) → Accepts self.now.states k span.start text.now → ⊥ }
-        ensures visits { (width : ℕ) → span.start < span.low + width → visits.new ≤ visits.old + length text.now * width }
+        ensures some { IsTrue result → (k : ℕ)
+            → Accepts self.now.states k span.start text.now
+            ↔ AcceptsBelow self.now (span.start + 1) sets.new.current [] k }
+        ensures none { IsFalse result → (k : ℕ) → Accepts self.now.states k span.start text.now
+            → ⊥ }
+        ensures visits { (width : ℕ) → span.start < span.low + width
+            → visits.new ≤ visits.old + length text.now * width }
         ensures counted { visits.old ≤ visits.new }
     {
         // What is below the number of states has a next number.
@@ -165,9 +175,13 @@ impl Simulation {
         ensures room { sets_capacity sets.new ≡ sets_capacity sets.old }
         ensures starts { sets.new.starts ≡ sets.old.starts }
         ensures from { IsFrom low sets.new.current }
-        ensures some { IsTrue result → (z : List ℕ) (k : ℕ) → AcceptsBelow self.now high sets.old.current (text.now ++ z) k ↔ AcceptsBelow self.now high sets.new.current z k }
-        ensures none { IsFalse result → (z : List ℕ) (k : ℕ) → AcceptsBelow self.now high sets.old.current (text.now ++ z) k → ⊥ }
-        ensures visits { (width : ℕ) → high ≤ low + width → visits.new ≤ visits.old + length text.now * width }
+        ensures some { IsTrue result → (z : List ℕ) (k : ℕ)
+            → AcceptsBelow self.now high sets.old.current (text.now ++ z) k
+            ↔ AcceptsBelow self.now high sets.new.current z k }
+        ensures none { IsFalse result → (z : List ℕ) (k : ℕ)
+            → AcceptsBelow self.now high sets.old.current (text.now ++ z) k → ⊥ }
+        ensures visits { (width : ℕ) → high ≤ low + width
+            → visits.new ≤ visits.old + length text.now * width }
         ensures counted { visits.old ≤ visits.new }
     {
         for byte in text {

@@ -101,7 +101,8 @@ impl Simulation {
     pub fn start(&self, into: &mut StateSet)
         requires { size self.now ≤ state_capacity into.old }
         ensures room { state_capacity into.new ≡ state_capacity into.old }
-        ensures starts { (y : List ℕ) (k : ℕ) → AcceptsFrom self.now into.new y k ↔ IsReached self.now y k }
+        ensures starts { (y : List ℕ) (k : ℕ)
+            → AcceptsFrom self.now into.new y k ↔ IsReached self.now y k }
     {
         self.nfa.start(into);
     }
@@ -122,7 +123,8 @@ impl Simulation {
         requires to_capacity { size self.now ≤ state_capacity to.old }
         ensures from_capacity { state_capacity from.new ≡ state_capacity from.old }
         ensures to_capacity { state_capacity to.new ≡ state_capacity to.old }
-        ensures steps { (y : List ℕ) (k : ℕ) → AcceptsFrom self.now from.old (byte ∷ y) k ↔ AcceptsFrom self.now to.new y k }
+        ensures steps { (y : List ℕ) (k : ℕ)
+            → AcceptsFrom self.now from.old (byte ∷ y) k ↔ AcceptsFrom self.now to.new y k }
         ensures some { IsTrue result ↔ HasSome self.now to.new }
         ensures visits { visits.new ≤ visits.old + size self.now }
         ensures counted { visits.old ≤ visits.new }
@@ -137,8 +139,11 @@ impl Simulation {
         requires into_capacity { self.now.index_count ≤ index_capacity into.old }
         ensures from_capacity { state_capacity from.new ≡ state_capacity from.old }
         ensures into_capacity { index_capacity into.new ≡ index_capacity into.old }
-        ensures ends { (k : ℕ) → IsTrue (has_index into.new k) ↔ (AcceptsFrom self.now from.old [] k ⊎ IsTrue (has_index into.old k)) }
-        ensures same { (y : List ℕ) (k : ℕ) → AcceptsFrom self.now from.new y k ↔ AcceptsFrom self.now from.old y k }
+        ensures ends { (k : ℕ)
+            → IsTrue (has_index into.new k)
+            ↔ (AcceptsFrom self.now from.old [] k ⊎ IsTrue (has_index into.old k)) }
+        ensures same { (y : List ℕ) (k : ℕ)
+            → AcceptsFrom self.now from.new y k ↔ AcceptsFrom self.now from.old y k }
         ensures visits { visits.new ≤ visits.old + size self.now }
         ensures counted { visits.old ≤ visits.new }
     {
@@ -169,11 +174,17 @@ impl Simulation {
         requires to_capacity { size self.now ≤ state_capacity to.old }
         ensures from_capacity { state_capacity from.new ≡ state_capacity from.old }
         ensures to_capacity { state_capacity to.new ≡ state_capacity to.old }
-        ensures from { (t : ℕ) → has_state from.new t ≡ (goes_now (state self.now.states s) t || has_state from.old t) }
+        ensures from { (t : ℕ)
+            → has_state from.new t
+            ≡ (goes_now (state self.now.states s) t || has_state from.old t) }
         ensures below { GoesBelow s (state self.now.states s) }
-        ensures to { (t : ℕ) → has_state to.new t ≡ (goes_next (state self.now.states s) s (Some byte) t || has_state to.old t) }
-        ensures some { IsTrue result → (t : ℕ) × (t ≤ s) × IsTrue (goes_next (state self.now.states s) s (Some byte) t) }
-        ensures none { IsFalse result → (t : ℕ) → goes_next (state self.now.states s) s (Some byte) t ≡ false }
+        ensures to { (t : ℕ)
+            → has_state to.new t
+            ≡ (goes_next (state self.now.states s) s (Some byte) t || has_state to.old t) }
+        ensures some { IsTrue result
+            → (t : ℕ) × (t ≤ s) × IsTrue (goes_next (state self.now.states s) s (Some byte) t) }
+        ensures none { IsFalse result → (t : ℕ)
+            → goes_next (state self.now.states s) s (Some byte) t ≡ false }
     {
         self.nfa.take_steps(s, byte, from, to)
     }
@@ -183,9 +194,12 @@ impl Simulation {
         requires exists { s < size self.now }
         requires room { size self.now ≤ state_capacity from.old }
         ensures room { state_capacity from.new ≡ state_capacity from.old }
-        ensures from { (t : ℕ) → has_state from.new t ≡ (goes_now (state self.now.states s) t || has_state from.old t) }
+        ensures from { (t : ℕ)
+            → has_state from.new t
+            ≡ (goes_now (state self.now.states s) t || has_state from.old t) }
         ensures below { GoesBelow s (state self.now.states s) }
-        ensures end { MatchOption result ((k : ℕ) → names (state self.now.states s) None k ≡ false) (λ k. (state self.now.states s ≡ match_state k) × (k < self.now.index_count)) }
+        ensures end { MatchOption result ((k : ℕ) → names (state self.now.states s) None k ≡ false)
+            (λ k. (state self.now.states s ≡ match_state k) × (k < self.now.index_count)) }
     {
         self.nfa.follow_epsilons(s, from)
     }

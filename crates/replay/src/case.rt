@@ -288,7 +288,8 @@ fn ask_under(
 }
 
 fn ask(matcher: &GlobMatcher, path: &Candidate<'_>, asked: Asked) -> Result<bool, Error>
-    ensures path { asked ≡ Asked.Path → IfOk result (λ yes. yes ≡ glob_matches matcher.now path.now) }
+    ensures path { asked ≡ Asked.Path
+        → IfOk result (λ yes. yes ≡ glob_matches matcher.now path.now) }
 {
     match asked {
         Asked::Path => matcher.is_match_candidate(path),

@@ -1,6 +1,6 @@
 //! The rows of a file that passed, and those that failed.
 
-ghost use Rattle.std.specs.Prelude.{◌≡◌, ◌+◌, ◌<◌, ◌≤◌, ◌^◌, ◌++◌, ◌∷◌, [], ℕ, length, IfOk, OnOk, MatchOption, cond};
+ghost use Rattle.std.specs.Prelude.{◌≡◌, ◌+◌, ◌<◌, ◌≤◌, ◌^◌, ◌++◌, ◌∷◌, [], ℕ, length, IfNone, IfOk, IfSome, OnOk, MatchOption, cond};
 ghost use Rattle.std.specs.List.{All, count_by};
 ghost use Rattle.replay.specs.Rows.{is_row};
 
@@ -24,7 +24,8 @@ pub struct Report {
 
 /// Replays the rows of a file: the lines that are neither empty nor a comment. An empty line ends a case.
 pub fn replay(alloc: Global, lines: &[&str]) -> Result<Report, AllocError>
-    ensures rows { IfOk result (λ r. r.passed + length r.failures.items ≡ count_by (λ line. is_row line.now) lines.now) }
+    ensures rows { IfOk result
+        (λ r. r.passed + length r.failures.items ≡ count_by (λ line. is_row line.now) lines.now) }
     ensures failures { IfOk result (λ r. All (λ f. f.index < length lines.now) r.failures.items) }
 {
     let mut globs = Globs::new(alloc);
@@ -60,8 +61,12 @@ impl Report {
         requires passed { self.old.passed ≤ index }
         requires index { index + 1 < 2 ^ 64 }
         ensures passed { OnOk result (self.new.passed ≤ index + 1) }
-        ensures rows { OnOk result (self.new.passed + length self.new.failures.items ≡ self.old.passed + length self.old.failures.items + cond (is_row line.now) 1 0) }
-        ensures failures { OnOk result ((n : ℕ) → index < n → All (λ f. f.index < n) self.old.failures.items → All (λ f. f.index < n) self.new.failures.items) }
+        ensures rows { OnOk result
+            (self.new.passed + length self.new.failures.items
+            ≡ self.old.passed + length self.old.failures.items + cond (is_row line.now) 1 0) }
+        ensures failures { OnOk result
+            ((n : ℕ) → index < n → All (λ f. f.index < n) self.old.failures.items
+            → All (λ f. f.index < n) self.new.failures.items) }
     {
         if line.is_empty() {
             *globs = Globs::new(alloc);
@@ -75,9 +80,14 @@ impl Report {
     /// Adds the row of this line: it passed if nothing else was returned.
     fn add(&mut self, index: usize, returned: Option<String>) -> Result<(), AllocError>
         requires { self.old.passed + 1 < 2 ^ 64 }
-        ensures passed { OnOk result (MatchOption returned (self.new.passed ≡ self.old.passed + 1) (λ _. self.new.passed ≡ self.old.passed)) }
-        ensures failures { OnOk result (MatchOption returned (self.new.failures.items ≡ self.old.failures.items)
-            (λ text. self.new.failures.items ≡ self.old.failures.items ++ record { index = index; returned = text } ∷ [])) }
+        ensures passed { OnOk result
+            (MatchOption returned (self.new.passed ≡ self.old.passed + 1)
+            (λ _. self.new.passed ≡ self.old.passed)) }
+        ensures failed { OnOk result
+            (IfSome returned (λ text. self.new.failures.items
+            ≡ self.old.failures.items ++ record { index = index; returned = text } ∷ [])) }
+        ensures no_failure { OnOk result
+            (IfNone returned (self.new.failures.items ≡ self.old.failures.items)) }
     {
         match returned {
             None => self.passed += 1,

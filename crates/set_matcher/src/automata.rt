@@ -126,8 +126,10 @@ impl Automata {
         ensures kept { sets_capacity sets.old ≤ sets_capacity sets.new }
         ensures marks { index_capacity marks.old ≤ index_capacity marks.new }
         ensures memory { states_for self.now path.now ≡ 0 → IsOk result }
-        ensures room { max_states self.now ≤ sets_capacity sets.old → self.now.extensions.index_count ≤ index_capacity marks.old → IsOk result }
-        ensures visits { visits.new ≤ visits.old + (1 + (length path.now + 1) * reads_for self.now path.now) }
+        ensures room { max_states self.now ≤ sets_capacity sets.old
+            → self.now.extensions.index_count ≤ index_capacity marks.old → IsOk result }
+        ensures visits { visits.new
+            ≤ visits.old + (1 + (length path.now + 1) * reads_for self.now path.now) }
         ensures counted { visits.old ≤ visits.new }
     {
         let slot = self.slot_of(path, visits);
@@ -173,11 +175,14 @@ impl Automata {
         requires caches { AreCachesOf self.now caches.old }
         requires bytes { AllBytes path.now }
         ensures caches { caches.new ≡ caches.old }
-        ensures some { IfOk result (λ yes. (t : TokenLists) → AreForLists self.now t → IsTrue yes ↔ ((k : ℕ) × AreFound self.now.extensions.slots t path.now k)) }
+        ensures some { IfOk result
+            (λ yes. (t : TokenLists) → AreForLists self.now t
+            → IsTrue yes ↔ ((k : ℕ) × AreFound self.now.extensions.slots t path.now k)) }
         ensures kept { sets_capacity sets.old ≤ sets_capacity sets.new }
         ensures memory { states_for self.now path.now ≡ 0 → IsOk result }
         ensures room { max_states self.now ≤ sets_capacity sets.old → IsOk result }
-        ensures visits { visits.new ≤ visits.old + (1 + (length path.now + 1) * reads_for self.now path.now) }
+        ensures visits { visits.new
+            ≤ visits.old + (1 + (length path.now + 1) * reads_for self.now path.now) }
         ensures counted { visits.old ≤ visits.new }
     {
         if matches_part(
@@ -232,7 +237,8 @@ impl Automata {
 
     /// Returns whether there are no states, in the automaton of an extension either.
     fn is_idle(&self, by_extension: &Compiled) -> bool
-        ensures { IsTrue result ↔ (size self.now.by_path + (size self.now.by_component + size by_extension.now) ≡ 0) }
+        ensures { IsTrue result
+            ↔ (size self.now.by_path + (size self.now.by_component + size by_extension.now) ≡ 0) }
     {
         self.by_path.state_count() == 0
             && self.by_component.state_count() == 0
@@ -297,7 +303,8 @@ impl AutomataBuilder {
     /// Takes the builders out, which are made if there are none. Returns an error if memory runs out.
     fn take(&mut self, alloc: Global) -> Result<Box<Builders>, AllocError>
         ensures taken { IfOk result (λ b. built b.value ≡ self.old) }
-        ensures counts { IfOk result (λ b. HaveOneCount b.value.by_path b.value.by_component b.value.extensions) }
+        ensures counts { IfOk result
+            (λ b. HaveOneCount b.value.by_path b.value.by_component b.value.extensions) }
         ensures kept { OnErr result (self.new ≡ self.old) }
         ensures count { self.new.extensions.index_count ≡ self.old.extensions.index_count }
     {
@@ -318,8 +325,12 @@ impl AutomataBuilder {
     ) -> Result<(), AllocError>
         requires nested { IsNested (flats tokens.now) }
         requires index { index < self.old.extensions.index_count }
-        ensures tokens { OnOk result ((xs : List IndexedTokens) → IsFor self.old.by_path xs → IsFor self.new.by_path (xs ++ indexed options (tokens_of tokens.now) index ∷ [])) }
-        ensures reads { OnOk result (max_reads self.new.by_path ≤ max_reads self.old.by_path + (weight options (tokens_of tokens.now) + 4)) }
+        ensures tokens { OnOk result
+            ((xs : List IndexedTokens) → IsFor self.old.by_path xs
+            → IsFor self.new.by_path (xs ++ indexed options (tokens_of tokens.now) index ∷ [])) }
+        ensures reads { OnOk result
+            (max_reads self.new.by_path
+            ≤ max_reads self.old.by_path + (weight options (tokens_of tokens.now) + 4)) }
         ensures component { self.new.by_component ≡ self.old.by_component }
         ensures extensions { self.new.extensions ≡ self.old.extensions }
     {
@@ -340,8 +351,13 @@ impl AutomataBuilder {
     ) -> Result<(), AllocError>
         requires nested { IsNested (flats tokens.now) }
         requires index { index < self.old.extensions.index_count }
-        ensures tokens { OnOk result ((xs : List IndexedTokens) → IsFor self.old.by_component xs → IsFor self.new.by_component (xs ++ indexed options (tokens_of tokens.now) index ∷ [])) }
-        ensures reads { OnOk result (max_reads self.new.by_component ≤ max_reads self.old.by_component + (weight options (tokens_of tokens.now) + 4)) }
+        ensures tokens { OnOk result
+            ((xs : List IndexedTokens) → IsFor self.old.by_component xs
+            → IsFor self.new.by_component
+            (xs ++ indexed options (tokens_of tokens.now) index ∷ [])) }
+        ensures reads { OnOk result
+            (max_reads self.new.by_component
+            ≤ max_reads self.old.by_component + (weight options (tokens_of tokens.now) + 4)) }
         ensures path { self.new.by_path ≡ self.old.by_path }
         ensures extensions { self.new.extensions ≡ self.old.extensions }
     {
@@ -363,9 +379,15 @@ impl AutomataBuilder {
     ) -> Result<(), AllocError>
         requires nested { IsNested (flats tokens.now) }
         requires index { index < self.old.extensions.index_count }
-        ensures tokens { OnOk result (AddsTokensTo self.old.extensions self.new.extensions key.items (indexed options (tokens_of tokens.now) index)) }
-        ensures reads { OnOk result (AddsReads self.old.extensions self.new.extensions key.items (weight options (tokens_of tokens.now) + 4)) }
-        ensures total { OnOk result (total_reads self.new.extensions.nfas ≤ total_reads self.old.extensions.nfas + (weight options (tokens_of tokens.now) + 4)) }
+        ensures tokens { OnOk result
+            (AddsTokensTo self.old.extensions self.new.extensions key.items
+            (indexed options (tokens_of tokens.now) index)) }
+        ensures reads { OnOk result
+            (AddsReads self.old.extensions self.new.extensions key.items
+            (weight options (tokens_of tokens.now) + 4)) }
+        ensures total { OnOk result
+            (total_reads self.new.extensions.nfas
+            ≤ total_reads self.old.extensions.nfas + (weight options (tokens_of tokens.now) + 4)) }
         ensures count { self.new.extensions.index_count ≡ self.old.extensions.index_count }
         ensures path { self.new.by_path ≡ self.old.by_path }
         ensures component { self.new.by_component ≡ self.old.by_component }
@@ -385,7 +407,8 @@ impl AutomataBuilder {
         alloc: Global,
         dfa_size_limit: usize,
     ) -> Result<Option<Box<Automata>>, AllocError>
-        ensures { IfOk result (λ automata. automata_or_none self.extensions.index_count automata ≡ self) }
+        ensures { IfOk result
+            (λ automata. automata_or_none self.extensions.index_count automata ≡ self) }
     {
         let AutomataBuilder {
             index_count: _,

@@ -26,11 +26,13 @@ impl SetMatcher {
     ) -> Result<bool, AllocError>
         requires { AreCachesOf self.now.automata caches.old }
         ensures caches { caches.new ≡ caches.old }
-        ensures some { IfOk result (λ yes. IsTrue yes ↔ SomeReportedBelow (matcher_globs self.now) folder.now) }
+        ensures some { IfOk result
+            (λ yes. IsTrue yes ↔ SomeReportedBelow (matcher_globs self.now) folder.now) }
         ensures kept { scratch.new ≡ scratch.old }
         ensures room { HasCapacity scratch.old self.now.states self.now.index_count → IsOk result }
         ensures memory { load_below (matcher_globs self.now) ≡ 0 → IsOk result }
-        ensures visits { visits.new ≤ visits.old + max_visits_below (matcher_globs self.now) folder.now }
+        ensures visits { visits.new
+            ≤ visits.old + max_visits_below (matcher_globs self.now) folder.now }
         ensures counted { visits.old ≤ visits.new }
     {
         if self.keys.can_match_below(folder, visits) {

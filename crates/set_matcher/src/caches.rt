@@ -136,7 +136,8 @@ impl SlotCaches {
         requires none { slot ≡ None → size automaton.now ≡ 0 }
         ensures caches { self.new ≡ self.old }
         ensures room { index_capacity marks.new ≡ index_capacity marks.old }
-        ensures found { OnOk result (AddsMatches automaton.now (before_extension path.now) marks.old marks.new) }
+        ensures found { OnOk result
+            (AddsMatches automaton.now (before_extension path.now) marks.old marks.new) }
         ensures kept { sets_capacity sets.old ≤ sets_capacity sets.new }
         ensures memory { size automaton.now ≤ sets_capacity sets.old → IsOk result }
         ensures visits { visits.new ≤ visits.old + (length path.now + 1) * max_reads automaton.now }
@@ -200,7 +201,9 @@ impl SlotCaches {
     ) -> Result<bool, AllocError>
         requires { IsCacheAt self.old slot automaton.now }
         ensures caches { self.new ≡ self.old }
-        ensures some { IfOk result (λ yes. (xs : List IndexedTokens) → IsFor automaton.now xs → IsTrue yes ↔ SomeMeanAfter xs (text.now ++ byte ∷ [])) }
+        ensures some { IfOk result
+            (λ yes. (xs : List IndexedTokens) → IsFor automaton.now xs
+            → IsTrue yes ↔ SomeMeanAfter xs (text.now ++ byte ∷ [])) }
         ensures kept { sets_capacity sets.old ≤ sets_capacity sets.new }
         ensures memory { size automaton.now ≤ sets_capacity sets.old → IsOk result }
         ensures visits { visits.new ≤ visits.old + (length text.now + 2) * size automaton.now }

@@ -3,9 +3,9 @@
 ghost use Rattle.std.specs.Prelude.{◌≡◌, ◌<◌, ◌++◌, ◌∷◌, [], List, length, OnOk, OnErr, IfOk};
 ghost use Rattle.glob_syntax.specs.FlatTokens.{IsNested};
 ghost use Rattle.glob_syntax.specs.Views.{flats, tokens_of};
-ghost use Rattle.set_matcher.specs.Globs.{TokenGlob, token_glob};
+ghost use Rattle.set_matcher.specs.Globs.{token_glob};
 ghost use Rattle.set_matcher.specs.SetMatcherValue.{matcher_globs};
-ghost use Rattle.set_matcher.specs.inner.SetMatcher.{IsSetMatcherOf, set_matcher_parts};
+ghost use Rattle.set_matcher.specs.inner.SetMatcher.{AddsGlob, set_matcher_parts};
 
 use crate::automata::{Automata, AutomataBuilder};
 use crate::given::GivenGlobs;
@@ -124,7 +124,9 @@ impl SetMatcherBuilder {
     ) -> Result<(), AllocError>
         requires nested { IsNested (flats tokens.now) }
         requires count { length (matcher_globs self.old) < self.old.index_count }
-        ensures globs { OnOk result (matcher_globs self.new ≡ matcher_globs self.old ++ token_glob options (tokens_of tokens.now) ∷ []) }
+        ensures globs { OnOk result
+            (matcher_globs self.new
+            ≡ matcher_globs self.old ++ token_glob options (tokens_of tokens.now) ∷ []) }
         ensures none { OnErr result (matcher_globs self.new ≡ []) }
         ensures count { self.new.index_count ≡ self.old.index_count }
     {
@@ -183,8 +185,8 @@ fn put(
 ) -> Result<(), AllocError>
     requires nested { IsNested (flats tokens.now) }
     requires index { index < automata.old.extensions.index_count }
-    ensures matcher { OnOk result ((globs : List TokenGlob) → index ≡ length globs → IsSetMatcherOf globs (set_matcher_parts keys.old automata.old)
-        → IsSetMatcherOf (globs ++ token_glob options (tokens_of tokens.now) ∷ []) (set_matcher_parts keys.new automata.new)) }
+    ensures matcher { OnOk result (AddsGlob (token_glob options (tokens_of tokens.now)) index
+        (set_matcher_parts keys.old automata.old) (set_matcher_parts keys.new automata.new)) }
     ensures count { automata.new.extensions.index_count ≡ automata.old.extensions.index_count }
 {
     match strategy_of(alloc, options, tokens)? {

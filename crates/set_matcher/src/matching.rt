@@ -13,8 +13,8 @@ ghost use Rattle.set_matcher.specs.inner.Caches.{AreCachesOf};
 use crate::caches::Caches;
 use crate::matcher::SetMatcher;
 use bit_sets::Visits;
-use glob_path::{Candidate, PathParts};
 use glob_matching::Scratch;
+use glob_path::{Candidate, PathParts};
 use std::alloc::{AllocError, Global};
 
 impl SetMatcher {
@@ -68,10 +68,12 @@ impl SetMatcher {
     ) -> Result<(), AllocError>
         requires { AreCachesOf self.now.automata caches.old }
         ensures caches { caches.new ≡ caches.old }
-        ensures ok { OnOk result (into.new.items ≡ reported_indexes (matcher_globs self.now) path.now) }
+        ensures ok { OnOk result
+            (into.new.items ≡ reported_indexes (matcher_globs self.now) path.now) }
         ensures cleared { OnErr result (into.new.items ≡ []) }
         ensures kept { scratch.new ≡ scratch.old }
-        ensures room { HasCapacity scratch.old self.now.states self.now.index_count → length (matcher_globs self.now) ≤ vec_capacity into.old → IsOk result }
+        ensures room { HasCapacity scratch.old self.now.states self.now.index_count
+            → length (matcher_globs self.now) ≤ vec_capacity into.old → IsOk result }
         ensures capacity { vec_capacity into.old ≤ vec_capacity into.new }
         ensures visits { visits.new ≤ visits.old + max_visits (matcher_globs self.now) path.now }
         ensures counted { visits.old ≤ visits.new }
@@ -109,7 +111,8 @@ impl SetMatcher {
     ) -> Result<bool, AllocError>
         requires { AreCachesOf self.now.automata caches.old }
         ensures caches { caches.new ≡ caches.old }
-        ensures some { IfOk result (λ yes. IsTrue yes ↔ (reported_indexes (matcher_globs self.now) path.now ≢ [])) }
+        ensures some { IfOk result
+            (λ yes. IsTrue yes ↔ (reported_indexes (matcher_globs self.now) path.now ≢ [])) }
         ensures kept { scratch.new ≡ scratch.old }
         ensures room { HasCapacity scratch.old self.now.states self.now.index_count → IsOk result }
         ensures memory { load (matcher_globs self.now) path.now ≡ 0 → IsOk result }
@@ -139,7 +142,10 @@ impl SetMatcher {
     ) -> Result<bool, AllocError>
         requires { AreCachesOf self.now.automata caches.old }
         ensures caches { caches.new ≡ caches.old }
-        ensures all { IfOk result (λ yes. IsTrue yes ↔ ContainsAllBelow (reported_indexes (matcher_globs self.now) path.now) (length (matcher_globs self.now))) }
+        ensures all { IfOk result
+            (λ yes. IsTrue yes
+            ↔ ContainsAllBelow (reported_indexes (matcher_globs self.now) path.now)
+            (length (matcher_globs self.now))) }
         ensures kept { scratch.new ≡ scratch.old }
         ensures room { HasCapacity scratch.old self.now.states self.now.index_count → IsOk result }
         ensures memory { load (matcher_globs self.now) path.now ≡ 0 → IsOk result }

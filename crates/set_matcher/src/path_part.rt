@@ -54,7 +54,8 @@ pub fn run(
     requires cache { IfSome cache.old (λ c. c ≡ automaton.now) }
     ensures cache { cache.new ≡ cache.old }
     ensures room { index_capacity marks.new ≡ index_capacity marks.old }
-    ensures found { OnOk result (AddsMatches automaton.now (part_of part path.now) marks.old marks.new) }
+    ensures found { OnOk result
+        (AddsMatches automaton.now (part_of part path.now) marks.old marks.new) }
     ensures kept { sets_capacity sets.old ≤ sets_capacity sets.new }
     ensures memory { size automaton.now ≤ sets_capacity sets.old → IsOk result }
     ensures visits { visits.new ≤ visits.old + (length path.now + 1) * max_reads automaton.now }

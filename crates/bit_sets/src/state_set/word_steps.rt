@@ -37,8 +37,10 @@ impl StateSet {
         requires some { low < limit }
         requires word { low / 64 ≡ (limit - 1) / 64 }
         requires within { limit ≤ state_capacity self.now }
-        ensures below { (s : ℕ) → s / 64 ≡ (limit - 1) / 64 → s < limit → (bit_at result (s % 64) == 1) ≡ has_state self.now s }
-        ensures above { (s : ℕ) → s / 64 ≡ (limit - 1) / 64 → limit ≤ s → (bit_at result (s % 64) == 1) ≡ false }
+        ensures below { (s : ℕ) → s / 64 ≡ (limit - 1) / 64 → s < limit
+            → (bit_at result (s % 64) == 1) ≡ has_state self.now s }
+        ensures above { (s : ℕ) → s / 64 ≡ (limit - 1) / 64 → limit ≤ s
+            → (bit_at result (s % 64) == 1) ≡ false }
         ensures visits { visits.new ≡ visits.old + max 1 (count_ones (result / 2 ^ (low % 64))) }
         ensures few { visits.new + low ≤ visits.old + limit }
     {
@@ -55,7 +57,8 @@ impl StateSet {
         requires fits { at * 64 < 2 ^ 64 }
         requires before { bit_at word 0 ≡ 1 → 0 < at }
         ensures room { state_capacity self.new ≡ state_capacity self.old }
-        ensures has { (t : ℕ) → has_state self.new t ≡ (is_in_word at word (t + 1) || has_state self.old t) }
+        ensures has { (t : ℕ)
+            → has_state self.new t ≡ (is_in_word at word (t + 1) || has_state self.old t) }
         ensures some { IsTrue result → (t : ℕ) × IsTrue (is_in_word at word (t + 1)) }
         ensures none { IsFalse result → (s : ℕ) → is_in_word at word s ≡ false }
     {

@@ -29,7 +29,8 @@ impl Tree {
     pub fn build(alloc: Global, texts: &[Text]) -> Result<Tree, AllocError>
         requires { IsOrdered texts.now 0 0 (length texts.now) }
         ensures tree { IfOk result IsTree }
-        ensures leads { IfOk result (λ t. (w : List ℕ) → under t 0 w ≡ indexes_under (map entry_of texts.now) w) }
+        ensures leads { IfOk result
+            (λ t. (w : List ℕ) → under t 0 w ≡ indexes_under (map entry_of texts.now) w) }
     {
         let longest = longest(texts);
         let indexes = indexes_of(alloc, texts)?;
@@ -61,7 +62,8 @@ impl Tree {
     ) -> Result<(), AllocError>
         requires stands { Stands texts.now self.old (map (rests_of texts.now depth) level.now) }
         requires spans { AreSpans texts.now depth level.now }
-        ensures stands { OnOk result (Stands texts.now self.new (map (rests_of texts.now (depth + 1)) next.new.items)) }
+        ensures stands { OnOk result
+            (Stands texts.now self.new (map (rests_of texts.now (depth + 1)) next.new.items)) }
         ensures spans { OnOk result (AreSpans texts.now (depth + 1) next.new.items) }
     {
         next.clear();
@@ -80,7 +82,8 @@ impl Tree {
         next: &mut Vec<Span>,
     ) -> Result<(), AllocError>
         requires { IsSpan texts.now depth span }
-        ensures { OnOk result (IsAdded texts.now depth span self.old self.new next.old.items next.new.items) }
+        ensures { OnOk result
+            (IsAdded texts.now depth span self.old self.new next.old.items next.new.items) }
     {
         let own = end_of_run(texts, span, depth, None);
         let edges = self.bytes.len();
@@ -120,7 +123,9 @@ fn push_edges(
 ) -> Result<(), AllocError>
     requires span { IsSpan texts.now depth span }
     requires long { AllWithin (λ t. depth < length t.bytes.items) texts.now span.from span.to }
-    ensures { OnOk result (AddsSplit texts.now depth span bytes.old.items bytes.new.items next.old.items next.new.items) }
+    ensures { OnOk result
+        (AddsSplit texts.now depth span bytes.old.items bytes.new.items next.old.items
+        next.new.items) }
 {
     let mut from = span.from;
     while from < span.to {

@@ -60,7 +60,8 @@ impl Nfa {
         requires exists { s < size self.now }
         requires room { size self.now ≤ state_capacity accepting.now }
         ensures keeps { (c : ℕ) → IsTrue (has_byte set c) → IsTrue (has_byte result c) }
-        ensures last { (c t : ℕ) → IsTrue (goes_next (state self.now.states s) s (Some c) t) → IsTrue (has_state accepting.now t) → IsTrue (has_byte result c) }
+        ensures last { (c t : ℕ) → IsTrue (goes_next (state self.now.states s) s (Some c) t)
+            → IsTrue (has_state accepting.now t) → IsTrue (has_byte result c) }
     {
         self.states[s].add_last_bytes(s, &self.sets, accepting, set)
     }

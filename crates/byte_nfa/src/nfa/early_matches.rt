@@ -16,7 +16,9 @@ impl Nfa {
     /// of the index exactly if in the new automaton it does, or some beginning of it leads to an end of the index
     /// `index_count + k`. Returns `None` if twice as many indexes are too many for a `usize`, and an error if memory runs out.
     pub fn with_early_matches(&self) -> Result<Option<Nfa>, AllocError>
-        ensures { IfOk result (λ made. MatchOption made (2 ^ 64 ≤ self.now.index_count * 2) (λ new. EndsAtEarlyMatches self.now new)) }
+        ensures { IfOk result
+            (λ made. MatchOption made (2 ^ 64 ≤ self.now.index_count * 2)
+            (λ new. EndsAtEarlyMatches self.now new)) }
     {
         let Some(index_count) = self.index_count.checked_mul(2) else {
             return Ok(None);
@@ -39,7 +41,8 @@ impl Nfa {
     /// Returns the index that a state decides.
     fn early_match(&self, s: usize) -> Option<usize>
         requires { s < size self.now }
-        ensures { MatchOption result ((k : ℕ) → Decides self.now.states s k → ⊥) (λ k. Decides self.now.states s k × (k < self.now.index_count)) }
+        ensures { MatchOption result ((k : ℕ) → Decides self.now.states s k → ⊥)
+            (λ k. Decides self.now.states s k × (k < self.now.index_count)) }
     {
         match self.states[s].only_exit(s, &self.sets) {
             Some(exit) => self.index_of(exit),
@@ -50,7 +53,8 @@ impl Nfa {
     /// Returns the index of a state, if it is an end.
     fn index_of(&self, s: usize) -> Option<usize>
         requires { s < size self.now }
-        ensures { MatchOption result ((k : ℕ) → state self.now.states s ≡ match_state k → ⊥) (λ k. (state self.now.states s ≡ match_state k) × (k < self.now.index_count)) }
+        ensures { MatchOption result ((k : ℕ) → state self.now.states s ≡ match_state k → ⊥)
+            (λ k. (state self.now.states s ≡ match_state k) × (k < self.now.index_count)) }
     {
         match self.states[s] {
             State::Match(index) => Some(index),

@@ -16,7 +16,8 @@ impl Nfa {
     pub fn least_next(&self, s: usize) -> Option<usize>
         requires { s < size self.now }
         ensures below { GoesBelow s (state self.now.states s) }
-        ensures least { MatchOption result ((k : ℕ) × (state self.now.states s ≡ match_state k)) (λ low. GoesFrom low (state self.now.states s) × IsNoEnd (state self.now.states s)) }
+        ensures least { MatchOption result ((k : ℕ) × (state self.now.states s ≡ match_state k))
+            (λ low. GoesFrom low (state self.now.states s) × IsNoEnd (state self.now.states s)) }
     {
         self.states[s].least_next(s, &self.targets)
     }
@@ -27,7 +28,8 @@ impl Nfa {
     /// It reads the state.
     pub fn forced_byte(&self, s: usize) -> Option<u8>
         requires { s < size self.now }
-        ensures { MatchOption result (Unit {0}) (λ letter. Forces (state self.now.states s) s letter) }
+        ensures { MatchOption result (Unit {0})
+            (λ letter. Forces (state self.now.states s) s letter) }
     {
         match &self.states[s] {
             State::Bytes(set, next) if s > 0 && *next == s - 1 => {

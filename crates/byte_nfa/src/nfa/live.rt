@@ -36,7 +36,8 @@ impl Nfa {
         requires from_capacity { size self.now ≤ state_capacity from.now }
         requires live_capacity { size self.now ≤ state_capacity live.now }
         requires live { AreLive self.now live.now }
-        ensures { IsTrue result ↔ ((y : List ℕ) × (k : ℕ) × AllBytes y × AcceptsFrom self.now from.now y k) }
+        ensures { IsTrue result
+            ↔ ((y : List ℕ) × (k : ℕ) × AllBytes y × AcceptsFrom self.now from.now y k) }
     {
         let mut limit = self.state_count();
         while limit > 0 {
@@ -57,7 +58,8 @@ impl Nfa {
         requires from_capacity { size self.now ≤ state_capacity from.now }
         requires live_capacity { size self.now ≤ state_capacity live.old }
         ensures room { state_capacity live.new ≡ state_capacity live.old }
-        ensures some { IsTrue result ↔ ((y : List ℕ) × (k : ℕ) × AllBytes y × AcceptsFrom self.now from.now y k) }
+        ensures some { IsTrue result
+            ↔ ((y : List ℕ) × (k : ℕ) × AllBytes y × AcceptsFrom self.now from.now y k) }
         ensures visits { visits.new ≤ visits.old + size self.now }
         ensures counted { visits.old ≤ visits.new }
     {

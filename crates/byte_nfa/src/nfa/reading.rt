@@ -26,8 +26,10 @@ impl Nfa {
     /// Returns a state by its number, or `None` if there are no more states than that. The index of an end is below
     /// [`Nfa::index_count`].
     pub fn state(&self, s: usize) -> Option<StateRef<'_>>
-        ensures read { MatchOption result (size self.now ≤ s) (λ found. state self.now.states s ≡ is_read found) }
-        ensures named { (k : ℕ) → state self.now.states s ≡ match_state k → k < self.now.index_count }
+        ensures read { MatchOption result (size self.now ≤ s)
+            (λ found. state self.now.states s ≡ is_read found) }
+        ensures named { (k : ℕ) → state self.now.states s ≡ match_state k
+            → k < self.now.index_count }
     {
         if s >= self.states.len() {
             return None;

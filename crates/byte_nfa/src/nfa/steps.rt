@@ -21,11 +21,17 @@ impl Nfa {
         requires to_capacity { size self.now ≤ state_capacity to.old }
         ensures from_capacity { state_capacity from.new ≡ state_capacity from.old }
         ensures to_capacity { state_capacity to.new ≡ state_capacity to.old }
-        ensures from { (t : ℕ) → has_state from.new t ≡ (goes_now (state self.now.states s) t || has_state from.old t) }
+        ensures from { (t : ℕ)
+            → has_state from.new t
+            ≡ (goes_now (state self.now.states s) t || has_state from.old t) }
         ensures below { GoesBelow s (state self.now.states s) }
-        ensures to { (t : ℕ) → has_state to.new t ≡ (goes_next (state self.now.states s) s (Some byte) t || has_state to.old t) }
-        ensures some { IsTrue result → (t : ℕ) × (t ≤ s) × IsTrue (goes_next (state self.now.states s) s (Some byte) t) }
-        ensures none { IsFalse result → (t : ℕ) → goes_next (state self.now.states s) s (Some byte) t ≡ false }
+        ensures to { (t : ℕ)
+            → has_state to.new t
+            ≡ (goes_next (state self.now.states s) s (Some byte) t || has_state to.old t) }
+        ensures some { IsTrue result
+            → (t : ℕ) × (t ≤ s) × IsTrue (goes_next (state self.now.states s) s (Some byte) t) }
+        ensures none { IsFalse result → (t : ℕ)
+            → goes_next (state self.now.states s) s (Some byte) t ≡ false }
     {
         self.states[s].take_steps(s, &self.sets, &self.targets, byte, from, to)
     }
@@ -36,9 +42,12 @@ impl Nfa {
         requires exists { s < size self.now }
         requires room { size self.now ≤ state_capacity from.old }
         ensures room { state_capacity from.new ≡ state_capacity from.old }
-        ensures from { (t : ℕ) → has_state from.new t ≡ (goes_now (state self.now.states s) t || has_state from.old t) }
+        ensures from { (t : ℕ)
+            → has_state from.new t
+            ≡ (goes_now (state self.now.states s) t || has_state from.old t) }
         ensures below { GoesBelow s (state self.now.states s) }
-        ensures end { MatchOption result ((k : ℕ) → names (state self.now.states s) None k ≡ false) (λ k. (state self.now.states s ≡ match_state k) × (k < self.now.index_count)) }
+        ensures end { MatchOption result ((k : ℕ) → names (state self.now.states s) None k ≡ false)
+            (λ k. (state self.now.states s ≡ match_state k) × (k < self.now.index_count)) }
     {
         self.states[s].follow_epsilons(s, &self.targets, from)
     }
@@ -54,8 +63,12 @@ impl Nfa {
         ensures from_low { from.new.low ≡ from.old.low }
         ensures to_low { to.new.low ≡ to.old.low }
         ensures below { GoesBelow s (state self.now.states s) }
-        ensures from { (t : ℕ) → has_in_word from.new t ≡ (goes_now (state self.now.states s) t || has_in_word from.old t) }
-        ensures to { (t : ℕ) → has_in_word to.new t ≡ (goes_next (state self.now.states s) s (Some byte) t || has_in_word to.old t) }
+        ensures from { (t : ℕ)
+            → has_in_word from.new t
+            ≡ (goes_now (state self.now.states s) t || has_in_word from.old t) }
+        ensures to { (t : ℕ)
+            → has_in_word to.new t
+            ≡ (goes_next (state self.now.states s) s (Some byte) t || has_in_word to.old t) }
     {
         self.states[s].take_steps_in_word(s, &self.sets, &self.targets, byte, from, to);
     }
@@ -68,8 +81,11 @@ impl Nfa {
         requires within { s < from.old.low + 64 }
         ensures low { from.new.low ≡ from.old.low }
         ensures below { GoesBelow s (state self.now.states s) }
-        ensures from { (t : ℕ) → has_in_word from.new t ≡ (goes_now (state self.now.states s) t || has_in_word from.old t) }
-        ensures end { MatchOption result ((k : ℕ) → names (state self.now.states s) None k ≡ false) (λ k. (state self.now.states s ≡ match_state k) × (k < self.now.index_count)) }
+        ensures from { (t : ℕ)
+            → has_in_word from.new t
+            ≡ (goes_now (state self.now.states s) t || has_in_word from.old t) }
+        ensures end { MatchOption result ((k : ℕ) → names (state self.now.states s) None k ≡ false)
+            (λ k. (state self.now.states s ≡ match_state k) × (k < self.now.index_count)) }
     {
         self.states[s].follow_epsilons_in_word(s, &self.targets, from)
     }
@@ -77,7 +93,8 @@ impl Nfa {
     /// Returns the bytes that a state reads, if it goes on to the state below.
     pub fn read_down(&self, s: usize) -> Option<ByteSet>
         requires { s < size self.now }
-        ensures { IfSome result (λ set. (t : ℕ) × (state self.now.states s ≡ bytes_state set t) × (t + 1 ≡ s)) }
+        ensures { IfSome result
+            (λ set. (t : ℕ) × (state self.now.states s ≡ bytes_state set t) × (t + 1 ≡ s)) }
     {
         match &self.states[s] {
             State::Bytes(set, next) if s > 0 && *next == s - 1 => {

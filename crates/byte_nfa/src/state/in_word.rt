@@ -29,8 +29,13 @@ impl State {
         requires low { to.old.low ≡ from.old.low }
         ensures from_low { from.new.low ≡ from.old.low }
         ensures to_low { to.new.low ≡ to.old.low }
-        ensures from { (t : ℕ) → has_in_word from.new t ≡ (goes_now (of_state sets.now targets.now self.now) t || has_in_word from.old t) }
-        ensures to { (t : ℕ) → has_in_word to.new t ≡ (goes_next (of_state sets.now targets.now self.now) s (Some byte) t || has_in_word to.old t) }
+        ensures from { (t : ℕ)
+            → has_in_word from.new t
+            ≡ (goes_now (of_state sets.now targets.now self.now) t || has_in_word from.old t) }
+        ensures to { (t : ℕ)
+            → has_in_word to.new t
+            ≡ (goes_next (of_state sets.now targets.now self.now) s (Some byte) t
+            || has_in_word to.old t) }
     {
         match self {
             State::Bytes(set, next) => {
@@ -57,10 +62,14 @@ impl State {
         targets: &[usize],
         from: &mut WordSet,
     ) -> Option<usize>
-        requires below { (sets : List ByteSet) × IsHeld sets targets.now self.now × GoesBelow s (of_state sets targets.now self.now) × GoesFrom from.old.low (of_state sets targets.now self.now) }
+        requires below { (sets : List ByteSet) × IsHeld sets targets.now self.now
+            × GoesBelow s (of_state sets targets.now self.now)
+            × GoesFrom from.old.low (of_state sets targets.now self.now) }
         requires within { s < from.old.low + 64 }
         ensures low { from.new.low ≡ from.old.low }
-        ensures from { (sets : List ByteSet) (t : ℕ) → has_in_word from.new t ≡ (goes_now (of_state sets targets.now self.now) t || has_in_word from.old t) }
+        ensures from { (sets : List ByteSet) (t : ℕ)
+            → has_in_word from.new t
+            ≡ (goes_now (of_state sets targets.now self.now) t || has_in_word from.old t) }
         ensures end { (sets : List ByteSet) → TellsEnd (of_state sets targets.now self.now) result }
     {
         match self {

@@ -45,6 +45,10 @@ pub record AreEntriesOf (rules : List Rule) (globs : List GlobValue) (entries : 
   pub listed : All (λ (g : GlobValue). excluded g ≡ false) globs
   pub last : (path : List ℕ) (is_folder : Bool) → last_entry path is_folder globs entries ≡ entry_of_rule (last_rule path is_folder rules)
 
+-- These are the globs and entries of more rules than before.
+abbrev pub AddsRules : List Rule → List GlobValue → List RuleEntry → List GlobValue → List RuleEntry → Type 0
+AddsRules more globs entries globs' entries' = (rules : List Rule) → AreEntriesOf rules globs entries → AreEntriesOf (rules ++ more) globs' entries'
+
 -- the rule of a line, if it has a pattern
 abbrev pub rule_at : ℕ → Option Pattern → List Rule
 rule_at number None = []

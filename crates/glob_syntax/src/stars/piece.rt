@@ -32,7 +32,9 @@ fn push_run(
     n: usize,
     after: &[Lexeme<'_>],
 ) -> Result<usize, AllocError>
-    ensures adds { IfOk result (λ more. Adds out.old.items out.new.items (run_piece start n (Stars n ∷ lexemes_of after.now)) more) }
+    ensures adds { IfOk result
+        (λ more. Adds out.old.items out.new.items
+        (run_piece start n (Stars n ∷ lexemes_of after.now)) more) }
     ensures within { IfOk result (λ more. more ≤ length after.now) }
 {
     match after {
@@ -54,7 +56,8 @@ fn push_run(
 
 /// Pushes the only token of a piece. Returns `more`, how many lexemes belong to the piece after its first one.
 fn push_token(out: &mut Vec<Token>, token: Token, more: usize) -> Result<usize, AllocError>
-    ensures { IfOk result (λ n. (flats out.new.items ≡ flats out.old.items ++ flat_of token ∷ []) × (n ≡ more)) }
+    ensures { IfOk result
+        (λ n. (flats out.new.items ≡ flats out.old.items ++ flat_of token ∷ []) × (n ≡ more)) }
 {
     out.push(token)?;
     Ok(more)
@@ -62,7 +65,8 @@ fn push_token(out: &mut Vec<Token>, token: Token, more: usize) -> Result<usize, 
 
 /// Pushes `n` tokens `*`.
 fn push_stars(out: &mut Vec<Token>, n: usize) -> Result<(), AllocError>
-    ensures { OnOk result (flats out.new.items ≡ flats out.old.items ++ map simple (replicate n ZeroOrMore)) }
+    ensures { OnOk result
+        (flats out.new.items ≡ flats out.old.items ++ map simple (replicate n ZeroOrMore)) }
 {
     for _i in 0..n {
         out.push(Token::ZeroOrMore)?;
@@ -73,7 +77,8 @@ fn push_stars(out: &mut Vec<Token>, n: usize) -> Result<(), AllocError>
 /// Pushes the tokens of a piece that begins with a `/`, followed by `after`. Returns how many lexemes belong to the piece
 /// after its first one.
 fn push_slash(out: &mut Vec<Token>, after: &[Lexeme<'_>]) -> Result<usize, AllocError>
-    ensures adds { IfOk result (λ more. Adds out.old.items out.new.items (slash_piece (lexemes_of after.now)) more) }
+    ensures adds { IfOk result
+        (λ more. Adds out.old.items out.new.items (slash_piece (lexemes_of after.now)) more) }
     ensures within { IfOk result (λ more. more ≤ length after.now) }
 {
     let count = pairs(after);
@@ -94,7 +99,10 @@ pub fn push_piece(
     out: &mut Vec<Token>,
     position: Position<'_, '_>,
 ) -> Result<usize, AllocError>
-    ensures adds { IfOk result (λ more. Adds out.old.items out.new.items (piece position.entry.start (lexeme_of position.entry.lexeme) (lexemes_of position.entry.after.now)) more) }
+    ensures adds { IfOk result
+        (λ more. Adds out.old.items out.new.items
+        (piece position.entry.start (lexeme_of position.entry.lexeme)
+        (lexemes_of position.entry.after.now)) more) }
     ensures within { IfOk result (λ more. more ≤ length position.entry.after.now) }
 {
     let after = position.after;

@@ -18,11 +18,14 @@ impl GlobSet {
     /// Returns an error if memory runs out, and no other. It needs no memory if no glob needs an automaton for
     /// the path: if each of them is direct, or requires an extension that the path lacks.
     pub fn matches_all<P: AsPath>(&self, path: P) -> Result<bool, Error>
-        ensures ok { IfOk result (λ yes. IsTrue yes
-            ↔ ContainsAllBelow (matching_indexes (set_globs self.now) (P.text path)) (length (set_globs self.now))) }
+        ensures ok { IfOk result
+            (λ yes. IsTrue yes
+            ↔ ContainsAllBelow (matching_indexes (set_globs self.now) (P.text path))
+            (length (set_globs self.now))) }
         ensures err { IfErr result (λ e. e ≡ out_of_memory) }
         ensures succeeds_if_empty { set_globs self.now ≡ [] → IsOk result }
-        ensures succeeds_without_automata { load (set_globs self.now) (P.text path) ≡ 0 → IsOk result }
+        ensures succeeds_without_automata { load (set_globs self.now) (P.text path) ≡ 0
+            → IsOk result }
     {
         self.matches_all_candidate(&Candidate::new(path.path_text()))
     }
@@ -32,8 +35,10 @@ impl GlobSet {
     /// Returns an error if memory runs out, and no other. It needs no memory if no glob needs an automaton for
     /// the path: if each of them is direct, or requires an extension that the path lacks.
     pub fn matches_all_candidate(&self, path: &Candidate<'_>) -> Result<bool, Error>
-        ensures ok { IfOk result (λ yes. IsTrue yes
-            ↔ ContainsAllBelow (matching_indexes (set_globs self.now) path.now) (length (set_globs self.now))) }
+        ensures ok { IfOk result
+            (λ yes. IsTrue yes
+            ↔ ContainsAllBelow (matching_indexes (set_globs self.now) path.now)
+            (length (set_globs self.now))) }
         ensures err { IfErr result (λ e. e ≡ out_of_memory) }
         ensures succeeds_if_empty { set_globs self.now ≡ [] → IsOk result }
         ensures succeeds_without_automata { load (set_globs self.now) path.now ≡ 0 → IsOk result }
@@ -57,8 +62,10 @@ impl GlobSet {
         path: &Candidate<'_>,
         visits: &mut Visits,
     ) -> Result<bool, Error>
-        ensures ok { IfOk result (λ yes. IsTrue yes
-            ↔ ContainsAllBelow (matching_indexes (set_globs self.now) path.now) (length (set_globs self.now))) }
+        ensures ok { IfOk result
+            (λ yes. IsTrue yes
+            ↔ ContainsAllBelow (matching_indexes (set_globs self.now) path.now)
+            (length (set_globs self.now))) }
         ensures err { IfErr result (λ e. e ≡ out_of_memory) }
         ensures succeeds_if_empty { set_globs self.now ≡ [] → IsOk result }
         ensures succeeds_without_automata { load (set_globs self.now) path.now ≡ 0 → IsOk result }

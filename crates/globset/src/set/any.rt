@@ -20,10 +20,12 @@ impl GlobSet {
     /// Returns an error if memory runs out, and no other. It needs no memory if no glob needs an automaton for
     /// the path: if each of them is direct, or requires an extension that the path lacks.
     pub fn is_match<P: AsPath>(&self, path: P) -> Result<bool, Error>
-        ensures ok { IfOk result (λ yes. IsTrue yes ↔ (matching_indexes (set_globs self.now) (P.text path) ≢ [])) }
+        ensures ok { IfOk result
+            (λ yes. IsTrue yes ↔ (matching_indexes (set_globs self.now) (P.text path) ≢ [])) }
         ensures err { IfErr result (λ e. e ≡ out_of_memory) }
         ensures succeeds_if_empty { set_globs self.now ≡ [] → IsOk result }
-        ensures succeeds_without_automata { load (set_globs self.now) (P.text path) ≡ 0 → IsOk result }
+        ensures succeeds_without_automata { load (set_globs self.now) (P.text path) ≡ 0
+            → IsOk result }
     {
         self.is_match_candidate(&Candidate::new(path.path_text()))
     }
@@ -33,7 +35,8 @@ impl GlobSet {
     /// Returns an error if memory runs out, and no other. It needs no memory if no glob needs an automaton for
     /// the path: if each of them is direct, or requires an extension that the path lacks.
     pub fn is_match_candidate(&self, path: &Candidate<'_>) -> Result<bool, Error>
-        ensures ok { IfOk result (λ yes. IsTrue yes ↔ (matching_indexes (set_globs self.now) path.now ≢ [])) }
+        ensures ok { IfOk result
+            (λ yes. IsTrue yes ↔ (matching_indexes (set_globs self.now) path.now ≢ [])) }
         ensures err { IfErr result (λ e. e ≡ out_of_memory) }
         ensures succeeds_if_empty { set_globs self.now ≡ [] → IsOk result }
         ensures succeeds_without_automata { load (set_globs self.now) path.now ≡ 0 → IsOk result }
@@ -52,7 +55,8 @@ impl GlobSet {
     /// Returns an error if memory runs out, and no other. It needs no memory if no glob needs an automaton for the path: if
     /// each of them is direct, or requires an extension that the path lacks.
     pub fn is_match_visits(&self, path: &Candidate<'_>, visits: &mut Visits) -> Result<bool, Error>
-        ensures ok { IfOk result (λ yes. IsTrue yes ↔ (matching_indexes (set_globs self.now) path.now ≢ [])) }
+        ensures ok { IfOk result
+            (λ yes. IsTrue yes ↔ (matching_indexes (set_globs self.now) path.now ≢ [])) }
         ensures err { IfErr result (λ e. e ≡ out_of_memory) }
         ensures succeeds_if_empty { set_globs self.now ≡ [] → IsOk result }
         ensures succeeds_without_automata { load (set_globs self.now) path.now ≡ 0 → IsOk result }

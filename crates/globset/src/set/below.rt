@@ -32,7 +32,8 @@ impl GlobSet {
     /// assert!(rt; !set.can_match_below("target")?);
     /// ```
     pub fn can_match_below<P: AsPath>(&self, folder: P) -> Result<bool, Error>
-        ensures ok { IfOk result (λ yes. IsTrue yes ↔ MatchesBelow (set_globs self.now) (P.text folder)) }
+        ensures ok { IfOk result
+            (λ yes. IsTrue yes ↔ MatchesBelow (set_globs self.now) (P.text folder)) }
         ensures err { IfErr result (λ e. e ≡ out_of_memory) }
         ensures succeeds_if_empty { set_globs self.now ≡ [] → IsOk result }
         ensures succeeds_without_automata { load_below (set_globs self.now) ≡ 0 → IsOk result }
@@ -45,7 +46,8 @@ impl GlobSet {
     ///
     /// Returns an error if memory runs out, and no other. It needs no memory if each glob is direct.
     pub fn can_match_below_candidate(&self, folder: &Candidate<'_>) -> Result<bool, Error>
-        ensures ok { IfOk result (λ yes. IsTrue yes ↔ MatchesBelow (set_globs self.now) folder.now) }
+        ensures ok { IfOk result
+            (λ yes. IsTrue yes ↔ MatchesBelow (set_globs self.now) folder.now) }
         ensures err { IfErr result (λ e. e ≡ out_of_memory) }
         ensures succeeds_if_empty { set_globs self.now ≡ [] → IsOk result }
         ensures succeeds_without_automata { load_below (set_globs self.now) ≡ 0 → IsOk result }
@@ -66,11 +68,13 @@ impl GlobSet {
         folder: &Candidate<'_>,
         visits: &mut Visits,
     ) -> Result<bool, Error>
-        ensures ok { IfOk result (λ yes. IsTrue yes ↔ MatchesBelow (set_globs self.now) folder.now) }
+        ensures ok { IfOk result
+            (λ yes. IsTrue yes ↔ MatchesBelow (set_globs self.now) folder.now) }
         ensures err { IfErr result (λ e. e ≡ out_of_memory) }
         ensures succeeds_if_empty { set_globs self.now ≡ [] → IsOk result }
         ensures succeeds_without_automata { load_below (set_globs self.now) ≡ 0 → IsOk result }
-        ensures visits { visits.new ≤ visits.old + max_set_visits_below (set_globs self.now) folder.now }
+        ensures visits { visits.new
+            ≤ visits.old + max_set_visits_below (set_globs self.now) folder.now }
         ensures counted { visits.old ≤ visits.new }
         ensures no_visits_if_empty { set_globs self.now ≡ [] → visits.new ≡ visits.old }
     {
@@ -110,7 +114,8 @@ impl GlobSet {
         requires { Fits scratch.old self.now }
         ensures some { IsTrue result ↔ MatchesBelow (set_globs self.now) folder.now }
         ensures kept { scratch.new ≡ scratch.old }
-        ensures visits { visits.new ≤ visits.old + max_set_visits_below (set_globs self.now) folder.now }
+        ensures visits { visits.new
+            ≤ visits.old + max_set_visits_below (set_globs self.now) folder.now }
         ensures counted { visits.old ≤ visits.new }
         ensures no_visits_if_empty { set_globs self.now ≡ [] → visits.new ≡ visits.old }
     {

@@ -16,7 +16,8 @@ impl GlobSet {
     ///
     /// Returns an error if memory runs out, and no other. It needs no memory if the set has no globs.
     pub fn matches<P: AsPath>(&self, alloc: Global, path: P) -> Result<Vec<usize>, Error>
-        ensures ok { IfOk result (λ v. v.items ≡ matching_indexes (set_globs self.now) (P.text path)) }
+        ensures ok { IfOk result
+            (λ v. v.items ≡ matching_indexes (set_globs self.now) (P.text path)) }
         ensures err { IfErr result (λ e. e ≡ out_of_memory) }
         ensures succeeds_if_empty { set_globs self.now ≡ [] → IsOk result }
     {
@@ -56,7 +57,8 @@ impl GlobSet {
     ///
     /// Returns an error if memory runs out, and no other; the vector is then empty. It needs no memory if the set has no globs.
     pub fn matches_into<P: AsPath>(&self, path: P, into: &mut Vec<usize>) -> Result<(), Error>
-        ensures ok { OnOk result (into.new.items ≡ matching_indexes (set_globs self.now) (P.text path)) }
+        ensures ok { OnOk result
+            (into.new.items ≡ matching_indexes (set_globs self.now) (P.text path)) }
         ensures err { IfErr result (λ e. e ≡ out_of_memory) }
         ensures succeeds_if_empty { set_globs self.now ≡ [] → IsOk result }
         ensures cleared { OnErr result (into.new.items ≡ []) }

@@ -45,7 +45,8 @@ impl GlobSet {
 
 /// Returns what the set of the globs of these elements of an array stores. Each glob is dropped once it is added.
 fn read_globs(alloc: Global, values: &[Value]) -> Result<Stored, ValueError>
-    ensures { MatchResult result (λ stored. globs_from 0 (items_view values.now) ≡ Ok (set_globs stored.set))
+    ensures { MatchResult result
+        (λ stored. globs_from 0 (items_view values.now) ≡ Ok (set_globs stored.set))
         (IsValueErrorOf (globs_from 0 (items_view values.now))) }
 {
     let mut builder = StoredBuilder::new(alloc, values.len());

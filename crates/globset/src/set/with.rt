@@ -66,7 +66,8 @@ impl GlobSet {
     ) -> bool
         requires { Fits scratch.old self.now }
         ensures all { IsTrue result
-            ↔ ContainsAllBelow (matching_indexes (set_globs self.now) path.now) (length (set_globs self.now)) }
+            ↔ ContainsAllBelow (matching_indexes (set_globs self.now) path.now)
+            (length (set_globs self.now)) }
         ensures kept { scratch.new ≡ scratch.old }
         ensures visits { visits.new ≤ visits.old + max_set_visits (set_globs self.now) path.now }
         ensures counted { visits.old ≤ visits.new }
@@ -97,7 +98,8 @@ impl GlobSet {
         requires { Fits scratch.old self.now }
         ensures ok { OnOk result (into.new.items ≡ matching_indexes (set_globs self.now) path.now) }
         ensures err { IfErr result (λ e. e ≡ out_of_memory) }
-        ensures succeeds_with_capacity { length (set_globs self.now) ≤ vec_capacity into.old → IsOk result }
+        ensures succeeds_with_capacity { length (set_globs self.now) ≤ vec_capacity into.old
+            → IsOk result }
         ensures capacity { vec_capacity into.old ≤ vec_capacity into.new }
         ensures cleared { OnErr result (into.new.items ≡ []) }
         ensures kept { scratch.new ≡ scratch.old }

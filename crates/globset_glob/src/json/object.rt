@@ -1,6 +1,6 @@
 //! Globs with options as JSON objects.
 
-ghost use Rattle.std.specs.Prelude.{◌≡◌, false, true, map, option_map, Err, IfOk, MatchOption, MatchResult, OnOk};
+ghost use Rattle.std.specs.Prelude.{◌≡◌, map, is_none, option_map, Err, IfErr, IfOk, IfSome, OnOk};
 ghost use Rattle.serde_json.specs.Find.{get_member};
 ghost use Rattle.serde_json.specs.View.{members_view, view};
 ghost use Rattle.glob_text.specs.Errors.{glob_or_parse_error};
@@ -18,8 +18,9 @@ use std::alloc::{AllocError, Global};
 pub fn members_text_and_options(
     members: &Map<String, Value>,
 ) -> Result<(&str, Options), ValueErrorKind>
-    ensures { MatchResult result
-        (λ (text, options). glob_of_object (members_view members.now.entries) ≡ of_text (glob_or_parse_error (record { text = text.now; options = options })))
+    ensures ok { IfOk result (λ (text, options). glob_of_object (members_view members.now.entries)
+        ≡ of_text (glob_or_parse_error (record { text = text.now; options = options }))) }
+    ensures err { IfErr result
         (λ kind. glob_of_object (members_view members.now.entries) ≡ Err (of_kind kind)) }
 {
     let Some(Value::String(text)) = member(members, "glob") else {
@@ -36,7 +37,8 @@ pub fn members_text_and_options(
 
 /// Returns the value under this key.
 fn member<'v>(members: &'v Map<String, Value>, key: &str) -> Option<&'v Value>
-    ensures { option_map (λ value. view value.now) result ≡ get_member key.now (members_view members.now.entries) }
+    ensures { option_map (λ value. view value.now) result
+        ≡ get_member key.now (members_view members.now.entries) }
 {
     members.get(key)
 }
@@ -72,8 +74,9 @@ fn is_known_key(key: &str) -> bool
 
 /// Returns the options of these members, or `None` if one of them is neither true nor false.
 fn read_options(members: &Map<String, Value>) -> Option<Options>
-    ensures { MatchOption result (has_non_boolean (members_view members.now.entries) ≡ true)
-        (λ options. (has_non_boolean (members_view members.now.entries) ≡ false) × (options ≡ options_in (members_view members.now.entries))) }
+    ensures options { IfSome result
+        (λ options. options ≡ options_in (members_view members.now.entries)) }
+    ensures booleans { is_none result ≡ has_non_boolean (members_view members.now.entries) }
 {
     let default = Options::DEFAULT;
     Some(Options {
@@ -92,8 +95,9 @@ fn read_options(members: &Map<String, Value>) -> Option<Options>
 
 /// Returns the option under this key, which is `default` if there is none, or `None` if it is neither true nor false.
 fn read_option(members: &Map<String, Value>, key: &str, default: bool) -> Option<bool>
-    ensures { MatchOption result (is_non_boolean (members_view members.now.entries) key.now ≡ true)
-        (λ on. (is_non_boolean (members_view members.now.entries) key.now ≡ false) × (on ≡ option_in (members_view members.now.entries) key.now default)) }
+    ensures option { IfSome result
+        (λ on. on ≡ option_in (members_view members.now.entries) key.now default) }
+    ensures boolean { is_none result ≡ is_non_boolean (members_view members.now.entries) key.now }
 {
     match member(members, key) {
         Some(value) => value.as_bool(),
@@ -104,7 +108,8 @@ fn read_option(members: &Map<String, Value>, key: &str, default: bool) -> Option
 /// Returns the value of a glob with this text and these options. Returns an error if memory runs out.
 #[tactic(auto, using(crate::proofs::lemmas::Values::text_of_defaults, crate::proofs::lemmas::Values::object_of_others))]
 pub fn value_of(alloc: Global, text: &str, options: Options) -> Result<Value, AllocError>
-    ensures { IfOk result (λ value. view value ≡ value_of_glob (record { text = text.now; options = options })) }
+    ensures { IfOk result
+        (λ value. view value ≡ value_of_glob (record { text = text.now; options = options })) }
 {
     let text = Value::String(String::from_str(alloc, text)?);
     if options == Options::DEFAULT {
@@ -122,7 +127,9 @@ fn put_options(
     alloc: Global,
     options: Options,
 ) -> Result<(), AllocError>
-    ensures { OnOk result (members_view members.new.entries ≡ with_options (keyed_options options) (members_view members.old.entries)) }
+    ensures { OnOk result
+        (members_view members.new.entries
+        ≡ with_options (keyed_options options) (members_view members.old.entries)) }
 {
     let options = keyed(options);
     let defaults = keyed(Options::DEFAULT);
@@ -141,8 +148,10 @@ fn put_option(
     value: bool,
     default: bool,
 ) -> Result<(), AllocError>
-    ensures { OnOk result (members_view members.new.entries
-        ≡ with_option (record { key = key.now; value = value; default = default }) (members_view members.old.entries)) }
+    ensures { OnOk result
+        (members_view members.new.entries
+        ≡ with_option (record { key = key.now; value = value; default = default })
+        (members_view members.old.entries)) }
 {
     if value == default {
         return Ok(());
@@ -153,7 +162,8 @@ fn put_option(
 /// Returns the options, each with its key.
 fn keyed(options: Options) -> [(&'static str, bool); 6]
     ensures keys { map (λ row. row.0.now) result ≡ option_keys }
-    ensures values { map (λ row. row.1) result ≡ map (λ option. option.value) (keyed_options options) }
+    ensures values { map (λ row. row.1) result
+        ≡ map (λ option. option.value) (keyed_options options) }
 {
     [
         ("case_insensitive", options.case_insensitive),

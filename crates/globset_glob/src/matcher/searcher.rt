@@ -8,8 +8,8 @@ ghost use Rattle.globset_glob.specs.GlobBelow.{GlobMatchesBelow};
 
 use crate::matcher::GlobMatcher;
 use bit_sets::Visits;
-use glob_path::Candidate;
 use glob_matching::Scratch;
+use glob_path::Candidate;
 use glob_text::Error;
 use std::alloc::Global;
 use std::marker::Model;

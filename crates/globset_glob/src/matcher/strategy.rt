@@ -59,10 +59,13 @@ impl Strategy {
         sets: &mut StateSets,
         visits: &mut Visits,
     ) -> Result<bool, AllocError>
-        ensures some { IfOk result (λ yes. (g : GlobValue) → IsStrategyOfMatcher g self.now → yes ≡ glob_matches g path.now) }
+        ensures some { IfOk result
+            (λ yes. (g : GlobValue) → IsStrategyOfMatcher g self.now
+            → yes ≡ glob_matches g path.now) }
         ensures room { form_states self.now ≤ sets_capacity sets.old → IsOk result }
         ensures kept { sets_capacity sets.old ≤ sets_capacity sets.new }
-        ensures visits { (g : GlobValue) → IsStrategyOfMatcher g self.now → visits.new ≤ visits.old + max_visits g path.now }
+        ensures visits { (g : GlobValue) → IsStrategyOfMatcher g self.now
+            → visits.new ≤ visits.old + max_visits g path.now }
         ensures counted { visits.old ≤ visits.new }
     {
         match self {
@@ -83,10 +86,13 @@ impl Strategy {
         sets: &mut StateSets,
         visits: &mut Visits,
     ) -> Result<bool, AllocError>
-        ensures some { IfOk result (λ yes. (g : GlobValue) → IsStrategyOfMatcher g self.now → IsTrue yes ↔ GlobMatchesBelow g folder.now) }
+        ensures some { IfOk result
+            (λ yes. (g : GlobValue) → IsStrategyOfMatcher g self.now
+            → IsTrue yes ↔ GlobMatchesBelow g folder.now) }
         ensures room { form_states self.now ≤ sets_capacity sets.old → IsOk result }
         ensures kept { sets_capacity sets.old ≤ sets_capacity sets.new }
-        ensures visits { (g : GlobValue) → IsStrategyOfMatcher g self.now → visits.new ≤ visits.old + max_visits_below g folder.now }
+        ensures visits { (g : GlobValue) → IsStrategyOfMatcher g self.now
+            → visits.new ≤ visits.old + max_visits_below g folder.now }
         ensures counted { visits.old ≤ visits.new }
     {
         match self {

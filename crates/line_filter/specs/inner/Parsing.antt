@@ -1,10 +1,11 @@
 -- What holds while arguments are parsed one after another: the same as in `Command`, but by the flags in force in place of
 -- the arguments before. Only private functions cite these.
-use Rattle.std.specs.Prelude.{ℕ, List, [], ◌∷◌, ◌++◌, Bool, false, ◌||◌, ◌&&◌, not, Result, Ok, Err, codes, map, if◌then◌else◌}
+use Rattle.std.specs.Prelude.{◌≡◌, ℕ, List, [], ◌∷◌, ◌++◌, Bool, false, ◌||◌, ◌&&◌, not, Result, Ok, Err, MatchResult, codes, map, if◌then◌else◌}
 use Rattle.std.specs.Str.{bytes_eq}
 use Rattle.globset.specs.GlobMatches.{GlobValue}
 use Rattle.globset.specs.SetValue.{builder_globs}
-use Rattle.line_filter.specs.Command.{FaultValue, unknown_option, starts_with_dash, is_double_dash, is_flag, is_dash_n, is_dash_r, glob_or_fault}
+use Rattle.line_filter.specs.Command.{FaultValue, IsFaultOf, collect_globs, is_numbered, parse_arguments, unknown_option, starts_with_dash, is_double_dash, is_flag, is_dash_n, is_dash_r, glob_or_fault}
+use Rattle.line_filter.specs.declared.arguments.fault.CommandFault.{CommandFault}
 use Rattle.line_filter.specs.declared.arguments.flags.Flags.{Flags}
 use Rattle.line_filter.specs.declared.arguments.glob_arguments.GlobArguments.{GlobArguments}
 
@@ -80,3 +81,27 @@ with_arguments old arguments = collect_onto (builder_globs old.globs) (parse_all
 -- the globs so far, and then those of arguments after `--`
 abbrev pub with_globs : GlobArguments → List (List ℕ) → Result (List GlobValue) FaultValue
 with_globs old arguments = collect_onto (builder_globs old.globs) (parse_globs old.flags arguments)
+
+-- arguments were parsed from the first one on, or the first of them that is wrong is the error
+abbrev pub Parses : List (List ℕ) → Result GlobArguments CommandFault → Type 0
+Parses arguments result = MatchResult result
+    (λ parsed. (collect_globs (parse_arguments [] arguments) ≡ Ok (builder_globs parsed.globs)) × (parsed.flags.numbered ≡ is_numbered arguments))
+    (IsFaultOf (collect_globs (parse_arguments [] arguments)))
+
+-- so were those before `--`, after which the result has the others
+abbrev pub ParsesUpToEnd : {X : Type 0} → GlobArguments → GlobArguments → List (List ℕ) → (X → List (List ℕ)) → Result X CommandFault → Type 0
+ParsesUpToEnd old new arguments after result = MatchResult result
+    (λ x. (with_globs new (after x) ≡ with_arguments old arguments) × (new.flags.numbered ≡ (old.flags.numbered || is_numbered arguments)))
+    (IsFaultOf (with_arguments old arguments))
+
+-- so was one argument before `--`
+abbrev pub ParsesOne : {X : Type 0} → GlobArguments → GlobArguments → List ℕ → Result X CommandFault → Type 0
+ParsesOne old new argument result = MatchResult result
+    (λ _. (with_argument old argument ≡ Ok (builder_globs new.globs)) × (new.flags ≡ flags_after old.flags argument))
+    (IsFaultOf (with_argument old argument))
+
+-- arguments were added as globs
+abbrev pub AddsGlobs : {X : Type 0} → GlobArguments → GlobArguments → List (List ℕ) → Result X CommandFault → Type 0
+AddsGlobs old new arguments result = MatchResult result
+    (λ _. (with_globs old arguments ≡ Ok (builder_globs new.globs)) × (new.flags ≡ old.flags))
+    (IsFaultOf (with_globs old arguments))

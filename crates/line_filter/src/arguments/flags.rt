@@ -65,7 +65,8 @@ impl Flags {
 
     /// Reads an argument as a glob under the options that the flags ask for.
     pub fn read_glob(self, alloc: Global, argument: &str) -> Result<Glob, CommandFault>
-        ensures { MatchResult result (λ glob. glob_or_fault (glob_with_flags self argument.now) ≡ Ok glob)
+        ensures { MatchResult result
+            (λ glob. glob_or_fault (glob_with_flags self argument.now) ≡ Ok glob)
             (IsFaultOf (glob_or_fault (glob_with_flags self argument.now))) }
     {
         let mut builder = GlobBuilder::new(argument);

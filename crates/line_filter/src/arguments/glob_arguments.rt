@@ -1,11 +1,9 @@
 //! Arguments that are globs and flags, parsed one after another.
 
-ghost use Rattle.std.specs.Prelude.{◌≡◌, ◌⊎◌, ◌||◌, [], map, MatchResult, Ok, string_bytes};
+ghost use Rattle.std.specs.Prelude.{◌≡◌, ◌⊎◌, map, string_bytes};
 ghost use Rattle.globset.specs.Errors.{out_of_memory};
-ghost use Rattle.globset.specs.SetValue.{builder_globs};
-ghost use Rattle.line_filter.specs.Command.{IsFaultOf, collect_globs, fault_value, glob_error, is_numbered};
-ghost use Rattle.line_filter.specs.Command.{parse_arguments, starts_with_dash, unknown_option};
-ghost use Rattle.line_filter.specs.inner.Parsing.{flags_after, with_argument, with_arguments, with_globs};
+ghost use Rattle.line_filter.specs.Command.{fault_value, glob_error, starts_with_dash, unknown_option};
+ghost use Rattle.line_filter.specs.inner.Parsing.{AddsGlobs, Parses, ParsesOne, ParsesUpToEnd};
 
 use super::fault::CommandFault;
 use super::flags::Flags;
@@ -24,10 +22,7 @@ pub struct GlobArguments {
 impl GlobArguments {
     /// Parses all of the arguments.
     pub fn parse(alloc: Global, arguments: &[String]) -> Result<GlobArguments, CommandFault>
-        ensures { MatchResult result
-            (λ parsed. (collect_globs (parse_arguments [] (map string_bytes arguments.now)) ≡ Ok (builder_globs parsed.globs))
-            × (parsed.flags.numbered ≡ is_numbered (map string_bytes arguments.now)))
-            (IsFaultOf (collect_globs (parse_arguments [] (map string_bytes arguments.now)))) }
+        ensures { Parses (map string_bytes arguments.now) result }
     {
         let mut parsed = GlobArguments {
             flags: Flags::none(),
@@ -44,10 +39,8 @@ impl GlobArguments {
         alloc: Global,
         arguments: &'a [String],
     ) -> Result<&'a [String], CommandFault>
-        ensures { MatchResult result
-            (λ after. (with_globs self.new (map string_bytes after.now) ≡ with_arguments self.old (map string_bytes arguments.now))
-            × (self.new.flags.numbered ≡ (self.old.flags.numbered || is_numbered (map string_bytes arguments.now))))
-            (IsFaultOf (with_arguments self.old (map string_bytes arguments.now))) }
+        ensures { ParsesUpToEnd self.old self.new (map string_bytes arguments.now)
+            (λ after. map string_bytes after.now) result }
     {
         let mut rest = arguments;
         while let [argument, after @ ..] = rest {
@@ -62,10 +55,7 @@ impl GlobArguments {
 
     /// Parses an argument that comes before any `--`.
     fn parse_one(&mut self, alloc: Global, argument: &str) -> Result<(), CommandFault>
-        ensures { MatchResult result
-            (λ _. (with_argument self.old argument.now ≡ Ok (builder_globs self.new.globs))
-            × (self.new.flags ≡ flags_after self.old.flags argument.now))
-            (IsFaultOf (with_argument self.old argument.now)) }
+        ensures { ParsesOne self.old self.new argument.now result }
     {
         if self.flags.apply(argument) {
             return Ok(());
@@ -80,10 +70,7 @@ impl GlobArguments {
 
     /// Adds the arguments after `--`, each of which is a glob.
     fn add_globs(&mut self, alloc: Global, arguments: &[String]) -> Result<(), CommandFault>
-        ensures { MatchResult result
-            (λ _. (with_globs self.old (map string_bytes arguments.now) ≡ Ok (builder_globs self.new.globs))
-            × (self.new.flags ≡ self.old.flags))
-            (IsFaultOf (with_globs self.old (map string_bytes arguments.now))) }
+        ensures { AddsGlobs self.old self.new (map string_bytes arguments.now) result }
     {
         for argument in arguments {
             let glob = self.flags.read_glob(alloc, argument.as_str())?;

@@ -10,7 +10,8 @@ use std::alloc::Global;
 
 /// Parses the arguments of a command line that has no `--set`.
 pub fn command_of_globs(alloc: Global, arguments: &[String]) -> Result<Command, CommandFault>
-    ensures { MatchResult result (λ command. command_of_globs (map string_bytes arguments.now) ≡ Ok (command_value command))
+    ensures { MatchResult result
+        (λ command. command_of_globs (map string_bytes arguments.now) ≡ Ok (command_value command))
         (IsFaultOf (command_of_globs (map string_bytes arguments.now))) }
 {
     let GlobArguments { flags, globs } = GlobArguments::parse(alloc, arguments)?;

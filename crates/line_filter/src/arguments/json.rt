@@ -1,6 +1,6 @@
 //! The command of a JSON array of globs.
 
-ghost use Rattle.std.specs.Prelude.{◌≡◌, map, MatchResult, Ok, if◌then◌else◌, string_bytes};
+ghost use Rattle.std.specs.Prelude.{◌≡◌, map, IfErr, IfOk, Ok, if◌then◌else◌, string_bytes};
 ghost use Rattle.std.specs.List.{list_all};
 ghost use Rattle.globset.specs.Errors.{out_of_memory};
 ghost use Rattle.globset.specs.SetValue.{set_globs};
@@ -22,8 +22,9 @@ pub fn command_of_set(
     before: &[String],
     after: &[String],
 ) -> Result<Command, CommandFault>
-    ensures { MatchResult result
-        (λ command. command_of_set (map string_bytes before.now) (map string_bytes after.now) ≡ Ok (command_value command))
+    ensures ok { IfOk result (λ command. command_of_set (map string_bytes before.now)
+        (map string_bytes after.now) ≡ Ok (command_value command)) }
+    ensures err { IfErr result
         (IsFaultOf (command_of_set (map string_bytes before.now) (map string_bytes after.now))) }
 {
     if !are_all_dash_n(before) {
@@ -56,7 +57,8 @@ fn are_all_dash_n(arguments: &[String]) -> bool
 
 /// Reads the set of a JSON text.
 fn read_set(alloc: Global, text: &str) -> Result<GlobSet, CommandFault>
-    ensures { MatchResult result (λ set. globs_of_json text.now ≡ Ok (set_globs set)) (IsFaultOf (globs_of_json text.now)) }
+    ensures ok { IfOk result (λ set. globs_of_json text.now ≡ Ok (set_globs set)) }
+    ensures err { IfErr result (IsFaultOf (globs_of_json text.now)) }
 {
     let value = match Value::from_str(alloc, text) {
         Ok(value) => value,
@@ -71,7 +73,8 @@ fn read_set(alloc: Global, text: &str) -> Result<GlobSet, CommandFault>
 
 /// Returns the error of a rejected value. It is an error of a glob if memory ran out.
 fn fault_of(error: ValueError) -> CommandFault
-    ensures { fault_value result ≡ (if is_memory error.kind then glob_error out_of_memory else value_error error) }
+    ensures { fault_value result
+        ≡ (if is_memory error.kind then glob_error out_of_memory else value_error error) }
 {
     if is_memory(&error) {
         return CommandFault::from(Error::from(AllocError));

@@ -1,10 +1,7 @@
 //! The output for lines, collected in a buffer.
 
-ghost use Rattle.std.specs.Prelude.{◌≡◌, [], ◌++◌, ◌||◌, true, false, MatchResult, IfOk, OnOk};
-ghost use Rattle.globset.specs.Answer.{matching_indexes};
-ghost use Rattle.globset.specs.SetValue.{set_globs};
-ghost use Rattle.line_filter.specs.Output.{index_column, is_matched, line_output, sifted};
-ghost use Rattle.line_filter.specs.inner.Sifting.{FailsMidway, Handles, WritesAllBut};
+ghost use Rattle.std.specs.Prelude.{◌≡◌, [], false, IfOk, OnOk};
+ghost use Rattle.line_filter.specs.inner.Outputs.{AreEquivalent, HandlesBytes, HandlesLine, PushesColumn, any_with_line, with_line};
 
 use super::fault::SiftFault;
 use super::index_text::push_index_text;
@@ -47,8 +44,6 @@ impl Drop for Output {
 }
 
 impl Output {
-    ghost use Rattle.line_filter.specs.inner.Outputs.{AreEquivalent};
-
     /// Returns an output with nothing pending, for this set and this form.
     pub fn new(alloc: Global, set: &GlobSet, numbered: bool) -> Result<Output, AllocError>
         ensures empty { IfOk result (λ output. output.pending.items ≡ []) }
@@ -66,11 +61,7 @@ impl Output {
 
     /// Appends the index column of a line that is matched, and returns whether the line is.
     fn push_index_column(&mut self, line: &[u8]) -> Result<bool, AllocError>
-        ensures done { IfOk result (λ yes. (yes ≡ is_matched (set_globs self.old.searcher.set) line.now)
-            × (self.new.any_written ≡ self.old.any_written)
-            × (yes ≡ true → self.new.pending.items
-            ≡ self.old.pending.items ++ index_column self.old.numbered (matching_indexes (set_globs self.old.searcher.set) line.now))
-            × (yes ≡ false → self.new.pending.items ≡ self.old.pending.items)) }
+        ensures done { IfOk result (λ yes. PushesColumn self.old self.new line.now yes) }
         ensures equivalent { AreEquivalent self.old self.new }
     {
         let path = Candidate::from_bytes(line);
@@ -87,8 +78,8 @@ impl Output {
 
     /// Appends the output for a line.
     fn push_line_output(&mut self, line: &[u8]) -> Result<(), AllocError>
-        ensures done { OnOk result ((self.new.pending.items ≡ self.old.pending.items ++ line_output (set_globs self.old.searcher.set) self.old.numbered line.now)
-            × (self.new.any_written ≡ (self.old.any_written || is_matched (set_globs self.old.searcher.set) line.now))) }
+        ensures done { OnOk result ((self.new.pending.items ≡ with_line self.old line.now)
+            × (self.new.any_written ≡ any_with_line self.old line.now)) }
         ensures equivalent { AreEquivalent self.old self.new }
     {
         if !self.push_index_column(line)? {
@@ -102,12 +93,8 @@ impl Output {
 
     /// Appends the output for a line, and writes what is pending if that fills the buffer.
     pub fn handle_line<W: Write>(&mut self, line: &[u8], writer: &mut W) -> Result<(), SiftFault>
-        ensures done { MatchResult result
-            (λ _. WritesAllBut (W.contents writer.old) (W.contents writer.new)
-            self.new.pending.items (self.old.pending.items ++ line_output (set_globs self.old.searcher.set) self.old.numbered line.now)
-            × (self.new.any_written ≡ (self.old.any_written || is_matched (set_globs self.old.searcher.set) line.now)))
-            (FailsMidway (W.contents writer.old) (W.contents writer.new)
-            (self.old.pending.items ++ line_output (set_globs self.old.searcher.set) self.old.numbered line.now)) }
+        ensures done { HandlesLine self.old self.new (W.contents writer.old) (W.contents writer.new)
+            line.now result }
         ensures equivalent { AreEquivalent self.old self.new }
     {
         self.push_line_output(line)?;
@@ -123,12 +110,8 @@ impl Output {
         bytes: &'a [u8],
         writer: &mut W,
     ) -> Result<&'a [u8], SiftFault>
-        ensures done { MatchResult result
-            (λ rest. Handles (set_globs self.old.searcher.set) self.old.numbered bytes.now rest.now
-            (W.contents writer.old) (W.contents writer.new)
-            self.old.pending.items self.new.pending.items self.old.any_written self.new.any_written)
-            (FailsMidway (W.contents writer.old) (W.contents writer.new)
-            (self.old.pending.items ++ sifted (set_globs self.old.searcher.set) self.old.numbered bytes.now)) }
+        ensures done { HandlesBytes self.old self.new (W.contents writer.old)
+            (W.contents writer.new) bytes.now (λ rest. rest.now) result }
         ensures equivalent { AreEquivalent self.old self.new }
     {
         let mut rest = bytes;

@@ -1,12 +1,9 @@
 //! The input, in chunks: its lines, and the bytes since the last LF.
 
-ghost use Rattle.std.specs.Prelude.{◌≡◌, [], ◌++◌, ◌||◌, false, MatchResult, IfOk};
+ghost use Rattle.std.specs.Prelude.{◌≡◌, [], ◌++◌, false, IfOk};
 ghost use Rattle.std.specs.List.{list_any};
-ghost use Rattle.std.specs.Io.KnownBytes.{Appends};
-ghost use Rattle.globset.specs.SetValue.{set_globs};
 ghost use Rattle.line_filter.specs.Lines.{is_lf};
-ghost use Rattle.line_filter.specs.Output.{has_match, sifted};
-ghost use Rattle.line_filter.specs.inner.Sifting.{FailsMidway, Handles, WritesAllBut};
+ghost use Rattle.line_filter.specs.inner.Outputs.{AreEquivalent, HandlesAll, HandlesBytes, WritesAll};
 
 use super::fault::SiftFault;
 use super::output::Output;
@@ -32,8 +29,6 @@ impl Drop for Sifter {
 }
 
 impl Sifter {
-    ghost use Rattle.line_filter.specs.inner.Outputs.{AreEquivalent};
-
     /// Returns a sifter that was given no chunk yet, for this set and this form.
     pub fn new(alloc: Global, set: &GlobSet, numbered: bool) -> Result<Sifter, AllocError>
         ensures empty { IfOk result (λ sifter. sifter.output.pending.items ≡ []) }
@@ -55,12 +50,8 @@ impl Sifter {
         writer: &mut W,
     ) -> Result<(), SiftFault>
         requires { self.old.rest.items ≡ [] }
-        ensures done { MatchResult result
-            (λ _. Handles (set_globs self.old.output.searcher.set) self.old.output.numbered bytes.now self.new.rest.items
-            (W.contents writer.old) (W.contents writer.new)
-            self.old.output.pending.items self.new.output.pending.items self.old.output.any_written self.new.output.any_written)
-            (FailsMidway (W.contents writer.old) (W.contents writer.new)
-            (self.old.output.pending.items ++ sifted (set_globs self.old.output.searcher.set) self.old.output.numbered bytes.now)) }
+        ensures done { HandlesBytes self.old.output self.new.output (W.contents writer.old)
+            (W.contents writer.new) bytes.now (λ _. self.new.rest.items) result }
         ensures equivalent { AreEquivalent self.old.output self.new.output }
     {
         let tail = self.output.handle_lines(bytes, writer)?;
@@ -71,12 +62,9 @@ impl Sifter {
     /// Handles the next chunk of the input, and keeps the bytes since the last LF.
     pub fn handle_chunk<W: Write>(&mut self, chunk: &[u8], writer: &mut W) -> Result<(), SiftFault>
         requires { list_any is_lf self.old.rest.items ≡ false }
-        ensures done { MatchResult result
-            (λ _. Handles (set_globs self.old.output.searcher.set) self.old.output.numbered (self.old.rest.items ++ chunk.now) self.new.rest.items
-            (W.contents writer.old) (W.contents writer.new)
-            self.old.output.pending.items self.new.output.pending.items self.old.output.any_written self.new.output.any_written)
-            (FailsMidway (W.contents writer.old) (W.contents writer.new)
-            (self.old.output.pending.items ++ sifted (set_globs self.old.output.searcher.set) self.old.output.numbered (self.old.rest.items ++ chunk.now))) }
+        ensures done { HandlesBytes self.old.output self.new.output (W.contents writer.old)
+            (W.contents writer.new) (self.old.rest.items ++ chunk.now) (λ _. self.new.rest.items)
+            result }
         ensures equivalent { AreEquivalent self.old.output self.new.output }
     {
         if self.rest.is_empty() {
@@ -95,12 +83,8 @@ impl Sifter {
     /// Handles the rest after the last LF of the input, which is a line if it is not empty.
     fn handle_rest<W: Write>(&mut self, writer: &mut W) -> Result<(), SiftFault>
         requires { list_any is_lf self.old.rest.items ≡ false }
-        ensures { MatchResult result
-            (λ _. WritesAllBut (W.contents writer.old) (W.contents writer.new)
-            self.new.output.pending.items (self.old.output.pending.items ++ sifted (set_globs self.old.output.searcher.set) self.old.output.numbered self.old.rest.items)
-            × (self.new.output.any_written ≡ (self.old.output.any_written || has_match (set_globs self.old.output.searcher.set) self.old.rest.items)))
-            (FailsMidway (W.contents writer.old) (W.contents writer.new)
-            (self.old.output.pending.items ++ sifted (set_globs self.old.output.searcher.set) self.old.output.numbered self.old.rest.items)) }
+        ensures { HandlesAll self.old.output self.new.output (W.contents writer.old)
+            (W.contents writer.new) self.old.rest.items result }
     {
         let rest = self.rest.as_slice();
         if rest.is_empty() {
@@ -113,12 +97,8 @@ impl Sifter {
     /// line was output.
     pub fn finish<W: Write>(&mut self, writer: &mut W) -> Result<bool, SiftFault>
         requires { list_any is_lf self.old.rest.items ≡ false }
-        ensures { MatchResult result
-            (λ any. Appends (W.contents writer.old) (W.contents writer.new)
-            (self.old.output.pending.items ++ sifted (set_globs self.old.output.searcher.set) self.old.output.numbered self.old.rest.items)
-            × (any ≡ (self.old.output.any_written || has_match (set_globs self.old.output.searcher.set) self.old.rest.items)))
-            (FailsMidway (W.contents writer.old) (W.contents writer.new)
-            (self.old.output.pending.items ++ sifted (set_globs self.old.output.searcher.set) self.old.output.numbered self.old.rest.items)) }
+        ensures { WritesAll self.old.output (W.contents writer.old) (W.contents writer.new)
+            self.old.rest.items result }
     {
         self.handle_rest(writer)?;
         let output = &mut self.output;

@@ -18,7 +18,8 @@ const FEWEST: usize = 64;
 impl Blocks {
     /// Returns the blocks of an automaton. Returns an error if memory runs out.
     pub fn of(nfa: &Nfa) -> Result<Blocks, AllocError>
-        ensures { IfOk result (λ made. AreBlocks nfa.now.states made.by_word.items made.masks.items) }
+        ensures { IfOk result
+            (λ made. AreBlocks nfa.now.states made.by_word.items made.masks.items) }
     {
         let count = nfa.state_count();
         let mut made = Blocks::none(nfa.allocator());
@@ -37,7 +38,9 @@ impl Blocks {
     fn add_row(&mut self, nfa: &Nfa, low: usize, high: usize) -> Result<(), AllocError>
         requires some { 0 < low }
         requires exist { high ≤ size nfa.now }
-        ensures { OnOk result (AreBlocks nfa.now.states self.old.by_word.items self.old.masks.items → AreBlocks nfa.now.states self.new.by_word.items self.new.masks.items) }
+        ensures { OnOk result
+            (AreBlocks nfa.now.states self.old.by_word.items self.old.masks.items
+            → AreBlocks nfa.now.states self.new.by_word.items self.new.masks.items) }
     {
         if high < low || high - low < FEWEST {
             return Ok(());
@@ -75,7 +78,9 @@ fn table_of(nfa: &Nfa, low: usize, high: usize) -> Option<[u64; 256]>
 fn add_column(table: &mut [u64], i: usize, bytes: &ByteSet)
     requires bit { i < 64 }
     requires len { length table.old ≡ 256 }
-    ensures { (j c : ℕ) → j < 64 → c < 256 → bit_of table.new (64 * c + j) ≡ (((j == i) && has_byte bytes.now c) || bit_of table.old (64 * c + j)) }
+    ensures { (j c : ℕ) → j < 64 → c < 256
+        → bit_of table.new (64 * c + j)
+        ≡ (((j == i) && has_byte bytes.now c) || bit_of table.old (64 * c + j)) }
 {
     for c in 0..256usize {
         if bytes.has(c as u8) {

@@ -24,8 +24,11 @@ impl Simulation {
         requires few { span.start < span.low + 64 }
         requires into_capacity { self.now.index_count ≤ index_capacity into.old }
         ensures into_capacity { index_capacity into.new ≡ index_capacity into.old }
-        ensures found { (k : ℕ) → IsTrue (has_index into.new k) ↔ (Accepts self.now.states k span.start text.now ⊎ IsTrue (has_index into.old k)) }
-        ensures visits { (width : ℕ) → span.start < span.low + width → visits.new ≤ visits.old + (length text.now + 1) * width }
+        ensures found { (k : ℕ)
+            → IsTrue (has_index into.new k)
+            ↔ (Accepts self.now.states k span.start text.now ⊎ IsTrue (has_index into.old k)) }
+        ensures visits { (width : ℕ) → span.start < span.low + width
+            → visits.new ≤ visits.old + (length text.now + 1) * width }
         ensures counted { visits.old ≤ visits.new }
     {
         let mut left = self.run_in_word(span, text, visits);
@@ -42,7 +45,8 @@ impl Simulation {
         requires span { IsSpan self.now span }
         requires few { span.start < span.low + 64 }
         ensures some { IsTrue result ↔ ((k : ℕ) × Accepts self.now.states k span.start text.now) }
-        ensures visits { (width : ℕ) → span.start < span.low + width → visits.new ≤ visits.old + (length text.now + 1) * width }
+        ensures visits { (width : ℕ) → span.start < span.low + width
+            → visits.new ≤ visits.old + (length text.now + 1) * width }
         ensures counted { visits.old ≤ visits.new }
     {
         let mut left = self.run_in_word(span, text, visits);
@@ -59,8 +63,10 @@ impl Simulation {
         requires span { IsSpan self.now span }
         requires few { span.start < span.low + 64 }
         ensures of { IsOfSpan span result }
-        ensures accepts { (k : ℕ) → Accepts self.now.states k span.start text.now ↔ AcceptsInWord self.now result [] k }
-        ensures visits { (width : ℕ) → span.start < span.low + width → visits.new ≤ visits.old + length text.now * width }
+        ensures accepts { (k : ℕ)
+            → Accepts self.now.states k span.start text.now ↔ AcceptsInWord self.now result [] k }
+        ensures visits { (width : ℕ) → span.start < span.low + width
+            → visits.new ≤ visits.old + length text.now * width }
         ensures counted { visits.old ≤ visits.new }
     {
         let mut set = WordSet::empty(span.low);
@@ -80,7 +86,8 @@ impl Simulation {
         requires few { span.start < span.low + 64 }
         requires of { IsOfSpan span from }
         ensures of { IsOfSpan span result }
-        ensures steps { (y : List ℕ) (k : ℕ) → AcceptsInWord self.now from (byte ∷ y) k ↔ AcceptsInWord self.now result y k }
+        ensures steps { (y : List ℕ) (k : ℕ)
+            → AcceptsInWord self.now from (byte ∷ y) k ↔ AcceptsInWord self.now result y k }
         ensures visits { visits.new + span.low ≤ visits.old + (span.start + 1) }
         ensures counted { visits.old ≤ visits.new }
     {

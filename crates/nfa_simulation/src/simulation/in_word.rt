@@ -27,8 +27,12 @@ impl Simulation {
         ensures from_low { from.new.low ≡ from.old.low }
         ensures to_low { to.new.low ≡ to.old.low }
         ensures below { GoesBelow s (state self.now.states s) }
-        ensures from { (t : ℕ) → has_in_word from.new t ≡ (goes_now (state self.now.states s) t || has_in_word from.old t) }
-        ensures to { (t : ℕ) → has_in_word to.new t ≡ (goes_next (state self.now.states s) s (Some byte) t || has_in_word to.old t) }
+        ensures from { (t : ℕ)
+            → has_in_word from.new t
+            ≡ (goes_now (state self.now.states s) t || has_in_word from.old t) }
+        ensures to { (t : ℕ)
+            → has_in_word to.new t
+            ≡ (goes_next (state self.now.states s) s (Some byte) t || has_in_word to.old t) }
     {
         self.nfa.take_steps_in_word(s, byte, from, to);
     }
@@ -40,8 +44,11 @@ impl Simulation {
         requires within { s < from.old.low + 64 }
         ensures low { from.new.low ≡ from.old.low }
         ensures below { GoesBelow s (state self.now.states s) }
-        ensures from { (t : ℕ) → has_in_word from.new t ≡ (goes_now (state self.now.states s) t || has_in_word from.old t) }
-        ensures end { MatchOption result ((k : ℕ) → names (state self.now.states s) None k ≡ false) (λ k. (state self.now.states s ≡ match_state k) × (k < self.now.index_count)) }
+        ensures from { (t : ℕ)
+            → has_in_word from.new t
+            ≡ (goes_now (state self.now.states s) t || has_in_word from.old t) }
+        ensures end { MatchOption result ((k : ℕ) → names (state self.now.states s) None k ≡ false)
+            (λ k. (state self.now.states s ≡ match_state k) × (k < self.now.index_count)) }
     {
         self.nfa.follow_epsilons_in_word(s, from)
     }

@@ -34,7 +34,8 @@ impl Simulation {
         ensures from_capacity { state_capacity from.new ≡ state_capacity from.old }
         ensures to_capacity { state_capacity to.new ≡ state_capacity to.old }
         ensures within { IsWithin low high to.new }
-        ensures steps { (y : List ℕ) (k : ℕ) → AcceptsBelow self.now high from.old (byte ∷ y) k ↔ AcceptsFrom self.now to.new y k }
+        ensures steps { (y : List ℕ) (k : ℕ)
+            → AcceptsBelow self.now high from.old (byte ∷ y) k ↔ AcceptsFrom self.now to.new y k }
         ensures some { IsTrue result ↔ HasSome self.now to.new }
         ensures visits { visits.new + low ≤ visits.old + high }
         ensures counted { visits.old ≤ visits.new }
@@ -64,7 +65,8 @@ impl Simulation {
         ensures from_capacity { state_capacity from.new ≡ state_capacity from.old }
         ensures to_capacity { state_capacity to.new ≡ state_capacity to.old }
         ensures within { IsWithin low high to.new }
-        ensures steps { (y : List ℕ) (k : ℕ) → AcceptsBelow self.now high from.old (byte ∷ y) k ↔ AcceptsFrom self.now to.new y k }
+        ensures steps { (y : List ℕ) (k : ℕ)
+            → AcceptsBelow self.now high from.old (byte ∷ y) k ↔ AcceptsFrom self.now to.new y k }
         ensures some { IsTrue result ↔ HasSome self.now to.new }
         ensures visits { visits.new + low ≤ visits.old + high }
         ensures counted { visits.old ≤ visits.new }
@@ -103,8 +105,11 @@ impl Simulation {
         requires into_capacity { self.now.index_count ≤ index_capacity into.old }
         ensures from_capacity { state_capacity from.new ≡ state_capacity from.old }
         ensures into_capacity { index_capacity into.new ≡ index_capacity into.old }
-        ensures ends { (k : ℕ) → IsTrue (has_index into.new k) ↔ (AcceptsBelow self.now high from.old [] k ⊎ IsTrue (has_index into.old k)) }
-        ensures same { (y : List ℕ) (k : ℕ) → AcceptsFrom self.now from.new y k ↔ AcceptsFrom self.now from.old y k }
+        ensures ends { (k : ℕ)
+            → IsTrue (has_index into.new k)
+            ↔ (AcceptsBelow self.now high from.old [] k ⊎ IsTrue (has_index into.old k)) }
+        ensures same { (y : List ℕ) (k : ℕ)
+            → AcceptsFrom self.now from.new y k ↔ AcceptsFrom self.now from.old y k }
         ensures visits { visits.new + low ≤ visits.old + high }
         ensures counted { visits.old ≤ visits.new }
     {

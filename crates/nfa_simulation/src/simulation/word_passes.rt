@@ -35,7 +35,8 @@ impl Simulation {
         ensures from_capacity { state_capacity from.new ≡ state_capacity from.old }
         ensures to_capacity { state_capacity to.new ≡ state_capacity to.old }
         ensures within { IsWithin low high to.new }
-        ensures steps { (y : List ℕ) (k : ℕ) → AcceptsBelow self.now high from.old (byte ∷ y) k ↔ AcceptsFrom self.now to.new y k }
+        ensures steps { (y : List ℕ) (k : ℕ)
+            → AcceptsBelow self.now high from.old (byte ∷ y) k ↔ AcceptsFrom self.now to.new y k }
         ensures some { IsTrue result ↔ HasSome self.now to.new }
         ensures visits { visits.new + low ≤ visits.old + high }
         ensures counted { visits.old ≤ visits.new }
@@ -70,7 +71,8 @@ impl Simulation {
         requires to_capacity { size self.now ≤ state_capacity to.old }
         ensures from_capacity { state_capacity from.new ≡ state_capacity from.old }
         ensures to_capacity { state_capacity to.new ≡ state_capacity to.old }
-        ensures taken { Takes self.now.states byte limit (has_state from.old) (has_state to.old) (has_state from.new) (has_state to.new) result.limit result.some }
+        ensures taken { Takes self.now.states byte limit (has_state from.old) (has_state to.old)
+            (has_state from.new) (has_state to.new) result.limit result.some }
         ensures visits { visits.new + max low result.limit ≤ visits.old + limit }
         ensures counted { visits.old ≤ visits.new }
     {
@@ -103,7 +105,8 @@ impl Simulation {
         requires to_capacity { size self.now ≤ state_capacity to.old }
         ensures from_capacity { state_capacity from.new ≡ state_capacity from.old }
         ensures to_capacity { state_capacity to.new ≡ state_capacity to.old }
-        ensures taken { Takes self.now.states byte limit (has_state from.old) (has_state to.old) (has_state from.new) (has_state to.new) result.limit result.some }
+        ensures taken { Takes self.now.states byte limit (has_state from.old) (has_state to.old)
+            (has_state from.new) (has_state to.new) result.limit result.some }
         ensures visits { visits.new ≡ visits.old + 1 }
     {
         let seen = from.read_below(limit, visits);

@@ -1,5 +1,5 @@
 -- What is stored to tell which globs of a list match a path.
-use Rattle.std.specs.Prelude.{◌≡◌, ◌↔◌, ◌⊎◌, ℕ, ◌≤◌, List, Contains, Option, cond, length, sum_by, IsTrue}
+use Rattle.std.specs.Prelude.{◌≡◌, ◌↔◌, ◌⊎◌, ℕ, ◌≤◌, List, [], ◌∷◌, ◌++◌, Contains, Option, cond, length, sum_by, IsTrue}
 use Rattle.std.specs.Global.{Box}
 use Rattle.set_matcher.specs.Globs.{FlatGlob, TokenGlob, is_reported, is_reported_at, load, token_globs}
 use Rattle.bit_sets.specs.Texts.{AllBytes}
@@ -30,6 +30,10 @@ pub record IsSetMatcherOf (globs : List TokenGlob) (g : SetMatcherParts) : Type 
   pub reads : (path : List ℕ) → reads_for g.automata path ≤ load globs path
   pub below : (folder : List ℕ) → AllBytes folder → (MatchesBelow g.keys folder ⊎ AreFoundBelow g.automata.extensions tokens folder) ↔ SomeReportedBelow globs folder
   pub few_below : folder_reads g.automata ≤ load_below globs
+
+-- The parts are a matcher of one more glob than before, which has this index.
+abbrev pub AddsGlob : TokenGlob → ℕ → SetMatcherParts → SetMatcherParts → Type 0
+AddsGlob glob index old new = (globs : List TokenGlob) → index ≡ length globs → IsSetMatcherOf globs old → IsSetMatcherOf (globs ++ glob ∷ []) new
 
 -- What is true of the parts of each such value: they are a matcher of the globs, of which there are so many, and automata have
 -- an index for each.

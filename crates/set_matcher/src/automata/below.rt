@@ -28,7 +28,9 @@ impl Automata {
     ) -> Result<bool, AllocError>
         requires { AreCachesOf self.now caches.old }
         ensures caches { caches.new ≡ caches.old }
-        ensures some { IfOk result (λ yes. (t : TokenLists) → AreForLists self.now t → IsTrue yes ↔ AreFoundBelow self.now.extensions t folder.now) }
+        ensures some { IfOk result
+            (λ yes. (t : TokenLists) → AreForLists self.now t
+            → IsTrue yes ↔ AreFoundBelow self.now.extensions t folder.now) }
         ensures kept { sets_capacity sets.old ≤ sets_capacity sets.new }
         ensures memory { folder_reads self.now ≡ 0 → IsOk result }
         ensures room { max_states self.now ≤ sets_capacity sets.old → IsOk result }

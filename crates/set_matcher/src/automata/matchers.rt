@@ -111,7 +111,8 @@ impl ExtensionMatchers {
         ensures automaton { result.now ≡ nfa_at self.now slot }
         ensures maximum { size result.now ≤ max_size self.now.nfas }
         ensures count { result.now.index_count ≡ self.now.index_count }
-        ensures tokens { (by_slot : ℕ → List IndexedTokens) → AreFor self.now.nfas by_slot → IsFor result.now (option_map_or by_slot slot []) }
+        ensures tokens { (by_slot : ℕ → List IndexedTokens) → AreFor self.now.nfas by_slot
+            → IsFor result.now (option_map_or by_slot slot []) }
         ensures none { slot ≡ None → size result.now ≡ 0 }
     {
         match slot {
@@ -164,7 +165,8 @@ impl ExtensionMatchers {
         ensures some { IfOk result (λ yes. TellsSomeAfter self.now (text.now ++ byte ∷ []) yes) }
         ensures kept { sets_capacity sets.old ≤ sets_capacity sets.new }
         ensures room { max_size self.now.nfas ≤ sets_capacity sets.old → IsOk result }
-        ensures visits { visits.new ≤ visits.old + (length text.now + 2) * total_reads self.now.nfas }
+        ensures visits { visits.new
+            ≤ visits.old + (length text.now + 2) * total_reads self.now.nfas }
         ensures counted { visits.old ≤ visits.new }
     {
         for (slot, automaton) in self.automata.iter().enumerate() {
@@ -246,9 +248,14 @@ impl ExtensionMatchersBuilder {
     ) -> Result<(), AllocError>
         requires nested { IsNested (flats tokens.now) }
         requires index { index < self.old.index_count }
-        ensures tokens { OnOk result (AddsTokensTo self.old self.new key.items (indexed options (tokens_of tokens.now) index)) }
-        ensures reads { OnOk result (AddsReads self.old self.new key.items (weight options (tokens_of tokens.now) + 4)) }
-        ensures total { OnOk result (total_reads self.new.nfas ≤ total_reads self.old.nfas + (weight options (tokens_of tokens.now) + 4)) }
+        ensures tokens { OnOk result
+            (AddsTokensTo self.old self.new key.items
+            (indexed options (tokens_of tokens.now) index)) }
+        ensures reads { OnOk result
+            (AddsReads self.old self.new key.items (weight options (tokens_of tokens.now) + 4)) }
+        ensures total { OnOk result
+            (total_reads self.new.nfas
+            ≤ total_reads self.old.nfas + (weight options (tokens_of tokens.now) + 4)) }
         ensures count { self.new.index_count ≡ self.old.index_count }
     {
         let slot = self.slot_of(alloc, key)?;
@@ -258,8 +265,12 @@ impl ExtensionMatchersBuilder {
     /// Returns the slot of an extension, which is a new one if it has none.
     fn slot_of(&mut self, alloc: Global, key: Vec<u8>) -> Result<usize, AllocError>
         ensures slot { IfOk result (λ slot. slot_of self.new.slots key.items ≡ Some slot) }
-        ensures tokens { OnOk result ((before : ℕ → List IndexedTokens) → AreFor self.old.nfas before → KeepsTokens self.old before self.new) }
-        ensures reads { OnOk result ((extension : List ℕ) → max_reads (nfa_under self.new extension) ≡ max_reads (nfa_under self.old extension)) }
+        ensures tokens { OnOk result
+            ((before : ℕ → List IndexedTokens) → AreFor self.old.nfas before
+            → KeepsTokens self.old before self.new) }
+        ensures reads { OnOk result
+            ((extension : List ℕ)
+            → max_reads (nfa_under self.new extension) ≡ max_reads (nfa_under self.old extension)) }
         ensures total { OnOk result (total_reads self.new.nfas ≡ total_reads self.old.nfas) }
         ensures count { self.new.index_count ≡ self.old.index_count }
     {
@@ -273,8 +284,12 @@ impl ExtensionMatchersBuilder {
     fn add_slot(&mut self, alloc: Global, key: Vec<u8>) -> Result<usize, AllocError>
         requires { slot_of self.old.slots key.items ≡ None }
         ensures slot { IfOk result (λ slot. slot_of self.new.slots key.items ≡ Some slot) }
-        ensures tokens { OnOk result ((before : ℕ → List IndexedTokens) → AreFor self.old.nfas before → KeepsTokens self.old before self.new) }
-        ensures reads { OnOk result ((extension : List ℕ) → max_reads (nfa_under self.new extension) ≡ max_reads (nfa_under self.old extension)) }
+        ensures tokens { OnOk result
+            ((before : ℕ → List IndexedTokens) → AreFor self.old.nfas before
+            → KeepsTokens self.old before self.new) }
+        ensures reads { OnOk result
+            ((extension : List ℕ)
+            → max_reads (nfa_under self.new extension) ≡ max_reads (nfa_under self.old extension)) }
         ensures total { OnOk result (total_reads self.new.nfas ≡ total_reads self.old.nfas) }
         ensures count { self.new.index_count ≡ self.old.index_count }
     {

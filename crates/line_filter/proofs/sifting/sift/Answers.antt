@@ -2,17 +2,17 @@ use Rattle.std.proofs.Common.{[], ◌++◌, ◌≡◌, ◌<◌, ◌∙◌, refl,
 use Rattle.std.proofs.lemmas.Result.{err_from_is_err_and}
 use Rattle.std.proofs.KnownBytes.{Consumes-nil, Consumes-trans, Consumes-kept}
 use Rattle.globset.specs.SetValue.{set_globs}
-use Rattle.line_filter.proofs.lemmas.Sifting.{SiftFails-fails, SiftFails-start, end_result, Consumes-is, read_back}
+use Rattle.line_filter.proofs.lemmas.Sifting.{SiftFails-fails, SiftFails-start, end_result, err_part, ok_part, Consumes-is, read_back}
 use Rattle.line_filter.proofs.lemmas.Handling.{Handles-pending_fails, Handles-drained, Handles-trans, Handles-fails, Handles-begin, Handles-written}
 use Rattle.line_filter.proofs.sifting.sift.Goals as goal
 
-pub returns-in_err-chunk : goal.returns-in_err-chunk
-returns-in_err-chunk g c =
+pub returns-in_err-chunk-clause-err : goal.returns-in_err-chunk-clause-err
+returns-in_err-chunk-clause-err g c =
     let p = err_from_is_err_and c.from_residual.result c.from_residual.ensures.1 in
     rw p.1 (SiftFails-start (set_globs c.args.set.now) c.args.numbered (g.R.Read.remaining c.args.reader.now) (g.W.Write.contents c.args.writer.now) p.0 p.2)
 
-pub returns-in_err-sifter : goal.returns-in_err-sifter
-returns-in_err-sifter g c =
+pub returns-in_err-sifter-clause-err : goal.returns-in_err-sifter-clause-err
+returns-in_err-sifter-clause-err g c =
     let p = err_from_is_err_and c.from_residual-in_err-sifter.result c.from_residual-in_err-sifter.ensures.1 in
     rw p.1 (SiftFails-start (set_globs c.args.set.now) c.args.numbered (g.R.Read.remaining c.args.reader.now) (g.W.Write.contents c.args.writer.now) p.0 p.2)
 
@@ -26,8 +26,8 @@ loop-init g c = (
   c.in_ok-sifter.ensures.numbered,
 )
 
-pub returns-in-Err : goal.returns-in-Err
-returns-in-Err g c =
+pub returns-in-Err-clause-err : goal.returns-in-Err-clause-err
+returns-in-Err-clause-err g c =
     let i = c.loop.invariant in (
       i.0,
       Consumes-kept _ _ _ _ i.1 c.in-Err.ensures.bytes,
@@ -37,12 +37,19 @@ returns-in-Err g c =
 pub finish-requires : goal.finish-requires
 finish-requires g c = c.loop.invariant.2.no_lf
 
-pub returns-then-n-eq0 : goal.returns-then-n-eq0
-returns-then-n-eq0 g c =
+pub returns-then-n-eq0-clause-ok : goal.returns-then-n-eq0-clause-ok
+returns-then-n-eq0-clause-ok g c =
     let i = c.loop.invariant in
     let filled : 0 < length c.read.new.buf = omega (arith, c.read.auto.buf, c.as_mut_slice.ensures.len, c.loop.chunk.ok.0) in
-    end_result _ _ i.0 (take c.in-Ok.n c.read.new.buf) _ c.loop.sifter.rest.items _ _ _ _ _ _ _ _ c.finish.result i.1 c.in-Ok.ensures.bytes.0
-    (ap (λ k. take k c.read.new.buf) c.if-n-eq0.true) (c.in-Ok.ensures.bytes.1 c.if-n-eq0.true filled) (Handles-written _ _ _ _ _ _ _ _ _ _ _ _ c.loop.invariant.2 c.in_ok-write_pending.ensures.0) refl (rw (i.4, i.5) at c.finish.ensures)
+    ok_part c.finish.result (end_result _ _ i.0 (take c.in-Ok.n c.read.new.buf) _ c.loop.sifter.rest.items _ _ _ _ _ _ _ _ c.finish.result i.1 c.in-Ok.ensures.bytes.0
+    (ap (λ k. take k c.read.new.buf) c.if-n-eq0.true) (c.in-Ok.ensures.bytes.1 c.if-n-eq0.true filled) (Handles-written _ _ _ _ _ _ _ _ _ _ _ _ c.loop.invariant.2 c.in_ok-write_pending.ensures.0) refl (rw (i.4, i.5) at c.finish.ensures))
+
+pub returns-then-n-eq0-clause-err : goal.returns-then-n-eq0-clause-err
+returns-then-n-eq0-clause-err g c =
+    let i = c.loop.invariant in
+    let filled : 0 < length c.read.new.buf = omega (arith, c.read.auto.buf, c.as_mut_slice.ensures.len, c.loop.chunk.ok.0) in
+    err_part c.finish.result (end_result _ _ i.0 (take c.in-Ok.n c.read.new.buf) _ c.loop.sifter.rest.items _ _ _ _ _ _ _ _ c.finish.result i.1 c.in-Ok.ensures.bytes.0
+    (ap (λ k. take k c.read.new.buf) c.if-n-eq0.true) (c.in-Ok.ensures.bytes.1 c.if-n-eq0.true filled) (Handles-written _ _ _ _ _ _ _ _ _ _ _ _ c.loop.invariant.2 c.in_ok-write_pending.ensures.0) refl (rw (i.4, i.5) at c.finish.ensures))
 
 pub slice_bounds-handle_chunk-end : goal.slice_bounds-handle_chunk-end
 slice_bounds-handle_chunk-end g c =
@@ -52,8 +59,8 @@ slice_bounds-handle_chunk-end g c =
 pub handle_chunk-requires : goal.handle_chunk-requires
 handle_chunk-requires g c = c.loop.invariant.2.no_lf
 
-pub returns-in_err-handle_chunk : goal.returns-in_err-handle_chunk
-returns-in_err-handle_chunk g c =
+pub returns-in_err-handle_chunk-clause-err : goal.returns-in_err-handle_chunk-clause-err
+returns-in_err-handle_chunk-clause-err g c =
     let i = c.loop.invariant in
     let back : c.deref.result.now ≡ c.read.new.buf = read_back c.loop.chunk.len c.read.new.buf (drop (length c.read.new.buf) c.loop.chunk.items) _ (omega (arith, c.read.auto.buf, c.as_mut_slice.ensures.len, c.loop.chunk.ok.0)) c.deref.ensures.value in
     let p = err_from_is_err_and c.from_residual-in_err-handle_chunk.result c.from_residual-in_err-handle_chunk.ensures.1 in
@@ -75,22 +82,22 @@ loop-preserved g c =
       equivalent.1 ∙ i.5,
     )
 
-pub returns-in_err-write_pending : goal.returns-in_err-write_pending
-returns-in_err-write_pending g c =
+pub returns-in_err-write_pending-clause-err : goal.returns-in_err-write_pending-clause-err
+returns-in_err-write_pending-clause-err g c =
     let i = c.loop.invariant in
     let p = err_from_is_err_and c.from_residual-in_err-write_pending.result c.from_residual-in_err-write_pending.ensures.1 in
     rw (p.1, p.2) (SiftFails-fails _ _ i.0 _ _ _ _ c.in_err-write_pending.field-0.0 i.1
     (Handles-pending_fails _ _ _ _ _ _ _ _ _ _ _ _ i.2 c.in_err-write_pending.ensures))
 
-pub returns-in_err-write_pending-2 : goal.returns-in_err-write_pending-2
-returns-in_err-write_pending-2 g c =
+pub returns-in_err-write_pending-2-clause-err : goal.returns-in_err-write_pending-2-clause-err
+returns-in_err-write_pending-2-clause-err g c =
     let i = c.loop.invariant in
     let p = err_from_is_err_and c.from_residual-in_err-write_pending-2.result c.from_residual-in_err-write_pending-2.ensures.1 in
     rw (p.1, p.2) (SiftFails-fails _ _ i.0 _ _ _ _ c.in_err-write_pending-2.field-0.0 i.1
     (Handles-pending_fails _ _ _ _ _ _ _ _ _ _ _ _ i.2 c.in_err-write_pending-2.ensures))
 
-pub returns : goal.returns
-returns g c =
+pub returns-clause-err : goal.returns-clause-err
+returns-clause-err g c =
     let i = c.loop.invariant in (
       i.0,
       i.1,
