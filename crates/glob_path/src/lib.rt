@@ -1,13 +1,20 @@
-//! Paths, and the parts of them that globs are compared with. Nothing here knows a glob.
+//! Paths, the parts of them that globs are compared with, and keys for these.
+//!
+//! A [`Candidate`] is a path. A [`Key`] is a text that is compared with a path or with a part of it. [`LiteralIndexBuilder`] takes
+//! keys with their indexes. [`LiteralIndex`] looks up a path and its parts in tables, and walks through tries along it. It also
+//! tells whether a path below a folder may find a key. Nothing here knows globs.
 #![tactic(auto)]
 
 mod as_path;
 mod candidate;
+mod folders;
 mod key;
+mod literal_index;
 mod parts;
 mod path_parts;
 
 pub use as_path::AsPath;
 pub use candidate::Candidate;
 pub use key::Key;
+pub use literal_index::{LiteralIndex, LiteralIndexBuilder};
 pub use path_parts::PathParts;

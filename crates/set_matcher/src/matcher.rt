@@ -9,9 +9,9 @@ ghost use Rattle.set_matcher.specs.inner.SetMatcher.{AddsGlob, set_matcher_parts
 
 use crate::automata::{Automata, AutomataBuilder};
 use crate::given::GivenGlobs;
+use glob_path::{LiteralIndex, LiteralIndexBuilder};
 use glob_strategy::{MatchStrategy, strategy_of, tokens_after_prefix, tokens_before_ending};
 use glob_syntax::{Options, Token};
-use literal_index::{LiteralIndex, LiteralIndexBuilder};
 use std::alloc::{AllocError, Global};
 use std::marker::Model;
 

@@ -12,7 +12,7 @@ use Rattle.glob_nfa.specs.IndexedTokens.{SomeMeanAfter}
 use Rattle.glob_nfa.specs.IndexedTokens.{IndexedTokens, IsFor}
 use Rattle.glob_nfa.proofs.lemmas.IndexedTokens.{reached_matches}
 use Rattle.glob_matching.proofs.lemmas.Compiled.{some_after, after_some}
-use Rattle.literal_index.specs.Below.{MatchesBelow}
+use Rattle.glob_path.specs.KeysBelow.{MatchesBelow}
 use Rattle.set_matcher.specs.Below.{SomeReportedBelow}
 use Rattle.set_matcher.specs.Globs.{TokenGlob}
 use Rattle.set_matcher.specs.Visits.{visits_below_for}

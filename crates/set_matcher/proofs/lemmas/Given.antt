@@ -2,7 +2,7 @@
 use Rattle.std.proofs.Common.{◌≡◌, ℕ, ◌+◌, ◌*◌, ◌≤◌, List, [], length, ap, refl, sym, subst, arith}
 use Rattle.std.proofs.lemmas.List.{length-map}
 use Rattle.glob_syntax.specs.Views.{tokens_of}
-use Rattle.literal_index.specs.LiteralIndex.{KeyParts}
+use Rattle.glob_path.specs.LiteralIndex.{KeyParts}
 use Rattle.set_matcher.specs.Below.{load_below, max_visits_below}
 use Rattle.set_matcher.specs.Globs.{FlatGlob, TokenGlob, load, max_visits, token_glob, token_globs}
 use Rattle.set_matcher.specs.inner.Automata.{AutomataParts, folder_reads, reads_for}

@@ -11,7 +11,7 @@ use Rattle.bit_sets.specs.Indexes.{has_index, index_capacity}
 use Rattle.bit_sets.specs.declared.index_set.IndexSet.{IndexSet}
 use Rattle.set_matcher.specs.Globs.{TokenGlob, is_reported, is_reported_at, reported_indexes}
 use Rattle.set_matcher.specs.Indexes.{ContainsAllBelow}
-use Rattle.literal_index.specs.LiteralIndex.{keys_found}
+use Rattle.glob_path.specs.LiteralIndex.{keys_found}
 use Rattle.set_matcher.specs.inner.Automata.{AreFound, AreIdle, AutomataParts, TokenLists}
 use Rattle.set_matcher.specs.inner.SetMatcher.{SetMatcherParts, IsSetMatcherOf, listed_count}
 use Rattle.set_matcher.proofs.lemmas.Indexes.{passing_is_contained, contained_passes, passes_within, all_pass}

@@ -3,7 +3,7 @@ use denote.Param.Send.{IsSend, IsSync, sendable}
 use Rattle.std.proofs.Crossing.{crosses}
 use Rattle.glob_matching.specs.contracts.compiled.Compiled as Compiled
 use Rattle.glob_matching.specs.contracts.rows.RowCache as RowCache
-use Rattle.literal_index.proofs.lemmas.Shared.{keys-send, keys-sync, table-send, table-sync}
+use Rattle.glob_path.proofs.lemmas.Shared.{keys-send, keys-sync, table-send, table-sync}
 use Rattle.set_matcher.specs.contracts.automata.matchers.ExtensionMatchers as ExtensionMatchers
 use Rattle.set_matcher.specs.contracts.automata.Automata as Automata
 use Rattle.set_matcher.specs.contracts.matcher.SetMatcher as SetMatcher

@@ -4,8 +4,8 @@ use Rattle.std.specs.Global.{Box}
 use Rattle.set_matcher.specs.Globs.{FlatGlob, TokenGlob, is_reported, is_reported_at, load, token_globs}
 use Rattle.bit_sets.specs.Texts.{AllBytes}
 use Rattle.set_matcher.specs.Below.{SomeReportedBelow, load_below}
-use Rattle.literal_index.specs.Below.{MatchesBelow}
-use Rattle.literal_index.specs.LiteralIndex.{KeyParts, keys_found}
+use Rattle.glob_path.specs.KeysBelow.{MatchesBelow}
+use Rattle.glob_path.specs.LiteralIndex.{KeyParts, keys_found}
 use Rattle.set_matcher.specs.inner.Automata.{AutomataParts, TokenLists, AreForLists, AreFound, AreFoundBelow, automata_or_none, folder_reads, reads_for}
 
 -- the keys of globs, and automata for the globs without one

@@ -1,5 +1,0 @@
-pub mod LiteralIndex
-pub mod Folders
-pub mod Below
-pub mod More
-pub mod Shared

@@ -1,3 +1,0 @@
-pub mod LiteralIndex
-pub mod Below
-pub mod inner
