@@ -1,0 +1,120 @@
+//! Why a command ends early.
+
+use crate::shown::Shown;
+use std::alloc::{AllocError, AllocFailed, Global};
+use std::{fmt, io};
+
+/// Why a command ends early. It is printed without the command's name.
+pub enum Fault {
+    /// The arguments are not as the usage has them.
+    Usage,
+    /// The arguments cannot be read, as one that is not UTF-8.
+    Arguments(io::Error),
+    /// A file cannot be opened or read.
+    File {
+        name: String,
+        error: io::Error,
+    },
+    /// A line of a file has no meaning: the text of it that is wrong, and what is wrong with it.
+    Line {
+        file: String,
+        number: usize,
+        text: Vec<u8>,
+        reason: String,
+    },
+    /// A glob of the command line is none, or memory ran out for globs.
+    Glob(globset::Error),
+    /// Standard input cannot be read.
+    Input(io::Error),
+    /// Standard output cannot be written.
+    Output(io::Error),
+    /// Memory ran out.
+    OutOfMemory,
+}
+
+impl Fault {
+    /// Returns the error of a file that cannot be read. If there is no memory for its name, returns the error that memory ran out.
+    pub fn file(alloc: Global, name: &str, error: io::Error) -> Fault {
+        match String::from_str(alloc, name) {
+            Ok(name) => Fault::File { name, error },
+            Err(_) => Fault::OutOfMemory,
+        }
+    }
+}
+
+impl Drop for Fault {
+    // One call wherever a value is dropped, which keeps proofs short.
+    fn drop(self) {
+        match self {
+            Fault::Usage | Fault::OutOfMemory => {}
+            Fault::Arguments(_) | Fault::Input(_) | Fault::Output(_) => {}
+            Fault::File { name: _, error: _ } => {}
+            Fault::Glob(_) => {}
+            Fault::Line {
+                file: _,
+                number: _,
+                text: _,
+                reason: _,
+            } => {}
+        }
+    }
+}
+
+impl fmt::Display for Fault {
+    fn fmt<W: fmt::Write>(&self, f: &mut fmt::Formatter<W>) -> fmt::Result {
+        match self {
+            Fault::Usage => f.write_str("wrong usage"),
+            Fault::Arguments(error) => write_error(f, "arguments", error),
+            Fault::File { name, error } => write_error(f, name.as_str(), error),
+            Fault::Line {
+                file,
+                number,
+                text,
+                reason,
+            } => write_line_error(f, file.as_str(), *number, text.as_slice(), reason.as_str()),
+            Fault::Glob(error) => error.fmt(f),
+            Fault::Input(error) => write_error(f, "standard input", error),
+            Fault::Output(error) => write_error(f, "standard output", error),
+            Fault::OutOfMemory => f.write_str("out of memory"),
+        }
+    }
+}
+
+/// Writes what cannot be read or written, and why.
+fn write_error<W: fmt::Write>(
+    f: &mut fmt::Formatter<W>,
+    name: &str,
+    error: &io::Error,
+) -> fmt::Result {
+    write!(f, "{}: {error}", Shown(name.as_bytes()))
+}
+
+/// Writes the place of a line, the text of it that is wrong, and what is wrong with it.
+fn write_line_error<W: fmt::Write>(
+    f: &mut fmt::Formatter<W>,
+    file: &str,
+    number: usize,
+    text: &[u8],
+    reason: &str,
+) -> fmt::Result {
+    write!(f, "{}: line {number}: ", Shown(file.as_bytes()))?;
+    write!(f, "{}: {}", Shown(text), Shown(reason.as_bytes()))
+}
+
+impl From<globset::Error> for Fault {
+    fn from(error: globset::Error) -> Fault {
+        Fault::Glob(error)
+    }
+}
+
+impl From<AllocError> for Fault {
+    fn from(_error: AllocError) -> Fault {
+        Fault::OutOfMemory
+    }
+}
+
+impl<T: Drop> From<AllocFailed<T>> for Fault {
+    fn from(_error: AllocFailed<T>) -> Fault {
+        Fault::OutOfMemory
+    }
+}

@@ -1,0 +1,62 @@
+//! The command `find_files` prints the paths of the files below a folder that some glob matches.
+//!
+//! A path is from the folder on, without the folder and its `/`. The paths come in the order of their bytes. A folder is opened only
+//! if a path below it can match.
+
+mod arguments;
+mod globs;
+mod ignored;
+mod walk;
+
+use crate::command::Command;
+use crate::fault::Fault;
+use crate::output::print_text;
+use arguments::Arguments;
+use globs::Globs;
+use ignored::Ignored;
+use std::process::ExitCode;
+use walk::{Walk, first_pending};
+
+pub const COMMAND: Command = Command {
+    name: "find_files",
+    help: "usage: examples find_files [OPTION..] FOLDER GLOB..
+
+Prints the paths of the files below FOLDER that some GLOB matches, in the order of their bytes. A path begins after FOLDER and its
+slash. Only folders below which a path can match are opened. Symbolic links are not followed, but for FOLDER itself, and not
+printed, nor is anything else that is neither a file nor a folder.
+
+  -i       letters match in both cases
+  -s       * and ? do not match /
+  -f FILE  globs from FILE as well, one a line; a line that is blank or begins with # has none
+  -0       a path ends in NUL in place of LF
+  --ignored  leaves out what .gitignore files on the way and .git/info/exclude ignore, and what is named .git; symbolic links
+           are printed; no GLOB is needed
+  --count  how many folders were opened and how many were left closed, on standard error
+  --       what follows is FOLDER or a GLOB
+  --help, --version
+
+A folder that cannot be read, and a name that is not UTF-8, are left out, with an error on standard error.
+The exit status is 0 if a path was printed, 1 if none was, and 2 after an error.",
+};
+
+const VERSION: &str = "find_files 0.4.21";
+
+/// Does what the arguments ask for, and returns the exit status. With `--help` that is the help, whatever else there is.
+pub fn run(rt: &HostRuntime, arguments: &[String]) -> Result<ExitCode, Fault> {
+    let arguments = Arguments::read(rt.alloc(), arguments)?;
+    if arguments.flags.help {
+        print_text(rt, COMMAND.help)
+    } else if arguments.flags.version {
+        print_text(rt, VERSION)
+    } else {
+        search(rt, &arguments)
+    }
+}
+
+/// Prints the paths that match, and returns the exit status.
+fn search(rt: &HostRuntime, arguments: &Arguments<'_>) -> Result<ExitCode, Fault> {
+    let pending = first_pending(rt.alloc(), arguments.folder())?;
+    let globs = Globs::read(rt, arguments)?;
+    let ignored = Ignored::new(rt.alloc(), arguments.flags.ignored)?;
+    Walk::new(globs, ignored, pending, arguments.flags).run(rt)
+}

@@ -1,0 +1,138 @@
+//! What the arguments ask for.
+
+use crate::fault::Fault;
+use std::alloc::Global;
+
+/// The options without `-f`.
+#[derive(Clone, Copy, Default)]
+pub struct Flags {
+    pub case_insensitive: bool,
+    pub literal_separator: bool,
+    pub ends_in_nul: bool,
+    pub count: bool,
+    /// Whether `.gitignore` files are read, and what they ignore is left out.
+    pub ignored: bool,
+    pub help: bool,
+    pub version: bool,
+}
+
+impl Flags {
+    /// Turns on the option of this name. Returns whether there is one.
+    fn set(&mut self, name: &str) -> bool {
+        match name {
+            "-i" => self.case_insensitive = true,
+            "-s" => self.literal_separator = true,
+            "-0" => self.ends_in_nul = true,
+            "--count" => self.count = true,
+            "--ignored" => self.ignored = true,
+            "-h" | "--help" => self.help = true,
+            "--version" => self.version = true,
+            _ => return false,
+        }
+        true
+    }
+}
+
+/// What the next argument may be.
+#[derive(Clone, Copy)]
+enum Next {
+    Any,
+    /// The name of a file, after `-f`.
+    File,
+    /// No option, after `--`.
+    Word,
+}
+
+/// The arguments of a search.
+pub struct Arguments<'a> {
+    pub flags: Flags,
+    /// The names of the files of globs.
+    pub files: Vec<&'a str>,
+    /// The folder, and then globs.
+    words: Vec<&'a str>,
+    next: Next,
+}
+
+impl Drop for Arguments<'_> {
+    // One call wherever a value is dropped, which keeps proofs short.
+    fn drop(self) {
+        let Arguments {
+            flags: _,
+            files: _,
+            words: _,
+            next: _,
+        } = self;
+    }
+}
+
+impl<'a> Arguments<'a> {
+    /// Reads the arguments. Returns an error if an option is unknown, if the folder is missing or empty, if there is neither a
+    /// glob nor a file of globs nor `--ignored`, or if memory runs out.
+    pub fn read(alloc: Global, arguments: &'a [String]) -> Result<Arguments<'a>, Fault> {
+        let mut read = Arguments::new(alloc);
+        for argument in arguments {
+            read.push(argument.as_str())?;
+        }
+        if read.is_complete() {
+            Ok(read)
+        } else {
+            Err(Fault::Usage)
+        }
+    }
+
+    fn new(alloc: Global) -> Arguments<'a> {
+        Arguments {
+            flags: Flags::default(),
+            files: Vec::new(alloc),
+            words: Vec::new(alloc),
+            next: Next::Any,
+        }
+    }
+
+    /// Takes the next argument. Returns an error if it is an unknown option, or memory runs out.
+    fn push(&mut self, argument: &'a str) -> Result<(), Fault> {
+        let next = self.next;
+        let is_option = argument.len() > 1 && argument.starts_with('-');
+        match next {
+            Next::Any if is_option => self.set(argument),
+            Next::Any | Next::Word => Ok(self.words.push(argument)?),
+            Next::File => {
+                self.next = Next::Any;
+                Ok(self.files.push(argument)?)
+            }
+        }
+    }
+
+    /// Takes an argument that begins with `-`. Returns an error if it is an unknown option.
+    fn set(&mut self, option: &str) -> Result<(), Fault> {
+        match option {
+            "-f" => self.next = Next::File,
+            "--" => self.next = Next::Word,
+            name => {
+                if !self.flags.set(name) {
+                    return Err(Fault::Usage);
+                }
+            }
+        }
+        Ok(())
+    }
+
+    /// Returns whether nothing is missing.
+    fn is_complete(&self) -> bool {
+        let globs = self.globs().len() + self.files.len();
+        let next_is_file = matches!(self.next, Next::File);
+        let has_globs = globs > 0 || self.flags.ignored;
+        let is_search = !self.folder().is_empty() && has_globs && !next_is_file;
+        is_search || self.flags.help || self.flags.version
+    }
+
+    /// Returns the folder, or nothing if it is missing.
+    pub fn folder(&self) -> &'a str {
+        self.words.first().copied().unwrap_or("")
+    }
+
+    /// Returns the globs.
+    pub fn globs(&self) -> &[&'a str] {
+        self.words.get(1..).unwrap_or(&[])
+    }
+}

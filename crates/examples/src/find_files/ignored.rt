@@ -1,0 +1,114 @@
+//! What ignore files leave out of a walk.
+
+use crate::fault::Fault;
+use git_ignore::IgnoreStack;
+use globset::Error;
+use std::alloc::Global;
+use std::fs::{self, FileType};
+use std::io;
+
+/// The ignore files of the folder that the walk is in and of those above it, if they are asked for.
+pub struct Ignored {
+    stack: Option<IgnoreStack>,
+}
+
+impl Drop for Ignored {
+    // One call wherever a value is dropped, which keeps proofs short.
+    fn drop(self) {
+        let Ignored { stack: _ } = self;
+    }
+}
+
+impl Ignored {
+    /// Returns what no ignore file leaves out anything of yet. Returns an error if memory runs out.
+    pub fn new(alloc: Global, is_asked: bool) -> Result<Ignored, Error> {
+        if !is_asked {
+            return Ok(Ignored { stack: None });
+        }
+        let stack = Some(IgnoreStack::new(alloc)?);
+        Ok(Ignored { stack })
+    }
+
+    /// Returns whether an entry of this kind is printed as a file. git prints symbolic links, too.
+    pub fn is_file(&self, kind: FileType) -> bool {
+        kind.is_file() || (kind.is_symlink() && self.stack.is_some())
+    }
+
+    /// Goes to a folder, and reads its ignore files. `below` is the folder's path from the first folder on.
+    ///
+    /// Returns the error if one is there and cannot be read, and an error if memory runs out.
+    pub fn enter(
+        &mut self,
+        rt: &HostRuntime,
+        folder: &str,
+        below: &str,
+    ) -> Result<Option<io::Error>, Fault> {
+        let Some(stack) = &mut self.stack else {
+            return Ok(None);
+        };
+        go_to(stack, below.as_bytes())?;
+        if below.is_empty() {
+            if let Some(error) = add_file(rt, stack, folder, ".git/info/exclude")? {
+                return Ok(Some(error));
+            }
+        }
+        add_file(rt, stack, folder, ".gitignore")
+    }
+
+    /// Returns whether an entry of the folder that the walk is in is ignored, or is named `.git`. Returns an error if memory runs
+    /// out.
+    pub fn leaves_out(&mut self, below: &str, is_folder: bool) -> Result<bool, Error> {
+        let Some(stack) = &mut self.stack else {
+            return Ok(false);
+        };
+        let name = below.as_bytes().get(stack.folder().len()..).unwrap_or(&[]);
+        if name == b".git".as_slice() {
+            return Ok(true);
+        }
+        Ok(stack.decide(name, is_folder)?.is_ignored())
+    }
+}
+
+/// Goes up to the first folder that is above this one, and from there down to it. Its path is empty, or ends in `/`.
+fn go_to(stack: &mut IgnoreStack, folder: &[u8]) -> Result<(), Error> {
+    for _ in 0..u64::MAX {
+        if folder.starts_with(stack.folder()) {
+            break;
+        }
+        stack.leave();
+    }
+    let rest = folder.get(stack.folder().len()..).unwrap_or(&[]);
+    match rest.strip_suffix(b"/") {
+        Some(name) => stack.enter(name),
+        None => Ok(()),
+    }
+}
+
+/// Reads an ignore file of the folder that the walk is in, if it is there and a file. Returns the error if it cannot be read, and an
+/// error if memory runs out.
+fn add_file(
+    rt: &HostRuntime,
+    stack: &mut IgnoreStack,
+    folder: &str,
+    name: &str,
+) -> Result<Option<io::Error>, Fault> {
+    let path = format!(in rt.alloc(); "{folder}{name}")?;
+    if !is_file(rt, path.as_str()) {
+        return Ok(None);
+    }
+    match fs::read(rt, path.as_str()) {
+        Ok(bytes) => {
+            stack.add_file(bytes.as_slice())?;
+            Ok(None)
+        }
+        Err(error) => Ok(Some(error)),
+    }
+}
+
+/// Returns whether there is a file at a path, and no link.
+fn is_file(rt: &HostRuntime, path: &str) -> bool {
+    match fs::symlink_metadata(rt, path) {
+        Ok(metadata) => metadata.is_file(),
+        Err(_) => false,
+    }
+}

@@ -1,0 +1,290 @@
+//! The walk: which folders are opened, and in which order paths are printed.
+//!
+//! There is no recursion: what is still to be done is kept in a vector. For each folder above the place of the walk it has the
+//! paths in it that come later, and nothing of what was printed.
+//!
+//! The order of whole paths is that in which each folder has its entries sorted, where the name of a folder ends in `/`: so
+//! `a.c` comes before what is in `a`, since `.` is less than `/`.
+
+use super::COMMAND;
+use super::arguments::Flags;
+use super::globs::{Globs, Wanted};
+use super::ignored::Ignored;
+use crate::fault::Fault;
+use std::alloc::{AllocError, Global};
+use std::fs::{self, DirEntry, FileType, ReadDir};
+use std::io::{self, BufWriter, ErrorKind, Write};
+use std::process::ExitCode;
+
+/// A walk through the folders below one.
+pub struct Walk {
+    globs: Globs,
+    ignored: Ignored,
+    /// The paths of files that are still to be printed and of folders that are still to be opened, the next one last. Those of
+    /// folders end in `/`. Each begins with that of the first folder.
+    pending: Vec<String>,
+    /// How many bytes of a path are not printed: the first folder, and `/`.
+    skipped: usize,
+    /// What a path ends in where it is printed.
+    end: u8,
+    /// Whether folders are counted.
+    counts: bool,
+    opened: u64,
+    left_closed: u64,
+    /// Whether a path was printed.
+    has_printed: bool,
+    /// Whether something could not be read.
+    has_failed: bool,
+}
+
+impl Drop for Walk {
+    // One call wherever a value is dropped, which keeps proofs short.
+    fn drop(self) {
+        let Walk {
+            globs: _,
+            ignored: _,
+            pending: _,
+            skipped: _,
+            end: _,
+            counts: _,
+            opened: _,
+            left_closed: _,
+            has_printed: _,
+            has_failed: _,
+        } = self;
+    }
+}
+
+impl Walk {
+    /// Returns a walk that has these paths pending, as [`first_pending`] returns them.
+    pub fn new(globs: Globs, ignored: Ignored, pending: Vec<String>, flags: Flags) -> Walk {
+        let skipped = match pending.first() {
+            Some(folder) => folder.len(),
+            None => 0,
+        };
+        Walk {
+            skipped,
+            globs,
+            ignored,
+            pending,
+            end: if flags.ends_in_nul { 0 } else { b'\n' },
+            counts: flags.count,
+            opened: 0,
+            left_closed: 0,
+            has_printed: false,
+            has_failed: false,
+        }
+    }
+
+    /// Walks, and prints the paths that match. Returns the exit status.
+    ///
+    /// What cannot be read is left out, with an error on standard error. Returns an error if standard output cannot be written, or
+    /// memory runs out.
+    pub fn run(mut self, rt: &HostRuntime) -> Result<ExitCode, Fault> {
+        match BufWriter::new(rt.alloc(), io::writer(rt)) {
+            Ok(mut output) => self.walk_through(rt, &mut output),
+            Err(error) => Err(Fault::Output(error)),
+        }
+    }
+
+    /// The same, with the writer that it prints to, which is flushed at the end.
+    fn walk_through<W: Write>(
+        &mut self,
+        rt: &HostRuntime,
+        output: &mut W,
+    ) -> Result<ExitCode, Fault> {
+        self.walk(rt, output)?;
+        match output.flush() {
+            Ok(()) => Ok(self.finish(rt)),
+            Err(error) => Err(Fault::Output(error)),
+        }
+    }
+
+    /// Prints the numbers of folders, if they were asked for, and returns the exit status.
+    fn finish(&self, rt: &HostRuntime) -> ExitCode {
+        if self.counts {
+            let (opened, closed) = (self.opened, self.left_closed);
+            let _ = eprintln!(rt; "find_files: folders opened: {opened}, left closed: {closed}");
+        }
+        if self.has_failed {
+            ExitCode::from(2)
+        } else if self.has_printed {
+            ExitCode::SUCCESS
+        } else {
+            ExitCode::from(1)
+        }
+    }
+
+    /// Does what is pending, until nothing is.
+    fn walk<W: Write>(&mut self, rt: &HostRuntime, output: &mut W) -> Result<(), Fault> {
+        for _ in 0..u64::MAX {
+            let Some(path) = self.pending.pop() else {
+                break;
+            };
+            self.visit(rt, path.as_str(), output)?;
+        }
+        Ok(())
+    }
+
+    /// Opens a folder, or prints the path of a file.
+    fn visit<W: Write>(
+        &mut self,
+        rt: &HostRuntime,
+        path: &str,
+        output: &mut W,
+    ) -> Result<(), Fault> {
+        if path.ends_with('/') {
+            self.open(rt, path)
+        } else {
+            self.print(path, output)
+        }
+    }
+
+    /// Prints the path of a file.
+    fn print<W: Write>(&mut self, path: &str, output: &mut W) -> Result<(), Fault> {
+        self.has_printed = true;
+        let end = [self.end];
+        output
+            .write_all(self.shown(path).as_bytes())
+            .map_err(Fault::Output)?;
+        output.write_all(&end).map_err(Fault::Output)
+    }
+
+    /// Returns the part of a path that globs are matched against and that is printed.
+    fn shown<'p>(&self, path: &'p str) -> &'p str {
+        path.get(self.skipped..).unwrap_or(path)
+    }
+
+    /// Opens a folder. What is to be done with its entries is then pending, in the order of their bytes.
+    fn open(&mut self, rt: &HostRuntime, folder: &str) -> Result<(), Fault> {
+        self.opened = self.opened.saturating_add(1);
+        self.read_ignore_files(rt, folder)?;
+        let first = self.pending.len();
+        match fs::read_dir(rt, folder) {
+            Ok(entries) => self.take_all(rt, folder, entries)?,
+            Err(error) => self.report(rt, folder, error),
+        }
+        if let Some(added) = self.pending.as_mut_slice().get_mut(first..) {
+            added.sort_unstable_by(|one, other| other.as_str().cmp(one.as_str()));
+        }
+        Ok(())
+    }
+
+    /// Reads the ignore files of a folder, if they are asked for.
+    fn read_ignore_files(&mut self, rt: &HostRuntime, folder: &str) -> Result<(), Fault> {
+        let below = self.shown(folder);
+        if let Some(error) = self.ignored.enter(rt, folder, below)? {
+            self.report(rt, folder, error);
+        }
+        Ok(())
+    }
+
+    /// Takes the entries of a folder.
+    fn take_all(&mut self, rt: &HostRuntime, folder: &str, entries: ReadDir) -> Result<(), Fault> {
+        for entry in entries {
+            match entry {
+                Ok(entry) => self.take(rt, &entry)?,
+                Err(error) => self.report(rt, folder, error),
+            }
+        }
+        Ok(())
+    }
+
+    /// Takes an entry of a folder. Its type is asked for only where it matters.
+    fn take(&mut self, rt: &HostRuntime, entry: &DirEntry) -> Result<(), Fault> {
+        let path = entry.path().as_str();
+        let shown = self.shown(path);
+        let wanted = self.globs.wanted(shown);
+        if !wanted.is_file && !wanted.is_folder && !self.counts {
+            return Ok(());
+        }
+        match entry.file_type() {
+            Ok(kind) => self.take_kind(rt.alloc(), path, kind, wanted),
+            Err(error) => {
+                self.report(rt, path, error);
+                Ok(())
+            }
+        }
+    }
+
+    /// Takes an entry of this kind, unless it is ignored. A folder that is ignored is left closed.
+    fn take_kind(
+        &mut self,
+        alloc: Global,
+        path: &str,
+        kind: FileType,
+        wanted: Wanted,
+    ) -> Result<(), Fault> {
+        let below = self.shown(path);
+        let is_kept = !self.ignored.leaves_out(below, kind.is_dir())?;
+        let wanted = Wanted {
+            is_file: wanted.is_file && is_kept,
+            is_folder: wanted.is_folder && is_kept,
+        };
+        Ok(self.push(alloc, path, kind, wanted)?)
+    }
+
+    /// Adds a path to those that are pending, if it is wanted. Links are not, unless ignore files are read, as git prints them; what
+    /// else is neither a file nor a folder is not.
+    fn push(
+        &mut self,
+        alloc: Global,
+        path: &str,
+        kind: FileType,
+        wanted: Wanted,
+    ) -> Result<(), AllocError> {
+        if kind.is_dir() {
+            self.push_folder(alloc, path, wanted.is_folder)
+        } else if self.ignored.is_file(kind) && wanted.is_file {
+            Ok(self.pending.push(String::from_str(alloc, path)?)?)
+        } else {
+            Ok(())
+        }
+    }
+
+    /// Adds a folder to what is pending, if it is wanted, and otherwise counts it as left closed.
+    fn push_folder(
+        &mut self,
+        alloc: Global,
+        path: &str,
+        is_wanted: bool,
+    ) -> Result<(), AllocError> {
+        if is_wanted {
+            Ok(self.pending.push(with_slash(alloc, path)?)?)
+        } else {
+            self.left_closed = self.left_closed.saturating_add(1);
+            Ok(())
+        }
+    }
+
+    /// Prints that something cannot be read.
+    fn report(&mut self, rt: &HostRuntime, path: &str, error: io::Error) {
+        self.has_failed = true;
+        let name = path.strip_suffix('/').unwrap_or(path);
+        COMMAND.report(rt, &Fault::file(rt.alloc(), name, said(error)));
+    }
+}
+
+/// Returns what is pending before the first folder is opened: its path.
+pub fn first_pending(alloc: Global, folder: &str) -> Result<Vec<String>, AllocError> {
+    let mut pending = Vec::new(alloc);
+    pending.push(with_slash(alloc, folder.strip_suffix('/').unwrap_or(folder))?)?;
+    Ok(pending)
+}
+
+/// Returns the path of a folder with `/` at its end.
+fn with_slash(alloc: Global, folder: &str) -> Result<String, AllocError> {
+    format!(in alloc; "{folder}/")
+}
+
+/// Returns the error of a path that cannot be read, with a text of its own for a name in a folder that is not UTF-8.
+fn said(error: io::Error) -> io::Error {
+    // A path that is too long for the system has the same kind, and a number.
+    match (error.kind(), error.raw_os_error()) {
+        (ErrorKind::InvalidFilename, None) => io::Error::new(
+            ErrorKind::InvalidFilename,
+            "it has a name that is not UTF-8",
+        ),
+        _ => error,
+    }
+}

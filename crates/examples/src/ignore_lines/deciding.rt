@@ -1,0 +1,138 @@
+//! Which line of several ignore files decides about a path.
+
+use super::ignore_file::{DecidingLine, IgnoreFile};
+use super::walk::has_few_folders;
+use crate::output::Output;
+use crate::paths::Paths;
+use git_ignore::Decision;
+use std::alloc::{AllocError, Global};
+
+/// A line, and the index of its file.
+#[derive(Clone, Copy)]
+struct Found {
+    file: usize,
+    line: DecidingLine,
+}
+
+/// Adds what decides about each path, and the path. The files are in the order of [`super::arguments::Named::open`]. Returns an error
+/// if memory runs out.
+pub fn push_deciding(
+    alloc: Global,
+    files: &mut [IgnoreFile],
+    paths: &Paths,
+    ends_in_nul: bool,
+    output: &mut Output,
+) -> Result<(), AllocError> {
+    let end = if ends_in_nul { b'\0' } else { b'\n' };
+    for given in paths.ended_by(end) {
+        let path = given.strip_suffix(b"/").unwrap_or(given);
+        let found = deciding_below(alloc, files, path, path.len() < given.len())?;
+        push_found(alloc, files, found, ends_in_nul, output)?;
+        output.push(&[given, &[end]])?;
+    }
+    Ok(())
+}
+
+/// Adds the file, the number and the text of a line, each with what ends it. Returns an error if memory runs out.
+fn push_found(
+    alloc: Global,
+    files: &[IgnoreFile],
+    found: Option<Found>,
+    ends_in_nul: bool,
+    output: &mut Output,
+) -> Result<(), AllocError> {
+    match found {
+        Some(found) => match files.get(found.file) {
+            Some(file) => push_line(alloc, file, found.line.number, ends_in_nul, output),
+            None => Ok(()),
+        },
+        None => push_fields(b"", b"", b"", ends_in_nul, output),
+    }
+}
+
+/// Adds the name of a file, the number of a line, and its text.
+fn push_line(
+    alloc: Global,
+    file: &IgnoreFile,
+    number: usize,
+    ends_in_nul: bool,
+    output: &mut Output,
+) -> Result<(), AllocError> {
+    let shown = number.to_string(alloc)?;
+    let name = file.name().as_bytes();
+    push_fields(
+        name,
+        shown.as_bytes(),
+        file.line(number),
+        ends_in_nul,
+        output,
+    )
+}
+
+/// Adds three fields, each with what ends it.
+fn push_fields(
+    name: &[u8],
+    number: &[u8],
+    text: &[u8],
+    ends_in_nul: bool,
+    output: &mut Output,
+) -> Result<(), AllocError> {
+    if ends_in_nul {
+        output.push(&[name, b"\0", number, b"\0", text, b"\0"])
+    } else {
+        output.push(&[name, b":", number, b":", text, b"\t"])
+    }
+}
+
+/// Returns the line that decides about a path: the one that ignores the highest folder above it that is ignored, if there is one.
+/// Returns an error if memory runs out.
+fn deciding_below(
+    alloc: Global,
+    files: &mut [IgnoreFile],
+    path: &[u8],
+    is_folder: bool,
+) -> Result<Option<Found>, AllocError> {
+    match ignored_folder(alloc, files, path)? {
+        Some(end) => Ok(deciding(files, path.get(..end).unwrap_or(path), true)),
+        None => Ok(deciding(files, path, is_folder)),
+    }
+}
+
+/// Returns how long the path of the highest folder above a path is that is ignored, if one is. Returns an error if memory runs out.
+fn ignored_folder(
+    alloc: Global,
+    files: &mut [IgnoreFile],
+    path: &[u8],
+) -> Result<Option<usize>, AllocError> {
+    if has_few_folders(path) {
+        return Ok(ignored_one_by_one(files, path));
+    }
+    let mut decisions = vec![in alloc; Decision::Undecided; path.len()]?;
+    for file in files.iter_mut().rev() {
+        file.decide_folders(path, &mut decisions);
+    }
+    Ok(decisions.iter().position(|decision| decision.is_ignored()))
+}
+
+/// The same as [`ignored_folder`], by a pass over the path of each folder.
+fn ignored_one_by_one(files: &mut [IgnoreFile], path: &[u8]) -> Option<usize> {
+    for (end, byte) in path.iter().enumerate() {
+        if *byte == b'/' {
+            let found = deciding(files, path.get(..end).unwrap_or(path), true);
+            if matches!(found, Some(found) if found.line.ignores) {
+                return Some(end);
+            }
+        }
+    }
+    None
+}
+
+/// Returns the line that decides about a path alone: that of the last file that has such a line.
+fn deciding(files: &mut [IgnoreFile], path: &[u8], is_folder: bool) -> Option<Found> {
+    for index in (0..files.len()).rev() {
+        if let Some(line) = files[index].deciding_line(path, is_folder) {
+            return Some(Found { file: index, line });
+        }
+    }
+    None
+}

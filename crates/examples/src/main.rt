@@ -1,0 +1,77 @@
+//! `examples` is one program of several examples, each a command: what a program over the libraries looks like.
+//!
+//! - `file_types` prints the types of paths, by a table of globs.
+//! - `owners` prints the owners of paths, by an owners file.
+//! - `ignore_lines` prints the paths that an ignore file does not ignore.
+//! - `find_files` prints the paths of the files below a folder that its globs match.
+//!
+//! The first argument names the command, and the module of that name does it with the others. The text of an error goes to
+//! standard error, and begins with the name of the command.
+//!
+//! The runtime has its own type everywhere, since a type parameter for it doubles what is to be proved of the walk.
+#![tactic(auto)]
+
+mod command;
+mod fault;
+mod file_types;
+mod find_files;
+mod ignore_lines;
+mod lines;
+mod output;
+mod owners;
+mod paths;
+mod shown;
+mod text_file;
+
+use command::Command;
+use fault::Fault;
+use output::print_text;
+use std::env;
+use std::process::ExitCode;
+
+const PROGRAM: Command = Command {
+    name: "examples",
+    help: "usage: examples file_types|owners|ignore_lines|find_files ARGUMENT..
+
+  file_types    prints the types of the paths of its input, by a table of types
+  owners        prints the owners of the paths of its input, by an owners file
+  ignore_lines  prints the paths of its input that an ignore file does not ignore
+  find_files    prints the paths of the files below a folder that some glob matches
+
+With --help after its name, a command prints how it is called.",
+};
+
+fn main(rt: HostRuntime) -> ExitCode {
+    match read_arguments(&rt) {
+        Ok(arguments) => run(&rt, &arguments),
+        Err(fault) => PROGRAM.end(&rt, Err(fault)),
+    }
+}
+
+/// Returns the arguments without the program's name. Returns an error if one is not UTF-8, or memory runs out.
+fn read_arguments(rt: &HostRuntime) -> Result<Vec<String>, Fault> {
+    let given = match env::args(rt) {
+        Ok(given) => given,
+        Err(error) => return Err(Fault::Arguments(error)),
+    };
+    let mut arguments = Vec::new(rt.alloc());
+    for argument in given.skip(1) {
+        arguments.push(argument)?;
+    }
+    Ok(arguments)
+}
+
+/// Does what the arguments ask for, and returns the exit status.
+fn run(rt: &HostRuntime, arguments: &[String]) -> ExitCode {
+    let Some((name, rest)) = arguments.split_first() else {
+        return PROGRAM.end(rt, Err(Fault::Usage));
+    };
+    match name.as_str() {
+        "file_types" => file_types::COMMAND.end(rt, file_types::run(rt, rest)),
+        "owners" => owners::COMMAND.end(rt, owners::run(rt, rest)),
+        "ignore_lines" => ignore_lines::COMMAND.end(rt, ignore_lines::run(rt, rest)),
+        "find_files" => find_files::COMMAND.end(rt, find_files::run(rt, rest)),
+        "-h" | "--help" => PROGRAM.end(rt, print_text(rt, PROGRAM.help)),
+        _ => PROGRAM.end(rt, Err(Fault::Usage)),
+    }
+}

@@ -1,0 +1,101 @@
+//! A file whose lines a program reads.
+
+use crate::fault::Fault;
+use crate::lines::Lines;
+use std::alloc::{AllocError, Global};
+use std::fmt::Display;
+use std::{fs, str};
+
+/// What some editors put at the start of a text.
+const BYTE_ORDER_MARK: &[u8] = b"\xef\xbb\xbf";
+
+/// A file, and its name.
+pub struct TextFile {
+    name: String,
+    bytes: Vec<u8>,
+}
+
+impl Drop for TextFile {
+    // One call wherever a value is dropped, which keeps proofs short.
+    fn drop(self) {
+        let TextFile { name: _, bytes: _ } = self;
+    }
+}
+
+impl TextFile {
+    /// Reads a file. Returns an error if it cannot be read, or memory runs out.
+    pub fn read(rt: &HostRuntime, name: &str) -> Result<TextFile, Fault> {
+        match fs::read(rt, name) {
+            Ok(bytes) => Ok(TextFile {
+                name: String::from_str(rt.alloc(), name)?,
+                bytes,
+            }),
+            Err(error) => Err(Fault::file(rt.alloc(), name, error)),
+        }
+    }
+
+    /// Returns its name, as it was given.
+    pub fn name(&self) -> &str {
+        self.name.as_str()
+    }
+
+    /// Returns its bytes.
+    pub fn bytes(&self) -> &[u8] {
+        &self.bytes
+    }
+
+    /// Returns its bytes without a byte order mark at the start.
+    pub fn text(&self) -> &[u8] {
+        let bytes = self.bytes.as_slice();
+        bytes.strip_prefix(BYTE_ORDER_MARK).unwrap_or(bytes)
+    }
+
+    /// Returns the lines without LF or CRLF, and without a byte order mark at the start of the file. A rest after the last LF is
+    /// a line too, unless it is empty. Returns the error of the first line that is not UTF-8, or an error if memory runs out.
+    pub fn lines(&self, alloc: Global) -> Result<Vec<&str>, Fault> {
+        let mut lines = Vec::new(alloc);
+        for line in Lines::new(self.text(), b'\n') {
+            let Some(text) = text_of(line) else {
+                return Err(self.fault(alloc, lines.len() + 1, line, "not UTF-8"));
+            };
+            lines.push(text)?;
+        }
+        Ok(lines)
+    }
+
+    /// Returns the error of a line: its number, counted from 1, the text that is wrong, and what is wrong with it. If there is
+    /// no memory for that, returns the error that memory ran out.
+    pub fn fault(
+        &self,
+        alloc: Global,
+        number: usize,
+        text: &[u8],
+        reason: impl Display + Drop,
+    ) -> Fault {
+        self.line_fault(alloc, number, text, reason)
+            .unwrap_or(Fault::OutOfMemory)
+    }
+
+    fn line_fault(
+        &self,
+        alloc: Global,
+        number: usize,
+        text: &[u8],
+        reason: impl Display + Drop,
+    ) -> Result<Fault, AllocError> {
+        Ok(Fault::Line {
+            file: self.name.clone()?,
+            number,
+            text: text.to_vec(alloc)?,
+            reason: reason.to_string(alloc)?,
+        })
+    }
+}
+
+/// Returns the text of a line without CR at its end, or `None` if it is not UTF-8.
+fn text_of(line: &[u8]) -> Option<&str> {
+    match str::from_utf8(line) {
+        Ok(text) => Some(text.strip_suffix('\r').unwrap_or(text)),
+        Err(_) => None,
+    }
+}
