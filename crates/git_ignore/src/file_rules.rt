@@ -1,6 +1,6 @@
 //! The rules of a file, with a searcher of them where there is memory for one.
 
-ghost use Rattle.std.specs.Prelude.{◌≡◌, true, IfErr, OnOk, OnErr};
+ghost use Rattle.std.specs.Prelude.{◌≡◌, true, OnOk, OnErr, IsOkUnless};
 ghost use Rattle.globset.specs.Errors.{out_of_memory};
 ghost use Rattle.git_ignore.specs.FolderDecisions.{ArePut};
 ghost use Rattle.git_ignore.specs.Rules.{decision};
@@ -68,7 +68,7 @@ impl FileRules {
             (ArePut (λ folder. decision (file_value self.old).file folder true) path.now start
             decisions.old decisions.new) }
         ensures kept { self.new ≡ self.old }
-        ensures err { IfErr result (λ e. e ≡ out_of_memory) }
+        ensures err { IsOkUnless result out_of_memory }
     {
         match self {
             FileRules::WithSearcher(searcher) => {

@@ -1,6 +1,6 @@
 //! The rules of one ignore file among several.
 
-ghost use Rattle.std.specs.Prelude.{◌≡◌, ◌<◌, ◌≤◌, ◌==◌, ◌&&◌, true, false, IfOk, IfErr, OnOk, length, take, get_or, slice_index};
+ghost use Rattle.std.specs.Prelude.{◌≡◌, ◌<◌, ◌≤◌, ◌==◌, ◌&&◌, true, false, IfOk, IsOkUnless, OnOk, length, take, get_or, slice_index};
 ghost use Rattle.git_ignore.specs.declared.decision.Decision.TheVariants.{Undecided};
 ghost use Rattle.globset.specs.Errors.{out_of_memory};
 ghost use Rattle.globset.specs.SetValue.{FitsAsBefore};
@@ -52,7 +52,7 @@ impl FolderRules {
             (λ r. file_of r ≡ record { folder = folder.now; bytes = file.now }) }
         ensures fits { IfOk result (λ r. FitsRules scratch.new (file_value r.rules)) }
         ensures others { FitsAsBefore scratch.old scratch.new }
-        ensures err { IfErr result (λ e. e ≡ out_of_memory) }
+        ensures err { IsOkUnless result out_of_memory }
     {
         let rules = Rules::new(alloc, file)?;
         let folder = folder.to_vec(alloc)?;
@@ -83,7 +83,7 @@ impl FolderRules {
         ensures added { OnOk result
             (IsFileAdded (file_of self.old) path.now decisions.old decisions.new) }
         ensures kept { self.new ≡ self.old }
-        ensures err { IfErr result (λ e. e ≡ out_of_memory) }
+        ensures err { IsOkUnless result out_of_memory }
     {
         match path.strip_prefix(self.folder.as_slice()) {
             Some(_) => self
@@ -134,7 +134,7 @@ pub fn decide_below(
         (λ d. d ≡ decision_below (files_of files.old) path.now is_folder) }
     ensures files { files.new ≡ files.old }
     ensures scratch { scratch.new ≡ scratch.old }
-    ensures err { IfErr result (λ e. e ≡ out_of_memory) }
+    ensures err { IsOkUnless result out_of_memory }
 {
     if ignores_above(alloc, files, path, start, scratch)? {
         return Ok(Decision::Ignored);
@@ -158,7 +158,7 @@ fn ignores_above(
         (λ ignored. ignored ≡ is_below_ignored (files_of files.old) path.now) }
     ensures files { files.new ≡ files.old }
     ensures scratch { scratch.new ≡ scratch.old }
-    ensures err { IfErr result (λ e. e ≡ out_of_memory) }
+    ensures err { IsOkUnless result out_of_memory }
 {
     let few = end_of_few(path, start);
     if ignores_above_one_by_one(files, &path[..few], start, scratch) {
@@ -240,7 +240,7 @@ fn ignores_above_at_once(
     ensures ignored { IfOk result
         (λ ignored. ignored ≡ is_below_ignored (files_of files.old) path.now) }
     ensures files { files.new ≡ files.old }
-    ensures err { IfErr result (λ e. e ≡ out_of_memory) }
+    ensures err { IsOkUnless result out_of_memory }
 {
     let decisions = decide_folders(alloc, files, path)?;
     for end in start..path.len() {
@@ -273,7 +273,7 @@ fn decide_folders(
     ensures decisions { IfOk result
         (λ decisions. AreOfFiles (files_of files.old) path.now decisions.items) }
     ensures files { files.new ≡ files.old }
-    ensures err { IfErr result (λ e. e ≡ out_of_memory) }
+    ensures err { IsOkUnless result out_of_memory }
 {
     let mut decisions = vec![in alloc; Decision::Undecided; path.len()]?;
     let mut count = files.len();

@@ -1,6 +1,6 @@
 //! Rules as they are read, line by line.
 
-ghost use Rattle.std.specs.Prelude.{◌≡◌, ◌<◌, ◌++◌, ◌∷◌, [], ◌+◌, ◌≤◌, ◌^◌, List, length, IfErr, IfOk, OnOk};
+ghost use Rattle.std.specs.Prelude.{◌≡◌, ◌<◌, ◌++◌, ◌∷◌, [], ◌+◌, ◌≤◌, ◌^◌, List, length, IfOk, IsOkUnless, OnOk};
 ghost use Rattle.globset.specs.Errors.{out_of_memory};
 ghost use Rattle.globset.specs.SetValue.{set_globs};
 ghost use Rattle.ignore_pattern.specs.Lines.{lines_of, without_byte_order_mark};
@@ -55,7 +55,7 @@ impl RulesBuilder {
         ensures rules { OnOk result
             (AreEntriesOf (rules_from 1 (lines_of bytes.now)) self.new.globs.items
             self.new.entries.items) }
-        ensures err { IfErr result (λ e. e ≡ out_of_memory) }
+        ensures err { IsOkUnless result out_of_memory }
     {
         let mut rest = bytes;
         let mut number = 1;
@@ -72,7 +72,7 @@ impl RulesBuilder {
         ensures rule { OnOk result
             (AddsRules (rule_at number (read_pattern line.now)) self.old.globs.items
             self.old.entries.items self.new.globs.items self.new.entries.items) }
-        ensures err { IfErr result (λ e. e ≡ out_of_memory) }
+        ensures err { IsOkUnless result out_of_memory }
     {
         match pattern_of_line(alloc, line)? {
             Some(pattern) => self.push_rule(number, pattern),
@@ -92,7 +92,7 @@ impl RulesBuilder {
               is_negated = pattern.is_negated;
               is_folders_only = pattern.is_folders_only;
             } ∷ []) }
-        ensures err { IfErr result (λ e. e ≡ out_of_memory) }
+        ensures err { IsOkUnless result out_of_memory }
     {
         let IgnorePattern {
             glob,
@@ -125,7 +125,7 @@ impl RulesBuilder {
     fn push_unread(&mut self, number: usize, line: &[u8]) -> Result<(), Error>
         ensures globs { self.new.globs.items ≡ self.old.globs.items }
         ensures entries { self.new.entries.items ≡ self.old.entries.items }
-        ensures err { IfErr result (λ e. e ≡ out_of_memory) }
+        ensures err { IsOkUnless result out_of_memory }
     {
         if is_plain_line(line) {
             return Ok(());
@@ -148,7 +148,7 @@ pub fn prefix_matcher(alloc: Global, globs: &[Glob]) -> Result<PrefixMatcher, Al
 /// Returns the set of globs. Returns an error if memory runs out, and no other.
 pub fn set_of(alloc: Global, globs: Vec<Glob>) -> Result<GlobSet, Error>
     ensures globs { IfOk result (λ set. set_globs set ≡ globs.items) }
-    ensures err { IfErr result (λ e. e ≡ out_of_memory) }
+    ensures err { IsOkUnless result out_of_memory }
 {
     let mut builder = GlobSetBuilder::new(alloc);
     for glob in globs {

@@ -1,7 +1,7 @@
 //! The rules of an ignore file.
 
 ghost use Rattle.std.specs.Arc.{arc_value};
-ghost use Rattle.std.specs.Prelude.{◌≡◌, true, IfOk, IfErr, OnOk, OnErr};
+ghost use Rattle.std.specs.Prelude.{◌≡◌, true, IfOk, IsOkUnless, OnOk, OnErr};
 ghost use Rattle.globset.specs.Errors.{out_of_memory};
 ghost use Rattle.git_ignore.specs.FolderDecisions.{ArePut};
 ghost use Rattle.git_ignore.specs.Rules.{deciding_line, decision, last_rule, rules_of};
@@ -57,7 +57,7 @@ impl Rules {
     /// Returns an error if memory runs out, and no other.
     pub fn new(alloc: Global, file: &[u8]) -> Result<Rules, Error>
         ensures file { IfOk result (λ r. r.file ≡ file.now) }
-        ensures err { IfErr result (λ e. e ≡ out_of_memory) }
+        ensures err { IsOkUnless result out_of_memory }
     {
         let mut builder = RulesBuilder::new(alloc);
         builder.push_lines(alloc, after_mark(file))?;
@@ -95,7 +95,7 @@ impl Rules {
     /// The same as [`Rules::decide`], with a scratch of its own. Returns an error if memory runs out, and no other.
     pub fn decide_once(&self, path: &[u8], is_folder: bool) -> Result<Decision, Error>
         ensures decision { IfOk result (λ d. d ≡ decision self.now.file path.now is_folder) }
-        ensures err { IfErr result (λ e. e ≡ out_of_memory) }
+        ensures err { IsOkUnless result out_of_memory }
     {
         let mut scratch = IgnoreScratch::new(self.stored.allocator(), self)?;
         Ok(self.decide(path, is_folder, &mut scratch))
@@ -104,7 +104,7 @@ impl Rules {
     /// The same as [`Rules::deciding_line`], with a scratch of its own. Returns an error if memory runs out, and no other.
     pub fn deciding_line_once(&self, path: &[u8], is_folder: bool) -> Result<Option<usize>, Error>
         ensures line { IfOk result (λ n. n ≡ deciding_line self.now.file path.now is_folder) }
-        ensures err { IfErr result (λ e. e ≡ out_of_memory) }
+        ensures err { IsOkUnless result out_of_memory }
     {
         let mut scratch = IgnoreScratch::new(self.stored.allocator(), self)?;
         Ok(self.deciding_line(path, is_folder, &mut scratch))
@@ -129,7 +129,7 @@ impl Rules {
             (ArePut (λ folder. decision self.now.file folder true) path.now start decisions.old
             decisions.new) }
         ensures kept { OnErr result (decisions.new ≡ decisions.old) }
-        ensures err { IfErr result (λ e. e ≡ out_of_memory) }
+        ensures err { IsOkUnless result out_of_memory }
     {
         let mut states = self.stored.new_states(self.stored.allocator())?;
         self.stored

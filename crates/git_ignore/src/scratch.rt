@@ -1,6 +1,6 @@
 //! Memory that rules match with.
 
-ghost use Rattle.std.specs.Prelude.{◌≡◌, ◌↔◌, IsTrue, IfOk, IfErr, IsOk, OnOk, OnErr};
+ghost use Rattle.std.specs.Prelude.{◌≡◌, ◌↔◌, IsTrue, IfOk, IsOk, IsOkUnless, OnOk, OnErr};
 ghost use Rattle.globset.specs.Errors.{out_of_memory};
 ghost use Rattle.globset.specs.SetValue.{Fits, FitsAsBefore};
 ghost use Rattle.git_ignore.specs.RulesValue.{FitsRules};
@@ -45,7 +45,7 @@ impl IgnoreScratch {
     /// Returns a scratch that fits the rules. Returns an error if memory runs out, and no other.
     pub fn new(alloc: Global, rules: &Rules) -> Result<IgnoreScratch, Error>
         ensures fits { IfOk result (λ s. FitsRules s rules.now) }
-        ensures err { IfErr result (λ e. e ≡ out_of_memory) }
+        ensures err { IsOkUnless result out_of_memory }
     {
         IgnoreScratch::for_set(alloc, rules.set())
     }
@@ -53,7 +53,7 @@ impl IgnoreScratch {
     /// Returns a scratch that fits rules with this set.
     pub(crate) fn for_set(alloc: Global, set: &GlobSet) -> Result<IgnoreScratch, Error>
         ensures fits { IfOk result (λ s. Fits s set.now) }
-        ensures err { IfErr result (λ e. e ≡ out_of_memory) }
+        ensures err { IsOkUnless result out_of_memory }
     {
         let scratch = Scratch::new(alloc, set)?;
         let matching = Vec::with_capacity(alloc, set.len())?;
@@ -87,7 +87,7 @@ impl IgnoreScratch {
         ensures others { FitsAsBefore self.old self.new }
         ensures kept { OnErr result (self.new ≡ self.old) }
         ensures succeeds_if_fits { FitsRules self.old rules.now → IsOk result }
-        ensures err { IfErr result (λ e. e ≡ out_of_memory) }
+        ensures err { IsOkUnless result out_of_memory }
     {
         let set = rules.set();
         self.matching.clear();

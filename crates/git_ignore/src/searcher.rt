@@ -1,6 +1,6 @@
 //! The rules of a file with the memory to decide with.
 
-ghost use Rattle.std.specs.Prelude.{◌≡◌, true, IfOk, IfErr};
+ghost use Rattle.std.specs.Prelude.{◌≡◌, true, IfOk, IsOkUnless};
 ghost use Rattle.globset.specs.Errors.{out_of_memory};
 ghost use Rattle.git_ignore.specs.FolderDecisions.{ArePut};
 ghost use Rattle.git_ignore.specs.Rules.{deciding_line, decision, last_rule, rules_of};
@@ -76,7 +76,7 @@ impl RulesSearcher {
     /// Returns an error if memory runs out or 2^63 searchers share the rules, and in no other case.
     pub fn new(alloc: Global, rules: &Rules) -> Result<RulesSearcher, Error>
         ensures rules { IfOk result (λ s. s ≡ rules.now) }
-        ensures err { IfErr result (λ e. e ≡ out_of_memory) }
+        ensures err { IsOkUnless result out_of_memory }
     {
         let stored = rules.share()?;
         let searcher = Searcher::new(alloc, stored.set())?;

@@ -1,6 +1,6 @@
 //! Ignore files of nested folders.
 
-ghost use Rattle.std.specs.Prelude.{◌≡◌, ◌++◌, ◌∷◌, [], true, IfOk, IfErr, OnOk, OnErr, length, take};
+ghost use Rattle.std.specs.Prelude.{◌≡◌, ◌++◌, ◌∷◌, [], true, IfOk, IsOkUnless, OnOk, OnErr, length, take};
 ghost use Rattle.globset.specs.Errors.{out_of_memory};
 ghost use Rattle.git_ignore.specs.Folders.{decision_below, ignores, is_below_ignored};
 ghost use Rattle.git_ignore.specs.StackValue.{at_top, entered, left, stack_files, with_file};
@@ -83,7 +83,7 @@ impl IgnoreStack {
     /// Returns a walk in its top folder, which has no ignore files yet. Returns an error if memory runs out, and no other.
     pub fn new(alloc: Global) -> Result<IgnoreStack, Error>
         ensures top { IfOk result (λ s. s ≡ at_top) }
-        ensures err { IfErr result (λ e. e ≡ out_of_memory) }
+        ensures err { IsOkUnless result out_of_memory }
     {
         let scratch = IgnoreScratch::for_set(alloc, &GlobSet::empty())?;
         Ok(IgnoreStack {
@@ -118,7 +118,7 @@ impl IgnoreStack {
     pub fn add_file(&mut self, file: &[u8]) -> Result<(), Error>
         ensures added { OnOk result (self.new ≡ with_file self.old file.now) }
         ensures kept { OnErr result (self.new ≡ self.old) }
-        ensures err { IfErr result (λ e. e ≡ out_of_memory) }
+        ensures err { IsOkUnless result out_of_memory }
     {
         let most_bytes = MOST_SEARCHER_BYTES.saturating_sub(searcher_bytes(&self.files));
         let rules = FolderRules::new(
@@ -138,7 +138,7 @@ impl IgnoreStack {
     pub fn enter(&mut self, name: &[u8]) -> Result<(), Error>
         ensures entered { OnOk result (self.new ≡ entered self.old name.now) }
         ensures kept { OnErr result (self.new ≡ self.old) }
-        ensures err { IfErr result (λ e. e ≡ out_of_memory) }
+        ensures err { IsOkUnless result out_of_memory }
     {
         let decision = self.decide(name, true)?;
         self.push_level(name, decision.is_ignored())?;
@@ -167,7 +167,7 @@ impl IgnoreStack {
             (λ d. d ≡ decision_below (stack_files self.old) (self.old.here.path ++ path.now)
             is_folder) }
         ensures same { self.new ≡ self.old }
-        ensures err { IfErr result (λ e. e ≡ out_of_memory) }
+        ensures err { IsOkUnless result out_of_memory }
     {
         if self.is_ignored {
             return Ok(Decision::Ignored);

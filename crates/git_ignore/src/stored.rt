@@ -1,6 +1,6 @@
 //! What the rules of a file share with their searchers.
 
-ghost use Rattle.std.specs.Prelude.{◌≡◌, ℕ, List, true, IfOk, IfErr};
+ghost use Rattle.std.specs.Prelude.{◌≡◌, ℕ, List, true, IfOk, IsOkUnless};
 ghost use Rattle.globset.specs.Answer.{matching_indexes};
 ghost use Rattle.globset.specs.Errors.{out_of_memory};
 ghost use Rattle.globset.specs.SetValue.{set_globs};
@@ -69,7 +69,7 @@ impl StoredRules {
     ) -> Result<StoredRules, Error>
         requires { AreEntriesOf (rules_of file.now) globs.items entries.items }
         ensures file { IfOk result (λ r. r.file ≡ file.now) }
-        ensures err { IfErr result (λ e. e ≡ out_of_memory) }
+        ensures err { IsOkUnless result out_of_memory }
     {
         let prefixes = prefix_matcher(alloc, &globs)?;
         let set = set_of(alloc, globs)?;

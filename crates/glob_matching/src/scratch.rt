@@ -1,6 +1,6 @@
 //! Memory of the caller, in which globs are matched.
 
-ghost use Rattle.std.specs.Prelude.{◌≡◌, ◌≤◌, ◌^◌, ◌↔◌, ℕ, MatchOption, IfOk, IfErr, IsOk, OnOk, OnErr, IsTrue};
+ghost use Rattle.std.specs.Prelude.{◌≡◌, ◌≤◌, ◌^◌, ◌↔◌, ℕ, MatchOption, IfOk, IsOk, IsOkUnless, OnOk, OnErr, IsTrue};
 ghost use Rattle.glob_text.specs.Errors.{out_of_memory};
 ghost use Rattle.glob_matching.specs.ScratchValue.{FitsAsBefore, HasCapacity, raised};
 
@@ -116,7 +116,7 @@ impl Scratch {
         ensures indexes { IfOk result (λ scratch. scratch.indexes ≡ S.indexes set.now) }
         ensures fits { IfOk result
             (λ scratch. HasCapacity scratch (S.states set.now) (S.indexes set.now)) }
-        ensures err { IfErr result (λ e. e ≡ out_of_memory) }
+        ensures err { IsOkUnless result out_of_memory }
     {
         let mut scratch = Scratch::empty(alloc);
         scratch.fit(set)?;
@@ -149,7 +149,7 @@ impl Scratch {
         ensures others { FitsAsBefore self.old self.new }
         ensures succeeds_if_fits { HasCapacity self.old (S.states set.now) (S.indexes set.now)
             → IsOk result }
-        ensures err { IfErr result (λ e. e ≡ out_of_memory) }
+        ensures err { IsOkUnless result out_of_memory }
     {
         let states = self.states.max(set.states_needed().ok_or(AllocError)?);
         let indexes = self.indexes.max(set.indexes_needed());

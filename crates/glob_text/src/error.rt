@@ -1,6 +1,6 @@
 //! Errors of globs.
 
-ghost use Rattle.std.specs.Prelude.{◌≡◌, ◌⊎◌, ◌↔◌, IfOk, IfErr, IsTrue};
+ghost use Rattle.std.specs.Prelude.{◌≡◌, ◌⊎◌, ◌↔◌, IfOk, IsOkUnless, IsTrue};
 ghost use Rattle.std.specs.Cmp.{partial_equiv_from_equiv};
 ghost use Rattle.glob_text.specs.Errors.{out_of_memory};
 ghost use Rattle.glob_text.specs.Equality.{SameError};
@@ -139,7 +139,7 @@ impl Error {
         ensures ok { IfOk result (λ e. SameError e self.now) }
         ensures offset { IfOk result (λ e. e.offset ≡ self.now.offset) }
         ensures equal { IfOk result (λ e. IsTrue (⟦<Error as PartialEq>⟧.eq e self.now)) }
-        ensures err { IfErr result (λ e. e ≡ out_of_memory) }
+        ensures err { IsOkUnless result out_of_memory }
     {
         Ok(Clone::clone(self)?)
     }

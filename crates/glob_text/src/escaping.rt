@@ -1,6 +1,6 @@
 //! Escaping: globs that match one text.
 
-ghost use Rattle.std.specs.Prelude.{◌≡◌, ◌++◌, IfOk, IfErr, OnOk, IsTrue, string_bytes, encode_utf8_all};
+ghost use Rattle.std.specs.Prelude.{◌≡◌, ◌++◌, IfOk, IsOkUnless, OnOk, IsTrue, string_bytes, encode_utf8_all};
 ghost use Rattle.glob_text.specs.Errors.{out_of_memory};
 ghost use Rattle.glob_text.specs.GlobMatches.{default_glob};
 ghost use Rattle.glob_text.specs.Escape.{is_special, escaped_char, escaped, has_no_backslash, plain_options, MeansOnly};
@@ -31,7 +31,7 @@ pub fn escape(alloc: Global, text: &str) -> Result<String, Error>
         → MeansOnly (default_glob (string_bytes s)) text.now) }
     ensures escape_plain { IfOk result
         (λ s. MeansOnly (record { text = string_bytes s; options = plain_options }) text.now) }
-    ensures err { IfErr result (λ e. e ≡ out_of_memory) }
+    ensures err { IsOkUnless result out_of_memory }
 {
     let mut out = String::new(alloc);
     for c in text.chars() {

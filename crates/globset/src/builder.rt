@@ -36,7 +36,7 @@ impl Model for GlobSetBuilder {
 }
 
 impl GlobSetBuilder {
-    ghost use Rattle.std.specs.Prelude.{◌≡◌, [], ◌∷◌, ◌++◌, IfOk, IfErr, OnOk, OnErr};
+    ghost use Rattle.std.specs.Prelude.{◌≡◌, [], ◌∷◌, ◌++◌, IfOk, IsOkUnless, OnOk, OnErr};
     ghost use Rattle.globset_glob.specs.Errors.{out_of_memory};
     ghost use Rattle.globset.specs.SetValue.{builder_globs, set_globs};
     ghost use Rattle.globset.specs.Lending.{LendsItself};
@@ -89,7 +89,7 @@ impl GlobSetBuilder {
         ensures* lends { sem 𝓛 (LendsItself self.entry result) }
         ensures ok { IfOk result (λ b. (b.ghost_name ≡ self.entry.ghost_name)
             × (builder_globs b.now ≡ builder_globs self.old ++ glob ∷ [])) }
-        ensures err { IfErr result (λ e. e ≡ out_of_memory) }
+        ensures err { IsOkUnless result out_of_memory }
     {
         match self.push(glob) {
             Ok(()) => Ok(self),
@@ -117,7 +117,7 @@ impl GlobSetBuilder {
     pub fn push(&mut self, glob: Glob) -> Result<(), Error>
         ensures ok { OnOk result (builder_globs self.new ≡ builder_globs self.old ++ glob ∷ []) }
         ensures kept { OnErr result (builder_globs self.new ≡ builder_globs self.old) }
-        ensures err { IfErr result (λ e. e ≡ out_of_memory) }
+        ensures err { IsOkUnless result out_of_memory }
     {
         self.pats.push(glob)?;
         Ok(())
@@ -134,7 +134,7 @@ impl GlobSetBuilder {
     /// Returns an error if memory runs out, and no other.
     pub fn build(&self) -> Result<GlobSet, Error>
         ensures ok { IfOk result (λ s. set_globs s ≡ builder_globs self.now) }
-        ensures err { IfErr result (λ e. e ≡ out_of_memory) }
+        ensures err { IsOkUnless result out_of_memory }
     {
         GlobSet::of_slice(*self.pats.allocator(), self.dfa_size_limit, &self.pats)
     }
@@ -159,7 +159,7 @@ impl GlobSetBuilder {
         ensures ok { IfOk result (λ s. set_globs s ≡ builder_globs self.old) }
         ensures emptied { OnOk result (builder_globs self.new ≡ []) }
         ensures kept { OnErr result (builder_globs self.new ≡ builder_globs self.old) }
-        ensures err { IfErr result (λ e. e ≡ out_of_memory) }
+        ensures err { IsOkUnless result out_of_memory }
     {
         let alloc = *self.pats.allocator();
         let set = GlobSet::of_slice(alloc, self.dfa_size_limit, &self.pats)?;
@@ -183,7 +183,7 @@ impl GlobSetBuilder {
     /// ```
     pub fn into_set(self) -> Result<GlobSet, Error>
         ensures ok { IfOk result (λ s. set_globs s ≡ builder_globs self) }
-        ensures err { IfErr result (λ e. e ≡ out_of_memory) }
+        ensures err { IsOkUnless result out_of_memory }
     {
         let GlobSetBuilder {
             pats,
@@ -195,7 +195,7 @@ impl GlobSetBuilder {
     /// Returns a builder of equal globs and the same limit, with memory of its own. Returns an error if memory runs out, and no other.
     pub fn clone(&self) -> Result<GlobSetBuilder, Error>
         ensures ok { IfOk result (λ b. b ≡ self.now) }
-        ensures err { IfErr result (λ e. e ≡ out_of_memory) }
+        ensures err { IsOkUnless result out_of_memory }
     {
         let pats = self.pats.clone()?;
         Ok(GlobSetBuilder {

@@ -1,6 +1,6 @@
 //! Laws of sets and builders, as contracts. Most of these functions have an empty body.
 
-ghost use Rattle.std.specs.Prelude.{◌≡◌, ◌∷◌, ◌++◌, [], IfOk, IfErr, OnOk, OnErr, if◌then◌else◌};
+ghost use Rattle.std.specs.Prelude.{◌≡◌, ◌∷◌, ◌++◌, [], IfOk, IsOkUnless, OnOk, OnErr, if◌then◌else◌};
 ghost use Rattle.globset_glob.specs.Errors.{out_of_memory};
 ghost use Rattle.globset.specs.Laws.{AddKeeps, BelowEnds, BelowHasPaths, OneGlobSet, OrderRenames};
 ghost use Rattle.globset.specs.SetValue.{builder_globs};
@@ -47,7 +47,7 @@ pub fn below_ends()
 pub fn failed_add_keeps(builder: &mut GlobSetBuilder, glob: Glob) -> Result<(), Error>
     ensures ok { OnOk result (builder_globs builder.new ≡ builder_globs builder.old ++ glob ∷ []) }
     ensures kept { OnErr result (builder_globs builder.new ≡ builder_globs builder.old) }
-    ensures err { IfErr result (λ e. e ≡ out_of_memory) }
+    ensures err { IsOkUnless result out_of_memory }
 {
     match builder.add(glob) {
         Ok(_) => Ok(()),
@@ -71,7 +71,7 @@ pub fn add_after_error(builder: &mut GlobSetBuilder, glob: Glob, other: Glob) ->
         (λ first. builder_globs builder.new
         ≡ builder_globs builder.old ++ (if first then glob else other) ∷ []) }
     ensures kept { OnErr result (builder_globs builder.new ≡ builder_globs builder.old) }
-    ensures err { IfErr result (λ e. e ≡ out_of_memory) }
+    ensures err { IsOkUnless result out_of_memory }
 {
     if failed_add_keeps(builder, glob).is_ok() {
         return Ok(true);

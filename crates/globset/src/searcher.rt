@@ -1,6 +1,6 @@
 //! A set with the memory to match with.
 
-ghost use Rattle.std.specs.Prelude.{◌≡◌, ◌≢◌, ◌+◌, ◌≤◌, ◌↔◌, [], IfOk, IfErr, IsTrue, length};
+ghost use Rattle.std.specs.Prelude.{◌≡◌, ◌≢◌, ◌+◌, ◌≤◌, ◌↔◌, [], IfOk, IsOkUnless, IsTrue, length};
 ghost use Rattle.globset_glob.specs.Errors.{out_of_memory};
 ghost use Rattle.globset_set.specs.Answer.{matching_indexes};
 ghost use Rattle.globset_set.specs.Below.{MatchesBelow};
@@ -78,7 +78,7 @@ impl Searcher {
     pub fn new(alloc: Global, set: &GlobSet) -> Result<Searcher, Error>
         ensures set { IfOk result (λ s. s.set ≡ set.now) }
         ensures found { IfOk result (λ s. s.found ≡ []) }
-        ensures err { IfErr result (λ e. e ≡ out_of_memory) }
+        ensures err { IsOkUnless result out_of_memory }
     {
         let set = set.clone()?;
         let stored = match &set.stored {

@@ -1,6 +1,6 @@
 //! Sets of globs.
 
-ghost use Rattle.std.specs.Prelude.{◌≡◌, ◌≢◌, ◌↔◌, All, List, [], IfOk, IfErr, IsTrue, length, map};
+ghost use Rattle.std.specs.Prelude.{◌≡◌, ◌≢◌, ◌↔◌, All, List, [], IfOk, IsOkUnless, IsTrue, length, map};
 ghost use Rattle.std.specs.Borrow.{Bor};
 ghost use Rattle.std.specs.Iterator.{Drains, IsFinite};
 ghost use Rattle.globset_glob.specs.Errors.{out_of_memory};
@@ -131,7 +131,7 @@ impl GlobSet {
         ensures ok { IfOk result
             (λ set. (s : I.IntoIter) × (xs : List (Bor GlobValue)) × I.into_iter_gives globs s
             × Drains I.IntoIter.next_gives s xs × (set_globs set ≡ map (λ g. g.now) xs)) }
-        ensures err { IfErr result (λ e. e ≡ out_of_memory) }
+        ensures err { IsOkUnless result out_of_memory }
     {
         // The number of globs has to be known before the first one is added.
         let mut references = Vec::new(alloc);
@@ -145,7 +145,7 @@ impl GlobSet {
     /// error if 2^63 sets share it, and in no other case.
     pub fn clone(&self) -> Result<GlobSet, Error>
         ensures ok { IfOk result (λ s. s ≡ self.now) }
-        ensures err { IfErr result (λ e. e ≡ out_of_memory) }
+        ensures err { IsOkUnless result out_of_memory }
     {
         let Some(stored) = &self.stored else {
             return Ok(GlobSet { stored: None });
@@ -177,7 +177,7 @@ impl GlobSet {
         globs: &[Glob],
     ) -> Result<GlobSet, Error>
         ensures ok { IfOk result (λ s. set_globs s ≡ globs.now) }
-        ensures err { IfErr result (λ e. e ≡ out_of_memory) }
+        ensures err { IsOkUnless result out_of_memory }
     {
         Ok(GlobSet::of_stored(stored_of_slice(alloc, dfa_size_limit, globs)?))
     }
@@ -189,7 +189,7 @@ impl GlobSet {
         globs: Vec<Glob>,
     ) -> Result<GlobSet, Error>
         ensures ok { IfOk result (λ s. set_globs s ≡ globs.items) }
-        ensures err { IfErr result (λ e. e ≡ out_of_memory) }
+        ensures err { IsOkUnless result out_of_memory }
     {
         Ok(GlobSet::of_stored(stored_of_globs(alloc, dfa_size_limit, globs)?))
     }

@@ -1,6 +1,6 @@
 //! Globs.
 
-ghost use Rattle.std.specs.Prelude.{◌≡◌, ◌==◌, ◌≤◌, ◌*◌, ◌↔◌, ◌++◌, ℕ, List, Some, Ok, IfOk, IfErr, IsTrue, length, string_bytes};
+ghost use Rattle.std.specs.Prelude.{◌≡◌, ◌==◌, ◌≤◌, ◌*◌, ◌↔◌, ◌++◌, ℕ, List, Some, Ok, IfOk, IfErr, IsOkUnless, IsTrue, length, string_bytes};
 ghost use Rattle.std.specs.Cmp.{partial_equiv_from_equiv};
 ghost use Rattle.std.specs.Fmt.{styled_text};
 ghost use Rattle.std.specs.Hash as fed;
@@ -138,7 +138,7 @@ impl Glob {
     /// Returns an equal glob, or an error if memory runs out.
     pub fn clone(&self) -> Result<Glob, Error>
         ensures ok { IfOk result (λ g. g ≡ self.now) }
-        ensures err { IfErr result (λ e. e ≡ out_of_memory) }
+        ensures err { IsOkUnless result out_of_memory }
     {
         Ok(Clone::clone(self)?)
     }
@@ -150,7 +150,7 @@ impl Glob {
     /// more than 40,960 numbers, or 512 for each state. To find one of them may take reading each state.
     pub fn compile_matcher(&self) -> Result<GlobMatcher, Error>
         ensures ok { IfOk result (λ m. m ≡ self.now) }
-        ensures err { IfErr result (λ e. e ≡ out_of_memory) }
+        ensures err { IsOkUnless result out_of_memory }
     {
         self.compile_matcher_with_limit(DEFAULT_DFA_SIZE_LIMIT)
     }
@@ -173,7 +173,7 @@ impl Glob {
     /// ```
     pub fn compile_matcher_with_limit(&self, dfa_size_limit: usize) -> Result<GlobMatcher, Error>
         ensures ok { IfOk result (λ m. m ≡ self.now) }
-        ensures err { IfErr result (λ e. e ≡ out_of_memory) }
+        ensures err { IsOkUnless result out_of_memory }
     {
         GlobMatcher::new(self.clone()?, dfa_size_limit)
     }

@@ -1,6 +1,6 @@
 //! Globs as JSON values.
 
-ghost use Rattle.std.specs.Prelude.{◌≡◌, Err, IfOk, IfErr, Ok};
+ghost use Rattle.std.specs.Prelude.{◌≡◌, Err, IfOk, IfErr, IsOkUnless, Ok};
 ghost use Rattle.serde_json.specs.View.{view};
 ghost use Rattle.glob_text.specs.Errors.{glob_or_parse_error, out_of_memory};
 ghost use Rattle.glob_text.specs.GlobMatches.{IsRead};
@@ -35,7 +35,7 @@ impl Glob {
     pub fn to_value(&self) -> Result<Value, Error>
         ensures ok { IfOk result (λ value. view value ≡ value_of_glob self.now) }
         ensures read_back { IfOk result (λ value. glob_of_value (view value) ≡ Ok self.now) }
-        ensures err { IfErr result (λ e. e ≡ out_of_memory) }
+        ensures err { IsOkUnless result out_of_memory }
     {
         Ok(value_of(self.allocator(), self.glob(), self.options())?)
     }

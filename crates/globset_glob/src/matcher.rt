@@ -1,6 +1,6 @@
 //! Matchers of one glob.
 
-ghost use Rattle.std.specs.Prelude.{◌≡◌, ◌+◌, ◌≤◌, ◌↔◌, IfOk, IfErr, IsOk, IsTrue};
+ghost use Rattle.std.specs.Prelude.{◌≡◌, ◌+◌, ◌≤◌, ◌↔◌, IfOk, IsOk, IsOkUnless, IsTrue};
 ghost use Rattle.nfa_simulation.specs.Sets.{sets_capacity};
 ghost use Rattle.glob_matching.specs.ScratchValue.{FitsMatcher};
 ghost use Rattle.glob_text.specs.Errors.{out_of_memory};
@@ -68,7 +68,7 @@ impl GlobMatcher {
     /// Returns a matcher of a glob, at the cost of [`Glob::compile_matcher_with_limit`]. Returns an error if memory runs out.
     pub(crate) fn new(glob: Glob, dfa_size_limit: usize) -> Result<GlobMatcher, Error>
         ensures ok { IfOk result (λ m. m ≡ glob) }
-        ensures err { IfErr result (λ e. e ≡ out_of_memory) }
+        ensures err { IsOkUnless result out_of_memory }
     {
         let strategy = Strategy::of(&glob, dfa_size_limit)?;
         Ok(GlobMatcher { glob, strategy })
@@ -86,7 +86,7 @@ impl GlobMatcher {
     /// For a path that is not UTF-8, or that several matchers are tried on, make a [`Candidate`].
     pub fn is_match<P: AsPath>(&self, path: P) -> Result<bool, Error>
         ensures ok { IfOk result (λ yes. yes ≡ glob_matches self.now (P.text path)) }
-        ensures err { IfErr result (λ e. e ≡ out_of_memory) }
+        ensures err { IsOkUnless result out_of_memory }
     {
         self.is_match_candidate(&Candidate::new(path.path_text()))
     }
@@ -101,7 +101,7 @@ impl GlobMatcher {
     /// ```
     pub fn is_match_candidate(&self, path: &Candidate<'_>) -> Result<bool, Error>
         ensures ok { IfOk result (λ yes. yes ≡ glob_matches self.now path.now) }
-        ensures err { IfErr result (λ e. e ≡ out_of_memory) }
+        ensures err { IsOkUnless result out_of_memory }
     {
         let mut visits = Visits::new();
         self.is_match_visits(path, &mut visits)
@@ -114,7 +114,7 @@ impl GlobMatcher {
     /// a deterministic automaton, and otherwise two sets of states, of one bit for each state of the automaton.
     pub fn is_match_visits(&self, path: &Candidate<'_>, visits: &mut Visits) -> Result<bool, Error>
         ensures ok { IfOk result (λ yes. yes ≡ glob_matches self.now path.now) }
-        ensures err { IfErr result (λ e. e ≡ out_of_memory) }
+        ensures err { IsOkUnless result out_of_memory }
         ensures visits { visits.new ≤ visits.old + max_visits self.now path.now }
         ensures counted { visits.old ≤ visits.new }
     {
@@ -186,7 +186,7 @@ impl GlobMatcher {
     /// ```
     pub fn can_match_below<P: AsPath>(&self, folder: P) -> Result<bool, Error>
         ensures ok { IfOk result (λ yes. IsTrue yes ↔ GlobMatchesBelow self.now (P.text folder)) }
-        ensures err { IfErr result (λ e. e ≡ out_of_memory) }
+        ensures err { IsOkUnless result out_of_memory }
     {
         self.can_match_below_candidate(&Candidate::new(folder.path_text()))
     }
@@ -195,7 +195,7 @@ impl GlobMatcher {
     /// does, or an error if memory runs out.
     pub fn can_match_below_candidate(&self, folder: &Candidate<'_>) -> Result<bool, Error>
         ensures ok { IfOk result (λ yes. IsTrue yes ↔ GlobMatchesBelow self.now folder.now) }
-        ensures err { IfErr result (λ e. e ≡ out_of_memory) }
+        ensures err { IsOkUnless result out_of_memory }
     {
         let mut visits = Visits::new();
         self.can_match_below_visits(folder, &mut visits)
@@ -212,7 +212,7 @@ impl GlobMatcher {
         visits: &mut Visits,
     ) -> Result<bool, Error>
         ensures ok { IfOk result (λ yes. IsTrue yes ↔ GlobMatchesBelow self.now folder.now) }
-        ensures err { IfErr result (λ e. e ≡ out_of_memory) }
+        ensures err { IsOkUnless result out_of_memory }
         ensures visits { visits.new ≤ visits.old + max_visits_below self.now folder.now }
         ensures counted { visits.old ≤ visits.new }
     {
@@ -240,7 +240,7 @@ impl GlobMatcher {
     /// matchers share the automaton, and in no other case.
     pub fn clone(&self) -> Result<GlobMatcher, Error>
         ensures ok { IfOk result (λ m. m ≡ self.now) }
-        ensures err { IfErr result (λ e. e ≡ out_of_memory) }
+        ensures err { IsOkUnless result out_of_memory }
     {
         let glob = self.glob.clone()?;
         let strategy = self.strategy.copy_for(&glob)?;

@@ -1,6 +1,6 @@
 //! What a set stores, with the memory to match with.
 
-ghost use Rattle.std.specs.Prelude.{◌≡◌, ◌≢◌, ◌↔◌, [], ◌+◌, ◌≤◌, IfOk, IfErr, IsTrue, length, vec_capacity};
+ghost use Rattle.std.specs.Prelude.{◌≡◌, ◌≢◌, ◌↔◌, [], ◌+◌, ◌≤◌, IfOk, IsOkUnless, IsTrue, length, vec_capacity};
 ghost use Rattle.glob_text.specs.Errors.{out_of_memory};
 ghost use Rattle.globset_set.specs.Answer.{matching_indexes};
 ghost use Rattle.globset_set.specs.Below.{MatchesBelow};
@@ -54,7 +54,7 @@ impl StoredSearcher {
     /// Returns a searcher of what a set stores. Returns an error if memory runs out or 2^63 values share it, and in no other case.
     pub(crate) fn new(alloc: Global, stored: &Stored) -> Result<StoredSearcher, Error>
         ensures ok { IfOk result (λ s. s ≡ stored.now) }
-        ensures err { IfErr result (λ e. e ≡ out_of_memory) }
+        ensures err { IsOkUnless result out_of_memory }
     {
         let stored = stored.clone()?;
         let scratch = Scratch::new(alloc, &stored)?;

@@ -1,6 +1,6 @@
 //! What a set stores, which its clones and its searchers share.
 
-ghost use Rattle.std.specs.Prelude.{◌≡◌, ◌≢◌, ◌↔◌, [], ℕ, ◌+◌, ◌≤◌, All, IfOk, IfErr, IsOk, OnOk, OnErr, IsTrue, length, vec_capacity};
+ghost use Rattle.std.specs.Prelude.{◌≡◌, ◌≢◌, ◌↔◌, [], ℕ, ◌+◌, ◌≤◌, All, IfOk, IsOk, IsOkUnless, OnOk, OnErr, IsTrue, length, vec_capacity};
 ghost use Rattle.glob_matching.specs.ScratchValue.{HasCapacity};
 ghost use Rattle.glob_text.specs.Errors.{out_of_memory};
 ghost use Rattle.glob_text.specs.GlobMatches.{IsRead};
@@ -87,7 +87,7 @@ impl Stored {
     /// matcher, and in no other case.
     pub fn searcher(&self, alloc: Global) -> Result<StoredSearcher, Error>
         ensures ok { IfOk result (λ s. s ≡ self.now) }
-        ensures err { IfErr result (λ e. e ≡ out_of_memory) }
+        ensures err { IsOkUnless result out_of_memory }
     {
         StoredSearcher::new(alloc, self)
     }
@@ -139,7 +139,7 @@ impl Stored {
         ensures caches { caches.new ≡ caches.old }
         ensures ok { OnOk result
             (into.new.items ≡ matching_indexes (set_globs self.now.set) path.now) }
-        ensures err { IfErr result (λ e. e ≡ out_of_memory) }
+        ensures err { IsOkUnless result out_of_memory }
         ensures cleared { OnErr result (into.new.items ≡ []) }
         ensures kept { scratch.new ≡ scratch.old }
         ensures room { HasCapacity scratch.old (set_states self.now.set)
@@ -168,7 +168,7 @@ impl Stored {
         ensures caches { caches.new ≡ caches.old }
         ensures ok { IfOk result
             (λ yes. IsTrue yes ↔ (matching_indexes (set_globs self.now.set) path.now ≢ [])) }
-        ensures err { IfErr result (λ e. e ≡ out_of_memory) }
+        ensures err { IsOkUnless result out_of_memory }
         ensures kept { scratch.new ≡ scratch.old }
         ensures room { HasCapacity scratch.old (set_states self.now.set)
             (length (set_globs self.now.set)) → IsOk result }
@@ -195,7 +195,7 @@ impl Stored {
         ensures caches { caches.new ≡ caches.old }
         ensures ok { IfOk result
             (λ yes. IsTrue yes ↔ MatchesBelow (set_globs self.now.set) folder.now) }
-        ensures err { IfErr result (λ e. e ≡ out_of_memory) }
+        ensures err { IsOkUnless result out_of_memory }
         ensures kept { scratch.new ≡ scratch.old }
         ensures room { HasCapacity scratch.old (set_states self.now.set)
             (length (set_globs self.now.set)) → IsOk result }
@@ -226,7 +226,7 @@ impl Stored {
             (λ yes. IsTrue yes
             ↔ ContainsAllBelow (matching_indexes (set_globs self.now.set) path.now)
             (length (set_globs self.now.set))) }
-        ensures err { IfErr result (λ e. e ≡ out_of_memory) }
+        ensures err { IsOkUnless result out_of_memory }
         ensures kept { scratch.new ≡ scratch.old }
         ensures room { HasCapacity scratch.old (set_states self.now.set)
             (length (set_globs self.now.set)) → IsOk result }
@@ -243,7 +243,7 @@ impl Stored {
     /// other case.
     pub fn clone(&self) -> Result<Stored, Error>
         ensures ok { IfOk result (λ s. s ≡ self.now) }
-        ensures err { IfErr result (λ e. e ≡ out_of_memory) }
+        ensures err { IsOkUnless result out_of_memory }
     {
         let matcher = Arc::try_clone(&self.matcher)?;
         Ok(Stored {

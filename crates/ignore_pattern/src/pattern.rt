@@ -1,6 +1,6 @@
 //! The pattern of a line, as a glob.
 
-ghost use Rattle.std.specs.Prelude.{◌≡◌, IfOk, IfErr};
+ghost use Rattle.std.specs.Prelude.{◌≡◌, IfOk, IfErr, IsOkUnless};
 ghost use Rattle.globset_glob.specs.Errors.{IsParseErrorOf, out_of_memory};
 ghost use Rattle.ignore_pattern.specs.Answer.{IsPatternOf};
 ghost use Rattle.ignore_pattern.specs.Globs.{glob_of_line};
@@ -35,7 +35,7 @@ pub struct IgnorePattern {
 pub fn pattern_of_line(alloc: Global, line: &[u8]) -> Result<Option<IgnorePattern>, Error>
     ensures pattern { IfOk result (λ r. IsPatternOf line.now r) }
     ensures value { IfOk result (λ r. r ≡ glob_of_line line.now) }
-    ensures err { IfErr result (λ e. e ≡ out_of_memory) }
+    ensures err { IsOkUnless result out_of_memory }
 {
     match read_line(alloc, line)? {
         None => Ok(None),

@@ -1,6 +1,6 @@
 //! Kinds of errors of globs.
 
-ghost use Rattle.std.specs.Prelude.{◌≡◌, ◌↔◌, IfOk, IfErr, IsTrue};
+ghost use Rattle.std.specs.Prelude.{◌≡◌, ◌↔◌, IfOk, IsOkUnless, IsTrue};
 ghost use Rattle.std.specs.Cmp.{partial_equiv_from_equiv};
 ghost use Rattle.glob_text.specs.Errors.{out_of_memory};
 ghost use Rattle.glob_text.specs.Equality.{SameKind};
@@ -86,7 +86,7 @@ impl ErrorKind {
     pub fn clone(&self) -> Result<ErrorKind, Error>
         ensures ok { IfOk result (λ k. SameKind k self.now) }
         ensures equal { IfOk result (λ k. IsTrue (⟦<ErrorKind as PartialEq>⟧.eq k self.now)) }
-        ensures err { IfErr result (λ e. e ≡ out_of_memory) }
+        ensures err { IsOkUnless result out_of_memory }
     {
         Ok(Clone::clone(self)?)
     }

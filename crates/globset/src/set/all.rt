@@ -1,6 +1,6 @@
 //! Whether every glob of a set matches a path.
 
-ghost use Rattle.std.specs.Prelude.{◌≡◌, ◌+◌, ◌≤◌, ◌↔◌, [], IfOk, IfErr, IsOk, IsTrue, length};
+ghost use Rattle.std.specs.Prelude.{◌≡◌, ◌+◌, ◌≤◌, ◌↔◌, [], IfOk, IsOk, IsOkUnless, IsTrue, length};
 ghost use Rattle.globset_glob.specs.Errors.{out_of_memory};
 ghost use Rattle.globset_set.specs.Answer.{matching_indexes};
 ghost use Rattle.set_matcher.specs.Indexes.{ContainsAllBelow};
@@ -22,7 +22,7 @@ impl GlobSet {
             (λ yes. IsTrue yes
             ↔ ContainsAllBelow (matching_indexes (set_globs self.now) (P.text path))
             (length (set_globs self.now))) }
-        ensures err { IfErr result (λ e. e ≡ out_of_memory) }
+        ensures err { IsOkUnless result out_of_memory }
         ensures succeeds_if_empty { set_globs self.now ≡ [] → IsOk result }
         ensures succeeds_without_automata { load (set_globs self.now) (P.text path) ≡ 0
             → IsOk result }
@@ -39,7 +39,7 @@ impl GlobSet {
             (λ yes. IsTrue yes
             ↔ ContainsAllBelow (matching_indexes (set_globs self.now) path.now)
             (length (set_globs self.now))) }
-        ensures err { IfErr result (λ e. e ≡ out_of_memory) }
+        ensures err { IsOkUnless result out_of_memory }
         ensures succeeds_if_empty { set_globs self.now ≡ [] → IsOk result }
         ensures succeeds_without_automata { load (set_globs self.now) path.now ≡ 0 → IsOk result }
     {
@@ -66,7 +66,7 @@ impl GlobSet {
             (λ yes. IsTrue yes
             ↔ ContainsAllBelow (matching_indexes (set_globs self.now) path.now)
             (length (set_globs self.now))) }
-        ensures err { IfErr result (λ e. e ≡ out_of_memory) }
+        ensures err { IsOkUnless result out_of_memory }
         ensures succeeds_if_empty { set_globs self.now ≡ [] → IsOk result }
         ensures succeeds_without_automata { load (set_globs self.now) path.now ≡ 0 → IsOk result }
         ensures visits { visits.new ≤ visits.old + max_set_visits (set_globs self.now) path.now }

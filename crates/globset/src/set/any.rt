@@ -1,6 +1,6 @@
 //! Whether some glob of a set matches a path.
 
-ghost use Rattle.std.specs.Prelude.{◌≡◌, ◌≢◌, ◌+◌, ◌≤◌, ◌↔◌, [], IfOk, IfErr, IsOk, IsTrue};
+ghost use Rattle.std.specs.Prelude.{◌≡◌, ◌≢◌, ◌+◌, ◌≤◌, ◌↔◌, [], IfOk, IsOk, IsOkUnless, IsTrue};
 ghost use Rattle.globset_glob.specs.Errors.{out_of_memory};
 ghost use Rattle.globset_set.specs.Answer.{matching_indexes};
 ghost use Rattle.globset.specs.SetValue.{set_globs};
@@ -22,7 +22,7 @@ impl GlobSet {
     pub fn is_match<P: AsPath>(&self, path: P) -> Result<bool, Error>
         ensures ok { IfOk result
             (λ yes. IsTrue yes ↔ (matching_indexes (set_globs self.now) (P.text path) ≢ [])) }
-        ensures err { IfErr result (λ e. e ≡ out_of_memory) }
+        ensures err { IsOkUnless result out_of_memory }
         ensures succeeds_if_empty { set_globs self.now ≡ [] → IsOk result }
         ensures succeeds_without_automata { load (set_globs self.now) (P.text path) ≡ 0
             → IsOk result }
@@ -37,7 +37,7 @@ impl GlobSet {
     pub fn is_match_candidate(&self, path: &Candidate<'_>) -> Result<bool, Error>
         ensures ok { IfOk result
             (λ yes. IsTrue yes ↔ (matching_indexes (set_globs self.now) path.now ≢ [])) }
-        ensures err { IfErr result (λ e. e ≡ out_of_memory) }
+        ensures err { IsOkUnless result out_of_memory }
         ensures succeeds_if_empty { set_globs self.now ≡ [] → IsOk result }
         ensures succeeds_without_automata { load (set_globs self.now) path.now ≡ 0 → IsOk result }
     {
@@ -57,7 +57,7 @@ impl GlobSet {
     pub fn is_match_visits(&self, path: &Candidate<'_>, visits: &mut Visits) -> Result<bool, Error>
         ensures ok { IfOk result
             (λ yes. IsTrue yes ↔ (matching_indexes (set_globs self.now) path.now ≢ [])) }
-        ensures err { IfErr result (λ e. e ≡ out_of_memory) }
+        ensures err { IsOkUnless result out_of_memory }
         ensures succeeds_if_empty { set_globs self.now ≡ [] → IsOk result }
         ensures succeeds_without_automata { load (set_globs self.now) path.now ≡ 0 → IsOk result }
         ensures visits { visits.new ≤ visits.old + max_set_visits (set_globs self.now) path.now }

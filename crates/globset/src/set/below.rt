@@ -1,6 +1,6 @@
 //! Whether some glob of a set matches some path below a folder.
 
-ghost use Rattle.std.specs.Prelude.{◌≡◌, ◌+◌, ◌≤◌, ◌↔◌, [], IfOk, IfErr, IsOk, IsTrue};
+ghost use Rattle.std.specs.Prelude.{◌≡◌, ◌+◌, ◌≤◌, ◌↔◌, [], IfOk, IsOk, IsOkUnless, IsTrue};
 ghost use Rattle.globset_glob.specs.Errors.{out_of_memory};
 ghost use Rattle.globset_set.specs.Below.{MatchesBelow};
 ghost use Rattle.globset.specs.SetValue.{Fits, set_globs};
@@ -34,7 +34,7 @@ impl GlobSet {
     pub fn can_match_below<P: AsPath>(&self, folder: P) -> Result<bool, Error>
         ensures ok { IfOk result
             (λ yes. IsTrue yes ↔ MatchesBelow (set_globs self.now) (P.text folder)) }
-        ensures err { IfErr result (λ e. e ≡ out_of_memory) }
+        ensures err { IsOkUnless result out_of_memory }
         ensures succeeds_if_empty { set_globs self.now ≡ [] → IsOk result }
         ensures succeeds_without_automata { load_below (set_globs self.now) ≡ 0 → IsOk result }
     {
@@ -48,7 +48,7 @@ impl GlobSet {
     pub fn can_match_below_candidate(&self, folder: &Candidate<'_>) -> Result<bool, Error>
         ensures ok { IfOk result
             (λ yes. IsTrue yes ↔ MatchesBelow (set_globs self.now) folder.now) }
-        ensures err { IfErr result (λ e. e ≡ out_of_memory) }
+        ensures err { IsOkUnless result out_of_memory }
         ensures succeeds_if_empty { set_globs self.now ≡ [] → IsOk result }
         ensures succeeds_without_automata { load_below (set_globs self.now) ≡ 0 → IsOk result }
     {
@@ -70,7 +70,7 @@ impl GlobSet {
     ) -> Result<bool, Error>
         ensures ok { IfOk result
             (λ yes. IsTrue yes ↔ MatchesBelow (set_globs self.now) folder.now) }
-        ensures err { IfErr result (λ e. e ≡ out_of_memory) }
+        ensures err { IsOkUnless result out_of_memory }
         ensures succeeds_if_empty { set_globs self.now ≡ [] → IsOk result }
         ensures succeeds_without_automata { load_below (set_globs self.now) ≡ 0 → IsOk result }
         ensures visits { visits.new

@@ -1,6 +1,6 @@
 //! The indexes of the globs of a set that match a path.
 
-ghost use Rattle.std.specs.Prelude.{◌≡◌, ◌+◌, ◌≤◌, [], IfOk, IfErr, IsOk, OnOk, OnErr};
+ghost use Rattle.std.specs.Prelude.{◌≡◌, ◌+◌, ◌≤◌, [], IfOk, IsOk, IsOkUnless, OnOk, OnErr};
 ghost use Rattle.globset_glob.specs.Errors.{out_of_memory};
 ghost use Rattle.globset_set.specs.Answer.{matching_indexes};
 ghost use Rattle.globset.specs.SetValue.{set_globs};
@@ -18,7 +18,7 @@ impl GlobSet {
     pub fn matches<P: AsPath>(&self, alloc: Global, path: P) -> Result<Vec<usize>, Error>
         ensures ok { IfOk result
             (λ v. v.items ≡ matching_indexes (set_globs self.now) (P.text path)) }
-        ensures err { IfErr result (λ e. e ≡ out_of_memory) }
+        ensures err { IsOkUnless result out_of_memory }
         ensures succeeds_if_empty { set_globs self.now ≡ [] → IsOk result }
     {
         self.matches_candidate(alloc, &Candidate::new(path.path_text()))
@@ -33,7 +33,7 @@ impl GlobSet {
         path: &Candidate<'_>,
     ) -> Result<Vec<usize>, Error>
         ensures ok { IfOk result (λ v. v.items ≡ matching_indexes (set_globs self.now) path.now) }
-        ensures err { IfErr result (λ e. e ≡ out_of_memory) }
+        ensures err { IsOkUnless result out_of_memory }
         ensures succeeds_if_empty { set_globs self.now ≡ [] → IsOk result }
     {
         let mut indexes = Vec::new(alloc);
@@ -59,7 +59,7 @@ impl GlobSet {
     pub fn matches_into<P: AsPath>(&self, path: P, into: &mut Vec<usize>) -> Result<(), Error>
         ensures ok { OnOk result
             (into.new.items ≡ matching_indexes (set_globs self.now) (P.text path)) }
-        ensures err { IfErr result (λ e. e ≡ out_of_memory) }
+        ensures err { IsOkUnless result out_of_memory }
         ensures succeeds_if_empty { set_globs self.now ≡ [] → IsOk result }
         ensures cleared { OnErr result (into.new.items ≡ []) }
     {
@@ -76,7 +76,7 @@ impl GlobSet {
         into: &mut Vec<usize>,
     ) -> Result<(), Error>
         ensures ok { OnOk result (into.new.items ≡ matching_indexes (set_globs self.now) path.now) }
-        ensures err { IfErr result (λ e. e ≡ out_of_memory) }
+        ensures err { IsOkUnless result out_of_memory }
         ensures succeeds_if_empty { set_globs self.now ≡ [] → IsOk result }
         ensures cleared { OnErr result (into.new.items ≡ []) }
     {
@@ -100,7 +100,7 @@ impl GlobSet {
         visits: &mut Visits,
     ) -> Result<(), Error>
         ensures ok { OnOk result (into.new.items ≡ matching_indexes (set_globs self.now) path.now) }
-        ensures err { IfErr result (λ e. e ≡ out_of_memory) }
+        ensures err { IsOkUnless result out_of_memory }
         ensures succeeds_if_empty { set_globs self.now ≡ [] → IsOk result }
         ensures cleared { OnErr result (into.new.items ≡ []) }
         ensures visits { visits.new ≤ visits.old + max_set_visits (set_globs self.now) path.now }

@@ -1,6 +1,6 @@
 //! What sets store, from globs.
 
-ghost use Rattle.std.specs.Prelude.{◌≡◌, ◌<◌, ◌++◌, ◌∷◌, [], IfOk, IfErr, OnOk, OnErr, length, map};
+ghost use Rattle.std.specs.Prelude.{◌≡◌, ◌<◌, ◌++◌, ◌∷◌, [], IfOk, IsOkUnless, OnOk, OnErr, length, map};
 ghost use Rattle.globset_glob.specs.Errors.{out_of_memory};
 ghost use Rattle.globset_set.specs.SetValue.{set_globs};
 
@@ -27,7 +27,7 @@ pub fn stored_of_slice(
     globs: &[Glob],
 ) -> Result<Stored, Error>
     ensures ok { IfOk result (λ s. set_globs s.set ≡ globs.now) }
-    ensures err { IfErr result (λ e. e ≡ out_of_memory) }
+    ensures err { IsOkUnless result out_of_memory }
 {
     let mut builder = StoredBuilder::new(alloc, globs.len());
     for glob in globs {
@@ -43,7 +43,7 @@ pub fn stored_of_globs(
     globs: Vec<Glob>,
 ) -> Result<Stored, Error>
     ensures ok { IfOk result (λ s. set_globs s.set ≡ globs.items) }
-    ensures err { IfErr result (λ e. e ≡ out_of_memory) }
+    ensures err { IsOkUnless result out_of_memory }
 {
     let mut builder = StoredBuilder::new(alloc, globs.len());
     for glob in globs {
@@ -55,7 +55,7 @@ pub fn stored_of_globs(
 /// Returns what the set of these globs stores, as [`stored_of_slice`] does, under the default limit.
 pub fn stored_of_references(alloc: Global, references: &[&Glob]) -> Result<Stored, Error>
     ensures ok { IfOk result (λ s. set_globs s.set ≡ map (λ g. g.now) references.now) }
-    ensures err { IfErr result (λ e. e ≡ out_of_memory) }
+    ensures err { IsOkUnless result out_of_memory }
 {
     let mut builder = StoredBuilder::new(alloc, references.len());
     for glob in references {

@@ -1,6 +1,6 @@
 //! The calls on a set that take no memory, with a scratch that fits it.
 
-ghost use Rattle.std.specs.Prelude.{◌≡◌, ◌≢◌, ◌+◌, ◌≤◌, ◌↔◌, [], IfErr, IsOk, OnOk, OnErr, IsTrue, length, vec_capacity};
+ghost use Rattle.std.specs.Prelude.{◌≡◌, ◌≢◌, ◌+◌, ◌≤◌, ◌↔◌, [], IsOk, IsOkUnless, OnOk, OnErr, IsTrue, length, vec_capacity};
 ghost use Rattle.globset_glob.specs.Errors.{out_of_memory};
 ghost use Rattle.globset_set.specs.Answer.{matching_indexes};
 ghost use Rattle.set_matcher.specs.Indexes.{ContainsAllBelow};
@@ -97,7 +97,7 @@ impl GlobSet {
     ) -> Result<(), Error>
         requires { Fits scratch.old self.now }
         ensures ok { OnOk result (into.new.items ≡ matching_indexes (set_globs self.now) path.now) }
-        ensures err { IfErr result (λ e. e ≡ out_of_memory) }
+        ensures err { IsOkUnless result out_of_memory }
         ensures succeeds_with_capacity { length (set_globs self.now) ≤ vec_capacity into.old
             → IsOk result }
         ensures capacity { vec_capacity into.old ≤ vec_capacity into.new }

@@ -1,6 +1,6 @@
 //! A matcher with the memory to match with.
 
-ghost use Rattle.std.specs.Prelude.{◌≡◌, ◌+◌, ◌≤◌, ◌↔◌, IfOk, IfErr, IsTrue};
+ghost use Rattle.std.specs.Prelude.{◌≡◌, ◌+◌, ◌≤◌, ◌↔◌, IfOk, IsOkUnless, IsTrue};
 ghost use Rattle.glob_text.specs.Cost.{max_visits, max_visits_below};
 ghost use Rattle.glob_text.specs.Errors.{out_of_memory};
 ghost use Rattle.glob_text.specs.GlobMatches.{glob_matches};
@@ -60,7 +60,7 @@ impl MatcherSearcher {
     /// Returns an error if memory runs out or 2^63 matchers share the automaton, and in no other case.
     pub fn new(alloc: Global, matcher: &GlobMatcher) -> Result<MatcherSearcher, Error>
         ensures ok { IfOk result (λ s. s ≡ matcher.now) }
-        ensures err { IfErr result (λ e. e ≡ out_of_memory) }
+        ensures err { IsOkUnless result out_of_memory }
     {
         let scratch = Scratch::new(alloc, matcher)?;
         Ok(MatcherSearcher {
