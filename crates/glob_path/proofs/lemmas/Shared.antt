@@ -4,7 +4,7 @@ use Rattle.std.proofs.Crossing.{crosses}
 use Rattle.byte_keys.specs.contracts.table.Table as Table
 use Rattle.byte_keys.specs.contracts.trie.Trie as Trie
 use Rattle.glob_path.specs.contracts.folders.Folders as Folders
-use Rattle.glob_path.specs.contracts.keys.LiteralIndex as LiteralIndex
+use Rattle.glob_path.specs.contracts.literal_index.LiteralIndex as LiteralIndex
 
 pub table-send : IsSend Table.the_field.row
 table-send = search (sendable, crosses) depth 40 fits 20000
