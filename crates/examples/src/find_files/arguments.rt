@@ -49,7 +49,7 @@ pub struct Arguments<'a> {
     /// The names of the files of globs.
     pub files: Vec<&'a str>,
     /// The folder, and then globs.
-    words: Vec<&'a str>,
+    pub words: Vec<&'a str>,
     next: Next,
 }
 
@@ -119,10 +119,9 @@ impl<'a> Arguments<'a> {
 
     /// Returns whether nothing is missing.
     fn is_complete(&self) -> bool {
-        let globs = self.globs().len() + self.files.len();
         let next_is_file = matches!(self.next, Next::File);
-        let has_globs = globs > 0 || self.flags.ignored;
-        let is_search = !self.folder().is_empty() && has_globs && !next_is_file;
+        let has_filter = self.has_globs() || self.flags.ignored;
+        let is_search = !self.folder().is_empty() && has_filter && !next_is_file;
         is_search || self.flags.help || self.flags.version
     }
 
@@ -131,8 +130,8 @@ impl<'a> Arguments<'a> {
         self.words.first().copied().unwrap_or("")
     }
 
-    /// Returns the globs.
-    pub fn globs(&self) -> &[&'a str] {
-        self.words.get(1..).unwrap_or(&[])
+    /// Returns whether there is a glob, or a file of globs.
+    pub fn has_globs(&self) -> bool {
+        self.words.len() > 1 || !self.files.is_empty()
     }
 }

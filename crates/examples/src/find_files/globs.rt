@@ -55,10 +55,10 @@ fn push_all(
     globs: &mut GlobSetBuilder,
     arguments: &Arguments<'_>,
 ) -> Result<(), Error> {
-    if arguments.globs().is_empty() && arguments.files.is_empty() {
+    if !arguments.has_globs() {
         return globs.push(Glob::new(alloc, "**")?);
     }
-    for text in arguments.globs() {
+    for text in arguments.words.iter().skip(1) {
         globs.push(glob(alloc, text, arguments.flags)?)?;
     }
     Ok(())
