@@ -33,7 +33,8 @@ pub enum Fault {
 }
 
 impl Fault {
-    /// Returns the error of a file that cannot be read. If there is no memory for its name, returns the error that memory ran out.
+    /// Returns the error of a file that cannot be read. If there is no memory for its name, returns the error that memory ran
+    /// out.
     pub fn file(alloc: Global, name: &str, error: io::Error) -> Fault {
         match String::from_str(alloc, name) {
             Ok(name) => Fault::File { name, error },

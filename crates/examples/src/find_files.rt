@@ -1,7 +1,7 @@
 //! The command `find_files` prints the paths of the files below a folder that some glob matches.
 //!
-//! A path is from the folder on, without the folder and its `/`. The paths come in the order of their bytes. A folder is opened only
-//! if a path below it can match.
+//! A path is from the folder on, without the folder and its `/`. The paths come in the order of their bytes. A folder is opened
+//! only if a path below it can match.
 
 mod arguments;
 mod globs;

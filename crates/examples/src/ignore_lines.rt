@@ -3,8 +3,8 @@
 //! The argument names the ignore file. Each line of standard input is the path of a file, from the folder that the ignore file
 //! is for, as `git ls-files` prints it.
 //!
-//! With `-v` it prints for each path which line of which file decides about it, as `git check-ignore -v -n` does. There may then be
-//! several ignore files, each for the folder in which it is.
+//! With `-v` it prints for each path which line of which file decides about it, as `git check-ignore -v -n` does. There may then
+//! be several ignore files, each for the folder in which it is.
 
 mod arguments;
 mod deciding;

@@ -84,8 +84,8 @@ fn go_to(stack: &mut IgnoreStack, folder: &[u8]) -> Result<(), Error> {
     }
 }
 
-/// Reads an ignore file of the folder that the walk is in, if it is there and a file. Returns the error if it cannot be read, and an
-/// error if memory runs out.
+/// Reads an ignore file of the folder that the walk is in, if it is there and a file. Returns the error if it cannot be read,
+/// and an error if memory runs out.
 fn add_file(
     rt: &HostRuntime,
     stack: &mut IgnoreStack,

@@ -78,8 +78,8 @@ impl Walk {
 
     /// Walks, and prints the paths that match. Returns the exit status.
     ///
-    /// What cannot be read is left out, with an error on standard error. Returns an error if standard output cannot be written, or
-    /// memory runs out.
+    /// What cannot be read is left out, with an error on standard error. Returns an error if standard output cannot be written,
+    /// or memory runs out.
     pub fn run(mut self, rt: &HostRuntime) -> Result<ExitCode, Fault> {
         match BufWriter::new(rt.alloc(), io::writer(rt)) {
             Ok(mut output) => self.walk_through(rt, &mut output),
@@ -224,8 +224,8 @@ impl Walk {
         Ok(self.push(alloc, path, kind, wanted)?)
     }
 
-    /// Adds a path to those that are pending, if it is wanted. Links are not, unless ignore files are read, as git prints them; what
-    /// else is neither a file nor a folder is not.
+    /// Adds a path to those that are pending, if it is wanted. Links are not, unless ignore files are read, as git prints them;
+    /// what else is neither a file nor a folder is not.
     fn push(
         &mut self,
         alloc: Global,

@@ -29,8 +29,8 @@ impl<'a> Named<'a> {
         }
     }
 
-    /// Reads the files. Those of deeper folders come last, and files of one folder as they are named. Returns an error if one cannot be
-    /// read, or memory runs out.
+    /// Reads the files. Those of deeper folders come last, and files of one folder as they are named. Returns an error if one
+    /// cannot be read, or memory runs out.
     pub fn open(&self, rt: &HostRuntime) -> Result<Vec<IgnoreFile>, Fault> {
         let mut files = Vec::new(rt.alloc());
         for name in self.names {
@@ -41,7 +41,8 @@ impl<'a> Named<'a> {
     }
 }
 
-/// Inserts a file after those of its folder, and those of folders with a path that is no longer. Returns an error if memory runs out.
+/// Inserts a file after those of its folder, and those of folders with a path that is no longer. Returns an error if memory runs
+/// out.
 fn insert_by_depth(files: &mut Vec<IgnoreFile>, file: IgnoreFile) -> Result<(), AllocError> {
     let depth = file.folder().len();
     let before = files.iter().take_while(|it| it.folder().len() <= depth);

@@ -14,8 +14,8 @@ struct Found {
     line: DecidingLine,
 }
 
-/// Adds what decides about each path, and the path. The files are in the order of [`super::arguments::Named::open`]. Returns an error
-/// if memory runs out.
+/// Adds what decides about each path, and the path. The files are in the order of [`super::arguments::Named::open`]. Returns an
+/// error if memory runs out.
 pub fn push_deciding(
     alloc: Global,
     files: &mut [IgnoreFile],
@@ -98,7 +98,8 @@ fn deciding_below(
     }
 }
 
-/// Returns how long the path of the highest folder above a path is that is ignored, if one is. Returns an error if memory runs out.
+/// Returns how long the path of the highest folder above a path is that is ignored, if one is. Returns an error if memory runs
+/// out.
 fn ignored_folder(
     alloc: Global,
     files: &mut [IgnoreFile],

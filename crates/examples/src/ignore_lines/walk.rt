@@ -5,7 +5,8 @@ use globset::Error;
 use memchr::memrchr;
 use std::alloc::Global;
 
-/// Up to how many folders are asked for each by a pass over its own path. Up to there that is faster than one pass for all of them.
+/// Up to how many folders are asked for each by a pass over its own path. Up to there that is faster than one pass for all of
+/// them.
 const FEW_FOLDERS: usize = 256;
 
 /// The folder of the last path, with the rules of the ignore file of the top folder.
