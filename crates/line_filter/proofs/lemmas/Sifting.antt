@@ -52,13 +52,13 @@ end_result globs numbered bytes front rest rest' r r1 r2 w w1 w2 h1 o1 (Err f) p
     (Handles-rest_fails globs numbered bytes rest' w w1 w2 [] h1 false o1 f (Handles-rest_is globs numbered bytes rest rest' w w1 [] h1 false o1 is m) a)
 
 -- what holds of a result, by its outcome
-pub ok_part : {T E : Type 0} {P : T → Type 0} {Q : E → Type 0} (result : Result T E) → MatchResult result P Q → IfOk result P
-ok_part (Ok x) h = h
-ok_part (Err e) h = tt
+pub ok_part : {T E : Type 0} (P : T → Type 0) (Q : E → Type 0) (result : Result T E) → MatchResult result P Q → IfOk result P
+ok_part P Q (Ok x) h = h
+ok_part P Q (Err e) h = tt
 
-pub err_part : {T E : Type 0} {P : T → Type 0} {Q : E → Type 0} (result : Result T E) → MatchResult result P Q → IfErr result Q
-err_part (Ok x) h = tt
-err_part (Err e) h = h
+pub err_part : {T E : Type 0} (P : T → Type 0) (Q : E → Type 0) (result : Result T E) → MatchResult result P Q → IfErr result Q
+err_part P Q (Ok x) h = tt
+err_part P Q (Err e) h = h
 
 -- what a read left in the vector that it read into
 pub read_back : (len : ℕ) (buf tail d : List ℕ) → length buf ≡ len → d ≡ take len (buf ++ tail) → d ≡ buf

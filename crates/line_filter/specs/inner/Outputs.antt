@@ -33,11 +33,11 @@ any_with_line output line = output.any_written || is_matched (globs_of output) l
 abbrev pub any_with_bytes : Output → List ℕ → Bool
 any_with_bytes output bytes = output.any_written || has_match (globs_of output) bytes
 
--- `yes` says whether the line is matched, and its index column is pending after what was, if it is.
+-- `told` says whether the line is matched, and its index column is pending after what was, if it is.
 abbrev pub PushesColumn : Output → Output → List ℕ → Bool → Type 0
-PushesColumn old new line yes = (yes ≡ is_matched (globs_of old) line) × (new.any_written ≡ old.any_written)
-    × (yes ≡ true → new.pending.items ≡ old.pending.items ++ index_column old.numbered (matching_indexes (globs_of old) line))
-    × (yes ≡ false → new.pending.items ≡ old.pending.items)
+PushesColumn old new line told = (told ≡ is_matched (globs_of old) line) × (new.any_written ≡ old.any_written)
+    × (told ≡ true → new.pending.items ≡ old.pending.items ++ index_column old.numbered (matching_indexes (globs_of old) line))
+    × (told ≡ false → new.pending.items ≡ old.pending.items)
 
 -- The output for a line was written or is pending; after an error a prefix of it was written. The writer holds `held` before and
 -- `held'` after.

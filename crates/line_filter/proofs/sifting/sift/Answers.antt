@@ -41,14 +41,14 @@ pub returns-then-n-eq0-clause-ok : goal.returns-then-n-eq0-clause-ok
 returns-then-n-eq0-clause-ok g c =
     let i = c.loop.invariant in
     let filled : 0 < length c.read.new.buf = omega (arith, c.read.auto.buf, c.as_mut_slice.ensures.len, c.loop.chunk.ok.0) in
-    ok_part c.finish.result (end_result _ _ i.0 (take c.in-Ok.n c.read.new.buf) _ c.loop.sifter.rest.items _ _ _ _ _ _ _ _ c.finish.result i.1 c.in-Ok.ensures.bytes.0
+    ok_part _ _ c.finish.result (end_result _ _ i.0 (take c.in-Ok.n c.read.new.buf) _ c.loop.sifter.rest.items _ _ _ _ _ _ _ _ c.finish.result i.1 c.in-Ok.ensures.bytes.0
     (ap (λ k. take k c.read.new.buf) c.if-n-eq0.true) (c.in-Ok.ensures.bytes.1 c.if-n-eq0.true filled) (Handles-written _ _ _ _ _ _ _ _ _ _ _ _ c.loop.invariant.2 c.in_ok-write_pending.ensures.0) refl (rw (i.4, i.5) at c.finish.ensures))
 
 pub returns-then-n-eq0-clause-err : goal.returns-then-n-eq0-clause-err
 returns-then-n-eq0-clause-err g c =
     let i = c.loop.invariant in
     let filled : 0 < length c.read.new.buf = omega (arith, c.read.auto.buf, c.as_mut_slice.ensures.len, c.loop.chunk.ok.0) in
-    err_part c.finish.result (end_result _ _ i.0 (take c.in-Ok.n c.read.new.buf) _ c.loop.sifter.rest.items _ _ _ _ _ _ _ _ c.finish.result i.1 c.in-Ok.ensures.bytes.0
+    err_part _ _ c.finish.result (end_result _ _ i.0 (take c.in-Ok.n c.read.new.buf) _ c.loop.sifter.rest.items _ _ _ _ _ _ _ _ c.finish.result i.1 c.in-Ok.ensures.bytes.0
     (ap (λ k. take k c.read.new.buf) c.if-n-eq0.true) (c.in-Ok.ensures.bytes.1 c.if-n-eq0.true filled) (Handles-written _ _ _ _ _ _ _ _ _ _ _ _ c.loop.invariant.2 c.in_ok-write_pending.ensures.0) refl (rw (i.4, i.5) at c.finish.ensures))
 
 pub slice_bounds-handle_chunk-end : goal.slice_bounds-handle_chunk-end
