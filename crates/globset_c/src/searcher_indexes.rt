@@ -3,7 +3,7 @@
 ghost use Rattle.std.specs.Prelude.{◌≡◌, ◌≢◌, ◌⊎◌, Some, [], ◌∷◌, ◌++◌, IfErr, IfOk, IsSome, OnOk, length};
 ghost use Rattle.globset.specs.SetValue.{set_globs};
 ghost use Rattle.globset_c.specs.Capacity.{IsWritten, IsTooLong};
-ghost use Rattle.globset_c.specs.Kinds.{IfSearcher, IsSearcher};
+ghost use Rattle.globset_c.specs.Kinds.{IfSearcher, IfSearchers, IsSearcher};
 ghost use Rattle.globset_c.specs.Paths.{AreEnds, indexes_for, index_ends_for, last_indexes_for};
 ghost use Rattle.globset_c.specs.Statuses.{IsOneOf};
 ghost use Rattle.globset_c.specs.declared.object.Failure.TheVariants.{WrongKind};

@@ -5,7 +5,7 @@ ghost use Rattle.globset.specs.Answer.{matching_indexes};
 ghost use Rattle.globset.specs.Below.{MatchesBelow};
 ghost use Rattle.globset.specs.SetValue.{set_globs};
 ghost use Rattle.globset_c.specs.Answers.{IsAll};
-ghost use Rattle.globset_c.specs.Kinds.{IfSearcher, IfSet, IsSearcher, IsSet};
+ghost use Rattle.globset_c.specs.Kinds.{IfSearcher, IfSearchers, IfSet, IsSearcher, IsSet};
 ghost use Rattle.globset_c.specs.Statuses.{IsOneOf};
 ghost use Rattle.globset_c.specs.declared.object.Failure.TheVariants.{WrongKind};
 
