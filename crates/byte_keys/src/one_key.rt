@@ -7,7 +7,7 @@ ghost use Rattle.byte_keys.specs.inner.Tables.{AreContents};
 
 use crate::directory::Directory;
 use crate::ends::ends_of;
-use crate::pairs::{Pair, indexes_of};
+use crate::pairs::Pair;
 use crate::rows::Row;
 use crate::table::Contents;
 use std::alloc::{AllocError, Global};
@@ -31,7 +31,8 @@ pub(crate) fn contents_of_one(
         from: 0,
         to: 1,
     })?;
-    let indexes = indexes_of(alloc, pairs)?;
+    let mut indexes = Vec::with_capacity(alloc, 1)?;
+    indexes.push(pair.index)?;
     let ends = ends_of(&bytes, &rows);
     Ok(Contents {
         bytes,

@@ -144,6 +144,11 @@ sorted_alone seed bytes ps one = λ k d low lt. absurd (omega arith)
 abbrev pub row_alone : Pair → Row
 row_alone p = record { hash = p.hash; start = p.start; end = p.end; from = 0; to = 1 }
 
+pub index_alone : (ps : List Pair) → length ps ≡ 1 → map (λ (p : Pair). p.index) ps ≡ (get_or ps 0 no_pair).index ∷ []
+index_alone [] one = absurd (omega arith)
+index_alone (p ∷ []) one = refl
+index_alone (p ∷ q ∷ ps) one = absurd (omega arith)
+
 -- one pair has one row
 pub grouped_alone : (bytes : List ℕ) (ps : List Pair) → length ps ≡ 1 → All (IsKept 0 bytes) ps
     → HasRows 0 bytes (row_alone (get_or ps 0 no_pair) ∷ []) (map (λ p. p.index) ps) (entries_of bytes ps)
