@@ -2,8 +2,8 @@
 //!
 //! `plain_baseline CALLS ROUNDS MICROSECONDS`: standard input has the globs, one in each line, an empty line, and the paths. A
 //! line before the empty one that begins with `-` is an option of all globs after it. For each call it writes a line of columns
-//! between tabs: its name; the matches of the first piece, and of the first round or `-`; and the calls and the nanoseconds of
-//! the first piece, of the later half of all pieces, and of the fastest piece. With 0 rounds it writes the matches for all
+//! between tabs: its name; the matches of the first piece, and of the round after it or `-`; and the calls and the nanoseconds
+//! of the first piece, of the later half of all pieces, and of the fastest piece. With 0 rounds it writes the matches for all
 //! paths alone. For a call with an error, as for a set that is too large, it writes the call and `error`.
 //!
 //! The crate has no searcher. What stands for its calls is `matches_candidate_into`, and for making one, `GlobSet::new`.
@@ -12,7 +12,8 @@ use std::{env, hint::black_box, io, io::Read, process};
 
 use globset::{Candidate, Error, Glob, GlobBuilder, GlobMatcher, GlobSet};
 
-/// The calls between two looks at the clock.
+/// The first calls, which are measured by themselves, and the calls between two looks at the clock.
+const FIRST: usize = 100;
 const PIECE: usize = 500;
 /// So many globs are read, or more, before the clock is read again.
 const GLOBS: usize = 64;
@@ -122,7 +123,7 @@ impl Measured {
                 least = *piece;
             }
         }
-        let round = self.pieces.get(..pieces_of_round).map_or("-".to_string(), |pieces| sum(pieces).found.to_string());
+        let round = self.pieces.get(1..1 + pieces_of_round).map_or("-".to_string(), |pieces| sum(pieces).found.to_string());
         print!("{call}\t{}\t{round}", first.found);
         for piece in [first, late, least] {
             print!("\t{}\t{}", piece.calls, piece.nanos);
@@ -212,15 +213,19 @@ impl Job<'_> {
             return;
         }
         let mut measured = self.measured();
-        let piece = (PIECE / calls.max(1)).max(1);
+        let mut add_piece = |measured: &mut Measured, paths: &[&str]| {
+            let start = now();
+            let found = ask_all(paths);
+            measured.stop(start, paths.len() * calls, found);
+        };
+        add_piece(&mut measured, self.paths.get(..FIRST.div_ceil(calls.max(1))).unwrap_or(&self.paths));
+        let piece = PIECE.div_ceil(calls.max(1));
         'rounds: for _ in 0..self.rounds {
             for some in self.paths.chunks(piece) {
                 if measured.is_enough() {
                     break 'rounds;
                 }
-                let start = now();
-                let found = ask_all(some);
-                measured.stop(start, some.len() * calls, found);
+                add_piece(&mut measured, some);
             }
         }
         measured.print(call, self.paths.len().div_ceil(piece));

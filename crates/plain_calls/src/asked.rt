@@ -79,6 +79,18 @@ pub fn ask_all<A: Asked>(asked: &mut A, paths: &[&str]) -> Result<usize> {
     Ok(found)
 }
 
+/// Asks about these paths, with so many calls for each, between two looks at the clock.
+pub fn add_piece<A: Asked>(
+    measured: &mut Measured<'_>,
+    asked: &mut A,
+    paths: &[&str],
+    calls: usize,
+) -> Result<()> {
+    let start = measured.start()?;
+    let found = ask_all(asked, paths)?;
+    measured.stop(start, paths.len().saturating_mul(calls), found)
+}
+
 /// Adds rounds over the paths, in pieces of so many paths, with so many calls for each path.
 pub fn add_rounds<A: Asked>(
     measured: &mut Measured<'_>,
@@ -95,9 +107,7 @@ pub fn add_rounds<A: Asked>(
             if measured.is_enough() {
                 return Ok(());
             }
-            let start = measured.start()?;
-            let found = ask_all(asked, some)?;
-            measured.stop(start, some.len().saturating_mul(calls), found)?;
+            add_piece(measured, asked, some, calls)?;
         }
     }
     Ok(())

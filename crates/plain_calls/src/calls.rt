@@ -1,11 +1,14 @@
 //! The calls by their names.
 
-use crate::asked::{Any, Asked, Indexes, Matchers, Searching, add_rounds, ask_all};
+use crate::asked::{Any, Asked, Indexes, Matchers, Searching, add_piece, add_rounds, ask_all};
 use crate::input::GlobText;
 use crate::made::{AskedSets, Making, Searchers, Sets, add_making, add_reading, read};
 use crate::measured::{Limits, Measured};
 use anyhow::{Result, anyhow};
 use globset::{GlobSet, Searcher};
+
+/// The first calls, which are measured by themselves: many sets take more time for these than for as many later ones.
+const FIRST: usize = 100;
 
 /// The calls between two looks at the clock.
 const PIECE: usize = 500;
@@ -71,7 +74,12 @@ impl Job<'_> {
             return self.count(call, ask_all(&mut asked, self.paths)?);
         }
         let mut measured = Measured::new(self.rt, self.limits);
-        let piece = (PIECE / calls.max(1)).max(1);
+        let first = self
+            .paths
+            .get(..FIRST.div_ceil(calls.max(1)))
+            .unwrap_or(self.paths);
+        add_piece(&mut measured, &mut asked, first, calls)?;
+        let piece = PIECE.div_ceil(calls.max(1));
         add_rounds(
             &mut measured,
             self.limits,

@@ -105,14 +105,14 @@ impl<'a> Measured<'a> {
         self.pieces.clear();
     }
 
-    /// Writes the columns of a call: the matches of the first piece, and those of the pieces of the first round, or `-` if that
-    /// was not ended; and then the calls and the nanoseconds of the first piece, of the later half of all pieces, and of the
-    /// fastest of those with as many calls as the first.
+    /// Writes the columns of a call: the matches of the first piece, and those of so many pieces after it, which are a round, or
+    /// `-` if they are not there; and then the calls and the nanoseconds of the first piece, of the later half of all pieces, and
+    /// of the fastest of those with as many calls as the first.
     pub fn write(&self, call: &str, pieces_of_round: usize) -> Result<()> {
         let first = self.pieces.first().copied().unwrap_or(Piece::nothing());
         let (late, least) = (self.late(), self.least(first));
         print!(self.rt; "{call}\t{}\t", first.found)?;
-        match self.pieces.get(..pieces_of_round) {
+        match self.pieces.get(1..).unwrap_or(&[]).get(..pieces_of_round) {
             Some(pieces) => print!(self.rt; "{}", sum(pieces).found)?,
             None => print!(self.rt; "-")?,
         }
