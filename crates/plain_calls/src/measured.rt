@@ -1,7 +1,5 @@
 //! Processor time of pieces of work.
 
-ghost use Rattle.std.specs.Prelude.{◌<◌};
-
 use anyhow::{Result, anyhow};
 use std::time::{CpuClock, Duration};
 
