@@ -17,7 +17,7 @@ use byte_nfa::Nfa;
 /// Makes `to` the list of the states that a byte leads to from the states of a set, and `ends` the indexes of the ends that they lead
 /// to without a byte.
 ///
-/// It reads each state at most once, and is one visit for each. What a state of `from` goes on to without a byte is put into `from`,
+/// It reads each state at most once, and is one visit for each, so at least as many as the list is long. What a state of `from` goes on to without a byte is put into `from`,
 /// before the pass comes to it. A state can be in the list twice: that costs room, and nothing else.
 pub fn read(
     automaton: &Nfa,
@@ -41,7 +41,7 @@ pub fn read(
     ensures ends { (k : ℕ)
         → IsTrue (has_index ends.new k) ↔ AcceptsFrom automaton.now from.old [] k }
     ensures visits { visits.new ≤ visits.old + size automaton.now }
-    ensures counted { visits.old ≤ visits.new }
+    ensures counted { visits.old + length to.new.items ≤ visits.new }
 {
     to.clear();
     ends.clear();

@@ -21,7 +21,7 @@ loop-limit-init c = record {
   ends = λ k. rw c.state_count-limit.ensures (iff_sym (none_swept c.args.automaton.now.states (size c.args.automaton.now) (has_state c.args.from.now) (λ _. false) (has_index c.clear-2.new.self) [] k
       (λ t lt. refl) c.clear-2.ensures.none));
   visits = omega arith;
-  counted = omega arith;
+  counted = omega (arith, ap length c.clear.ensures.items);
 }
 
 pub loop-limit-preserved-then-seen : goal.loop-limit-preserved-then-seen
@@ -46,7 +46,7 @@ loop-limit-preserved-then-seen c =
       ends = λ k. iff_trans (inv.ends k) (read_taken a s limit k [] (has_state c.loop-limit.from) (λ _. false) (has_index c.loop-limit.ends) (has_state c.take.new.from) (λ _. false) (has_index c.take.new.ends)
           last.below last.between (sym last.marked ∙ c.if-seen.true) took.below took.from (λ t. stays_at_end st s t) took.ends);
       visits = omega (arith, last.below);
-      counted = omega arith;
+      counted = omega (arith, took.few, inv.counted, c.read_below-seen.ensures.visits);
     }
 
 pub loop-limit-preserved : goal.loop-limit-preserved

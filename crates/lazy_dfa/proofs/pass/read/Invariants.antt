@@ -20,7 +20,7 @@ invariant-loop-limit l =
       steps : (y : List ℕ) (k : ℕ) → AcceptsNow a (has_state l.fn.from) n (l.byte ∷ y) k ↔ PassInvariant a (has_state l.from) l.limit (λ t. has_number t l.to.items) (λ _. false) (l.byte ∷ y) k;
       ends : (k : ℕ) → AcceptsNow a (has_state l.fn.from) n [] k ↔ PassInvariant a (has_state l.from) l.limit (λ _. false) (has_index l.ends) [] k;
       visits : l.visits + l.limit ≤ l.fn.visits + n;
-      counted : l.fn.visits ≤ l.visits;
+      counted : l.fn.visits + length l.to.items ≤ l.visits;
     }
 
 abbrev pub decreases-loop-limit : goal.decreases-loop-limit
