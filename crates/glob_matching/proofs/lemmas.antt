@@ -1,4 +1,4 @@
 -- Lemmas by topic.
 pub mod Compiled
-pub mod Filtered
 pub mod Rows
+pub mod Shared

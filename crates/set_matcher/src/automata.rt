@@ -450,13 +450,13 @@ impl Builders {
         let mut budget = Budget::new(dfa_size_limit);
         let by_path = by_path.finish();
         let states = by_path.state_count();
-        let by_path = Compiled::with_rows(alloc, &mut budget, by_path, states)?;
+        let by_path = Compiled::new(alloc, &mut budget, by_path, states)?;
         let by_component = by_component.finish();
         let has_component = has_text(alloc, &by_component)?;
         let states = by_component
             .state_count()
             .saturating_add(extensions.state_count());
-        let by_component = Compiled::with_rows(alloc, &mut budget, by_component, states)?;
+        let by_component = Compiled::new(alloc, &mut budget, by_component, states)?;
         let extensions = extensions.finish(alloc, &mut budget, states)?;
         let max_states = by_path
             .state_count()

@@ -128,5 +128,7 @@ fn automaton_of(glob: &Glob, dfa_size_limit: usize) -> Result<Compiled, AllocErr
     let mut builder = new_builder(alloc, 1);
     add_tokens(alloc, &mut builder, glob.options(), glob.tokens(), 0)?;
     let mut budget = Budget::new(dfa_size_limit);
-    Compiled::new(alloc, &mut budget, builder.finish())
+    let automaton = builder.finish();
+    let states = automaton.state_count();
+    Compiled::new(alloc, &mut budget, automaton, states)
 }

@@ -1,0 +1,2 @@
+-- Definitions that only contracts between the crates and proofs cite.
+pub mod Numbers
