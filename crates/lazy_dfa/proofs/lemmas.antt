@@ -2,3 +2,5 @@ pub mod Unique
 pub mod Finding
 pub mod Rows
 pub mod After
+pub mod Ends
+pub mod Reading

@@ -2,9 +2,10 @@
 
 ghost use Rattle.std.specs.Prelude.{◌≡◌, IfOk, IfSome};
 ghost use Rattle.byte_nfa.specs.Steps.{NfaValue};
-ghost use Rattle.lazy_dfa.specs.inner.Sources.{IsMadeOf};
+ghost use Rattle.lazy_dfa.specs.inner.Sources.{IsMadeOf, ListsEnds};
 
-use bit_sets::StateSet;
+use crate::lists::put_lowered;
+use bit_sets::{IndexSet, StateSet};
 use byte_dfa::ByteClasses;
 use byte_nfa::Nfa;
 use std::alloc::{AllocError, Global};
@@ -19,6 +20,8 @@ pub struct LazyDfa {
     pub(crate) classes: ByteClasses,
     /// The states from which some bytes lead to an end.
     pub(crate) live: StateSet,
+    /// The indexes that may be found.
+    pub(crate) indexes: Vec<usize>,
     pub(crate) source: Snapshot<Nfa>,
 }
 
@@ -29,6 +32,7 @@ impl Drop for LazyDfa {
             automaton: _,
             classes: _,
             live: _,
+            indexes: _,
             source: _,
         } = self;
     }
@@ -39,7 +43,7 @@ impl Model for LazyDfa {
 
     ghost view = { λ d. d.source.value };
 
-    ghost invariant = { λ d. IsMadeOf d.source.value d.automaton d.classes d.live };
+    ghost invariant = { λ d. IsMadeOf d.source.value d.automaton d.classes d.live d.indexes.items };
 }
 
 impl LazyDfa {
@@ -56,11 +60,34 @@ impl LazyDfa {
         let classes = ByteClasses::new(&early_match);
         let mut live = StateSet::new(alloc, early_match.state_count())?;
         early_match.live(&mut live);
+        let indexes = indexes_of(alloc, &early_match)?;
         Ok(Some(LazyDfa {
             automaton: early_match,
             classes,
             live,
+            indexes,
             source: Snapshot::of(automaton),
         }))
     }
+}
+
+/// Returns the indexes that states of an automaton with early matches are the ends of, or say are decided. Returns an error if memory
+/// runs out.
+fn indexes_of(alloc: Global, automaton: &Nfa) -> Result<Vec<usize>, AllocError>
+    ensures { IfOk result (λ indexes. ListsEnds automaton.now indexes.items) }
+{
+    let states = automaton.state_count();
+    let half = automaton.index_count() / 2;
+    let mut all = StateSet::new(alloc, states)?;
+    for state in 0..states {
+        all.put(state);
+    }
+    let mut ends = IndexSet::new(alloc, automaton.index_count())?;
+    automaton.ends(&mut all, &mut ends);
+    let mut found = IndexSet::new(alloc, half)?;
+    put_lowered(&ends, 0, half, &mut found);
+    put_lowered(&ends, half, half, &mut found);
+    let mut indexes = Vec::new(alloc);
+    found.push_below(half, &mut indexes)?;
+    Ok(indexes)
 }

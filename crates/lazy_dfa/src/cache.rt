@@ -1,6 +1,6 @@
 //! The memory of one thread, and what it answers.
 
-ghost use Rattle.std.specs.Prelude.{◌≡◌, ℕ, ◌+◌, ◌*◌, ◌≤◌, ◌⊎◌, ◌↔◌, ◌++◌, ◌∷◌, [], length, IsTrue, IfOk};
+ghost use Rattle.std.specs.Prelude.{◌≡◌, ℕ, ◌+◌, ◌*◌, ◌≤◌, ◌⊎◌, ◌↔◌, ◌++◌, ◌∷◌, [], length, IsTrue, IfOk, IfSome};
 ghost use Rattle.bit_sets.specs.Indexes.{has_index, index_capacity};
 ghost use Rattle.byte_nfa.specs.Live.{MatchesAfter};
 ghost use Rattle.byte_nfa.specs.Runs.{size};
@@ -64,9 +64,9 @@ impl Cache {
 
     /// Puts the index of each end that a text leads to into a set, beside what it holds.
     ///
-    /// An entry that is there is one visit. Where there is none yet, each state of the automaton is read at most once, and is one
-    /// visit. So it is at most `(text bytes + 1) * states` visits. It takes no memory: if there is no room for a row, all rows are
-    /// forgotten, which is no visit.
+    /// An entry that is there is one visit. Where there is none yet, each state of the automaton is read at most once, which is one
+    /// visit, and a row is looked up, which is one more. So it is at most `(text bytes + 1) * (states + 1)` visits. It takes no
+    /// memory: if there is no room for a row, all rows are forgotten, which is no visit.
     pub fn find(&mut self, dfa: &LazyDfa, text: &[u8], found: &mut IndexSet, visits: &mut Visits)
         requires same { dfa.now ≡ self.old }
         requires room { self.old.index_count ≤ index_capacity found.old }
@@ -75,10 +75,36 @@ impl Cache {
         ensures found { (k : ℕ)
             → IsTrue (has_index found.new k)
             ↔ (IsReached self.old text.now k ⊎ IsTrue (has_index found.old k)) }
-        ensures visits { visits.new ≤ visits.old + (length text.now + 1) * size self.old }
+        ensures visits { visits.new ≤ visits.old + (length text.now + 1) * (size self.old + 1) }
         ensures counted { visits.old ≤ visits.new }
     {
-        self.rows.find(&dfa.automaton, text, found, visits);
+        self.rows
+            .find(&dfa.automaton, &dfa.indexes, text, found, visits);
+    }
+
+    /// The same as [`Cache::find`] by entries that are there. Returns whether all that it needs are; if not, some of the indexes are
+    /// put into the set. It is at most one visit for each byte and one more.
+    pub fn find_known(
+        &self,
+        dfa: &LazyDfa,
+        text: &[u8],
+        found: &mut IndexSet,
+        visits: &mut Visits,
+    ) -> bool
+        requires same { dfa.now ≡ self.now }
+        requires room { self.now.index_count ≤ index_capacity found.old }
+        ensures room { index_capacity found.new ≡ index_capacity found.old }
+        ensures found { IsTrue result → (k : ℕ)
+            → IsTrue (has_index found.new k)
+            ↔ (IsReached self.now text.now k ⊎ IsTrue (has_index found.old k)) }
+        ensures kept { (k : ℕ) → IsTrue (has_index found.old k) → IsTrue (has_index found.new k) }
+        ensures sound { (k : ℕ) → IsTrue (has_index found.new k)
+            → IsReached self.now text.now k ⊎ IsTrue (has_index found.old k) }
+        ensures visits { visits.new ≤ visits.old + (length text.now + 1) }
+        ensures counted { visits.old ≤ visits.new }
+    {
+        self.rows
+            .find_known(&dfa.automaton, &dfa.indexes, text, found, visits)
     }
 
     /// Returns whether a text leads to some end. It stops at the first that is found whatever follows.
@@ -88,10 +114,22 @@ impl Cache {
         requires { dfa.now ≡ self.old }
         ensures same { self.new ≡ self.old }
         ensures some { IsTrue result ↔ ((k : ℕ) × IsReached self.old text.now k) }
-        ensures visits { visits.new ≤ visits.old + (length text.now + 1) * size self.old }
+        ensures visits { visits.new ≤ visits.old + (length text.now + 1) * (size self.old + 1) }
         ensures counted { visits.old ≤ visits.new }
     {
         self.rows.is_match(&dfa.automaton, text, visits)
+    }
+
+    /// The same as [`Cache::is_match`] by entries that are there. Returns `None` if one that it needs is not. It is at most one
+    /// visit for each byte and one more.
+    pub fn is_match_known(&self, dfa: &LazyDfa, text: &[u8], visits: &mut Visits) -> Option<bool>
+        requires { dfa.now ≡ self.now }
+        ensures some { IfSome result
+            (λ yes. IsTrue yes ↔ ((k : ℕ) × IsReached self.now text.now k)) }
+        ensures visits { visits.new ≤ visits.old + (length text.now + 1) }
+        ensures counted { visits.old ≤ visits.new }
+    {
+        self.rows.is_match_known(&dfa.automaton, text, visits)
     }
 
     /// Returns whether some text that begins with `text` and then `byte` leads to some end.
@@ -107,16 +145,29 @@ impl Cache {
         requires { dfa.now ≡ self.old }
         ensures same { self.new ≡ self.old }
         ensures some { IsTrue result ↔ MatchesAfter self.old (text.now ++ byte ∷ []) }
-        ensures visits { visits.new ≤ visits.old + (length text.now + 2) * size self.old }
+        ensures visits { visits.new ≤ visits.old + (length text.now + 2) * (size self.old + 1) }
         ensures counted { visits.old ≤ visits.new }
     {
         self.rows
             .can_match_after(&dfa.automaton, &dfa.live, text, byte, visits)
     }
 
-    /// Returns about how much time it took so far where an entry was not known, as the number of states that are read in that time. It
-    /// counts on from 0 after the highest number.
-    pub fn read_count(&self) -> usize {
-        self.rows.read_count()
+    /// The same as [`Cache::can_match_after`] by entries that are there. Returns `None` if one that it needs is not. It is at most one
+    /// visit for each byte and one more, and one for each state.
+    pub fn can_match_after_known(
+        &self,
+        dfa: &LazyDfa,
+        text: &[u8],
+        byte: u8,
+        visits: &mut Visits,
+    ) -> Option<bool>
+        requires { dfa.now ≡ self.now }
+        ensures some { IfSome result
+            (λ yes. IsTrue yes ↔ MatchesAfter self.now (text.now ++ byte ∷ [])) }
+        ensures visits { visits.new ≤ visits.old + (length text.now + 1) + size self.now }
+        ensures counted { visits.old ≤ visits.new }
+    {
+        self.rows
+            .can_match_after_known(&dfa.automaton, &dfa.live, text, byte, visits)
     }
 }

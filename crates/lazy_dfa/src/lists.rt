@@ -5,6 +5,7 @@ ghost use Rattle.bit_sets.specs.Indexes.{has_index, index_capacity};
 ghost use Rattle.bit_sets.specs.Numbers.{has_number, AreBelow};
 ghost use Rattle.bit_sets.specs.StateSets.{has_state, state_capacity};
 ghost use Rattle.byte_dfa.specs.inner.Lists.{list_at, IsList};
+ghost use Rattle.lazy_dfa.specs.inner.Sources.{AreFound};
 
 use bit_sets::{IndexSet, StateSet, Visits};
 
@@ -118,4 +119,38 @@ pub fn put_marks(numbers: &[usize], place: usize, half: usize, into: &mut IndexS
             into.put(*index - half);
         }
     }
+}
+
+/// Puts the numbers of the list at a place that are below `half`, and the others less `half`, into a set, beside what it holds.
+pub fn put_found(numbers: &[usize], place: usize, half: usize, into: &mut IndexSet)
+    requires list { IsList numbers.now (half + half) place }
+    requires room { half ≤ index_capacity into.old }
+    ensures room { index_capacity into.new ≡ index_capacity into.old }
+    ensures has { (k : ℕ)
+        → IsTrue (has_index into.new k)
+        ↔ (((k < half) × (IsTrue (has_number k (list_at numbers.now place))
+        ⊎ IsTrue (has_number (half + k) (list_at numbers.now place))))
+        ⊎ IsTrue (has_index into.old k)) }
+{
+    let count = numbers[place];
+    for index in &numbers[place + 1..place + 1 + count] {
+        if *index < half {
+            into.put(*index);
+        } else {
+            into.put(*index - half);
+        }
+    }
+}
+
+/// Returns how many indexes of a list, from its first on, are known to be in a set, where `from` are: it goes on up to the first
+/// that is not.
+pub fn found_count(indexes: &[usize], from: usize, found: &IndexSet) -> usize
+    requires { AreFound indexes.now from found.now }
+    ensures { AreFound indexes.now result found.now }
+{
+    let mut count = from;
+    while count < indexes.len() && found.has(indexes[count]) {
+        count += 1;
+    }
+    count
 }

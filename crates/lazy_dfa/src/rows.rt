@@ -10,11 +10,11 @@ ghost use Rattle.byte_nfa.specs.Steps.{IsReached};
 ghost use Rattle.byte_nfa.specs.Runs.{size, AcceptsFrom};
 ghost use Rattle.byte_dfa.specs.inner.Classes.{AreEquivalenceClasses};
 ghost use Rattle.byte_dfa.specs.inner.Building.{half};
-ghost use Rattle.lazy_dfa.specs.inner.Rows.{AcceptsRow, HasEnds, HasMarks, GoesTo, IsDeadBy, IsNext, IsEnd, IsEntry, IsSound, AreListed, KeepsRows, HasSpace, states_of, place_of, max_entries, marked, BeginsAt, IsAt, IsStep, IsPlainStep, IsMarkedStep};
+ghost use Rattle.lazy_dfa.specs.inner.Rows.{AcceptsRow, HasEnds, HasMarks, GoesTo, IsDeadBy, IsNext, IsEnd, IsEntry, IsSound, AreListed, KeepsRows, HasSpace, states_of, place_of, max_entries, marked, BeginsAt, IsAt, IsStep};
 
-use crate::lists::{
-    extend_within, list_indexes, list_of, push_within, put_marks, states_at, zeros_within,
-};
+mod known;
+
+use crate::lists::{extend_within, list_indexes, list_of, push_within, states_at, zeros_within};
 use crate::pass::read;
 use bit_sets::{IndexSet, StateSet, Visits};
 use byte_dfa::{ByteClasses, put_listed};
@@ -95,8 +95,6 @@ pub struct Rows {
     list: Vec<usize>,
     /// The list of the indexes in `ends`.
     told: Vec<usize>,
-    /// How much time was taken where an entry was not known, as the number of states that are read in that time.
-    read_count: usize,
 }
 
 impl Drop for Rows {
@@ -116,7 +114,6 @@ impl Drop for Rows {
             ends: _,
             list: _,
             told: _,
-            read_count: _,
         } = self;
     }
 }
@@ -158,7 +155,6 @@ impl Rows {
             ends: IndexSet::new(alloc, automaton.index_count())?,
             list: Vec::with_capacity(alloc, states)?,
             told: Vec::with_capacity(alloc, automaton.index_count())?,
-            read_count: 0,
         })
     }
 
@@ -177,12 +173,6 @@ impl Rows {
         entries
             .saturating_mul(mem::size_of::<u32>())
             .saturating_add(numbers.saturating_mul(mem::size_of::<usize>()))
-    }
-
-    /// Returns about how much time it took where an entry was not known, as the number of states that are read in that time. It counts
-    /// on from 0 after the highest number.
-    pub fn read_count(&self) -> usize {
-        self.read_count
     }
 
     /// Returns the place of the row that a run begins in.
@@ -231,64 +221,6 @@ impl Rows {
             next: next_of(entry),
             has_marks: false,
         }
-    }
-
-    /// Returns the place of the row that a byte leads to from the row at a place, if that is known and the row has no marks, which is
-    /// one visit. Otherwise [`Rows::step`] tells.
-    #[inline(always)]
-    pub fn plain_next(
-        &self,
-        automaton: &Nfa,
-        place: usize,
-        byte: u8,
-        visits: &mut Visits,
-    ) -> Option<usize>
-        requires sound { IsSound automaton.now self.now }
-        requires row { (i : ℕ) × IsAt self.now i place }
-        ensures next { (i : ℕ) → IsAt self.now i place
-            → IfSome result (IsPlainStep automaton.now self.now i byte) }
-        ensures visits { MatchOption result (visits.new ≡ visits.old)
-            (λ _. visits.new ≡ visits.old + 1) }
-    {
-        let _automaton = automaton;
-        let entry = entry_at(&self.entries, place, self.class_of[byte as usize] as usize);
-        if entry >= FIRST && entry < MARKED {
-            visits.tick();
-            Some((entry - FIRST) as usize)
-        } else {
-            None
-        }
-    }
-
-    /// Returns the place of the row that a byte leads to from the row at a place, if the row has marks, and these and the place are
-    /// known, which is one visit. Its marks are put into a set then. Otherwise [`Rows::step`] tells.
-    pub fn marked_next(
-        &self,
-        automaton: &Nfa,
-        place: usize,
-        byte: u8,
-        found: &mut IndexSet,
-        visits: &mut Visits,
-    ) -> Option<usize>
-        requires sound { IsSound automaton.now self.now }
-        requires row { (i : ℕ) × IsAt self.now i place }
-        requires room { half automaton.now ≤ index_capacity found.old }
-        ensures room { index_capacity found.new ≡ index_capacity found.old }
-        ensures next { (i : ℕ) → IsAt self.now i place
-            → MatchOption result (found.new ≡ found.old)
-            (IsMarkedStep automaton.now self.now i byte found.old found.new) }
-        ensures visits { MatchOption result (visits.new ≡ visits.old)
-            (λ _. visits.new ≡ visits.old + 1) }
-    {
-        let entry = entry_at(&self.entries, place, self.class_of[byte as usize] as usize);
-        let end = entry_at(&self.entries, place, self.class_count);
-        if entry < MARKED + FIRST || end < FIRST {
-            return None;
-        }
-        visits.tick();
-        let half = automaton.index_count() / 2;
-        put_marks(&self.lists, (end - FIRST) as usize, half, found);
-        Some((entry - MARKED - FIRST) as usize)
     }
 
     /// Returns the number of the row at a place.
@@ -533,7 +465,6 @@ impl Rows {
         ensures counted { visits.old ≤ visits.new }
     {
         let states = states_at(&self.starts, &self.lists, row);
-        self.read_count = self.read_count.wrapping_add(reads_for_entry(states));
         self.from.clear();
         self.from.put_all(states);
         read(
@@ -704,23 +635,6 @@ fn remember(table: &mut [u32], hash: u64, row: usize)
     if let Some(number) = table.get_mut(place) {
         *number = row as u32 + 1;
     }
-}
-
-/// How many states are read in the time that a list takes to be hashed, looked for and kept.
-const READS_FOR_LIST: usize = 32;
-
-/// How many states of a set are passed over in the time that one is read.
-const PASSED_FOR_READ: usize = 32;
-
-/// Returns about how many states are read in the time that an entry takes for a row of these states, in descending order.
-fn reads_for_entry(states: &[usize]) -> usize {
-    let passed = match (states.first(), states.last()) {
-        (Some(highest), Some(lowest)) => highest.saturating_sub(*lowest),
-        _ => 0,
-    };
-    READS_FOR_LIST
-        .saturating_add(states.len())
-        .saturating_add(passed / PASSED_FOR_READ)
 }
 
 /// Returns what is added to the entries of a row that has marks, or has none.

@@ -1,6 +1,6 @@
 //! Runs over texts.
 
-ghost use Rattle.std.specs.Prelude.{◌≡◌, ℕ, ◌+◌, ◌*◌, ◌<◌, ◌≤◌, ◌^◌, ◌⊎◌, ◌↔◌, ◌++◌, ◌∷◌, List, length, IsTrue};
+ghost use Rattle.std.specs.Prelude.{◌≡◌, ℕ, ◌+◌, ◌*◌, ◌<◌, ◌≤◌, ◌^◌, ◌⊎◌, ◌↔◌, ◌++◌, ◌∷◌, List, length, IsTrue, IfSome, MatchOption, MatchResult};
 ghost use Rattle.bit_sets.specs.Indexes.{has_index, index_capacity};
 ghost use Rattle.bit_sets.specs.StateSets.{state_capacity};
 ghost use Rattle.bit_sets.specs.Texts.{AllBytes};
@@ -9,10 +9,11 @@ ghost use Rattle.byte_nfa.specs.Live.{AreLive};
 ghost use Rattle.byte_nfa.specs.Steps.{NfaValue, IsReached};
 ghost use Rattle.byte_nfa.specs.Runs.{size};
 ghost use Rattle.byte_dfa.specs.inner.Building.{half};
-ghost use Rattle.lazy_dfa.specs.inner.Rows.{IsSound, FindsBy};
-ghost use Rattle.lazy_dfa.specs.inner.Reached.{IsWhere};
+ghost use Rattle.lazy_dfa.specs.inner.Rows.{AcceptsRow, AddsFound, IsAt, IsSound, FindsBy};
+ghost use Rattle.lazy_dfa.specs.inner.Reached.{HasRead, IsLeft, IsWhere, IsWhereFrom, MayHold};
+ghost use Rattle.lazy_dfa.specs.inner.Sources.{ListsEnds};
 
-use crate::lists::put_lowered;
+use crate::lists::{found_count, put_lowered};
 use crate::rows::Rows;
 use bit_sets::{IndexSet, StateSet, Visits};
 use byte_nfa::Nfa;
@@ -28,20 +29,38 @@ pub enum Reached {
     Row(usize),
 }
 
+/// Where a run comes to an entry that is not known, or to the end of the text.
+#[derive(Clone, Copy)]
+pub struct Left {
+    /// How many bytes of the text were read.
+    pub at: usize,
+    /// The place of the row whose entry is not known.
+    pub place: usize,
+}
+
 impl Rows {
     /// Puts the index of each end that a text leads to, and each index that is decided in it, into a set, beside what it holds.
     ///
-    /// The automaton is one with early matches: what a row has marks of is told when the row is left, and where the text ends.
-    pub fn find(&mut self, automaton: &Nfa, text: &[u8], found: &mut IndexSet, visits: &mut Visits)
+    /// The automaton is one with early matches, and its indexes are listed: a run ends where all of them are found.
+    pub fn find(
+        &mut self,
+        automaton: &Nfa,
+        indexes: &[usize],
+        text: &[u8],
+        found: &mut IndexSet,
+        visits: &mut Visits,
+    )
         requires sound { IsSound automaton.now self.old }
         requires room { half automaton.now ≤ index_capacity found.old }
+        requires listed { ListsEnds automaton.now indexes.now }
         ensures sound { IsSound automaton.now self.new }
         ensures room { index_capacity found.new ≡ index_capacity found.old }
         ensures found { (k : ℕ)
             → IsTrue (has_index found.new k)
             ↔ (FindsBy (half automaton.now) (IsReached automaton.now) text.now k
             ⊎ IsTrue (has_index found.old k)) }
-        ensures visits { visits.new ≤ visits.old + (length text.now + 1) * size automaton.now }
+        ensures visits { visits.new
+            ≤ visits.old + (length text.now + 1) * (size automaton.now + 1) }
         ensures counted { visits.old ≤ visits.new }
     {
         if automaton.state_count() == 0 {
@@ -49,26 +68,115 @@ impl Rows {
         }
         let half = automaton.index_count() / 2;
         let mut place = self.start(automaton);
-        for byte in text {
-            if let Some(next) = self.plain_next(automaton, place, *byte, visits) {
-                place = next;
-                continue;
+        let mut rest = text;
+        loop {
+            let Some(left) = self.find_from(automaton, place, indexes, rest, found, visits) else {
+                return;
+            };
+            if left.at == rest.len() {
+                if self.finish(automaton, left.place, visits) {
+                    put_lowered(&self.ends, half, half, found);
+                    put_lowered(&self.ends, 0, half, found);
+                }
+                return;
             }
-            if let Some(next) = self.marked_next(automaton, place, *byte, found, visits) {
-                place = next;
-                continue;
-            }
-            let step = self.step(automaton, place, *byte, visits);
-            self.tell_marks(step.has_marks, half, found);
+            let step = self.step(automaton, left.place, rest[left.at], visits);
+            self.tell(step.has_marks, half, found);
             let Some(next) = step.next else {
                 return;
             };
             place = next;
+            rest = &rest[left.at + 1..];
         }
-        if self.finish(automaton, place, visits) {
-            put_lowered(&self.ends, half, half, found);
-            put_lowered(&self.ends, 0, half, found);
+    }
+
+    /// The same as [`Rows::find`] by entries that are known, from where a run begins. Returns whether all that it needs are known; if
+    /// not, some of the indexes are put into the set.
+    pub fn find_known(
+        &self,
+        automaton: &Nfa,
+        indexes: &[usize],
+        text: &[u8],
+        found: &mut IndexSet,
+        visits: &mut Visits,
+    ) -> bool
+        requires sound { IsSound automaton.now self.now }
+        requires room { half automaton.now ≤ index_capacity found.old }
+        requires listed { ListsEnds automaton.now indexes.now }
+        ensures room { index_capacity found.new ≡ index_capacity found.old }
+        ensures found { IsTrue result → (k : ℕ)
+            → IsTrue (has_index found.new k)
+            ↔ (FindsBy (half automaton.now) (IsReached automaton.now) text.now k
+            ⊎ IsTrue (has_index found.old k)) }
+        ensures some { MayHold automaton.now text.now found.old found.new }
+        ensures visits { visits.new ≤ visits.old + (length text.now + 1) }
+        ensures counted { visits.old ≤ visits.new }
+    {
+        if automaton.state_count() == 0 {
+            return true;
         }
+        let Some(place) = self.known_start(automaton) else {
+            return false;
+        };
+        self.find_from(automaton, place, indexes, text, found, visits)
+            .is_none()
+    }
+
+    /// Puts what is found in a text from the row at a place into a set, beside what it holds, as far as entries are known. Returns
+    /// where one is not.
+    ///
+    /// What a row has marks of is told when the row is left, and once while a run stays in it.
+    fn find_from(
+        &self,
+        automaton: &Nfa,
+        place: usize,
+        indexes: &[usize],
+        text: &[u8],
+        found: &mut IndexSet,
+        visits: &mut Visits,
+    ) -> Option<Left>
+        requires sound { IsSound automaton.now self.now }
+        requires row { (i : ℕ) × IsAt self.now i place }
+        requires room { half automaton.now ≤ index_capacity found.old }
+        requires listed { ListsEnds automaton.now indexes.now }
+        ensures room { index_capacity found.new ≡ index_capacity found.old }
+        ensures kept { (k : ℕ) → IsTrue (has_index found.old k) → IsTrue (has_index found.new k) }
+        ensures found { (i : ℕ) → IsAt self.now i place
+            → MatchOption result (AddsFound automaton.now self.now i text.now found.old found.new)
+            (IsLeft automaton.now self.now i text.now found.old found.new) }
+        ensures visits { MatchOption result (visits.new ≤ visits.old + (length text.now + 1))
+            (λ left. visits.new ≤ visits.old + left.at) }
+        ensures counted { visits.old ≤ visits.new }
+    {
+        let mut place = place;
+        let mut told = None;
+        let mut count = 0;
+        let mut at = 0;
+        for byte in text {
+            if let Some(next) = self.plain_next(automaton, place, *byte, visits) {
+                place = next;
+            } else if let Some(next) = self.marked_next(
+                automaton, place, *byte, told, found, visits,
+            ) {
+                if told != Some(place) {
+                    count = found_count(indexes, count, found);
+                    if count >= indexes.len() {
+                        return None;
+                    }
+                }
+                told = Some(place);
+                place = next;
+            } else if self.is_known_dead(automaton, place, *byte, found, visits) {
+                return None;
+            } else {
+                return Some(Left { at, place });
+            }
+            at += 1;
+        }
+        if self.tell_known_end(automaton, place, found, visits) {
+            return None;
+        }
+        Some(Left { at, place })
     }
 
     /// Returns whether a text leads to some end. It stops at the first index that is decided.
@@ -77,7 +185,8 @@ impl Rows {
         ensures sound { IsSound automaton.now self.new }
         ensures some { IsTrue result
             ↔ ((k : ℕ) × FindsBy (half automaton.now) (IsReached automaton.now) text.now k) }
-        ensures visits { visits.new ≤ visits.old + (length text.now + 1) * size automaton.now }
+        ensures visits { visits.new
+            ≤ visits.old + (length text.now + 1) * (size automaton.now + 1) }
         ensures counted { visits.old ≤ visits.new }
     {
         if automaton.state_count() == 0 {
@@ -87,6 +196,24 @@ impl Rows {
             Reached::Decided => true,
             Reached::Nothing => false,
             Reached::Row(place) => self.finish(automaton, place, visits),
+        }
+    }
+
+    /// The same as [`Rows::is_match`] by entries that are known. Returns `None` if one that it needs is not.
+    pub fn is_match_known(&self, automaton: &Nfa, text: &[u8], visits: &mut Visits) -> Option<bool>
+        requires { IsSound automaton.now self.now }
+        ensures some { IfSome result (λ yes. IsTrue yes
+            ↔ ((k : ℕ) × FindsBy (half automaton.now) (IsReached automaton.now) text.now k)) }
+        ensures visits { visits.new ≤ visits.old + (length text.now + 1) }
+        ensures counted { visits.old ≤ visits.new }
+    {
+        if automaton.state_count() == 0 {
+            return Some(false);
+        }
+        match self.read_known(automaton, text, visits)? {
+            Reached::Decided => Some(true),
+            Reached::Nothing => Some(false),
+            Reached::Row(place) => self.known_end(automaton, place, visits),
         }
     }
 
@@ -108,7 +235,8 @@ impl Rows {
         ensures some { IsTrue result
             ↔ ((k : ℕ) × (y : List ℕ) × AllBytes y
             × FindsBy (half automaton.now) (IsReached automaton.now) (text.now ++ byte ∷ y) k) }
-        ensures visits { visits.new ≤ visits.old + (length text.now + 2) * size automaton.now }
+        ensures visits { visits.new
+            ≤ visits.old + (length text.now + 2) * (size automaton.now + 1) }
         ensures counted { visits.old ≤ visits.new }
     {
         if automaton.state_count() == 0 {
@@ -129,23 +257,64 @@ impl Rows {
         }
     }
 
+    /// The same as [`Rows::can_match_after`] by entries that are known. Returns `None` if one that it needs is not.
+    pub fn can_match_after_known(
+        &self,
+        automaton: &Nfa,
+        live: &StateSet,
+        text: &[u8],
+        byte: u8,
+        visits: &mut Visits,
+    ) -> Option<bool>
+        requires sound { IsSound automaton.now self.now }
+        requires early { (source : NfaValue) × EndsAtEarlyMatches source automaton.now }
+        requires live { AreLive automaton.now live.now }
+        requires room { size automaton.now ≤ state_capacity live.now }
+        ensures some { IfSome result (λ yes. IsTrue yes
+            ↔ ((k : ℕ) × (y : List ℕ) × AllBytes y
+            × FindsBy (half automaton.now) (IsReached automaton.now) (text.now ++ byte ∷ y) k)) }
+        ensures visits { visits.new
+            ≤ visits.old + (length text.now + 1) + size automaton.now }
+        ensures counted { visits.old ≤ visits.new }
+    {
+        if automaton.state_count() == 0 {
+            return Some(false);
+        }
+        let place = match self.read_known(automaton, text, visits)? {
+            Reached::Decided => return Some(true),
+            Reached::Nothing => return Some(false),
+            Reached::Row(place) => place,
+        };
+        let step = self.known_step(automaton, place, byte, visits)?;
+        if step.has_marks {
+            return Some(true);
+        }
+        match step.next {
+            Some(next) => Some(self.is_live(automaton, next, live, visits)),
+            None => Some(false),
+        }
+    }
+
     /// Reads a text from its beginning, up to the first index that is decided.
-    #[inline(always)]
     fn read(&mut self, automaton: &Nfa, text: &[u8], visits: &mut Visits) -> Reached
         requires sound { IsSound automaton.now self.old }
         requires some { 0 < size automaton.now }
         ensures sound { IsSound automaton.now self.new }
         ensures reached { IsWhere automaton.now self.new text.now result }
-        ensures visits { visits.new ≤ visits.old + length text.now * size automaton.now }
+        ensures visits { visits.new ≤ visits.old + length text.now * (size automaton.now + 1) }
         ensures counted { visits.old ≤ visits.new }
     {
         let mut place = self.start(automaton);
-        for byte in text {
-            if let Some(next) = self.plain_next(automaton, place, *byte, visits) {
-                place = next;
-                continue;
-            }
-            let step = self.step(automaton, place, *byte, visits);
+        let mut rest = text;
+        loop {
+            let left = match self.read_from(automaton, place, rest, visits) {
+                Ok(reached) => return reached,
+                Err(left) => left,
+            };
+            let Some((byte, after)) = rest[left.at..].split_first() else {
+                return Reached::Row(left.place);
+            };
+            let step = self.step(automaton, left.place, *byte, visits);
             if step.has_marks {
                 return Reached::Decided;
             }
@@ -153,13 +322,74 @@ impl Rows {
                 return Reached::Nothing;
             };
             place = next;
+            rest = after;
         }
-        Reached::Row(place)
+    }
+
+    /// Reads a text from its beginning by entries that are known, up to the first index that is decided. Returns `None` if an entry
+    /// is not known.
+    fn read_known(&self, automaton: &Nfa, text: &[u8], visits: &mut Visits) -> Option<Reached>
+        requires { IsSound automaton.now self.now }
+        ensures reached { IfSome result (IsWhere automaton.now self.now text.now) }
+        ensures visits { visits.new ≤ visits.old + length text.now }
+        ensures counted { visits.old ≤ visits.new }
+    {
+        let place = self.known_start(automaton)?;
+        match self.read_from(automaton, place, text, visits) {
+            Ok(reached) => Some(reached),
+            Err(left) => {
+                if left.at < text.len() {
+                    return None;
+                }
+                Some(Reached::Row(left.place))
+            }
+        }
+    }
+
+    /// Reads a text from the row at a place, up to the first index that is decided, or until nothing can follow. Returns an error
+    /// that says where an entry is not known, or where the text ends.
+    #[inline(always)]
+    fn read_from(
+        &self,
+        automaton: &Nfa,
+        place: usize,
+        text: &[u8],
+        visits: &mut Visits,
+    ) -> Result<Reached, Left>
+        requires sound { IsSound automaton.now self.now }
+        requires row { (i : ℕ) × IsAt self.now i place }
+        ensures reached { (i : ℕ) → IsAt self.now i place
+            → MatchResult result (IsWhereFrom automaton.now self.now i text.now)
+            (HasRead automaton.now self.now i text.now) }
+        ensures visits { MatchResult result (λ _. visits.new ≤ visits.old + length text.now)
+            (λ left. visits.new ≤ visits.old + left.at) }
+        ensures counted { visits.old ≤ visits.new }
+    {
+        let mut place = place;
+        let mut at = 0;
+        for byte in text {
+            if let Some(next) = self.plain_next(automaton, place, *byte, visits) {
+                place = next;
+            } else {
+                let Some(step) = self.known_step(automaton, place, *byte, visits) else {
+                    return Err(Left { at, place });
+                };
+                if step.has_marks {
+                    return Ok(Reached::Decided);
+                }
+                let Some(next) = step.next else {
+                    return Ok(Reached::Nothing);
+                };
+                place = next;
+            }
+            at += 1;
+        }
+        Err(Left { at, place })
     }
 
     /// Puts what the ends of a row that was left say is decided into a set, if the row has marks.
     #[inline(always)]
-    fn tell_marks(&self, has_marks: bool, half: usize, found: &mut IndexSet)
+    fn tell(&self, has_marks: bool, half: usize, found: &mut IndexSet)
         requires fits { half + half < 2 ^ 64 }
         requires room { half ≤ index_capacity found.old }
         ensures room { index_capacity found.new ≡ index_capacity found.old }

@@ -24,7 +24,7 @@ has_number_at [] n lt = absurd (omega (arith, lt))
 has_number_at (x ∷ xs) zero lt = or_first (x == x) (has_number x xs) (eq-eqb x x refl)
 has_number_at (x ∷ xs) (suc n) lt = or_second (slice_index xs n == x) (has_number (slice_index xs n) xs) (has_number_at xs n (omega (arith, lt)))
 
-number_place : (t : ℕ) (list : List ℕ) → IsTrue (has_number t list) → (n : ℕ) × (n < length list) × (slice_index list n ≡ t)
+pub number_place : (t : ℕ) (list : List ℕ) → IsTrue (has_number t list) → (n : ℕ) × (n < length list) × (slice_index list n ≡ t)
 number_place t [] at = absurd (true≢false (sym at))
 number_place t (x ∷ xs) at = ⊎_elim {C = (n : ℕ) × (n < length (x ∷ xs)) × (slice_index (x ∷ xs) n ≡ t)}
     (λ same. (0, omega arith, sym (eqb-true t x same)))

@@ -1,7 +1,9 @@
 -- Rows that are added, written and found again.
 use Rattle.std.proofs.Common.{◌≡◌, ◌≢◌, ℕ, ◌+◌, ◌-◌, ◌*◌, ◌<◌, ◌≤◌, ◌⊎◌, ◌||◌, inl, inr, Bool, true, false, true≢false, List, [], ◌∷◌, ◌++◌, Some, None, length, take, drop, replicate, slice_index, slice_set, IsTrue, refl, ap, sym, ◌∙◌, subst, arith, length-append}
-use Rattle.std.specs.Prelude.{◌↔◌, IsFalse, Option, MatchOption, is_some}
-use Rattle.std.proofs.lemmas.Bool.{cases_lt, or_cases}
+use Rattle.std.specs.Prelude.{◌↔◌, ◌==◌, IsFalse, Option, MatchOption, is_some}
+use Rattle.std.specs.Option.{option_eq}
+use Rattle.std.proofs.Math.Bool.{not}
+use Rattle.std.proofs.lemmas.Bool.{cases_lt, eqb-true, or_cases}
 use Rattle.std.proofs.lemmas.Nat.{mul-le}
 use Rattle.std.proofs.lemmas.List.{get_or_append_left, get_or-append_right, get_or-replicate, get_or-set_same, get_or-set_other, take_all, length-set, length-replicate}
 use Rattle.std.proofs.Math.Seq.{get_or-append_seam, drop-append-add}
@@ -473,3 +475,16 @@ none_accepted m set none y k (t, lt, at, h) = true≢false (sym at ∙ none t)
 -- an automaton with no states leads to no end
 pub none_reached : (m : NfaValue) → size m ≡ 0 → (y : List ℕ) (k : ℕ) → IsReached m y k → ⊥
 none_reached m none y k (s, begins, h) = let lt = accepts_within m.states k s y h in absurd (omega (arith, lt, none))
+
+-- there is one row at a place
+pub one_row : (rows : Rows) (i j p : ℕ) → IsAt rows i p → IsAt rows j p → i ≡ j
+one_row rows i j p (lt, is) (lt', is') = (same_place i 0 j 0 rows.class_count (omega arith) (omega arith) (omega (arith, is, is'))).0
+
+-- an option that is told to be no other than some number
+pub same_told : (o : Option ℕ) (p : ℕ) (r : Bool) → r ≡ not (option_eq (λ a b. a == b) o (Some p)) → r ≡ false → o ≡ Some p
+same_told None p r is off = absurd (true≢false (sym is ∙ off))
+same_told (Some q) p r is off = ap Some (eqb-true q p (by_test (q == p) is))
+  where
+    by_test : (b : Bool) → r ≡ not b → IsTrue b
+    by_test true e = refl
+    by_test false e = absurd (true≢false (sym e ∙ off))

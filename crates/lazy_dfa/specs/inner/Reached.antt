@@ -1,14 +1,41 @@
 -- Where a text leads, by the rows of a cache.
-use Rattle.std.specs.Prelude.{ℕ, ◌↔◌, List, ◌++◌}
+use Rattle.std.specs.Prelude.{ℕ, ◌≤◌, ◌⊎◌, ◌↔◌, List, ◌++◌, drop, length, IsTrue}
+use Rattle.bit_sets.specs.Indexes.{has_index}
+use Rattle.bit_sets.specs.declared.index_set.IndexSet.{IndexSet}
 use Rattle.byte_nfa.specs.Steps.{NfaValue, IsReached}
 use Rattle.byte_dfa.specs.inner.Building.{half}
 use Rattle.lazy_dfa.specs.declared.rows.Rows.{Rows}
+use Rattle.lazy_dfa.specs.declared.run.Left.{Left}
 use Rattle.lazy_dfa.specs.declared.run.Reached.{Reached}
 use Rattle.lazy_dfa.specs.declared.run.Reached.TheVariants.{Decided, Nothing, Row}
 use Rattle.lazy_dfa.specs.inner.Rows.{IsAt, AcceptsRow, FindsBy}
 
 -- whatever follows the text: some index is found; or none is; or those are that the row at the place leads to by what follows
+abbrev pub IsWhereBy : NfaValue → Rows → (List ℕ → ℕ → Type 0) → List ℕ → Reached → Type 0
+IsWhereBy m rows P text Decided = (z : List ℕ) → (k : ℕ) × FindsBy (half m) P (text ++ z) k
+IsWhereBy m rows P text Nothing = (z : List ℕ) (k : ℕ) → FindsBy (half m) P (text ++ z) k → ⊥
+IsWhereBy m rows P text (Row p) = (i : ℕ) × IsAt rows i p × ((z : List ℕ) (k : ℕ) → FindsBy (half m) (AcceptsRow m rows i) z k ↔ FindsBy (half m) P (text ++ z) k)
+
+-- from where a run begins
 abbrev pub IsWhere : NfaValue → Rows → List ℕ → Reached → Type 0
-IsWhere m rows text Decided = (z : List ℕ) → (k : ℕ) × FindsBy (half m) (IsReached m) (text ++ z) k
-IsWhere m rows text Nothing = (z : List ℕ) (k : ℕ) → FindsBy (half m) (IsReached m) (text ++ z) k → ⊥
-IsWhere m rows text (Row p) = (i : ℕ) × IsAt rows i p × ((z : List ℕ) (k : ℕ) → FindsBy (half m) (AcceptsRow m rows i) z k ↔ FindsBy (half m) (IsReached m) (text ++ z) k)
+IsWhere m rows = IsWhereBy m rows (IsReached m)
+
+-- from the row of number i
+abbrev pub IsWhereFrom : NfaValue → Rows → ℕ → List ℕ → Reached → Type 0
+IsWhereFrom m rows i = IsWhereBy m rows (AcceptsRow m rows i)
+
+-- the bytes that were read lead from the row of number i to the row at the place
+pub record HasRead (m : NfaValue) (rows : Rows) (i : ℕ) (text : List ℕ) (left : Left) : Type 0 where
+  pub within : left.at ≤ length text
+  pub row : (j : ℕ) × IsAt rows j left.place × ((z : List ℕ) (k : ℕ) → FindsBy (half m) (AcceptsRow m rows j) (drop left.at text ++ z) k ↔ FindsBy (half m) (AcceptsRow m rows i) (text ++ z) k)
+
+-- What is found in the text from the row of number i is what is found in the rest from the row at the place, and what the new set has,
+-- beside what the old one has.
+pub record IsLeft (m : NfaValue) (rows : Rows) (i : ℕ) (text : List ℕ) (old new : IndexSet) (left : Left) : Type 0 where
+  pub within : left.at ≤ length text
+  pub row : (j : ℕ) × IsAt rows j left.place × ((k : ℕ) → (FindsBy (half m) (AcceptsRow m rows j) (drop left.at text) k ⊎ IsTrue (has_index new k)) ↔ (FindsBy (half m) (AcceptsRow m rows i) text k ⊎ IsTrue (has_index old k)))
+
+-- the new set has what the old one has, and nothing else but what is found in the text
+pub record MayHold (m : NfaValue) (text : List ℕ) (old new : IndexSet) : Type 0 where
+  pub kept : (k : ℕ) → IsTrue (has_index old k) → IsTrue (has_index new k)
+  pub sound : (k : ℕ) → IsTrue (has_index new k) → FindsBy (half m) (IsReached m) text k ⊎ IsTrue (has_index old k)

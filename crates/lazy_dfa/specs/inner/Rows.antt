@@ -72,11 +72,24 @@ pub record IsStep (m : NfaValue) (old : Rows) (i b : ℕ) (step : Step) (new : R
 abbrev pub IsPlainStep : NfaValue → Rows → ℕ → ℕ → ℕ → Type 0
 IsPlainStep m rows i b p = (HasMarks m rows i → ⊥) × GoesTo m rows i b rows p
 
+-- the set has what the row of number i has marks of
+abbrev pub HasTold : NfaValue → Rows → ℕ → IndexSet → Type 0
+HasTold m rows i found = (k : ℕ) → k < half m → AcceptsRow m rows i [] (half m + k) → IsTrue (has_index found k)
+
+-- the new set has what the row of number i has marks of, beside what the old one has
+abbrev pub AddsMarks : NfaValue → Rows → ℕ → IndexSet → IndexSet → Type 0
+AddsMarks m rows i old new = (k : ℕ) → IsTrue (has_index new k) ↔ (((k < half m) × AcceptsRow m rows i [] (half m + k)) ⊎ IsTrue (has_index old k))
+
 -- the byte leads from the row of number i to the row at the place p, and the new set has what the row has marks of, beside what the old one
 -- has
 pub record IsMarkedStep (m : NfaValue) (rows : Rows) (i b : ℕ) (old new : IndexSet) (p : ℕ) : Type 0 where
   pub next : GoesTo m rows i b rows p
-  pub told : (k : ℕ) → IsTrue (has_index new k) ↔ (((k < half m) × AcceptsRow m rows i [] (half m + k)) ⊎ IsTrue (has_index old k))
+  pub told : AddsMarks m rows i old new
+
+-- where a byte leads from the row of number i, and whether the row has marks
+pub record IsKnownStep (m : NfaValue) (rows : Rows) (i b : ℕ) (step : Step) : Type 0 where
+  pub next : MatchOption step.next (IsDeadBy m rows i b) (GoesTo m rows i b rows)
+  pub marks : IsTrue step.has_marks ↔ HasMarks m rows i
 
 -- what an entry without marks says of a byte: it is 1 where nothing follows, and otherwise 2 more than the place of a row
 pub record IsNext (m : NfaValue) (rows : Rows) (i b e : ℕ) : Type 0 where
@@ -157,3 +170,7 @@ IsCacheOf source rows = (m : NfaValue) × EndsAtEarlyMatches source m × IsSound
 -- a text leads to an end of the index k, or its beginning to the end that says that k is decided
 abbrev pub FindsBy : ℕ → (List ℕ → ℕ → Type 0) → List ℕ → ℕ → Type 0
 FindsBy n P y k = (k < n) × (P y k ⊎ ((p : List ℕ) × (q : List ℕ) × (y ≡ p ++ q) × P p (n + k)))
+
+-- the new set has what is found in the text from the row of number i, beside what the old one has
+abbrev pub AddsFound : NfaValue → Rows → ℕ → List ℕ → IndexSet → IndexSet → Type 0
+AddsFound m rows i text old new = (k : ℕ) → IsTrue (has_index new k) ↔ (FindsBy (half m) (AcceptsRow m rows i) text k ⊎ IsTrue (has_index old k))

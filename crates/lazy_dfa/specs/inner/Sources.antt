@@ -1,6 +1,10 @@
 -- What a lazy automaton is made of.
-use Rattle.std.specs.Prelude.{◌≤◌}
-use Rattle.byte_nfa.specs.Steps.{NfaValue}
+use Rattle.std.specs.Prelude.{◌≡◌, ℕ, ◌+◌, ◌<◌, ◌≤◌, ◌⊎◌, List, length, slice_index, IsTrue}
+use Rattle.bit_sets.specs.Indexes.{has_index}
+use Rattle.bit_sets.specs.declared.index_set.IndexSet.{IndexSet}
+use Rattle.bit_sets.specs.Numbers.{has_number}
+use Rattle.byte_nfa.specs.Steps.{NfaValue, state, match_state}
+use Rattle.byte_dfa.specs.inner.Building.{half}
 use Rattle.byte_nfa.specs.Live.{AreLive}
 use Rattle.byte_nfa.specs.Runs.{size}
 use Rattle.bit_sets.specs.StateSets.{state_capacity}
@@ -9,11 +13,20 @@ use Rattle.byte_nfa.specs.EarlyMatches.{EndsAtEarlyMatches}
 use Rattle.byte_dfa.specs.declared.classes.ByteClasses.{ByteClasses}
 use Rattle.byte_dfa.specs.inner.Classes.{AreEquivalenceClasses}
 
+-- the list has each index that a state is the end of, or says is decided
+abbrev pub ListsEnds : NfaValue → List ℕ → Type 0
+ListsEnds m list = (s k : ℕ) → s < size m → k < half m → (state m.states s ≡ match_state k) ⊎ (state m.states s ≡ match_state (half m + k)) → IsTrue (has_number k list)
+
+-- the first of the indexes, so many, are in the set
+abbrev pub AreFound : List ℕ → ℕ → IndexSet → Type 0
+AreFound indexes count found = (j : ℕ) → j < count → j < length indexes → IsTrue (has_index found (slice_index indexes j))
+
 -- the source with an end in place of each state that decides an index, and of that the classes of bytes, and the states from which some
 -- bytes lead to an end
-pub record IsMadeOf (source automaton : NfaValue) (classes : ByteClasses) (leading : StateSet) : Type 0 where
+pub record IsMadeOf (source automaton : NfaValue) (classes : ByteClasses) (leading : StateSet) (indexes : List ℕ) : Type 0 where
   pub early : EndsAtEarlyMatches source automaton
   pub few : classes.count ≤ 256
   pub equivalence : AreEquivalenceClasses automaton.states classes.class_of classes.representatives classes.count
   pub live : AreLive automaton leading
   pub room : size automaton ≤ state_capacity leading
+  pub listed : ListsEnds automaton indexes

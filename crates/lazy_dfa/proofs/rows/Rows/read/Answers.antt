@@ -1,15 +1,16 @@
-use Rattle.std.proofs.Common.{◌≡◌, ℕ, ◌+◌, ◌<◌, ◌∷◌, ◌++◌, [], List, inr, true≢false, drop, length, get_or, refl, arith, sym, ◌∙◌}
-use Rattle.std.proofs.lemmas.List.{drop_more, drop_all}
+use Rattle.std.proofs.Common.{◌≡◌, ℕ, ◌+◌, ◌∷◌, ◌++◌, List, [], inr, true≢false, drop, length, refl, ap, arith, sym, ◌∙◌}
+use Rattle.std.proofs.lemmas.List.{length-drop, take_rest}
 use Rattle.byte_nfa.specs.Runs.{size}
 use Rattle.byte_nfa.specs.Steps.{IsReached}
 use Rattle.byte_nfa.proofs.lemmas.Pass.{iff_trans}
 use Rattle.byte_dfa.specs.inner.Building.{half}
 use Rattle.lazy_dfa.specs.inner.Rows.{AcceptsRow}
-use Rattle.lazy_dfa.proofs.lemmas.Finding.{finds_same, at_quiet, at_dead, visits_more, visits_before}
+use Rattle.lazy_dfa.proofs.lemmas.Finding.{finds_same, at_quiet, at_dead, visits_left}
+use Rattle.lazy_dfa.proofs.lemmas.Reading.{read_on}
 use Rattle.lazy_dfa.proofs.rows.Rows.read.Goals as goal
 
-pub loop-byte-init : goal.loop-byte-init
-loop-byte-init c = record {
+pub loop-reached-init : goal.loop-reached-init
+loop-reached-init c = record {
   sound = c.start-place.ensures.sound;
   runs =
       let m = c.args.automaton.now in
@@ -19,96 +20,112 @@ loop-byte-init c = record {
   counted = omega arith;
 }
 
+pub returns-in-Ok-clause-reached : goal.returns-in-Ok-clause-reached
+returns-in-Ok-clause-reached c =
+    let m = c.args.automaton.now in
+    let rows = c.loop-reached.self in
+    let (j, at, runs) = c.loop-reached.invariant.runs in
+    read_on m rows (AcceptsRow m rows j) (IsReached m) c.loop-reached.rest.now c.args.text.now c.in-Ok.reached runs (rw c.in-Ok.is at c.read_from.ensures.reached j at)
+
+pub returns-in_default-clause-reached : goal.returns-in_default-clause-reached
+returns-in_default-clause-reached c =
+    let rest = c.loop-reached.rest.now in
+    let (j, at, runs) = c.loop-reached.invariant.runs in
+    let left = rw c.in-Err.is at c.read_from.ensures.reached j at in
+    let (j', at', finds) = left.row in
+    let n = c.in-Err.left.at in
+    let none = rw c.in_default.is at c.split_first.ensures.cases in
+    let past : drop n rest ≡ [] = no_items (drop n rest) (sym (ap length (take_rest rest n)) ∙ none) in
+    (j', at', λ z k. iff_trans (rw past at finds z k) (runs z k))
+  where
+    no_items : (xs : List ℕ) → length xs ≡ 0 → xs ≡ []
+    no_items [] none = refl
+    no_items (x ∷ xs) none = absurd (omega (arith, none))
+
 pub returns-then-step-clause-reached : goal.returns-then-step-clause-reached
 returns-then-step-clause-reached c = λ z.
-    let m = c.args.automaton.now in
-    let text = c.args.text.now in
-    let l = c.loop-byte in
-    let i = l.byte-index in
-    let lt : i < length text = c.loop-byte-test.true in
-    let b : ℕ = get_or text i 0 in
-    let rest = drop (i + 1) text in
-    let more : drop i text ≡ b ∷ rest = drop_more text i 0 lt in
-    let (j, at, finds) = l.invariant.runs in
-    let step = c.step-step.ensures.step j at in
+    let rest = c.loop-reached.rest.now in
+    let (j, at, runs) = c.loop-reached.invariant.runs in
+    let left = rw c.in-Err.is at c.read_from.ensures.reached j at in
+    let n = c.in-Err.left.at in
+    let b = c.in-Some.byte.now in
+    let after = c.in-Some.after.now in
+    let more : drop n rest ≡ b ∷ after = sym (take_rest rest n) ∙ (rw c.in-Some.is at c.split_first.ensures.cases).0 in
+    let (j', at', finds) = left.row in
+    let step = c.step-step.ensures.step j' at' in
     let (k, low, a) = step.marks.0 c.if-step.true in
-    (k, (rw more at finds z k).0 (low, inr ([], b ∷ rest ++ z, refl, a)))
-
-pub returns-then-step-clause-visits : goal.returns-then-step-clause-visits
-returns-then-step-clause-visits c =
-    let l = c.loop-byte in
-    visits_before c.args.visits.now l.visits c.step-step.new.visits l.byte-index (length c.args.text.now) (size c.args.automaton.now) c.loop-byte-test.true l.invariant.visits (omega (arith, c.step-step.ensures.visits, c.in_default.ensures.visits))
+    (k, (runs z k).0 ((rw more at finds z k).0 (low, inr ([], b ∷ after ++ z, refl, a))))
 
 pub returns-in_default-next-clause-reached : goal.returns-in_default-next-clause-reached
 returns-in_default-next-clause-reached c = λ z k found.
     let m = c.args.automaton.now in
-    let text = c.args.text.now in
-    let l = c.loop-byte in
-    let i = l.byte-index in
-    let lt : i < length text = c.loop-byte-test.true in
-    let b : ℕ = get_or text i 0 in
-    let rest = drop (i + 1) text in
-    let more : drop i text ≡ b ∷ rest = drop_more text i 0 lt in
-    let (j, at, finds) = l.invariant.runs in
-    let step = c.step-step.ensures.step j at in
+    let rows = c.loop-reached.self in
+    let rest = c.loop-reached.rest.now in
+    let (j, at, runs) = c.loop-reached.invariant.runs in
+    let left = rw c.in-Err.is at c.read_from.ensures.reached j at in
+    let n = c.in-Err.left.at in
+    let b = c.in-Some.byte.now in
+    let after = c.in-Some.after.now in
+    let more : drop n rest ≡ b ∷ after = sym (take_rest rest n) ∙ (rw c.in-Some.is at c.split_first.ensures.cases).0 in
+    let (j', at', finds) = left.row in
+    let step = c.step-step.ensures.step j' at' in
     let dead = rw c.in_default-next.is at step.next in
-    let (low, a) = (at_dead (half m) (AcceptsRow m l.self j) b dead (rest ++ z) k).0 ((rw more at finds z k).1 found) in
+    let (low, a) = (at_dead (half m) (AcceptsRow m rows j') b dead (after ++ z) k).0 ((rw more at finds z k).1 ((runs z k).1 found)) in
     true≢false (sym (step.marks.1 (k, low, a)) ∙ c.if-step.false)
+
+pub returns-then-step-clause-visits : goal.returns-then-step-clause-visits
+returns-then-step-clause-visits c =
+    let m = c.args.automaton.now in
+    let inv = c.loop-reached.invariant in
+    let rest = c.loop-reached.rest.now in
+    let (j, at, runs) = inv.runs in
+    let left = rw c.in-Err.is at c.read_from.ensures.reached j at in
+    let n = c.in-Err.left.at in
+    let after = c.in-Some.after.now in
+    let more = sym (take_rest rest n) ∙ (rw c.in-Some.is at c.split_first.ensures.cases).0 in
+    let whole : length rest ≡ length after + n + 1 = omega (arith, length-drop n rest, ap length more, left.within) in
+    let h = visits_left (length after) n (size m + 1) c.loop-reached.visits c.read_from.new.visits c.step-step.new.visits _ (omega arith) c.in-Err.ensures.visits (omega (arith, c.step-step.ensures.visits)) (rw whole at inv.visits) in
+    omega (arith, h)
 
 pub returns-in_default-next-clause-visits : goal.returns-in_default-next-clause-visits
 returns-in_default-next-clause-visits c =
-    let l = c.loop-byte in
-    visits_before c.args.visits.now l.visits c.step-step.new.visits l.byte-index (length c.args.text.now) (size c.args.automaton.now) c.loop-byte-test.true l.invariant.visits (omega (arith, c.step-step.ensures.visits, c.in_default.ensures.visits))
-
-pub loop-byte-preserved-in-Some : goal.loop-byte-preserved-in-Some
-loop-byte-preserved-in-Some c =
     let m = c.args.automaton.now in
-    let text = c.args.text.now in
-    let l = c.loop-byte in
-    let inv = l.invariant in
-    let i = l.byte-index in
-    let lt : i < length text = c.loop-byte-test.true in
-    let b : ℕ = get_or text i 0 in
-    let rest = drop (i + 1) text in
-    let more : drop i text ≡ b ∷ rest = drop_more text i 0 lt in
-    let (j, at, finds) = inv.runs in
-    let (quiet, (n, there, goes)) = rw c.in-Some.is at c.plain_next.ensures.next j at in
-    let next = (λ (z : List ℕ) (k : ℕ). at_quiet (half m) (AcceptsRow m l.self j) (AcceptsRow m l.self n) b goes (λ d low a. quiet (d, low, a)) (rest ++ z) k) in
-    record {
-      sound = inv.sound;
-      runs = (n, there, λ z k. iff_trans (next z k) (rw more at finds z k));
-      visits = visits_more c.args.visits.now l.visits c.plain_next.new.visits i (size m) inv.visits (omega (arith, c.in-Some.ensures.visits, c.requires.some));
-      counted = omega (arith, c.in-Some.ensures.visits, inv.counted);
-    }
+    let inv = c.loop-reached.invariant in
+    let rest = c.loop-reached.rest.now in
+    let (j, at, runs) = inv.runs in
+    let left = rw c.in-Err.is at c.read_from.ensures.reached j at in
+    let n = c.in-Err.left.at in
+    let after = c.in-Some.after.now in
+    let more = sym (take_rest rest n) ∙ (rw c.in-Some.is at c.split_first.ensures.cases).0 in
+    let whole : length rest ≡ length after + n + 1 = omega (arith, length-drop n rest, ap length more, left.within) in
+    let h = visits_left (length after) n (size m + 1) c.loop-reached.visits c.read_from.new.visits c.step-step.new.visits _ (omega arith) c.in-Err.ensures.visits (omega (arith, c.step-step.ensures.visits)) (rw whole at inv.visits) in
+    omega (arith, h)
 
-pub loop-byte-preserved : goal.loop-byte-preserved
-loop-byte-preserved c =
+pub loop-reached-preserved : goal.loop-reached-preserved
+loop-reached-preserved c =
     let m = c.args.automaton.now in
-    let text = c.args.text.now in
-    let l = c.loop-byte in
-    let i = l.byte-index in
-    let lt : i < length text = c.loop-byte-test.true in
-    let b : ℕ = get_or text i 0 in
-    let rest = drop (i + 1) text in
-    let more : drop i text ≡ b ∷ rest = drop_more text i 0 lt in
-    let (n, at, finds) = l.invariant.runs in
-    let step = c.step-step.ensures.step n at in
+    let rows = c.loop-reached.self in
+    let inv = c.loop-reached.invariant in
+    let rest = c.loop-reached.rest.now in
+    let (j, at, runs) = inv.runs in
+    let left = rw c.in-Err.is at c.read_from.ensures.reached j at in
+    let n = c.in-Err.left.at in
+    let b = c.in-Some.byte.now in
+    let after = c.in-Some.after.now in
+    let more : drop n rest ≡ b ∷ after = sym (take_rest rest n) ∙ (rw c.in-Some.is at c.split_first.ensures.cases).0 in
+    let whole : length rest ≡ length after + n + 1 = omega (arith, length-drop n rest, ap length more, left.within) in
+    let (j', at', finds) = left.row in
+    let step = c.step-step.ensures.step j' at' in
     let (next, there, goes) = rw c.in-Some-next.is at step.next in
+    let w = size m + 1 in
     record {
       sound = c.step-step.ensures.sound;
       runs = (
         next,
         there,
-        λ z k. iff_trans (at_quiet (half m) (AcceptsRow m l.self n) (AcceptsRow m c.step-step.new.self next) b goes
-            (λ j low a. true≢false (sym (step.marks.1 (j, low, a)) ∙ c.if-step.false)) (rest ++ z) k) (rw more at finds z k),
+        λ z k. iff_trans (iff_trans (at_quiet (half m) (AcceptsRow m rows j') (AcceptsRow m c.step-step.new.self next) b goes
+            (λ d low a. true≢false (sym (step.marks.1 (d, low, a)) ∙ c.if-step.false)) (after ++ z) k) (rw more at finds z k)) (runs z k),
       );
-      visits = visits_more c.args.visits.now l.visits c.step-step.new.visits i (size m) l.invariant.visits (omega (arith, c.step-step.ensures.visits, c.in_default.ensures.visits));
-      counted = omega (arith, c.step-step.ensures.counted, c.in_default.ensures.visits, l.invariant.counted);
+      visits = visits_left (length after) n w c.loop-reached.visits c.read_from.new.visits c.step-step.new.visits _ (omega arith) c.in-Err.ensures.visits (omega (arith, c.step-step.ensures.visits)) (rw whole at inv.visits);
+      counted = omega (arith, inv.counted, c.read_from.ensures.counted, c.step-step.ensures.counted);
     }
-
-pub returns-clause-reached : goal.returns-clause-reached
-returns-clause-reached c =
-    let l = c.loop-byte in
-    let past : drop l.byte-index c.args.text.now ≡ [] = drop_all l.byte-index c.args.text.now c.loop-byte-test.false in
-    let (j, at, finds) = l.invariant.runs in
-    (j, at, λ z k. rw past at finds z k)

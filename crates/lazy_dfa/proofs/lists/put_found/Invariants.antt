@@ -1,0 +1,14 @@
+use Rattle.std.proofs.Common.{◌≡◌, ℕ, ◌+◌, ◌<◌, ◌⊎◌, IsTrue, take}
+use Rattle.std.specs.Prelude.{◌↔◌}
+use Rattle.bit_sets.specs.Indexes.{has_index, index_capacity}
+use Rattle.bit_sets.specs.Numbers.{has_number}
+use Rattle.byte_dfa.specs.inner.Lists.{list_at}
+use Rattle.lazy_dfa.proofs.lists.put_found.Given as goal
+
+abbrev pub invariant-loop-index : goal.invariant-loop-index
+invariant-loop-index l =
+    let before = take l.index-index (list_at l.numbers l.place) in
+    record {
+      room : index_capacity l.into ≡ index_capacity l.fn.into;
+      has : (k : ℕ) → IsTrue (has_index l.into k) ↔ (((k < l.half) × (IsTrue (has_number k before) ⊎ IsTrue (has_number (l.half + k) before))) ⊎ IsTrue (has_index l.fn.into k));
+    }

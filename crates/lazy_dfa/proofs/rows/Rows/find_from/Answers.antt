@@ -1,0 +1,170 @@
+use Rattle.std.proofs.Common.{◌≡◌, ℕ, ◌+◌, ◌<◌, ◌⊎◌, ◌∷◌, [], inl, inr, IsTrue, drop, length, get_or, refl, subst, arith, ◌∙◌}
+use Rattle.std.specs.Prelude.{◌↔◌}
+use Rattle.std.proofs.lemmas.List.{drop_more, drop_all}
+use Rattle.std.proofs.Math.Logic.{⊎_elim}
+use Rattle.bit_sets.specs.Indexes.{has_index}
+use Rattle.byte_nfa.proofs.lemmas.Pass.{iff_trans}
+use Rattle.byte_dfa.specs.inner.Building.{half}
+use Rattle.byte_dfa.proofs.lemmas.Found.{iff_sym}
+use Rattle.lazy_dfa.specs.inner.Rows.{AcceptsRow, FindsBy, IsAt}
+use Rattle.lazy_dfa.proofs.lemmas.Ends.{all_found, found_listed}
+use Rattle.lazy_dfa.proofs.lemmas.Finding.{iff_beside, at_quiet, at_dead, told_found}
+use Rattle.lazy_dfa.proofs.lemmas.Rows.{one_row}
+use Rattle.lazy_dfa.proofs.rows.Rows.find_from.Goals as goal
+use Rattle.lazy_dfa.proofs.rows.Rows.find_from.Goals.{in-Some, in_default+in-Some-marked_next+then-ne+else-count-indexes, in_default+in-Some-marked_next+else-ne}
+
+pub loop-byte-init : goal.loop-byte-init
+loop-byte-init c =
+    let m = c.args.automaton.now in
+    let rows = c.args.self.now in
+    let (j, at) = c.requires.row in
+    record {
+      at = refl;
+      room = refl;
+      kept = λ k h. h;
+      runs = (
+        j,
+        at,
+        λ i at' k. subst (λ r. (FindsBy (half m) (AcceptsRow m rows j) c.args.text.now k ⊎ IsTrue (has_index c.args.found.now k)) ↔ (FindsBy (half m) (AcceptsRow m rows r) c.args.text.now k ⊎ IsTrue (has_index c.args.found.now k)))
+            (one_row rows j i c.args.place at at') (λ h. h, λ h. h),
+      );
+      told = λ p is. absurd cc;
+      count = λ j' lt lt'. absurd (omega (arith, lt));
+      visits = omega arith;
+      counted = omega arith;
+    }
+
+pub marked_next-requires-clause-told : goal.marked_next-requires-clause-told
+marked_next-requires-clause-told c = λ is i at. c.loop-byte.invariant.told c.loop-byte.place is i at
+
+pub returns-then-count-indexes-clause-found : goal.returns-then-count-indexes-clause-found
+returns-then-count-indexes-clause-found c = λ i at k.
+    let m = c.args.automaton.now in
+    let rows = c.args.self.now in
+    let text = c.args.text.now in
+    let l = c.loop-byte in
+    let inv = l.invariant in
+    let n = l.byte-index in
+    let lt : n < length text = c.loop-byte-test.true in
+    let b : ℕ = get_or text n 0 in
+    let rest = drop (n + 1) text in
+    let more : drop n text ≡ b ∷ rest = drop_more text n 0 lt in
+    let (j, there, runs) = inv.runs in
+    let marked = rw c.in-Some-marked_next.is at c.marked_next.ensures.next j there in
+    let (next, there', goes) = marked.next in
+    let so_far = told_found (half m) (AcceptsRow m rows j) (AcceptsRow m rows next) b goes rest k (has_index l.found k) (has_index c.marked_next.new.found k) _ (marked.told k) (rw more at runs i at k) in (
+      λ h. so_far.0 (inr h),
+      ⊎_elim {C = IsTrue (has_index c.marked_next.new.found k)}
+          (λ f. all_found c.args.indexes.now c.found_count-count.result c.marked_next.new.found c.found_count-count.ensures c.if-count-indexes.true k (found_listed m rows i c.args.indexes.now c.requires.listed text k f))
+          (λ old. (marked.told k).1 (inr (inv.kept k old))),
+    )
+
+pub returns-then-is_known_dead-clause-found : goal.returns-then-is_known_dead-clause-found
+returns-then-is_known_dead-clause-found c = λ i at k.
+    let m = c.args.automaton.now in
+    let rows = c.args.self.now in
+    let text = c.args.text.now in
+    let l = c.loop-byte in
+    let n = l.byte-index in
+    let lt : n < length text = c.loop-byte-test.true in
+    let b : ℕ = get_or text n 0 in
+    let rest = drop (n + 1) text in
+    let more : drop n text ≡ b ∷ rest = drop_more text n 0 lt in
+    let (j, there, runs) = l.invariant.runs in
+    let quiet = c.in_default-marked_next.ensures.next j there in
+    let (dead, adds) = rw quiet at c.is_known_dead.ensures.dead j there c.if-is_known_dead.true in
+    iff_trans (adds k) (iff_trans (iff_beside (iff_sym (at_dead (half m) (AcceptsRow m rows j) b dead rest k))) (rw more at runs i at k))
+
+pub returns-else-is_known_dead-clause-found : goal.returns-else-is_known_dead-clause-found
+returns-else-is_known_dead-clause-found c = λ i at.
+    let inv = c.loop-byte.invariant in
+    let (j, there, runs) = inv.runs in
+    let quiet = c.in_default-marked_next.ensures.next j there in
+    let (same, _) = c.is_known_dead.ensures.none c.if-is_known_dead.false in
+    record {
+      within = omega (arith, inv.at, c.loop-byte-test.true);
+      row = (j, there, rw (inv.at, same, quiet) (runs i at));
+    }
+
+pub loop-byte-preserved : goal.loop-byte-preserved
+loop-byte-preserved c =
+    let m = c.args.automaton.now in
+    let rows = c.args.self.now in
+    let text = c.args.text.now in
+    let l = c.loop-byte in
+    let inv = l.invariant in
+    let n = l.byte-index in
+    let lt : n < length text = c.loop-byte-test.true in
+    let b : ℕ = get_or text n 0 in
+    let rest = drop (n + 1) text in
+    let more : drop n text ≡ b ∷ rest = drop_more text n 0 lt in
+    let (j, there, runs) = inv.runs in
+    elim c.match-plain_next.branch [
+      | in-Some w ↦
+          let (quiet, (next, there', goes)) = rw w.in-Some.is at c.plain_next.ensures.next j there in
+          rw (w.found-is, w.place-is, w.told-is, w.count-is, w.visits-is) record {
+            at = omega (arith, inv.at);
+            room = inv.room;
+            kept = inv.kept;
+            runs = (next, there', λ i at k. iff_trans (iff_beside (at_quiet (half m) (AcceptsRow m rows j) (AcceptsRow m rows next) b goes (λ d low a. quiet (d, low, a)) rest k)) (rw more at runs i at k));
+            told = inv.told;
+            count = inv.count;
+            visits = omega (arith, w.in-Some.ensures.visits, inv.visits);
+            counted = omega (arith, w.in-Some.ensures.visits, inv.counted);
+          }
+      | in_default+in-Some-marked_next+then-ne+else-count-indexes w ↦
+          let marked = rw w.in-Some-marked_next.is at w.marked_next.ensures.next j there in
+          let (next, there', goes) = marked.next in
+          rw (w.found-is, w.place-is, w.told-is, w.count-is, w.visits-is) record {
+            at = omega (arith, inv.at);
+            room = w.marked_next.ensures.room ∙ inv.room;
+            kept = λ k h. (marked.told k).1 (inr (inv.kept k h));
+            runs = (
+              next,
+              there',
+              λ i at k. told_found (half m) (AcceptsRow m rows j) (AcceptsRow m rows next) b goes rest k (has_index l.found k) (has_index w.marked_next.new.found k) _ (marked.told k) (rw more at runs i at k),
+            );
+            told = λ p is j' at' k low a.
+                let same : p ≡ l.place = cc in
+                ((rw w.in-Some-marked_next.is at w.marked_next.ensures.next j' (subst (IsAt rows j') same at')).told k).1 (inl (low, a));
+            count = w.found_count-count.ensures;
+            visits = omega (arith, w.in-Some-marked_next.ensures.visits, w.in_default.ensures.visits, inv.visits);
+            counted = omega (arith, w.in-Some-marked_next.ensures.visits, w.in_default.ensures.visits, inv.counted);
+          }
+      | in_default+in-Some-marked_next+else-ne w ↦
+          let marked = rw w.in-Some-marked_next.is at w.marked_next.ensures.next j there in
+          let (next, there', goes) = marked.next in
+          rw (w.found-is, w.place-is, w.told-is, w.count-is, w.visits-is) record {
+            at = omega (arith, inv.at);
+            room = w.marked_next.ensures.room ∙ inv.room;
+            kept = λ k h. (marked.told k).1 (inr (inv.kept k h));
+            runs = (
+              next,
+              there',
+              λ i at k. told_found (half m) (AcceptsRow m rows j) (AcceptsRow m rows next) b goes rest k (has_index l.found k) (has_index w.marked_next.new.found k) _ (marked.told k) (rw more at runs i at k),
+            );
+            told = λ p is j' at' k low a.
+                let same : p ≡ l.place = cc in
+                ((rw w.in-Some-marked_next.is at w.marked_next.ensures.next j' (subst (IsAt rows j') same at')).told k).1 (inl (low, a));
+            count = λ d lt' lt''. (marked.told _).1 (inr (inv.count d lt' lt''));
+            visits = omega (arith, w.in-Some-marked_next.ensures.visits, w.in_default.ensures.visits, inv.visits);
+            counted = omega (arith, w.in-Some-marked_next.ensures.visits, w.in_default.ensures.visits, inv.counted);
+          }
+    ]
+
+pub returns-then-tell_known_end-clause-found : goal.returns-then-tell_known_end-clause-found
+returns-then-tell_known_end-clause-found c = λ i at k.
+    let l = c.loop-byte in
+    let past : drop l.byte-index c.args.text.now ≡ [] = drop_all l.byte-index c.args.text.now c.loop-byte-test.false in
+    let (j, there, runs) = l.invariant.runs in
+    iff_trans (c.tell_known_end.ensures.found j there c.if-tell_known_end.true k) (rw past at runs i at k)
+
+pub returns-clause-found : goal.returns-clause-found
+returns-clause-found c = λ i at.
+    let inv = c.loop-byte.invariant in
+    let (j, there, runs) = inv.runs in
+    let (same, _) = c.tell_known_end.ensures.none c.if-tell_known_end.false in
+    record {
+      within = omega (arith, inv.at, c.loop-byte.auto.byte-index-end);
+      row = (j, there, rw (inv.at, same) (runs i at));
+    }

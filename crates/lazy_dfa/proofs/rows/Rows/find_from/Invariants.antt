@@ -1,0 +1,21 @@
+use Rattle.std.proofs.Common.{◌≡◌, ℕ, ◌+◌, ◌≤◌, ◌⊎◌, Some, drop, IsTrue}
+use Rattle.std.specs.Prelude.{◌↔◌}
+use Rattle.bit_sets.specs.Indexes.{has_index, index_capacity}
+use Rattle.byte_dfa.specs.inner.Building.{half}
+use Rattle.lazy_dfa.specs.inner.Rows.{IsAt, AcceptsRow, FindsBy, HasTold}
+use Rattle.lazy_dfa.specs.inner.Sources.{AreFound}
+use Rattle.lazy_dfa.proofs.rows.Rows.find_from.Given as goal
+
+abbrev pub invariant-loop-byte : goal.invariant-loop-byte
+invariant-loop-byte l =
+    let m = l.automaton in
+    record {
+      at : l.at ≡ l.byte-index;
+      room : index_capacity l.found ≡ index_capacity l.fn.found;
+      kept : (k : ℕ) → IsTrue (has_index l.fn.found k) → IsTrue (has_index l.found k);
+      runs : (j : ℕ) × IsAt l.self j l.place × ((i : ℕ) → IsAt l.self i l.fn.place → (k : ℕ) → (FindsBy (half m) (AcceptsRow m l.self j) (drop l.byte-index l.text) k ⊎ IsTrue (has_index l.found k)) ↔ (FindsBy (half m) (AcceptsRow m l.self i) l.text k ⊎ IsTrue (has_index l.fn.found k)));
+      told : (p : ℕ) → l.told ≡ Some p → (j : ℕ) → IsAt l.self j p → HasTold m l.self j l.found;
+      count : AreFound l.indexes l.count l.found;
+      visits : l.visits ≤ l.fn.visits + l.byte-index;
+      counted : l.fn.visits ≤ l.visits;
+    }

@@ -1,0 +1,219 @@
+//! Entries that are known. What they say is read through a shared reference.
+
+ghost use Rattle.std.specs.Prelude.{◌≡◌, ℕ, ◌+◌, ◌*◌, ◌<◌, ◌≤◌, ◌⊎◌, ◌↔◌, [], Some, IsTrue, IsFalse, IfSome, MatchOption, length};
+ghost use Rattle.bit_sets.specs.Indexes.{has_index, index_capacity};
+ghost use Rattle.byte_dfa.specs.inner.Building.{half};
+ghost use Rattle.lazy_dfa.specs.inner.Rows.{AcceptsRow, AddsFound, AddsMarks, HasTold, IsDeadBy, IsSound, BeginsAt, IsAt, IsKnownStep, IsPlainStep, IsMarkedStep};
+
+use super::{DEAD, FIRST, MARKED, Rows, Step, UNKNOWN, entry_at, next_of};
+use crate::lists::{put_found, put_marks};
+use bit_sets::{IndexSet, Visits};
+use byte_nfa::Nfa;
+
+impl Rows {
+    /// Returns the place of the row that a run begins in, if it is made.
+    pub fn known_start(&self, automaton: &Nfa) -> Option<usize>
+        requires { IsSound automaton.now self.now }
+        ensures { IfSome result (BeginsAt automaton.now self.now) }
+    {
+        let _automaton = automaton;
+        self.begin
+    }
+
+    /// Returns the place of the row that a byte leads to from the row at a place, if that is known and the row has no marks, which is
+    /// one visit.
+    #[inline(always)]
+    pub fn plain_next(
+        &self,
+        automaton: &Nfa,
+        place: usize,
+        byte: u8,
+        visits: &mut Visits,
+    ) -> Option<usize>
+        requires sound { IsSound automaton.now self.now }
+        requires row { (i : ℕ) × IsAt self.now i place }
+        ensures next { (i : ℕ) → IsAt self.now i place
+            → IfSome result (IsPlainStep automaton.now self.now i byte) }
+        ensures visits { MatchOption result (visits.new ≡ visits.old)
+            (λ _. visits.new ≡ visits.old + 1) }
+    {
+        let _automaton = automaton;
+        let entry = entry_at(&self.entries, place, self.class_of[byte as usize] as usize);
+        if entry >= FIRST && entry < MARKED {
+            visits.tick();
+            Some((entry - FIRST) as usize)
+        } else {
+            None
+        }
+    }
+
+    /// Returns the place of the row that a byte leads to from the row at a place, if the row has marks, and these and the place are
+    /// known, which is one visit. Its marks are in the set then: they are put into it, unless the row is the one whose marks were told
+    /// last.
+    pub fn marked_next(
+        &self,
+        automaton: &Nfa,
+        place: usize,
+        byte: u8,
+        told: Option<usize>,
+        found: &mut IndexSet,
+        visits: &mut Visits,
+    ) -> Option<usize>
+        requires sound { IsSound automaton.now self.now }
+        requires row { (i : ℕ) × IsAt self.now i place }
+        requires room { half automaton.now ≤ index_capacity found.old }
+        requires told { told ≡ Some place
+            → (i : ℕ) → IsAt self.now i place → HasTold automaton.now self.now i found.old }
+        ensures room { index_capacity found.new ≡ index_capacity found.old }
+        ensures next { (i : ℕ) → IsAt self.now i place
+            → MatchOption result (found.new ≡ found.old)
+            (IsMarkedStep automaton.now self.now i byte found.old found.new) }
+        ensures visits { MatchOption result (visits.new ≡ visits.old)
+            (λ _. visits.new ≡ visits.old + 1) }
+    {
+        let entry = entry_at(&self.entries, place, self.class_of[byte as usize] as usize);
+        if entry < MARKED + FIRST {
+            return None;
+        }
+        if told != Some(place) && !self.tell_marks(automaton, place, found) {
+            return None;
+        }
+        visits.tick();
+        Some((entry - MARKED - FIRST) as usize)
+    }
+
+    /// Puts what the row at a place has marks of into a set, if the list of what it leads to without a byte is there. Returns whether
+    /// it is.
+    fn tell_marks(&self, automaton: &Nfa, place: usize, found: &mut IndexSet) -> bool
+        requires sound { IsSound automaton.now self.now }
+        requires row { (i : ℕ) × IsAt self.now i place }
+        requires room { half automaton.now ≤ index_capacity found.old }
+        ensures room { index_capacity found.new ≡ index_capacity found.old }
+        ensures told { (i : ℕ) → IsAt self.now i place → IsTrue result
+            → AddsMarks automaton.now self.now i found.old found.new }
+        ensures none { IsFalse result → found.new ≡ found.old }
+    {
+        let end = entry_at(&self.entries, place, self.class_count);
+        if end < FIRST {
+            return false;
+        }
+        let half = automaton.index_count() / 2;
+        put_marks(&self.lists, (end - FIRST) as usize, half, found);
+        true
+    }
+
+    /// Returns whether it is known that a byte leads to no end from the row at a place, which is one visit. What the row has marks of
+    /// is put into a set then.
+    pub fn is_known_dead(
+        &self,
+        automaton: &Nfa,
+        place: usize,
+        byte: u8,
+        found: &mut IndexSet,
+        visits: &mut Visits,
+    ) -> bool
+        requires sound { IsSound automaton.now self.now }
+        requires row { (i : ℕ) × IsAt self.now i place }
+        requires room { half automaton.now ≤ index_capacity found.old }
+        ensures room { index_capacity found.new ≡ index_capacity found.old }
+        ensures dead { (i : ℕ) → IsAt self.now i place → IsTrue result
+            → IsDeadBy automaton.now self.now i byte
+            × AddsMarks automaton.now self.now i found.old found.new }
+        ensures none { IsFalse result → (found.new ≡ found.old) × (visits.new ≡ visits.old) }
+        ensures visits { visits.new ≤ visits.old + 1 }
+        ensures counted { visits.old ≤ visits.new }
+    {
+        let entry = entry_at(&self.entries, place, self.class_of[byte as usize] as usize);
+        let is_dead = entry == DEAD
+            || (entry == MARKED + DEAD && self.tell_marks(automaton, place, found));
+        if is_dead {
+            visits.tick();
+        }
+        is_dead
+    }
+
+    /// Returns where a byte leads from the row at a place, if that is known, which is one visit.
+    #[inline(always)]
+    pub fn known_step(
+        &self,
+        automaton: &Nfa,
+        place: usize,
+        byte: u8,
+        visits: &mut Visits,
+    ) -> Option<Step>
+        requires sound { IsSound automaton.now self.now }
+        requires row { (i : ℕ) × IsAt self.now i place }
+        ensures step { (i : ℕ) → IsAt self.now i place
+            → IfSome result (IsKnownStep automaton.now self.now i byte) }
+        ensures visits { MatchOption result (visits.new ≡ visits.old)
+            (λ _. visits.new ≡ visits.old + 1) }
+    {
+        let _automaton = automaton;
+        let entry = entry_at(&self.entries, place, self.class_of[byte as usize] as usize);
+        if entry == UNKNOWN {
+            return None;
+        }
+        visits.tick();
+        if entry < MARKED {
+            return Some(Step {
+                next: next_of(entry),
+                has_marks: false,
+            });
+        }
+        Some(Step {
+            next: next_of(entry - MARKED),
+            has_marks: true,
+        })
+    }
+
+    /// Returns whether the row at a place leads to some end without a byte, if that is known, which is one visit.
+    pub fn known_end(&self, automaton: &Nfa, place: usize, visits: &mut Visits) -> Option<bool>
+        requires sound { IsSound automaton.now self.now }
+        requires row { (i : ℕ) × IsAt self.now i place }
+        ensures some { (i : ℕ) → IsAt self.now i place
+            → IfSome result (λ yes. IsTrue yes
+            ↔ ((k : ℕ) × (k < half automaton.now + half automaton.now)
+            × AcceptsRow automaton.now self.now i [] k)) }
+        ensures visits { visits.new ≤ visits.old + 1 }
+        ensures counted { visits.old ≤ visits.new }
+    {
+        let _automaton = automaton;
+        let end = entry_at(&self.entries, place, self.class_count);
+        if end == UNKNOWN {
+            return None;
+        }
+        visits.tick();
+        Some(end >= FIRST)
+    }
+
+    /// Returns whether it is known to which ends the row at a place leads without a byte, which is one visit. What is found at the end
+    /// of a text is put into a set then.
+    pub fn tell_known_end(
+        &self,
+        automaton: &Nfa,
+        place: usize,
+        found: &mut IndexSet,
+        visits: &mut Visits,
+    ) -> bool
+        requires sound { IsSound automaton.now self.now }
+        requires row { (i : ℕ) × IsAt self.now i place }
+        requires room { half automaton.now ≤ index_capacity found.old }
+        ensures room { index_capacity found.new ≡ index_capacity found.old }
+        ensures found { (i : ℕ) → IsAt self.now i place → IsTrue result
+            → AddsFound automaton.now self.now i [] found.old found.new }
+        ensures none { IsFalse result → (found.new ≡ found.old) × (visits.new ≡ visits.old) }
+        ensures visits { visits.new ≤ visits.old + 1 }
+        ensures counted { visits.old ≤ visits.new }
+    {
+        let end = entry_at(&self.entries, place, self.class_count);
+        if end == UNKNOWN {
+            return false;
+        }
+        visits.tick();
+        if end >= FIRST {
+            let half = automaton.index_count() / 2;
+            put_found(&self.lists, (end - FIRST) as usize, half, found);
+        }
+        true
+    }
+}
