@@ -1,3 +1,2 @@
 -- Lemmas by topic.
-pub mod Numbers
 pub mod Shared

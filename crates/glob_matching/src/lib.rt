@@ -8,6 +8,7 @@
 mod budget;
 mod compiled;
 mod kept;
+mod published;
 mod row_cache;
 mod rows;
 mod scratch;

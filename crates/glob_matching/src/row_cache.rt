@@ -1,13 +1,13 @@
 //! Rows that are made as texts need them, in a memory of fixed size.
 
-ghost use Rattle.std.specs.Prelude.{◌≡◌, ◌+◌, ◌*◌, ◌≤◌, ◌↔◌, ◌++◌, ◌∷◌, [], ℕ, length, IsTrue, IfOk};
+ghost use Rattle.std.specs.Prelude.{◌≡◌, ◌+◌, ◌*◌, ◌≤◌, ◌↔◌, ◌++◌, ◌∷◌, [], ℕ, None, length, IsTrue, IfOk, IfSome};
 ghost use Rattle.std.specs.Arc.{arc_value};
 ghost use Rattle.bit_sets.specs.Indexes.{index_capacity};
 ghost use Rattle.byte_nfa.specs.Live.{MatchesAfter};
 ghost use Rattle.byte_nfa.specs.Runs.{size};
 ghost use Rattle.byte_nfa.specs.Steps.{IsReached};
 ghost use Rattle.nfa_sharing.specs.Sharing.{Shares};
-ghost use Rattle.glob_matching.specs.inner.Found.{AddsReached};
+ghost use Rattle.glob_matching.specs.inner.Found.{AddsReached, AddsSome};
 
 use bit_sets::{IndexSet, Visits};
 use byte_nfa::Nfa;
@@ -88,6 +88,21 @@ impl RowCache {
         self.cache.find(&self.dfa, text, found, visits);
     }
 
+    /// The same as [`RowCache::find`] by entries that are known. Returns whether they are all known that it needs; if not, some of
+    /// the indexes may be in the set.
+    ///
+    /// It is at most one visit for each byte of the text, and one.
+    pub(crate) fn find_known(&self, text: &[u8], found: &mut IndexSet, visits: &mut Visits) -> bool
+        requires { self.now.index_count ≤ index_capacity found.old }
+        ensures room { index_capacity found.new ≡ index_capacity found.old }
+        ensures found { IsTrue result → AddsReached self.now text.now found.old found.new }
+        ensures some { AddsSome self.now text.now found.old found.new }
+        ensures visits { visits.new ≤ visits.old + (length text.now + 1) }
+        ensures counted { visits.old ≤ visits.new }
+    {
+        self.cache.find_known(&self.dfa, text, found, visits)
+    }
+
     /// Returns whether a text leads to some end.
     ///
     /// It is at most `(text bytes + 1) * (states + 1)` visits. It takes no memory.
@@ -100,6 +115,18 @@ impl RowCache {
         self.cache.is_match(&self.dfa, text, visits)
     }
 
+    /// The same as [`RowCache::is_match`] by entries that are known. Returns `None` if one that it needs is not.
+    ///
+    /// It is at most one visit for each byte of the text, and one.
+    pub(crate) fn is_match_known(&self, text: &[u8], visits: &mut Visits) -> Option<bool>
+        ensures some { IfSome result
+            (λ yes. IsTrue yes ↔ ((k : ℕ) × IsReached self.now text.now k)) }
+        ensures visits { visits.new ≤ visits.old + (length text.now + 1) }
+        ensures counted { visits.old ≤ visits.new }
+    {
+        self.cache.is_match_known(&self.dfa, text, visits)
+    }
+
     /// Returns whether some text that begins with `text` and then `byte` leads to some end.
     ///
     /// It is at most `(text bytes + 2) * (states + 1)` visits. It takes no memory.
@@ -110,5 +137,23 @@ impl RowCache {
         ensures counted { visits.old ≤ visits.new }
     {
         self.cache.can_match_after(&self.dfa, text, byte, visits)
+    }
+
+    /// The same as [`RowCache::can_match_after`] by entries that are known. Returns `None` if one that it needs is not.
+    ///
+    /// It is at most one visit for each byte of the text, and one, and then one for each state.
+    pub(crate) fn can_match_after_known(
+        &self,
+        text: &[u8],
+        byte: u8,
+        visits: &mut Visits,
+    ) -> Option<bool>
+        ensures some { IfSome result
+            (λ yes. IsTrue yes ↔ MatchesAfter self.now (text.now ++ byte ∷ [])) }
+        ensures missed { result ≡ None → visits.new ≤ visits.old + (length text.now + 1) }
+        ensures visits { visits.new ≤ visits.old + (length text.now + 1) + size self.now }
+        ensures counted { visits.old ≤ visits.new }
+    {
+        self.cache.can_match_after_known(&self.dfa, text, byte, visits)
     }
 }

@@ -112,7 +112,7 @@ impl RowSource {
             return;
         }
         if let Some(kept) = self.make() {
-            self.kept.give(kept);
+            self.kept.put(kept);
         }
     }
 
@@ -150,15 +150,14 @@ impl RowSource {
         ensures { IfOk result (λ kept. kept.cache.value ≡ self.now) }
     {
         let cache = self.new_cache(self.alloc)?;
-        Ok(Kept {
-            cache: Box::new(self.alloc, cache)?,
-        })
+        Ok(Kept::new(Box::new(self.alloc, cache)?))
     }
 }
 
 impl RowSource {
-    /// Puts the index of each end that a text leads to into a set, beside what it holds, by the rows of a cache that is kept.
-    /// Returns whether there was one, or, if memory may be taken, one could be made. If not, some of the indexes may be in the set.
+    /// Puts the index of each end that a text leads to into a set, beside what it holds, by the rows of the cache that was
+    /// published last, or, where an entry is not known there, by those of a cache that is kept. Returns whether there was one, or,
+    /// if memory may be taken, one could be made. If not, some of the indexes may be in the set.
     pub fn find(
         &self,
         text: &[u8],
@@ -175,15 +174,20 @@ impl RowSource {
             ≤ visits.old + (length text.now + 1) + (length text.now + 1) * (size self.now + 1) }
         ensures counted { visits.old ≤ visits.new }
     {
+        if let Some(known) = self.kept.published() {
+            if known.find_known(text, found, visits) {
+                return true;
+            }
+        }
         let Some(mut kept) = self.take(may_make) else {
             return false;
         };
         kept.cache.find(text, found, visits);
-        self.kept.give(kept);
+        self.kept.give(kept, may_make);
         true
     }
 
-    /// Returns whether a text leads to some end, by the rows of a cache that is kept, or `None` if there was none and, if memory
+    /// Returns whether a text leads to some end, as [`RowSource::find`] finds it, or `None` if there was no cache and, if memory
     /// may be taken, none could be made.
     pub fn is_match(&self, text: &[u8], may_make: bool, visits: &mut Visits) -> Option<bool>
         ensures some { IfSome result
@@ -193,14 +197,19 @@ impl RowSource {
             ≤ visits.old + (length text.now + 1) + (length text.now + 1) * (size self.now + 1) }
         ensures counted { visits.old ≤ visits.new }
     {
+        if let Some(known) = self.kept.published() {
+            if let Some(is_match) = known.is_match_known(text, visits) {
+                return Some(is_match);
+            }
+        }
         let mut kept = self.take(may_make)?;
         let is_match = kept.cache.is_match(text, visits);
-        self.kept.give(kept);
+        self.kept.give(kept, may_make);
         Some(is_match)
     }
 
-    /// Returns whether some text that begins with `text` and then `byte` leads to some end, by the rows of a cache that is kept, or
-    /// `None` if there was none and, if memory may be taken, none could be made.
+    /// Returns whether some text that begins with `text` and then `byte` leads to some end, as [`RowSource::find`] finds it, or
+    /// `None` if there was no cache and, if memory may be taken, none could be made.
     pub fn can_match_after(
         &self,
         text: &[u8],
@@ -215,9 +224,14 @@ impl RowSource {
             ≤ visits.old + (length text.now + 1) + (length text.now + 2) * (size self.now + 1) }
         ensures counted { visits.old ≤ visits.new }
     {
+        if let Some(known) = self.kept.published() {
+            if let Some(can_match) = known.can_match_after_known(text, byte, visits) {
+                return Some(can_match);
+            }
+        }
         let mut kept = self.take(may_make)?;
         let can_match = kept.cache.can_match_after(text, byte, visits);
-        self.kept.give(kept);
+        self.kept.give(kept, may_make);
         Some(can_match)
     }
 }

@@ -25,6 +25,10 @@ pub trait NeedsScratch {
     /// Returns the number of globs of a set, and 0 for a matcher.
     fn indexes_needed(&self) -> usize
         ensures { result ≡ indexes self.now };
+
+    /// Makes a cache of rows for each automaton that has none and may use one, and keeps it in the set or the matcher, as far as
+    /// there is memory for it. Calls with a scratch make none.
+    fn keep_caches(&self);
 }
 
 /// All the memory that sets and matchers need to match a path. A set needs three bits for each state of its largest automaton,
@@ -157,6 +161,7 @@ impl Scratch {
         self.marks.reserve(indexes)?;
         self.states = states;
         self.indexes = indexes;
+        set.keep_caches();
         Ok(())
     }
 

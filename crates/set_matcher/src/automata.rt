@@ -94,6 +94,21 @@ impl Automata {
             .saturating_add(self.extensions.table_bytes())
     }
 
+    /// Returns how many bytes the caches take that the automata keep. It takes time linear in the number of automata.
+    pub fn kept_bytes(&self) -> usize {
+        self.by_path
+            .kept_bytes()
+            .saturating_add(self.by_component.kept_bytes())
+            .saturating_add(self.extensions.kept_bytes())
+    }
+
+    /// Keeps a cache in each automaton, as [`Compiled::keep_cache`] does.
+    pub fn keep_caches(&self) {
+        self.by_path.keep_cache();
+        self.by_component.keep_cache();
+        self.extensions.keep_caches();
+    }
+
     /// Returns caches with no rows for the automata, where runs need one. All memory that they
     /// need is taken here. Returns an error if memory runs out.
     pub fn new_caches(&self, alloc: Global) -> Result<Caches, AllocError>

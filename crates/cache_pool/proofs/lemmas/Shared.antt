@@ -1,11 +1,8 @@
--- Pools and published values can be sent to other threads, and shared between them.
+-- Pools can be sent to other threads, and shared between them.
 use denote.RattleType.{RattleType}
 use denote.Param.Send.{IsSend, IsSync, sendable}
 use Rattle.std.proofs.Crossing.{crosses}
-use Rattle.boxcar.proofs.slot.OnceSlot.TheSendSync as Once
-use Rattle.byte_nfa.specs.contracts.nfa.Nfa as Nfa
 use Rattle.cache_pool.specs.contracts.pool.Pool as Pool
-use Rattle.cache_pool.specs.contracts.published.Published as Published
 use Rattle.counted_slot.proofs.Counted.TheSendSync.{the_send, the_sync}
 use Rattle.counted_slot.specs.declared.Fits.{Ghosts}
 
@@ -14,9 +11,3 @@ pool-send T G g s = search (sendable, crosses, the_send) depth 40 fits 20000
 
 pub pool-sync : (T G : RattleType) (g : Ghosts T.Denot G.Denot) → IsSend T → IsSync T → IsSync (Pool.the_row T G g)
 pool-sync T G g s y = search (sendable, crosses, the_sync) depth 40 fits 20000
-
-pub published-send : (T : RattleType) (g : Ghosts T.Denot Nfa.the_row.Denot) → IsSend T → IsSend (Published.the_row T g)
-published-send T g s = search (sendable, crosses, Once.the_send) depth 40 fits 20000
-
-pub published-sync : (T : RattleType) (g : Ghosts T.Denot Nfa.the_row.Denot) → IsSend T → IsSync T → IsSync (Published.the_row T g)
-published-sync T g s y = search (sendable, crosses, Once.the_sync) depth 40 fits 20000

@@ -1,5 +1,5 @@
 -- What is found by an automaton that another one stands for.
-use Rattle.std.proofs.Common.{◌≡◌, ℕ, ◌+◌, ◌*◌, ◌≤◌, ◌⊎◌, inl, inr, List, [], ◌∷◌, ◌++◌, length, false, true≢false, refl, arith, sym}
+use Rattle.std.proofs.Common.{◌≡◌, ℕ, ◌+◌, ◌*◌, ◌≤◌, ◌⊎◌, inl, inr, List, [], ◌∷◌, ◌++◌, length, false, true≢false, arith, sym}
 use Rattle.std.specs.Prelude.{◌↔◌, IsTrue}
 use Rattle.std.proofs.Math.Logic.{⊎_elim}
 use Rattle.std.proofs.lemmas.Nat.{mul-le}
@@ -24,6 +24,14 @@ module _ (m sharing : NfaValue) (shares : Shares m sharing) (y : List ℕ) where
     λ h. let (k, at) = some.0 h in (k, (shares.reached y k).0 at),
     λ (k, at). some.1 (k, (shares.reached y k).1 at),
   )
+
+  -- some of them
+  pub some_added_by : (before after : IndexSet) → ((k : ℕ) → IsTrue (has_index before k) → IsTrue (has_index after k))
+      → ((k : ℕ) → IsTrue (has_index after k) → IsReached sharing y k ⊎ IsTrue (has_index before k)) → AddsSome m y before after
+  some_added_by before after kept sound = record {
+    kept = kept;
+    sound = λ k h. ⊎_elim {C = IsReached m y k ⊎ IsTrue (has_index before k)} (λ at. inl ((shares.reached y k).0 at)) (λ old. inr old) (sound k h);
+  }
 
   -- there is none where there is no start
   pub none_by : length sharing.starts ≡ 0 → (k : ℕ) → IsReached m y k → ⊥

@@ -51,6 +51,21 @@ impl Strategy {
         }
     }
 
+    /// Returns how many bytes the caches take that an automaton keeps between calls.
+    pub fn kept_bytes(&self) -> usize {
+        match self {
+            Strategy::Key(_) => 0,
+            Strategy::Automaton(automaton) => automaton.kept_bytes(),
+        }
+    }
+
+    /// Keeps a cache in the automaton, as [`Compiled::keep_cache`] does.
+    pub fn keep_cache(&self) {
+        if let Strategy::Automaton(automaton) = self {
+            automaton.keep_cache();
+        }
+    }
+
     /// Returns whether the glob matches a path. Returns an error if memory runs out, and none if a key decides or the sets have
     /// room.
     pub fn is_match(

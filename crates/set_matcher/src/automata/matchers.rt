@@ -86,6 +86,22 @@ impl ExtensionMatchers {
         bytes
     }
 
+    /// Returns how many bytes the caches take that the automata keep. It takes time linear in the number of automata.
+    pub fn kept_bytes(&self) -> usize {
+        let mut bytes: usize = 0;
+        for automaton in &self.automata {
+            bytes = bytes.saturating_add(automaton.kept_bytes());
+        }
+        bytes
+    }
+
+    /// Keeps a cache in each automaton, as [`Compiled::keep_cache`] does.
+    pub fn keep_caches(&self) {
+        for automaton in &self.automata {
+            automaton.keep_cache();
+        }
+    }
+
     /// Returns whether no extension has an automaton.
     pub fn is_empty(&self) -> bool
         ensures { IsTrue result ↔ (self.now.slots ≡ []) }

@@ -1,5 +1,4 @@
 use Rattle.std.proofs.Common.{subst, sym}
-use Rattle.byte_nfa.specs.Runs.{HasLastBytes}
 use Rattle.byte_nfa.specs.Steps.{NfaValue}
 use Rattle.glob_matching.specs.inner.Source.{IsSource}
 use Rattle.glob_matching.proofs.source.Source.of.Goals as goal

@@ -1,4 +1,4 @@
-use Rattle.std.proofs.Common.{◌≡◌, ◌+◌, ◌*◌, ◌≤◌, ◌∙◌, length, arith, sym, subst}
+use Rattle.std.proofs.Common.{◌+◌, ◌*◌, ◌≤◌, ◌∙◌, length, arith, sym, subst}
 use Rattle.byte_nfa.specs.Runs.{size}
 use Rattle.byte_nfa.specs.Steps.{NfaValue}
 use Rattle.nfa_sharing.specs.Sharing.{Shares}

@@ -1,6 +1,6 @@
 -- Automata as lists of numbers.
 use Rattle.std.specs.Prelude.{ℕ, List, [], ◌∷◌}
-use base.Stored.{Coded, Gv, gnum, gnil, gcons}
+use base.Stored.{Gv, gnum, gnil, gcons}
 use Rattle.byte_nfa.specs.Steps.{NfaValue}
 use Rattle.byte_nfa.specs.contracts.nfa.Nfa as Nfa
 

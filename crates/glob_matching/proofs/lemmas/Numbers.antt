@@ -1,9 +1,9 @@
 -- Different trees are written as different lists.
-use Rattle.std.proofs.Common.{◌≡◌, ℕ, List, [], ◌∷◌, refl, ap, sym, arith}
-use base.Stored.{Coded, Gv, gnum, gnil, gcons}
+use Rattle.std.proofs.Common.{◌≡◌, ℕ, List, [], ◌∷◌, refl, ap, arith}
+use base.Stored.{Gv, gnum, gnil, gcons}
 use Rattle.byte_nfa.specs.Steps.{NfaValue}
 use Rattle.byte_nfa.specs.contracts.nfa.Nfa as Nfa
-use Rattle.cache_pool.specs.inner.Numbers.{flat, numbers}
+use Rattle.glob_matching.specs.inner.Numbers.{flat, numbers}
 
 abbrev hd : List ℕ → ℕ
 hd [] = 0
