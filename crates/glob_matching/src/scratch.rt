@@ -40,6 +40,8 @@ pub trait NeedsScratch {
 /// `GlobMatcher::is_match_with` cannot fail. What earlier calls left in a scratch has no effect. It can be used with each set
 /// and each matcher that it fits, and [`Scratch::fit`] makes it fit one more.
 ///
+/// Calls with a scratch use the rows that the set or the matcher keeps between calls, and take no memory for more.
+///
 /// Contracts see two numbers: of states, and of indexes.
 ///
 /// ```rust
@@ -112,7 +114,8 @@ impl Scratch {
 
     /// Returns a scratch that fits the set or the matcher. It takes three bits of memory for each state of the set's largest
     /// automaton, and one for each glob; for a matcher at most 12 bits for each byte of the glob's text and 12 more, or four times
-    /// as much under `whole_character`.
+    /// as much under `whole_character`. Each automaton that keeps rows between calls, and has none yet, takes memory for them here,
+    /// if there is enough.
     ///
     /// Returns an error if memory runs out, and no other.
     pub fn new<S: NeedsScratch>(alloc: Global, set: &S) -> Result<Scratch, Error>
