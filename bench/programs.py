@@ -135,6 +135,15 @@ def globsift():
     return program
 
 
+def library(given):
+    """The folder of the C library: a given one, or one that is made from the archive of `rt lib`."""
+    if given:
+        return os.path.abspath(given)
+    folder = os.path.join(OUT, "library")
+    run([os.path.join(os.path.dirname(HERE), "bindings", "c", "build"), folder], stdout=sys.stderr)
+    return folder
+
+
 def pair(settings):
     """The names and the files of the programs, and a sentence about the baseline."""
     ours = settings.program or globsift()

@@ -6,6 +6,7 @@ ghost use Rattle.byte_keys.specs.Entries.{entry};
 use crate::arranged::{Arranged, arrange};
 use crate::ends::ends_of;
 use crate::keys::hash;
+use crate::one_key::contents_of_one;
 use crate::pairs::{Pair, indexes_of};
 use crate::table::{Contents, Table};
 use std::alloc::{AllocError, Global};
@@ -116,6 +117,10 @@ impl TableBuilder {
             return Ok(Table::nothing(entries));
         }
         bytes.shrink_to_fit();
+        if pairs.len() == 1 {
+            let contents = contents_of_one(alloc, bytes, &pairs)?;
+            return Table::of(alloc, contents, entries);
+        }
         let Arranged {
             pairs,
             rows,

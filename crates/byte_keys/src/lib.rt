@@ -14,6 +14,7 @@ mod directory;
 mod ends;
 mod keys;
 pub mod laws;
+mod one_key;
 mod pairs;
 mod parts;
 mod rows;

@@ -1,6 +1,6 @@
 //! States, as an automaton keeps them.
 
-ghost use Rattle.std.specs.Prelude.{◌≡◌, ℕ, ◌+◌, ◌<◌, ◌≤◌, ◌||◌, ◌↔◌, List, length, slice_index, true, false, Some, None, IsTrue, IsFalse, OnOk};
+ghost use Rattle.std.specs.Prelude.{◌≡◌, ℕ, ◌+◌, ◌<◌, ◌≤◌, ◌||◌, ◌↔◌, ◌==◌, List, length, slice_index, true, false, Some, None, IsTrue, IsFalse, OnOk, IfSome, MatchOption};
 ghost use Rattle.bit_sets.specs.Bytes.{has_byte};
 ghost use Rattle.bit_sets.specs.StateSets.{has_state, state_capacity};
 ghost use Rattle.bit_sets.specs.declared.byte_set.ByteSet.{ByteSet};
@@ -87,6 +87,24 @@ impl State {
                 false
             }
             State::Match(_) => false,
+        }
+    }
+
+    /// Returns the state that a state goes on to by a byte, or `None` if there is none.
+    pub fn next_by(&self, s: usize, sets: &[ByteSet], targets: &[usize], byte: u8) -> Option<usize>
+        requires held { IsHeld sets.now targets.now self.now }
+        requires below { GoesBelow s (of_state sets.now targets.now self.now) }
+        ensures next { MatchOption result
+            ((t : ℕ) → goes_next (of_state sets.now targets.now self.now) s (Some byte) t ≡ false)
+            (λ u. (t : ℕ)
+            → goes_next (of_state sets.now targets.now self.now) s (Some byte) t ≡ (t == u)) }
+        ensures below { IfSome result (λ u. u ≤ s) }
+    {
+        let _targets = targets;
+        match self {
+            State::Bytes(set, next) if set_of(sets, *set).has(byte) => Some(*next),
+            State::Loop(set, _) if set_of(sets, *set).has(byte) => Some(s),
+            _ => None,
         }
     }
 

@@ -43,7 +43,7 @@ pub fn bad_range(body: &[char]) -> Option<ParseErrorKind>
 pub fn ranges(alloc: Global, body: &[char]) -> Result<Vec<(char, char)>, AllocError>
     ensures { IfOk result (λ v. v.items ≡ ranges body.now) }
 {
-    let mut out = Vec::new(alloc);
+    let mut out = Vec::with_capacity(alloc, body.len())?;
     let [first, rest @ ..] = body else {
         return Ok(out);
     };
@@ -89,7 +89,7 @@ struct Parts {
     negated: bool,
     ranges: Vec<(char, char)>,
     /// How the ranges contain each byte.
-    table: Vec<Membership>,
+    table: [Membership; 256],
 }
 
 impl Drop for Class {
@@ -107,19 +107,20 @@ impl Model for Class {
 
     ghost view = { λ c. record { negated = c.parts.value.negated; ranges = c.parts.value.ranges.items } };
 
-    ghost invariant = { λ c. IsTableOf c.parts.value.ranges.items c.parts.value.table.items };
+    ghost invariant = { λ c. IsTableOf c.parts.value.ranges.items c.parts.value.table };
 }
 
 impl Class {
     ghost use Rattle.glob_syntax.specs.ClassBytes.{class_has};
 
-    /// Returns the class of these ranges. This takes 256 steps for each range, and memory for a table of 256 entries.
+    /// Returns the class of these ranges. This takes a step for each byte that a range contains, and memory for a table of 256
+    /// entries.
     ///
     /// Returns an error if memory runs out.
     pub fn new(alloc: Global, negated: bool, ranges: Vec<(char, char)>) -> Result<Class, AllocError>
         ensures { IfOk result (λ c. c ≡ record { negated = negated; ranges = ranges.items }) }
     {
-        let table = table_of(alloc, &ranges)?;
+        let table = table_of(&ranges);
         let parts = Box::new(
             alloc,
             Parts {
@@ -164,13 +165,12 @@ impl Class {
         ensures { IfOk result (λ c. c ≡ self.now) }
     {
         let ranges = Vec::from_slice(alloc, &self.parts.ranges)?;
-        let table = Vec::from_slice(alloc, &self.parts.table)?;
         let parts = Box::new(
             alloc,
             Parts {
                 negated: self.parts.negated,
                 ranges,
-                table,
+                table: self.parts.table,
             },
         )?;
         Ok(Class { parts })

@@ -27,7 +27,7 @@ pub fn characters(alloc: Global, text: &str) -> Result<Vec<char>, AllocError>
 ///
 /// This takes time and memory linear in the length of the text. One pass splits the text into lexemes, and another makes
 /// tokens of the lexemes. The first pass looks ahead for the `]` of each class; once there is none, it never looks again. Each
-/// class has a table of 256 entries, made in 256 steps for each of its ranges.
+/// class has a table of 256 entries, filled in a step for each byte that a range contains.
 ///
 /// # Errors
 ///

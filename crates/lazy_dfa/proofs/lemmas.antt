@@ -4,3 +4,4 @@ pub mod Rows
 pub mod After
 pub mod Ends
 pub mod Reading
+pub mod Listing

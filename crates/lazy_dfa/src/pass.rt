@@ -1,37 +1,43 @@
 //! One pass over the states of a set, at one position of a text.
 
-ghost use Rattle.std.specs.Prelude.{◌≡◌, ℕ, ◌+◌, ◌<◌, ◌≤◌, ◌||◌, ◌↔◌, ◌∷◌, [], List, Some, None, IsTrue};
+ghost use Rattle.std.specs.Prelude.{◌≡◌, ℕ, ◌+◌, ◌<◌, ◌≤◌, ◌||◌, ◌↔◌, ◌==◌, ◌∷◌, [], List, Some, None, length, vec_capacity, IsTrue};
 ghost use Rattle.bit_sets.specs.Indexes.{has_index, index_capacity};
+ghost use Rattle.bit_sets.specs.Numbers.{has_number, AreBelow};
 ghost use Rattle.bit_sets.specs.StateSets.{has_state, state_capacity};
 ghost use Rattle.byte_nfa.specs.Steps.{state};
 ghost use Rattle.byte_nfa.specs.Runs.{size, AcceptsFrom};
 ghost use Rattle.byte_nfa.specs.inner.Views.{GoesBelow};
 ghost use Rattle.byte_nfa.specs.inner.Pass.{goes_now, goes_next, names};
+ghost use Rattle.lazy_dfa.specs.inner.Rows.{AcceptsIn};
 
+use crate::lists::push_within;
 use bit_sets::{IndexSet, StateSet, Visits};
 use byte_nfa::Nfa;
 
-/// Puts the states that a byte leads to from the states of a set into `to`, and the index of each end that they lead to without a
-/// byte into `ends`. What `to` and `ends` held has no effect.
+/// Makes `to` the list of the states that a byte leads to from the states of a set, and `ends` the indexes of the ends that they lead
+/// to without a byte.
 ///
 /// It reads each state at most once, and is one visit for each. What a state of `from` goes on to without a byte is put into `from`,
-/// before the pass comes to it.
+/// before the pass comes to it. A state can be in the list twice: that costs room, and nothing else.
 pub fn read(
     automaton: &Nfa,
     byte: u8,
     from: &mut StateSet,
-    to: &mut StateSet,
+    to: &mut Vec<usize>,
     ends: &mut IndexSet,
     visits: &mut Visits,
 )
     requires from_capacity { size automaton.now ≤ state_capacity from.old }
-    requires to_capacity { size automaton.now ≤ state_capacity to.old }
+    requires to_capacity { size automaton.now ≤ vec_capacity to.old }
     requires ends_capacity { automaton.now.index_count ≤ index_capacity ends.old }
     ensures from_capacity { state_capacity from.new ≡ state_capacity from.old }
-    ensures to_capacity { state_capacity to.new ≡ state_capacity to.old }
+    ensures to_capacity { vec_capacity to.old ≤ vec_capacity to.new }
     ensures ends_capacity { index_capacity ends.new ≡ index_capacity ends.old }
+    ensures below { AreBelow (size automaton.now) to.new.items }
+    ensures few { length to.new.items ≤ size automaton.now }
     ensures steps { (y : List ℕ) (k : ℕ)
-        → AcceptsFrom automaton.now from.old (byte ∷ y) k ↔ AcceptsFrom automaton.now to.new y k }
+        → AcceptsFrom automaton.now from.old (byte ∷ y) k
+        ↔ AcceptsIn automaton.now to.new.items y k }
     ensures ends { (k : ℕ)
         → IsTrue (has_index ends.new k) ↔ AcceptsFrom automaton.now from.old [] k }
     ensures visits { visits.new ≤ visits.old + size automaton.now }
@@ -50,30 +56,34 @@ pub fn read(
     }
 }
 
-/// Takes the steps of a state of `from`: puts into `from` what it goes on to without a byte, into `to` what it goes on to by the
-/// byte, and its index into `ends` if it is an end.
+/// Takes the steps of a state of `from`: puts into `from` what it goes on to without a byte, appends to `to` what it goes on to by the
+/// byte, unless that is the last there, and puts its index into `ends` if it is an end.
 fn take(
     automaton: &Nfa,
     s: usize,
     byte: u8,
     from: &mut StateSet,
-    to: &mut StateSet,
+    to: &mut Vec<usize>,
     ends: &mut IndexSet,
 )
     requires exists { s < size automaton.now }
     requires from_capacity { size automaton.now ≤ state_capacity from.old }
-    requires to_capacity { size automaton.now ≤ state_capacity to.old }
+    requires to_capacity { length to.old.items < vec_capacity to.old }
     requires ends_capacity { automaton.now.index_count ≤ index_capacity ends.old }
+    requires to_below { AreBelow (size automaton.now) to.old.items }
     ensures from_capacity { state_capacity from.new ≡ state_capacity from.old }
-    ensures to_capacity { state_capacity to.new ≡ state_capacity to.old }
+    ensures to_capacity { vec_capacity to.old ≤ vec_capacity to.new }
     ensures ends_capacity { index_capacity ends.new ≡ index_capacity ends.old }
+    ensures to_below { AreBelow (size automaton.now) to.new.items }
+    ensures few { length to.new.items ≤ length to.old.items + 1 }
     ensures below { GoesBelow s (state automaton.now.states s) }
     ensures from { (t : ℕ)
         → has_state from.new t
         ≡ (goes_now (state automaton.now.states s) t || has_state from.old t) }
     ensures to { (t : ℕ)
-        → has_state to.new t
-        ≡ (goes_next (state automaton.now.states s) s (Some byte) t || has_state to.old t) }
+        → has_number t to.new.items
+        ≡ (goes_next (state automaton.now.states s) s (Some byte) t
+        || has_number t to.old.items) }
     ensures ends { (k : ℕ)
         → has_index ends.new k
         ≡ (names (state automaton.now.states s) None k || has_index ends.old k) }
@@ -81,7 +91,27 @@ fn take(
     match automaton.follow_epsilons(s, from) {
         Some(index) => ends.put(index),
         None => {
-            automaton.take_steps(s, byte, from, to);
+            if let Some(next) = automaton.next_by(s, byte) {
+                push_unless_last(to, next);
+            }
         }
     }
+}
+
+/// Appends a number to a list that has room for it, unless it is the last one there.
+fn push_unless_last(list: &mut Vec<usize>, number: usize)
+    requires { length list.old.items < vec_capacity list.old }
+    ensures capacity { vec_capacity list.old ≤ vec_capacity list.new }
+    ensures few { length list.new.items ≤ length list.old.items + 1 }
+    ensures has { (t : ℕ)
+        → has_number t list.new.items ≡ ((t == number) || has_number t list.old.items) }
+    ensures below { (bound : ℕ) → number < bound → AreBelow bound list.old.items
+        → AreBelow bound list.new.items }
+{
+    if let Some(last) = list.last() {
+        if *last == number {
+            return;
+        }
+    }
+    push_within(list, number);
 }

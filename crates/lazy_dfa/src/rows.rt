@@ -2,15 +2,15 @@
 
 ghost use Rattle.std.specs.Prelude.{◌≡◌, ℕ, ◌+◌, ◌-◌, ◌*◌, ◌<◌, ◌≤◌, ◌⊎◌, ◌↔◌, ◌++◌, ◌∷◌, [], List, length, slice_index, replicate, vec_len, vec_capacity, Some, None, IsTrue, IsFalse, IfOk, IfSome, MatchOption};
 ghost use Rattle.bit_sets.specs.Indexes.{has_index, index_capacity};
-ghost use Rattle.bit_sets.specs.StateSets.{has_state, state_capacity};
+ghost use Rattle.bit_sets.specs.StateSets.{state_capacity};
 ghost use Rattle.bit_sets.specs.Numbers.{has_number, AreBelow};
 ghost use Rattle.bit_sets.specs.Texts.{AllBytes};
 ghost use Rattle.byte_nfa.specs.Live.{AreLive};
 ghost use Rattle.byte_nfa.specs.Steps.{IsReached};
-ghost use Rattle.byte_nfa.specs.Runs.{size, AcceptsFrom};
+ghost use Rattle.byte_nfa.specs.Runs.{size};
 ghost use Rattle.byte_dfa.specs.inner.Classes.{AreEquivalenceClasses};
 ghost use Rattle.byte_dfa.specs.inner.Building.{half};
-ghost use Rattle.lazy_dfa.specs.inner.Rows.{AcceptsRow, HasEnds, HasMarks, GoesTo, IsDeadBy, IsNext, IsEnd, IsEntry, IsSound, AreListed, KeepsRows, HasSpace, states_of, place_of, max_entries, marked, BeginsAt, IsAt, IsStep};
+ghost use Rattle.lazy_dfa.specs.inner.Rows.{AcceptsIn, AcceptsRow, HasEnds, HasMarks, GoesTo, IsDeadBy, IsNext, IsEnd, IsEntry, IsFirst, IsSound, AreListed, KeepsRows, HasSpace, states_of, place_of, max_entries, marked, BeginsAt, IsAt, IsStep};
 
 mod known;
 
@@ -85,13 +85,13 @@ pub struct Rows {
     seed: usize,
     /// The place of the row that a run begins in, if it is made.
     begin: Option<usize>,
+    /// The states that a run begins in.
+    first: Vec<usize>,
     /// The states that a pass takes.
     from: StateSet,
-    /// The states that a byte leads to.
-    next: StateSet,
     /// The indexes of the ends that are found without a byte.
     pub ends: IndexSet,
-    /// The list of the states that a byte leads to.
+    /// The states that a byte leads to, as the pass over those before them met them.
     list: Vec<usize>,
     /// The list of the indexes in `ends`.
     told: Vec<usize>,
@@ -109,8 +109,8 @@ impl Drop for Rows {
             table: _,
             seed: _,
             begin: _,
+            first: _,
             from: _,
-            next: _,
             ends: _,
             list: _,
             told: _,
@@ -150,8 +150,8 @@ impl Rows {
             table,
             seed: 0,
             begin: None,
+            first: first_of(alloc, automaton)?,
             from: StateSet::new(alloc, states)?,
-            next: StateSet::new(alloc, states)?,
             ends: IndexSet::new(alloc, automaton.index_count())?,
             list: Vec::with_capacity(alloc, states)?,
             told: Vec::with_capacity(alloc, automaton.index_count())?,
@@ -175,17 +175,20 @@ impl Rows {
             .saturating_add(numbers.saturating_mul(mem::size_of::<usize>()))
     }
 
-    /// Returns the place of the row that a run begins in.
-    pub fn start(&mut self, automaton: &Nfa) -> usize
+    /// Returns the place of the row that a run begins in. If it is not made, it is looked up, which is one visit.
+    pub fn start(&mut self, automaton: &Nfa, visits: &mut Visits) -> usize
         requires { IsSound automaton.now self.old }
         ensures sound { IsSound automaton.now self.new }
         ensures begins { BeginsAt automaton.now self.new result }
+        ensures visits { visits.new ≤ visits.old + 1 }
+        ensures counted { visits.old ≤ visits.new }
     {
         if let Some(place) = self.begin {
             return place;
         }
-        automaton.start(&mut self.next);
-        let found = self.seek(automaton);
+        self.list.clear();
+        extend_within(&mut self.list, &self.first);
+        let found = self.seek(automaton, visits);
         let place = self.place_of_row(found.row);
         self.begin = Some(place);
         place
@@ -194,8 +197,8 @@ impl Rows {
     /// Returns where a byte leads from the row at a place. If the row has marks, `ends` has afterwards what the row leads to without a
     /// byte.
     ///
-    /// A known entry is one visit. If the entry is not known, each state is read at most once, and is one visit.
-    // It is a part of the loop of a run over a text.
+    /// A known entry is one visit. If the entry is not known, each state of the row is read at most once, which is one visit, and the
+    /// row that the byte leads to is looked up, which is one more.
     #[inline(always)]
     pub fn step(&mut self, automaton: &Nfa, place: usize, byte: u8, visits: &mut Visits) -> Step
         requires sound { IsSound automaton.now self.old }
@@ -204,7 +207,7 @@ impl Rows {
         ensures sound { IsSound automaton.now self.new }
         ensures step { (i : ℕ) → IsAt self.old i place
             → IsStep automaton.now self.old i byte result self.new }
-        ensures visits { visits.new ≤ visits.old + size automaton.now }
+        ensures visits { visits.new ≤ visits.old + (size automaton.now + 1) }
         ensures counted { visits.old ≤ visits.new }
     {
         let entry = entry_at(&self.entries, place, self.class_of[byte as usize] as usize);
@@ -259,7 +262,7 @@ impl Rows {
         requires known { 0 < entry }
         ensures sound { IsSound automaton.now self.new }
         ensures step { IsStep automaton.now self.old row byte result self.new }
-        ensures visits { visits.new ≤ visits.old + size automaton.now }
+        ensures visits { visits.new ≤ visits.old + (size automaton.now + 1) }
         ensures counted { visits.old ≤ visits.new }
     {
         let end = self.entry(row, self.class_count);
@@ -368,21 +371,21 @@ impl Rows {
         requires row { row < length self.old.starts.items }
         ensures sound { IsSound automaton.now self.new }
         ensures step { IsStep automaton.now self.old row byte result self.new }
-        ensures visits { visits.new ≤ visits.old + size automaton.now }
+        ensures visits { visits.new ≤ visits.old + (size automaton.now + 1) }
         ensures counted { visits.old ≤ visits.new }
     {
         self.read_row(automaton, row, byte, visits);
         let has_marks = self.keep_marks(automaton, row);
         let marks = added_by(has_marks);
         let class = self.class_of[byte as usize] as usize;
-        if self.next.is_empty() {
+        if self.list.is_empty() {
             self.write(automaton, row, class, DEAD + marks);
             return Step {
                 next: None,
                 has_marks,
             };
         }
-        let found = self.seek(automaton);
+        let found = self.seek(automaton, visits);
         let place = self.place_of_row(found.row);
         // If the rows were forgotten, the row that was left is another one now, or none.
         if found.is_kept {
@@ -403,7 +406,7 @@ impl Rows {
         ensures kept { KeepsRows self.old self.new }
         ensures marks { IsTrue result ↔ HasMarks automaton.now self.old row }
         ensures ends { self.new.ends ≡ self.old.ends }
-        ensures next { self.new.next ≡ self.old.next }
+        ensures list { self.new.list ≡ self.old.list }
     {
         if !self.has_marks(automaton) {
             return false;
@@ -422,7 +425,7 @@ impl Rows {
         ensures sound { IsSound automaton.now self.new }
         ensures kept { KeepsRows self.old self.new }
         ensures ends { self.new.ends ≡ self.old.ends }
-        ensures next { self.new.next ≡ self.old.next }
+        ensures list { self.new.list ≡ self.old.list }
     {
         let half = automaton.index_count() / 2;
         list_indexes(&self.ends, half + half, &mut self.told);
@@ -451,7 +454,7 @@ impl Rows {
         put_listed(&self.lists, (end - FIRST) as usize, &mut self.ends);
     }
 
-    /// Puts what a row leads to into `next` by a byte, and into `ends` without one. It is at most one visit for each state.
+    /// Makes `list` what a row leads to by a byte, and `ends` what it leads to without one. It is at most one visit for each state.
     fn read_row(&mut self, automaton: &Nfa, row: usize, byte: u8, visits: &mut Visits)
         requires sound { IsSound automaton.now self.old }
         requires row { row < length self.old.starts.items }
@@ -459,7 +462,9 @@ impl Rows {
         ensures kept { KeepsRows self.old self.new }
         ensures steps { (y : List ℕ) (k : ℕ)
             → AcceptsRow automaton.now self.old row (byte ∷ y) k
-            ↔ AcceptsFrom automaton.now self.new.next y k }
+            ↔ AcceptsIn automaton.now self.new.list.items y k }
+        ensures below { AreBelow (size automaton.now) self.new.list.items }
+        ensures few { length self.new.list.items ≤ size automaton.now }
         ensures ends { HasEnds automaton.now self.old row self.new.ends }
         ensures visits { visits.new ≤ visits.old + size automaton.now }
         ensures counted { visits.old ≤ visits.new }
@@ -471,7 +476,7 @@ impl Rows {
             automaton,
             byte,
             &mut self.from,
-            &mut self.next,
+            &mut self.list,
             &mut self.ends,
             visits,
         );
@@ -512,19 +517,22 @@ impl Rows {
         self.entries[row * (self.class_count + 1) + column] = entry;
     }
 
-    /// Returns the row of the states in `next`, and makes it if it is not there. If there is no room for it, all rows are
-    /// forgotten before.
-    fn seek(&mut self, automaton: &Nfa) -> Found
-        requires { IsSound automaton.now self.old }
+    /// Returns the row of the states in `list`, and makes it if it is not there, which is one visit. If there is no room for it, all
+    /// rows are forgotten before.
+    fn seek(&mut self, automaton: &Nfa, visits: &mut Visits) -> Found
+        requires sound { IsSound automaton.now self.old }
+        requires below { AreBelow (size automaton.now) self.old.list.items }
+        requires few { length self.old.list.items ≤ size automaton.now }
         ensures sound { IsSound automaton.now self.new }
         ensures row { result.row < length self.new.starts.items }
         ensures states { (y : List ℕ) (k : ℕ)
-            → AcceptsFrom automaton.now self.old.next y k
+            → AcceptsIn automaton.now self.old.list.items y k
             ↔ AcceptsRow automaton.now self.new result.row y k }
         ensures kept { IsTrue result.is_kept → KeepsRows self.old self.new }
         ensures ends { self.new.ends ≡ self.old.ends }
+        ensures visits { visits.new ≡ visits.old + 1 }
     {
-        list_of(&self.next, automaton.state_count(), &mut self.list);
+        visits.tick();
         let mut hash = hash_of(self.seed, &self.list);
         if let Some(row) = self.known(hash) {
             return Found { row, is_kept: true };
@@ -616,6 +624,21 @@ impl Rows {
         remember(&mut self.table, hash, row);
         row
     }
+}
+
+/// Returns the states that a run begins in. Returns an error if memory runs out.
+fn first_of(alloc: Global, automaton: &Nfa) -> Result<Vec<usize>, AllocError>
+    ensures { IfOk result (λ list. IsFirst automaton.now list.items) }
+{
+    let states = automaton.state_count();
+    let mut set = StateSet::new(alloc, states)?;
+    automaton.start(&mut set);
+    let mut list = Vec::with_capacity(alloc, states)?;
+    list_of(&set, states, &mut list);
+    // The copy has no more room than it needs.
+    let mut first = Vec::with_capacity(alloc, list.len())?;
+    extend_within(&mut first, &list);
+    Ok(first)
 }
 
 /// Puts the number of a row into the table, at the first place that is free of those where it will be looked for. If none is

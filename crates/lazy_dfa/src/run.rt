@@ -67,7 +67,7 @@ impl Rows {
             return;
         }
         let half = automaton.index_count() / 2;
-        let mut place = self.start(automaton);
+        let mut place = self.start(automaton, visits);
         let mut rest = text;
         loop {
             let Some(left) = self.find_from(automaton, place, indexes, rest, found, visits) else {
@@ -302,10 +302,11 @@ impl Rows {
         requires some { 0 < size automaton.now }
         ensures sound { IsSound automaton.now self.new }
         ensures reached { IsWhere automaton.now self.new text.now result }
-        ensures visits { visits.new ≤ visits.old + length text.now * (size automaton.now + 1) }
+        ensures visits { visits.new
+            ≤ visits.old + (length text.now * (size automaton.now + 1) + 1) }
         ensures counted { visits.old ≤ visits.new }
     {
-        let mut place = self.start(automaton);
+        let mut place = self.start(automaton, visits);
         let mut rest = text;
         loop {
             let left = match self.read_from(automaton, place, rest, visits) {

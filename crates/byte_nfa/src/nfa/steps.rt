@@ -1,6 +1,6 @@
 //! Steps of single states.
 
-ghost use Rattle.std.specs.Prelude.{◌≡◌, ℕ, ◌+◌, ◌<◌, ◌≤◌, ◌||◌, false, Some, None, IsTrue, IsFalse, IfSome, MatchOption};
+ghost use Rattle.std.specs.Prelude.{◌≡◌, ℕ, ◌+◌, ◌<◌, ◌≤◌, ◌||◌, ◌==◌, false, Some, None, IsTrue, IsFalse, IfSome, MatchOption};
 ghost use Rattle.bit_sets.specs.WordSets.{has_in_word};
 ghost use Rattle.byte_nfa.specs.Runs.{size};
 ghost use Rattle.bit_sets.specs.StateSets.{has_state, state_capacity};
@@ -34,6 +34,17 @@ impl Nfa {
             → goes_next (state self.now.states s) s (Some byte) t ≡ false }
     {
         self.states[s].take_steps(s, &self.sets, &self.targets, byte, from, to)
+    }
+
+    /// Returns the state that a state goes on to by a byte, or `None` if there is none.
+    pub fn next_by(&self, s: usize, byte: u8) -> Option<usize>
+        requires { s < size self.now }
+        ensures next { MatchOption result
+            ((t : ℕ) → goes_next (state self.now.states s) s (Some byte) t ≡ false)
+            (λ u. (t : ℕ) → goes_next (state self.now.states s) s (Some byte) t ≡ (t == u)) }
+        ensures below { IfSome result (λ u. u ≤ s) }
+    {
+        self.states[s].next_by(s, &self.sets, &self.targets, byte)
     }
 
     /// Takes the steps of a state of `from` at the end of a text: puts into `from` what it goes on to without a byte.

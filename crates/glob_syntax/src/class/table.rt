@@ -1,10 +1,8 @@
 //! The table of the bytes that ranges of characters contain.
 
-ghost use Rattle.std.specs.Prelude.{◌≡◌, ℕ, List, IfOk};
-ghost use Rattle.glob_syntax.specs.ClassBytes.{ranges_have, range_has, is_one_of, is_from_last};
-ghost use Rattle.glob_syntax.specs.inner.ClassTable.{IsTableOf, IsPlainTable, membership};
-
-use std::alloc::{AllocError, Global};
+ghost use Rattle.std.specs.Prelude.{◌≡◌, ◌==◌, ◌&&◌, nat_le};
+ghost use Rattle.glob_syntax.specs.ClassBytes.{range_has, is_one_of, is_from_last};
+ghost use Rattle.glob_syntax.specs.inner.ClassTable.{IsTableOf, Puts, other_case, with_other_case};
 
 /// How the ranges of a class contain a byte.
 #[derive(Clone, Copy)]
@@ -18,81 +16,91 @@ pub enum Membership {
 }
 
 /// Returns for each byte how the ranges contain it.
-pub fn table_of(alloc: Global, ranges: &[(char, char)]) -> Result<Vec<Membership>, AllocError>
-    ensures { IfOk result (λ v. IsTableOf ranges.now v.items) }
+///
+/// The table is filled range by range, so a range takes as many steps as it contains bytes.
+pub fn table_of(ranges: &[(char, char)]) -> [Membership; 256]
+    ensures { IsTableOf ranges.now result }
 {
-    let plain = plain_table(ranges);
-    let mut table = Vec::with_capacity(alloc, 256)?;
-    for byte in 0..=255u8 {
-        table.push(membership_in(&plain, byte))?;
+    let mut table = [Membership::Absent; 256];
+    for range in ranges {
+        put_range(&mut table, *range);
     }
-    Ok(table)
+    table
 }
 
-/// Returns how ranges contain a byte, where `plain` says of each byte whether they contain the byte itself.
-fn membership_in(plain: &[bool; 256], byte: u8) -> Membership
-    ensures { (rs : List (ℕ × ℕ)) → IsPlainTable rs plain.now → result ≡ membership rs byte }
-{
-    let lower = byte.to_ascii_lowercase();
-    let upper = byte.to_ascii_uppercase();
-    if plain[byte as usize] {
-        Membership::Present
-    } else if plain[lower as usize] || plain[upper as usize] {
-        Membership::OtherCase
-    } else {
-        Membership::Absent
-    }
-}
-
-/// Returns for each byte whether the ranges contain the byte itself.
-fn plain_table(ranges: &[(char, char)]) -> [bool; 256]
-    ensures { IsPlainTable ranges.now result }
-{
-    let mut plain = [false; 256];
-    for byte in 0..=255u8 {
-        plain[byte as usize] = ranges_have_byte(ranges, byte);
-    }
-    plain
-}
-
-/// Returns whether one of the ranges contains the byte.
-fn ranges_have_byte(ranges: &[(char, char)], byte: u8) -> bool
-    ensures { result ≡ ranges_have ranges.now byte }
-{
-    ranges.iter().any(|range| range_has_byte(*range, byte))
-}
-
-/// Returns whether the range contains the byte.
-fn range_has_byte(range: (char, char), byte: u8) -> bool
-    ensures { result ≡ range_has range byte }
+/// Puts the bytes of a range into the table.
+fn put_range(table: &mut [Membership; 256], range: (char, char))
+    ensures { Puts (range_has range) table.old table.new }
 {
     let (low, high) = range;
     let mut low_buffer = [0u8; 4];
-    let mut high_buffer = [0u8; 4];
     let first = low.encode_utf8(&mut low_buffer).as_bytes();
-    let second = high.encode_utf8(&mut high_buffer).as_bytes();
     if low == high {
-        return is_one_of(first, byte);
+        put_all(table, first);
+        return;
     }
-    match second {
-        [] => false,
-        [upper, others @ ..] => is_from_last(first, *upper, byte) || is_one_of(others, byte),
+    let mut high_buffer = [0u8; 4];
+    if let [upper, others @ ..] = high.encode_utf8(&mut high_buffer).as_bytes() {
+        put_from_last(table, first, *upper);
+        put_all(table, others);
     }
 }
 
-/// Returns whether the byte is one of these.
-fn is_one_of(bytes: &[u8], byte: u8) -> bool
-    ensures { result ≡ is_one_of byte bytes.now }
+/// Puts each of these bytes into the table.
+fn put_all(table: &mut [Membership; 256], bytes: &[u8])
+    ensures { Puts (λ b. is_one_of b bytes.now) table.old table.new }
 {
-    bytes.iter().any(|b| byte == *b)
+    for byte in bytes {
+        put(table, *byte);
+    }
 }
 
-/// Returns whether the byte is one of these except the last one, or from the last one up to `upper`.
-fn is_from_last(bytes: &[u8], upper: u8, byte: u8) -> bool
-    ensures { result ≡ is_from_last byte bytes.now upper }
+/// Puts these bytes except the last one into the table, and those from the last one up to `upper`.
+fn put_from_last(table: &mut [Membership; 256], bytes: &[u8], upper: u8)
+    ensures { Puts (λ b. is_from_last b bytes.now upper) table.old table.new }
 {
-    match bytes {
-        [] => false,
-        [before @ .., last] => is_one_of(before, byte) || (*last <= byte && byte <= upper),
+    if let [before @ .., last] = bytes {
+        put_all(table, before);
+        put_span(table, *last, upper);
+    }
+}
+
+/// Puts the bytes from `low` up to `high` into the table.
+fn put_span(table: &mut [Membership; 256], low: u8, high: u8)
+    ensures { Puts (λ b. nat_le low b && nat_le b high) table.old table.new }
+{
+    for byte in low..=high {
+        put(table, byte);
+    }
+}
+
+/// Puts a byte into the table, and the other case of an ASCII letter where the table has nothing yet.
+fn put(table: &mut [Membership; 256], byte: u8)
+    ensures { Puts (λ b. b == byte) table.old table.new }
+{
+    let other = other_case(byte) as usize;
+    table[other] = with_other_case(table[other]);
+    table[byte as usize] = Membership::Present;
+}
+
+/// Returns the other case of an ASCII letter, and any other byte as it is.
+fn other_case(byte: u8) -> u8
+    ensures { result ≡ other_case byte }
+{
+    let lower = byte.to_ascii_lowercase();
+    if byte == lower {
+        byte.to_ascii_uppercase()
+    } else {
+        lower
+    }
+}
+
+/// Returns how a byte is contained after its other case was put.
+fn with_other_case(membership: Membership) -> Membership
+    ensures { result ≡ with_other_case membership }
+{
+    match membership {
+        Membership::Absent => Membership::OtherCase,
+        _ => membership,
     }
 }

@@ -19,7 +19,7 @@ use Rattle.lazy_dfa.specs.inner.Rows.{AcceptsIn, FindsBy}
 use Rattle.lazy_dfa.proofs.lemmas.Finding.{found_is}
 
 -- an item of a list
-has_number_at : (list : List ℕ) (n : ℕ) → n < length list → IsTrue (has_number (slice_index list n) list)
+pub has_number_at : (list : List ℕ) (n : ℕ) → n < length list → IsTrue (has_number (slice_index list n) list)
 has_number_at [] n lt = absurd (omega (arith, lt))
 has_number_at (x ∷ xs) zero lt = or_first (x == x) (has_number x xs) (eq-eqb x x refl)
 has_number_at (x ∷ xs) (suc n) lt = or_second (slice_index xs n == x) (has_number (slice_index xs n) xs) (has_number_at xs n (omega (arith, lt)))

@@ -468,9 +468,10 @@ module _ (m : NfaValue) (old new : Rows) (row : ℕ) (list : List ℕ) (is : Has
     begins = λ p at. begins_at_kept m old new p listed_keeps (sound.begins p (sym is.begin ∙ at));
   }
 
--- no state is in the set
-pub none_accepted : (m : NfaValue) (set : StateSet) → ((t : ℕ) → has_state set t ≡ false) → (y : List ℕ) (k : ℕ) → AcceptsFrom m set y k → ⊥
-none_accepted m set none y k (t, lt, at, h) = true≢false (sym at ∙ none t)
+-- the list is empty
+pub nothing_listed : (m : NfaValue) (list : List ℕ) → length list ≡ 0 → (y : List ℕ) (k : ℕ) → AcceptsIn m list y k → ⊥
+nothing_listed m [] none y k (t, at, h) = true≢false (sym at)
+nothing_listed m (x ∷ xs) none y k a = absurd (omega (arith, none))
 
 -- an automaton with no states leads to no end
 pub none_reached : (m : NfaValue) → size m ≡ 0 → (y : List ℕ) (k : ℕ) → IsReached m y k → ⊥

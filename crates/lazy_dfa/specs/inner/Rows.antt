@@ -3,7 +3,7 @@ use Rattle.std.specs.Prelude.{◌≡◌, ℕ, ◌+◌, ◌-◌, ◌*◌, ◌<◌
 use Rattle.bit_sets.specs.declared.index_set.IndexSet.{IndexSet}
 use Rattle.bit_sets.specs.Indexes.{has_index, index_capacity}
 use Rattle.bit_sets.specs.StateSets.{state_capacity}
-use Rattle.bit_sets.specs.Numbers.{has_number}
+use Rattle.bit_sets.specs.Numbers.{has_number, AreBelow}
 use Rattle.byte_nfa.specs.Steps.{Accepts, NfaValue, IsReached}
 use Rattle.byte_nfa.specs.EarlyMatches.{EndsAtEarlyMatches}
 use Rattle.byte_nfa.specs.Runs.{size}
@@ -117,10 +117,16 @@ pub record IsEntry (m : NfaValue) (rows : Rows) (i c e : ℕ) : Type 0 where
 abbrev pub max_entries : ℕ
 max_entries = 2147483646
 
--- there is room for one row, whatever its states are, and for one pass
+-- the states of the list are those that a run begins in
+pub record IsFirst (m : NfaValue) (list : List ℕ) : Type 0 where
+  pub below : AreBelow (size m) list
+  pub few : length list ≤ size m
+  pub accepts : (y : List ℕ) (k : ℕ) → AcceptsIn m list y k ↔ IsReached m y k
+
+-- there is room for one row, whatever its states are, and for one pass, and it is told which states a run begins in
 pub record HasRoomFor (m : NfaValue) (rows : Rows) : Type 0 where
   pub from : size m ≤ state_capacity rows.from
-  pub next : size m ≤ state_capacity rows.next
+  pub first : IsFirst m rows.first.items
   pub ends : m.index_count ≤ index_capacity rows.ends
   pub list : size m ≤ vec_capacity rows.list
   pub told : m.index_count ≤ vec_capacity rows.told

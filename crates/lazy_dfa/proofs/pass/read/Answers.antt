@@ -1,9 +1,10 @@
-use Rattle.std.proofs.Common.{◌≡◌, [], ◌∷◌, false, arith, sym, ◌∙◌, refl}
+use Rattle.std.proofs.Common.{◌≡◌, [], ◌∷◌, false, length, ap, arith, sym, ◌∙◌, refl}
+use Rattle.bit_sets.specs.Numbers.{has_number}
 use Rattle.bit_sets.specs.Indexes.{has_index}
 use Rattle.bit_sets.specs.StateSets.{has_state}
 use Rattle.byte_nfa.specs.Steps.{state}
 use Rattle.byte_nfa.specs.Runs.{size}
-use Rattle.byte_nfa.proofs.lemmas.Pass.{iff_trans, none_swept, read_passed, read_taken, quiet_step, stays_at_end, next_position, last_position}
+use Rattle.byte_nfa.proofs.lemmas.Pass.{iff_trans, none_swept, read_passed, read_taken, quiet_step, stays_at_end, next_position, last_position, accepts_within}
 use Rattle.byte_dfa.proofs.lemmas.Found.{iff_sym}
 use Rattle.lazy_dfa.proofs.pass.read.Goals as goal
 
@@ -11,10 +12,12 @@ pub loop-limit-init : goal.loop-limit-init
 loop-limit-init c = record {
   within = omega arith;
   from_capacity = refl;
-  to_capacity = c.clear.ensures.room;
+  to_capacity = omega (arith, c.clear.ensures.capacity);
+  below = λ i lt. absurd (omega (arith, ap length c.clear.ensures.items, lt));
+  few = omega (arith, ap length c.clear.ensures.items, c.state_count-limit.ensures);
   ends_capacity = c.clear-2.ensures.room;
-  steps = λ y k. rw c.state_count-limit.ensures (iff_sym (none_swept c.args.automaton.now.states (size c.args.automaton.now) (has_state c.args.from.now) (has_state c.clear.new.self) (λ _. false) (c.args.byte ∷ y) k
-      (λ t lt. c.clear.ensures.none t) (λ _. refl)));
+  steps = λ y k. rw c.state_count-limit.ensures (iff_sym (none_swept c.args.automaton.now.states (size c.args.automaton.now) (has_state c.args.from.now) (λ t. has_number t c.clear.new.self.items) (λ _. false) (c.args.byte ∷ y) k
+      (λ t lt. ap (has_number t) c.clear.ensures.items) (λ _. refl)));
   ends = λ k. rw c.state_count-limit.ensures (iff_sym (none_swept c.args.automaton.now.states (size c.args.automaton.now) (has_state c.args.from.now) (λ _. false) (has_index c.clear-2.new.self) [] k
       (λ t lt. refl) c.clear-2.ensures.none));
   visits = omega arith;
@@ -34,9 +37,11 @@ loop-limit-preserved-then-seen c =
     record {
       within = omega (arith, last.below);
       from_capacity = took.from_capacity ∙ inv.from_capacity;
-      to_capacity = took.to_capacity ∙ inv.to_capacity;
+      to_capacity = omega (arith, took.to_capacity, inv.to_capacity);
+      below = took.to_below;
+      few = omega (arith, last.below, took.few, inv.few);
       ends_capacity = took.ends_capacity ∙ inv.ends_capacity;
-      steps = λ y k. iff_trans (inv.steps y k) (read_taken a s limit k (b ∷ y) (has_state c.loop-limit.from) (has_state c.loop-limit.to) (λ _. false) (has_state c.take.new.from) (has_state c.take.new.to) (λ _. false)
+      steps = λ y k. iff_trans (inv.steps y k) (read_taken a s limit k (b ∷ y) (has_state c.loop-limit.from) (λ t. has_number t c.loop-limit.to.items) (λ _. false) (has_state c.take.new.from) (λ t. has_number t c.take.new.to.items) (λ _. false)
           last.below last.between (sym last.marked ∙ c.if-seen.true) took.below took.from took.to (λ t. quiet_step st b t));
       ends = λ k. iff_trans (inv.ends k) (read_taken a s limit k [] (has_state c.loop-limit.from) (λ _. false) (has_index c.loop-limit.ends) (has_state c.take.new.from) (λ _. false) (has_index c.take.new.ends)
           last.below last.between (sym last.marked ∙ c.if-seen.true) took.below took.from (λ t. stays_at_end st s t) took.ends);
@@ -55,8 +60,10 @@ loop-limit-preserved c =
       within = omega (arith, last.below);
       from_capacity = inv.from_capacity;
       to_capacity = inv.to_capacity;
+      below = inv.below;
+      few = omega (arith, last.below, inv.few);
       ends_capacity = inv.ends_capacity;
-      steps = λ y k. iff_trans (inv.steps y k) (read_passed a s limit k (c.args.byte ∷ y) (has_state c.loop-limit.from) (has_state c.loop-limit.to) (λ _. false) last.below last.between (sym last.marked ∙ c.if-seen.false));
+      steps = λ y k. iff_trans (inv.steps y k) (read_passed a s limit k (c.args.byte ∷ y) (has_state c.loop-limit.from) (λ t. has_number t c.loop-limit.to.items) (λ _. false) last.below last.between (sym last.marked ∙ c.if-seen.false));
       ends = λ k. iff_trans (inv.ends k) (read_passed a s limit k [] (has_state c.loop-limit.from) (λ _. false) (has_index c.loop-limit.ends) last.below last.between (sym last.marked ∙ c.if-seen.false));
       visits = omega (arith, last.below);
       counted = omega arith;
@@ -66,7 +73,8 @@ pub returns-clause-steps : goal.returns-clause-steps
 returns-clause-steps c = λ y k.
     let past : c.loop-limit.limit ≡ 0 = omega arith in
     iff_trans (rw past at c.loop-limit.invariant.steps y k)
-    (next_position c.args.automaton.now.states (has_state c.loop-limit.from) (has_state c.loop-limit.to) (λ _. false) c.args.byte y k)
+    (iff_trans (next_position c.args.automaton.now.states (has_state c.loop-limit.from) (λ t. has_number t c.loop-limit.to.items) (λ _. false) c.args.byte y k)
+    (λ (t, lt, at, h). (t, at, h), λ (t, at, h). (t, accepts_within c.args.automaton.now.states k t y h, at, h)))
 
 pub returns-clause-ends : goal.returns-clause-ends
 returns-clause-ends c = λ k.

@@ -1,9 +1,10 @@
-use Rattle.std.proofs.Common.{◌≡◌, ℕ, ◌<◌, length, Some, slice_get}
-use Rattle.glob_syntax.specs.inner.ClassTable.{membership}
+use Rattle.std.proofs.Common.{◌≡◌, length, take}
+use Rattle.glob_syntax.specs.ClassBytes.{ranges_have}
+use Rattle.glob_syntax.specs.inner.ClassTable.{Shows}
 use Rattle.glob_syntax.proofs.class.table.table_of.Given as goal
 
-abbrev pub invariant-loop-byte : goal.invariant-loop-byte
-invariant-loop-byte l = record {
-  len : length l.table.items ≡ l.byte;
-  done : (b : ℕ) → b < l.byte → slice_get l.table.items b ≡ Some (membership l.ranges b);
+abbrev pub invariant-loop-range : goal.invariant-loop-range
+invariant-loop-range l = record {
+  shows : Shows (λ b. ranges_have (take l.range-index l.ranges) b) l.table;
+  len : length l.table ≡ 256;
 }

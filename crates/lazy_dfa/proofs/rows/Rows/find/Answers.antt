@@ -120,7 +120,7 @@ loop-left-preserved c =
             (AcceptsRow m c.step-step.new.self next) b goes after k (has_index c.find_from.new.found k) (has_index c.tell.new.found k) _ (told k) (rw more at finds k)) (runs k),
       );
       visits =
-          let whole : length rest + 1 ≡ (length after + 1) + n + 1 = omega (arith, len, lt) in
-          visits_left (length after + 1) n w c.loop-left.visits c.find_from.new.visits c.step-step.new.visits _ (omega arith) c.in-Some.ensures.visits (omega (arith, c.step-step.ensures.visits)) (rw whole at inv.visits);
+          let whole : length rest ≡ length after + n + 1 = omega (arith, len, lt) in
+          visits_left (length after) n w c.loop-left.visits c.find_from.new.visits c.step-step.new.visits _ (omega arith) c.in-Some.ensures.visits (omega (arith, c.step-step.ensures.visits)) (rw whole at inv.visits);
       counted = omega (arith, inv.counted, c.find_from.ensures.counted, c.step-step.ensures.counted);
     }

@@ -15,7 +15,7 @@ invariant-loop-left l =
       sound : IsSound m l.self;
       room : index_capacity l.found ≡ index_capacity l.fn.found;
       runs : (i : ℕ) × IsAt l.self i l.place × ((k : ℕ) → (FindsBy (half m) (AcceptsRow m l.self i) l.rest k ⊎ IsTrue (has_index l.found k)) ↔ (FindsBy (half m) (IsReached m) l.text k ⊎ IsTrue (has_index l.fn.found k)));
-      visits : l.visits + (length l.rest + 1) * w ≤ l.fn.visits + (length l.text + 1) * w;
+      visits : l.visits + length l.rest * w ≤ l.fn.visits + 1 + length l.text * w;
       counted : l.fn.visits ≤ l.visits;
     }
 

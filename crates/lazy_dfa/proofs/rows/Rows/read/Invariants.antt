@@ -13,7 +13,7 @@ invariant-loop-reached l =
     record {
       sound : IsSound m l.self;
       runs : (i : ℕ) × IsAt l.self i l.place × ((z : List ℕ) (k : ℕ) → FindsBy (half m) (AcceptsRow m l.self i) (l.rest ++ z) k ↔ FindsBy (half m) (IsReached m) (l.text ++ z) k);
-      visits : l.visits + length l.rest * w ≤ l.fn.visits + length l.text * w;
+      visits : l.visits + length l.rest * w ≤ l.fn.visits + 1 + length l.text * w;
       counted : l.fn.visits ≤ l.visits;
     }
 

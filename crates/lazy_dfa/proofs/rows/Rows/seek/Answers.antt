@@ -1,37 +1,6 @@
-use Rattle.std.proofs.Common.{refl, ◌∙◌, arith}
+use Rattle.std.proofs.Common.{◌∙◌, arith}
 use Rattle.byte_dfa.proofs.lemmas.Lists.{keeps_then}
-use Rattle.lazy_dfa.proofs.lemmas.Rows.{same_sound}
 use Rattle.lazy_dfa.proofs.rows.Rows.seek.Goals as goal
-
-pub returns-in-Some-clause-sound : goal.returns-in-Some-clause-sound
-returns-in-Some-clause-sound c =
-    let room = c.requires.room in
-    same_sound c.args.automaton.now c.args.self.now _ record { starts = refl; lists = refl; class_of = refl; class_count = refl } refl refl record {
-      from = room.from;
-      next = room.next;
-      ends = room.ends;
-      list = omega (arith, room.list, c.list_of.ensures.capacity);
-      told = room.told;
-      lists = room.lists;
-      starts = room.starts;
-      entries = room.entries;
-      width = room.width;
-    } c.requires
-
-pub make_room-is_kept-requires : goal.make_room-is_kept-requires
-make_room-is_kept-requires c =
-    let room = c.requires.room in
-    same_sound c.args.automaton.now c.args.self.now _ record { starts = refl; lists = refl; class_of = refl; class_count = refl } refl refl record {
-      from = room.from;
-      next = room.next;
-      ends = room.ends;
-      list = omega (arith, room.list, c.list_of.ensures.capacity);
-      told = room.told;
-      lists = room.lists;
-      starts = room.starts;
-      entries = room.entries;
-      width = room.width;
-    } c.requires
 
 pub returns-clause-kept : goal.returns-clause-kept
 returns-clause-kept c = λ on.

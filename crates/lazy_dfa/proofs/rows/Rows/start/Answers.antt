@@ -1,4 +1,4 @@
-use Rattle.std.proofs.Common.{◌≡◌, refl, arith, sym}
+use Rattle.std.proofs.Common.{◌≡◌, ◌++◌, refl, ap, arith, sym, ◌∙◌}
 use Rattle.byte_nfa.proofs.lemmas.Pass.{iff_trans}
 use Rattle.byte_dfa.proofs.lemmas.Found.{iff_sym}
 use Rattle.lazy_dfa.proofs.lemmas.Rows.{same_sound, begun_sound}
@@ -7,14 +7,14 @@ use Rattle.lazy_dfa.proofs.rows.Rows.start.Goals as goal
 pub returns-in-Some-clause-begins : goal.returns-in-Some-clause-begins
 returns-in-Some-clause-begins c = c.requires.begins c.in-Some.place c.in-Some.is
 
-pub seek-found-requires : goal.seek-found-requires
-seek-found-requires c =
+pub seek-found-requires-clause-sound : goal.seek-found-requires-clause-sound
+seek-found-requires-clause-sound c =
     let room = c.requires.room in
     same_sound c.args.automaton.now c.args.self.now _ record { starts = refl; lists = refl; class_of = refl; class_count = refl } refl refl record {
       from = room.from;
-      next = omega (arith, room.next, c.start.ensures.room);
+      first = room.first;
       ends = room.ends;
-      list = room.list;
+      list = omega (arith, room.list, c.clear.ensures.capacity, c.extend_within.ensures.capacity);
       told = room.told;
       lists = room.lists;
       starts = room.starts;
@@ -23,15 +23,18 @@ seek-found-requires c =
     } c.requires
 
 pub returns-clause-begins : goal.returns-clause-begins
-returns-clause-begins c = (c.seek-found.result.row, (c.seek-found.ensures.row, c.place_of_row-place.ensures), λ y k. iff_trans (iff_sym (c.seek-found.ensures.states y k)) (c.start.ensures.starts y k))
+returns-clause-begins c =
+    let loaded = c.extend_within.ensures.items ∙ ap (λ l. l ++ c.deref.result.now) c.clear.ensures.items ∙ c.deref.ensures.value in
+    (c.seek-found.result.row, (c.seek-found.ensures.row, c.place_of_row-place.ensures), λ y k. iff_trans (iff_sym (c.seek-found.ensures.states y k)) (rw loaded (c.requires.room.first.accepts y k)))
 
 pub returns-clause-sound : goal.returns-clause-sound
 returns-clause-sound c =
     let sound = c.seek-found.ensures.sound in
+    let loaded = c.extend_within.ensures.items ∙ ap (λ l. l ++ c.deref.result.now) c.clear.ensures.items ∙ c.deref.ensures.value in
     let room = sound.room in
     begun_sound c.args.automaton.now c.seek-found.new.self _ record { starts = refl; lists = refl; class_of = refl; class_count = refl } refl record {
       from = room.from;
-      next = room.next;
+      first = room.first;
       ends = room.ends;
       list = room.list;
       told = room.told;
@@ -41,4 +44,4 @@ returns-clause-sound c =
       width = room.width;
     } (λ p at.
     let same : c.place_of_row-place.result ≡ p = cc in
-    rw (sym same) (c.seek-found.result.row, (c.seek-found.ensures.row, c.place_of_row-place.ensures), λ y k. iff_trans (iff_sym (c.seek-found.ensures.states y k)) (c.start.ensures.starts y k))) sound
+    rw (sym same) (c.seek-found.result.row, (c.seek-found.ensures.row, c.place_of_row-place.ensures), λ y k. iff_trans (iff_sym (c.seek-found.ensures.states y k)) (rw loaded (c.requires.room.first.accepts y k)))) sound

@@ -1,0 +1,114 @@
+//! Calls that are asked about a path.
+
+ghost use Rattle.std.specs.Prelude.{◌<◌};
+
+use crate::measured::{Limits, Measured};
+use anyhow::Result;
+use globset::{Candidate, Error, GlobMatcher, GlobSet, Searcher};
+
+/// A call that is asked about a path. The [`Candidate`] is made in the call, since a program makes it for each path.
+pub trait Asked {
+    /// Returns how many matches it finds.
+    fn ask(&mut self, path: &str) -> Result<usize, Error>;
+}
+
+/// `GlobSet::is_match_candidate`.
+#[derive(Drop)]
+pub struct Any {
+    pub set: GlobSet,
+}
+
+impl Asked for Any {
+    fn ask(&mut self, path: &str) -> Result<usize, Error> {
+        Ok(self.set.is_match_candidate(&Candidate::new(path))? as usize)
+    }
+}
+
+/// `GlobSet::matches_candidate_into`, with one vector for all paths.
+#[derive(Drop)]
+pub struct Indexes {
+    pub set: GlobSet,
+    pub into: Vec<usize>,
+}
+
+impl Asked for Indexes {
+    fn ask(&mut self, path: &str) -> Result<usize, Error> {
+        self.set
+            .matches_candidate_into(&Candidate::new(path), &mut self.into)?;
+        Ok(self.into.len())
+    }
+}
+
+/// `GlobMatcher::is_match_candidate`, of a matcher for each glob.
+#[derive(Drop)]
+pub struct Matchers {
+    pub matchers: Vec<GlobMatcher>,
+}
+
+impl Asked for Matchers {
+    fn ask(&mut self, path: &str) -> Result<usize, Error> {
+        let path = Candidate::new(path);
+        let mut found = 0usize;
+        for matcher in &self.matchers {
+            if matcher.is_match_candidate(&path)? {
+                found = found.wrapping_add(1);
+            }
+        }
+        Ok(found)
+    }
+}
+
+/// `Searcher::matches`.
+#[derive(Drop)]
+pub struct Searching {
+    pub searcher: Searcher,
+}
+
+impl Asked for Searching {
+    fn ask(&mut self, path: &str) -> Result<usize, Error> {
+        Ok(self.searcher.matches(&Candidate::new(path)).len())
+    }
+}
+
+/// Returns how many matches there are for these paths.
+pub fn ask_all<A: Asked>(asked: &mut A, paths: &[&str]) -> Result<usize> {
+    let mut found = 0usize;
+    for path in paths {
+        found = found.wrapping_add(asked.ask(path)?);
+    }
+    Ok(found)
+}
+
+/// Asks about these paths, with so many calls for each, between two looks at the clock.
+pub fn add_piece<A: Asked>(
+    measured: &mut Measured<'_>,
+    asked: &mut A,
+    paths: &[&str],
+    calls: usize,
+) -> Result<()> {
+    let start = measured.start()?;
+    let found = ask_all(asked, paths)?;
+    measured.stop(start, paths.len().saturating_mul(calls), found)
+}
+
+/// Adds rounds over the paths, in pieces of so many paths, with so many calls for each path.
+pub fn add_rounds<A: Asked>(
+    measured: &mut Measured<'_>,
+    limits: Limits,
+    asked: &mut A,
+    paths: &[&str],
+    piece: usize,
+    calls: usize,
+) -> Result<()>
+    requires { 0 < piece }
+{
+    for _ in 0..limits.rounds {
+        for some in paths.chunks(piece) {
+            if measured.is_enough() {
+                return Ok(());
+            }
+            add_piece(measured, asked, some, calls)?;
+        }
+    }
+    Ok(())
+}

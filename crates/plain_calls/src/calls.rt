@@ -1,0 +1,119 @@
+//! The calls by their names.
+
+use crate::asked::{Any, Asked, Indexes, Matchers, Searching, add_piece, add_rounds, ask_all};
+use crate::input::GlobText;
+use crate::made::{AskedSets, Making, Searchers, Sets, add_making, add_reading, read};
+use crate::measured::{Limits, Measured};
+use anyhow::{Result, anyhow};
+use globset::{GlobSet, Searcher};
+
+/// The first calls, which are measured by themselves: many sets take more time for these than for as many later ones.
+const FIRST: usize = 100;
+
+/// The calls between two looks at the clock.
+const PIECE: usize = 500;
+
+/// What is measured with which globs and paths, and for how long.
+#[derive(Clone, Copy)]
+pub struct Job<'a> {
+    pub rt: &'a HostRuntime,
+    pub globs: &'a [GlobText<'a>],
+    pub paths: &'a [&'a str],
+    pub limits: Limits,
+}
+
+impl Job<'_> {
+    /// Measures the call of this name.
+    pub fn run(&self, call: &str) -> Result<()> {
+        match call {
+            "is_match" => self.ask(call, Any { set: self.set()? }, 1),
+            "matches" => self.indexes(call),
+            "matcher" => self.matchers(call),
+            "searcher" => self.searching(call),
+            "read" => self.reading(call),
+            "make" => self.make(call, &Sets),
+            "make_searcher" => self.make(call, &Searchers),
+            "make_and_ask" => self.asked_sets(call),
+            _ => Err(anyhow!("a call is unknown")),
+        }
+    }
+
+    fn set(&self) -> Result<GlobSet> {
+        Ok(GlobSet::new(self.rt.alloc(), &read(self.rt.alloc(), self.globs)?)?)
+    }
+
+    fn indexes(&self, call: &str) -> Result<()> {
+        let asked = Indexes {
+            set: self.set()?,
+            into: Vec::new(self.rt.alloc()),
+        };
+        self.ask(call, asked, 1)
+    }
+
+    fn matchers(&self, call: &str) -> Result<()> {
+        let mut matchers = Vec::new(self.rt.alloc());
+        for text in self.globs {
+            matchers.push(text.read(self.rt.alloc())?.compile_matcher()?)?;
+        }
+        self.ask(call, Matchers { matchers }, self.globs.len())
+    }
+
+    fn searching(&self, call: &str) -> Result<()> {
+        let searcher = Searcher::new(self.rt.alloc(), &self.set()?)?;
+        self.ask(call, Searching { searcher }, 1)
+    }
+
+    fn asked_sets(&self, call: &str) -> Result<()> {
+        let path = self.paths.first().copied().unwrap_or("");
+        self.make(call, &AskedSets { path })
+    }
+
+    /// Asks about the paths, with so many calls for each.
+    fn ask<A: Asked + Drop>(&self, call: &str, mut asked: A, calls: usize) -> Result<()> {
+        if self.limits.rounds == 0 {
+            return self.count(call, ask_all(&mut asked, self.paths)?);
+        }
+        let mut measured = Measured::new(self.rt, self.limits);
+        let first = self
+            .paths
+            .get(..FIRST.div_ceil(calls.max(1)))
+            .unwrap_or(self.paths);
+        add_piece(&mut measured, &mut asked, first, calls)?;
+        let piece = PIECE.div_ceil(calls.max(1));
+        add_rounds(
+            &mut measured,
+            self.limits,
+            &mut asked,
+            self.paths,
+            piece,
+            calls,
+        )?;
+        measured.write(call, self.paths.len().div_ceil(piece))
+    }
+
+    /// Writes a count in place of what was measured.
+    fn count(&self, call: &str, found: usize) -> Result<()> {
+        println!(self.rt; "{call}\t{found}")?;
+        Ok(())
+    }
+
+    fn reading(&self, call: &str) -> Result<()> {
+        if self.limits.rounds == 0 {
+            return self.count(call, read(self.rt.alloc(), self.globs)?.len());
+        }
+        let mut measured = Measured::new(self.rt, self.limits);
+        add_reading(&mut measured, self.limits, self.rt.alloc(), self.globs)?;
+        measured.write(call, 1)
+    }
+
+    fn make<M: Making>(&self, call: &str, making: &M) -> Result<()> {
+        let globs = read(self.rt.alloc(), self.globs)?;
+        if self.limits.rounds == 0 {
+            making.make(self.rt.alloc(), &globs)?;
+            return self.count(call, globs.len());
+        }
+        let mut measured = Measured::new(self.rt, self.limits);
+        add_making(&mut measured, self.limits, self.rt.alloc(), making, &globs)?;
+        measured.write(call, 1)
+    }
+}

@@ -1,0 +1,151 @@
+//! Processor time of pieces of work.
+
+use anyhow::{Result, anyhow};
+use std::time::{CpuClock, Duration};
+
+/// How much is measured.
+#[derive(Clone, Copy)]
+pub struct Limits {
+    /// The rounds over all paths.
+    pub rounds: usize,
+    /// The nanoseconds after which nothing more of a call is measured.
+    pub nanos: u64,
+}
+
+impl Limits {
+    pub fn parse(rounds: &str, micros: &str) -> Result<Limits> {
+        let (Ok(rounds), Ok(micros)) = (rounds.parse::<usize>(), micros.parse::<u64>()) else {
+            return Err(anyhow!("ROUNDS and MICROSECONDS have to be numbers"));
+        };
+        Ok(Limits {
+            rounds,
+            nanos: micros.saturating_mul(1_000),
+        })
+    }
+}
+
+/// Some calls that were made without a look at the clock: how many, how many matches they found, and what they took.
+#[derive(Clone, Copy)]
+struct Piece {
+    calls: usize,
+    found: usize,
+    nanos: u64,
+}
+
+impl Piece {
+    fn nothing() -> Piece {
+        Piece {
+            calls: 0,
+            found: 0,
+            nanos: 0,
+        }
+    }
+
+    fn add(&mut self, other: Piece) {
+        self.calls = self.calls.saturating_add(other.calls);
+        self.found = self.found.saturating_add(other.found);
+        self.nanos = self.nanos.saturating_add(other.nanos);
+    }
+}
+
+/// The pieces of one call that were measured, in order.
+#[derive(Drop)]
+pub struct Measured<'a> {
+    rt: &'a HostRuntime,
+    limits: Limits,
+    pieces: Vec<Piece>,
+    nanos: u64,
+}
+
+impl<'a> Measured<'a> {
+    pub fn new(rt: &'a HostRuntime, limits: Limits) -> Measured<'a> {
+        Measured {
+            rt,
+            limits,
+            pieces: Vec::new(rt.alloc()),
+            nanos: 0,
+        }
+    }
+
+    /// Returns the processor time so far, to be handed to [`Measured::stop`].
+    pub fn start(&self) -> Result<Duration> {
+        Ok(self.rt.thread_cpu_time()?)
+    }
+
+    /// Adds what was done since then.
+    pub fn stop(&mut self, start: Duration, calls: usize, found: usize) -> Result<()> {
+        let taken = self.rt.thread_cpu_time()?.saturating_sub(start);
+        let nanos = u64::try_from(taken.as_nanos()).unwrap_or(u64::MAX);
+        self.nanos = self.nanos.saturating_add(nanos);
+        self.pieces.push(Piece {
+            calls,
+            found,
+            nanos,
+        })?;
+        Ok(())
+    }
+
+    /// Returns whether as much time was taken as should be.
+    pub fn is_enough(&self) -> bool {
+        self.nanos >= self.limits.nanos
+    }
+
+    /// Returns the nanoseconds of the last piece, or 0 if there was none.
+    pub fn last_nanos(&self) -> u64 {
+        match self.pieces.last() {
+            Some(piece) => piece.nanos,
+            None => 0,
+        }
+    }
+
+    /// Forgets the pieces so far, and not the time that they took.
+    pub fn forget(&mut self) {
+        self.pieces.clear();
+    }
+
+    /// Writes the columns of a call: the matches of the first piece, and those of so many pieces after it, which are a round, or
+    /// `-` if they are not there; and then the calls and the nanoseconds of the first piece, of the later half of all pieces, and
+    /// of the fastest of those with as many calls as the first.
+    pub fn write(&self, call: &str, pieces_of_round: usize) -> Result<()> {
+        let first = self.pieces.first().copied().unwrap_or(Piece::nothing());
+        let (late, least) = (self.late(), self.least(first));
+        print!(self.rt; "{call}\t{}\t", first.found)?;
+        match self.pieces.get(1..).unwrap_or(&[]).get(..pieces_of_round) {
+            Some(pieces) => print!(self.rt; "{}", sum(pieces).found)?,
+            None => print!(self.rt; "-")?,
+        }
+        println!(self.rt;
+            "\t{}\t{}\t{}\t{}\t{}\t{}",
+            first.calls, first.nanos, late.calls, late.nanos, least.calls, least.nanos
+        )?;
+        Ok(())
+    }
+
+    /// Returns the later half of the pieces together.
+    fn late(&self) -> Piece {
+        let half = self.pieces.len() / 2;
+        match self.pieces.get(half..) {
+            Some(pieces) => sum(pieces),
+            None => Piece::nothing(),
+        }
+    }
+
+    /// Returns the fastest of the pieces that have as many calls as the first.
+    fn least(&self, first: Piece) -> Piece {
+        let mut least = first;
+        for piece in &self.pieces {
+            if piece.calls == first.calls && piece.nanos < least.nanos {
+                least = *piece;
+            }
+        }
+        least
+    }
+}
+
+fn sum(pieces: &[Piece]) -> Piece {
+    let mut sum = Piece::nothing();
+    for piece in pieces {
+        sum.add(*piece);
+    }
+    sum
+}
