@@ -1,4 +1,5 @@
 -- Lemmas by topic.
 pub mod Compiled
-pub mod Filtered
+pub mod Numbers
 pub mod Rows
+pub mod Shared

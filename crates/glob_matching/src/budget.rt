@@ -18,7 +18,6 @@ const MAX_TABLES: usize = 512;
 /// What the tables of all automata of a set may still take together.
 #[derive(Clone, Copy)]
 pub struct Budget {
-    simulates_all: bool,
     /// The bytes that tables may still take.
     bytes: usize,
     /// The numbers that may still be made, with those of tables that are given up: making one of these takes as long as making
@@ -29,19 +28,18 @@ pub struct Budget {
 }
 
 impl Budget {
-    /// Returns the budget of a set whose tables may take so many bytes together. If these are none, all states are simulated.
+    /// Returns the budget of a set whose tables may take so many bytes together. If these are none, automata are stepped.
     pub fn new(dfa_size_limit: usize) -> Budget {
         Budget {
-            simulates_all: dfa_size_limit == 0,
             bytes: dfa_size_limit,
             numbers: MAX_NUMBERS_TOGETHER.max(dfa_size_limit / BYTES_PER_NUMBER),
             tables: MAX_TABLES,
         }
     }
 
-    /// Returns whether all states are to be simulated.
-    pub(crate) fn simulates_all(self) -> bool {
-        self.simulates_all
+    /// Returns how many bytes tables, and the rows that are kept between calls, may still take.
+    pub(crate) fn bytes(self) -> usize {
+        self.bytes
     }
 
     /// Returns how many numbers a table may have that has at most so many by itself, or 0 if it may not be tried.

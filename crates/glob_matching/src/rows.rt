@@ -1,28 +1,34 @@
 //! Automata whose tables are made row by row, as texts need them.
 
-ghost use Rattle.std.specs.Prelude.{◌≡◌, ◌+◌, ◌*◌, ◌≤◌, ◌↔◌, ◌++◌, ◌∷◌, [], List, length, IsTrue, IfOk, IfSome};
-ghost use Rattle.byte_nfa.specs.Runs.{size};
+ghost use Rattle.std.specs.Prelude.{◌≡◌, ◌+◌, ◌*◌, ◌≤◌, ◌↔◌, ◌++◌, ◌∷◌, [], ℕ, None, false, length, IsTrue, IfOk, IfSome};
 ghost use Rattle.bit_sets.specs.Indexes.{index_capacity};
-ghost use Rattle.glob_nfa.specs.IndexedTokens.{IndexedTokens, IsFor, SomeMeanAfter};
-ghost use Rattle.glob_matching.specs.Matching.{AddsMatches, TellsMatch};
+ghost use Rattle.byte_nfa.specs.Live.{MatchesAfter};
+ghost use Rattle.byte_nfa.specs.Runs.{size};
+ghost use Rattle.byte_nfa.specs.Steps.{IsReached};
 ghost use Rattle.nfa_sharing.specs.Sharing.{Shares};
+ghost use Rattle.glob_matching.specs.inner.Found.{AddsReached, AddsSome};
 
-use crate::turns::Turns;
+use crate::budget::Budget;
+use crate::kept::{Kept, KeptCaches};
+use crate::row_cache::RowCache;
 use bit_sets::{IndexSet, Visits};
 use byte_nfa::Nfa;
-use lazy_dfa::{Cache, LazyDfa};
-use nfa_sharing::shared;
+use lazy_dfa::LazyDfa;
 use std::alloc::{AllocError, Global};
 use std::marker::Model;
 use std::snapshot::Snapshot;
 use std::sync::Arc;
 
-/// What rows are made from. All threads share it, and each has a [`RowCache`]. Contracts see the automaton whose ends are found.
+/// What rows are made from, and the caches of rows that calls share which have none of their own. Contracts see the automaton whose
+/// ends are found.
 pub struct RowSource {
-    /// It is made from another automaton that leads to the same ends, in which texts that begin alike share states.
+    alloc: Global,
+    /// It is made from an automaton that leads to the same ends.
     dfa: Arc<LazyDfa>,
-    /// How many bytes the rows of a thread take.
+    /// How many bytes the rows of a cache take.
     cache_bytes: usize,
+    /// In a box, since the pool has room between its places, and a set may have many automata.
+    kept: Box<KeptCaches>,
     source: Snapshot<Nfa>,
 }
 
@@ -30,8 +36,10 @@ impl Drop for RowSource {
     // One call wherever a value is dropped, which keeps proofs short.
     fn drop(self) {
         let RowSource {
+            alloc: _,
             dfa: _,
             cache_bytes: _,
+            kept: _,
             source: _,
         } = self;
     }
@@ -39,6 +47,7 @@ impl Drop for RowSource {
 
 impl Model for RowSource {
     ghost use Rattle.std.specs.Arc.{arc_value};
+    ghost use Rattle.std.specs.Prelude.{◌≡◌};
     ghost use Rattle.byte_nfa.specs.Steps.{NfaValue};
     ghost use Rattle.nfa_sharing.specs.Sharing.{Shares};
 
@@ -46,87 +55,41 @@ impl Model for RowSource {
 
     ghost view = { λ r. r.source.value };
 
-    ghost invariant = { λ r. Shares r.source.value (arc_value r.dfa) };
-}
-
-/// The rows that the texts of one thread needed so far, in a memory of fixed size. Contracts see the automaton whose ends are
-/// found: what earlier calls left has no effect on an answer.
-pub struct RowCache {
-    dfa: Arc<LazyDfa>,
-    cache: Cache,
-    /// Whether a filter is asked before rows are used.
-    turns: Turns,
-    made_for: Snapshot<RowSource>,
-}
-
-impl Drop for RowCache {
-    // One call wherever a value is dropped, which keeps proofs short.
-    fn drop(self) {
-        let RowCache {
-            dfa: _,
-            cache: _,
-            turns: _,
-            made_for: _,
-        } = self;
-    }
-}
-
-impl Model for RowCache {
-    ghost use Rattle.std.specs.Arc.{arc_value};
-    ghost use Rattle.std.specs.Prelude.{◌≡◌};
-    ghost use Rattle.byte_nfa.specs.Steps.{NfaValue};
-    ghost use Rattle.nfa_sharing.specs.Sharing.{Shares};
-
-    ghost Value = { NfaValue };
-
-    ghost view = { λ r. r.made_for.value };
-
-    ghost invariant = { λ r. Shares r.made_for.value (arc_value r.dfa) × (arc_value r.dfa ≡ r.cache) };
+    ghost invariant = { λ r. Shares r.source.value (arc_value r.dfa) × (r.kept.value ≡ r.source.value) };
 }
 
 impl RowSource {
-    /// Returns what rows of an automaton are made from.
+    /// Returns what rows of an automaton are made from, by `sharing`, which leads to the same ends.
     ///
-    /// The rows of a thread take at most 8 MiB, or the share of these that the states have in `all_states`. It takes time and
-    /// memory linear in the states. Returns `None` if that share is too small or there are too many indexes, and an error if
-    /// memory runs out.
+    /// The rows of a cache take at most 8 MiB, or the share of these that the states have in `all_states`. Those of all caches that
+    /// are kept between calls take at most that share of the bytes of the budget. It takes time and memory linear in the states.
+    /// Returns `None` if the budget has no bytes, the share is too small or there are too many indexes, and an error if memory
+    /// runs out.
     pub fn new(
         alloc: Global,
-        automaton: &Nfa,
-        all_states: usize,
-    ) -> Result<Option<RowSource>, AllocError>
-        ensures { IfOk result (λ made. IfSome made (λ rows. rows ≡ automaton.now)) }
-    {
-        let share = share_of(automaton.state_count(), all_states);
-        if share < FEWEST_BYTES {
-            return Ok(None);
-        }
-        // Only texts from two starts may begin alike.
-        if automaton.starts().len() <= 1 {
-            return RowSource::of(alloc, automaton, automaton, share);
-        }
-        match shared(alloc, automaton)? {
-            Some(sharing) => RowSource::of(alloc, automaton, &sharing, share),
-            None => RowSource::of(alloc, automaton, automaton, share),
-        }
-    }
-
-    /// Returns what rows of an automaton are made from, by one that leads to the same ends. The rows take at most `share` bytes.
-    fn of(
-        alloc: Global,
+        budget: Budget,
         automaton: &Nfa,
         sharing: &Nfa,
-        share: usize,
+        all_states: usize,
     ) -> Result<Option<RowSource>, AllocError>
         requires { Shares automaton.now sharing.now }
         ensures { IfOk result (λ made. IfSome made (λ rows. rows ≡ automaton.now)) }
     {
+        let states = automaton.state_count();
+        let share = share_of(MOST_BYTES, states, all_states);
+        if budget.bytes() == 0 || share < FEWEST_BYTES {
+            return Ok(None);
+        }
         let Some(dfa) = LazyDfa::new(alloc, sharing)? else {
             return Ok(None);
         };
+        let cache_bytes = cache_bytes(sharing.state_count(), share);
+        let most = share_of(budget.bytes(), states, all_states) / cache_bytes.max(1);
         Ok(Some(RowSource {
+            alloc,
             dfa: Arc::new(alloc, dfa)?,
-            cache_bytes: cache_bytes(sharing.state_count(), share),
+            cache_bytes,
+            kept: Box::new(alloc, KeptCaches::new(automaton, most.min(MOST_KEPT)))?,
             source: Snapshot::of(automaton),
         }))
     }
@@ -135,92 +98,152 @@ impl RowSource {
     pub fn new_cache(&self, alloc: Global) -> Result<RowCache, AllocError>
         ensures { IfOk result (λ cache. cache ≡ self.now) }
     {
-        let cache = Cache::new(alloc, &self.dfa, self.cache_bytes)?;
-        Ok(RowCache {
-            dfa: Arc::try_clone(&self.dfa)?,
-            cache,
-            turns: Turns::new(),
-            made_for: Snapshot::of(self),
-        })
+        RowCache::new(alloc, &self.dfa, self.cache_bytes, &self.source)
+    }
+
+    /// Returns how many bytes the caches take that are kept between calls.
+    pub fn kept_bytes(&self) -> usize {
+        self.kept.made().saturating_mul(self.cache_bytes)
+    }
+
+    /// Makes a cache and keeps it for later calls, unless one was made before, or there is no room or no memory for it.
+    pub fn keep_one(&self) {
+        if self.kept.made() > 0 {
+            return;
+        }
+        if let Some(kept) = self.make() {
+            self.kept.put(kept);
+        }
+    }
+
+    /// Takes a cache that is kept for one call. If there is none and memory may be taken, it makes one, but for the first calls.
+    fn take(&self, may_make: bool) -> Option<Kept>
+        ensures { IfSome result (λ kept. kept.cache.value ≡ self.now) }
+    {
+        if let Some(kept) = self.kept.take() {
+            return Some(kept);
+        }
+        if may_make && self.kept.were_missed() {
+            return self.make();
+        }
+        None
+    }
+
+    /// Makes a cache with no rows, if fewer are kept than may be, and there is memory for it.
+    fn make(&self) -> Option<Kept>
+        ensures { IfSome result (λ kept. kept.cache.value ≡ self.now) }
+    {
+        if !self.kept.count_one_more() {
+            return None;
+        }
+        match self.new_kept() {
+            Ok(kept) => Some(kept),
+            Err(_) => {
+                self.kept.count_one_less();
+                None
+            }
+        }
+    }
+
+    /// Returns a cache with no rows, in a box. Returns an error if memory runs out.
+    fn new_kept(&self) -> Result<Kept, AllocError>
+        ensures { IfOk result (λ kept. kept.cache.value ≡ self.now) }
+    {
+        let cache = self.new_cache(self.alloc)?;
+        Ok(Kept::new(Box::new(self.alloc, cache)?))
     }
 }
 
-impl RowCache {
-    /// Returns how many bytes its rows may take.
-    pub fn bytes(&self) -> usize {
-        self.cache.bytes()
-    }
-
-    /// Returns whether a filter should be asked before rows.
-    pub fn asks_filter(&self) -> bool {
-        self.turns.is_filters()
-    }
-
-    /// Keeps whether a filter marked few starts when it was asked.
-    pub fn keep_answer(&mut self, few: bool)
-        ensures { self.new ≡ self.old }
-    {
-        self.turns.keep_answer(few);
-    }
-
-    /// Puts the indexes of the tokens that match a text into a set, beside what it holds.
-    ///
-    /// It is at most `(text bytes + 1) * states` visits. It takes no memory.
-    pub fn find(&mut self, text: &[u8], found: &mut IndexSet, visits: &mut Visits)
-        requires { self.old.index_count ≤ index_capacity found.old }
-        ensures same { self.new ≡ self.old }
+impl RowSource {
+    /// Puts the index of each end that a text leads to into a set, beside what it holds, by the rows of the cache that was
+    /// published last, or, where an entry is not known there, by those of a cache that is kept. Returns whether there was one, or,
+    /// if memory may be taken, one could be made. If not, some of the indexes may be in the set.
+    pub fn find(
+        &self,
+        text: &[u8],
+        may_make: bool,
+        found: &mut IndexSet,
+        visits: &mut Visits,
+    ) -> bool
+        requires { self.now.index_count ≤ index_capacity found.old }
         ensures room { index_capacity found.new ≡ index_capacity found.old }
-        ensures found { AddsMatches self.old text.now found.old found.new }
-        ensures visits { visits.new ≤ visits.old + (length text.now + 1) * size self.old }
+        ensures found { IsTrue result → AddsReached self.now text.now found.old found.new }
+        ensures some { AddsSome self.now text.now found.old found.new }
+        ensures missed { result ≡ false → visits.new ≤ visits.old + (length text.now + 1) }
+        ensures visits { visits.new
+            ≤ visits.old + (length text.now + 1) + (length text.now + 1) * (size self.now + 1) }
         ensures counted { visits.old ≤ visits.new }
     {
-        let before = self.cache.read_count();
-        self.cache.find(&self.dfa, text, found, visits);
-        self.keep_reads(before);
+        if let Some(known) = self.kept.published() {
+            if known.find_known(text, found, visits) {
+                return true;
+            }
+        }
+        let Some(mut kept) = self.take(may_make) else {
+            return false;
+        };
+        kept.cache.find(text, found, visits);
+        self.kept.give(kept, may_make);
+        true
     }
 
-    /// Returns whether tokens match a text.
-    ///
-    /// It is at most `(text bytes + 1) * states` visits. It takes no memory.
-    pub fn is_match(&mut self, text: &[u8], visits: &mut Visits) -> bool
-        ensures same { self.new ≡ self.old }
-        ensures some { TellsMatch self.old text.now result }
-        ensures visits { visits.new ≤ visits.old + (length text.now + 1) * size self.old }
+    /// Returns whether a text leads to some end, as [`RowSource::find`] finds it, or `None` if there was no cache and, if memory
+    /// may be taken, none could be made.
+    pub fn is_match(&self, text: &[u8], may_make: bool, visits: &mut Visits) -> Option<bool>
+        ensures some { IfSome result
+            (λ yes. IsTrue yes ↔ ((k : ℕ) × IsReached self.now text.now k)) }
+        ensures missed { result ≡ None → visits.new ≤ visits.old + (length text.now + 1) }
+        ensures visits { visits.new
+            ≤ visits.old + (length text.now + 1) + (length text.now + 1) * (size self.now + 1) }
         ensures counted { visits.old ≤ visits.new }
     {
-        let before = self.cache.read_count();
-        let is_match = self.cache.is_match(&self.dfa, text, visits);
-        self.keep_reads(before);
-        is_match
+        if let Some(known) = self.kept.published() {
+            if let Some(is_match) = known.is_match_known(text, visits) {
+                return Some(is_match);
+            }
+        }
+        let mut kept = self.take(may_make)?;
+        let is_match = kept.cache.is_match(text, visits);
+        self.kept.give(kept, may_make);
+        Some(is_match)
     }
 
-    /// Returns whether some tokens match a text that begins with `text` and then `byte`.
-    ///
-    /// It is at most `(text bytes + 2) * states` visits. It takes no memory.
-    pub fn can_match_after(&mut self, text: &[u8], byte: u8, visits: &mut Visits) -> bool
-        ensures same { self.new ≡ self.old }
-        ensures some { (xs : List IndexedTokens) → IsFor self.old xs
-            → IsTrue result ↔ SomeMeanAfter xs (text.now ++ byte ∷ []) }
-        ensures visits { visits.new ≤ visits.old + (length text.now + 2) * size self.old }
+    /// Returns whether some text that begins with `text` and then `byte` leads to some end, as [`RowSource::find`] finds it, or
+    /// `None` if there was no cache and, if memory may be taken, none could be made.
+    pub fn can_match_after(
+        &self,
+        text: &[u8],
+        byte: u8,
+        may_make: bool,
+        visits: &mut Visits,
+    ) -> Option<bool>
+        ensures some { IfSome result
+            (λ yes. IsTrue yes ↔ MatchesAfter self.now (text.now ++ byte ∷ [])) }
+        ensures missed { result ≡ None → visits.new ≤ visits.old + (length text.now + 1) }
+        ensures visits { visits.new
+            ≤ visits.old + (length text.now + 1) + (length text.now + 2) * (size self.now + 1) }
         ensures counted { visits.old ≤ visits.new }
     {
-        self.cache.can_match_after(&self.dfa, text, byte, visits)
-    }
-
-    /// Keeps how much was read for new entries of a text, by the count before it.
-    fn keep_reads(&mut self, before: usize)
-        ensures { self.new ≡ self.old }
-    {
-        let reads = self.cache.read_count().wrapping_sub(before);
-        self.turns.keep_reads(reads);
+        if let Some(known) = self.kept.published() {
+            if let Some(can_match) = known.can_match_after_known(text, byte, visits) {
+                return Some(can_match);
+            }
+        }
+        let mut kept = self.take(may_make)?;
+        let can_match = kept.cache.can_match_after(text, byte, visits);
+        self.kept.give(kept, may_make);
+        Some(can_match)
     }
 }
+
+/// The most caches of an automaton that are kept between calls, and so the most calls at once that run by rows of their own.
+const MOST_KEPT: usize = 4;
 
 /// How many bytes a cache has for each state. With fewer, rows are forgotten so often that texts make many of theirs anew.
 const BYTES_PER_STATE: usize = 1 << 11;
 
 /// The bytes of a cache of few states, where there is room for them.
-const USUAL_BYTES: usize = 1 << 17;
+const USUAL_BYTES: usize = 1 << 20;
 
 /// The most bytes of the caches of automata that share their room.
 const MOST_BYTES: usize = 1 << 23;
@@ -228,14 +251,14 @@ const MOST_BYTES: usize = 1 << 23;
 /// With fewer bytes there is no cache: so many automata share the room that few globs are run for a text.
 const FEWEST_BYTES: usize = 1 << 14;
 
-/// Returns how many bytes an automaton of so many states has of the room that automata of `all_states` share.
-fn share_of(state_count: usize, all_states: usize) -> usize {
-    MOST_BYTES.saturating_mul(state_count) / all_states.max(1)
+/// Returns how many of some bytes an automaton of so many states has, which automata of `all_states` share.
+fn share_of(bytes: usize, states: usize, all_states: usize) -> usize {
+    bytes.saturating_mul(states) / all_states.max(1)
 }
 
 /// Returns how many bytes the cache of an automaton of so many states takes, of its share.
-fn cache_bytes(state_count: usize, share: usize) -> usize {
-    state_count
+fn cache_bytes(states: usize, share: usize) -> usize {
+    states
         .saturating_mul(BYTES_PER_STATE)
         .max(USUAL_BYTES)
         .min(share)

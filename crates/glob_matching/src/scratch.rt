@@ -25,6 +25,10 @@ pub trait NeedsScratch {
     /// Returns the number of globs of a set, and 0 for a matcher.
     fn indexes_needed(&self) -> usize
         ensures { result ≡ indexes self.now };
+
+    /// Makes a cache of rows for each automaton that has none and may use one, and keeps it in the set or the matcher, as far as
+    /// there is memory for it. Calls with a scratch make none.
+    fn keep_caches(&self);
 }
 
 /// All the memory that sets and matchers need to match a path. A set needs three bits for each state of its largest automaton,
@@ -35,6 +39,8 @@ pub trait NeedsScratch {
 /// `GlobSet::matches_into_with` if the vector has a capacity of `GlobSet::len`. With one that fits the matcher,
 /// `GlobMatcher::is_match_with` cannot fail. What earlier calls left in a scratch has no effect. It can be used with each set
 /// and each matcher that it fits, and [`Scratch::fit`] makes it fit one more.
+///
+/// Calls with a scratch use the rows that the set or the matcher keeps between calls, and take no memory for more.
 ///
 /// Contracts see two numbers: of states, and of indexes.
 ///
@@ -108,7 +114,8 @@ impl Scratch {
 
     /// Returns a scratch that fits the set or the matcher. It takes three bits of memory for each state of the set's largest
     /// automaton, and one for each glob; for a matcher at most 12 bits for each byte of the glob's text and 12 more, or four times
-    /// as much under `whole_character`.
+    /// as much under `whole_character`. Each automaton that keeps rows between calls, and has none yet, takes memory for them here,
+    /// if there is enough.
     ///
     /// Returns an error if memory runs out, and no other.
     pub fn new<S: NeedsScratch>(alloc: Global, set: &S) -> Result<Scratch, Error>
@@ -157,6 +164,7 @@ impl Scratch {
         self.marks.reserve(indexes)?;
         self.states = states;
         self.indexes = indexes;
+        set.keep_caches();
         Ok(())
     }
 

@@ -265,6 +265,10 @@ impl NeedsScratch for GlobMatcher {
     fn indexes_needed(&self) -> usize {
         0
     }
+
+    fn keep_caches(&self) {
+        self.strategy.keep_cache();
+    }
 }
 
 /// The same as the method [`GlobMatcher::clone`], for code that is generic over `Clone`.

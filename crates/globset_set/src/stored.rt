@@ -112,6 +112,11 @@ impl Stored {
         self.matcher().table_bytes()
     }
 
+    /// Returns how many bytes the caches take that automata keep between calls. It takes time linear in the number of these.
+    pub fn kept_bytes(&self) -> usize {
+        self.matcher().kept_bytes()
+    }
+
     /// Returns a scratch without room, to match with. It allocates nothing.
     pub fn new_scratch(&self) -> Scratch {
         Scratch::empty(self.alloc)
@@ -265,6 +270,10 @@ impl NeedsScratch for Stored {
 
     fn indexes_needed(&self) -> usize {
         self.len()
+    }
+
+    fn keep_caches(&self) {
+        self.matcher().keep_caches();
     }
 }
 

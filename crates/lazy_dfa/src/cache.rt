@@ -1,6 +1,6 @@
 //! The memory of one thread, and what it answers.
 
-ghost use Rattle.std.specs.Prelude.{◌≡◌, ℕ, ◌+◌, ◌*◌, ◌≤◌, ◌⊎◌, ◌↔◌, ◌++◌, ◌∷◌, [], length, IsTrue, IfOk, IfSome};
+ghost use Rattle.std.specs.Prelude.{◌≡◌, ℕ, ◌+◌, ◌*◌, ◌≤◌, ◌⊎◌, ◌↔◌, ◌++◌, ◌∷◌, [], length, IsTrue, IfOk, IfSome, None};
 ghost use Rattle.bit_sets.specs.Indexes.{has_index, index_capacity};
 ghost use Rattle.byte_nfa.specs.Live.{MatchesAfter};
 ghost use Rattle.byte_nfa.specs.Runs.{size};
@@ -164,6 +164,7 @@ impl Cache {
         requires { dfa.now ≡ self.now }
         ensures some { IfSome result
             (λ yes. IsTrue yes ↔ MatchesAfter self.now (text.now ++ byte ∷ [])) }
+        ensures missed { result ≡ None → visits.new ≤ visits.old + (length text.now + 1) }
         ensures visits { visits.new ≤ visits.old + (length text.now + 1) + size self.now }
         ensures counted { visits.old ≤ visits.new }
     {

@@ -1,6 +1,6 @@
 //! Runs over texts.
 
-ghost use Rattle.std.specs.Prelude.{◌≡◌, ℕ, ◌+◌, ◌*◌, ◌<◌, ◌≤◌, ◌^◌, ◌⊎◌, ◌↔◌, ◌++◌, ◌∷◌, List, length, IsTrue, IfSome, MatchOption, MatchResult};
+ghost use Rattle.std.specs.Prelude.{◌≡◌, ℕ, ◌+◌, ◌*◌, ◌<◌, ◌≤◌, ◌^◌, ◌⊎◌, ◌↔◌, ◌++◌, ◌∷◌, List, length, IsTrue, IfSome, None, MatchOption, MatchResult};
 ghost use Rattle.bit_sets.specs.Indexes.{has_index, index_capacity};
 ghost use Rattle.bit_sets.specs.StateSets.{state_capacity};
 ghost use Rattle.bit_sets.specs.Texts.{AllBytes};
@@ -273,6 +273,7 @@ impl Rows {
         ensures some { IfSome result (λ yes. IsTrue yes
             ↔ ((k : ℕ) × (y : List ℕ) × AllBytes y
             × FindsBy (half automaton.now) (IsReached automaton.now) (text.now ++ byte ∷ y) k)) }
+        ensures missed { result ≡ None → visits.new ≤ visits.old + (length text.now + 1) }
         ensures visits { visits.new
             ≤ visits.old + (length text.now + 1) + size automaton.now }
         ensures counted { visits.old ≤ visits.new }

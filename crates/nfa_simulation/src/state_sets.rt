@@ -17,6 +17,8 @@ pub struct StateSets {
     pub(crate) next: StateSet,
     /// The starts that are run, by their places.
     pub starts: IndexSet,
+    /// The most states that room was made for.
+    reserved: usize,
 }
 
 impl Drop for StateSets {
@@ -26,6 +28,7 @@ impl Drop for StateSets {
             current: _,
             next: _,
             starts: _,
+            reserved: _,
         } = self;
     }
 }
@@ -39,7 +42,13 @@ impl StateSets {
             current: StateSet::empty(alloc),
             next: StateSet::empty(alloc),
             starts: IndexSet::empty(alloc),
+            reserved: 0,
         }
+    }
+
+    /// Returns whether room for so many states was made before.
+    pub fn has_capacity_for(&self, states: usize) -> bool {
+        states <= self.reserved
     }
 
     /// Makes room for so many states, if there is less. It takes three bits of memory for each. Returns an error if memory
@@ -51,6 +60,8 @@ impl StateSets {
     {
         self.current.reserve(states)?;
         self.next.reserve(states)?;
-        self.starts.reserve(states)
+        self.starts.reserve(states)?;
+        self.reserved = self.reserved.max(states);
+        Ok(())
     }
 }

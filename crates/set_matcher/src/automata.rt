@@ -94,6 +94,21 @@ impl Automata {
             .saturating_add(self.extensions.table_bytes())
     }
 
+    /// Returns how many bytes the caches take that the automata keep. It takes time linear in the number of automata.
+    pub fn kept_bytes(&self) -> usize {
+        self.by_path
+            .kept_bytes()
+            .saturating_add(self.by_component.kept_bytes())
+            .saturating_add(self.extensions.kept_bytes())
+    }
+
+    /// Keeps a cache in each automaton, as [`Compiled::keep_cache`] does.
+    pub fn keep_caches(&self) {
+        self.by_path.keep_cache();
+        self.by_component.keep_cache();
+        self.extensions.keep_caches();
+    }
+
     /// Returns caches with no rows for the automata, where runs need one. All memory that they
     /// need is taken here. Returns an error if memory runs out.
     pub fn new_caches(&self, alloc: Global) -> Result<Caches, AllocError>
@@ -450,13 +465,13 @@ impl Builders {
         let mut budget = Budget::new(dfa_size_limit);
         let by_path = by_path.finish();
         let states = by_path.state_count();
-        let by_path = Compiled::with_rows(alloc, &mut budget, by_path, states)?;
+        let by_path = Compiled::new(alloc, &mut budget, by_path, states)?;
         let by_component = by_component.finish();
         let has_component = has_text(alloc, &by_component)?;
         let states = by_component
             .state_count()
             .saturating_add(extensions.state_count());
-        let by_component = Compiled::with_rows(alloc, &mut budget, by_component, states)?;
+        let by_component = Compiled::new(alloc, &mut budget, by_component, states)?;
         let extensions = extensions.finish(alloc, &mut budget, states)?;
         let max_states = by_path
             .state_count()

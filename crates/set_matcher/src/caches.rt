@@ -206,7 +206,7 @@ impl SlotCaches {
             → IsTrue yes ↔ SomeMeanAfter xs (text.now ++ byte ∷ [])) }
         ensures kept { sets_capacity sets.old ≤ sets_capacity sets.new }
         ensures memory { size automaton.now ≤ sets_capacity sets.old → IsOk result }
-        ensures visits { visits.new ≤ visits.old + (length text.now + 2) * size automaton.now }
+        ensures visits { visits.new ≤ visits.old + (length text.now + 2) * max_reads automaton.now }
         ensures counted { visits.old ≤ visits.new }
     {
         if let Some(caches) = &mut self.caches {

@@ -43,6 +43,21 @@ impl SetMatcher {
         }
     }
 
+    /// Returns how many bytes the caches take that automata keep between calls. It takes time linear in the number of these.
+    pub fn kept_bytes(&self) -> usize {
+        match &self.automata {
+            Some(automata) => automata.kept_bytes(),
+            None => 0,
+        }
+    }
+
+    /// Keeps a cache in each automaton that has none and may use one, as far as there is memory for it.
+    pub fn keep_caches(&self) {
+        if let Some(automata) = &self.automata {
+            automata.keep_caches();
+        }
+    }
+
     /// Returns caches with no rows for this matcher. All memory that they need is taken here. Returns an error if memory runs out.
     pub fn new_caches(&self, alloc: Global) -> Result<Caches, AllocError>
         ensures { IfOk result (λ caches. AreCachesOf self.now.automata caches) }

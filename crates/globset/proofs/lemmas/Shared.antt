@@ -3,7 +3,7 @@ use denote.Param.Send.{IsSend, IsSync, sendable}
 use Rattle.std.proofs.Crossing.{crosses}
 use Rattle.globset_glob.specs.contracts.glob.Glob as Glob
 use Rattle.globset_glob.specs.contracts.matcher.GlobMatcher as GlobMatcher
-use Rattle.set_matcher.proofs.lemmas.Shared.{compiled-send, compiled-sync}
+use Rattle.glob_matching.proofs.lemmas.Shared.{compiled-send, compiled-sync}
 use Rattle.globset_set.proofs.lemmas.Shared.{stored-send, stored-sync, stored_searcher-send, stored_searcher-sync}
 use Rattle.globset_glob.specs.contracts.matcher.searcher.MatcherSearcher as MatcherSearcher
 use Rattle.globset.specs.contracts.set.GlobSet as GlobSet

@@ -26,6 +26,12 @@ impl NeedsScratch for GlobSet {
     fn indexes_needed(&self) -> usize {
         self.len()
     }
+
+    fn keep_caches(&self) {
+        if let Some(stored) = &self.stored {
+            stored.keep_caches();
+        }
+    }
 }
 
 impl GlobSet {

@@ -51,6 +51,21 @@ impl Strategy {
         }
     }
 
+    /// Returns how many bytes the caches take that an automaton keeps between calls.
+    pub fn kept_bytes(&self) -> usize {
+        match self {
+            Strategy::Key(_) => 0,
+            Strategy::Automaton(automaton) => automaton.kept_bytes(),
+        }
+    }
+
+    /// Keeps a cache in the automaton, as [`Compiled::keep_cache`] does.
+    pub fn keep_cache(&self) {
+        if let Strategy::Automaton(automaton) = self {
+            automaton.keep_cache();
+        }
+    }
+
     /// Returns whether the glob matches a path. Returns an error if memory runs out, and none if a key decides or the sets have
     /// room.
     pub fn is_match(
@@ -128,5 +143,7 @@ fn automaton_of(glob: &Glob, dfa_size_limit: usize) -> Result<Compiled, AllocErr
     let mut builder = new_builder(alloc, 1);
     add_tokens(alloc, &mut builder, glob.options(), glob.tokens(), 0)?;
     let mut budget = Budget::new(dfa_size_limit);
-    Compiled::new(alloc, &mut budget, builder.finish())
+    let automaton = builder.finish();
+    let states = automaton.state_count();
+    Compiled::new(alloc, &mut budget, automaton, states)
 }

@@ -1,7 +1,8 @@
 -- What a set stores, and a searcher of it, can be sent to other threads, and shared between them.
 use denote.Param.Send.{IsSend, IsSync, sendable}
 use Rattle.std.proofs.Crossing.{crosses}
-use Rattle.set_matcher.proofs.lemmas.Shared.{matcher-send, matcher-sync, row_cache-send, row_cache-sync}
+use Rattle.glob_matching.proofs.lemmas.Shared.{row_cache-send, row_cache-sync}
+use Rattle.set_matcher.proofs.lemmas.Shared.{matcher-send, matcher-sync}
 use Rattle.globset_set.specs.contracts.searcher.StoredSearcher as StoredSearcher
 use Rattle.globset_set.specs.contracts.stored.Stored as Stored
 

@@ -353,14 +353,13 @@ module _ (nfas : List NfaValue) (i : ℕ) (m : NfaValue) (lt : i < length nfas) 
       let sum = sum_by-append max_reads (take i nfas) (m ∷ []) in omega (arith, ap total_reads taken, sum)
 
   -- the visits of the runs so far
-  pub visits_more : (n u w v : ℕ) → v ≤ w + n * size m → w ≤ u + n * total_reads (take i nfas) → v ≤ u + n * total_reads (take (i + 1) nfas)
+  pub visits_more : (n u w v : ℕ) → v ≤ w + n * max_reads m → w ≤ u + n * total_reads (take i nfas) → v ≤ u + n * total_reads (take (i + 1) nfas)
   visits_more n u w v this before =
-      let more = mul-le n (size m) n (max_reads m) (omega arith) (omega arith) in
       let sum : n * (total_reads (take i nfas) + max_reads m) ≡ n * total_reads (take i nfas) + n * max_reads m = omega arith in
-      let all = ap (λ (k : ℕ). n * k) total_more in omega (arith, this, before, more, sum, all)
+      let all = ap (λ (k : ℕ). n * k) total_more in omega (arith, this, before, sum, all)
 
   -- they are within those of all runs
-  pub visits_within : (n u w v : ℕ) → v ≤ w + n * size m → w ≤ u + n * total_reads (take i nfas) → v ≤ u + n * total_reads nfas
+  pub visits_within : (n u w v : ℕ) → v ≤ w + n * max_reads m → w ≤ u + n * total_reads (take i nfas) → v ≤ u + n * total_reads nfas
   visits_within n u w v this before =
       let some = visits_more n u w v this before in
       let maximum = mul-le n (total_reads (take (i + 1) nfas)) n (total_reads nfas) (omega arith) (total_take nfas (i + 1)) in omega (arith, some, maximum)

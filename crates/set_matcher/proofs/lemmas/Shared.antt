@@ -1,24 +1,11 @@
 -- Groups can be sent to other threads, and shared between them.
 use denote.Param.Send.{IsSend, IsSync, sendable}
 use Rattle.std.proofs.Crossing.{crosses}
-use Rattle.glob_matching.specs.contracts.compiled.Compiled as Compiled
-use Rattle.glob_matching.specs.contracts.rows.RowCache as RowCache
+use Rattle.glob_matching.proofs.lemmas.Shared.{compiled-send, compiled-sync}
 use Rattle.glob_path.proofs.lemmas.Shared.{keys-send, keys-sync, table-send, table-sync}
 use Rattle.set_matcher.specs.contracts.automata.matchers.ExtensionMatchers as ExtensionMatchers
 use Rattle.set_matcher.specs.contracts.automata.Automata as Automata
 use Rattle.set_matcher.specs.contracts.matcher.SetMatcher as SetMatcher
-
-pub compiled-send : IsSend Compiled.the_field.row
-compiled-send = search (sendable, crosses) depth 40 fits 20000
-
-pub compiled-sync : IsSync Compiled.the_field.row
-compiled-sync = search (sendable, crosses) depth 40 fits 20000
-
-pub row_cache-send : IsSend RowCache.the_field.row
-row_cache-send = search (sendable, crosses) depth 40 fits 20000
-
-pub row_cache-sync : IsSync RowCache.the_field.row
-row_cache-sync = search (sendable, crosses) depth 40 fits 20000
 
 matchers-send : IsSend ExtensionMatchers.the_field.row
 matchers-send = search (sendable, crosses, table-send, compiled-send) depth 20

@@ -19,7 +19,7 @@ use byte_nfa::Builder;
 use glob_matching::{Budget, Compiled};
 use glob_nfa::{add_tokens, new_builder};
 use glob_syntax::{Options, Token};
-use nfa_simulation::{Simulation, StateSets};
+use nfa_simulation::StateSets;
 use std::alloc::{AllocError, Global};
 use std::marker::Model;
 
@@ -86,6 +86,22 @@ impl ExtensionMatchers {
         bytes
     }
 
+    /// Returns how many bytes the caches take that the automata keep. It takes time linear in the number of automata.
+    pub fn kept_bytes(&self) -> usize {
+        let mut bytes: usize = 0;
+        for automaton in &self.automata {
+            bytes = bytes.saturating_add(automaton.kept_bytes());
+        }
+        bytes
+    }
+
+    /// Keeps a cache in each automaton, as [`Compiled::keep_cache`] does.
+    pub fn keep_caches(&self) {
+        for automaton in &self.automata {
+            automaton.keep_cache();
+        }
+    }
+
     /// Returns whether no extension has an automaton.
     pub fn is_empty(&self) -> bool
         ensures { IsTrue result ↔ (self.now.slots ≡ []) }
@@ -150,8 +166,8 @@ impl ExtensionMatchers {
 impl ExtensionMatchers {
     /// Returns whether tokens of some extension match a text that begins with `text` and then `byte`.
     ///
-    /// It is at most `text bytes + 2` times the states of all automata in visits. The runs use the same sets of states, one after
-    /// another. The sets get room for each state of an automaton that is simulated. Returns an error if memory runs out.
+    /// It is at most `(text bytes + 2) * (states + 3 * starts)` visits of each automaton. The runs use the same sets of states, one
+    /// after another. The sets get room for each state of an automaton that is stepped. Returns an error if memory runs out.
     pub fn can_match_after(
         &self,
         text: &[u8],
@@ -326,7 +342,7 @@ impl ExtensionMatchersBuilder {
         Ok(ExtensionMatchers {
             slots: slots.build()?,
             automata: finished(alloc, budget, all_states, builders)?,
-            none: Compiled::simulated(Simulation::new(none.finish())),
+            none: Compiled::new(alloc, budget, none.finish(), 0)?,
             index_count,
         })
     }
@@ -359,6 +375,6 @@ fn push_finished(
     ensures { OnOk result (automata.new.items ≡ automata.old.items ++ builder ∷ []) }
 {
     let automaton = builder.finish();
-    automata.push(Compiled::with_rows(alloc, budget, automaton, all_states)?)?;
+    automata.push(Compiled::new(alloc, budget, automaton, all_states)?)?;
     Ok(())
 }

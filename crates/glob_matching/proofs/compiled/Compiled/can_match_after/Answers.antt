@@ -12,16 +12,9 @@ returns-in-Table-clause-some c = λ xs is.
     let here = subst (λ (m : NfaValue). IsTrue c.can_match_after.result ↔ MatchesAfter m (c.args.text.now ++ c.args.byte ∷ [])) same c.can_match_after.ensures.some in
     after_matches c.args.self.now xs c.args.text.now c.args.byte (λ i. omega (arith, c.type_inv.text i)) (omega arith) here is
 
-pub returns-in-Whole-clause-some : goal.returns-in-Whole-clause-some
-returns-in-Whole-clause-some c =
-    let same : c.in-Whole.automaton ≡ c.args.self.now = sym (ap nfa_of c.in-Whole.is) ∙ c.self.view_is in
-    if_ok c.can_match_after-in-Whole.result (λ yes some xs is.
+pub returns-in-Stepped-clause-some : goal.returns-in-Stepped-clause-some
+returns-in-Stepped-clause-some c =
+    let same : c.in-Stepped.stepped ≡ c.args.self.now = sym (ap nfa_of c.in-Stepped.is) ∙ c.self.view_is in
+    if_ok c.can_match_after-in-Stepped.result (λ yes some xs is.
     let here = subst (λ (m : NfaValue). IsTrue yes ↔ MatchesAfter m (c.args.text.now ++ c.args.byte ∷ [])) same some in
-    after_matches c.args.self.now xs c.args.text.now c.args.byte (λ i. omega (arith, c.type_inv.text i)) (omega arith) here is) c.can_match_after-in-Whole.ensures.some
-
-pub returns-in-Filtered-clause-some : goal.returns-in-Filtered-clause-some
-returns-in-Filtered-clause-some c =
-    let same : c.deref-in-Filtered.result.now ≡ c.args.self.now = c.deref-in-Filtered.ensures ∙ sym (ap nfa_of c.in-Filtered.is) ∙ c.self.view_is in
-    if_ok c.can_match_after-in-Filtered.result (λ yes some xs is.
-    let here = subst (λ (m : NfaValue). IsTrue yes ↔ MatchesAfter m (c.args.text.now ++ c.args.byte ∷ [])) same some in
-    after_matches c.args.self.now xs c.args.text.now c.args.byte (λ i. omega (arith, c.type_inv.text i)) (omega arith) here is) c.can_match_after-in-Filtered.ensures.some
+    after_matches c.args.self.now xs c.args.text.now c.args.byte (λ i. omega (arith, c.type_inv.text i)) (omega arith) here is) c.can_match_after-in-Stepped.ensures.some

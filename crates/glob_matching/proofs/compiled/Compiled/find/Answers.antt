@@ -12,16 +12,9 @@ returns-in-Table-clause-found c = λ xs is k.
     let here = subst (λ (m : NfaValue). IsTrue (has_index c.find.new.found k) ↔ (IsReached m c.args.text.now k ⊎ IsTrue (has_index c.args.found.now k))) same (c.find.ensures.found k) in
     finds_matches c.args.self.now xs c.args.text.now k (λ i. omega (arith, c.type_inv.text i)) here is
 
-pub returns-in-Whole-clause-found : goal.returns-in-Whole-clause-found
-returns-in-Whole-clause-found c =
-    let same : c.in-Whole.automaton ≡ c.args.self.now = sym (ap nfa_of c.in-Whole.is) ∙ c.self.view_is in
-    on_ok c.find-in-Whole.result (λ found xs is k.
-    let here = subst (λ (m : NfaValue). IsTrue (has_index c.find-in-Whole.new.found k) ↔ (IsReached m c.args.text.now k ⊎ IsTrue (has_index c.args.found.now k))) same (found k) in
-    finds_matches c.args.self.now xs c.args.text.now k (λ i. omega (arith, c.type_inv.text i)) here is) c.find-in-Whole.ensures.found
-
-pub returns-in-Filtered-clause-found : goal.returns-in-Filtered-clause-found
-returns-in-Filtered-clause-found c =
-    let same : c.deref-in-Filtered.result.now ≡ c.args.self.now = c.deref-in-Filtered.ensures ∙ sym (ap nfa_of c.in-Filtered.is) ∙ c.self.view_is in
-    on_ok c.find-in-Filtered.result (λ found xs is k.
-    let here = subst (λ (m : NfaValue). IsTrue (has_index c.find-in-Filtered.new.found k) ↔ (IsReached m c.args.text.now k ⊎ IsTrue (has_index c.args.found.now k))) same (found k) in
-    finds_matches c.args.self.now xs c.args.text.now k (λ i. omega (arith, c.type_inv.text i)) here is) c.find-in-Filtered.ensures.found
+pub returns-in-Stepped-clause-found : goal.returns-in-Stepped-clause-found
+returns-in-Stepped-clause-found c =
+    let same : c.in-Stepped.stepped ≡ c.args.self.now = sym (ap nfa_of c.in-Stepped.is) ∙ c.self.view_is in
+    on_ok c.find-in-Stepped.result (λ found xs is k.
+    let here = subst (λ (m : NfaValue). IsTrue (has_index c.find-in-Stepped.new.found k) ↔ (IsReached m c.args.text.now k ⊎ IsTrue (has_index c.args.found.now k))) same (found k) in
+    finds_matches c.args.self.now xs c.args.text.now k (λ i. omega (arith, c.type_inv.text i)) here is) c.find-in-Stepped.ensures.found

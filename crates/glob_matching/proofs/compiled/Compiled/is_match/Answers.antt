@@ -11,16 +11,9 @@ returns-in-Table-clause-some c = λ xs is.
     let here = subst (λ (m : NfaValue). IsTrue c.is_match.result ↔ ((k : ℕ) × IsReached m c.args.text.now k)) same c.is_match.ensures.some in
     has_matches c.args.self.now xs c.args.text.now (λ i. omega (arith, c.type_inv.text i)) here is
 
-pub returns-in-Whole-clause-some : goal.returns-in-Whole-clause-some
-returns-in-Whole-clause-some c =
-    let same : c.in-Whole.automaton ≡ c.args.self.now = sym (ap nfa_of c.in-Whole.is) ∙ c.self.view_is in
-    if_ok c.is_match-in-Whole.result (λ yes some xs is.
+pub returns-in-Stepped-clause-some : goal.returns-in-Stepped-clause-some
+returns-in-Stepped-clause-some c =
+    let same : c.in-Stepped.stepped ≡ c.args.self.now = sym (ap nfa_of c.in-Stepped.is) ∙ c.self.view_is in
+    if_ok c.is_match-in-Stepped.result (λ yes some xs is.
     let here = subst (λ (m : NfaValue). IsTrue yes ↔ ((k : ℕ) × IsReached m c.args.text.now k)) same some in
-    has_matches c.args.self.now xs c.args.text.now (λ i. omega (arith, c.type_inv.text i)) here is) c.is_match-in-Whole.ensures.some
-
-pub returns-in-Filtered-clause-some : goal.returns-in-Filtered-clause-some
-returns-in-Filtered-clause-some c =
-    let same : c.deref-in-Filtered.result.now ≡ c.args.self.now = c.deref-in-Filtered.ensures ∙ sym (ap nfa_of c.in-Filtered.is) ∙ c.self.view_is in
-    if_ok c.is_match-in-Filtered.result (λ yes some xs is.
-    let here = subst (λ (m : NfaValue). IsTrue yes ↔ ((k : ℕ) × IsReached m c.args.text.now k)) same some in
-    has_matches c.args.self.now xs c.args.text.now (λ i. omega (arith, c.type_inv.text i)) here is) c.is_match-in-Filtered.ensures.some
+    has_matches c.args.self.now xs c.args.text.now (λ i. omega (arith, c.type_inv.text i)) here is) c.is_match-in-Stepped.ensures.some

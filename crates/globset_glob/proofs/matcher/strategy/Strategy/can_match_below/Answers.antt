@@ -2,7 +2,7 @@ use Rattle.std.proofs.Common.{[], ◌∷◌, ◌≤◌, ◌+◌, ◌*◌, length
 use Rattle.std.specs.Prelude.{◌↔◌}
 use Rattle.std.proofs.Math.Nat.{mul-le-mul_left}
 use Rattle.std.proofs.lemmas.Result.{IfOk-weaker}
-use Rattle.byte_nfa.specs.Runs.{size}
+use Rattle.byte_nfa.specs.Runs.{max_reads}
 use Rattle.glob_nfa.specs.IndexedTokens.{indexed}
 use Rattle.glob_text.specs.GlobMatches.{tokens_of_glob}
 use Rattle.glob_text.specs.Cost.{cost}
@@ -31,6 +31,6 @@ pub returns-in-Automaton-clause-visits : goal.returns-in-Automaton-clause-visits
 returns-in-Automaton-clause-visits c = λ g is.
     let strategy = subst (λ m. IsAutomatonOf g m) (sym c.deref.ensures) (subst (λ (f : Strategy). IsStrategyOfMatcher g f) c.in-Automaton.is is) in
     let positions = length c.path-in-Automaton.result.now + 2 in
-    let few : size c.deref.result.now ≤ cost g = omega (arith, strategy.reads) in
-    let all : positions * size c.deref.result.now ≤ positions * cost g = mul-le-mul_left positions few in
+    let few : max_reads c.deref.result.now ≤ cost g = omega (arith, strategy.reads) in
+    let all : positions * max_reads c.deref.result.now ≤ positions * cost g = mul-le-mul_left positions few in
     omega (arith, c.can_match_after.ensures.visits, all, ap (λ p. (length p + 2) * cost g) c.path-in-Automaton.ensures)

@@ -1,0 +1,12 @@
+use Rattle.std.proofs.Common.{subst}
+use Rattle.byte_nfa.specs.Steps.{NfaValue}
+use Rattle.nfa_sharing.specs.Sharing.{Shares}
+use Rattle.glob_matching.proofs.lemmas.Rows.{some_by}
+use Rattle.glob_matching.proofs.row_cache.RowCache.is_match.Goals as goal
+
+pub returns-clause-some : goal.returns-clause-some
+returns-clause-some c =
+    let m = c.args.self.now in
+    let (shares, same) = c.self.invariant in
+    let here : Shares m c.self.inside.cache = subst (λ (x : NfaValue). Shares x c.self.inside.cache) c.self.view_is (subst (λ (x : NfaValue). Shares c.self.inside.made_for.value.value x) same shares) in
+    some_by m c.self.inside.cache here c.args.text.now c.is_match.ensures.some

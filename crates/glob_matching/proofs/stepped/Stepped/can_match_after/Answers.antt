@@ -1,0 +1,31 @@
+use Rattle.std.proofs.Common.{◌+◌, ◌*◌, ◌≤◌, ◌∙◌, length, arith, sym, subst}
+use Rattle.byte_nfa.specs.Runs.{size}
+use Rattle.byte_nfa.specs.Steps.{NfaValue}
+use Rattle.nfa_sharing.specs.Sharing.{Shares}
+use Rattle.glob_matching.proofs.lemmas.Compiled.{if_ok}
+use Rattle.glob_matching.proofs.lemmas.Rows.{after_by, never_after, some_start, stepped_within}
+use Rattle.glob_matching.proofs.stepped.Stepped.can_match_after.Goals as goal
+use Rattle.glob_matching.proofs.stepped.Stepped.can_match_after.Goals.{in-Some+in_default-can_match_after, in_default}
+
+pub returns-then-start_count-eq0-clause-some : goal.returns-then-start_count-eq0-clause-some
+returns-then-start_count-eq0-clause-some c =
+    let shares : Shares c.args.self.now c.self.inside.automaton = subst (λ (x : NfaValue). Shares x c.self.inside.automaton) c.self.view_is c.self.invariant.0 in
+    never_after c.args.self.now c.self.inside.automaton shares (sym c.start_count.ensures ∙ c.if-start_count-eq0.true) c.args.text.now c.args.byte
+
+pub returns-clause-some : goal.returns-clause-some
+returns-clause-some c =
+    let m = c.args.self.now in
+    let shares : Shares m c.self.inside.automaton = subst (λ (x : NfaValue). Shares x c.self.inside.automaton) c.self.view_is c.self.invariant.0 in
+    if_ok c.can_match_after-2.result (λ yes some. after_by m c.self.inside.automaton shares c.args.text.now c.args.byte some) c.can_match_after-2.ensures.some
+
+pub returns-clause-visits : goal.returns-clause-visits
+returns-clause-visits c =
+    let m = c.args.self.now in
+    let shares : Shares m c.self.inside.automaton = subst (λ (x : NfaValue). Shares x c.self.inside.automaton) c.self.view_is c.self.invariant.0 in
+    let positions = length c.args.text.now + 2 in
+    let looks : c.match-self.visits ≤ c.args.visits.now + 2 * positions = elim c.match-self.branch [
+      | in-Some+in_default-can_match_after w ↦ omega (arith, w.visits-is, w.can_match_after.ensures.missed w.in_default-can_match_after.is)
+      | in_default w ↦ omega (arith, w.visits-is)
+    ] in
+    let some : 1 ≤ length m.starts = omega (arith, some_start c.start_count.result c.if-start_count-eq0.false, c.start_count.ensures, shares.starts) in
+    stepped_within positions c.args.visits.now c.match-self.visits c.can_match_after-2.new.visits (size c.self.inside.automaton) (size m) (length m.starts) looks c.can_match_after-2.ensures.visits shares.states some

@@ -1,0 +1,29 @@
+use Rattle.std.proofs.Common.{◌+◌, ◌*◌, ◌≤◌, length, arith, subst}
+use Rattle.byte_nfa.specs.Runs.{size}
+use Rattle.byte_nfa.specs.Steps.{NfaValue}
+use Rattle.nfa_sharing.specs.Sharing.{Shares}
+use Rattle.glob_matching.proofs.lemmas.Compiled.{if_ok}
+use Rattle.glob_matching.proofs.lemmas.Rows.{none_matches, some_by, stepped_within}
+use Rattle.glob_matching.proofs.stepped.Stepped.is_match.Goals as goal
+use Rattle.glob_matching.proofs.stepped.Stepped.is_match.Goals.{in-Some+in_default-is_match, in_default}
+
+pub returns-then-leads_to_none-clause-some : goal.returns-then-leads_to_none-clause-some
+returns-then-leads_to_none-clause-some c = none_matches c.args.self.now c.args.text.now (c.leads_to_none.ensures.none c.if-leads_to_none.true)
+
+pub returns-clause-some : goal.returns-clause-some
+returns-clause-some c =
+    let m = c.args.self.now in
+    let shares : Shares m c.self.inside.automaton = subst (λ (x : NfaValue). Shares x c.self.inside.automaton) c.self.view_is c.self.invariant.0 in
+    if_ok c.is_match-2.result (λ yes some. some_by m c.self.inside.automaton shares c.args.text.now some) c.is_match-2.ensures.some
+
+pub returns-clause-visits : goal.returns-clause-visits
+returns-clause-visits c =
+    let m = c.args.self.now in
+    let shares : Shares m c.self.inside.automaton = subst (λ (x : NfaValue). Shares x c.self.inside.automaton) c.self.view_is c.self.invariant.0 in
+    let positions = length c.args.text.now + 1 in
+    let looks : c.match-self.visits ≤ c.args.visits.now + 2 * positions = elim c.match-self.branch [
+      | in-Some+in_default-is_match w ↦ omega (arith, w.visits-is, w.is_match.ensures.missed w.in_default-is_match.is, c.leads_to_none.ensures.visits)
+      | in_default w ↦ omega (arith, w.visits-is, c.leads_to_none.ensures.visits)
+    ] in
+    stepped_within positions c.args.visits.now c.match-self.visits c.is_match-2.new.visits (size c.self.inside.automaton) (size m) (length m.starts) looks c.is_match-2.ensures.visits shares.states
+    (c.leads_to_none.ensures.starts c.if-leads_to_none.false)
