@@ -57,12 +57,14 @@ impl GlobSetBuilder {
     ///
     /// The limit is for memory and time, and changes no answer. The globs that need an automaton share a few, and each of these gets a
     /// table, as far as the limit allows, and the time that it takes to make one. A run of a table reads one entry of it for each
-    /// byte of a path. An automaton without a table is simulated: each byte of a path then takes as many steps as the automaton is in
-    /// states, and calls without a scratch take three bits of memory for each of its states. If it has four globs or more, a filter
-    /// names the few that a path may match, where their texts allow one; and a [`Searcher`](crate::Searcher) keeps rows of it.
+    /// byte of a path. For an automaton without a table, rows are made as paths need them, in caches that the set keeps between
+    /// calls. All these caches together take at most what the limit leaves; a [`Searcher`](crate::Searcher) has one of its own, of
+    /// at most 8 MiB, beside it. Where there is none, a call steps the automaton: each byte of a path then takes as many steps as
+    /// the automaton is in states, and calls without a scratch take three bits of memory for each of its states.
     ///
-    /// With 0 there are no tables, no filters and no rows: the set takes the least time and memory to make, which is best for few
-    /// paths. Memory beside the tables has no limit: that of keys, states and filters is linear in the texts of the globs.
+    /// With 0 there are no tables and no rows, and the set keeps no memory between calls. It takes the least time and memory to make,
+    /// which is best for few paths. Memory beside the tables and caches has no limit: that of keys and states is linear in the texts
+    /// of the globs.
     ///
     /// ```rust
     /// use globset::{Glob, GlobSetBuilder};

@@ -18,7 +18,8 @@ use std::mem;
 /// A [`GlobSet`], with all the memory that one thread needs to match paths with it. That is taken when the searcher is made: no
 /// other call takes any, and none of them can fail.
 ///
-/// Searchers of the same set share what it matches with. A program with several threads makes a searcher for each of them.
+/// Searchers of the same set share what it matches with. A program with several threads makes a searcher for each of them. The calls
+/// of a [`GlobSet`] take about as long once they have been made some times, but may take memory, and so may fail.
 ///
 /// Contracts see a searcher as its set, and as the indexes that it found last. What else earlier calls left in it has no effect.
 ///

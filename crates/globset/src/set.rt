@@ -28,6 +28,13 @@ use std::marker::Model;
 /// Contracts see the list of the globs, and the number of states of the largest automaton that was made for them. The set itself
 /// keeps what it needs to match, and neither the texts nor the tokens of the globs.
 ///
+/// Its calls can be made by several threads at once, and none waits for another. So that they need not run automata state by state,
+/// a set keeps memory between calls, which its clones share: for each automaton without a table at most four caches of rows, the
+/// first of which is made by the third call that would use one. They are kept until the set is dropped; [`GlobSet::kept_bytes`]
+/// returns how many bytes they take, and [`GlobSetBuilder::dfa_size_limit`] limits them together. With a limit of 0 none is kept. A
+/// call may run out of memory, which is an error. A [`Searcher`](crate::Searcher) takes all its memory when it is made: its calls
+/// never fail, and take none. Take a searcher for each thread where that matters, and the set itself elsewhere.
+///
 /// [`GlobSet::matches`] returns the indexes of the globs that match a path. Excluded globs are left out: a glob is excluded
 /// if it is case-sensitive and is parsed like `**/..`. It counts in [`GlobSet::len`], so [`GlobSet::matches_all`] is
 /// false on every path if the set has an excluded glob.
@@ -115,8 +122,8 @@ impl GlobSet {
     /// The iterator has to end, and its items have to be known to the prover: those of a slice, of a `Vec` and of
     /// iterators over either are.
     ///
-    /// Keys, states and filters take time and memory linear in the texts of the globs, except that some of these are sorted. Tables
-    /// of deterministic automata come on top, and are not linear, but limited: they take at most 16 MiB
+    /// Keys and states take time and memory linear in the texts of the globs, except that some of these are sorted. Tables of
+    /// deterministic automata come on top, and are not linear, but limited: they take at most 16 MiB
     /// ([`DEFAULT_DFA_SIZE_LIMIT`](crate::DEFAULT_DFA_SIZE_LIMIT)), at most 2^22 numbers are made for them, and to make one of these
     /// may take reading up to 2,048 states. [`GlobSetBuilder::dfa_size_limit`] sets another limit.
     ///
@@ -153,6 +160,24 @@ impl GlobSet {
         Ok(GlobSet {
             stored: Some(stored.clone()?),
         })
+    }
+
+    /// Returns how many bytes of memory the set keeps between calls, for rows of automata. It is 0 in a new set, and grows by calls:
+    /// at most to the limit that [`GlobSetBuilder::dfa_size_limit`] sets. Clones share this memory.
+    ///
+    /// ```rust
+    /// use globset::{Glob, GlobSet};
+    ///
+    /// let set = GlobSet::new(alloc, [&Glob::new(alloc, "*.c")?])?;
+    /// assert!(rt; set.is_match("a.c")?);
+    /// // This set has no automaton.
+    /// assert_eq!(rt; set.kept_bytes(), 0);
+    /// ```
+    pub fn kept_bytes(&self) -> usize {
+        match &self.stored {
+            Some(stored) => stored.kept_bytes(),
+            None => 0,
+        }
     }
 
     /// Returns the set that stores this: for a crate that makes what a set stores glob by glob, as `globset_c` does.

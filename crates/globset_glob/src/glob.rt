@@ -160,8 +160,8 @@ impl Glob {
     ///
     /// The limit is for memory and time, and changes no answer. With 0 no deterministic automaton is tried: the matcher takes the
     /// least time and memory to make, and then for each byte of a path as many steps as its automaton is in states, and memory for
-    /// each path in the calls without a scratch. The same holds where the deterministic automaton is given up. A glob whose literals
-    /// decide alone has no automaton, whatever the limit is. The limit of [`Glob::compile_matcher`] is
+    /// each path in the calls without a scratch. Where the deterministic automaton is given up, calls make parts of it as they need
+    /// them, and keep these, in at most as many bytes. A glob whose literals decide alone has no automaton, whatever the limit is. The limit of [`Glob::compile_matcher`] is
     /// [`DEFAULT_DFA_SIZE_LIMIT`].
     ///
     /// ```rust

@@ -26,7 +26,8 @@ use strategy::Strategy;
 ///
 /// Contracts see a matcher as its glob. If the glob's literals decide alone, as those of `*.rs` and `src/**` do, it compares them
 /// with the path or a part of it. Otherwise it has an automaton for the glob, which is made with it, and a deterministic one if
-/// that is not too large. Nothing is kept from one call to the next.
+/// that is not too large. If it is, calls make parts of it as they need them, in at most four caches that the matcher and its clones
+/// keep until they are dropped; [`GlobMatcher::kept_bytes`] returns how many bytes these take.
 ///
 /// ```rust
 /// use globset::Glob;
@@ -81,6 +82,12 @@ impl GlobMatcher {
         &self.glob
     }
 
+    /// Returns how many bytes of memory the matcher keeps between calls, for rows of its automaton. It is 0 in a new matcher, and
+    /// where the automaton has a table or none is needed. Clones share this memory.
+    pub fn kept_bytes(&self) -> usize {
+        self.strategy.kept_bytes()
+    }
+
     /// Returns whether the glob matches a path, or an error if memory runs out.
     ///
     /// For a path that is not UTF-8, or that several matchers are tried on, make a [`Candidate`].
@@ -111,7 +118,8 @@ impl GlobMatcher {
     ///
     /// These are at most `(path bytes + 1) * (4 * glob bytes + 4)` visits, with `16 * glob bytes + 4` in place of the second
     /// factor under `whole_character`, also if memory runs out. The call allocates nothing if the matcher compares literals or has
-    /// a deterministic automaton, and otherwise two sets of states, of one bit for each state of the automaton.
+    /// a deterministic automaton, and otherwise, if there is no cache for it, one, or two sets of states, of one bit for each state
+    /// of the automaton.
     pub fn is_match_visits(&self, path: &Candidate<'_>, visits: &mut Visits) -> Result<bool, Error>
         ensures ok { IfOk result (λ yes. yes ≡ glob_matches self.now path.now) }
         ensures err { IsOkUnless result out_of_memory }

@@ -15,7 +15,8 @@ use std::alloc::Global;
 use std::marker::Model;
 
 /// A [`GlobMatcher`], with all the memory that one thread needs to match paths with it. That is taken when the searcher is made: no
-/// other call takes any, and none of them can fail.
+/// other call takes any, and none of them can fail. If the automaton has no table, one cache of rows is made with it, which all
+/// calls of the matcher and of its clones use in turn.
 ///
 /// Contracts see a searcher as its glob.
 ///
