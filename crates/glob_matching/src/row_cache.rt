@@ -154,6 +154,7 @@ impl RowCache {
         ensures visits { visits.new ≤ visits.old + (length text.now + 1) + size self.now }
         ensures counted { visits.old ≤ visits.new }
     {
-        self.cache.can_match_after_known(&self.dfa, text, byte, visits)
+        self.cache
+            .can_match_after_known(&self.dfa, text, byte, visits)
     }
 }

@@ -195,9 +195,12 @@ impl Stepped {
             return Ok(false);
         }
         if let Some(rows) = &self.rows {
-            if let Some(can_match) =
-                rows.can_match_after(text, byte, self.may_take_memory(sets), visits)
-            {
+            if let Some(can_match) = rows.can_match_after(
+                text,
+                byte,
+                self.may_take_memory(sets),
+                visits,
+            ) {
                 return Ok(can_match);
             }
         }
