@@ -58,8 +58,8 @@ impl GlobSetBuilder {
     /// The limit is for memory and time, and changes no answer. The globs that need an automaton share a few, and each of these gets a
     /// table, as far as the limit allows, and the time that it takes to make one. A run of a table reads one entry of it for each
     /// byte of a path. For an automaton without a table, rows are made as paths need them, in caches that the set keeps between
-    /// calls. All these caches together take at most what the limit leaves; a [`Searcher`](crate::Searcher) has one of its own, of
-    /// at most 8 MiB, beside it. Where there is none, a call steps the automaton: each byte of a path then takes as many steps as
+    /// calls. Those of the automaton for whole paths take at most what the limit leaves, and those of the others together as much. A
+    /// [`Searcher`](crate::Searcher) has caches of its own, of at most 8 MiB for either. Where there is none, a call steps the automaton: each byte of a path then takes as many steps as
     /// the automaton is in states, and calls without a scratch take three bits of memory for each of its states.
     ///
     /// With 0 there are no tables and no rows, and the set keeps no memory between calls. It takes the least time and memory to make,

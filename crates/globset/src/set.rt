@@ -31,8 +31,8 @@ use std::marker::Model;
 /// Its calls can be made by several threads at once, and none waits for another. So that they need not run automata state by state,
 /// a set keeps memory between calls, which its clones share: for each automaton without a table at most four caches of rows, the
 /// first of which is made by the third call that would use one. They are kept until the set is dropped; [`GlobSet::kept_bytes`]
-/// returns how many bytes they take, and [`GlobSetBuilder::dfa_size_limit`] limits them together. With a limit of 0 none is kept. A
-/// call may run out of memory, which is an error. A [`Searcher`](crate::Searcher) takes all its memory when it is made: its calls
+/// returns how many bytes they take, which are at most twice the limit of [`GlobSetBuilder::dfa_size_limit`]. With a limit of 0 none
+/// is kept. A call may run out of memory, which is an error. A [`Searcher`](crate::Searcher) takes all its memory when it is made: its calls
 /// never fail, and take none. Take a searcher for each thread where that matters, and the set itself elsewhere.
 ///
 /// [`GlobSet::matches`] returns the indexes of the globs that match a path. Excluded globs are left out: a glob is excluded
@@ -163,7 +163,7 @@ impl GlobSet {
     }
 
     /// Returns how many bytes of memory the set keeps between calls, for rows of automata. It is 0 in a new set, and grows by calls:
-    /// at most to the limit that [`GlobSetBuilder::dfa_size_limit`] sets. Clones share this memory.
+    /// at most to twice the limit that [`GlobSetBuilder::dfa_size_limit`] sets. Clones share this memory.
     ///
     /// ```rust
     /// use globset::{Glob, GlobSet};
