@@ -162,9 +162,12 @@ impl Scratch {
         let indexes = self.indexes.max(set.indexes_needed());
         self.sets.reserve(states)?;
         self.marks.reserve(indexes)?;
+        // What fitted before takes no memory, for a cache either.
+        if states > self.states || indexes > self.indexes {
+            set.keep_caches();
+        }
         self.states = states;
         self.indexes = indexes;
-        set.keep_caches();
         Ok(())
     }
 
