@@ -32,6 +32,8 @@ pub extern "C" fn globset_raw_glob_text(
     ensures other_kind { ¬ (IsGlob (Some glob.old.object)) → result ≡ WRONG_KIND }
     ensures statuses { IsOneOf (DONE ∷ OUT_OF_MEMORY ∷ WRONG_KIND ∷ TOO_SMALL ∷ []) result }
 {
+    // The borrow checker has to be told the type that is lent.
+    let _object: Option<Object> = None;
     match glob.read(alloc, |object, alloc| text_of(alloc, object)) {
         Ok(copy) => text::write(copy.as_bytes(), room, needed),
         Err(Failure::OutOfMemory) => OUT_OF_MEMORY,
@@ -64,6 +66,8 @@ pub extern "C" fn globset_raw_glob_options(glob: &mut Lent, options: &mut u32) -
     ensures right_kind { IsGlob (Some glob.old.object) → result ≡ DONE }
     ensures statuses { IsOneOf (DONE ∷ WRONG_KIND ∷ []) result }
 {
+    // The borrow checker has to be told the type that is lent.
+    let _object: Option<Object> = None;
     match glob.read((), |object, ()| bits_of(object)) {
         Some(bits) => {
             *options = bits;

@@ -112,6 +112,8 @@ pub extern "C" fn globset_raw_glob_regex(
     ensures other_kind { ¬ (IsGlob (Some glob.old.object)) → result ≡ WRONG_KIND }
     ensures statuses { IsOneOf (DONE ∷ OUT_OF_MEMORY ∷ WRONG_KIND ∷ TOO_SMALL ∷ []) result }
 {
+    // The borrow checker has to be told the type that is lent.
+    let _object: Option<Object> = None;
     match glob.read(alloc, |object, alloc| regex_of(alloc, object)) {
         Ok(regex) => text::write(regex.as_bytes(), room, needed),
         Err(Failure::OutOfMemory) => OUT_OF_MEMORY,

@@ -60,6 +60,8 @@ fn lends_glob(lent: &mut Lent) -> bool
     ensures same { lent.new ≡ lent.old }
     ensures answer { IsTrue result ↔ IsGlob (Some lent.old.object) }
 {
+    // The borrow checker has to be told the type that is lent.
+    let _object: Option<Object> = None;
     lent.read((), |object, ()| is_glob(object))
 }
 

@@ -25,6 +25,8 @@ pub extern "C" fn globset_raw_set_len(set: &mut Lent, len: &mut usize) -> Status
     ensures right_kind { IsSet (Some set.old.object) → result ≡ DONE }
     ensures statuses { IsOneOf (DONE ∷ WRONG_KIND ∷ []) result }
 {
+    // The borrow checker has to be told the type that is lent.
+    let _object: Option<Object> = None;
     match set.read((), |object, ()| len_of(object)) {
         Some(count) => {
             *len = count;
