@@ -1,11 +1,10 @@
 /* Eight threads read one set and one glob, and each makes a searcher and a matcher of its own. The searchers are freed
- * by another thread, after the set. They also ask a set whose automaton has no table, and so keeps caches of rows that its
- * callers use in turn. */
+ * by another thread, after the set. */
 #include "objects.h"
 
 #include <pthread.h>
 
-enum { THREADS = 8, ROUNDS = 300, PATHS = 8, WORDS = 30 };
+enum { THREADS = 8, ROUNDS = 300, PATHS = 8 };
 
 static globset_set *set;
 static globset_glob *glob;
@@ -15,39 +14,6 @@ static const char *const paths[PATHS] = {"src/a/b/main.c", "x.rs", "a", "b/c/d.t
 /* Of each path: how many of the globs below match it, and whether *b*c* does. */
 static const size_t counts[PATHS] = {2, 1, 2, 3, 2, 1, 0, 0};
 static const int by_matcher[PATHS] = {1, 0, 0, 1, 1, 0, 0, 0};
-
-/* Three letters each, in order: the glob of a word has a star around each letter. */
-static char words[WORDS][4];
-static globset_set *rows;
-
-/* Fills the words with letters that differ from word to word. */
-static void make_words(void) {
-    for (int i = 0; i < WORDS; i++) {
-        words[i][0] = (char)('a' + i % 26);
-        words[i][1] = (char)('a' + (i * 7 + 3) % 26);
-        words[i][2] = (char)('a' + (i * 11 + 5) % 26);
-    }
-}
-
-static globset_set *set_of_words(void) {
-    static char texts[WORDS][8];
-    const char *globs[WORDS];
-    for (int i = 0; i < WORDS; i++) {
-        snprintf(texts[i], sizeof texts[i], "*%c*%c*%c*", words[i][0], words[i][1], words[i][2]);
-        globs[i] = texts[i];
-    }
-    return set_of(globs, WORDS);
-}
-
-/* Whether a path has the letters of some word in its order. */
-static int has_word(const char *path) {
-    for (int i = 0; i < WORDS; i++) {
-        const char *letter = words[i];
-        for (const char *at = path; *at && *letter; at++) letter += *at == *letter;
-        if (!*letter) return 1;
-    }
-    return 0;
-}
 
 static void *ask(void *searcher_at) {
     globset_searcher *searcher;
@@ -61,9 +27,6 @@ static void *ask(void *searcher_at) {
             CHECK(count == counts[i] && globset_searcher_is_match(searcher, TEXT(paths[i])) == (counts[i] > 0));
             CHECK(globset_matcher_is_match(matcher, TEXT(paths[i])) == by_matcher[i]);
             if (round < 10) CHECK(globset_set_is_match(set, TEXT(paths[i])) == (counts[i] > 0));
-            char path[32];
-            snprintf(path, sizeof path, "%s/%c%c%d", paths[i], 'a' + round % 26, 'a' + (round + i) % 26, i);
-            CHECK(globset_set_is_match(rows, TEXT(path)) == has_word(path));
         }
     }
     CHECK(globset_set_length(set) == 6);
@@ -75,14 +38,11 @@ static void *ask(void *searcher_at) {
 int main(void) {
     static const char *const globs[] = {"a", "*.rs", "src/**/*.{c,h}", "*b*c*", "**/d.*", "[ab]*"};
     pthread_t threads[THREADS];
-    make_words();
     set = set_of(globs, 6);
-    rows = set_of_words();
     glob = glob_of("*b*c*", 0);
     for (int i = 0; i < THREADS; i++) CHECK(pthread_create(&threads[i], NULL, ask, &searchers[i]) == 0);
     for (int i = 0; i < THREADS; i++) CHECK(pthread_join(threads[i], NULL) == 0);
     globset_set_free(set);
-    globset_set_free(rows);
     globset_glob_free(glob);
     for (int i = 0; i < THREADS; i++) {
         CHECK(globset_searcher_is_match(searchers[i], TEXT(paths[0])) == 1);
