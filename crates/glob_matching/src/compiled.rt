@@ -1,87 +1,96 @@
 //! Automata as they are run over paths.
 
-ghost use Rattle.std.specs.Prelude.{◌≡◌, ◌+◌, ◌*◌, ◌≤◌, ◌↔◌, ◌++◌, ◌∷◌, [], List, length, IsTrue, IsOk, OnOk, IfOk, IfSome};
+ghost use Rattle.std.specs.Prelude.{◌≡◌, ℕ, ◌+◌, ◌*◌, ◌≤◌, ◌↔◌, ◌++◌, ◌∷◌, [], List, length, IsTrue, IsOk, OnOk, IfOk, IfSome, false};
 ghost use Rattle.byte_nfa.specs.Runs.{size, max_reads};
+ghost use Rattle.byte_nfa.specs.Steps.{IsReached};
 ghost use Rattle.bit_sets.specs.Indexes.{index_capacity};
+ghost use Rattle.nfa_sharing.specs.Sharing.{Shares};
 ghost use Rattle.nfa_simulation.specs.Sets.{sets_capacity};
 ghost use Rattle.glob_nfa.specs.IndexedTokens.{IndexedTokens, IsFor, SomeMeanAfter};
 ghost use Rattle.glob_matching.specs.Matching.{AddsMatches, TellsMatch};
 
-use crate::budget::Budget;
 use crate::row_cache::RowCache;
-use crate::stepped::Stepped;
-use crate::table::Table;
+use crate::rows::RowSource;
+use crate::simulation;
+use crate::source::Source;
 use bit_sets::{IndexSet, Visits};
 use byte_nfa::Nfa;
-use nfa_simulation::StateSets;
+use nfa_sharing::shared;
+use nfa_simulation::{Simulation, StateSets};
 use std::alloc::{AllocError, Global};
 use std::marker::Model;
 
-/// How an automaton is run: by a table, or by rows that are made as texts need them, or stepped where there are none.
-#[derive(Drop)]
-enum Strategy {
-    Table(Box<Table>),
-    Stepped(Stepped),
-}
+/// The most bytes that rows are kept in between calls, unless another limit is set: 16 MiB.
+pub const DEFAULT_DFA_SIZE_LIMIT: usize = 1 << 24;
 
-/// An automaton as it is run: by a table where that is not too large, which takes less time for each byte, and no memory.
-/// Contracts see the automaton.
+/// An automaton as it is run: by rows that are known, and where one is not, by rows that are made; and where there is no room for
+/// rows, stepped from one set of states to the next. Contracts see the automaton that it was made from.
 pub struct Compiled {
-    strategy: Strategy,
+    source: Source,
+    /// It leads to the same ends. If there is more than one start, texts that begin alike share states in it.
+    automaton: Simulation,
+    rows: Option<RowSource>,
 }
 
 impl Drop for Compiled {
     // One call wherever a value is dropped, which keeps proofs short.
     fn drop(self) {
-        let Compiled { strategy: _ } = self;
+        let Compiled {
+            source: _,
+            automaton: _,
+            rows: _,
+        } = self;
     }
 }
 
 impl Model for Compiled {
+    ghost use Rattle.std.specs.Prelude.{◌≡◌, IfSome};
     ghost use Rattle.byte_nfa.specs.Steps.{NfaValue};
-    ghost use Rattle.glob_matching.specs.inner.Compiled.{nfa_of};
+    ghost use Rattle.nfa_sharing.specs.Sharing.{Shares};
 
     ghost Value = { NfaValue };
 
-    ghost view = { λ c. nfa_of c.strategy };
+    ghost view = { λ c. c.source };
+
+    ghost invariant = { λ c. Shares c.source c.automaton × IfSome c.rows (λ r. r ≡ c.source) };
 }
 
 impl Compiled {
-    /// Returns an automaton as it is run. Returns an error if memory runs out.
+    /// Returns an automaton as it is run. It takes time and memory linear in the states. Returns an error if memory runs out.
     ///
-    /// It becomes a table if this is not too large and the budget allows it. The table and its lists have at most
-    /// `2^27 / states` numbers, and for each state 96, and 2,048 more; if there is one start, 512 for each state, and 40,960 in
-    /// all. To find one of them may take reading each state. The tables of a set take at most the bytes of the budget. At most
-    /// 2^22 numbers are made for them, or one for each 4 bytes of the budget if these are more, with those of tables that are
-    /// given up because they would have more, and at most 512 tables are tried. So it takes time and memory linear in the states,
-    /// up to the factors of these limits.
-    ///
-    /// Otherwise it is run by rows that are made as texts need them, in a [`RowCache`] of the caller, or in one that it keeps
-    /// between calls. A cache takes at most 8 MiB, or the share of these that the states have in `all_states`; where that is too
-    /// small, or the budget has no bytes, there are no rows. At most four caches are kept, and they take at most that share of the
-    /// budget's bytes.
-    ///
-    /// Where there are no rows, and in calls that have no cache, it is stepped.
+    /// Calls keep rows in at most four caches, which take at most the share of `dfa_size_limit` bytes that the states have in
+    /// `all_states`. If there is one start, and all rows take few of these bytes, they are made here, and calls make no others.
+    /// Where the share is too small, there are no rows.
     pub fn new(
         alloc: Global,
-        budget: &mut Budget,
+        dfa_size_limit: usize,
         automaton: Nfa,
         all_states: usize,
     ) -> Result<Compiled, AllocError>
         ensures { IfOk result (λ c. c ≡ automaton) }
     {
-        let strategy = match Table::new(alloc, budget, &automaton)? {
-            Some(table) => Strategy::Table(Box::new(alloc, table)?),
-            None => Strategy::Stepped(Stepped::new(alloc, *budget, automaton, all_states)?),
-        };
-        Ok(Compiled { strategy })
+        let source = Source::of(&automaton)?;
+        if let Some(sharing) = sharing_of(alloc, &automaton)? {
+            let rows = RowSource::new(alloc, dfa_size_limit, &automaton, &sharing, all_states)?;
+            return Ok(Compiled {
+                source,
+                automaton: Simulation::with_blocks(sharing)?,
+                rows,
+            });
+        }
+        let rows = RowSource::new(alloc, dfa_size_limit, &automaton, &automaton, all_states)?;
+        Ok(Compiled {
+            source,
+            automaton: Simulation::with_blocks(automaton)?,
+            rows,
+        })
     }
 
     /// Returns whether runs need a cache.
-    pub fn has_rows(&self) -> bool {
-        match &self.strategy {
-            Strategy::Table(_) => false,
-            Strategy::Stepped(stepped) => stepped.rows().is_some(),
+    pub fn needs_cache(&self) -> bool {
+        match &self.rows {
+            Some(rows) => rows.needs_cache(),
+            None => false,
         }
     }
 
@@ -90,21 +99,16 @@ impl Compiled {
     pub fn new_cache(&self, alloc: Global) -> Result<Option<RowCache>, AllocError>
         ensures { IfOk result (λ made. IfSome made (λ cache. cache ≡ self.now)) }
     {
-        match &self.strategy {
-            Strategy::Table(_) => Ok(None),
-            Strategy::Stepped(stepped) => match stepped.rows() {
-                Some(rows) => Ok(Some(rows.new_cache(alloc)?)),
-                None => Ok(None),
-            },
+        match &self.rows {
+            Some(rows) if rows.needs_cache() => Ok(Some(rows.new_cache(alloc)?)),
+            _ => Ok(None),
         }
     }
 
     /// Makes a cache and keeps it for later calls, unless one was made before, runs need none, or there is no memory for it.
     pub fn keep_cache(&self) {
-        if let Strategy::Stepped(stepped) = &self.strategy {
-            if let Some(rows) = stepped.rows() {
-                rows.keep_one();
-            }
+        if let Some(rows) = &self.rows {
+            rows.keep_one();
         }
     }
 
@@ -112,29 +116,35 @@ impl Compiled {
     pub fn state_count(&self) -> usize
         ensures { result ≡ size self.now }
     {
-        match &self.strategy {
-            Strategy::Table(table) => table.state_count(),
-            Strategy::Stepped(stepped) => stepped.state_count(),
-        }
+        self.source.state_count()
     }
 
-    /// Returns how many bytes the table takes, or 0 if there is none.
-    pub fn table_bytes(&self) -> usize {
-        match &self.strategy {
-            Strategy::Table(table) => table.bytes(),
-            Strategy::Stepped(_) => 0,
-        }
-    }
-
-    /// Returns how many bytes the caches take that are kept between calls.
+    /// Returns how many bytes the rows take that were made with it, and the caches that are kept between calls.
     pub fn kept_bytes(&self) -> usize {
-        match &self.strategy {
-            Strategy::Table(_) => 0,
-            Strategy::Stepped(stepped) => match stepped.rows() {
-                Some(rows) => rows.kept_bytes(),
-                None => 0,
-            },
+        match &self.rows {
+            Some(rows) => rows.kept_bytes(),
+            None => 0,
         }
+    }
+
+    /// Returns whether the last byte of a text shows that it leads to no end, or there is no start. It is one visit, and none
+    /// where there is no start.
+    fn leads_to_none(&self, text: &[u8], visits: &mut Visits) -> bool
+        ensures none { IsTrue result → (k : ℕ) → IsReached self.now text.now k → ⊥ }
+        ensures starts { result ≡ false → 1 ≤ length self.now.starts }
+        ensures visits { visits.new ≤ visits.old + 1 }
+        ensures none_without_starts { visits.new ≤ visits.old + length self.now.starts }
+        ensures counted { visits.old ≤ visits.new }
+    {
+        if self.automaton.start_count() == 0 {
+            return true;
+        }
+        self.source.rejects_last_byte(text, visits)
+    }
+
+    /// Returns whether a call with these sets of states may take memory: whether they have no room for all states.
+    fn may_take_memory(&self, sets: &StateSets) -> bool {
+        !sets.has_capacity_for(self.source.state_count())
     }
 }
 
@@ -159,13 +169,15 @@ impl Compiled {
         ensures visits { visits.new ≤ visits.old + (length text.now + 1) * max_reads self.now }
         ensures counted { visits.old ≤ visits.new }
     {
-        match &self.strategy {
-            Strategy::Table(table) => {
-                table.find(text, found, visits);
-                Ok(())
-            }
-            Strategy::Stepped(stepped) => stepped.find(text, sets, found, visits),
+        if self.leads_to_none(text, visits) {
+            return Ok(());
         }
+        if let Some(rows) = &self.rows {
+            if rows.find(text, self.may_take_memory(sets), found, visits) {
+                return Ok(());
+            }
+        }
+        simulation::find(&self.automaton, text, sets, found, visits)
     }
 
     /// Returns whether tokens match a text.
@@ -185,10 +197,15 @@ impl Compiled {
         ensures visits { visits.new ≤ visits.old + (length text.now + 1) * max_reads self.now }
         ensures counted { visits.old ≤ visits.new }
     {
-        match &self.strategy {
-            Strategy::Table(table) => Ok(table.is_match(text, visits)),
-            Strategy::Stepped(stepped) => stepped.is_match(text, sets, visits),
+        if self.leads_to_none(text, visits) {
+            return Ok(false);
         }
+        if let Some(rows) = &self.rows {
+            if let Some(is_match) = rows.is_match(text, self.may_take_memory(sets), visits) {
+                return Ok(is_match);
+            }
+        }
+        simulation::is_match(&self.automaton, text, sets, visits)
     }
 
     /// Returns whether some tokens match a text that begins with `text` and then `byte`.
@@ -211,10 +228,20 @@ impl Compiled {
         ensures visits { visits.new ≤ visits.old + (length text.now + 2) * max_reads self.now }
         ensures counted { visits.old ≤ visits.new }
     {
-        match &self.strategy {
-            Strategy::Table(table) => Ok(table.can_match_after(text, byte, visits)),
-            Strategy::Stepped(stepped) => stepped.can_match_after(text, byte, sets, visits),
+        if self.automaton.start_count() == 0 {
+            return Ok(false);
         }
+        if let Some(rows) = &self.rows {
+            if let Some(can_match) = rows.can_match_after(
+                text,
+                byte,
+                self.may_take_memory(sets),
+                visits,
+            ) {
+                return Ok(can_match);
+            }
+        }
+        simulation::can_match_after(&self.automaton, text, byte, sets, visits)
     }
 }
 
@@ -240,13 +267,13 @@ impl Compiled {
         ensures visits { visits.new ≤ visits.old + (length text.now + 1) * max_reads self.now }
         ensures counted { visits.old ≤ visits.new }
     {
-        if let Strategy::Stepped(stepped) = &self.strategy {
-            if let Some(rows) = cache {
-                stepped.find_with(text, rows, found, visits);
-                return Ok(());
-            }
+        let Some(rows) = cache else {
+            return self.find(text, sets, found, visits);
+        };
+        if !self.leads_to_none(text, visits) {
+            rows.find(text, found, visits);
         }
-        self.find(text, sets, found, visits)
+        Ok(())
     }
 
     /// The same as [`Compiled::is_match`], by the rows of a cache if there is one.
@@ -267,12 +294,13 @@ impl Compiled {
         ensures visits { visits.new ≤ visits.old + (length text.now + 1) * max_reads self.now }
         ensures counted { visits.old ≤ visits.new }
     {
-        if let Strategy::Stepped(stepped) = &self.strategy {
-            if let Some(rows) = cache {
-                return Ok(stepped.is_match_with(text, rows, visits));
-            }
+        let Some(rows) = cache else {
+            return self.is_match(text, sets, visits);
+        };
+        if self.leads_to_none(text, visits) {
+            return Ok(false);
         }
-        self.is_match(text, sets, visits)
+        Ok(rows.is_match(text, visits))
     }
 
     /// The same as [`Compiled::can_match_after`], by the rows of a cache if there is one.
@@ -296,11 +324,24 @@ impl Compiled {
         ensures visits { visits.new ≤ visits.old + (length text.now + 2) * max_reads self.now }
         ensures counted { visits.old ≤ visits.new }
     {
-        if let Strategy::Stepped(stepped) = &self.strategy {
-            if let Some(rows) = cache {
-                return Ok(stepped.can_match_after_with(text, byte, rows, visits));
-            }
+        let Some(rows) = cache else {
+            return self.can_match_after(text, byte, sets, visits);
+        };
+        if self.automaton.start_count() == 0 {
+            return Ok(false);
         }
-        self.can_match_after(text, byte, sets, visits)
+        Ok(rows.can_match_after(text, byte, visits))
     }
+}
+
+/// Returns an automaton that leads to the same ends and in which texts that begin alike share states, if there is more than one
+/// start, and such an automaton has no more states. Returns an error if memory runs out.
+fn sharing_of(alloc: Global, automaton: &Nfa) -> Result<Option<Nfa>, AllocError>
+    ensures { IfOk result (λ made. IfSome made (λ sharing. Shares automaton.now sharing)) }
+{
+    // Only texts from two starts may begin alike.
+    if automaton.starts().len() <= 1 {
+        return Ok(None);
+    }
+    shared(alloc, automaton)
 }

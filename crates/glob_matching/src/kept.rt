@@ -34,8 +34,6 @@ pub struct KeptCaches {
     first: Published,
     second: Published,
     third: Published,
-    /// At most so many are ever made, with those that are published.
-    most: usize,
     /// How many were made.
     made: AtomicUsize,
     /// How many calls found none, as far as this is counted.
@@ -50,7 +48,6 @@ impl Drop for KeptCaches {
             first: _,
             second: _,
             third: _,
-            most: _,
             made: _,
             misses: _,
         } = self;
@@ -77,6 +74,9 @@ impl Kept {
     }
 }
 
+/// The most caches that are made, with those that are published, and so the most calls at once that run by rows of their own.
+pub const MOST_KEPT: usize = 4;
+
 /// So many calls that find no cache make none, so that a set which is asked about few paths takes no memory for them.
 const FIRST_CALLS: usize = 2;
 
@@ -90,8 +90,8 @@ const SECOND_USES: usize = 1 << 14;
 const THIRD_USES: usize = 1 << 18;
 
 impl KeptCaches {
-    /// Returns room for at most so many caches of an automaton, of which none is made.
-    pub fn new(automaton: &Nfa, most: usize) -> KeptCaches
+    /// Returns room for the caches of an automaton, of which none is made.
+    pub fn new(automaton: &Nfa) -> KeptCaches
         ensures { result ≡ automaton.now }
     {
         KeptCaches {
@@ -99,7 +99,6 @@ impl KeptCaches {
             first: Published::new(automaton),
             second: Published::new(automaton),
             third: Published::new(automaton),
-            most,
             made: AtomicUsize::new(0),
             misses: AtomicUsize::new(0),
         }
@@ -129,14 +128,15 @@ impl KeptCaches {
     }
 
     /// Gives a cache back after a call, for later calls. It is published if so many used it, in a call that may take memory: the
-    /// next call for which it lacks an entry makes another one.
+    /// next call for which it lacks an entry makes another one. One that has no room for all rows is not: calls would look at it in
+    /// vain, and then use another one.
     pub fn give(&self, kept: Kept, may_make: bool)
         requires { kept.cache.value ≡ self.now }
     {
         let Kept { cache, uses } = kept;
         let uses = uses.saturating_add(1);
         let kept = Kept { cache, uses };
-        if may_make {
+        if may_make && !kept.cache.has_forgotten() {
             if let Some(place) = self.place_after(uses) {
                 if let Some(kept) = place.set(kept) {
                     self.put(kept);
@@ -161,19 +161,19 @@ impl KeptCaches {
     fn place_after(&self, uses: usize) -> Option<&Published>
         ensures { IfSome result (λ place. place.now ≡ self.now) }
     {
-        if uses < FIRST_USES || self.most < 2 {
+        if uses < FIRST_USES {
             return None;
         }
         if self.first.get().is_none() {
             return Some(&self.first);
         }
-        if uses < SECOND_USES || self.most < 3 {
+        if uses < SECOND_USES {
             return None;
         }
         if self.second.get().is_none() {
             return Some(&self.second);
         }
-        if uses < THIRD_USES || self.most < 4 || self.third.get().is_some() {
+        if uses < THIRD_USES || self.third.get().is_some() {
             return None;
         }
         Some(&self.third)
@@ -187,10 +187,10 @@ impl KeptCaches {
 
     /// Counts one cache more, which the caller makes. Returns whether there is room for it.
     pub fn count_one_more(&self) -> bool {
-        if self.made() >= self.most {
+        if self.made() >= MOST_KEPT {
             return false;
         }
-        if self.made.fetch_add(1, Ordering::SeqCst) >= self.most {
+        if self.made.fetch_add(1, Ordering::SeqCst) >= MOST_KEPT {
             self.count_one_less();
             return false;
         }

@@ -1,11 +1,10 @@
-//! Automata of tokens as they are run over paths: by one table, by rows that are made as they are needed, or stepped from one set
-//! of states to the next.
+//! Automata of tokens as they are run over paths: by rows that are known or made as they are needed, or stepped from one set of
+//! states to the next.
 //!
 //! [`Compiled`] holds the automaton of some tokens, and finds which of them match a path. It keeps rows between calls. A caller may
 //! keep the memory that stepping takes in a [`Scratch`]. Of texts of globs only the error that memory ran out is known here.
 #![tactic(auto)]
 
-mod budget;
 mod compiled;
 mod kept;
 mod published;
@@ -14,10 +13,7 @@ mod rows;
 mod scratch;
 mod simulation;
 mod source;
-mod stepped;
-mod table;
 
-pub use budget::{Budget, DEFAULT_DFA_SIZE_LIMIT};
-pub use compiled::Compiled;
+pub use compiled::{Compiled, DEFAULT_DFA_SIZE_LIMIT};
 pub use row_cache::RowCache;
 pub use scratch::{NeedsScratch, Scratch};

@@ -1,15 +1,15 @@
-//! Automata whose tables are made row by row, as texts need them.
+//! What automata are run by that have rows.
 
 ghost use Rattle.std.specs.Prelude.{◌≡◌, ◌+◌, ◌*◌, ◌≤◌, ◌↔◌, ◌++◌, ◌∷◌, [], ℕ, None, false, length, IsTrue, IfOk, IfSome};
 ghost use Rattle.bit_sets.specs.Indexes.{index_capacity};
 ghost use Rattle.byte_nfa.specs.Live.{MatchesAfter};
+ghost use Rattle.std.specs.Arc.{arc_value};
 ghost use Rattle.byte_nfa.specs.Runs.{size};
 ghost use Rattle.byte_nfa.specs.Steps.{IsReached};
 ghost use Rattle.nfa_sharing.specs.Sharing.{Shares};
 ghost use Rattle.glob_matching.specs.inner.Found.{AddsReached, AddsSome};
 
-use crate::budget::Budget;
-use crate::kept::{Kept, KeptCaches};
+use crate::kept::{Kept, KeptCaches, MOST_KEPT};
 use crate::row_cache::RowCache;
 use bit_sets::{IndexSet, Visits};
 use byte_nfa::Nfa;
@@ -19,16 +19,18 @@ use std::marker::Model;
 use std::snapshot::Snapshot;
 use std::sync::Arc;
 
-/// What rows are made from, and the caches of rows that calls share which have none of their own. Contracts see the automaton whose
-/// ends are found.
+/// What rows are made from, and the rows that calls share which have no cache of their own. Contracts see the automaton whose ends
+/// are found.
 pub struct RowSource {
     alloc: Global,
     /// It is made from an automaton that leads to the same ends.
     dfa: Arc<LazyDfa>,
     /// How many bytes the rows of a cache take.
     cache_bytes: usize,
-    /// In a box, since the pool has room between its places, and a set may have many automata.
-    kept: Box<KeptCaches>,
+    /// All rows, if they were made with the automaton.
+    complete: Option<RowCache>,
+    /// In a box, since the pool has room between its places, and a set may have many automata. There are none if all rows are there.
+    kept: Option<Box<KeptCaches>>,
     source: Snapshot<Nfa>,
 }
 
@@ -39,6 +41,7 @@ impl Drop for RowSource {
             alloc: _,
             dfa: _,
             cache_bytes: _,
+            complete: _,
             kept: _,
             source: _,
         } = self;
@@ -47,7 +50,7 @@ impl Drop for RowSource {
 
 impl Model for RowSource {
     ghost use Rattle.std.specs.Arc.{arc_value};
-    ghost use Rattle.std.specs.Prelude.{◌≡◌};
+    ghost use Rattle.std.specs.Prelude.{◌≡◌, IfSome};
     ghost use Rattle.byte_nfa.specs.Steps.{NfaValue};
     ghost use Rattle.nfa_sharing.specs.Sharing.{Shares};
 
@@ -55,19 +58,20 @@ impl Model for RowSource {
 
     ghost view = { λ r. r.source.value };
 
-    ghost invariant = { λ r. Shares r.source.value (arc_value r.dfa) × (r.kept.value ≡ r.source.value) };
+    ghost invariant = { λ r. Shares r.source.value (arc_value r.dfa) × IfSome r.complete (λ c. c ≡ r.source.value)
+        × IfSome r.kept (λ k. k.value ≡ r.source.value) };
 }
 
 impl RowSource {
     /// Returns what rows of an automaton are made from, by `sharing`, which leads to the same ends.
     ///
-    /// The rows of a cache take at most 8 MiB, or the share of these that the states have in `all_states`. Those of all caches that
-    /// are kept between calls take at most that share of the bytes of the budget. It takes time and memory linear in the states.
-    /// Returns `None` if the budget has no bytes, the share is too small or there are too many indexes, and an error if memory
+    /// At most four caches are kept between calls, which take at most the share of `dfa_size_limit` bytes that the states have in
+    /// `all_states`. If there is one start, and all rows take few of these bytes, they are made here. Otherwise it takes time and
+    /// memory linear in the states. Returns `None` if the share is too small or there are too many indexes, and an error if memory
     /// runs out.
     pub fn new(
         alloc: Global,
-        budget: Budget,
+        dfa_size_limit: usize,
         automaton: &Nfa,
         sharing: &Nfa,
         all_states: usize,
@@ -75,23 +79,40 @@ impl RowSource {
         requires { Shares automaton.now sharing.now }
         ensures { IfOk result (λ made. IfSome made (λ rows. rows ≡ automaton.now)) }
     {
-        let states = automaton.state_count();
-        let share = share_of(MOST_BYTES, states, all_states);
-        if budget.bytes() == 0 || share < FEWEST_BYTES {
+        let cache_bytes = share_of(
+            dfa_size_limit / MOST_KEPT,
+            automaton.state_count(),
+            all_states,
+        );
+        if cache_bytes < FEWEST_BYTES {
             return Ok(None);
         }
         let Some(dfa) = LazyDfa::new(alloc, sharing)? else {
             return Ok(None);
         };
-        let cache_bytes = cache_bytes(sharing.state_count(), share);
-        let most = share_of(budget.bytes(), states, all_states) / cache_bytes.max(1);
+        let dfa = Arc::new(alloc, dfa)?;
+        let source = Snapshot::of(automaton);
+        let complete = match automaton.starts().len() {
+            1 => complete_cache(alloc, &dfa, cache_bytes / PART_FOR_ALL_ROWS, &source)?,
+            _ => None,
+        };
+        let kept = match complete {
+            Some(_) => None,
+            None => Some(Box::new(alloc, KeptCaches::new(automaton))?),
+        };
         Ok(Some(RowSource {
             alloc,
-            dfa: Arc::new(alloc, dfa)?,
+            dfa,
             cache_bytes,
-            kept: Box::new(alloc, KeptCaches::new(automaton, most.min(MOST_KEPT)))?,
-            source: Snapshot::of(automaton),
+            complete,
+            kept,
+            source,
         }))
+    }
+
+    /// Returns whether runs need a cache: whether rows may be missing.
+    pub fn needs_cache(&self) -> bool {
+        self.complete.is_none()
     }
 
     /// Returns a cache with no rows. All memory that it needs is taken here. Returns an error if memory runs out.
@@ -101,45 +122,75 @@ impl RowSource {
         RowCache::new(alloc, &self.dfa, self.cache_bytes, &self.source)
     }
 
-    /// Returns how many bytes the caches take that are kept between calls.
+    /// Returns how many bytes all rows take, if they are there, and otherwise the caches that are kept between calls.
     pub fn kept_bytes(&self) -> usize {
-        self.kept.made().saturating_mul(self.cache_bytes)
+        if let Some(complete) = &self.complete {
+            return complete.bytes();
+        }
+        match &self.kept {
+            Some(kept) => kept.made().saturating_mul(self.cache_bytes),
+            None => 0,
+        }
     }
 
-    /// Makes a cache and keeps it for later calls, unless one was made before, or there is no room or no memory for it.
+    /// Makes a cache and keeps it for later calls, unless one was made before, runs need none, or there is no room or no memory for
+    /// it.
     pub fn keep_one(&self) {
-        if self.kept.made() > 0 {
+        let Some(kept) = &self.kept else {
+            return;
+        };
+        if kept.made() > 0 {
             return;
         }
-        if let Some(kept) = self.make() {
-            self.kept.put(kept);
+        if let Some(made) = self.make(kept) {
+            kept.put(made);
         }
+    }
+
+    /// Returns rows that calls read without writing: all of them, or those that were published last.
+    fn known(&self) -> Option<&RowCache>
+        ensures { IfSome result (λ cache. cache.now ≡ self.now) }
+    {
+        if let Some(complete) = &self.complete {
+            return Some(complete);
+        }
+        self.kept.as_ref()?.published()
     }
 
     /// Takes a cache that is kept for one call. If there is none and memory may be taken, it makes one, but for the first calls.
     fn take(&self, may_make: bool) -> Option<Kept>
         ensures { IfSome result (λ kept. kept.cache.value ≡ self.now) }
     {
-        if let Some(kept) = self.kept.take() {
-            return Some(kept);
+        let kept = self.kept.as_ref()?;
+        if let Some(taken) = kept.take() {
+            return Some(taken);
         }
-        if may_make && self.kept.were_missed() {
-            return self.make();
+        if may_make && kept.were_missed() {
+            return self.make(kept);
         }
         None
     }
 
+    /// Gives a cache back after a call, for later calls.
+    fn give(&self, taken: Kept, may_make: bool)
+        requires { taken.cache.value ≡ self.now }
+    {
+        if let Some(kept) = &self.kept {
+            kept.give(taken, may_make);
+        }
+    }
+
     /// Makes a cache with no rows, if fewer are kept than may be, and there is memory for it.
-    fn make(&self) -> Option<Kept>
+    fn make(&self, kept: &KeptCaches) -> Option<Kept>
         ensures { IfSome result (λ kept. kept.cache.value ≡ self.now) }
     {
-        if !self.kept.count_one_more() {
+        if !kept.count_one_more() {
             return None;
         }
         match self.new_kept() {
-            Ok(kept) => Some(kept),
+            Ok(made) => Some(made),
             Err(_) => {
-                self.kept.count_one_less();
+                kept.count_one_less();
                 None
             }
         }
@@ -174,7 +225,7 @@ impl RowSource {
             ≤ visits.old + (length text.now + 1) + (length text.now + 1) * (size self.now + 1) }
         ensures counted { visits.old ≤ visits.new }
     {
-        if let Some(known) = self.kept.published() {
+        if let Some(known) = self.known() {
             if known.find_known(text, found, visits) {
                 return true;
             }
@@ -183,7 +234,7 @@ impl RowSource {
             return false;
         };
         kept.cache.find(text, found, visits);
-        self.kept.give(kept, may_make);
+        self.give(kept, may_make);
         true
     }
 
@@ -197,14 +248,14 @@ impl RowSource {
             ≤ visits.old + (length text.now + 1) + (length text.now + 1) * (size self.now + 1) }
         ensures counted { visits.old ≤ visits.new }
     {
-        if let Some(known) = self.kept.published() {
+        if let Some(known) = self.known() {
             if let Some(is_match) = known.is_match_known(text, visits) {
                 return Some(is_match);
             }
         }
         let mut kept = self.take(may_make)?;
         let is_match = kept.cache.is_match(text, visits);
-        self.kept.give(kept, may_make);
+        self.give(kept, may_make);
         Some(is_match)
     }
 
@@ -224,42 +275,46 @@ impl RowSource {
             ≤ visits.old + (length text.now + 1) + (length text.now + 2) * (size self.now + 1) }
         ensures counted { visits.old ≤ visits.new }
     {
-        if let Some(known) = self.kept.published() {
+        if let Some(known) = self.known() {
             if let Some(can_match) = known.can_match_after_known(text, byte, visits) {
                 return Some(can_match);
             }
         }
         let mut kept = self.take(may_make)?;
         let can_match = kept.cache.can_match_after(text, byte, visits);
-        self.kept.give(kept, may_make);
+        self.give(kept, may_make);
         Some(can_match)
     }
 }
 
-/// The most caches of an automaton that are kept between calls, and so the most calls at once that run by rows of their own.
-const MOST_KEPT: usize = 4;
+/// With fewer bytes for a cache there is none: so many automata share the room that few globs are run for a text.
+const FEWEST_BYTES: usize = 1 << 12;
 
-/// How many bytes a cache has for each state. With fewer, rows are forgotten so often that texts make many of theirs anew.
-const BYTES_PER_STATE: usize = 1 << 11;
-
-/// The bytes of a cache of few states, where there is room for them.
-const USUAL_BYTES: usize = 1 << 20;
-
-/// The most bytes of the caches of automata that share their room.
-const MOST_BYTES: usize = 1 << 23;
-
-/// With fewer bytes there is no cache: so many automata share the room that few globs are run for a text.
-const FEWEST_BYTES: usize = 1 << 14;
+/// All rows are made with the automaton if they take no more than one in so many bytes of a cache. To make more takes longer than
+/// most sets are in use.
+const PART_FOR_ALL_ROWS: usize = 64;
 
 /// Returns how many of some bytes an automaton of so many states has, which automata of `all_states` share.
 fn share_of(bytes: usize, states: usize, all_states: usize) -> usize {
     bytes.saturating_mul(states) / all_states.max(1)
 }
 
-/// Returns how many bytes the cache of an automaton of so many states takes, of its share.
-fn cache_bytes(states: usize, share: usize) -> usize {
-    states
-        .saturating_mul(BYTES_PER_STATE)
-        .max(USUAL_BYTES)
-        .min(share)
+/// Returns all rows of an automaton in a cache that takes at most so many bytes, or `None` if there is no room for them. It tries
+/// smaller caches first, so that little room is left over. Returns an error if memory runs out.
+fn complete_cache(
+    alloc: Global,
+    dfa: &Arc<LazyDfa>,
+    most: usize,
+    source: &Snapshot<Nfa>,
+) -> Result<Option<RowCache>, AllocError>
+    requires { Shares source.now.value (arc_value dfa.now) }
+    ensures { IfOk result (λ made. IfSome made (λ cache. cache ≡ source.now.value)) }
+{
+    for bytes in [most / 16, most / 4, most] {
+        let mut cache = RowCache::new(alloc, dfa, bytes, source)?;
+        if cache.complete() {
+            return Ok(Some(cache));
+        }
+    }
+    Ok(None)
 }

@@ -246,13 +246,13 @@ impl Clone for GlobSet {
     }
 }
 
-/// `GlobSet { len: .., max_states: .., table_bytes: .. }`: the number of globs, that of the states of the largest automaton, and
-/// how many bytes the tables of deterministic automata take.
+/// `GlobSet { len: .., max_states: .., kept_bytes: .. }`: the number of globs, that of the states of the largest automaton, and what
+/// [`GlobSet::kept_bytes`] returns.
 impl fmt::Debug for GlobSet {
     fn fmt<W: fmt::Write>(&self, f: &mut fmt::Formatter<W>) -> fmt::Result {
         match &self.stored {
             Some(stored) => stored.fmt(f),
-            None => f.write_str("GlobSet { len: 0, max_states: 0, table_bytes: 0 }"),
+            None => f.write_str("GlobSet { len: 0, max_states: 0, kept_bytes: 0 }"),
         }
     }
 }

@@ -291,13 +291,12 @@ impl Clone for GlobMatcher {
     }
 }
 
-/// `GlobMatcher { glob: Glob("<text>"), table_bytes: .. }`: the glob, and how many bytes the table of its deterministic automaton
-/// takes, or 0 if it has none.
+/// `GlobMatcher { glob: Glob("<text>"), kept_bytes: .. }`: the glob, and what [`GlobMatcher::kept_bytes`] returns.
 impl fmt::Debug for GlobMatcher {
     fn fmt<W: fmt::Write>(&self, f: &mut fmt::Formatter<W>) -> fmt::Result {
         f.debug_struct("GlobMatcher")
             .field("glob", &self.glob)
-            .field("table_bytes", &self.strategy.table_bytes())
+            .field("kept_bytes", &self.kept_bytes())
             .finish()
     }
 }

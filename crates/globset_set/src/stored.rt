@@ -107,11 +107,6 @@ impl Stored {
         self.matcher().max_states()
     }
 
-    /// Returns how many bytes the tables of deterministic automata take. It takes time linear in the number of these.
-    pub fn table_bytes(&self) -> usize {
-        self.matcher().table_bytes()
-    }
-
     /// Returns how many bytes the caches take that automata keep between calls. It takes time linear in the number of these.
     pub fn kept_bytes(&self) -> usize {
         self.matcher().kept_bytes()
@@ -277,13 +272,13 @@ impl NeedsScratch for Stored {
     }
 }
 
-/// The number of globs, that of the states of the largest automaton, and how many bytes the tables of deterministic automata take.
+/// The number of globs, that of the states of the largest automaton, and how many bytes are kept between calls.
 impl fmt::Debug for Stored {
     fn fmt<W: fmt::Write>(&self, f: &mut fmt::Formatter<W>) -> fmt::Result {
         f.debug_struct("GlobSet")
             .field("len", &self.len())
             .field("max_states", &self.max_states())
-            .field("table_bytes", &self.table_bytes())
+            .field("kept_bytes", &self.kept_bytes())
             .finish()
     }
 }

@@ -1,3 +1,5 @@
+pub mod Lists
+pub mod Classes
 pub mod Unique
 pub mod Finding
 pub mod Rows

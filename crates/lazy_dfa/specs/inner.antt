@@ -1,3 +1,5 @@
+pub mod Classes
+pub mod Lists
 pub mod Sources
 pub mod Rows
 pub mod Reached

@@ -4,9 +4,9 @@ ghost use Rattle.std.specs.Prelude.{◌≡◌, IfOk, IfSome};
 ghost use Rattle.byte_nfa.specs.Steps.{NfaValue};
 ghost use Rattle.lazy_dfa.specs.inner.Sources.{IsMadeOf, ListsEnds};
 
+use crate::classes::ByteClasses;
 use crate::lists::put_lowered;
 use bit_sets::{IndexSet, StateSet};
-use byte_dfa::ByteClasses;
 use byte_nfa::Nfa;
 use std::alloc::{AllocError, Global};
 use std::marker::Model;

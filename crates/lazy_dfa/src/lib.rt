@@ -1,12 +1,13 @@
 //! Deterministic automata over bytes whose rows are made while texts are read, in a memory of fixed size.
 //!
 //! A [`LazyDfa`] is made from an [`byte_nfa::Nfa`], and finds exactly what that finds. It can be shared by threads. Each thread has
-//! a [`Cache`], which holds the rows that its texts needed so far. A whole table, as `byte_dfa` makes it, may need very many rows
-//! more than texts ever lead to.
+//! a [`Cache`], which holds the rows that its texts needed so far. All rows of an automaton may be very
+//! many more than texts ever lead to. Where they are few, a cache can have all of them from the beginning.
 #![tactic(auto)]
 
 mod automaton;
 mod cache;
+mod classes;
 mod lists;
 mod pass;
 mod rows;

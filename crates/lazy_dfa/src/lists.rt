@@ -1,10 +1,10 @@
 //! Vectors of numbers that have room for more, and lists of states.
 
-ghost use Rattle.std.specs.Prelude.{◌≡◌, ℕ, ◌+◌, ◌<◌, ◌≤◌, ◌↔◌, ◌⊎◌, ◌^◌, ◌++◌, ◌∷◌, [], length, replicate, slice_index, vec_capacity, IsTrue};
+ghost use Rattle.std.specs.Prelude.{◌≡◌, ℕ, ◌+◌, ◌<◌, ◌≤◌, ◌↔◌, ◌⊎◌, ◌^◌, ◌||◌, ◌++◌, ◌∷◌, [], length, replicate, slice_index, vec_capacity, IsTrue};
 ghost use Rattle.bit_sets.specs.Indexes.{has_index, index_capacity};
 ghost use Rattle.bit_sets.specs.Numbers.{has_number, AreBelow};
 ghost use Rattle.bit_sets.specs.StateSets.{has_state, state_capacity};
-ghost use Rattle.byte_dfa.specs.inner.Lists.{list_at, IsList};
+ghost use Rattle.lazy_dfa.specs.inner.Lists.{list_at, IsList};
 ghost use Rattle.lazy_dfa.specs.inner.Sources.{AreFound};
 
 use bit_sets::{IndexSet, StateSet, Visits};
@@ -100,6 +100,20 @@ pub fn put_lowered(set: &IndexSet, from: usize, count: usize, into: &mut IndexSe
     while let Some(index) = set.next_below(at, from + count) {
         into.put(index - from);
         at = index + 1;
+    }
+}
+
+/// Puts the numbers of the list at a place into a set, beside what it holds.
+pub fn put_listed(numbers: &[usize], place: usize, into: &mut IndexSet)
+    requires { IsList numbers.now (index_capacity into.old) place }
+    ensures room { index_capacity into.new ≡ index_capacity into.old }
+    ensures has { (k : ℕ)
+        → has_index into.new k
+        ≡ (has_number k (list_at numbers.now place) || has_index into.old k) }
+{
+    let count = numbers[place];
+    for index in &numbers[place + 1..place + 1 + count] {
+        into.put(*index);
     }
 }
 

@@ -8,16 +8,17 @@ ghost use Rattle.bit_sets.specs.Texts.{AllBytes};
 ghost use Rattle.byte_nfa.specs.Live.{AreLive};
 ghost use Rattle.byte_nfa.specs.Steps.{IsReached};
 ghost use Rattle.byte_nfa.specs.Runs.{size};
-ghost use Rattle.byte_dfa.specs.inner.Classes.{AreEquivalenceClasses};
-ghost use Rattle.byte_dfa.specs.inner.Building.{half};
+ghost use Rattle.lazy_dfa.specs.inner.Classes.{AreEquivalenceClasses};
+ghost use Rattle.lazy_dfa.specs.inner.Sources.{half};
 ghost use Rattle.lazy_dfa.specs.inner.Rows.{AcceptsIn, AcceptsRow, HasEnds, HasMarks, GoesTo, IsDeadBy, IsNext, IsEnd, IsEntry, IsFirst, IsSound, AreListed, KeepsRows, HasSpace, states_of, place_of, max_entries, marked, BeginsAt, IsAt, IsStep};
 
+mod complete;
 mod known;
 
-use crate::lists::{extend_within, list_indexes, list_of, push_within, states_at, zeros_within};
+use crate::classes::ByteClasses;
+use crate::lists::{extend_within, list_indexes, list_of, push_within, put_listed, states_at, zeros_within};
 use crate::pass::read;
 use bit_sets::{IndexSet, StateSet, Visits};
-use byte_dfa::{ByteClasses, put_listed};
 use byte_nfa::Nfa;
 use std::alloc::{AllocError, Global};
 use std::hash::{FoldHasher, Hasher};
@@ -173,6 +174,11 @@ impl Rows {
         entries
             .saturating_mul(mem::size_of::<u32>())
             .saturating_add(numbers.saturating_mul(mem::size_of::<usize>()))
+    }
+
+    /// Returns whether rows were forgotten since it was made.
+    pub fn has_forgotten(&self) -> bool {
+        self.seed != 0
     }
 
     /// Returns the place of the row that a run begins in. If it is not made, it is looked up, which is one visit.
@@ -577,6 +583,17 @@ impl Rows {
         states_at(&self.starts, &self.lists, row) == self.list.as_slice()
     }
 
+    /// Returns whether there is room for a row more.
+    fn has_room(&self, automaton: &Nfa) -> bool
+        requires { IsSound automaton.now self.now }
+        ensures { IsTrue result → HasSpace automaton.now self.now }
+    {
+        let states = automaton.state_count();
+        self.lists.capacity() - self.lists.len() > states
+            && self.starts.len() < self.starts.capacity().min(MAX_ENTRIES)
+            && self.entries.capacity().min(MAX_ENTRIES) - self.entries.len() > self.class_count
+    }
+
     /// Makes room for a row. Returns whether no row was forgotten.
     fn make_room(&mut self, automaton: &Nfa) -> bool
         requires { IsSound automaton.now self.old }
@@ -586,11 +603,7 @@ impl Rows {
         ensures list { self.new.list ≡ self.old.list }
         ensures ends { self.new.ends ≡ self.old.ends }
     {
-        let states = automaton.state_count();
-        if self.lists.capacity() - self.lists.len() > states
-            && self.starts.len() < self.starts.capacity().min(MAX_ENTRIES)
-            && self.entries.capacity().min(MAX_ENTRIES) - self.entries.len() > self.class_count
-        {
+        if self.has_room(automaton) {
             return true;
         }
         self.starts.clear();

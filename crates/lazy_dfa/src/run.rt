@@ -8,7 +8,7 @@ ghost use Rattle.byte_nfa.specs.EarlyMatches.{EndsAtEarlyMatches};
 ghost use Rattle.byte_nfa.specs.Live.{AreLive};
 ghost use Rattle.byte_nfa.specs.Steps.{NfaValue, IsReached};
 ghost use Rattle.byte_nfa.specs.Runs.{size};
-ghost use Rattle.byte_dfa.specs.inner.Building.{half};
+ghost use Rattle.lazy_dfa.specs.inner.Sources.{half};
 ghost use Rattle.lazy_dfa.specs.inner.Rows.{AcceptsRow, AddsFound, IsAt, IsSound, FindsBy};
 ghost use Rattle.lazy_dfa.specs.inner.Reached.{HasRead, IsLeft, IsWhere, IsWhereFrom, MayHold};
 ghost use Rattle.lazy_dfa.specs.inner.Sources.{ListsEnds};

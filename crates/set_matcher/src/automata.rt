@@ -23,7 +23,7 @@ use crate::path_part::{Part, matches_part, run};
 use below::has_text;
 use bit_sets::{IndexSet, Visits};
 use byte_nfa::Builder;
-use glob_matching::{Budget, Compiled};
+use glob_matching::Compiled;
 use glob_nfa::{add_tokens, new_builder};
 use glob_path::PathParts;
 use glob_syntax::{Options, Token};
@@ -84,14 +84,6 @@ impl Automata {
         ensures { result ≡ max_states self.now }
     {
         self.max_states
-    }
-
-    /// Returns how many bytes the tables of the automata take. It takes time linear in the number of automata.
-    pub fn table_bytes(&self) -> usize {
-        self.by_path
-            .table_bytes()
-            .saturating_add(self.by_component.table_bytes())
-            .saturating_add(self.extensions.table_bytes())
     }
 
     /// Returns how many bytes the caches take that the automata keep. It takes time linear in the number of automata.
@@ -415,7 +407,7 @@ impl AutomataBuilder {
         added
     }
 
-    /// Returns what was added, or `None` if nothing was. The tables of deterministic automata take at most `dfa_size_limit` bytes.
+    /// Returns what was added, or `None` if nothing was. The rows that are kept between calls take at most `dfa_size_limit` bytes.
     /// Returns an error if memory runs out.
     pub fn finish(
         self,
@@ -451,7 +443,7 @@ impl Builders {
         }
     }
 
-    /// Returns what was added. The tables of deterministic automata take at most `dfa_size_limit` bytes. Returns an error if
+    /// Returns what was added. The rows that are kept between calls take at most `dfa_size_limit` bytes. Returns an error if
     /// memory runs out.
     fn finish(self, alloc: Global, dfa_size_limit: usize) -> Result<Automata, AllocError>
         requires { HaveOneCount self.by_path self.by_component self.extensions }
@@ -462,17 +454,16 @@ impl Builders {
             by_component,
             extensions,
         } = self;
-        let mut budget = Budget::new(dfa_size_limit);
         let by_path = by_path.finish();
-        let states = by_path.state_count();
-        let by_path = Compiled::new(alloc, &mut budget, by_path, states)?;
         let by_component = by_component.finish();
         let has_component = has_text(alloc, &by_component)?;
-        let states = by_component
+        let states = by_path
             .state_count()
+            .saturating_add(by_component.state_count())
             .saturating_add(extensions.state_count());
-        let by_component = Compiled::new(alloc, &mut budget, by_component, states)?;
-        let extensions = extensions.finish(alloc, &mut budget, states)?;
+        let by_path = Compiled::new(alloc, dfa_size_limit, by_path, states)?;
+        let by_component = Compiled::new(alloc, dfa_size_limit, by_component, states)?;
+        let extensions = extensions.finish(alloc, dfa_size_limit, states)?;
         let max_states = by_path
             .state_count()
             .max(by_component.state_count())

@@ -35,14 +35,6 @@ impl SetMatcher {
         }
     }
 
-    /// Returns how many bytes the tables of deterministic automata take. It takes time linear in the number of these.
-    pub fn table_bytes(&self) -> usize {
-        match &self.automata {
-            Some(automata) => automata.table_bytes(),
-            None => 0,
-        }
-    }
-
     /// Returns how many bytes the caches take that automata keep between calls. It takes time linear in the number of these.
     pub fn kept_bytes(&self) -> usize {
         match &self.automata {

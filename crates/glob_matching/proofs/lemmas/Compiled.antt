@@ -1,5 +1,5 @@
 -- What runs find, by the tokens that an automaton is for.
-use Rattle.std.proofs.Common.{ℕ, ◌<◌, ◌⊎◌, inl, inr, List, [], ◌∷◌, ◌++◌, refl, slice_index}
+use Rattle.std.proofs.Common.{ℕ, Bool, IsTrue, ◌<◌, ◌⊎◌, inl, inr, List, [], ◌∷◌, ◌++◌, refl, slice_index}
 use Rattle.std.specs.Prelude.{◌↔◌, Result, Ok, Err, OnOk, IfOk, Option, Some, None, IfSome}
 use Rattle.std.proofs.Math.Logic.{⊎_elim}
 use Rattle.byte_nfa.specs.Live.{MatchesAfter}
@@ -7,7 +7,10 @@ use Rattle.byte_nfa.specs.Steps.{NfaValue, IsReached}
 use Rattle.bit_sets.specs.Texts.{AllBytes}
 use Rattle.glob_nfa.specs.IndexedTokens.{SomeMeanAfter}
 use Rattle.glob_nfa.specs.IndexedTokens.{IndexedTokens, SomeMatches, IsFor}
+use Rattle.bit_sets.specs.declared.index_set.IndexSet.{IndexSet}
 use Rattle.bit_sets.proofs.lemmas.Texts.{all_bytes}
+use Rattle.glob_matching.specs.Matching.{AddsMatches, TellsMatch}
+use Rattle.glob_matching.specs.inner.Found.{AddsReached}
 use Rattle.glob_nfa.proofs.lemmas.IndexedTokens.{reached_matches}
 
 -- beside what was found before
@@ -27,6 +30,13 @@ has_matches m xs path bytes some is =
       λ h. let (k, reached) = some.0 h in (k, (same k).0 reached),
       λ (k, matched). some.1 (k, (same k).1 matched),
     )
+
+-- the same of all tokens
+pub adds_matches : (m : NfaValue) (path : List ℕ) (before after : IndexSet) → ((i : ℕ) → slice_index path i < 256) → AddsReached m path before after → AddsMatches m path before after
+adds_matches m path before after bytes found xs is k = finds_matches m xs path k bytes (found k) is
+
+pub tells_match : (m : NfaValue) (path : List ℕ) (answer : Bool) → ((i : ℕ) → slice_index path i < 256) → IsTrue answer ↔ ((k : ℕ) × IsReached m path k) → TellsMatch m path answer
+tells_match m path answer bytes some xs is = has_matches m xs path bytes some is
 
 -- ---- texts with a beginning
 

@@ -8,7 +8,6 @@ use Rattle.glob_matching.specs.contracts.kept.KeptCaches as KeptCaches
 use Rattle.glob_matching.specs.contracts.published.Published as Published
 use Rattle.glob_matching.specs.contracts.row_cache.RowCache as RowCache
 use Rattle.glob_matching.specs.contracts.rows.RowSource as RowSource
-use Rattle.glob_matching.specs.contracts.stepped.Stepped as Stepped
 
 pub row_cache-send : IsSend RowCache.the_field.row
 row_cache-send = search (sendable, crosses) depth 40 fits 20000
@@ -29,19 +28,13 @@ kept-sync : IsSync KeptCaches.the_field.row
 kept-sync = search (sendable, crosses, pool-sync, published-sync, row_cache-send, row_cache-sync) depth 40 fits 20000
 
 source-send : IsSend RowSource.the_field.row
-source-send = search (sendable, crosses, kept-send) depth 40 fits 20000
+source-send = search (sendable, crosses, kept-send, row_cache-send, row_cache-sync) depth 40 fits 20000
 
 source-sync : IsSync RowSource.the_field.row
-source-sync = search (sendable, crosses, kept-send, kept-sync) depth 40 fits 20000
-
-stepped-send : IsSend Stepped.the_field.row
-stepped-send = search (sendable, crosses, source-send) depth 40 fits 20000
-
-stepped-sync : IsSync Stepped.the_field.row
-stepped-sync = search (sendable, crosses, source-sync) depth 40 fits 20000
+source-sync = search (sendable, crosses, kept-send, kept-sync, row_cache-send, row_cache-sync) depth 40 fits 20000
 
 pub compiled-send : IsSend Compiled.the_field.row
-compiled-send = search (sendable, crosses, stepped-send) depth 40 fits 20000
+compiled-send = search (sendable, crosses, source-send) depth 40 fits 20000
 
 pub compiled-sync : IsSync Compiled.the_field.row
-compiled-sync = search (sendable, crosses, stepped-sync) depth 40 fits 20000
+compiled-sync = search (sendable, crosses, source-sync) depth 40 fits 20000

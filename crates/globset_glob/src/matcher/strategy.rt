@@ -9,7 +9,7 @@ ghost use Rattle.globset_glob.specs.inner.GlobNfa.{IsAutomatonOf, IsStrategyOfMa
 
 use crate::glob::Glob;
 use bit_sets::Visits;
-use glob_matching::{Budget, Compiled, DEFAULT_DFA_SIZE_LIMIT};
+use glob_matching::{Compiled, DEFAULT_DFA_SIZE_LIMIT};
 use glob_nfa::{add_tokens, new_builder};
 use glob_path::{Candidate, Key};
 use glob_strategy::{MatchStrategy, strategy_of};
@@ -41,14 +41,6 @@ impl Strategy {
         }
         let automaton = automaton_of(glob, dfa_size_limit)?;
         Ok(Strategy::Automaton(Arc::new(glob.allocator(), automaton)?))
-    }
-
-    /// Returns how many bytes the table of a deterministic automaton takes, or 0 if there is none.
-    pub fn table_bytes(&self) -> usize {
-        match self {
-            Strategy::Key(_) => 0,
-            Strategy::Automaton(automaton) => automaton.table_bytes(),
-        }
     }
 
     /// Returns how many bytes the caches take that an automaton keeps between calls.
@@ -134,16 +126,15 @@ impl Strategy {
     }
 }
 
-/// Returns the automaton of a glob, whose tokens have the index 0. A table of it takes at most `dfa_size_limit` bytes. Returns an
-/// error if memory runs out.
+/// Returns the automaton of a glob, whose tokens have the index 0. Its rows take at most `dfa_size_limit` bytes between calls. Returns
+/// an error if memory runs out.
 fn automaton_of(glob: &Glob, dfa_size_limit: usize) -> Result<Compiled, AllocError>
     ensures { IfOk result (λ a. IsAutomatonOf glob.now a) }
 {
     let alloc = glob.allocator();
     let mut builder = new_builder(alloc, 1);
     add_tokens(alloc, &mut builder, glob.options(), glob.tokens(), 0)?;
-    let mut budget = Budget::new(dfa_size_limit);
     let automaton = builder.finish();
     let states = automaton.state_count();
-    Compiled::new(alloc, &mut budget, automaton, states)
+    Compiled::new(alloc, dfa_size_limit, automaton, states)
 }

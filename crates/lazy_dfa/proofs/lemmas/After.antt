@@ -13,10 +13,13 @@ use Rattle.byte_nfa.specs.EarlyMatches.{IsAtEarlyMatch, EndsAtEarlyMatches}
 use Rattle.byte_nfa.specs.Live.{AreLive, MatchesAfter}
 use Rattle.byte_nfa.specs.Runs.{size}
 use Rattle.byte_nfa.specs.Steps.{NfaValue, state, match_state, Accepts, IsReached, ends, by_byte, by_skip, by_out, by_stay}
-use Rattle.byte_dfa.proofs.lemmas.After.{both_bytes}
-use Rattle.byte_dfa.specs.inner.Building.{half}
+use Rattle.lazy_dfa.specs.inner.Sources.{half}
 use Rattle.lazy_dfa.specs.inner.Rows.{AcceptsIn, FindsBy}
 use Rattle.lazy_dfa.proofs.lemmas.Finding.{found_is}
+
+pub both_bytes : (y z : List ℕ) → AllBytes y → AllBytes z → AllBytes (y ++ z)
+both_bytes [] z h g = g
+both_bytes (c ∷ y) z h g = (h.0, both_bytes y z h.1 g)
 
 -- an item of a list
 pub has_number_at : (list : List ℕ) (n : ℕ) → n < length list → IsTrue (has_number (slice_index list n) list)

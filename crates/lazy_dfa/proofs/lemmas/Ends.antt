@@ -11,8 +11,8 @@ use Rattle.bit_sets.proofs.lemmas.Filters.{filter_more}
 use Rattle.byte_nfa.specs.Runs.{size}
 use Rattle.byte_nfa.specs.Steps.{NfaValue, state, match_state, Accepts, ends, by_byte, by_skip, by_out, by_stay}
 use Rattle.byte_nfa.proofs.lemmas.Pass.{accepts_within, or_first, or_second}
-use Rattle.byte_dfa.specs.inner.Building.{half}
-use Rattle.byte_dfa.proofs.lemmas.Lists.{listed_push}
+use Rattle.lazy_dfa.specs.inner.Sources.{half}
+use Rattle.lazy_dfa.proofs.lemmas.Lists.{listed_push}
 use Rattle.lazy_dfa.specs.declared.rows.Rows.{Rows}
 use Rattle.lazy_dfa.specs.inner.Rows.{AcceptsRow, FindsBy}
 use Rattle.lazy_dfa.specs.inner.Sources.{AreFound, ListsEnds}

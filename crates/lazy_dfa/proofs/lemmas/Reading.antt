@@ -6,7 +6,7 @@ use Rattle.bit_sets.specs.Indexes.{has_index}
 use Rattle.bit_sets.specs.declared.index_set.IndexSet.{IndexSet}
 use Rattle.byte_nfa.proofs.lemmas.Pass.{iff_trans}
 use Rattle.byte_nfa.specs.Steps.{NfaValue, IsReached}
-use Rattle.byte_dfa.specs.inner.Building.{half}
+use Rattle.lazy_dfa.specs.inner.Sources.{half}
 use Rattle.lazy_dfa.specs.declared.rows.Rows.{Rows}
 use Rattle.lazy_dfa.specs.declared.run.Left.{Left}
 use Rattle.lazy_dfa.specs.declared.run.Reached.{Reached}

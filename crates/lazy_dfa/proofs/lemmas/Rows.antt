@@ -16,13 +16,13 @@ use Rattle.byte_nfa.specs.Equivalent.{AreEquivalent, reads_byte}
 use Rattle.byte_nfa.proofs.lemmas.Equivalent.{accepts_equivalent}
 use Rattle.byte_nfa.specs.Runs.{size, AcceptsFrom}
 use Rattle.byte_nfa.proofs.lemmas.Pass.{iff_trans, or_first, accepts_within}
-use Rattle.byte_dfa.specs.inner.Building.{half}
-use Rattle.byte_dfa.specs.inner.Lists.{list_at, IsList, IsListOf}
-use Rattle.byte_dfa.proofs.lemmas.Found.{list_of_iff}
+use Rattle.lazy_dfa.specs.inner.Sources.{half}
+use Rattle.lazy_dfa.specs.inner.Lists.{list_at, IsList, IsListOf}
+use Rattle.lazy_dfa.proofs.lemmas.Lists.{list_of_iff}
 use Rattle.bit_sets.specs.Indexes.{has_index}
 use Rattle.bit_sets.specs.declared.index_set.IndexSet.{IndexSet}
-use Rattle.byte_dfa.proofs.lemmas.Lists as Lists
-use Rattle.byte_dfa.proofs.lemmas.Lists.{keeps_lists, list_last}
+use Rattle.lazy_dfa.proofs.lemmas.Lists as Lists
+use Rattle.lazy_dfa.proofs.lemmas.Lists.{keeps_lists, list_last}
 use Rattle.lazy_dfa.specs.declared.rows.Rows.{Rows}
 use Rattle.lazy_dfa.specs.inner.Rows.{AcceptsIn, AcceptsRow, IsNext, IsEnd, IsEntry, IsEntryBy, IsSound, HasEnds, HasMarks, MarksAre, GoesTo, IsDeadBy, HasRoomFor, marked, KeepsRows, states_of, place_of, max_entries, IsAt, BeginsAt}
 

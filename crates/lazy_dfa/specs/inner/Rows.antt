@@ -7,9 +7,9 @@ use Rattle.bit_sets.specs.Numbers.{has_number, AreBelow}
 use Rattle.byte_nfa.specs.Steps.{Accepts, NfaValue, IsReached}
 use Rattle.byte_nfa.specs.EarlyMatches.{EndsAtEarlyMatches}
 use Rattle.byte_nfa.specs.Runs.{size}
-use Rattle.byte_dfa.specs.inner.Building.{half}
-use Rattle.byte_dfa.specs.inner.Classes.{AreEquivalenceClasses}
-use Rattle.byte_dfa.specs.inner.Lists.{list_at, IsList, IsListOf, KeepsLists}
+use Rattle.lazy_dfa.specs.inner.Sources.{half}
+use Rattle.lazy_dfa.specs.inner.Classes.{AreEquivalenceClasses}
+use Rattle.lazy_dfa.specs.inner.Lists.{list_at, IsList, IsListOf, KeepsLists}
 use Rattle.lazy_dfa.specs.declared.rows.Rows.{Rows}
 use Rattle.lazy_dfa.specs.declared.rows.Step.{Step}
 

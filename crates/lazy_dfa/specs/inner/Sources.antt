@@ -1,17 +1,20 @@
 -- What a lazy automaton is made of.
-use Rattle.std.specs.Prelude.{◌≡◌, ℕ, ◌+◌, ◌<◌, ◌≤◌, ◌⊎◌, List, length, slice_index, IsTrue}
+use Rattle.std.specs.Prelude.{◌≡◌, ℕ, ◌+◌, ◌/◌, ◌<◌, ◌≤◌, ◌⊎◌, List, length, slice_index, IsTrue}
 use Rattle.bit_sets.specs.Indexes.{has_index}
 use Rattle.bit_sets.specs.declared.index_set.IndexSet.{IndexSet}
 use Rattle.bit_sets.specs.Numbers.{has_number}
 use Rattle.byte_nfa.specs.Steps.{NfaValue, state, match_state}
-use Rattle.byte_dfa.specs.inner.Building.{half}
 use Rattle.byte_nfa.specs.Live.{AreLive}
 use Rattle.byte_nfa.specs.Runs.{size}
 use Rattle.bit_sets.specs.StateSets.{state_capacity}
 use Rattle.bit_sets.specs.declared.state_set.StateSet.{StateSet}
 use Rattle.byte_nfa.specs.EarlyMatches.{EndsAtEarlyMatches}
-use Rattle.byte_dfa.specs.declared.classes.ByteClasses.{ByteClasses}
-use Rattle.byte_dfa.specs.inner.Classes.{AreEquivalenceClasses}
+use Rattle.lazy_dfa.specs.declared.classes.ByteClasses.{ByteClasses}
+use Rattle.lazy_dfa.specs.inner.Classes.{AreEquivalenceClasses}
+
+-- ends of an index k + half say that k is decided where they are reached
+abbrev pub half : NfaValue → ℕ
+half m = m.index_count / 2
 
 -- the list has each index that a state is the end of, or says is decided
 abbrev pub ListsEnds : NfaValue → List ℕ → Type 0

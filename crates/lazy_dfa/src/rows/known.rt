@@ -2,7 +2,7 @@
 
 ghost use Rattle.std.specs.Prelude.{◌≡◌, ℕ, ◌+◌, ◌*◌, ◌<◌, ◌≤◌, ◌⊎◌, ◌↔◌, [], Some, IsTrue, IsFalse, IfSome, MatchOption, length};
 ghost use Rattle.bit_sets.specs.Indexes.{has_index, index_capacity};
-ghost use Rattle.byte_dfa.specs.inner.Building.{half};
+ghost use Rattle.lazy_dfa.specs.inner.Sources.{half};
 ghost use Rattle.lazy_dfa.specs.inner.Rows.{AcceptsRow, AddsFound, AddsMarks, HasTold, IsDeadBy, IsSound, BeginsAt, IsAt, IsKnownStep, IsPlainStep, IsMarkedStep};
 
 use super::{DEAD, FIRST, MARKED, Rows, Step, UNKNOWN, entry_at, next_of};

@@ -16,7 +16,7 @@ use crate::caches::SlotCaches;
 use bit_sets::Visits;
 use byte_keys::Table;
 use byte_nfa::Builder;
-use glob_matching::{Budget, Compiled};
+use glob_matching::Compiled;
 use glob_nfa::{add_tokens, new_builder};
 use glob_syntax::{Options, Token};
 use nfa_simulation::StateSets;
@@ -75,15 +75,6 @@ impl ExtensionMatchers {
             maximum = automaton.state_count().max(maximum);
         }
         maximum
-    }
-
-    /// Returns how many bytes the tables of the automata take. It takes time linear in the number of automata.
-    pub fn table_bytes(&self) -> usize {
-        let mut bytes: usize = 0;
-        for automaton in &self.automata {
-            bytes = bytes.saturating_add(automaton.table_bytes());
-        }
-        bytes
     }
 
     /// Returns how many bytes the caches take that the automata keep. It takes time linear in the number of automata.
@@ -155,7 +146,7 @@ impl ExtensionMatchers {
     /// Returns whether runs of some automaton need a cache.
     fn have_rows(&self) -> bool {
         for automaton in &self.automata {
-            if automaton.has_rows() {
+            if automaton.needs_cache() {
                 return true;
             }
         }
@@ -328,7 +319,7 @@ impl ExtensionMatchersBuilder {
     pub fn finish(
         self,
         alloc: Global,
-        budget: &mut Budget,
+        dfa_size_limit: usize,
         all_states: usize,
     ) -> Result<ExtensionMatchers, AllocError>
         ensures { IfOk result (λ matchers. matchers ≡ self) }
@@ -341,8 +332,8 @@ impl ExtensionMatchersBuilder {
         } = self;
         Ok(ExtensionMatchers {
             slots: slots.build()?,
-            automata: finished(alloc, budget, all_states, builders)?,
-            none: Compiled::new(alloc, budget, none.finish(), 0)?,
+            automata: finished(alloc, dfa_size_limit, all_states, builders)?,
+            none: Compiled::new(alloc, dfa_size_limit, none.finish(), 0)?,
             index_count,
         })
     }
@@ -351,7 +342,7 @@ impl ExtensionMatchersBuilder {
 /// Returns the automata of builders, whose rows share their room. Returns an error if memory runs out.
 fn finished(
     alloc: Global,
-    budget: &mut Budget,
+    dfa_size_limit: usize,
     all_states: usize,
     builders: Vec<Builder>,
 ) -> Result<Vec<Compiled>, AllocError>
@@ -359,7 +350,7 @@ fn finished(
 {
     let mut automata = Vec::with_capacity(alloc, builders.len())?;
     for builder in builders {
-        push_finished(alloc, budget, all_states, builder, &mut automata)?;
+        push_finished(alloc, dfa_size_limit, all_states, builder, &mut automata)?;
     }
     Ok(automata)
 }
@@ -367,7 +358,7 @@ fn finished(
 /// Pushes the automaton of a builder. Returns an error if memory runs out.
 fn push_finished(
     alloc: Global,
-    budget: &mut Budget,
+    dfa_size_limit: usize,
     all_states: usize,
     builder: Builder,
     automata: &mut Vec<Compiled>,
@@ -375,6 +366,6 @@ fn push_finished(
     ensures { OnOk result (automata.new.items ≡ automata.old.items ++ builder ∷ []) }
 {
     let automaton = builder.finish();
-    automata.push(Compiled::new(alloc, budget, automaton, all_states)?)?;
+    automata.push(Compiled::new(alloc, dfa_size_limit, automaton, all_states)?)?;
     Ok(())
 }

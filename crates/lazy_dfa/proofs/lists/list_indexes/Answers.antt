@@ -1,6 +1,6 @@
 use Rattle.std.proofs.Common.{◌∷◌, [], arith, length-append}
 use Rattle.bit_sets.specs.Indexes.{has_index}
-use Rattle.byte_dfa.proofs.lemmas.Lists.{listed_none, listed_past, listed_more}
+use Rattle.lazy_dfa.proofs.lemmas.Lists.{listed_none, listed_past, listed_more}
 use Rattle.lazy_dfa.proofs.lists.list_indexes.Goals as goal
 
 pub loop-index-init : goal.loop-index-init

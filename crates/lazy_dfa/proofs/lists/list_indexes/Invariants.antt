@@ -1,7 +1,7 @@
 use Rattle.std.proofs.Common.{◌-◌, ◌≤◌, length}
 use Rattle.std.specs.Prelude.{vec_capacity}
 use Rattle.bit_sets.specs.Indexes.{has_index}
-use Rattle.byte_dfa.proofs.lemmas.Lists.{IsReportedTo}
+use Rattle.lazy_dfa.proofs.lemmas.Lists.{IsReportedTo}
 use Rattle.lazy_dfa.proofs.lists.list_indexes.Given as goal
 
 abbrev pub invariant-loop-index : goal.invariant-loop-index

@@ -7,7 +7,7 @@ use Rattle.std.proofs.Math.Seq.{get_or-append_seam}
 use Rattle.bit_sets.specs.Numbers.{has_number, AreBelow}
 use Rattle.bit_sets.specs.StateSets.{has_state}
 use Rattle.byte_nfa.proofs.lemmas.Pass.{or_first, or_second}
-use Rattle.byte_dfa.proofs.lemmas.Lists.{listed_push}
+use Rattle.lazy_dfa.proofs.lemmas.Lists.{listed_push}
 use Rattle.lazy_dfa.proofs.lists.list_of.Goals as goal
 
 below_push : (n s : ℕ) (list : List ℕ) → s < n → AreBelow n list → AreBelow n (list ++ s ∷ [])

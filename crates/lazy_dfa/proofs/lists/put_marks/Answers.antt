@@ -6,8 +6,8 @@ use Rattle.std.proofs.Math.Logic.{⊎_elim}
 use Rattle.bit_sets.specs.Indexes.{has_index}
 use Rattle.bit_sets.specs.Numbers.{has_number}
 use Rattle.byte_nfa.proofs.lemmas.Pass.{or_first, or_second}
-use Rattle.byte_dfa.specs.inner.Lists.{list_at}
-use Rattle.byte_dfa.proofs.lemmas.Lists.{list_range, listed_push}
+use Rattle.lazy_dfa.specs.inner.Lists.{list_at}
+use Rattle.lazy_dfa.proofs.lemmas.Lists.{list_range, listed_push}
 use Rattle.lazy_dfa.proofs.lists.put_marks.Goals as goal
 use Rattle.lazy_dfa.proofs.lists.put_marks.Goals.{then-index-half, else-index-half}
 

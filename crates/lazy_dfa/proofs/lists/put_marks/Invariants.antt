@@ -2,7 +2,7 @@ use Rattle.std.proofs.Common.{◌≡◌, ℕ, ◌+◌, ◌⊎◌, IsTrue, take}
 use Rattle.std.specs.Prelude.{◌↔◌}
 use Rattle.bit_sets.specs.Indexes.{has_index, index_capacity}
 use Rattle.bit_sets.specs.Numbers.{has_number}
-use Rattle.byte_dfa.specs.inner.Lists.{list_at}
+use Rattle.lazy_dfa.specs.inner.Lists.{list_at}
 use Rattle.lazy_dfa.proofs.lists.put_marks.Given as goal
 
 abbrev pub invariant-loop-index : goal.invariant-loop-index

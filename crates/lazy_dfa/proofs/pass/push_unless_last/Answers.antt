@@ -1,7 +1,7 @@
 use Rattle.std.proofs.Common.{◌≡◌, ◌-◌, length, slice_index, IsTrue, ap, sym, subst, arith, ◌∙◌}
 use Rattle.std.specs.Prelude.{◌==◌}
 use Rattle.bit_sets.specs.Numbers.{has_number}
-use Rattle.byte_dfa.proofs.lemmas.Lists.{listed_push}
+use Rattle.lazy_dfa.proofs.lemmas.Lists.{listed_push}
 use Rattle.lazy_dfa.proofs.lemmas.After.{has_number_at}
 use Rattle.lazy_dfa.proofs.lemmas.Listing.{in_already, or_swapped, below_more}
 use Rattle.lazy_dfa.proofs.pass.push_unless_last.Goals as goal

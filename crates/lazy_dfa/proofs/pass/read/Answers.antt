@@ -5,7 +5,7 @@ use Rattle.bit_sets.specs.StateSets.{has_state}
 use Rattle.byte_nfa.specs.Steps.{state}
 use Rattle.byte_nfa.specs.Runs.{size}
 use Rattle.byte_nfa.proofs.lemmas.Pass.{iff_trans, none_swept, read_passed, read_taken, quiet_step, stays_at_end, next_position, last_position, accepts_within}
-use Rattle.byte_dfa.proofs.lemmas.Found.{iff_sym}
+use Rattle.lazy_dfa.proofs.lemmas.Lists.{iff_sym}
 use Rattle.lazy_dfa.proofs.pass.read.Goals as goal
 
 pub loop-limit-init : goal.loop-limit-init

@@ -1,6 +1,6 @@
 use Rattle.std.proofs.Common.{◌++◌, arith, ap, subst, ◌∙◌, sym}
 use Rattle.byte_nfa.proofs.lemmas.Pass.{iff_trans}
-use Rattle.byte_dfa.proofs.lemmas.Found.{iff_sym}
+use Rattle.lazy_dfa.proofs.lemmas.Lists.{iff_sym}
 use Rattle.lazy_dfa.specs.inner.Rows.{IsFirst}
 use Rattle.lazy_dfa.proofs.lemmas.Rows.{accepts_listed}
 use Rattle.lazy_dfa.proofs.rows.first_of.Goals as goal

@@ -1,20 +1,50 @@
-use Rattle.std.proofs.Common.{◌≡◌, ◌∙◌, ◌⊎◌, IsTrue, ap, sym, subst, arith}
-use Rattle.std.specs.Prelude.{◌↔◌}
-use Rattle.bit_sets.specs.Indexes.{has_index}
-use Rattle.byte_nfa.specs.Steps.{IsReached, NfaValue}
-use Rattle.glob_matching.specs.inner.Compiled.{nfa_of}
-use Rattle.glob_matching.proofs.lemmas.Compiled.{finds_matches, on_ok}
+use Rattle.std.proofs.Common.{◌≡◌, ◌+◌, ◌*◌, ◌≤◌, ◌∙◌, length, arith, sym, subst}
+use Rattle.std.specs.Prelude.{Option, IfSome}
+use Rattle.bit_sets.specs.declared.index_set.IndexSet.{IndexSet}
+use Rattle.byte_nfa.specs.Runs.{size}
+use Rattle.byte_nfa.specs.Steps.{NfaValue}
+use Rattle.nfa_sharing.specs.Sharing.{Shares}
+use Rattle.glob_matching.specs.inner.Found.{AddsReached, AddsSome}
+use Rattle.glob_matching.proofs.lemmas.Compiled.{adds_matches, on_ok}
+use Rattle.glob_matching.proofs.lemmas.Rows.{adds_nothing, adds_rest, found_by, none_added, stepped_within}
 use Rattle.glob_matching.proofs.compiled.Compiled.find.Goals as goal
+use Rattle.glob_matching.proofs.compiled.Compiled.find.Goals.{in-Some+else-find, in_default}
 
-pub returns-in-Table-clause-found : goal.returns-in-Table-clause-found
-returns-in-Table-clause-found c = λ xs is k.
-    let same : c.deref.result.now ≡ c.args.self.now = c.deref.ensures ∙ sym (ap nfa_of c.in-Table.is) ∙ c.self.view_is in
-    let here = subst (λ (m : NfaValue). IsTrue (has_index c.find.new.found k) ↔ (IsReached m c.args.text.now k ⊎ IsTrue (has_index c.args.found.now k))) same (c.find.ensures.found k) in
-    finds_matches c.args.self.now xs c.args.text.now k (λ i. omega (arith, c.type_inv.text i)) here is
+pub returns-then-find-clause-found : goal.returns-then-find-clause-found
+returns-then-find-clause-found c =
+    let m = c.args.self.now in
+    let made_for : c.in-Some.rows ≡ m = subst (λ (o : Option NfaValue). IfSome o (λ r. r ≡ c.self.inside.source)) c.in-Some.is c.self.invariant.1 ∙ c.self.view_is in
+    adds_matches m c.args.text.now c.args.found.now c.find.new.found (λ i. omega (arith, c.type_inv.text i))
+    (subst (λ (x : NfaValue). AddsReached x c.args.text.now c.args.found.now c.find.new.found) made_for (c.find.ensures.found c.if-find.true))
 
-pub returns-in-Stepped-clause-found : goal.returns-in-Stepped-clause-found
-returns-in-Stepped-clause-found c =
-    let same : c.in-Stepped.stepped ≡ c.args.self.now = sym (ap nfa_of c.in-Stepped.is) ∙ c.self.view_is in
-    on_ok c.find-in-Stepped.result (λ found xs is k.
-    let here = subst (λ (m : NfaValue). IsTrue (has_index c.find-in-Stepped.new.found k) ↔ (IsReached m c.args.text.now k ⊎ IsTrue (has_index c.args.found.now k))) same (found k) in
-    finds_matches c.args.self.now xs c.args.text.now k (λ i. omega (arith, c.type_inv.text i)) here is) c.find-in-Stepped.ensures.found
+pub returns-then-leads_to_none-clause-found : goal.returns-then-leads_to_none-clause-found
+returns-then-leads_to_none-clause-found c =
+    adds_matches c.args.self.now c.args.text.now c.args.found.now c.args.found.now (λ i. omega (arith, c.type_inv.text i))
+    (none_added c.args.self.now c.args.text.now c.args.found.now (c.leads_to_none.ensures.none c.if-leads_to_none.true))
+
+pub returns-clause-found : goal.returns-clause-found
+returns-clause-found c =
+    let m = c.args.self.now in
+    let text = c.args.text.now in
+    let before = c.args.found.now in
+    let shares : Shares m c.self.inside.automaton = subst (λ (x : NfaValue). Shares x c.self.inside.automaton) c.self.view_is c.self.invariant.0 in
+    let some : AddsSome m text before c.match-self.found = elim c.match-self.branch [
+      | in-Some+else-find w ↦
+          let made_for : w.in-Some.rows ≡ m = subst (λ (o : Option NfaValue). IfSome o (λ r. r ≡ c.self.inside.source)) w.in-Some.is c.self.invariant.1 ∙ c.self.view_is in
+          subst (λ (x : IndexSet). AddsSome m text before x) (sym w.found-is) (subst (λ (x : NfaValue). AddsSome x text before w.find.new.found) made_for w.find.ensures.some)
+      | in_default w ↦ subst (λ (x : IndexSet). AddsSome m text before x) (sym w.found-is) (adds_nothing m text before)
+    ] in
+    on_ok c.find-2.result (λ found. adds_matches m text before c.find-2.new.found (λ i. omega (arith, c.type_inv.text i))
+    (adds_rest m text before c.match-self.found c.find-2.new.found some (λ k. found_by m c.self.inside.automaton shares text k (found k)))) c.find-2.ensures.found
+
+pub returns-clause-visits : goal.returns-clause-visits
+returns-clause-visits c =
+    let m = c.args.self.now in
+    let shares : Shares m c.self.inside.automaton = subst (λ (x : NfaValue). Shares x c.self.inside.automaton) c.self.view_is c.self.invariant.0 in
+    let positions = length c.args.text.now + 1 in
+    let looks : c.match-self.visits ≤ c.args.visits.now + 2 * positions = elim c.match-self.branch [
+      | in-Some+else-find w ↦ omega (arith, w.visits-is, w.find.ensures.missed w.if-find.false, c.leads_to_none.ensures.visits)
+      | in_default w ↦ omega (arith, w.visits-is, c.leads_to_none.ensures.visits)
+    ] in
+    stepped_within positions c.args.visits.now c.match-self.visits c.find-2.new.visits (size c.self.inside.automaton) (size m) (length m.starts) looks c.find-2.ensures.visits shares.states
+    (c.leads_to_none.ensures.starts c.if-leads_to_none.false)

@@ -1,19 +1,37 @@
-use Rattle.std.proofs.Common.{◌≡◌, ◌∙◌, ℕ, IsTrue, ap, sym, subst, arith}
-use Rattle.std.specs.Prelude.{◌↔◌}
-use Rattle.byte_nfa.specs.Steps.{IsReached, NfaValue}
-use Rattle.glob_matching.specs.inner.Compiled.{nfa_of}
-use Rattle.glob_matching.proofs.lemmas.Compiled.{has_matches, if_ok}
+use Rattle.std.specs.Prelude.{◌↔◌, Option, IfSome, IsTrue}
+use Rattle.std.proofs.Common.{ℕ, ◌≡◌, ◌∙◌, false, ◌+◌, ◌*◌, ◌≤◌, length, arith, subst}
+use Rattle.byte_nfa.specs.Runs.{size}
+use Rattle.byte_nfa.specs.Steps.{NfaValue, IsReached}
+use Rattle.nfa_sharing.specs.Sharing.{Shares}
+use Rattle.glob_matching.proofs.lemmas.Compiled.{if_ok, tells_match}
+use Rattle.glob_matching.proofs.lemmas.Rows.{none_matches, some_by, stepped_within}
 use Rattle.glob_matching.proofs.compiled.Compiled.is_match.Goals as goal
+use Rattle.glob_matching.proofs.compiled.Compiled.is_match.Goals.{in-Some+in_default-is_match, in_default}
 
-pub returns-in-Table-clause-some : goal.returns-in-Table-clause-some
-returns-in-Table-clause-some c = λ xs is.
-    let same : c.deref.result.now ≡ c.args.self.now = c.deref.ensures ∙ sym (ap nfa_of c.in-Table.is) ∙ c.self.view_is in
-    let here = subst (λ (m : NfaValue). IsTrue c.is_match.result ↔ ((k : ℕ) × IsReached m c.args.text.now k)) same c.is_match.ensures.some in
-    has_matches c.args.self.now xs c.args.text.now (λ i. omega (arith, c.type_inv.text i)) here is
+pub returns-in-Some-is_match-clause-some : goal.returns-in-Some-is_match-clause-some
+returns-in-Some-is_match-clause-some c =
+    let m = c.args.self.now in
+    let made_for : c.in-Some.rows ≡ m = subst (λ (o : Option NfaValue). IfSome o (λ r. r ≡ c.self.inside.source)) c.in-Some.is c.self.invariant.1 ∙ c.self.view_is in
+    tells_match m c.args.text.now c.in-Some-is_match.is_match (λ i. omega (arith, c.type_inv.text i))
+    (subst (λ (x : NfaValue). IsTrue c.in-Some-is_match.is_match ↔ ((k : ℕ) × IsReached x c.args.text.now k)) made_for c.in-Some-is_match.ensures.some)
 
-pub returns-in-Stepped-clause-some : goal.returns-in-Stepped-clause-some
-returns-in-Stepped-clause-some c =
-    let same : c.in-Stepped.stepped ≡ c.args.self.now = sym (ap nfa_of c.in-Stepped.is) ∙ c.self.view_is in
-    if_ok c.is_match-in-Stepped.result (λ yes some xs is.
-    let here = subst (λ (m : NfaValue). IsTrue yes ↔ ((k : ℕ) × IsReached m c.args.text.now k)) same some in
-    has_matches c.args.self.now xs c.args.text.now (λ i. omega (arith, c.type_inv.text i)) here is) c.is_match-in-Stepped.ensures.some
+pub returns-then-leads_to_none-clause-some : goal.returns-then-leads_to_none-clause-some
+returns-then-leads_to_none-clause-some c = tells_match c.args.self.now c.args.text.now false (λ i. omega (arith, c.type_inv.text i)) (none_matches c.args.self.now c.args.text.now (c.leads_to_none.ensures.none c.if-leads_to_none.true))
+
+pub returns-clause-some : goal.returns-clause-some
+returns-clause-some c =
+    let m = c.args.self.now in
+    let shares : Shares m c.self.inside.automaton = subst (λ (x : NfaValue). Shares x c.self.inside.automaton) c.self.view_is c.self.invariant.0 in
+    if_ok c.is_match-2.result (λ yes some. tells_match m c.args.text.now yes (λ i. omega (arith, c.type_inv.text i)) (some_by m c.self.inside.automaton shares c.args.text.now some)) c.is_match-2.ensures.some
+
+pub returns-clause-visits : goal.returns-clause-visits
+returns-clause-visits c =
+    let m = c.args.self.now in
+    let shares : Shares m c.self.inside.automaton = subst (λ (x : NfaValue). Shares x c.self.inside.automaton) c.self.view_is c.self.invariant.0 in
+    let positions = length c.args.text.now + 1 in
+    let looks : c.match-self.visits ≤ c.args.visits.now + 2 * positions = elim c.match-self.branch [
+      | in-Some+in_default-is_match w ↦ omega (arith, w.visits-is, w.is_match.ensures.missed w.in_default-is_match.is, c.leads_to_none.ensures.visits)
+      | in_default w ↦ omega (arith, w.visits-is, c.leads_to_none.ensures.visits)
+    ] in
+    stepped_within positions c.args.visits.now c.match-self.visits c.is_match-2.new.visits (size c.self.inside.automaton) (size m) (length m.starts) looks c.is_match-2.ensures.visits shares.states
+    (c.leads_to_none.ensures.starts c.if-leads_to_none.false)

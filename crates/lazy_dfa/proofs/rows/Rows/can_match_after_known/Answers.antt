@@ -1,6 +1,6 @@
 use Rattle.std.proofs.Common.{◌∙◌, ◌∷◌, [], inr, refl, true≢false, sym}
 use Rattle.byte_nfa.proofs.lemmas.Pass.{iff_trans}
-use Rattle.byte_dfa.specs.inner.Building.{half}
+use Rattle.lazy_dfa.specs.inner.Sources.{half}
 use Rattle.lazy_dfa.specs.inner.Rows.{AcceptsRow}
 use Rattle.lazy_dfa.proofs.lemmas.After.{index_below, live_finds, some_after}
 use Rattle.lazy_dfa.proofs.lemmas.Finding.{at_quiet, at_dead}

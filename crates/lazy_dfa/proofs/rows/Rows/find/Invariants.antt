@@ -3,7 +3,7 @@ use Rattle.std.specs.Prelude.{◌↔◌}
 use Rattle.bit_sets.specs.Indexes.{has_index, index_capacity}
 use Rattle.byte_nfa.specs.Runs.{size}
 use Rattle.byte_nfa.specs.Steps.{IsReached}
-use Rattle.byte_dfa.specs.inner.Building.{half}
+use Rattle.lazy_dfa.specs.inner.Sources.{half}
 use Rattle.lazy_dfa.specs.inner.Rows.{IsSound, IsAt, AcceptsRow, FindsBy}
 use Rattle.lazy_dfa.proofs.rows.Rows.find.Given as goal
 

@@ -1,7 +1,7 @@
 use Rattle.std.proofs.Common.{◌≡◌, ℕ, ◌+◌, ◌≤◌, ◌⊎◌, Some, drop, IsTrue}
 use Rattle.std.specs.Prelude.{◌↔◌}
 use Rattle.bit_sets.specs.Indexes.{has_index, index_capacity}
-use Rattle.byte_dfa.specs.inner.Building.{half}
+use Rattle.lazy_dfa.specs.inner.Sources.{half}
 use Rattle.lazy_dfa.specs.inner.Rows.{IsAt, AcceptsRow, FindsBy, HasTold}
 use Rattle.lazy_dfa.specs.inner.Sources.{AreFound}
 use Rattle.lazy_dfa.proofs.rows.Rows.find_from.Given as goal

@@ -4,7 +4,7 @@ use Rattle.bit_sets.specs.Indexes.{has_index}
 use Rattle.byte_nfa.specs.Runs.{size}
 use Rattle.byte_nfa.specs.Steps.{IsReached}
 use Rattle.byte_nfa.proofs.lemmas.Pass.{iff_trans}
-use Rattle.byte_dfa.specs.inner.Building.{half}
+use Rattle.lazy_dfa.specs.inner.Sources.{half}
 use Rattle.lazy_dfa.specs.inner.Rows.{AcceptsRow}
 use Rattle.lazy_dfa.proofs.lemmas.Finding.{iff_beside, finds_same}
 use Rattle.lazy_dfa.proofs.lemmas.Reading.{finds_some, may_hold}

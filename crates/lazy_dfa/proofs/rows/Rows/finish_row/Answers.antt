@@ -1,6 +1,6 @@
 use Rattle.std.proofs.Common.{◌+◌, [], true≢false, arith, refl, sym, ◌∙◌}
 use Rattle.bit_sets.specs.Indexes.{has_index}
-use Rattle.byte_dfa.specs.inner.Building.{half}
+use Rattle.lazy_dfa.specs.inner.Sources.{half}
 use Rattle.lazy_dfa.proofs.lemmas.Rows.{in_range, accepts_kept, ends_kept, read_end}
 use Rattle.lazy_dfa.proofs.rows.Rows.finish_row.Goals as goal
 

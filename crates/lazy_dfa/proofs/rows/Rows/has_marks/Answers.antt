@@ -1,6 +1,6 @@
 use Rattle.std.proofs.Common.{◌≡◌, ◌+◌, ◌-◌, IsTrue, arith, subst}
 use Rattle.bit_sets.specs.Indexes.{has_index}
-use Rattle.byte_dfa.specs.inner.Building.{half}
+use Rattle.lazy_dfa.specs.inner.Sources.{half}
 use Rattle.lazy_dfa.proofs.lemmas.Rows.{in_range}
 use Rattle.lazy_dfa.proofs.rows.Rows.has_marks.Goals as goal
 

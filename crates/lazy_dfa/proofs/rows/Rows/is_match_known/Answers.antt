@@ -2,7 +2,7 @@ use Rattle.std.proofs.Common.{[], refl, true≢false, sym, subst, append-nil}
 use Rattle.std.specs.Prelude.{◌↔◌}
 use Rattle.byte_nfa.proofs.lemmas.Pass.{iff_trans}
 use Rattle.byte_nfa.specs.Steps.{IsReached}
-use Rattle.byte_dfa.specs.inner.Building.{half}
+use Rattle.lazy_dfa.specs.inner.Sources.{half}
 use Rattle.lazy_dfa.specs.inner.Rows.{AcceptsRow, FindsBy}
 use Rattle.lazy_dfa.proofs.lemmas.Finding.{some_last, some_same}
 use Rattle.lazy_dfa.proofs.lemmas.Reading.{answer_same}

@@ -4,9 +4,9 @@ use Rattle.std.proofs.Math.Logic.{⊎_elim}
 use Rattle.bit_sets.specs.Indexes.{has_index, index_capacity}
 use Rattle.bit_sets.specs.Numbers.{has_number}
 use Rattle.byte_nfa.proofs.lemmas.Pass.{or_first}
-use Rattle.byte_dfa.specs.inner.Building.{half}
-use Rattle.byte_dfa.specs.inner.Lists.{list_at}
-use Rattle.byte_dfa.proofs.lemmas.Lists.{list_wider}
+use Rattle.lazy_dfa.specs.inner.Sources.{half}
+use Rattle.lazy_dfa.specs.inner.Lists.{list_at}
+use Rattle.lazy_dfa.proofs.lemmas.Lists.{list_wider}
 use Rattle.lazy_dfa.proofs.lemmas.Rows.{same_sound}
 use Rattle.lazy_dfa.proofs.rows.Rows.load_ends.Goals as goal
 

@@ -2,7 +2,7 @@ use Rattle.std.proofs.Common.{ℕ, ◌+◌, ◌*◌, ◌≤◌, List, ◌++◌, 
 use Rattle.std.specs.Prelude.{◌↔◌}
 use Rattle.byte_nfa.specs.Runs.{size}
 use Rattle.byte_nfa.specs.Steps.{IsReached}
-use Rattle.byte_dfa.specs.inner.Building.{half}
+use Rattle.lazy_dfa.specs.inner.Sources.{half}
 use Rattle.lazy_dfa.specs.inner.Rows.{IsSound, IsAt, AcceptsRow, FindsBy}
 use Rattle.lazy_dfa.proofs.rows.Rows.read.Given as goal
 

@@ -1,6 +1,6 @@
 use Rattle.std.proofs.Common.{◌≡◌, ℕ, ◌+◌, ◌≤◌, List, ◌++◌, drop}
 use Rattle.std.specs.Prelude.{◌↔◌}
-use Rattle.byte_dfa.specs.inner.Building.{half}
+use Rattle.lazy_dfa.specs.inner.Sources.{half}
 use Rattle.lazy_dfa.specs.inner.Rows.{IsAt, AcceptsRow, FindsBy}
 use Rattle.lazy_dfa.proofs.rows.Rows.read_from.Given as goal
 

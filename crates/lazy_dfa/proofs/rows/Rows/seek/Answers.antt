@@ -1,5 +1,5 @@
 use Rattle.std.proofs.Common.{◌∙◌, arith}
-use Rattle.byte_dfa.proofs.lemmas.Lists.{keeps_then}
+use Rattle.lazy_dfa.proofs.lemmas.Lists.{keeps_then}
 use Rattle.lazy_dfa.proofs.rows.Rows.seek.Goals as goal
 
 pub returns-clause-kept : goal.returns-clause-kept

@@ -2,8 +2,8 @@ use Rattle.std.proofs.Common.{◌+◌, inl, inr, IsTrue, slice_index, arith, ap,
 use Rattle.std.proofs.Math.Logic.{⊎_elim}
 use Rattle.bit_sets.specs.Indexes.{has_index}
 use Rattle.byte_nfa.proofs.lemmas.Pass.{iff_trans}
-use Rattle.byte_dfa.specs.inner.Building.{half}
-use Rattle.byte_dfa.proofs.lemmas.Found.{iff_sym}
+use Rattle.lazy_dfa.specs.inner.Sources.{half}
+use Rattle.lazy_dfa.proofs.lemmas.Lists.{iff_sym}
 use Rattle.lazy_dfa.specs.inner.Rows.{AcceptsRow}
 use Rattle.lazy_dfa.proofs.lemmas.Finding.{at_no_byte, iff_beside, none_last}
 use Rattle.lazy_dfa.proofs.lemmas.Rows.{read_end}

@@ -1,2 +1,0 @@
-pub mod DfaValue
-pub mod inner

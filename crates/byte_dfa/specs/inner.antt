@@ -1,4 +1,0 @@
-pub mod Lists
-pub mod Classes
-pub mod Tables
-pub mod Building
