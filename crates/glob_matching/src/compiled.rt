@@ -59,8 +59,7 @@ impl Compiled {
     /// Returns an automaton as it is run. It takes time and memory linear in the states. Returns an error if memory runs out.
     ///
     /// Calls keep rows in at most four caches, which take at most the share of `dfa_size_limit` bytes that the states have in
-    /// `all_states`. If there is one start, and all rows take few of these bytes, they are made here, and calls make no others.
-    /// Where the share is too small, there are no rows.
+    /// `all_states`. Where the share is too small, there are no rows.
     pub fn new(
         alloc: Global,
         dfa_size_limit: usize,
@@ -86,26 +85,23 @@ impl Compiled {
         })
     }
 
-    /// Returns whether runs need a cache.
-    pub fn needs_cache(&self) -> bool {
-        match &self.rows {
-            Some(rows) => rows.needs_cache(),
-            None => false,
-        }
+    /// Returns whether there is room for rows.
+    pub fn has_rows(&self) -> bool {
+        self.rows.is_some()
     }
 
-    /// Returns a cache with no rows for this automaton, or `None` if runs need none. All memory that it needs is taken here.
+    /// Returns a cache with no rows for this automaton, or `None` if there is no room for rows. All memory that it needs is taken here.
     /// Returns an error if memory runs out.
     pub fn new_cache(&self, alloc: Global) -> Result<Option<RowCache>, AllocError>
         ensures { IfOk result (λ made. IfSome made (λ cache. cache ≡ self.now)) }
     {
         match &self.rows {
-            Some(rows) if rows.needs_cache() => Ok(Some(rows.new_cache(alloc)?)),
-            _ => Ok(None),
+            Some(rows) => Ok(Some(rows.new_cache(alloc)?)),
+            None => Ok(None),
         }
     }
 
-    /// Makes a cache and keeps it for later calls, unless one was made before, runs need none, or there is no memory for it.
+    /// Makes a cache and keeps it for later calls, unless one was made before, or there is no room or no memory for it.
     pub fn keep_cache(&self) {
         if let Some(rows) = &self.rows {
             rows.keep_one();
@@ -119,7 +115,7 @@ impl Compiled {
         self.source.state_count()
     }
 
-    /// Returns how many bytes the rows take that were made with it, and the caches that are kept between calls.
+    /// Returns how many bytes the caches take that are kept between calls.
     pub fn kept_bytes(&self) -> usize {
         match &self.rows {
             Some(rows) => rows.kept_bytes(),

@@ -15,6 +15,8 @@ use std::sync::atomic::{AtomicUsize, Ordering};
 pub struct Kept {
     /// In a box, so that little is moved.
     pub cache: Box<RowCache>,
+    /// How many bytes its rows may take.
+    bytes: usize,
     /// How many calls used it.
     uses: usize,
 }
@@ -34,8 +36,13 @@ pub struct KeptCaches {
     first: Published,
     second: Published,
     third: Published,
-    /// How many were made.
+    /// How many bytes one takes at most.
+    most_bytes: usize,
+    /// How many bytes the next one takes.
+    next_bytes: AtomicUsize,
+    /// How many there are, and how many bytes they take.
     made: AtomicUsize,
+    bytes: AtomicUsize,
     /// How many calls found none, as far as this is counted.
     misses: AtomicUsize,
 }
@@ -48,7 +55,10 @@ impl Drop for KeptCaches {
             first: _,
             second: _,
             third: _,
+            most_bytes: _,
+            next_bytes: _,
             made: _,
+            bytes: _,
             misses: _,
         } = self;
     }
@@ -66,16 +76,23 @@ impl Model for KeptCaches {
 }
 
 impl Kept {
-    /// Returns a cache that no call used yet.
-    pub fn new(cache: Box<RowCache>) -> Kept
+    /// Returns a cache of so many bytes that no call used yet.
+    pub fn new(cache: Box<RowCache>, bytes: usize) -> Kept
         ensures { result.cache ≡ cache }
     {
-        Kept { cache, uses: 0 }
+        Kept {
+            cache,
+            bytes,
+            uses: 0,
+        }
     }
 }
 
 /// The most caches that are made, with those that are published, and so the most calls at once that run by rows of their own.
 pub const MOST_KEPT: usize = 4;
+
+/// The bytes of the first cache. Where rows do not fit, the next one takes four times as many.
+const FIRST_BYTES: usize = 1 << 14;
 
 /// So many calls that find no cache make none, so that a set which is asked about few paths takes no memory for them.
 const FIRST_CALLS: usize = 2;
@@ -90,8 +107,8 @@ const SECOND_USES: usize = 1 << 14;
 const THIRD_USES: usize = 1 << 18;
 
 impl KeptCaches {
-    /// Returns room for the caches of an automaton, of which none is made.
-    pub fn new(automaton: &Nfa) -> KeptCaches
+    /// Returns room for the caches of an automaton, each of which takes at most so many bytes, and of which none is made.
+    pub fn new(automaton: &Nfa, most_bytes: usize) -> KeptCaches
         ensures { result ≡ automaton.now }
     {
         KeptCaches {
@@ -99,7 +116,10 @@ impl KeptCaches {
             first: Published::new(automaton),
             second: Published::new(automaton),
             third: Published::new(automaton),
+            most_bytes,
+            next_bytes: AtomicUsize::new(FIRST_BYTES.min(most_bytes)),
             made: AtomicUsize::new(0),
+            bytes: AtomicUsize::new(0),
             misses: AtomicUsize::new(0),
         }
     }
@@ -127,17 +147,25 @@ impl KeptCaches {
         }
     }
 
-    /// Gives a cache back after a call, for later calls. It is published if so many used it, in a call that may take memory: the
-    /// next call for which it lacks an entry makes another one. One that has no room for all rows is not: calls would look at it in
-    /// vain, and then use another one.
+    /// Gives a cache back after a call, for later calls. In a call that may take memory, one that has no room for all rows makes way
+    /// for a larger one; and one that so many calls used is published: the next call for which it lacks an entry makes another.
     pub fn give(&self, kept: Kept, may_make: bool)
         requires { kept.cache.value ≡ self.now }
     {
-        let Kept { cache, uses } = kept;
+        let Kept { cache, bytes, uses } = kept;
         let uses = uses.saturating_add(1);
-        let kept = Kept { cache, uses };
-        if may_make && !kept.cache.has_forgotten() {
-            if let Some(place) = self.place_after(uses) {
+        let kept = Kept { cache, bytes, uses };
+        if may_make {
+            if kept.cache.has_forgotten() {
+                if bytes < self.most_bytes {
+                    self.next_bytes.fetch_max(
+                        bytes.saturating_mul(4).min(self.most_bytes),
+                        Ordering::SeqCst,
+                    );
+                    self.count_one_less(bytes);
+                    return;
+                }
+            } else if let Some(place) = self.place_after(uses) {
                 if let Some(kept) = place.set(kept) {
                     self.put(kept);
                 }
@@ -151,9 +179,9 @@ impl KeptCaches {
     pub fn put(&self, kept: Kept)
         requires { kept.cache.value ≡ self.now }
     {
-        if let Some(_) = self.pool.give(kept) {
+        if let Some(kept) = self.pool.give(kept) {
             // Other calls were at every place, so this cache is dropped, and another may be made for it.
-            self.count_one_less();
+            self.count_one_less(kept.bytes);
         }
     }
 
@@ -185,25 +213,32 @@ impl KeptCaches {
             || self.misses.fetch_add(1, Ordering::SeqCst) >= FIRST_CALLS
     }
 
-    /// Counts one cache more, which the caller makes. Returns whether there is room for it.
-    pub fn count_one_more(&self) -> bool {
-        if self.made() >= MOST_KEPT {
+    /// Returns how many bytes the next cache is to take.
+    pub fn next_bytes(&self) -> usize {
+        self.next_bytes.load(Ordering::SeqCst)
+    }
+
+    /// Counts one cache more, of so many bytes, which the caller makes. Returns whether there is room for it.
+    pub fn count_one_more(&self, bytes: usize) -> bool {
+        if self.made.load(Ordering::SeqCst) >= MOST_KEPT {
             return false;
         }
+        self.bytes.fetch_add(bytes, Ordering::SeqCst);
         if self.made.fetch_add(1, Ordering::SeqCst) >= MOST_KEPT {
-            self.count_one_less();
+            self.count_one_less(bytes);
             return false;
         }
         true
     }
 
-    /// Counts one cache less, which could not be made or kept.
-    pub fn count_one_less(&self) {
+    /// Counts one cache less, of so many bytes, which could not be made or kept.
+    pub fn count_one_less(&self, bytes: usize) {
+        self.bytes.fetch_sub(bytes, Ordering::SeqCst);
         self.made.fetch_sub(1, Ordering::SeqCst);
     }
 
-    /// Returns how many caches were made and are kept.
-    pub fn made(&self) -> usize {
-        self.made.load(Ordering::SeqCst)
+    /// Returns how many bytes the caches take that are kept.
+    pub fn bytes(&self) -> usize {
+        self.bytes.load(Ordering::SeqCst)
     }
 }

@@ -69,13 +69,6 @@ impl RowCache {
         })
     }
 
-    /// Makes all rows, as long as there is room for them. Returns whether there was: then no entry is missing, whatever the text.
-    pub(crate) fn complete(&mut self) -> bool
-        ensures { self.new ≡ self.old }
-    {
-        self.cache.complete(&self.dfa)
-    }
-
     /// Returns whether rows were forgotten, because there was no room for one more.
     pub(crate) fn has_forgotten(&self) -> bool {
         self.cache.has_forgotten()

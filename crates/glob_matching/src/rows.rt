@@ -3,7 +3,6 @@
 ghost use Rattle.std.specs.Prelude.{◌≡◌, ◌+◌, ◌*◌, ◌≤◌, ◌↔◌, ◌++◌, ◌∷◌, [], ℕ, None, false, length, IsTrue, IfOk, IfSome};
 ghost use Rattle.bit_sets.specs.Indexes.{index_capacity};
 ghost use Rattle.byte_nfa.specs.Live.{MatchesAfter};
-ghost use Rattle.std.specs.Arc.{arc_value};
 ghost use Rattle.byte_nfa.specs.Runs.{size};
 ghost use Rattle.byte_nfa.specs.Steps.{IsReached};
 ghost use Rattle.nfa_sharing.specs.Sharing.{Shares};
@@ -25,12 +24,10 @@ pub struct RowSource {
     alloc: Global,
     /// It is made from an automaton that leads to the same ends.
     dfa: Arc<LazyDfa>,
-    /// How many bytes the rows of a cache take.
+    /// How many bytes the rows of a cache take at most.
     cache_bytes: usize,
-    /// All rows, if they were made with the automaton.
-    complete: Option<RowCache>,
-    /// In a box, since the pool has room between its places, and a set may have many automata. There are none if all rows are there.
-    kept: Option<Box<KeptCaches>>,
+    /// In a box, since the pool has room between its places, and a set may have many automata.
+    kept: Box<KeptCaches>,
     source: Snapshot<Nfa>,
 }
 
@@ -41,7 +38,6 @@ impl Drop for RowSource {
             alloc: _,
             dfa: _,
             cache_bytes: _,
-            complete: _,
             kept: _,
             source: _,
         } = self;
@@ -50,7 +46,7 @@ impl Drop for RowSource {
 
 impl Model for RowSource {
     ghost use Rattle.std.specs.Arc.{arc_value};
-    ghost use Rattle.std.specs.Prelude.{◌≡◌, IfSome};
+    ghost use Rattle.std.specs.Prelude.{◌≡◌};
     ghost use Rattle.byte_nfa.specs.Steps.{NfaValue};
     ghost use Rattle.nfa_sharing.specs.Sharing.{Shares};
 
@@ -58,17 +54,15 @@ impl Model for RowSource {
 
     ghost view = { λ r. r.source.value };
 
-    ghost invariant = { λ r. Shares r.source.value (arc_value r.dfa) × IfSome r.complete (λ c. c ≡ r.source.value)
-        × IfSome r.kept (λ k. k.value ≡ r.source.value) };
+    ghost invariant = { λ r. Shares r.source.value (arc_value r.dfa) × (r.kept.value ≡ r.source.value) };
 }
 
 impl RowSource {
     /// Returns what rows of an automaton are made from, by `sharing`, which leads to the same ends.
     ///
     /// At most four caches are kept between calls, which take at most the share of `dfa_size_limit` bytes that the states have in
-    /// `all_states`. If there is one start, and all rows take few of these bytes, they are made here. Otherwise it takes time and
-    /// memory linear in the states. Returns `None` if the share is too small or there are too many indexes, and an error if memory
-    /// runs out.
+    /// `all_states`. It takes time and memory linear in the states. Returns `None` if the share is too small or there are too many
+    /// indexes, and an error if memory runs out.
     pub fn new(
         alloc: Global,
         dfa_size_limit: usize,
@@ -90,29 +84,13 @@ impl RowSource {
         let Some(dfa) = LazyDfa::new(alloc, sharing)? else {
             return Ok(None);
         };
-        let dfa = Arc::new(alloc, dfa)?;
-        let source = Snapshot::of(automaton);
-        let complete = match automaton.starts().len() {
-            1 => complete_cache(alloc, &dfa, cache_bytes / PART_FOR_ALL_ROWS, &source)?,
-            _ => None,
-        };
-        let kept = match complete {
-            Some(_) => None,
-            None => Some(Box::new(alloc, KeptCaches::new(automaton))?),
-        };
         Ok(Some(RowSource {
             alloc,
-            dfa,
+            dfa: Arc::new(alloc, dfa)?,
             cache_bytes,
-            complete,
-            kept,
-            source,
+            kept: Box::new(alloc, KeptCaches::new(automaton, cache_bytes))?,
+            source: Snapshot::of(automaton),
         }))
-    }
-
-    /// Returns whether runs need a cache: whether rows may be missing.
-    pub fn needs_cache(&self) -> bool {
-        self.complete.is_none()
     }
 
     /// Returns a cache with no rows. All memory that it needs is taken here. Returns an error if memory runs out.
@@ -122,86 +100,57 @@ impl RowSource {
         RowCache::new(alloc, &self.dfa, self.cache_bytes, &self.source)
     }
 
-    /// Returns how many bytes all rows take, if they are there, and otherwise the caches that are kept between calls.
+    /// Returns how many bytes the caches take that are kept between calls.
     pub fn kept_bytes(&self) -> usize {
-        if let Some(complete) = &self.complete {
-            return complete.bytes();
-        }
-        match &self.kept {
-            Some(kept) => kept.made().saturating_mul(self.cache_bytes),
-            None => 0,
-        }
+        self.kept.bytes()
     }
 
-    /// Makes a cache and keeps it for later calls, unless one was made before, runs need none, or there is no room or no memory for
+    /// Makes a cache of the most bytes and keeps it for later calls, unless one was made before, or there is no room or no memory for
     /// it.
     pub fn keep_one(&self) {
-        let Some(kept) = &self.kept else {
-            return;
-        };
-        if kept.made() > 0 {
+        if self.kept.bytes() > 0 {
             return;
         }
-        if let Some(made) = self.make(kept) {
-            kept.put(made);
+        if let Some(made) = self.make(self.cache_bytes) {
+            self.kept.put(made);
         }
-    }
-
-    /// Returns rows that calls read without writing: all of them, or those that were published last.
-    fn known(&self) -> Option<&RowCache>
-        ensures { IfSome result (λ cache. cache.now ≡ self.now) }
-    {
-        if let Some(complete) = &self.complete {
-            return Some(complete);
-        }
-        self.kept.as_ref()?.published()
     }
 
     /// Takes a cache that is kept for one call. If there is none and memory may be taken, it makes one, but for the first calls.
     fn take(&self, may_make: bool) -> Option<Kept>
         ensures { IfSome result (λ kept. kept.cache.value ≡ self.now) }
     {
-        let kept = self.kept.as_ref()?;
-        if let Some(taken) = kept.take() {
+        if let Some(taken) = self.kept.take() {
             return Some(taken);
         }
-        if may_make && kept.were_missed() {
-            return self.make(kept);
+        if may_make && self.kept.were_missed() {
+            return self.make(self.kept.next_bytes());
         }
         None
     }
 
-    /// Gives a cache back after a call, for later calls.
-    fn give(&self, taken: Kept, may_make: bool)
-        requires { taken.cache.value ≡ self.now }
-    {
-        if let Some(kept) = &self.kept {
-            kept.give(taken, may_make);
-        }
-    }
-
-    /// Makes a cache with no rows, if fewer are kept than may be, and there is memory for it.
-    fn make(&self, kept: &KeptCaches) -> Option<Kept>
+    /// Makes a cache of so many bytes with no rows, if fewer are kept than may be, and there is memory for it.
+    fn make(&self, bytes: usize) -> Option<Kept>
         ensures { IfSome result (λ kept. kept.cache.value ≡ self.now) }
     {
-        if !kept.count_one_more() {
+        if !self.kept.count_one_more(bytes) {
             return None;
         }
-        match self.new_kept() {
+        match self.new_kept(bytes) {
             Ok(made) => Some(made),
             Err(_) => {
-                kept.count_one_less();
+                self.kept.count_one_less(bytes);
                 None
             }
         }
     }
 
-    /// Returns a cache with no rows, in a box. Returns an error if memory runs out.
-    fn new_kept(&self) -> Result<Kept, AllocError>
+    /// Returns a cache of so many bytes with no rows, in a box. Returns an error if memory runs out.
+    fn new_kept(&self, bytes: usize) -> Result<Kept, AllocError>
         ensures { IfOk result (λ kept. kept.cache.value ≡ self.now) }
     {
-        let cache = self.new_cache(self.alloc)?;
-        Ok(Kept::new(Box::new(self.alloc, cache)?))
+        let cache = RowCache::new(self.alloc, &self.dfa, bytes, &self.source)?;
+        Ok(Kept::new(Box::new(self.alloc, cache)?, bytes))
     }
 }
 
@@ -225,7 +174,7 @@ impl RowSource {
             ≤ visits.old + (length text.now + 1) + (length text.now + 1) * (size self.now + 1) }
         ensures counted { visits.old ≤ visits.new }
     {
-        if let Some(known) = self.known() {
+        if let Some(known) = self.kept.published() {
             if known.find_known(text, found, visits) {
                 return true;
             }
@@ -234,7 +183,7 @@ impl RowSource {
             return false;
         };
         kept.cache.find(text, found, visits);
-        self.give(kept, may_make);
+        self.kept.give(kept, may_make);
         true
     }
 
@@ -248,14 +197,14 @@ impl RowSource {
             ≤ visits.old + (length text.now + 1) + (length text.now + 1) * (size self.now + 1) }
         ensures counted { visits.old ≤ visits.new }
     {
-        if let Some(known) = self.known() {
+        if let Some(known) = self.kept.published() {
             if let Some(is_match) = known.is_match_known(text, visits) {
                 return Some(is_match);
             }
         }
         let mut kept = self.take(may_make)?;
         let is_match = kept.cache.is_match(text, visits);
-        self.give(kept, may_make);
+        self.kept.give(kept, may_make);
         Some(is_match)
     }
 
@@ -275,14 +224,14 @@ impl RowSource {
             ≤ visits.old + (length text.now + 1) + (length text.now + 2) * (size self.now + 1) }
         ensures counted { visits.old ≤ visits.new }
     {
-        if let Some(known) = self.known() {
+        if let Some(known) = self.kept.published() {
             if let Some(can_match) = known.can_match_after_known(text, byte, visits) {
                 return Some(can_match);
             }
         }
         let mut kept = self.take(may_make)?;
         let can_match = kept.cache.can_match_after(text, byte, visits);
-        self.give(kept, may_make);
+        self.kept.give(kept, may_make);
         Some(can_match)
     }
 }
@@ -290,31 +239,7 @@ impl RowSource {
 /// With fewer bytes for a cache there is none: so many automata share the room that few globs are run for a text.
 const FEWEST_BYTES: usize = 1 << 12;
 
-/// All rows are made with the automaton if they take no more than one in so many bytes of a cache. To make more takes longer than
-/// most sets are in use.
-const PART_FOR_ALL_ROWS: usize = 64;
-
 /// Returns how many of some bytes an automaton of so many states has, which automata of `all_states` share.
 fn share_of(bytes: usize, states: usize, all_states: usize) -> usize {
     bytes.saturating_mul(states) / all_states.max(1)
-}
-
-/// Returns all rows of an automaton in a cache that takes at most so many bytes, or `None` if there is no room for them. It tries
-/// smaller caches first, so that little room is left over. Returns an error if memory runs out.
-fn complete_cache(
-    alloc: Global,
-    dfa: &Arc<LazyDfa>,
-    most: usize,
-    source: &Snapshot<Nfa>,
-) -> Result<Option<RowCache>, AllocError>
-    requires { Shares source.now.value (arc_value dfa.now) }
-    ensures { IfOk result (λ made. IfSome made (λ cache. cache ≡ source.now.value)) }
-{
-    for bytes in [most / 16, most / 4, most] {
-        let mut cache = RowCache::new(alloc, dfa, bytes, source)?;
-        if cache.complete() {
-            return Ok(Some(cache));
-        }
-    }
-    Ok(None)
 }

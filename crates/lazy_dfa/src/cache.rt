@@ -57,16 +57,6 @@ impl Cache {
         })
     }
 
-    /// Makes all rows, as long as there is room for them. Returns whether there was: then no entry is missing, whatever the text.
-    ///
-    /// It takes time linear in the entries and in the states of the rows, and no memory.
-    pub fn complete(&mut self, dfa: &LazyDfa) -> bool
-        requires { dfa.now ≡ self.old }
-        ensures { self.new ≡ self.old }
-    {
-        self.rows.complete(&dfa.automaton, &dfa.classes)
-    }
-
     /// Returns whether rows were forgotten since it was made, because there was no room for one more.
     pub fn has_forgotten(&self) -> bool {
         self.rows.has_forgotten()

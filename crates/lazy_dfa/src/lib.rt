@@ -2,7 +2,7 @@
 //!
 //! A [`LazyDfa`] is made from an [`byte_nfa::Nfa`], and finds exactly what that finds. It can be shared by threads. Each thread has
 //! a [`Cache`], which holds the rows that its texts needed so far. All rows of an automaton may be very
-//! many more than texts ever lead to. Where they are few, a cache can have all of them from the beginning.
+//! many more than texts ever lead to.
 #![tactic(auto)]
 
 mod automaton;

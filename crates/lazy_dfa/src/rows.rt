@@ -12,11 +12,12 @@ ghost use Rattle.lazy_dfa.specs.inner.Classes.{AreEquivalenceClasses};
 ghost use Rattle.lazy_dfa.specs.inner.Sources.{half};
 ghost use Rattle.lazy_dfa.specs.inner.Rows.{AcceptsIn, AcceptsRow, HasEnds, HasMarks, GoesTo, IsDeadBy, IsNext, IsEnd, IsEntry, IsFirst, IsSound, AreListed, KeepsRows, HasSpace, states_of, place_of, max_entries, marked, BeginsAt, IsAt, IsStep};
 
-mod complete;
 mod known;
 
 use crate::classes::ByteClasses;
-use crate::lists::{extend_within, list_indexes, list_of, push_within, put_listed, states_at, zeros_within};
+use crate::lists::{
+    extend_within, list_indexes, list_of, push_within, put_listed, states_at, zeros_within,
+};
 use crate::pass::read;
 use bit_sets::{IndexSet, StateSet, Visits};
 use byte_nfa::Nfa;
@@ -44,6 +45,9 @@ const MAX_PLACES: usize = (u32::MAX - FIRST) as usize;
 
 /// In how many places of the table of rows a list is looked for.
 const PROBES: usize = 8;
+
+/// The places of the table while there are few rows: it takes time to fill more.
+const FEWEST_PLACES: usize = 1 << 8;
 
 /// There is room for at least so many rows, and so many lists of all states.
 const LEAST_ROWS: usize = 4;
@@ -140,8 +144,8 @@ impl Rows {
             return Err(AllocError);
         };
         let listed = (bytes / 16).max(longest.saturating_mul(LEAST_ROWS));
-        let mut table = Vec::new(alloc);
-        table.resize(rows.saturating_mul(2), 0)?;
+        let mut table = Vec::with_capacity(alloc, rows.saturating_mul(2))?;
+        zeros_within(&mut table, FEWEST_PLACES.min(rows));
         Ok(Rows {
             class_of: classes.class_of,
             class_count: classes.count,
@@ -583,17 +587,6 @@ impl Rows {
         states_at(&self.starts, &self.lists, row) == self.list.as_slice()
     }
 
-    /// Returns whether there is room for a row more.
-    fn has_room(&self, automaton: &Nfa) -> bool
-        requires { IsSound automaton.now self.now }
-        ensures { IsTrue result → HasSpace automaton.now self.now }
-    {
-        let states = automaton.state_count();
-        self.lists.capacity() - self.lists.len() > states
-            && self.starts.len() < self.starts.capacity().min(MAX_ENTRIES)
-            && self.entries.capacity().min(MAX_ENTRIES) - self.entries.len() > self.class_count
-    }
-
     /// Makes room for a row. Returns whether no row was forgotten.
     fn make_room(&mut self, automaton: &Nfa) -> bool
         requires { IsSound automaton.now self.old }
@@ -603,7 +596,11 @@ impl Rows {
         ensures list { self.new.list ≡ self.old.list }
         ensures ends { self.new.ends ≡ self.old.ends }
     {
-        if self.has_room(automaton) {
+        let states = automaton.state_count();
+        if self.lists.capacity() - self.lists.len() > states
+            && self.starts.len() < self.starts.capacity().min(MAX_ENTRIES)
+            && self.entries.capacity().min(MAX_ENTRIES) - self.entries.len() > self.class_count
+        {
             return true;
         }
         self.starts.clear();
@@ -628,6 +625,7 @@ impl Rows {
         ensures ends { self.new.ends ≡ self.old.ends }
     {
         let _automaton = automaton;
+        widen_if_full(&mut self.table, self.seed, &self.starts, &self.lists);
         let row = self.starts.len();
         let start = self.lists.len();
         push_within(&mut self.lists, self.list.len());
@@ -652,6 +650,25 @@ fn first_of(alloc: Global, automaton: &Nfa) -> Result<Vec<usize>, AllocError>
     let mut first = Vec::with_capacity(alloc, list.len())?;
     extend_within(&mut first, &list);
     Ok(first)
+}
+
+/// Makes the table of rows twice as large, as far as there is room for that, and puts each row in again, if every other place of it
+/// may be taken.
+fn widen_if_full(table: &mut Vec<u32>, seed: usize, starts: &[usize], lists: &[usize])
+    requires few { length starts.now ≤ max_entries }
+    requires lists { (i : ℕ) → i < length starts.now
+        → slice_index starts.now i + 1
+        + slice_index lists.now (slice_index starts.now i) ≤ length lists.now }
+{
+    if starts.len() < table.len() / 2 || table.len() >= table.capacity() {
+        return;
+    }
+    let count = table.len().saturating_mul(2).min(table.capacity());
+    table.clear();
+    zeros_within(table, count);
+    for row in 0..starts.len() {
+        remember(table, hash_of(seed, states_at(starts, lists, row)), row);
+    }
 }
 
 /// Puts the number of a row into the table, at the first place that is free of those where it will be looked for. If none is

@@ -28,10 +28,10 @@ kept-sync : IsSync KeptCaches.the_field.row
 kept-sync = search (sendable, crosses, pool-sync, published-sync, row_cache-send, row_cache-sync) depth 40 fits 20000
 
 source-send : IsSend RowSource.the_field.row
-source-send = search (sendable, crosses, kept-send, row_cache-send, row_cache-sync) depth 40 fits 20000
+source-send = search (sendable, crosses, kept-send) depth 40 fits 20000
 
 source-sync : IsSync RowSource.the_field.row
-source-sync = search (sendable, crosses, kept-send, kept-sync, row_cache-send, row_cache-sync) depth 40 fits 20000
+source-sync = search (sendable, crosses, kept-send, kept-sync) depth 40 fits 20000
 
 pub compiled-send : IsSend Compiled.the_field.row
 compiled-send = search (sendable, crosses, source-send) depth 40 fits 20000

@@ -41,7 +41,8 @@ impl Rows {
         let entry = entry_at(&self.entries, place, self.class_of[byte as usize] as usize);
         if entry >= FIRST && entry < MARKED {
             visits.tick();
-            Some((entry - FIRST) as usize)
+            // As a difference of places it is part of the address of the next entry.
+            Some(entry as usize - FIRST as usize)
         } else {
             None
         }

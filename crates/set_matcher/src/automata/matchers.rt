@@ -146,7 +146,7 @@ impl ExtensionMatchers {
     /// Returns whether runs of some automaton need a cache.
     fn have_rows(&self) -> bool {
         for automaton in &self.automata {
-            if automaton.needs_cache() {
+            if automaton.has_rows() {
                 return true;
             }
         }

@@ -9,8 +9,8 @@ returns-clause-kept c =
     let count : c.len.result ≡ length list = omega (arith, c.len.ensures, rows.list.ok.0) in
     let start : c.len-start.result ≡ length rows.lists.items = omega (arith, c.len-start.ensures, rows.lists.ok.0) in
     added_keeps c.args.automaton.now rows _ list record {
-      lists = c.extend_within.ensures.items ∙ ap (λ l. l ++ c.deref.result.now) c.push_within.ensures.items ∙ append_assoc rows.lists.items (c.len.result ∷ []) c.deref.result.now
-          ∙ ap (λ l. rows.lists.items ++ c.len.result ∷ l) c.deref.ensures.value ∙ ap (λ n. rows.lists.items ++ n ∷ list) count;
+      lists = c.extend_within.ensures.items ∙ ap (λ l. l ++ c.deref-3.result.now) c.push_within.ensures.items ∙ append_assoc rows.lists.items (c.len.result ∷ []) c.deref-3.result.now
+          ∙ ap (λ l. rows.lists.items ++ c.len.result ∷ l) c.deref-3.ensures.value ∙ ap (λ n. rows.lists.items ++ n ∷ list) count;
       starts = c.push_within-2.ensures.items ∙ ap (λ n. rows.starts.items ++ n ∷ []) start;
       entries = c.zeros_within.ensures.items;
       class_of = refl;
@@ -26,8 +26,8 @@ returns-clause-sound c =
     let count : c.len.result ≡ length list = omega (arith, c.len.ensures, rows.list.ok.0) in
     let start : c.len-start.result ≡ length rows.lists.items = omega (arith, c.len-start.ensures, rows.lists.ok.0) in
     added_sound c.args.automaton.now rows _ list record {
-      lists = c.extend_within.ensures.items ∙ ap (λ l. l ++ c.deref.result.now) c.push_within.ensures.items ∙ append_assoc rows.lists.items (c.len.result ∷ []) c.deref.result.now
-          ∙ ap (λ l. rows.lists.items ++ c.len.result ∷ l) c.deref.ensures.value ∙ ap (λ n. rows.lists.items ++ n ∷ list) count;
+      lists = c.extend_within.ensures.items ∙ ap (λ l. l ++ c.deref-3.result.now) c.push_within.ensures.items ∙ append_assoc rows.lists.items (c.len.result ∷ []) c.deref-3.result.now
+          ∙ ap (λ l. rows.lists.items ++ c.len.result ∷ l) c.deref-3.ensures.value ∙ ap (λ n. rows.lists.items ++ n ∷ list) count;
       starts = c.push_within-2.ensures.items ∙ ap (λ n. rows.starts.items ++ n ∷ []) start;
       entries = c.zeros_within.ensures.items;
       class_of = refl;
