@@ -31,8 +31,8 @@ pub trait NeedsScratch {
     fn keep_caches(&self);
 }
 
-/// All the memory that sets and matchers need to match a path. A set needs three bits for each state of its largest automaton,
-/// and one for each glob; a matcher at most 12 bits for each byte of its glob's text and 12 more, or four times as much under
+/// All the memory that sets and matchers need to match a path. A set needs two bits for each state of its largest automaton,
+/// and one for each glob; a matcher at most 8 bits for each byte of its glob's text and 8 more, or four times as much under
 /// `whole_character`.
 ///
 /// With a scratch that fits the set, `GlobSet::is_match_with` and `GlobSet::matches_all_with` cannot fail, and nor can
@@ -112,10 +112,10 @@ impl Scratch {
         }
     }
 
-    /// Returns a scratch that fits the set or the matcher. It takes three bits of memory for each state of the set's largest
-    /// automaton, and one for each glob; for a matcher at most 12 bits for each byte of the glob's text and 12 more, or four times
-    /// as much under `whole_character`. Each automaton that keeps rows between calls, and has none yet, takes memory for them here,
-    /// if there is enough.
+    /// Returns a scratch that fits the set or the matcher. It takes two bits of memory for each state of the set's largest
+    /// automaton, and one for each glob; for a matcher at most 8 bits for each byte of the glob's text and 8 more, or four
+    /// times as much under `whole_character`. Each automaton that keeps rows between calls, and has none yet, takes memory for
+    /// them here, if there is enough.
     ///
     /// Returns an error if memory runs out, and no other.
     pub fn new<S: NeedsScratch>(alloc: Global, set: &S) -> Result<Scratch, Error>

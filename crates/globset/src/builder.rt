@@ -60,7 +60,7 @@ impl GlobSetBuilder {
     /// byte of a path. For an automaton without a table, rows are made as paths need them, in caches that the set keeps between
     /// calls. Those of the automaton for whole paths take at most what the limit leaves, and those of the others together as much. A
     /// [`Searcher`](crate::Searcher) has caches of its own, of at most 8 MiB for either. Where there is none, a call steps the automaton: each byte of a path then takes as many steps as
-    /// the automaton is in states, and calls without a scratch take three bits of memory for each of its states.
+    /// the automaton is in states, and calls without a scratch take two bits of memory for each of its states.
     ///
     /// With 0 there are no tables and no rows, and the set keeps no memory between calls. It takes the least time and memory to make,
     /// which is best for few paths. Memory beside the tables and caches has no limit: that of keys and states is linear in the texts

@@ -1,3 +1,2 @@
 pub mod Sets
-pub mod Spans
 pub mod inner

@@ -1,2 +1,1 @@
-pub mod WordSets
 pub mod Blocks

@@ -1,6 +1,6 @@
 //! States that a run takes together, a word of a set of states at once.
 
-ghost use Rattle.std.specs.Prelude.{◌≡◌, ℕ, ◌+◌, ◌-◌, ◌/◌, ◌<◌, ◌≤◌, ◌++◌, [], List, Option, length, slice_index_or, MatchOption, IfOk, OnOk, max};
+ghost use Rattle.std.specs.Prelude.{◌≡◌, ℕ, ◌+◌, ◌-◌, ◌/◌, ◌<◌, ◌≤◌, ◌++◌, [], List, Option, length, slice_index_or, MatchOption, IfOk, OnOk};
 ghost use Rattle.bit_sets.specs.StateSets.{state_capacity};
 ghost use Rattle.byte_nfa.specs.Steps.{State};
 ghost use Rattle.nfa_simulation.specs.inner.Blocks.{AreBlocks, KeepsBlocks, TellsTaken};
@@ -108,11 +108,10 @@ impl Blocks {
     }
 
     /// Takes the steps of those states of `from` that the block of the state below a bound has below the bound: puts what they
-    /// go on to by the byte into `to`. Each of them from `low` on is one visit, and if there is none, it is one too. Returns `None`
-    /// if the state is in no block.
+    /// go on to by the byte into `to`. Each of them is one visit, and if there is none, it is one too. Returns `None` if the
+    /// state is in no block.
     pub fn take(
         &self,
-        low: usize,
         limit: usize,
         byte: u8,
         from: &StateSet,
@@ -121,12 +120,12 @@ impl Blocks {
     ) -> Option<Taken>
         requires blocks { (a : List State)
             × AreBlocks a self.now.by_word.items self.now.masks.items }
-        requires some { low < limit }
+        requires some { 0 < limit }
         requires from_capacity { limit ≤ state_capacity from.now }
         requires to_capacity { limit ≤ state_capacity to.old }
         ensures room { state_capacity to.new ≡ state_capacity to.old }
         ensures visits { MatchOption result (visits.new ≡ visits.old)
-            (λ taken. visits.new + max low taken.limit ≤ visits.old + limit) }
+            (λ taken. visits.new + taken.limit ≤ visits.old + limit) }
         ensures counted { visits.old ≤ visits.new }
         ensures taken { (a : List State) → AreBlocks a self.now.by_word.items self.now.masks.items
             → TellsTaken a byte limit from.now to.old to.new result }
@@ -137,7 +136,7 @@ impl Blocks {
             return None;
         }
         let mask = self.masks[block.place + byte as usize];
-        let states = from.read_word_below(block.low.max(low), limit, visits);
+        let states = from.read_word_below(block.low, limit, visits);
         Some(Taken {
             limit: block.low,
             some: to.put_lowered(at, mask & states),

@@ -9,6 +9,5 @@ mod run;
 mod simulation;
 mod state_sets;
 
-pub use run::Span;
 pub use simulation::Simulation;
 pub use state_sets::StateSets;

@@ -3,20 +3,16 @@
 ghost use Rattle.std.specs.Prelude.{◌≡◌, ◌≤◌, OnOk, IsOk};
 ghost use Rattle.nfa_simulation.specs.Sets.{sets_capacity};
 
-use bit_sets::{IndexSet, StateSet};
+use bit_sets::StateSet;
 use std::alloc::{AllocError, Global};
 
 /// The two sets of states that a run changes between: those that the text so far leads to, and those that one more byte leads to.
-///
-/// Beside them is a set of starts, for those who run only some of the starts of an automaton.
 ///
 /// They serve runs of any automata, one after another. A run clears each set before it uses it, so what runs before left in them
 /// has no effect.
 pub struct StateSets {
     pub(crate) current: StateSet,
     pub(crate) next: StateSet,
-    /// The starts that are run, by their places.
-    pub starts: IndexSet,
     /// The most states that room was made for.
     reserved: usize,
 }
@@ -27,7 +23,6 @@ impl Drop for StateSets {
         let StateSets {
             current: _,
             next: _,
-            starts: _,
             reserved: _,
         } = self;
     }
@@ -41,7 +36,6 @@ impl StateSets {
         StateSets {
             current: StateSet::empty(alloc),
             next: StateSet::empty(alloc),
-            starts: IndexSet::empty(alloc),
             reserved: 0,
         }
     }
@@ -51,8 +45,8 @@ impl StateSets {
         states <= self.reserved
     }
 
-    /// Makes room for so many states, if there is less. It takes three bits of memory for each. Returns an error if memory
-    /// runs out.
+    /// Makes room for so many states, if there is less. It takes two bits of memory for each. Returns an error if memory runs
+    /// out.
     pub fn reserve(&mut self, states: usize) -> Result<(), AllocError>
         ensures ok { OnOk result (states ≤ sets_capacity self.new) }
         ensures kept { sets_capacity self.old ≤ sets_capacity self.new }
@@ -60,7 +54,6 @@ impl StateSets {
     {
         self.current.reserve(states)?;
         self.next.reserve(states)?;
-        self.starts.reserve(states)?;
         self.reserved = self.reserved.max(states);
         Ok(())
     }

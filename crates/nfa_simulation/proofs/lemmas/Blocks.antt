@@ -90,14 +90,6 @@ module _ (a : List State) (low high limit c place : ℕ) (masks : List ℕ) (wor
       record {
         below = under;
         holds = λ z k. all_taken a c low limit now next next' under quiet goes kept came z k;
-        from = λ t at. inl at;
-        to = λ t at. ⊎_elim {C = IsTrue (next t) ⊎ ((s : ℕ) × (s < limit) × (t ≤ s) × IsTrue (now s) × IsTrue (goes_next (state a s) s (Some c) t))}
-            (λ old. inl old)
-            (λ (s, le, lt, was, go).
-            let two : (has_mask masks place s c && (t + 1 == s)) ≡ true = sym (step_of s t le lt) ∙ go in
-            let same : t + 1 ≡ s = eqb-true (t + 1) s (and_second (has_mask masks place s c) (t + 1 == s) two) in
-            inr (s, lt, omega arith, was, go))
-            (came t at);
         kept = kept;
         put = λ h. let (t, put) = has_some h in
             let (le, lt, was, in_mask) = is_moved (t + 1) put in

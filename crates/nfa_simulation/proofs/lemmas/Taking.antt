@@ -1,15 +1,13 @@
 -- Parts of a pass that take one state or several.
-use Rattle.std.proofs.Common.{◌≡◌, ℕ, ◌<◌, ◌≤◌, ◌⊎◌, inl, inr, Bool, true, false, true≢false, List, ◌∷◌, Some, IsTrue, IsFalse, refl, sym, ◌∙◌, subst, arith}
-use Rattle.std.specs.Prelude.{◌↔◌, ◌==◌, ◌||◌}
-use Rattle.std.proofs.lemmas.Bool.{eqb-true, or_cases, cases_lt, cases_Bool}
+use Rattle.std.proofs.Common.{◌≡◌, ℕ, ◌<◌, ◌≤◌, ◌⊎◌, inl, inr, Bool, true, false, true≢false, List, ◌∷◌, length, Some, IsTrue, IsFalse, refl, sym, ◌∙◌, subst, arith}
+use Rattle.std.specs.Prelude.{◌↔◌, ◌||◌}
+use Rattle.std.proofs.lemmas.Bool.{or_cases, cases_lt, cases_Bool}
 use Rattle.std.proofs.Math.Logic.{⊎_elim}
-use Rattle.bit_sets.specs.Bytes.{has_byte}
-use Rattle.byte_nfa.specs.Steps.{State, bytes_state, union_state, loop_state, match_state, state}
-use Rattle.byte_nfa.specs.inner.Views.{GoesFrom, GoesBelow}
+use Rattle.byte_nfa.specs.Steps.{State, Accepts, state}
+use Rattle.byte_nfa.specs.inner.Views.{GoesBelow}
 use Rattle.byte_nfa.specs.inner.Pass.{goes_now, goes_next, PassInvariant}
 use Rattle.nfa_simulation.specs.inner.Blocks.{Takes}
-use Rattle.byte_nfa.proofs.lemmas.Pass.{iff_trans, and_second, or_first, or_second, Step, step_there, step_back, accepts_within, read_taken, quiet_step}
-use Rattle.nfa_simulation.proofs.lemmas.Spans.{from_zero, goes_now_to, goes_next_to, read_from}
+use Rattle.byte_nfa.proofs.lemmas.Pass.{iff_trans, or_first, or_second, Step, step_there, step_back, accepts_within, read_taken, quiet_step}
 
 -- states that are not in the set are passed over
 pub none_between : (a : List State) (low limit k : ℕ) (y : List ℕ) (now next found : ℕ → Bool) → low ≤ limit → ((t : ℕ) → low ≤ t → t < limit → now t ≡ false)
@@ -72,11 +70,6 @@ takes_one a s limit c now next now' next' some below between marked order is_now
     record {
       below = below;
       holds = λ z k. read_taken a s limit k (c ∷ z) now next (λ _. false) now' next' (λ _. false) below between marked order is_now is_next (λ t. quiet_step st c t);
-      from = λ t at. ⊎_elim {C = IsTrue (now t) ⊎ ((u : ℕ) × (u < limit) × IsTrue (now u) × IsTrue (goes_now (state a u) t))}
-          (λ go. inr (s, below, marked, go)) (λ old. inl old) (or_cases (goes_now st t) (now t) (sym (is_now t) ∙ at));
-      to = λ t at. ⊎_elim {C = IsTrue (next t) ⊎ ((u : ℕ) × (u < limit) × (t ≤ u) × IsTrue (now u) × IsTrue (goes_next (state a u) u (Some c) t))}
-          (λ go. inr (s, below, (goes_next_to 0 s c st (omega arith) (from_zero st) order t go).1, marked, go)) (λ old. inl old)
-          (or_cases (goes_next st s (Some c) t) (next t) (sym (is_next t) ∙ at));
       kept = λ t at. is_next t ∙ or_second (goes_next st s (Some c) t) (next t) at;
       put = λ yes. let (t, le, go) = put yes in (t, omega arith, is_next t ∙ or_first (goes_next st s (Some c) t) (next t) go);
       none = λ is_none t at. ⊎_elim {C = IsTrue (next t)} (λ go. absurd (true≢false (sym go ∙ none is_none t))) (λ old. old)
@@ -89,44 +82,22 @@ pub takes_more : (a : List State) (end limit c low : ℕ) (now next now' next' :
 takes_more a end limit c low now next now' next' some le none takes = record {
   below = omega (arith, takes.below);
   holds = λ z k. iff_trans (none_between a end limit k (c ∷ z) now next (λ _. false) le none) (takes.holds z k);
-  from = λ t at. ⊎_elim {C = IsTrue (now t) ⊎ ((u : ℕ) × (u < limit) × IsTrue (now u) × IsTrue (goes_now (state a u) t))}
-      (λ old. inl old) (λ (s, lt, was, go). inr (s, omega arith, was, go)) (takes.from t at);
-  to = λ t at. ⊎_elim {C = IsTrue (next t) ⊎ ((u : ℕ) × (u < limit) × (t ≤ u) × IsTrue (now u) × IsTrue (goes_next (state a u) u (Some c) t))}
-      (λ old. inl old) (λ (s, lt, under, was, go). inr (s, omega arith, under, was, go)) (takes.to t at);
   kept = takes.kept;
   put = λ yes. let (t, lt, at) = takes.put yes in (t, omega arith, at);
   none = takes.none;
 }
 
--- what is taken keeps the sets within bounds
+-- if nothing is put in, a set without states stays without
+pub takes_nothing : (next next' : ℕ → Bool) → ((t : ℕ) → next' t ≡ true → next t ≡ true) → ((t : ℕ) → next t ≡ false) → (t : ℕ) → next' t ≡ false
+takes_nothing next next' none empty t = ⊎_elim {C = next' t ≡ false} (λ yes. absurd (true≢false (sym (none t yes) ∙ empty t))) (λ is. is) (cases_Bool (next' t))
 
-goes_next_from : (low s b : ℕ) (st : State) → low ≤ s → GoesFrom low st → (t : ℕ) → goes_next st s (Some b) t ≡ true → low ≤ t
-goes_next_from low s b (bytes_state w u) le from t e = let same : t ≡ u = eqb-true t u (and_second (has_byte w b) (t == u) e) in omega (arith, from)
-goes_next_from low s b (union_state us) le from t e = absurd (true≢false (sym e))
-goes_next_from low s b (loop_state w us) le from t e = let same : t ≡ s = eqb-true t s (and_second (has_byte w b) (t == s) e) in omega arith
-goes_next_from low s b (match_state k) le from t e = absurd (true≢false (sym e))
-
-module _ (a : List State) (low high limit c bound : ℕ) (now next now' next' : ℕ → Bool) (some : Bool)
-    (closed : (s : ℕ) → low ≤ s → s < high → GoesFrom low (state a s)) (within : limit ≤ high) (none : (t : ℕ) → t < low → now t ≡ false)
-    (takes : Takes a c limit now next now' next' bound some) where
-  pub takes_from : (t : ℕ) → t < low → now' t ≡ false
-  takes_from t lt = ⊎_elim {C = now' t ≡ false}
-      (λ yes. ⊎_elim {C = now' t ≡ false}
-      (λ old. absurd (true≢false (sym old ∙ none t lt)))
-      (λ (s, less, was, go).
-      let le : low ≤ s = read_from low s now none was in
-      let to : low ≤ t = goes_now_to low (state a s) (closed s le (omega arith)) t go in absurd (omega arith))
-      (takes.from t yes))
-      (λ is. is)
-      (cases_Bool (now' t))
-
-  pub takes_within : ((t : ℕ) → next t ≡ true → (low ≤ t) × (t < high)) → (t : ℕ) → next' t ≡ true → (low ≤ t) × (t < high)
-  takes_within were t at = ⊎_elim {C = (low ≤ t) × (t < high)}
-      (λ old. were t old)
-      (λ (s, less, under, was, go).
-      let le : low ≤ s = read_from low s now none was in
-      (goes_next_from low s c (state a s) le (closed s le (omega arith)) t go, omega arith))
-      (takes.to t at)
-
-  pub takes_nothing : some ≡ false → ((t : ℕ) → next t ≡ false) → (t : ℕ) → next' t ≡ false
-  takes_nothing is_none empty t = ⊎_elim {C = next' t ≡ false} (λ yes. absurd (true≢false (sym (takes.none is_none t yes) ∙ empty t))) (λ is. is) (cases_Bool (next' t))
+-- a set leads to the same ends with what one of its states goes on to without a byte
+pub leads_same : (a : List State) (s : ℕ) (old new : ℕ → Bool) → old s ≡ true → ((t : ℕ) → new t ≡ (goes_now (state a s) t || old t)) → (y : List ℕ) (k : ℕ)
+    → ((t : ℕ) × (t < length a) × (new t ≡ true) × Accepts a k t y) ↔ ((t : ℕ) × (t < length a) × (old t ≡ true) × Accepts a k t y)
+leads_same a s old new at is y k = (there, λ (t, lt, on, h). (t, lt, is t ∙ or_second (goes_now (state a s) t) (old t) on, h))
+  where
+    there : (t : ℕ) × (t < length a) × (new t ≡ true) × Accepts a k t y → (t : ℕ) × (t < length a) × (old t ≡ true) × Accepts a k t y
+    there (t, lt, on, h) = ⊎_elim {C = (u : ℕ) × (u < length a) × (old u ≡ true) × Accepts a k u y}
+        (λ go. let from : Accepts a k s y = step_back a s k y (state a s) refl (inl (t, go, h)) in (s, accepts_within a k s y from, at, from))
+        (λ was. (t, lt, was, h))
+        (or_cases (goes_now (state a s) t) (old t) (sym (is t) ∙ on))

@@ -1,5 +1,5 @@
 -- States that a run takes together, a word of a set of states at once.
-use Rattle.std.specs.Prelude.{◌≡◌, ℕ, ◌+◌, ◌*◌, ◌/◌, ◌%◌, ◌<◌, ◌≤◌, ◌⊎◌, ◌↔◌, ◌&&◌, ◌==◌, Bool, false, List, ◌∷◌, length, Option, Some, None, slice_index_or, MatchOption, IsTrue, IsFalse}
+use Rattle.std.specs.Prelude.{◌≡◌, ℕ, ◌+◌, ◌*◌, ◌/◌, ◌%◌, ◌<◌, ◌≤◌, ◌↔◌, ◌&&◌, ◌==◌, Bool, false, List, ◌∷◌, length, Option, Some, None, slice_index_or, MatchOption, IsTrue, IsFalse}
 use Rattle.bit_sets.specs.Bits.{bit_of}
 use Rattle.byte_nfa.specs.Steps.{State, state}
 use Rattle.byte_nfa.specs.inner.Pass.{goes_now, goes_next, PassInvariant}
@@ -38,8 +38,6 @@ KeepsBlocks low high given old old_masks new new_masks = (a : List State) → Ar
 pub record Takes (a : List State) (c limit : ℕ) (now next now' next' : ℕ → Bool) (low : ℕ) (some : Bool) : Type 0 where
   pub below : low < limit
   pub holds : (z : List ℕ) (k : ℕ) → PassInvariant a now limit next (λ _. false) (c ∷ z) k ↔ PassInvariant a now' low next' (λ _. false) (c ∷ z) k
-  pub from : (t : ℕ) → IsTrue (now' t) → IsTrue (now t) ⊎ ((s : ℕ) × (s < limit) × IsTrue (now s) × IsTrue (goes_now (state a s) t))
-  pub to : (t : ℕ) → IsTrue (next' t) → IsTrue (next t) ⊎ ((s : ℕ) × (s < limit) × (t ≤ s) × IsTrue (now s) × IsTrue (goes_next (state a s) s (Some c) t))
   pub kept : (t : ℕ) → IsTrue (next t) → IsTrue (next' t)
   pub put : IsTrue some → (t : ℕ) × (t < limit) × IsTrue (next' t)
   pub none : IsFalse some → (t : ℕ) → IsTrue (next' t) → IsTrue (next t)

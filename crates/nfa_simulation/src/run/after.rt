@@ -1,6 +1,6 @@
 //! Runs that ask whether a text can go on to an end.
 
-ghost use Rattle.std.specs.Prelude.{◌≡◌, ℕ, ◌+◌, ◌*◌, ◌≤◌, ◌↔◌, ◌++◌, ◌∷◌, [], length, IsTrue};
+ghost use Rattle.std.specs.Prelude.{◌≡◌, ◌+◌, ◌*◌, ◌≤◌, ◌↔◌, ◌++◌, ◌∷◌, [], length, IsTrue};
 ghost use Rattle.byte_nfa.specs.Live.{MatchesAfter};
 ghost use Rattle.byte_nfa.specs.Runs.{size};
 ghost use Rattle.nfa_simulation.specs.Sets.{sets_capacity};
@@ -28,7 +28,7 @@ impl Simulation {
         ensures counted { visits.old ≤ visits.new }
     {
         self.start(&mut sets.current);
-        if !self.run_in(0, self.state_count(), text, sets, visits) {
+        if !self.run(text, sets, visits) {
             return false;
         }
         let some = self.step(&mut sets.current, byte, &mut sets.next, visits);

@@ -1,22 +1,18 @@
 use Rattle.std.proofs.Common.{true≢false, sym, ◌++◌, ◌∷◌, subst, ◌∙◌}
-use Rattle.byte_nfa.specs.Steps.{IsReached, state}
+use Rattle.byte_nfa.specs.Steps.{IsReached}
 use Rattle.byte_nfa.proofs.lemmas.Live.{after_byte}
-use Rattle.nfa_simulation.proofs.lemmas.Spans.{from_zero}
 use Rattle.nfa_simulation.proofs.simulation.Simulation.can_match_after.Goals as goal
 
-pub run_in-requires-clause-closed : goal.run_in-requires-clause-closed
-run_in-requires-clause-closed c = λ s le lt. from_zero (state c.args.self.now.states s)
-
-pub returns-then-not-run_in-clause-some : goal.returns-then-not-run_in-clause-some
-returns-then-not-run_in-clause-some c =
+pub returns-then-not-run-clause-some : goal.returns-then-not-run-clause-some
+returns-then-not-run-clause-some c =
     let m = c.args.self.now in
     let text = c.args.text.now in
     let byte = c.args.byte in (
       λ h. absurd (true≢false (sym h)),
       λ (k, y, bytes, r).
           let begins = c.start.ensures.starts (text ++ byte ∷ y) k in
-          let ran = c.run_in.ensures.none c.if-not-run_in.true (byte ∷ y) k in
-          absurd ((rw c.state_count.ensures at ran) (begins.1 (subst (λ z. IsReached m z k) (after_byte text y byte) r))),
+          let ran = c.run.ensures.none c.if-not-run.true (byte ∷ y) k in
+          absurd (ran (begins.1 (subst (λ z. IsReached m z k) (after_byte text y byte) r))),
     )
 
 pub returns-then-some-clause-some : goal.returns-then-some-clause-some
@@ -28,12 +24,12 @@ returns-then-some-clause-some c =
       λ h.
           let (y, k, bytes, found) = c.any_live.ensures.some.0 h in
           let begins = c.start.ensures.starts (text ++ byte ∷ y) k in
-          let ran = c.run_in.ensures.some c.if-not-run_in.false (byte ∷ y) k in
-          (k, y, bytes, subst (λ z. IsReached m z k) (sym (after_byte text y byte)) (begins.0 ((rw c.state_count.ensures at ran).1 ((took.steps y k).1 found)))),
+          let ran = c.run.ensures.some c.if-not-run.false (byte ∷ y) k in
+          (k, y, bytes, subst (λ z. IsReached m z k) (sym (after_byte text y byte)) (begins.0 (ran.1 ((took.steps y k).1 found)))),
       λ (k, y, bytes, r).
           let begins = c.start.ensures.starts (text ++ byte ∷ y) k in
-          let ran = c.run_in.ensures.some c.if-not-run_in.false (byte ∷ y) k in
-          c.any_live.ensures.some.1 (y, k, bytes, (took.steps y k).0 ((rw c.state_count.ensures at ran).0 (begins.1 (subst (λ z. IsReached m z k) (after_byte text y byte) r)))),
+          let ran = c.run.ensures.some c.if-not-run.false (byte ∷ y) k in
+          c.any_live.ensures.some.1 (y, k, bytes, (took.steps y k).0 (ran.0 (begins.1 (subst (λ z. IsReached m z k) (after_byte text y byte) r)))),
     )
 
 pub returns-else-some-clause-some : goal.returns-else-some-clause-some
@@ -45,7 +41,7 @@ returns-else-some-clause-some c =
       λ h. absurd (true≢false (sym h ∙ c.if-some.false)),
       λ (k, y, bytes, r).
           let begins = c.start.ensures.starts (text ++ byte ∷ y) k in
-          let ran = c.run_in.ensures.some c.if-not-run_in.false (byte ∷ y) k in
-          let (t, within, at, h) = (took.steps y k).0 ((rw c.state_count.ensures at ran).0 (begins.1 (subst (λ z. IsReached m z k) (after_byte text y byte) r))) in
+          let ran = c.run.ensures.some c.if-not-run.false (byte ∷ y) k in
+          let (t, within, at, h) = (took.steps y k).0 (ran.0 (begins.1 (subst (λ z. IsReached m z k) (after_byte text y byte) r))) in
           took.some.1 (t, within, at),
     )

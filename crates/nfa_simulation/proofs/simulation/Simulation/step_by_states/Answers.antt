@@ -1,25 +1,22 @@
-use Rattle.std.proofs.Common.{◌<◌, ◌≤◌, ◌∷◌, Some, false, true≢false, arith, sym, ◌∙◌, refl}
+use Rattle.std.proofs.Common.{◌≡◌, ◌∷◌, Some, false, true≢false, arith, sym, ◌∙◌, refl}
 use Rattle.bit_sets.specs.StateSets.{has_state}
+use Rattle.byte_nfa.specs.Runs.{size}
 use Rattle.byte_nfa.specs.Steps.{state}
 use Rattle.byte_nfa.specs.inner.Pass.{goes_next}
 use Rattle.byte_nfa.proofs.lemmas.Pass.{iff_trans, or_first, or_second, or_none, none_swept, read_passed, read_taken, quiet_step, next_position}
-use Rattle.nfa_simulation.proofs.lemmas.Spans.{none_lower, read_from, still_from, still_within}
 use Rattle.nfa_simulation.proofs.simulation.Simulation.step_by_states.Goals as goal
 
 pub loop-limit-init : goal.loop-limit-init
 loop-limit-init c = record {
-  below = omega arith;
-  none = c.requires.from;
+  below = omega (arith, c.state_count-limit.ensures);
   from_capacity = refl;
   to_capacity = c.clear.ensures.room;
-  holds = λ y k. let start = none_swept c.args.self.now.states c.args.high (has_state c.args.from.now) (has_state c.clear.new.self) (λ _. false) (c.args.byte ∷ y) k
-      (λ t lt. c.clear.ensures.none t) (λ _. refl) in (start.1, start.0);
+  holds = λ y k. let start = none_swept c.args.self.now.states (size c.args.self.now) (has_state c.args.from.now) (has_state c.clear.new.self) (λ _. false) (c.args.byte ∷ y) k
+      (λ t lt. c.clear.ensures.none t) (λ _. refl) in rw c.state_count-limit.ensures (start.1, start.0);
   some = λ h. absurd (true≢false (sym h));
   without = λ h t. c.clear.ensures.none t;
-  within = λ t at. absurd (true≢false (sym at ∙ c.clear.ensures.none t));
-  visits = omega arith;
+  visits = omega (arith, c.state_count-limit.ensures);
   counted = omega arith;
-  least_visits = omega arith;
 }
 
 pub loop-limit-preserved-then-take_steps : goal.loop-limit-preserved-then-take_steps
@@ -29,24 +26,18 @@ loop-limit-preserved-then-take_steps c =
     let s = c.read_below-seen.result.at in
     let st = state c.args.self.now.states s in
     let took = c.take_steps.ensures in
-    let le : c.args.low ≤ s = read_from c.args.low s (has_state c.loop-limit.from) inv.none (sym last.marked ∙ c.if-seen.true) in
-    let lt : s < c.args.high = omega (arith, last.below, inv.below) in
-    let from = c.requires.closed s le lt in
     record {
       below = omega (arith, last.below, inv.below);
-      none = still_from c.args.low st from (has_state c.loop-limit.from) (has_state c.take_steps.new.from) took.from inv.none;
       from_capacity = took.from_capacity ∙ inv.from_capacity;
       to_capacity = took.to_capacity ∙ inv.to_capacity;
       holds = λ y k. iff_trans (inv.holds y k) (read_taken c.args.self.now.states s c.loop-limit.limit k (c.args.byte ∷ y) (has_state c.loop-limit.from) (has_state c.loop-limit.to) (λ _. false)
           (has_state c.take_steps.new.from) (has_state c.take_steps.new.to) (λ _. false)
           last.below last.between (sym last.marked ∙ c.if-seen.true) took.below took.from took.to (λ t. quiet_step st c.args.byte t));
       some = λ _. let (t, le_s, go) = took.some c.if-take_steps.true in
-          (t, omega (arith, lt, le_s), took.to t ∙ or_first (goes_next st s (Some c.args.byte) t) (has_state c.loop-limit.to t) go);
+          (t, omega (arith, last.below, inv.below, le_s), took.to t ∙ or_first (goes_next st s (Some c.args.byte) t) (has_state c.loop-limit.to t) go);
       without = λ h. absurd (true≢false h);
-      within = still_within c.args.low c.args.high s c.args.byte st le lt from took.below (has_state c.loop-limit.to) (has_state c.take_steps.new.to) took.to inv.within;
-      visits = omega (arith, last.below);
+      visits = omega (arith, last.below, inv.visits);
       counted = omega arith;
-      least_visits = omega (arith, inv.visits);
     }
 
 pub loop-limit-preserved-else-take_steps : goal.loop-limit-preserved-else-take_steps
@@ -56,12 +47,8 @@ loop-limit-preserved-else-take_steps c =
     let s = c.read_below-seen.result.at in
     let st = state c.args.self.now.states s in
     let took = c.take_steps.ensures in
-    let le : c.args.low ≤ s = read_from c.args.low s (has_state c.loop-limit.from) inv.none (sym last.marked ∙ c.if-seen.true) in
-    let lt : s < c.args.high = omega (arith, last.below, inv.below) in
-    let from = c.requires.closed s le lt in
     record {
       below = omega (arith, last.below, inv.below);
-      none = still_from c.args.low st from (has_state c.loop-limit.from) (has_state c.take_steps.new.from) took.from inv.none;
       from_capacity = took.from_capacity ∙ inv.from_capacity;
       to_capacity = took.to_capacity ∙ inv.to_capacity;
       holds = λ y k. iff_trans (inv.holds y k) (read_taken c.args.self.now.states s c.loop-limit.limit k (c.args.byte ∷ y) (has_state c.loop-limit.from) (has_state c.loop-limit.to) (λ _. false)
@@ -69,10 +56,8 @@ loop-limit-preserved-else-take_steps c =
           last.below last.between (sym last.marked ∙ c.if-seen.true) took.below took.from took.to (λ t. quiet_step st c.args.byte t));
       some = λ h. let (t, lt, at) = inv.some h in (t, lt, took.to t ∙ or_second (goes_next st s (Some c.args.byte) t) (has_state c.loop-limit.to t) at);
       without = λ h t. took.to t ∙ or_none (goes_next st s (Some c.args.byte) t) (has_state c.loop-limit.to t) (took.none c.if-take_steps.false t) (inv.without h t);
-      within = still_within c.args.low c.args.high s c.args.byte st le lt from took.below (has_state c.loop-limit.to) (has_state c.take_steps.new.to) took.to inv.within;
-      visits = omega (arith, last.below);
+      visits = omega (arith, last.below, inv.visits);
       counted = omega arith;
-      least_visits = omega (arith, inv.visits);
     }
 
 pub loop-limit-preserved : goal.loop-limit-preserved
@@ -82,25 +67,18 @@ loop-limit-preserved c =
     let s = c.read_below-seen.result.at in
     record {
       below = omega (arith, last.below, inv.below);
-      none = inv.none;
       from_capacity = inv.from_capacity;
       to_capacity = inv.to_capacity;
       holds = λ y k. iff_trans (inv.holds y k) (read_passed c.args.self.now.states s c.loop-limit.limit k (c.args.byte ∷ y) (has_state c.loop-limit.from) (has_state c.loop-limit.to) (λ _. false)
           last.below last.between (sym last.marked ∙ c.if-seen.false));
       some = inv.some;
       without = inv.without;
-      within = inv.within;
-      visits = omega (arith, last.below);
+      visits = omega (arith, last.below, inv.visits);
       counted = omega arith;
-      least_visits = omega (arith, inv.visits);
     }
 
 pub returns-clause-steps : goal.returns-clause-steps
 returns-clause-steps c = λ y k.
-    let inv = c.loop-limit.invariant in
-    let a = c.args.self.now.states in
-    let limit = c.loop-limit.limit in
-    let past : limit ≤ c.args.low = omega arith in
-    iff_trans (inv.holds y k)
-    (iff_trans (none_lower a c.args.low limit k (c.args.byte ∷ y) (has_state c.loop-limit.from) (has_state c.loop-limit.to) (λ _. false) past inv.none)
-    (next_position a (has_state c.loop-limit.from) (has_state c.loop-limit.to) (λ _. false) c.args.byte y k))
+    let past : c.loop-limit.limit ≡ 0 = omega arith in
+    iff_trans (rw past at c.loop-limit.invariant.holds y k)
+    (next_position c.args.self.now.states (has_state c.loop-limit.from) (has_state c.loop-limit.to) (λ _. false) c.args.byte y k)

@@ -1,25 +1,22 @@
-use Rattle.std.proofs.Common.{◌≡◌, ℕ, ◌+◌, ◌<◌, ◌≤◌, ◌∷◌, List, false, IsTrue, IsFalse}
+use Rattle.std.proofs.Common.{◌≡◌, ℕ, ◌+◌, ◌≤◌, ◌∷◌, List, false, IsTrue, IsFalse}
 use Rattle.std.specs.Prelude.{◌↔◌}
 use Rattle.bit_sets.specs.StateSets.{has_state, state_capacity}
-use Rattle.byte_nfa.specs.Spans.{IsWithin}
+use Rattle.byte_nfa.specs.Runs.{size, HasSome}
 use Rattle.byte_nfa.specs.inner.Pass.{AcceptsNow, PassInvariant}
 use Rattle.nfa_simulation.proofs.simulation.Simulation.step_by_states.Given as goal
 
 abbrev pub invariant-loop-limit : goal.invariant-loop-limit
 invariant-loop-limit l =
     let a = l.self.states in
-    record {
-      below : l.limit ≤ l.high;
-      none : (t : ℕ) → t < l.low → has_state l.from t ≡ false;
+    let n = size l.self in record {
+      below : l.limit ≤ n;
       from_capacity : state_capacity l.from ≡ state_capacity l.fn.from;
       to_capacity : state_capacity l.to ≡ state_capacity l.fn.to;
-      holds : (y : List ℕ) (k : ℕ) → AcceptsNow a (has_state l.fn.from) l.high (l.byte ∷ y) k ↔ PassInvariant a (has_state l.from) l.limit (has_state l.to) (λ _. false) (l.byte ∷ y) k;
-      some : IsTrue l.some → (t : ℕ) × (t < l.high) × IsTrue (has_state l.to t);
+      holds : (y : List ℕ) (k : ℕ) → AcceptsNow a (has_state l.fn.from) n (l.byte ∷ y) k ↔ PassInvariant a (has_state l.from) l.limit (has_state l.to) (λ _. false) (l.byte ∷ y) k;
+      some : IsTrue l.some → HasSome l.self l.to;
       without : IsFalse l.some → (t : ℕ) → has_state l.to t ≡ false;
-      within : IsWithin l.low l.high l.to;
-      visits : l.visits + l.limit ≤ l.fn.visits + l.high;
+      visits : l.visits + l.limit ≤ l.fn.visits + n;
       counted : l.fn.visits ≤ l.visits;
-      least_visits : l.visits + l.low ≤ l.fn.visits + l.high;
     }
 
 abbrev pub decreases-loop-limit : goal.decreases-loop-limit

@@ -1,21 +1,19 @@
-use Rattle.std.proofs.Common.{◌≡◌, ℕ, ◌<◌, ◌≤◌, [], false, true, true≢false, arith, sym, ◌∙◌, refl, inl}
+use Rattle.std.proofs.Common.{◌≡◌, ℕ, [], false, true, true≢false, arith, sym, ◌∙◌, refl, inl}
 use Rattle.bit_sets.specs.StateSets.{has_state}
+use Rattle.byte_nfa.specs.Runs.{size}
 use Rattle.byte_nfa.specs.Steps.{state, Accepts}
 use Rattle.byte_nfa.specs.inner.Pass.{AcceptsNow}
 use Rattle.byte_nfa.proofs.lemmas.Pass.{iff_trans, none_swept, read_passed, read_taken, stays_at_end, names_none, no_end, some_end, last_position}
-use Rattle.nfa_simulation.proofs.lemmas.Spans.{none_lower, read_from, still_from}
-use Rattle.nfa_simulation.proofs.simulation.Simulation.has_end_in.Goals as goal
+use Rattle.nfa_simulation.proofs.simulation.Simulation.has_end.Goals as goal
 
 pub loop-limit-init : goal.loop-limit-init
 loop-limit-init c = record {
-  below = omega arith;
-  none = c.requires.from;
+  below = omega (arith, c.state_count-limit.ensures);
   room = refl;
-  holds = λ k. let start = none_swept c.args.self.now.states c.args.high (has_state c.args.from.now) (λ _. false) (λ _. false) [] k
-      (λ t lt. refl) (λ _. refl) in (start.1, start.0);
-  visits = omega arith;
+  holds = λ k. let start = none_swept c.args.self.now.states (size c.args.self.now) (has_state c.args.from.now) (λ _. false) (λ _. false) [] k
+      (λ t lt. refl) (λ _. refl) in rw c.state_count-limit.ensures (start.1, start.0);
+  visits = omega (arith, c.state_count-limit.ensures);
   counted = omega arith;
-  least_visits = omega arith;
 }
 
 pub loop-limit-preserved : goal.loop-limit-preserved
@@ -25,13 +23,11 @@ loop-limit-preserved c =
     let s = c.read_below-seen.result.at in
     record {
       below = omega (arith, last.below, inv.below);
-      none = inv.none;
       room = inv.room;
       holds = λ k. iff_trans (inv.holds k) (read_passed c.args.self.now.states s c.loop-limit.limit k [] (has_state c.loop-limit.from) (λ _. false) (λ _. false)
           last.below last.between (sym last.marked ∙ c.if-seen.false));
-      visits = omega (arith, last.below);
+      visits = omega (arith, last.below, inv.visits);
       counted = omega arith;
-      least_visits = omega (arith, inv.visits);
     }
 
 pub loop-limit-preserved-else-is_some : goal.loop-limit-preserved-else-is_some
@@ -41,20 +37,15 @@ loop-limit-preserved-else-is_some c =
     let s = c.read_below-seen.result.at in
     let st = state c.args.self.now.states s in
     let left = c.follow_epsilons.ensures in
-    let le : c.args.low ≤ s = read_from c.args.low s (has_state c.loop-limit.from) inv.none (sym last.marked ∙ c.if-seen.true) in
-    let lt : s < c.args.high = omega (arith, last.below, inv.below) in
-    let from = c.requires.closed s le lt in
     record {
       below = omega (arith, last.below, inv.below);
-      none = still_from c.args.low st from (has_state c.loop-limit.from) (has_state c.follow_epsilons.new.from) left.from inv.none;
       room = left.room ∙ inv.room;
       holds = λ k. iff_trans (inv.holds k) (read_taken c.args.self.now.states s c.loop-limit.limit k [] (has_state c.loop-limit.from) (λ _. false) (λ _. false)
           (has_state c.follow_epsilons.new.from) (λ _. false) (λ _. false)
           last.below last.between (sym last.marked ∙ c.if-seen.true) left.below left.from (λ t. stays_at_end st s t)
           (λ t. names_none st t false (no_end _ _ c.follow_epsilons.result left.end (sym c.is_some.ensures ∙ c.if-is_some.false) t)));
-      visits = omega (arith, last.below);
+      visits = omega (arith, last.below, inv.visits);
       counted = omega arith;
-      least_visits = omega (arith, inv.visits);
     }
 
 pub returns-then-is_some-clause-some : goal.returns-then-is_some-clause-some
@@ -66,9 +57,8 @@ returns-then-is_some-clause-some c =
 
 pub returns-clause-some : goal.returns-clause-some
 returns-clause-some c =
-    let inv = c.loop-limit.invariant in
     let a = c.args.self.now.states in
-    let past : c.loop-limit.limit ≤ c.args.low = omega arith in
-    let none : (k : ℕ) → AcceptsNow a (has_state c.args.from.now) c.args.high [] k → false ≡ true = λ k h. (last_position a (has_state c.loop-limit.from) (λ _. false) (λ _. false) k).0
-    ((none_lower a c.args.low c.loop-limit.limit k [] (has_state c.loop-limit.from) (λ _. false) (λ _. false) past inv.none).0 ((inv.holds k).0 h)) in
+    let past : c.loop-limit.limit ≡ 0 = omega arith in
+    let none : (k : ℕ) → AcceptsNow a (has_state c.args.from.now) (size c.args.self.now) [] k → false ≡ true =
+    λ k h. (last_position a (has_state c.loop-limit.from) (λ _. false) (λ _. false) k).0 ((rw past at c.loop-limit.invariant.holds k).0 h) in
     (λ h. absurd (true≢false (sym h)), λ (k, h). absurd (true≢false (sym (none k h))))
