@@ -5,7 +5,5 @@ pub mod Reading
 pub mod Live
 pub mod Equivalent
 pub mod EarlyMatches
-pub mod Spans
-pub mod Forcing
 pub mod inner
 pub mod ByteSteps

@@ -10,17 +10,14 @@ use Rattle.bit_sets.specs.declared.state_set.StateSet.{StateSet}
 abbrev pub size : NfaValue → ℕ
 size m = length m.states
 
--- the most reads of an automaton for each position of a text: its states, and for each start three entries of a filter
+-- the most reads of an automaton for each position of a text: its states, and for each start three more. Those of one start are
+-- room for the look at the text's last byte, for an entry of a row that is read in vain, and for the look-up of a row.
 abbrev pub max_reads : NfaValue → ℕ
 max_reads m = size m + 3 * length m.starts
 
 -- from some state of the set the text leads to an end of the index k
 abbrev pub AcceptsFrom : NfaValue → StateSet → List ℕ → ℕ → Type 0
 AcceptsFrom m set y k = (t : ℕ) × (t < size m) × IsTrue (has_state set t) × Accepts m.states k t y
-
--- the same of the states below a bound alone
-abbrev pub AcceptsBelow : NfaValue → ℕ → StateSet → List ℕ → ℕ → Type 0
-AcceptsBelow m high set y k = (t : ℕ) × (t < high) × IsTrue (has_state set t) × Accepts m.states k t y
 
 -- some state of the automaton is in the set
 abbrev pub HasSome : NfaValue → StateSet → Type 0

@@ -5,7 +5,7 @@ ghost use Rattle.bit_sets.specs.Bytes.{has_byte};
 ghost use Rattle.bit_sets.specs.Indexes.{has_index, index_capacity};
 ghost use Rattle.bit_sets.specs.Numbers.{AreBelow};
 ghost use Rattle.bit_sets.specs.StateSets.{has_state, state_capacity};
-ghost use Rattle.byte_nfa.specs.Steps.{NfaValue, IsReached, state, match_state};
+ghost use Rattle.byte_nfa.specs.Steps.{NfaValue, IsReached, state};
 ghost use Rattle.byte_nfa.specs.Equivalent.{AreEquivalent};
 ghost use Rattle.byte_nfa.specs.ByteSteps.{leads_to, step_capacity};
 ghost use Rattle.byte_nfa.specs.Runs.{size, AcceptsFrom};
@@ -14,10 +14,8 @@ ghost use Rattle.byte_nfa.specs.inner.Pass.{goes_now, goes_next};
 
 mod accepting;
 mod early_matches;
-mod forcing;
 mod live;
 mod reading;
-mod spans;
 mod steps;
 
 use crate::byte_steps::ByteSteps;
@@ -29,7 +27,7 @@ use std::marker::Model;
 
 /// A nondeterministic automaton: states over bytes, and those of them that a run begins in.
 ///
-/// Its calls are for what is made from it, such as a deterministic automaton or a filter. They read states, and do not count what
+/// Its calls are for what is made from it, such as a deterministic automaton. They read states, and do not count what
 /// they read. The `Simulation` of the crate `nfa_simulation`, whose calls count each read of a state, runs it.
 pub struct Nfa {
     states: Vec<State>,
@@ -96,15 +94,6 @@ impl Nfa {
     /// Returns a number that the index of each end is below. A set of indexes has room for each.
     pub fn index_count(&self) -> usize
         ensures { result ≡ self.now.index_count }
-    {
-        self.index_count
-    }
-
-    /// Returns a number that the index of each end is below, as [`Nfa::index_count`] does. Its contract says this of each end.
-    pub fn index_bound(&self) -> usize
-        ensures bound { result ≡ self.now.index_count }
-        ensures below { (s k : ℕ) → state self.now.states s ≡ match_state k
-            → k < self.now.index_count }
     {
         self.index_count
     }

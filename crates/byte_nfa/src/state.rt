@@ -5,14 +5,11 @@ ghost use Rattle.bit_sets.specs.Bytes.{has_byte};
 ghost use Rattle.bit_sets.specs.StateSets.{has_state, state_capacity};
 ghost use Rattle.bit_sets.specs.declared.byte_set.ByteSet.{ByteSet};
 ghost use Rattle.byte_nfa.specs.Equivalent.{HasAlsoBoundaries};
-ghost use Rattle.byte_nfa.specs.Forcing.{TellsLeast};
-ghost use Rattle.bit_sets.specs.Numbers.{AreBelow, AreFrom, has_number};
+ghost use Rattle.bit_sets.specs.Numbers.{AreBelow, has_number};
 ghost use Rattle.byte_nfa.specs.ByteSteps.{leads_to, step_capacity};
 ghost use Rattle.byte_nfa.specs.inner.Exits.{TellsExit};
 ghost use Rattle.byte_nfa.specs.inner.Views.{set_at, exits_at, of_state, IsHeld, GoesBelow};
 ghost use Rattle.byte_nfa.specs.inner.Pass.{goes_now, goes_next, TellsEnd, EndsBy, LeadsBy};
-
-mod in_word;
 
 use crate::byte_steps::ByteSteps;
 use bit_sets::{ByteSet, StateSet, Visits};
@@ -258,20 +255,6 @@ impl State {
             _ => None,
         }
     }
-
-    /// Returns a number that nothing that a state goes on to is below, or `None` if it is an end.
-    pub fn least_next(&self, s: usize, targets: &[usize]) -> Option<usize>
-        requires below { (sets : List ByteSet) × IsHeld sets targets.now self.now
-            × GoesBelow s (of_state sets targets.now self.now) }
-        ensures { (sets : List ByteSet) → TellsLeast (of_state sets targets.now self.now) result }
-    {
-        match self {
-            State::Bytes(_, next) => Some(*next),
-            State::Union(at) => Some(least_of(s, exits_of(targets, *at))),
-            State::Loop(_, exit) => Some(*exit),
-            State::Match(_) => None,
-        }
-    }
 }
 
 /// Returns the set with a number.
@@ -311,17 +294,4 @@ fn has_any(set: &StateSet, states: &[usize]) -> bool
         }
     }
     false
-}
-
-/// Returns a number that none of some numbers is below, and that is not above `limit`.
-fn least_of(limit: usize, numbers: &[usize]) -> usize
-    ensures { AreFrom result numbers.now }
-{
-    let mut least = limit;
-    for number in numbers {
-        if *number < least {
-            least = *number;
-        }
-    }
-    least
 }

@@ -1,8 +1,8 @@
 -- The states as an automaton keeps them: sets of bytes lie in one list, and what a state goes on to without a byte in another.
-use Rattle.std.specs.Prelude.{ℕ, ◌+◌, ◌<◌, ◌≤◌, List, [], ◌∷◌, map, length, slice_index, slice_index_or, slice_range}
+use Rattle.std.specs.Prelude.{ℕ, ◌+◌, ◌<◌, List, [], ◌∷◌, map, length, slice_index, slice_index_or, slice_range}
 use Rattle.byte_nfa.specs.Steps.{State, bytes_state, union_state, loop_state, match_state, state, NfaValue}
 use Rattle.bit_sets.specs.Bytes.{no_bytes}
-use Rattle.bit_sets.specs.Numbers.{AreBelow, AreFrom}
+use Rattle.bit_sets.specs.Numbers.{AreBelow}
 use Rattle.bit_sets.specs.declared.byte_set.ByteSet.{ByteSet}
 use Rattle.byte_nfa.specs.declared.state.State as declared
 use Rattle.byte_nfa.specs.declared.state.State.TheVariants.{Bytes, Union, Loop, Match}
@@ -41,13 +41,6 @@ GoesBelow s (bytes_state w t) = t < s
 GoesBelow s (union_state us) = AreBelow s us
 GoesBelow s (loop_state w us) = AreBelow s us
 GoesBelow s (match_state k) = Unit {0}
-
--- what the state goes on to is not below low
-abbrev pub GoesFrom : ℕ → State → Type 0
-GoesFrom low (bytes_state w t) = low ≤ t
-GoesFrom low (union_state us) = AreFrom low us
-GoesFrom low (loop_state w us) = AreFrom low us
-GoesFrom low (match_state k) = Unit {0}
 
 -- the index that the state names is below n
 abbrev pub NamesBelow : ℕ → State → Type 0

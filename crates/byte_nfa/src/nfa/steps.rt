@@ -1,16 +1,15 @@
 //! Steps of single states.
 
 ghost use Rattle.std.specs.Prelude.{◌≡◌, ℕ, ◌+◌, ◌<◌, ◌≤◌, ◌||◌, ◌==◌, false, Some, None, IsTrue, IsFalse, IfSome, MatchOption};
-ghost use Rattle.bit_sets.specs.WordSets.{has_in_word};
 ghost use Rattle.byte_nfa.specs.Runs.{size};
 ghost use Rattle.bit_sets.specs.StateSets.{has_state, state_capacity};
 ghost use Rattle.byte_nfa.specs.Steps.{bytes_state, state, match_state};
-ghost use Rattle.byte_nfa.specs.inner.Views.{GoesFrom, GoesBelow};
+ghost use Rattle.byte_nfa.specs.inner.Views.{GoesBelow};
 ghost use Rattle.byte_nfa.specs.inner.Pass.{goes_now, goes_next, names};
 
 use crate::nfa::Nfa;
 use crate::state::{State, set_of};
-use bit_sets::{ByteSet, StateSet, WordSet};
+use bit_sets::{ByteSet, StateSet};
 
 impl Nfa {
     /// Takes the steps of a state of `from`: puts into `from` what it goes on to without a byte, and into `to` what it goes
@@ -61,44 +60,6 @@ impl Nfa {
             (λ k. (state self.now.states s ≡ match_state k) × (k < self.now.index_count)) }
     {
         self.states[s].follow_epsilons(s, &self.targets, from)
-    }
-
-    /// Takes the steps of a state of `from`: puts into `from` what it goes on to without a byte, and into `to` what it goes
-    /// on to by the byte.
-    pub fn take_steps_in_word(&self, s: usize, byte: u8, from: &mut WordSet, to: &mut WordSet)
-        requires exists { s < size self.now }
-        requires above { GoesFrom from.old.low (state self.now.states s) }
-        requires order { from.old.low ≤ s }
-        requires within { s < from.old.low + 64 }
-        requires low { to.old.low ≡ from.old.low }
-        ensures from_low { from.new.low ≡ from.old.low }
-        ensures to_low { to.new.low ≡ to.old.low }
-        ensures below { GoesBelow s (state self.now.states s) }
-        ensures from { (t : ℕ)
-            → has_in_word from.new t
-            ≡ (goes_now (state self.now.states s) t || has_in_word from.old t) }
-        ensures to { (t : ℕ)
-            → has_in_word to.new t
-            ≡ (goes_next (state self.now.states s) s (Some byte) t || has_in_word to.old t) }
-    {
-        self.states[s].take_steps_in_word(s, &self.sets, &self.targets, byte, from, to);
-    }
-
-    /// Takes the steps of a state of `from` at the end of a text: puts into `from` what it goes on to without a byte.
-    /// Returns its index if it is an end.
-    pub fn follow_epsilons_in_word(&self, s: usize, from: &mut WordSet) -> Option<usize>
-        requires exists { s < size self.now }
-        requires above { GoesFrom from.old.low (state self.now.states s) }
-        requires within { s < from.old.low + 64 }
-        ensures low { from.new.low ≡ from.old.low }
-        ensures below { GoesBelow s (state self.now.states s) }
-        ensures from { (t : ℕ)
-            → has_in_word from.new t
-            ≡ (goes_now (state self.now.states s) t || has_in_word from.old t) }
-        ensures end { MatchOption result ((k : ℕ) → names (state self.now.states s) None k ≡ false)
-            (λ k. (state self.now.states s ≡ match_state k) × (k < self.now.index_count)) }
-    {
-        self.states[s].follow_epsilons_in_word(s, &self.targets, from)
     }
 
     /// Returns the bytes that a state reads, if it goes on to the state below.
