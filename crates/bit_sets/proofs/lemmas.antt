@@ -7,6 +7,5 @@ pub mod Lowered
 pub mod Changes
 pub mod Summaries
 pub mod IndexSets
-pub mod WordSets
 pub mod Bounds
 pub mod Filters

@@ -1,6 +1,5 @@
 -- Sets of bytes.
-use Rattle.std.specs.Prelude.{◌≡◌, ℕ, ◌<◌, Bool, not, true, false, [], IsTrue}
-use Rattle.std.specs.Int.Bits.{bit_or}
+use Rattle.std.specs.Prelude.{ℕ, ◌<◌, Bool, not, true, false, [], IsTrue}
 use Rattle.bit_sets.specs.Bits.{bit_of}
 use Rattle.bit_sets.specs.declared.byte_set.ByteSet.{ByteSet}
 
@@ -20,11 +19,3 @@ HasEvery set = (c : ℕ) → c < 256 → IsTrue (has_byte set c)
 abbrev pub differ : Bool → Bool → Bool
 differ true q = not q
 differ false q = q
-
--- the byte with the bit of the value 32 set, which makes an ASCII letter lowercase
-unfoldable pub folded : ℕ → ℕ
-folded c = bit_or c 32
-
--- each byte of the set folds to this one
-abbrev pub AllFold : ByteSet → ℕ → Type 0
-AllFold set letter = (c : ℕ) → c < 256 → IsTrue (has_byte set c) → letter ≡ folded c

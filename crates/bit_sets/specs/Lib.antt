@@ -4,6 +4,5 @@ pub mod Numbers
 pub mod Bytes
 pub mod Texts
 pub mod Indexes
-pub mod WordSets
 pub mod StateSets
 pub mod inner

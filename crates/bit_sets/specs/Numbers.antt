@@ -1,5 +1,5 @@
 -- Lists of numbers.
-use Rattle.std.specs.Prelude.{ℕ, ◌<◌, ◌≤◌, ◌||◌, ◌==◌, Bool, false, List, [], ◌∷◌, length, slice_index}
+use Rattle.std.specs.Prelude.{ℕ, ◌<◌, ◌||◌, ◌==◌, Bool, false, List, [], ◌∷◌, length, slice_index}
 
 -- whether the list has the number n
 abbrev pub has_number : ℕ → List ℕ → Bool
@@ -9,7 +9,3 @@ has_number n (x ∷ xs) = (n == x) || has_number n xs
 -- each of the numbers is below high
 abbrev pub AreBelow : ℕ → List ℕ → Type 0
 AreBelow high ns = (i : ℕ) → i < length ns → slice_index ns i < high
-
--- no number is below low
-abbrev pub AreFrom : ℕ → List ℕ → Type 0
-AreFrom low ns = (i : ℕ) → i < length ns → low ≤ slice_index ns i

@@ -1,8 +1,8 @@
 //! Sets of bytes.
 
-ghost use Rattle.std.specs.Prelude.{◌≡◌, ℕ, ◌+◌, ◌<◌, ◌&&◌, ◌||◌, ◌==◌, not, true, false, slice_index_or, IsTrue, MatchOption, ◌↔◌};
+ghost use Rattle.std.specs.Prelude.{◌≡◌, ℕ, ◌+◌, ◌<◌, ◌&&◌, ◌||◌, ◌==◌, not, true, false, slice_index_or, IsTrue, ◌↔◌};
 ghost use Rattle.bit_sets.specs.Bits.{TellsFirst};
-ghost use Rattle.bit_sets.specs.Bytes.{differ, has_byte, HasEvery, AllFold};
+ghost use Rattle.bit_sets.specs.Bytes.{differ, has_byte, HasEvery};
 
 use crate::words::{changes, clear_bit, first_from, has_bit, set_bit};
 
@@ -148,21 +148,6 @@ impl ByteSet {
             }
         }
         true
-    }
-
-    /// Returns the byte that each byte of the set folds to, if there is one. A set of no bytes has none.
-    pub fn folded(&self) -> Option<u8>
-        ensures { MatchOption result (Unit {0}) (λ letter. AllFold self.now letter) }
-    {
-        let letter = self.first_from(0)? | 0x20;
-        let mut from = 0;
-        while let Some(byte) = self.first_from(from) {
-            if byte | 0x20 != letter {
-                return None;
-            }
-            from = byte as usize + 1;
-        }
-        Some(letter)
     }
 
     /// Returns the lowest byte of the set that is not below a number.
