@@ -2,8 +2,8 @@
 use Rattle.std.specs.Prelude.{ℕ, ◌+◌, ◌*◌}
 
 -- The most visits for a path of n bytes: one lookup in each of four tables, n + 1 nodes in each of two tries, and at each of
--- n + 1 positions the states of the globs that need an automaton, and the entries that filters have for them. The load is the
--- number of these, or a bound on it. Other globs make no more visits, however many they are.
+-- n + 1 positions the states of the globs that need an automaton, and three reads more for each of them. The load is the number
+-- of these, or a bound on it. Other globs make no more visits, however many they are.
 abbrev pub visits_for : ℕ → ℕ → ℕ
 visits_for n load = 4 + 2 * (n + 1) + (n + 1) * load
 
