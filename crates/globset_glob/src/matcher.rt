@@ -26,8 +26,9 @@ use strategy::Strategy;
 ///
 /// Contracts see a matcher as its glob. If the glob's literals decide alone, as those of `*.rs` and `src/**` do, it compares them
 /// with the path or a part of it. Otherwise it has an automaton for the glob, which is made with it, and a deterministic one if
-/// that is not too large. If it is, calls make parts of it as they need them, in at most four caches that the matcher and its clones
-/// keep until they are dropped; [`GlobMatcher::kept_bytes`] returns how many bytes these take.
+/// that is not too large. If it is, calls make parts of it as they need them, in at most four caches that the matcher and its
+/// clones keep until they are dropped; [`GlobMatcher::kept_bytes`] returns how many bytes these take. A [`MatcherSearcher`] has
+/// one of its own.
 ///
 /// ```rust
 /// use globset::Glob;
@@ -65,6 +66,7 @@ impl Model for GlobMatcher {
 
 impl GlobMatcher {
     ghost use Rattle.glob_text.specs.GlobMatches.{glob_matches};
+    ghost use Rattle.globset_glob.specs.inner.GlobNfa.{IsStrategyOfMatcher};
 
     /// Returns a matcher of a glob, at the cost of [`Glob::compile_matcher_with_limit`]. Returns an error if memory runs out.
     pub(crate) fn new(glob: Glob, dfa_size_limit: usize) -> Result<GlobMatcher, Error>
@@ -144,7 +146,7 @@ impl GlobMatcher {
         ensures visits { visits.new ≤ visits.old + max_visits self.now path.now }
         ensures counted { visits.old ≤ visits.new }
     {
-        self.strategy.is_match(path, sets, visits)
+        self.strategy.is_match(path, sets, &mut None, visits)
     }
 
     /// Does what [`is_match_visits`](GlobMatcher::is_match_visits) does, in the caller's memory: it takes none, and cannot fail.
@@ -225,23 +227,8 @@ impl GlobMatcher {
         ensures counted { visits.old ≤ visits.new }
     {
         let mut sets = StateSets::new(self.glob.allocator());
-        Ok(self.can_match_below_in(folder, &mut sets, visits)?)
-    }
-
-    /// The same, in sets of the caller, as [`is_match_in`](GlobMatcher::is_match_in).
-    fn can_match_below_in(
-        &self,
-        folder: &Candidate<'_>,
-        sets: &mut StateSets,
-        visits: &mut Visits,
-    ) -> Result<bool, AllocError>
-        ensures ok { IfOk result (λ yes. IsTrue yes ↔ GlobMatchesBelow self.now folder.now) }
-        ensures room { cost self.now ≤ sets_capacity sets.old → IsOk result }
-        ensures kept { sets_capacity sets.old ≤ sets_capacity sets.new }
-        ensures visits { visits.new ≤ visits.old + max_visits_below self.now folder.now }
-        ensures counted { visits.old ≤ visits.new }
-    {
-        self.strategy.can_match_below(folder, sets, visits)
+        let strategy = &self.strategy;
+        Ok(strategy.can_match_below(folder, &mut sets, &mut None, visits)?)
     }
 
     /// Returns a matcher for an equal glob. It copies the glob, and shares its automaton. Returns an error if memory runs out or if 2^63
@@ -251,8 +238,15 @@ impl GlobMatcher {
         ensures err { IsOkUnless result out_of_memory }
     {
         let glob = self.glob.clone()?;
-        let strategy = self.strategy.copy_for(&glob)?;
+        let strategy = self.copy_strategy()?;
         Ok(GlobMatcher { glob, strategy })
+    }
+
+    /// Returns what it decides by, once more. It shares the automaton. Returns an error if memory runs out.
+    fn copy_strategy(&self) -> Result<Strategy, AllocError>
+        ensures { IfOk result (IsStrategyOfMatcher self.now) }
+    {
+        self.strategy.copy_for(&self.glob)
     }
 }
 

@@ -3,7 +3,7 @@ use denote.Param.Send.{IsSend, IsSync, sendable}
 use Rattle.std.proofs.Crossing.{crosses}
 use Rattle.globset_glob.specs.contracts.glob.Glob as Glob
 use Rattle.globset_glob.specs.contracts.matcher.GlobMatcher as GlobMatcher
-use Rattle.glob_matching.proofs.lemmas.Shared.{compiled-send, compiled-sync}
+use Rattle.glob_matching.proofs.lemmas.Shared.{compiled-send, compiled-sync, row_cache-send, row_cache-sync}
 use Rattle.globset_set.proofs.lemmas.Shared.{stored-send, stored-sync, stored_searcher-send, stored_searcher-sync}
 use Rattle.globset_glob.specs.contracts.matcher.searcher.MatcherSearcher as MatcherSearcher
 use Rattle.globset.specs.contracts.set.GlobSet as GlobSet
@@ -34,10 +34,10 @@ matcher_inside-sync : IsSync GlobMatcher.the_field.row
 matcher_inside-sync = search (sendable, crosses, glob-sync, compiled-send, compiled-sync) depth 40 fits 20000
 
 pub matcher_searcher-send : IsSend MatcherSearcher.the_row
-matcher_searcher-send = search (sendable, crosses, matcher_inside-send) depth 40 fits 20000
+matcher_searcher-send = search (sendable, crosses, matcher_inside-send, compiled-send, compiled-sync, row_cache-send) depth 40 fits 20000
 
 pub matcher_searcher-sync : IsSync MatcherSearcher.the_row
-matcher_searcher-sync = search (sendable, crosses, matcher_inside-sync) depth 40 fits 20000
+matcher_searcher-sync = search (sendable, crosses, matcher_inside-sync, compiled-send, compiled-sync, row_cache-sync) depth 40 fits 20000
 
 set_inside-send : IsSend GlobSet.the_field.row
 set_inside-send = search (sendable, stored-send) depth 20

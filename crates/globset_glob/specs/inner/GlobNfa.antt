@@ -1,5 +1,5 @@
 -- By what a matcher decides: the key or the automaton of one glob.
-use Rattle.std.specs.Prelude.{◌≤◌, ℕ, [], ◌∷◌}
+use Rattle.std.specs.Prelude.{◌≡◌, ◌≤◌, ℕ, [], ◌∷◌}
 use Rattle.std.specs.Arc.{arc_value}
 use Rattle.byte_nfa.specs.Steps.{NfaValue}
 use Rattle.byte_nfa.specs.Runs.{size, max_reads}
@@ -26,3 +26,8 @@ IsStrategyOfMatcher g (Automaton m) = IsAutomatonOf g (arc_value m)
 abbrev pub form_states : Strategy → ℕ
 form_states (Key key) = 0
 form_states (Automaton m) = size (arc_value m)
+
+-- a cache of rows is one of the automaton; a key has none
+abbrev pub IsCacheOf : Strategy → NfaValue → Type 0
+IsCacheOf (Key key) cache = ⊥
+IsCacheOf (Automaton m) cache = cache ≡ arc_value m

@@ -7,18 +7,22 @@ ghost use Rattle.glob_text.specs.GlobMatches.{glob_matches};
 ghost use Rattle.globset_glob.specs.GlobBelow.{GlobMatchesBelow};
 
 use crate::matcher::GlobMatcher;
+use crate::matcher::strategy::Strategy;
 use bit_sets::Visits;
-use glob_matching::Scratch;
+use glob_matching::RowCache;
 use glob_path::Candidate;
 use glob_text::Error;
+use nfa_simulation::StateSets;
 use std::alloc::Global;
 use std::marker::Model;
 
-/// A [`GlobMatcher`], with all the memory that one thread needs to match paths with it. That is taken when the searcher is made: no
-/// other call takes any, and none of them can fail. If the automaton has no table, one cache of rows is made with it, which all
-/// calls of the matcher and of its clones use in turn.
+/// A [`GlobMatcher`], with all the memory that one thread needs to match paths with it. That is taken when the searcher is
+/// made: no other call takes any, and none of them can fail.
 ///
-/// Contracts see a searcher as its glob.
+/// Searchers of a matcher share its automaton. If this is run by rows, each searcher has a cache of its own for them, and uses
+/// none of those that the matcher keeps. A program with several threads makes a searcher for each of them.
+///
+/// Contracts see a searcher as its glob. What earlier calls left in it has no effect.
 ///
 /// ```rust
 /// use globset::{Candidate, Glob, MatcherSearcher};
@@ -30,7 +34,11 @@ use std::marker::Model;
 /// ```
 pub struct MatcherSearcher {
     matcher: GlobMatcher,
-    scratch: Scratch,
+    /// That of the matcher, once more: contracts see a matcher as its glob, and the cache is of an automaton.
+    strategy: Strategy,
+    sets: StateSets,
+    /// `None` if a key decides, or the automaton has no rows.
+    cache: Option<RowCache>,
 }
 
 impl Drop for MatcherSearcher {
@@ -38,35 +46,47 @@ impl Drop for MatcherSearcher {
     fn drop(self) {
         let MatcherSearcher {
             matcher: _,
-            scratch: _,
+            strategy: _,
+            sets: _,
+            cache: _,
         } = self;
     }
 }
 
 impl Model for MatcherSearcher {
-    ghost use Rattle.glob_matching.specs.ScratchValue.{FitsMatcher};
+    ghost use Rattle.std.specs.Prelude.{◌≤◌, IfSome};
+    ghost use Rattle.nfa_simulation.specs.Sets.{sets_capacity};
     ghost use Rattle.glob_text.specs.GlobMatches.{GlobValue};
+    ghost use Rattle.globset_glob.specs.inner.GlobNfa.{IsCacheOf, IsStrategyOfMatcher, form_states};
 
     ghost Value = { GlobValue };
 
     ghost view = { λ s. s.matcher };
 
-    ghost invariant = { λ s. FitsMatcher s.scratch s.matcher };
+    ghost invariant = { λ s. IsStrategyOfMatcher s.matcher s.strategy
+        × ((form_states s.strategy ≤ sets_capacity s.sets) × IfSome s.cache (IsCacheOf s.strategy)) };
 }
 
 impl MatcherSearcher {
-    /// Returns a searcher that matches as the matcher does. It copies the matcher's glob and shares its automaton, and takes a byte
-    /// of memory for each byte of the glob's text and one more, or four times as much under `whole_character`.
+    /// Returns a searcher that matches as the matcher does. It copies the matcher's glob, shares its automaton, and takes three
+    /// bits of memory for each state of this: at most 12 bits for each byte of the glob's text and 12 more, or four times as
+    /// much under `whole_character`. If the automaton has no table, it may take up to 8 MB more, for rows that it keeps from
+    /// one path to the next, and more than that if there are hundreds of thousands of states.
     ///
     /// Returns an error if memory runs out or 2^63 matchers share the automaton, and in no other case.
     pub fn new(alloc: Global, matcher: &GlobMatcher) -> Result<MatcherSearcher, Error>
         ensures ok { IfOk result (λ s. s ≡ matcher.now) }
         ensures err { IsOkUnless result out_of_memory }
     {
-        let scratch = Scratch::new(alloc, matcher)?;
+        let matcher = matcher.clone()?;
+        let strategy = matcher.copy_strategy()?;
+        let sets = strategy.new_sets(alloc)?;
+        let cache = strategy.new_cache(alloc)?;
         Ok(MatcherSearcher {
-            matcher: matcher.clone()?,
-            scratch,
+            matcher,
+            strategy,
+            sets,
+            cache,
         })
     }
 
@@ -75,6 +95,17 @@ impl MatcherSearcher {
         ensures { result.now ≡ self.now }
     {
         &self.matcher
+    }
+
+    /// Returns how many bytes of memory the rows take that it may keep from one path to the next, or 0 if it has none. Beside
+    /// these it takes a few bits for each state of the automaton.
+    ///
+    /// A searcher takes its memory when it is made, and no more later.
+    pub fn bytes(&self) -> usize {
+        match &self.cache {
+            Some(cache) => cache.bytes(),
+            None => 0,
+        }
     }
 
     /// Returns whether the glob matches a candidate's path, as [`GlobMatcher::is_match_candidate`] does.
@@ -94,7 +125,9 @@ impl MatcherSearcher {
         ensures visits { visits.new ≤ visits.old + max_visits self.old path.now }
         ensures counted { visits.old ≤ visits.new }
     {
-        self.matcher.is_match_with(path, &mut self.scratch, visits)
+        self.strategy
+            .is_match(path, &mut self.sets, &mut self.cache, visits)
+            .unwrap()
     }
 
     /// Returns whether the glob matches some path below a candidate's path, as [`GlobMatcher::can_match_below_candidate`] does.
@@ -123,9 +156,8 @@ impl MatcherSearcher {
         ensures visits { visits.new ≤ visits.old + max_visits_below self.old folder.now }
         ensures counted { visits.old ≤ visits.new }
     {
-        let scratch = &mut self.scratch;
-        self.matcher
-            .can_match_below_in(folder, &mut scratch.sets, visits)
+        self.strategy
+            .can_match_below(folder, &mut self.sets, &mut self.cache, visits)
             .unwrap()
     }
 }

@@ -1,15 +1,15 @@
 //! By what a matcher decides.
 
-ghost use Rattle.std.specs.Prelude.{◌≡◌, ◌+◌, ◌≤◌, ◌↔◌, IfOk, IsOk, IsTrue};
+ghost use Rattle.std.specs.Prelude.{◌≡◌, ◌+◌, ◌≤◌, ◌↔◌, IfOk, IfSome, IsOk, IsTrue};
 ghost use Rattle.nfa_simulation.specs.Sets.{sets_capacity};
 ghost use Rattle.glob_text.specs.Cost.{max_visits, max_visits_below};
 ghost use Rattle.globset_glob.specs.GlobBelow.{GlobMatchesBelow};
 ghost use Rattle.glob_text.specs.GlobMatches.{GlobValue, glob_matches};
-ghost use Rattle.globset_glob.specs.inner.GlobNfa.{IsAutomatonOf, IsStrategyOfMatcher, form_states};
+ghost use Rattle.globset_glob.specs.inner.GlobNfa.{IsAutomatonOf, IsCacheOf, IsStrategyOfMatcher, form_states};
 
 use crate::glob::Glob;
 use bit_sets::Visits;
-use glob_matching::{Compiled, DEFAULT_DFA_SIZE_LIMIT};
+use glob_matching::{Compiled, DEFAULT_DFA_SIZE_LIMIT, RowCache};
 use glob_nfa::{add_tokens, new_builder};
 use glob_path::{Candidate, Key};
 use glob_strategy::{MatchStrategy, strategy_of};
@@ -58,14 +58,39 @@ impl Strategy {
         }
     }
 
-    /// Returns whether the glob matches a path. Returns an error if memory runs out, and none if a key decides or the sets have
-    /// room.
+    /// Returns sets with room for the states of an automaton. Returns an error if memory runs out.
+    pub fn new_sets(&self, alloc: Global) -> Result<StateSets, AllocError>
+        ensures { IfOk result (λ sets. form_states self.now ≤ sets_capacity sets) }
+    {
+        let mut sets = StateSets::new(alloc);
+        if let Strategy::Automaton(automaton) = self {
+            sets.reserve(automaton.state_count())?;
+        }
+        Ok(sets)
+    }
+
+    /// Returns a cache with no rows for an automaton, as [`Compiled::new_cache`] does, or `None` if a key decides. Returns an
+    /// error if memory runs out.
+    pub fn new_cache(&self, alloc: Global) -> Result<Option<RowCache>, AllocError>
+        ensures { IfOk result (λ made. IfSome made (IsCacheOf self.now)) }
+    {
+        match self {
+            Strategy::Key(_) => Ok(None),
+            Strategy::Automaton(automaton) => automaton.new_cache(alloc),
+        }
+    }
+
+    /// Returns whether the glob matches a path. An automaton runs by the rows of the cache, or, without one, as
+    /// [`Compiled::is_match`] does. Returns an error if memory runs out, and none if a key decides or the sets have room.
     pub fn is_match(
         &self,
         path: &Candidate<'_>,
         sets: &mut StateSets,
+        cache: &mut Option<RowCache>,
         visits: &mut Visits,
     ) -> Result<bool, AllocError>
+        requires { IfSome cache.old (IsCacheOf self.now) }
+        ensures cache { cache.new ≡ cache.old }
         ensures some { IfOk result
             (λ yes. (g : GlobValue) → IsStrategyOfMatcher g self.now
             → yes ≡ glob_matches g path.now) }
@@ -81,18 +106,23 @@ impl Strategy {
                 visits.tick();
                 Ok(key.matches(path))
             }
-            Strategy::Automaton(automaton) => automaton.is_match(path.path(), sets, visits),
+            Strategy::Automaton(automaton) => {
+                automaton.is_match_with(path.path(), sets, cache, visits)
+            }
         }
     }
 
-    /// Returns whether the glob matches some path below a folder. Returns an error if memory runs out, and none if a key decides
-    /// or the sets have room.
+    /// Returns whether the glob matches some path below a folder. It runs as [`Strategy::is_match`] does. Returns an error if
+    /// memory runs out, and none if a key decides or the sets have room.
     pub fn can_match_below(
         &self,
         folder: &Candidate<'_>,
         sets: &mut StateSets,
+        cache: &mut Option<RowCache>,
         visits: &mut Visits,
     ) -> Result<bool, AllocError>
+        requires { IfSome cache.old (IsCacheOf self.now) }
+        ensures cache { cache.new ≡ cache.old }
         ensures some { IfOk result
             (λ yes. (g : GlobValue) → IsStrategyOfMatcher g self.now
             → IsTrue yes ↔ GlobMatchesBelow g folder.now) }
@@ -108,7 +138,7 @@ impl Strategy {
                 Ok(key.can_match_below(folder.path()))
             }
             Strategy::Automaton(automaton) => {
-                automaton.can_match_after(folder.path(), b'/', sets, visits)
+                automaton.can_match_after_with(folder.path(), b'/', sets, cache, visits)
             }
         }
     }
