@@ -4,9 +4,11 @@ use Rattle.bit_sets.specs.declared.byte_set.ByteSet.{ByteSet}
 use Rattle.bit_sets.specs.Bytes.{HasEvery}
 use Rattle.byte_nfa.specs.Steps.{State, loop_state, match_state, state, NfaValue}
 
--- the state s stays on every byte, and goes on to one state, which is an end of the index k
-abbrev pub Decides : List State → ℕ → ℕ → Type 0
-Decides a s k = (w : ByteSet) × (t : ℕ) × (state a s ≡ loop_state w (t ∷ [])) × HasEvery w × (state a t ≡ match_state k)
+-- The state s stays on every byte, and goes on to one state, which is an end of the index k or decides k itself, as the first of
+-- several stars does.
+pub data Decides (a : List State) : ℕ → ℕ → Type 0 where
+  before_end : (s k t : ℕ) (w : ByteSet) → state a s ≡ loop_state w (t ∷ []) → HasEvery w → state a t ≡ match_state k → Decides a s k
+  before_other : (s k t : ℕ) (w : ByteSet) → state a s ≡ loop_state w (t ∷ []) → HasEvery w → Decides a t k → Decides a s k
 
 -- st is an end of the index n + k if the state s decides k, and otherwise the state s
 abbrev pub IsAtEarlyMatch : List State → ℕ → ℕ → State → Type 0

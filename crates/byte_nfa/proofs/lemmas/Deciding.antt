@@ -4,7 +4,8 @@ use Rattle.std.specs.Prelude.{◌↔◌}
 use Rattle.byte_nfa.specs.Steps.{State, bytes_state, union_state, loop_state, match_state, state, NfaValue, HasNumber, Accepts, IsReached, ends, by_byte, by_skip, by_out, by_stay}
 use Rattle.bit_sets.specs.Texts.{AllBytes}
 use Rattle.bit_sets.proofs.lemmas.Texts.{rest_bytes}
-use Rattle.byte_nfa.specs.EarlyMatches.{Decides, IsAtEarlyMatch, EndsAtEarlyMatches}
+use Rattle.byte_nfa.specs.EarlyMatches.{Decides, before_end, before_other, IsAtEarlyMatch, EndsAtEarlyMatches}
+use Rattle.byte_nfa.proofs.lemmas.EarlyMatches.{exit_of}
 
 -- from the state s the text leads to an end of k, or its beginning to an end of n + k
 abbrev pub LeadsOrAlwaysMatches : List State → ℕ → ℕ → List ℕ → ℕ → Type 0
@@ -12,13 +13,14 @@ LeadsOrAlwaysMatches a n s y k = ((k < n) × Accepts a k s y) ⊎ ((p : List ℕ
 
 -- a state that decides an index leads to no other
 only_early_matches : (a : List State) (k j s : ℕ) (y : List ℕ) → Accepts a k s y → Decides a s j → j ≡ k
-only_early_matches a k j s y (ends s' e) (w', t', e', every, f) = let no : loop_state w' (t' ∷ []) ≡ match_state k = sym e' ∙ e in cc
-only_early_matches a k j s y (by_byte s' t c z w e has rest) (w', t', e', every, f) = let no : loop_state w' (t' ∷ []) ≡ bytes_state w t = sym e' ∙ e in cc
-only_early_matches a k j s y (by_skip s' t z ts e m rest) (w', t', e', every, f) = let no : loop_state w' (t' ∷ []) ≡ union_state ts = sym e' ∙ e in cc
-only_early_matches a k j s y (by_out s' t z w ts e m rest) (w', t', e', every, f) =
+only_early_matches a k j s y (ends s' e) decides = let (w', t', e', every, f) = exit_of a s j decides in let no : loop_state w' (t' ∷ []) ≡ match_state k = sym e' ∙ e in cc
+only_early_matches a k j s y (by_byte s' t c z w e has rest) decides = let (w', t', e', every, f) = exit_of a s j decides in let no : loop_state w' (t' ∷ []) ≡ bytes_state w t = sym e' ∙ e in cc
+only_early_matches a k j s y (by_skip s' t z ts e m rest) decides = let (w', t', e', every, f) = exit_of a s j decides in let no : loop_state w' (t' ∷ []) ≡ union_state ts = sym e' ∙ e in cc
+only_early_matches a k j s y (by_out s' t z w ts e m rest) decides =
+    let (w', t', e', every, f) = exit_of a s j decides in
     let same : loop_state w' (t' ∷ []) ≡ loop_state w ts = sym e' ∙ e in
     let is : t' ∷ [] ≡ ts = cc in
-    end_of t (subst (HasNumber t) (sym is) m) rest
+    end_of t' f (subst (HasNumber t) (sym is) m) (λ d. only_early_matches a k j t z rest d)
   where
     named : (u : ℕ) (z' : List ℕ) → Accepts a k u z' → state a u ≡ match_state j → j ≡ k
     named u z' (ends s'' e'') g = let both : match_state j ≡ match_state k = sym g ∙ e'' in cc
@@ -27,15 +29,21 @@ only_early_matches a k j s y (by_out s' t z w ts e m rest) (w', t', e', every, f
     named u z' (by_out s'' t'' x w'' ts'' e'' m'' rest'') g = let no : match_state j ≡ loop_state w'' ts'' = sym g ∙ e'' in cc
     named u z' (by_stay s'' c x w'' ts'' e'' has rest'') g = let no : match_state j ≡ loop_state w'' ts'' = sym g ∙ e'' in cc
 
-    end_of : (u : ℕ) → HasNumber u (t' ∷ []) → Accepts a k u z → j ≡ k
-    end_of u (inl is') h = named u z h (subst (λ v. state a v ≡ match_state j) (sym is') f)
-    end_of u (inr off) h = absurd off
-only_early_matches a k j s y (by_stay s' c z w ts e has rest) always_matches = only_early_matches a k j s z rest always_matches
+    end_of : (t' : ℕ) → (state a t' ≡ match_state j) ⊎ Decides a t' j → HasNumber t (t' ∷ []) → (Decides a t j → j ≡ k) → j ≡ k
+    end_of t' (inl f) (inl is') further = named t z rest (subst (λ v. state a v ≡ match_state j) (sym is') f)
+    end_of t' (inr d) (inl is') further = further (subst (λ v. Decides a v j) (sym is') d)
+    end_of t' f (inr off) further = absurd off
+only_early_matches a k j s y (by_stay s' c z w ts e has rest) decides = only_early_matches a k j s z rest decides
 
--- a state that decides an index leads to it by any bytes
+-- a state that decides an index leads to it by no byte
+decided_at_once : (a : List State) (k s : ℕ) → Decides a s k → Accepts a k s []
+decided_at_once a k s (before_end s' k' t w e every f) = by_out s t [] w (t ∷ []) e (inl refl) (ends t f)
+decided_at_once a k s (before_other s' k' t w e every d) = by_out s t [] w (t ∷ []) e (inl refl) (decided_at_once a k t d)
+
+-- and by any bytes
 pub always_decided : (a : List State) (k s : ℕ) (q : List ℕ) → AllBytes q → Decides a s k → Accepts a k s q
-always_decided a k s [] bytes (w, t, e, every, f) = by_out s t [] w (t ∷ []) e (inl refl) (ends t f)
-always_decided a k s (c ∷ q) bytes (w, t, e, every, f) = by_stay s c q w (t ∷ []) e (every c bytes.0) (always_decided a k s q bytes.1 (w, t, e, every, f))
+always_decided a k s [] bytes decides = decided_at_once a k s decides
+always_decided a k s (c ∷ q) bytes decides = let (w, t, e, every, f) = exit_of a s k decides in by_stay s c q w (t ∷ []) e (every c bytes.0) (always_decided a k s q bytes.1 decides)
 
 module _ (old new : NfaValue) (made : EndsAtEarlyMatches old new) (k : ℕ) where
   at_early_match : (s : ℕ) (y : List ℕ) → Accepts old.states k s y → IsAtEarlyMatch old.states old.index_count s (state new.states s) → (state new.states s ≡ state old.states s → LeadsOrAlwaysMatches new.states old.index_count s y k) → LeadsOrAlwaysMatches new.states old.index_count s y k

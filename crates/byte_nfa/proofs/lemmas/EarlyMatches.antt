@@ -1,34 +1,75 @@
 -- Automata with ends where an index is decided.
-use Rattle.std.proofs.Common.{◌≡◌, ℕ, ◌+◌, ◌*◌, ◌<◌, ◌≤◌, inl, inr, List, [], ◌∷◌, ◌++◌, Option, Some, None, length, get_or, arith, refl, ap, sym, subst, ◌∙◌}
-use Rattle.std.specs.Prelude.{MatchOption}
+use Rattle.std.proofs.Common.{◌≡◌, ℕ, ◌+◌, ◌-◌, ◌*◌, ◌⊎◌, ◌<◌, ◌≤◌, inl, inr, List, [], ◌∷◌, ◌++◌, Option, Some, None, length, get_or, arith, refl, ap, sym, subst, ◌∙◌}
 use Rattle.std.proofs.lemmas.Bool.{cases_lt}
 use Rattle.std.proofs.lemmas.List.{length-map, length-append, get_or_past}
 use Rattle.std.proofs.Math.Logic.{⊎_elim}
 use Rattle.bit_sets.specs.declared.byte_set.ByteSet.{ByteSet}
 use Rattle.byte_nfa.specs.declared.state.State as declared
-use Rattle.byte_nfa.specs.declared.state.State.TheVariants.{Match}
+use Rattle.byte_nfa.specs.declared.state.State.TheVariants.{Bytes, Union, Loop, Match}
 use Rattle.byte_nfa.specs.Steps.{State, bytes_state, union_state, loop_state, match_state, state, NfaValue}
-use Rattle.byte_nfa.specs.EarlyMatches.{Decides, IsAtEarlyMatch, EndsAtEarlyMatches}
-use Rattle.byte_nfa.specs.inner.Exits.{StaysBefore}
+use Rattle.byte_nfa.specs.EarlyMatches.{Decides, before_end, before_other, IsAtEarlyMatch, EndsAtEarlyMatches}
+use Rattle.bit_sets.specs.Bytes.{HasEvery}
+use Rattle.byte_nfa.specs.inner.Exits.{StaysBefore, IsNoEnd, TellsDecision, TellDecisions}
 use Rattle.byte_nfa.specs.inner.Views.{of_state, of_states, GoesBelow, NamesBelow, AreSound, nfa}
 use Rattle.byte_nfa.proofs.lemmas.Pushing.{pushed_last, pushed_before, states_push, sound_push}
 use Rattle.byte_nfa.proofs.lemmas.Reading.{held_at, state_at, read_state}
 
--- a state that decides, found by its exit
+-- a state that decides goes on to one state
+pub exit_of : (a : List State) (s k : ℕ) → Decides a s k → (w : ByteSet) × (t : ℕ) × (state a s ≡ loop_state w (t ∷ [])) × HasEvery w × ((state a t ≡ match_state k) ⊎ Decides a t k)
+exit_of a s k (before_end s' k' t w e every f) = (w, t, e, every, inl f)
+exit_of a s k (before_other s' k' t w e every d) = (w, t, e, every, inr d)
 
 pub always_matches_none : (a : List State) (s : ℕ) (st : State) → state a s ≡ st → ((t : ℕ) → StaysBefore st t → ⊥) → (k : ℕ) → Decides a s k → ⊥
-always_matches_none a s st is none k (w, t, e, every, f) = none t (w, sym is ∙ e, every)
+always_matches_none a s st is none k decides = let (w, t, e, every, f) = exit_of a s k decides in none t (w, sym is ∙ e, every)
 
-pub always_matches_by : (a : List State) (n s t : ℕ) (st : State) (o : Option ℕ) → state a s ≡ st → StaysBefore st t
-    → MatchOption o ((k : ℕ) → state a t ≡ match_state k → ⊥) (λ k. (state a t ≡ match_state k) × (k < n))
-    → MatchOption o ((k : ℕ) → Decides a s k → ⊥) (λ k. Decides a s k × (k < n))
-always_matches_by a n s t st (Some k) is (w, e, every) (f, lt) = ((w, t, is ∙ e, every, f), lt)
-always_matches_by a n s t st None is (w, e, every) none = λ k (w', t', e', every', f').
-    let same : t' ≡ t = other w w' t t' (sym e ∙ sym is ∙ e') in
-    none k (subst (λ u. state a u ≡ match_state k) same f')
-  where
-    other : (v v' : ByteSet) (u u' : ℕ) → loop_state v (u ∷ []) ≡ loop_state v' (u' ∷ []) → u' ≡ u
-    other v v' u u' h = cc
+-- a state before an end, before one that decides, and before another
+module _ (a : List State) (n s t : ℕ) (st : State) (is : state a s ≡ st) (before : StaysBefore st t) where
+  pub decides_end : (j : ℕ) → TellsDecision a n t (Match j) → j < n → Decides a s j × (j < n)
+  decides_end j (inl (lt, f)) low = let (w, e, every) = before in (before_end s j t w (is ∙ e) every f, low)
+  decides_end j (inr (k, lt, eq, d)) low = absurd (omega (arith, eq, low))
+
+  pub decides_other : (j i : ℕ) → TellsDecision a n t (Match j) → n ≤ j → i ≡ j - n → Decides a s i × (i < n)
+  decides_other j i (inl (lt, f)) high same = absurd (omega (arith, lt, high))
+  decides_other j i (inr (k, lt, eq, d)) high same =
+      let (w, e, every) = before in
+      let here : k ≡ i = omega (arith, eq, same) in
+      (subst (Decides a s) here (before_other s k t w (is ∙ e) every d), omega (arith, here, lt))
+
+  pub decides_none : IsNoEnd a t → (k : ℕ) → Decides a s k → ⊥
+  decides_none (undecided, no_end) k decides =
+      let (w, e, every) = before in
+      let (w', t', e', every', f') = exit_of a s k decides in
+      let same : t' ≡ t = other w w' t t' (sym e ∙ sym is ∙ e') in
+      ⊎_elim {C = ⊥} (λ f. no_end k (subst (λ u. state a u ≡ match_state k) same f)) (λ d. undecided k (subst (λ u. Decides a u k) same d)) f'
+    where
+      other : (v v' : ByteSet) (u u' : ℕ) → loop_state v (u ∷ []) ≡ loop_state v' (u' ∷ []) → u' ≡ u
+      other v v' u u' h = cc
+
+-- what is no end tells of none
+pub tells_none : (a : List State) (n t : ℕ) (x : declared.State) → ((j : ℕ) → x ≡ Match j → ⊥) → TellsDecision a n t x → IsNoEnd a t
+tells_none a n t (Bytes m u) other tells = tells
+tells_none a n t (Union m) other tells = tells
+tells_none a n t (Loop m u) other tells = tells
+tells_none a n t (Match j) other tells = absurd (other j refl)
+
+-- what stands for a state tells of it
+
+-- an index that is decided is one of the automaton's
+pub decided_small : (a : List State) (n : ℕ) → ((s j : ℕ) → state a s ≡ match_state j → j < n) → (t k : ℕ) → Decides a t k → k < n
+decided_small a n named t k (before_end s' k' u w e every f) = named u k f
+decided_small a n named t k (before_other s' k' u w e every d) = decided_small a n named u k d
+
+module _ (a : List State) (n t : ℕ) (sets : List ByteSet) (targets : List ℕ) (named : (s j : ℕ) → state a s ≡ match_state j → j < n) where
+  no_end : (st : State) → ((j : ℕ) → st ≡ match_state j → ⊥) → IsAtEarlyMatch a n t st → IsNoEnd a t
+  no_end st other (inl (k, d, e)) = absurd (other (n + k) e)
+  no_end st other (inr (none, e)) = (none, λ k f. other k (e ∙ f))
+
+  pub tells_decision : (x : declared.State) → IsAtEarlyMatch a n t (of_state sets targets x) → TellsDecision a n t x
+  tells_decision (Bytes m u) at = no_end (of_state sets targets (Bytes m u)) (λ j h. cc) at
+  tells_decision (Union m) at = no_end (of_state sets targets (Union m)) (λ j h. cc) at
+  tells_decision (Loop m u) at = no_end (of_state sets targets (Loop m u)) (λ j h. cc) at
+  tells_decision (Match j) (inl (k, d, e)) = inr (k, decided_small a n named t k d, (let h : match_state j ≡ match_state (n + k) = e in cc), d)
+  tells_decision (Match j) (inr (none, e)) = inl (named t j (sym e), sym e)
 
 -- the list of states with one more
 
@@ -70,6 +111,12 @@ module _ (m : NfaValue) (sets : List ByteSet) (targets : List ℕ) (states : Lis
         (subst (λ t'. IsAtEarlyMatch m.states m.index_count t' (of_state sets targets x)) (sym so_far.len) at) t (omega (arith, so_far.len));
   }
 
+  -- what stands for the states so far tells of them
+  pub tell_decisions : TellDecisions m.states m.index_count s xs
+  tell_decisions t x lt is =
+      tells_decision m.states m.index_count t sets targets (λ u j e. subst (λ v. j < v) count (subst (NamesBelow n) (ap (λ (o : NfaValue). state o.states u) value ∙ e) (sound.named u))) x
+      (subst (IsAtEarlyMatch m.states m.index_count t) (state_at sets targets xs t x (omega (arith, so_far.len)) is) (so_far.states t lt))
+
   -- an end in place of the next state
   pub decided_more : (k : ℕ) → Decides m.states s k → k < m.index_count → AreEarlyMatches m sets targets (xs ++ Match (n + k) ∷ []) (s + 1)
   decided_more k always_matches lt =
@@ -101,7 +148,7 @@ all_decisions m new sets targets xs starts is begun len each named = subst (Ends
 }
   where
     none : (s k : ℕ) → length m.states ≤ s → Decides m.states s k → ⊥
-    none s k past (w, t, e, every, f) = let other : union_state [] ≡ loop_state w (t ∷ []) = sym (get_or_past m.states s (union_state []) past) ∙ e in cc
+    none s k past decides = let (w, t, e, every, f) = exit_of m.states s k decides in let other : union_state [] ≡ loop_state w (t ∷ []) = sym (get_or_past m.states s (union_state []) past) ∙ e in cc
 
     at : (s : ℕ) → IsAtEarlyMatch m.states m.index_count s (state (of_states sets targets xs) s)
     at s = ⊎_elim {C = IsAtEarlyMatch m.states m.index_count s (state (of_states sets targets xs) s)}

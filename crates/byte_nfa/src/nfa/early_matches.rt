@@ -1,9 +1,9 @@
 //! Ends in place of the states that decide an index.
 
-ghost use Rattle.std.specs.Prelude.{◌≡◌, ℕ, ◌*◌, ◌<◌, ◌≤◌, ◌^◌, IfOk, MatchOption};
+ghost use Rattle.std.specs.Prelude.{◌≡◌, ℕ, ◌*◌, ◌<◌, ◌≤◌, ◌^◌, length, IfOk, MatchOption};
 ghost use Rattle.byte_nfa.specs.EarlyMatches.{Decides, EndsAtEarlyMatches};
 ghost use Rattle.byte_nfa.specs.Runs.{size};
-ghost use Rattle.byte_nfa.specs.Steps.{state, match_state};
+ghost use Rattle.byte_nfa.specs.inner.Exits.{TellDecisions};
 
 use crate::nfa::Nfa;
 use crate::state::State;
@@ -12,7 +12,7 @@ use std::alloc::AllocError;
 impl Nfa {
     /// Returns the automaton in which each state that decides an index `k` is an end, of the index `index_count + k`.
     ///
-    /// A state decides an index if it stays on every byte and goes on to an end of that index alone. A text leads to an end
+    /// A state decides an index if it stays on every byte and goes on to an end of that index alone, or to a state that decides it. A text leads to an end
     /// of the index exactly if in the new automaton it does, or some beginning of it leads to an end of the index
     /// `index_count + k`. Returns `None` if twice as many indexes are too many for a `usize`, and an error if memory runs out.
     pub fn with_early_matches(&self) -> Result<Option<Nfa>, AllocError>
@@ -26,7 +26,7 @@ impl Nfa {
         let alloc = *self.states.allocator();
         let mut states = Vec::new(alloc);
         for s in 0..self.states.len() {
-            let state = match self.early_match(s) {
+            let state = match self.early_match(s, &states) {
                 Some(index) => State::Match(self.index_count + index),
                 None => self.states[s],
             };
@@ -38,25 +38,19 @@ impl Nfa {
         Ok(Some(Nfa::from_parts(states, sets, targets, starts, index_count)))
     }
 
-    /// Returns the index that a state decides.
-    fn early_match(&self, s: usize) -> Option<usize>
-        requires { s < size self.now }
+    /// Returns the index that a state decides, by what stands in the new automaton for the states below it.
+    fn early_match(&self, s: usize, below: &Vec<State>) -> Option<usize>
+        requires exists { s < size self.now }
+        requires len { s ≤ length below.now.items }
+        requires below { TellDecisions self.now.states self.now.index_count s below.now.items }
         ensures { MatchOption result ((k : ℕ) → Decides self.now.states s k → ⊥)
             (λ k. Decides self.now.states s k × (k < self.now.index_count)) }
     {
-        match self.states[s].only_exit(s, &self.sets) {
-            Some(exit) => self.index_of(exit),
-            None => None,
-        }
-    }
-
-    /// Returns the index of a state, if it is an end.
-    fn index_of(&self, s: usize) -> Option<usize>
-        requires { s < size self.now }
-        ensures { MatchOption result ((k : ℕ) → state self.now.states s ≡ match_state k → ⊥)
-            (λ k. (state self.now.states s ≡ match_state k) × (k < self.now.index_count)) }
-    {
-        match self.states[s] {
+        let Some(exit) = self.states[s].only_exit(s, &self.sets) else {
+            return None;
+        };
+        match below[exit] {
+            State::Match(index) if index >= self.index_count => Some(index - self.index_count),
             State::Match(index) => Some(index),
             _ => None,
         }

@@ -7,6 +7,7 @@ use Rattle.bit_sets.specs.Numbers.{has_number, AreBelow}
 use Rattle.bit_sets.specs.StateSets.{has_state}
 use Rattle.bit_sets.specs.Texts.{AllBytes}
 use Rattle.bit_sets.specs.declared.state_set.StateSet.{StateSet}
+use Rattle.byte_nfa.proofs.lemmas.EarlyMatches.{decided_small}
 use Rattle.byte_nfa.proofs.lemmas.Live.{after_byte}
 use Rattle.byte_nfa.proofs.lemmas.Pass.{or_first, or_second}
 use Rattle.byte_nfa.specs.EarlyMatches.{IsAtEarlyMatch, EndsAtEarlyMatches}
@@ -51,10 +52,10 @@ pub index_below : (old m : NfaValue) → EndsAtEarlyMatches old m → (k s : ℕ
 index_below old m made k s y (ends s' e) = ended (made.states s)
   where
     ended : IsAtEarlyMatch old.states old.index_count s (state m.states s) → k < half m + half m
-    ended (inl (j, (w, t, e', every, g), f)) =
+    ended (inl (j, decides, f)) =
         let both : match_state k ≡ match_state (old.index_count + j) = sym e ∙ f in
         let is : k ≡ old.index_count + j = cc in
-        let lt = made.below t j g in
+        let lt = decided_small old.states old.index_count made.below s j decides in
         let two = made.index_count in
         omega arith
     ended (inr (none, f)) = let lt = made.below s k (sym f ∙ e) in let two = made.index_count in omega arith

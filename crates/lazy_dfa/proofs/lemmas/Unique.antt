@@ -1,14 +1,27 @@
 -- There is one automaton with ends in place of the states of another that decide an index.
-use Rattle.std.proofs.Common.{◌≡◌, ℕ, suc, ◌+◌, inl, inr, List, [], ◌∷◌, length, refl, ap, sym, ◌∙◌, arith}
+use Rattle.std.proofs.Common.{◌≡◌, ℕ, suc, ◌+◌, inl, inr, List, [], ◌∷◌, length, refl, ap, sym, ◌∙◌, subst, arith}
 use Rattle.byte_nfa.specs.Steps.{State, loop_state, match_state, state, NfaValue}
-use Rattle.byte_nfa.specs.EarlyMatches.{Decides, IsAtEarlyMatch, EndsAtEarlyMatches}
+use Rattle.bit_sets.specs.declared.byte_set.ByteSet.{ByteSet}
+use Rattle.byte_nfa.specs.EarlyMatches.{Decides, before_end, before_other, IsAtEarlyMatch, EndsAtEarlyMatches}
+use Rattle.byte_nfa.proofs.lemmas.EarlyMatches.{exit_of}
+
+same_exit : (a : List State) (s t t' : ℕ) (w w' : ByteSet) → state a s ≡ loop_state w (t ∷ []) → state a s ≡ loop_state w' (t' ∷ []) → t ≡ t'
+same_exit a s t t' w w' e e' = let same : loop_state w (t ∷ []) ≡ loop_state w' (t' ∷ []) = sym e ∙ e' in cc
+
+no_end : (a : List State) (t k j : ℕ) → state a t ≡ match_state k → Decides a t j → ⊥
+no_end a t k j f decides = let (w, u, e, every, g) = exit_of a t j decides in let no : match_state k ≡ loop_state w (u ∷ []) = sym f ∙ e in cc
 
 decided_once : (a : List State) (s k j : ℕ) → Decides a s k → Decides a s j → k ≡ j
-decided_once a s k j (w, t, e, every, f) (w', t', e', every', f') =
-    let same : loop_state w (t ∷ []) ≡ loop_state w' (t' ∷ []) = sym e ∙ e' in
-    let is : t ≡ t' = cc in
+decided_once a s k j (before_end s1 k1 t w e every f) (before_end s2 k2 t' w' e' every' f') =
+    let is = same_exit a s t t' w w' e e' in
     let both : match_state k ≡ match_state j = sym f ∙ ap (state a) is ∙ f' in
     cc
+decided_once a s k j (before_end s1 k1 t w e every f) (before_other s2 k2 t' w' e' every' d') =
+    absurd (no_end a t' k j (sym (ap (state a) (same_exit a s t t' w w' e e')) ∙ f) d')
+decided_once a s k j (before_other s1 k1 t w e every d) (before_end s2 k2 t' w' e' every' f') =
+    absurd (no_end a t j k (ap (state a) (same_exit a s t t' w w' e e') ∙ f') d)
+decided_once a s k j (before_other s1 k1 t w e every d) (before_other s2 k2 t' w' e' every' d') =
+    decided_once a t k j d (subst (λ u. Decides a u j) (sym (same_exit a s t t' w w' e e')) d')
 
 one_state : (a : List State) (n s : ℕ) (st st' : State) → IsAtEarlyMatch a n s st → IsAtEarlyMatch a n s st' → st ≡ st'
 one_state a n s st st' (inl (k, decides, is)) (inl (j, decides', is')) = is ∙ ap (λ i. match_state (n + i)) (decided_once a s k j decides decides') ∙ sym is'

@@ -1,9 +1,13 @@
-use Rattle.std.proofs.Common.{[], ◌<◌, length, arith, ap, subst}
+use Rattle.std.proofs.Common.{◌≡◌, [], ◌<◌, ◌-◌, ◌∙◌, length, arith, ap, sym, subst}
+use Rattle.std.specs.Prelude.{slice_index_or}
 use Rattle.std.proofs.lemmas.List.{length-map}
 use Rattle.byte_nfa.specs.Runs.{size}
+use Rattle.byte_nfa.specs.Steps.{NfaValue}
+use Rattle.byte_nfa.specs.declared.state.State.TheVariants.{Match}
+use Rattle.byte_nfa.specs.inner.Exits.{TellsDecision, IsNoEnd}
 use Rattle.byte_nfa.specs.inner.Views.{GoesBelow, of_state}
 use Rattle.byte_nfa.proofs.lemmas.Reading.{held_at, state_at, read_state}
-use Rattle.byte_nfa.proofs.lemmas.EarlyMatches.{always_matches_none, always_matches_by}
+use Rattle.byte_nfa.proofs.lemmas.EarlyMatches.{always_matches_none, decides_end, decides_other, decides_none, tells_none}
 use Rattle.byte_nfa.proofs.nfa.Nfa.early_match.Goals as goal
 
 pub only_exit-requires : goal.only_exit-requires
@@ -11,7 +15,7 @@ only_exit-requires c =
     let sets = c.self.inside.sets.items in
     let targets = c.self.inside.targets.items in
     let states = c.self.inside.states.items in
-    let lt : c.args.s < length states = omega (arith, c.requires, ap size c.self.view_is, length-map states (of_state sets targets)) in
+    let lt : c.args.s < length states = omega (arith, c.requires.exists, ap size c.self.view_is, length-map states (of_state sets targets)) in
     rw c.deref.ensures.value record {
       below = (
         targets,
@@ -20,28 +24,61 @@ only_exit-requires c =
       );
     }
 
-pub returns-in-None : goal.returns-in-None
-returns-in-None c =
+pub index-requires-2 : goal.index-requires-2
+index-requires-2 c = omega (arith, (c.in-Some.ensures.exit []).1, c.requires.len)
+
+pub returns-in_default : goal.returns-in_default
+returns-in_default c =
     let inside = c.self.inside in
     let sets = inside.sets.items in
     let targets = inside.targets.items in
     let states = inside.states.items in
     let m = c.args.self.now in
-    let lt : c.args.s < length states = omega (arith, c.requires, ap size c.self.view_is, length-map states (of_state sets targets)) in
+    let lt : c.args.s < length states = omega (arith, c.requires.exists, ap size c.self.view_is, length-map states (of_state sets targets)) in
     let is = read_state m sets targets states inside.starts.items inside.index_count c.args.s c.index.result.now c.self.view_is lt c.index.ensures in
-    always_matches_none m.states c.args.s (of_state sets targets c.index.result.now) is (rw c.deref.ensures.value at c.in-None.ensures.exit targets)
+    always_matches_none m.states c.args.s (of_state sets targets c.index.result.now) is (rw c.deref.ensures.value at c.in_default.ensures.exit targets)
 
-pub returns-in-Some : goal.returns-in-Some
-returns-in-Some c =
+pub returns-in-Match : goal.returns-in-Match
+returns-in-Match c =
     let inside = c.self.inside in
     let sets = inside.sets.items in
     let targets = inside.targets.items in
     let states = inside.states.items in
     let m = c.args.self.now in
-    let lt : c.args.s < length states = omega (arith, c.requires, ap size c.self.view_is, length-map states (of_state sets targets)) in
+    let n : inside.index_count ≡ m.index_count = ap (λ (o : NfaValue). o.index_count) c.self.view_is in
+    let lt : c.args.s < length states = omega (arith, c.requires.exists, ap size c.self.view_is, length-map states (of_state sets targets)) in
     let is = read_state m sets targets states inside.starts.items inside.index_count c.args.s c.index.result.now c.self.view_is lt c.index.ensures in
-    let exit = rw c.deref.ensures.value at (c.in-Some.ensures.exit targets).0 in
-    always_matches_by m.states m.index_count c.args.s c.in-Some.exit (of_state sets targets c.index.result.now) c.index_of.result is exit c.index_of.ensures
+    let exit = rw c.deref.ensures.value at (c.in-Some.ensures.exit targets) in
+    let tells = c.requires.below c.in-Some.exit c.index-2.result.now exit.1 c.index-2.ensures in
+    decides_other m.states m.index_count c.args.s c.in-Some.exit (of_state sets targets c.index.result.now) is exit.0 c.in-Match.index (c.in-Match.index - inside.index_count)
+    (subst (TellsDecision m.states m.index_count c.in-Some.exit) c.in-Match.is tells) (omega (arith, n, c.if-index-self.true)) (omega (arith, n))
 
-pub index_of-requires : goal.index_of-requires
-index_of-requires c = omega (arith, (c.in-Some.ensures.exit []).1)
+pub returns-in-Match-2 : goal.returns-in-Match-2
+returns-in-Match-2 c =
+    let inside = c.self.inside in
+    let sets = inside.sets.items in
+    let targets = inside.targets.items in
+    let states = inside.states.items in
+    let m = c.args.self.now in
+    let n : inside.index_count ≡ m.index_count = ap (λ (o : NfaValue). o.index_count) c.self.view_is in
+    let lt : c.args.s < length states = omega (arith, c.requires.exists, ap size c.self.view_is, length-map states (of_state sets targets)) in
+    let is = read_state m sets targets states inside.starts.items inside.index_count c.args.s c.index.result.now c.self.view_is lt c.index.ensures in
+    let same : c.in-Match-2.index ≡ c.in-Match.index = (let h : Match c.in-Match-2.index ≡ Match c.in-Match.index = sym c.in-Match-2.is ∙ c.in-Match.is in cc) in
+    let exit = rw c.deref.ensures.value at (c.in-Some.ensures.exit targets) in
+    let tells = c.requires.below c.in-Some.exit c.index-2.result.now exit.1 c.index-2.ensures in
+    decides_end m.states m.index_count c.args.s c.in-Some.exit (of_state sets targets c.index.result.now) is exit.0 c.in-Match-2.index
+    (subst (TellsDecision m.states m.index_count c.in-Some.exit) c.in-Match-2.is tells) (omega (arith, n, c.if-index-self.false, same))
+
+pub returns-in_default-index : goal.returns-in_default-index
+returns-in_default-index c =
+    let inside = c.self.inside in
+    let sets = inside.sets.items in
+    let targets = inside.targets.items in
+    let states = inside.states.items in
+    let m = c.args.self.now in
+    let lt : c.args.s < length states = omega (arith, c.requires.exists, ap size c.self.view_is, length-map states (of_state sets targets)) in
+    let is = read_state m sets targets states inside.starts.items inside.index_count c.args.s c.index.result.now c.self.view_is lt c.index.ensures in
+    let exit = rw c.deref.ensures.value at (c.in-Some.ensures.exit targets) in
+    let tells = c.requires.below c.in-Some.exit c.index-2.result.now exit.1 c.index-2.ensures in
+    decides_none m.states m.index_count c.args.s c.in-Some.exit (of_state sets targets c.index.result.now) is exit.0
+    (tells_none m.states m.index_count c.in-Some.exit c.index-2.result.now c.in_default-index.not-Match tells)

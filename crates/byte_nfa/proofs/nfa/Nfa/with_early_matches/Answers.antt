@@ -4,7 +4,7 @@ use Rattle.byte_nfa.specs.Steps.{NfaValue, state}
 use Rattle.byte_nfa.specs.Runs.{size}
 use Rattle.bit_sets.specs.Numbers.{AreBelow}
 use Rattle.byte_nfa.specs.inner.Views.{of_state, NamesBelow, nfa}
-use Rattle.byte_nfa.proofs.lemmas.EarlyMatches.{AreEarlyMatches, decided_more, same_more, all_decisions}
+use Rattle.byte_nfa.proofs.lemmas.EarlyMatches.{AreEarlyMatches, decided_more, tell_decisions, same_more, all_decisions}
 use Rattle.byte_nfa.proofs.nfa.Nfa.with_early_matches.Goals as goal
 use Rattle.byte_nfa.proofs.nfa.Nfa.with_early_matches.Goals.{in-Some-early_match, in-None}
 
@@ -75,7 +75,16 @@ overflow_add-state c = omega (arith, c.in-Some.ensures.0, c.in-Some-early_match.
 pub early_match-requires : goal.early_match-requires
 early_match-requires c =
     let inside = c.self.inside in
-    omega (arith, c.loop-s-test.true, c.len-s-end.ensures, inside.states.ok.0, ap size c.self.view_is, length-map inside.states.items (of_state inside.sets.items inside.targets.items))
+    let inv = c.loop-s.invariant in
+    let m = c.args.self.now in
+    let sets = inside.sets.items in
+    let targets = inside.targets.items in
+    let so_far : AreEarlyMatches m sets targets c.loop-s.states.items c.loop-s.s = record { len = inv.len; sound = inv.sound; states = inv.states } in
+    record {
+      exists = omega (arith, c.loop-s-test.true, c.len-s-end.ensures, inside.states.ok.0, ap size c.self.view_is, length-map inside.states.items (of_state sets targets));
+      len = omega (arith, inv.len);
+      below = tell_decisions m sets targets inside.states.items inside.starts.items inside.index_count c.self.view_is c.self.invariant c.loop-s.states.items c.loop-s.s so_far;
+    }
 
 pub index-requires : goal.index-requires
 index-requires c = rw c.len-s-end.ensures at c.loop-s-test.true
