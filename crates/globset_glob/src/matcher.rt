@@ -24,11 +24,11 @@ use strategy::Strategy;
 
 /// Tells whether a glob matches a path.
 ///
-/// Contracts see a matcher as its glob. If the glob's literals decide alone, as those of `*.rs` and `src/**` do, it compares them
-/// with the path or a part of it. Otherwise it has an automaton for the glob, which is made with it, and a deterministic one if
-/// that is not too large. If it is, calls make parts of it as they need them, in at most four caches that the matcher and its
-/// clones keep until they are dropped; [`GlobMatcher::kept_bytes`] returns how many bytes these take. A [`MatcherSearcher`] has
-/// one of its own.
+/// Contracts see a matcher as its glob. If the glob's literals decide alone, as those of `*.rs` and `src/**` do, it compares
+/// them with the path or a part of it. Otherwise it has an automaton for the glob, which is made with it, and a deterministic
+/// one if that is not too large. If it is, calls make parts of it as they need them, in at most four caches that the matcher
+/// and its clones keep until they are dropped; [`GlobMatcher::kept_bytes`] returns how many bytes these take. A
+/// [`MatcherSearcher`] has one of its own.
 ///
 /// ```rust
 /// use globset::Glob;
@@ -84,8 +84,8 @@ impl GlobMatcher {
         &self.glob
     }
 
-    /// Returns how many bytes of memory the matcher keeps between calls, for rows of its automaton. It is 0 in a new matcher, and
-    /// where the automaton has a table or none is needed. Clones share this memory.
+    /// Returns how many bytes of memory the matcher keeps between calls, for rows of its automaton. It is 0 in a new matcher,
+    /// and where the automaton has a table or none is needed. Clones share this memory.
     pub fn kept_bytes(&self) -> usize {
         self.strategy.kept_bytes()
     }
@@ -119,9 +119,9 @@ impl GlobMatcher {
     /// Does what [`is_match_candidate`](GlobMatcher::is_match_candidate) does, and adds its visits to `visits`.
     ///
     /// These are at most `(path bytes + 1) * (4 * glob bytes + 4)` visits, with `16 * glob bytes + 4` in place of the second
-    /// factor under `whole_character`, also if memory runs out. The call allocates nothing if the matcher compares literals or has
-    /// a deterministic automaton, and otherwise, if there is no cache for it, one, or two sets of states, of one bit for each state
-    /// of the automaton.
+    /// factor under `whole_character`, also if memory runs out. The call allocates nothing if the matcher compares literals or
+    /// has a deterministic automaton, and otherwise, if there is no cache for it, one, or two sets of states, of one bit for
+    /// each state of the automaton.
     pub fn is_match_visits(&self, path: &Candidate<'_>, visits: &mut Visits) -> Result<bool, Error>
         ensures ok { IfOk result (λ yes. yes ≡ glob_matches self.now path.now) }
         ensures err { IsOkUnless result out_of_memory }
@@ -132,8 +132,8 @@ impl GlobMatcher {
         Ok(self.is_match_in(path, &mut sets, visits)?)
     }
 
-    /// The same, in sets of the caller. Returns an error if memory runs out, and none if the sets have room for as many states as
-    /// the automaton of such a glob may have.
+    /// The same, in sets of the caller. Returns an error if memory runs out, and none if the sets have room for as many states
+    /// as the automaton of such a glob may have.
     fn is_match_in(
         &self,
         path: &Candidate<'_>,
@@ -149,7 +149,8 @@ impl GlobMatcher {
         self.strategy.is_match(path, sets, &mut None, visits)
     }
 
-    /// Does what [`is_match_visits`](GlobMatcher::is_match_visits) does, in the caller's memory: it takes none, and cannot fail.
+    /// Does what [`is_match_visits`](GlobMatcher::is_match_visits) does, in the caller's memory: it takes none, and cannot
+    /// fail.
     ///
     /// The scratch has to fit the matcher, as `Scratch::fits` tells. It then fits what it fitted before. The call adds
     /// no more visits than `is_match_visits` may.
@@ -180,9 +181,9 @@ impl GlobMatcher {
 
     /// Returns whether the glob matches some path below a folder, or an error if memory runs out.
     ///
-    /// A path below a folder is the folder, a `/`, and any bytes, perhaps none. So a program that walks over a tree of folders need
-    /// not open one for which this returns false. The folder is taken as it is: below `a/` are the paths that begin with `a//`, and
-    /// below the empty folder those that begin with `/`.
+    /// A path below a folder is the folder, a `/`, and any bytes, perhaps none. So a program that walks over a tree of folders
+    /// need not open one for which this returns false. The folder is taken as it is: below `a/` are the paths that begin with
+    /// `a//`, and below the empty folder those that begin with `/`.
     ///
     /// For a folder that is not UTF-8, or that several matchers are asked about, make a [`Candidate`].
     ///
@@ -201,8 +202,8 @@ impl GlobMatcher {
         self.can_match_below_candidate(&Candidate::new(folder.path_text()))
     }
 
-    /// Returns whether the glob matches some path below a candidate's path, as [`can_match_below`](GlobMatcher::can_match_below)
-    /// does, or an error if memory runs out.
+    /// Returns whether the glob matches some path below a candidate's path, as
+    /// [`can_match_below`](GlobMatcher::can_match_below) does, or an error if memory runs out.
     pub fn can_match_below_candidate(&self, folder: &Candidate<'_>) -> Result<bool, Error>
         ensures ok { IfOk result (λ yes. IsTrue yes ↔ GlobMatchesBelow self.now folder.now) }
         ensures err { IsOkUnless result out_of_memory }
@@ -214,8 +215,8 @@ impl GlobMatcher {
     /// Does what [`can_match_below_candidate`](GlobMatcher::can_match_below_candidate) does, and adds its visits to `visits`.
     ///
     /// These are at most `(folder bytes + 2) * (4 * glob bytes + 4)` visits, with `16 * glob bytes + 4` in place of the second
-    /// factor under `whole_character`, also if memory runs out. The call allocates nothing if the matcher compares literals or has
-    /// a deterministic automaton, and otherwise two sets of states, of one bit for each state of the automaton.
+    /// factor under `whole_character`, also if memory runs out. The call allocates nothing if the matcher compares literals or
+    /// has a deterministic automaton, and otherwise two sets of states, of one bit for each state of the automaton.
     pub fn can_match_below_visits(
         &self,
         folder: &Candidate<'_>,
@@ -231,8 +232,8 @@ impl GlobMatcher {
         Ok(strategy.can_match_below(folder, &mut sets, &mut None, visits)?)
     }
 
-    /// Returns a matcher for an equal glob. It copies the glob, and shares its automaton. Returns an error if memory runs out or if 2^63
-    /// matchers share the automaton, and in no other case.
+    /// Returns a matcher for an equal glob. It copies the glob, and shares its automaton. Returns an error if memory runs out
+    /// or if 2^63 matchers share the automaton, and in no other case.
     pub fn clone(&self) -> Result<GlobMatcher, Error>
         ensures ok { IfOk result (λ m. m ≡ self.now) }
         ensures err { IsOkUnless result out_of_memory }

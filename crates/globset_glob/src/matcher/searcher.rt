@@ -148,8 +148,8 @@ impl MatcherSearcher {
         self.can_match_below_visits(folder, &mut visits)
     }
 
-    /// Does what [`can_match_below`](MatcherSearcher::can_match_below) does, and adds its visits to `visits`: at most as many as
-    /// [`GlobMatcher::can_match_below_visits`] may.
+    /// Does what [`can_match_below`](MatcherSearcher::can_match_below) does, and adds its visits to `visits`: at most as many
+    /// as [`GlobMatcher::can_match_below_visits`] may.
     pub fn can_match_below_visits(&mut self, folder: &Candidate<'_>, visits: &mut Visits) -> bool
         ensures some { IsTrue result ↔ GlobMatchesBelow self.old folder.now }
         ensures kept { self.new ≡ self.old }

@@ -143,8 +143,8 @@ impl Strategy {
         }
     }
 
-    /// Returns the strategy of an equal glob: the same automaton, which is shared, or the key once more. Returns an error if memory runs
-    /// out.
+    /// Returns the strategy of an equal glob: the same automaton, which is shared, or the key once more. Returns an error if
+    /// memory runs out.
     pub fn copy_for(&self, glob: &Glob) -> Result<Strategy, AllocError>
         requires { IsStrategyOfMatcher glob.now self.now }
         ensures { IfOk result (IsStrategyOfMatcher glob.now) }
