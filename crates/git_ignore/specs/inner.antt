@@ -3,4 +3,3 @@ pub mod FileValue
 pub mod FolderParts
 pub mod Stacks
 pub mod StackParts
-pub mod StoredValue

@@ -1,8 +1,6 @@
 //! The rules of a file, with a searcher of them where there is memory for one.
 
-ghost use Rattle.std.specs.Prelude.{◌≡◌, true, OnOk, OnErr, IsOkUnless};
-ghost use Rattle.globset.specs.Errors.{out_of_memory};
-ghost use Rattle.git_ignore.specs.FolderDecisions.{ArePut};
+ghost use Rattle.std.specs.Prelude.{◌≡◌};
 ghost use Rattle.git_ignore.specs.Rules.{decision};
 ghost use Rattle.git_ignore.specs.RulesValue.{FitsRules};
 ghost use Rattle.git_ignore.specs.inner.FileValue.{file_value};
@@ -11,7 +9,6 @@ use crate::decision::Decision;
 use crate::rules::Rules;
 use crate::scratch::IgnoreScratch;
 use crate::searcher::RulesSearcher;
-use globset::Error;
 use std::alloc::Global;
 
 /// The rules of a file, by what decides about paths. Contracts see the same of both.
@@ -54,28 +51,6 @@ impl FileRules {
         match self {
             FileRules::WithSearcher(searcher) => searcher.decide(path, is_folder),
             FileRules::WithScratch(rules) => rules.decide(path, is_folder, scratch),
-        }
-    }
-
-    /// Decides about all folders above a path at once, as [`Rules::decide_folders`] does.
-    pub fn decide_folders(
-        &mut self,
-        path: &[u8],
-        start: usize,
-        decisions: &mut [Decision],
-    ) -> Result<(), Error>
-        ensures put { OnOk result
-            (ArePut (λ folder. decision (file_value self.old).file folder true) path.now start
-            decisions.old decisions.new) }
-        ensures kept { self.new ≡ self.old }
-        ensures err { IsOkUnless result out_of_memory }
-    {
-        match self {
-            FileRules::WithSearcher(searcher) => {
-                searcher.decide_folders(path, start, decisions);
-                Ok(())
-            }
-            FileRules::WithScratch(rules) => rules.decide_folders(path, start, decisions),
         }
     }
 }

@@ -75,7 +75,6 @@ mod decision;
 mod entry;
 mod file_rules;
 mod folder_rules;
-mod folders;
 mod reading;
 mod rules;
 mod scratch;

@@ -9,11 +9,10 @@ ghost use Rattle.git_ignore.specs.Rules.{Rule, rules_from};
 ghost use Rattle.git_ignore.specs.inner.Entries.{AddsRules, AreEntriesOf, rule_at};
 
 use crate::entry::RuleEntry;
-use glob_prefixes::{PrefixMatcher, PrefixMatcherBuilder};
 use globset::{Error, Glob, GlobSet, GlobSetBuilder};
 use ignore_pattern::{IgnorePattern, pattern_of_line};
 use memchr::memchr;
-use std::alloc::{AllocError, Global};
+use std::alloc::Global;
 
 /// What some editors put at the start of a text.
 const BYTE_ORDER_MARK: &[u8] = b"\xef\xbb\xbf";
@@ -132,17 +131,6 @@ impl RulesBuilder {
         }
         Ok(self.unread.push(number)?)
     }
-}
-
-/// Returns a matcher of globs that answers for each prefix of a path. Returns an error if memory runs out.
-pub fn prefix_matcher(alloc: Global, globs: &[Glob]) -> Result<PrefixMatcher, AllocError>
-    ensures { IfOk result (λ m. m.globs ≡ globs.now) }
-{
-    let mut builder = PrefixMatcherBuilder::new(alloc, globs.len());
-    for glob in globs {
-        builder.add(glob)?;
-    }
-    builder.finish()
 }
 
 /// Returns the set of globs. Returns an error if memory runs out, and no other.

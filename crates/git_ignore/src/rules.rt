@@ -7,7 +7,6 @@ ghost use Rattle.git_ignore.specs.FolderDecisions.{ArePut};
 ghost use Rattle.git_ignore.specs.Rules.{deciding_line, decision, last_rule, rules_of};
 ghost use Rattle.git_ignore.specs.RulesValue.{FitsRules};
 ghost use Rattle.git_ignore.specs.inner.Entries.{entry_of_rule};
-ghost use Rattle.git_ignore.specs.inner.StoredValue.{rules_value};
 
 use crate::decision::Decision;
 use crate::entry::{RuleEntry, decision_by, line_by};
@@ -43,11 +42,10 @@ impl Drop for Rules {
 impl Model for Rules {
     ghost use Rattle.std.specs.Arc.{arc_value};
     ghost use Rattle.git_ignore.specs.RulesValue.{RulesValue};
-    ghost use Rattle.git_ignore.specs.inner.StoredValue.{rules_value};
 
     ghost Value = { RulesValue };
 
-    ghost view = { λ r. rules_value (arc_value r.stored) };
+    ghost view = { λ r. arc_value r.stored };
 }
 
 impl Rules {
@@ -110,15 +108,15 @@ impl Rules {
         Ok(self.deciding_line(path, is_folder, &mut scratch))
     }
 
-    /// Decides about all folders above a path at once, by one pass over the path.
+    /// Decides about each folder above a path, as [`Rules::decide`] does, from the highest one down.
     ///
     /// The decision about a folder is put at the index of the `/` after it in the path, unless there is one already: an item that is
     /// not [`Decision::Undecided`] stays as it is. So calls for several files, those of deeper folders first, find what the files
     /// say together. The path below the folder of the file begins at `start`, and folders that end before are left out, as are those
     /// for which `decisions` is too short. The items at other bytes and those beyond the path stay as they are.
     ///
-    /// It takes memory for the states of an automaton of all globs. A byte of the path takes as many steps as this is in states, 64 in
-    /// one word together. Returns an error if memory runs out, and no other; nothing is put then.
+    /// Each folder takes a pass over its whole path, with a scratch of the call's own. Returns an error if memory runs out, and
+    /// no other; nothing is put then.
     pub fn decide_folders(
         &self,
         path: &[u8],
@@ -131,9 +129,12 @@ impl Rules {
         ensures kept { OnErr result (decisions.new ≡ decisions.old) }
         ensures err { IsOkUnless result out_of_memory }
     {
-        let mut states = self.stored.new_states(self.stored.allocator())?;
-        self.stored
-            .put_decisions(&mut states, path, start, decisions);
+        let mut scratch = IgnoreScratch::new(self.stored.allocator(), self)?;
+        for end in start..path.len().min(decisions.len()) {
+            if path[end] == b'/' && decisions[end].is_undecided() {
+                decisions[end] = self.decide(&path[start..end], true, &mut scratch);
+            }
+        }
         Ok(())
     }
 
@@ -176,7 +177,7 @@ impl Rules {
 
     /// Returns what searchers share with the rules. Returns an error if 2^63 values share it, and in no other case.
     pub(crate) fn share(&self) -> Result<Arc<StoredRules>, AllocError>
-        ensures { IfOk result (λ stored. rules_value (arc_value stored) ≡ self.now) }
+        ensures { IfOk result (λ stored. arc_value stored ≡ self.now) }
     {
         Arc::try_clone(&self.stored)
     }

@@ -10,7 +10,6 @@ use crate::decision::Decision;
 use crate::entry::{RuleEntry, decision_by, line_by};
 use crate::rules::Rules;
 use crate::stored::StoredRules;
-use glob_prefixes::PrefixStates;
 use globset::{Candidate, Error, Searcher};
 use std::alloc::Global;
 use std::marker::Model;
@@ -41,7 +40,6 @@ use std::sync::Arc;
 pub struct RulesSearcher {
     stored: Arc<StoredRules>,
     searcher: Searcher,
-    states: PrefixStates,
 }
 
 impl Drop for RulesSearcher {
@@ -50,7 +48,6 @@ impl Drop for RulesSearcher {
         let RulesSearcher {
             stored: _,
             searcher: _,
-            states: _,
         } = self;
     }
 }
@@ -58,20 +55,18 @@ impl Drop for RulesSearcher {
 impl Model for RulesSearcher {
     ghost use Rattle.std.specs.Arc.{arc_value};
     ghost use Rattle.std.specs.Prelude.{◌≡◌};
-    ghost use Rattle.glob_prefixes.specs.Prefixes.{FitsPrefixes};
     ghost use Rattle.git_ignore.specs.RulesValue.{RulesValue};
-    ghost use Rattle.git_ignore.specs.inner.StoredValue.{rules_value};
 
     ghost Value = { RulesValue };
 
-    ghost view = { λ s. rules_value (arc_value s.stored) };
+    ghost view = { λ s. arc_value s.stored };
 
-    ghost invariant = { λ s. (s.searcher.set ≡ (arc_value s.stored).set) × FitsPrefixes s.states (arc_value s.stored).prefixes };
+    ghost invariant = { λ s. s.searcher.set ≡ (arc_value s.stored).set };
 }
 
 impl RulesSearcher {
-    /// Returns a searcher of the rules, which shares what they match with. It takes as much memory as a [`Searcher`] of their globs,
-    /// and for [`RulesSearcher::decide_folders`] a few bits for each byte of the globs, and eight bytes for each glob.
+    /// Returns a searcher of the rules, which shares what they match with. It takes as much memory as a [`Searcher`] of their
+    /// globs.
     ///
     /// Returns an error if memory runs out or 2^63 searchers share the rules, and in no other case.
     pub fn new(alloc: Global, rules: &Rules) -> Result<RulesSearcher, Error>
@@ -80,12 +75,7 @@ impl RulesSearcher {
     {
         let stored = rules.share()?;
         let searcher = Searcher::new(alloc, stored.set())?;
-        let states = stored.new_states(alloc)?;
-        Ok(RulesSearcher {
-            stored,
-            searcher,
-            states,
-        })
+        Ok(RulesSearcher { stored, searcher })
     }
 
     /// Returns how many bytes of memory the [`Searcher`] takes, as [`Searcher::bytes`] counts them.
@@ -109,14 +99,17 @@ impl RulesSearcher {
         line_by(self.last_entry(path, is_folder))
     }
 
-    /// Decides about all folders above a path at once, as [`Rules::decide_folders`] does.
+    /// Decides about each folder above a path, as [`Rules::decide_folders`] does.
     pub fn decide_folders(&mut self, path: &[u8], start: usize, decisions: &mut [Decision])
         ensures put { ArePut (λ folder. decision self.old.file folder true) path.now start
             decisions.old decisions.new }
         ensures kept { self.new ≡ self.old }
     {
-        self.stored
-            .put_decisions(&mut self.states, path, start, decisions);
+        for end in start..path.len().min(decisions.len()) {
+            if path[end] == b'/' && decisions[end].is_undecided() {
+                decisions[end] = self.decide(&path[start..end], true);
+            }
+        }
     }
 
     /// Returns the entry of the last rule that applies to a path.

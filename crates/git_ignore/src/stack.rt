@@ -34,9 +34,8 @@ pub struct FolderLevel {
 /// whatever matches it.
 ///
 /// Whether a folder is ignored is kept when it is entered. So the name of an entry costs one pass over its path for each ignore file
-/// above it. A path below folders that were not entered costs such a pass for each of the first 256 of these too, and for the others
-/// together one further pass for each file: so the cost is linear in the bytes of the path, however many folders it has. The further
-/// pass takes memory for a decision at each byte of the path, and for the states of an automaton of the file's globs.
+/// above it. A path below folders that were not entered costs such passes over the path of each of these folders too, down to
+/// the first one that is ignored: so N of them take time that grows with the square of N.
 ///
 /// A file is asked by a [`crate::RulesSearcher`] if there is memory for it, and the searchers of all files take at most 8 MB together,
 /// as [`crate::RulesSearcher::bytes`] counts. Other files are asked with an [`IgnoreScratch`] that all of them share.
@@ -160,8 +159,7 @@ impl IgnoreStack {
     ///
     /// A folder that the path names above its last component counts, too: below one that is ignored, the path is ignored.
     ///
-    /// Returns an error if memory runs out, and no other: the folder's path is put before it, and a path with more than 256
-    /// folders takes memory for decisions about them.
+    /// Returns an error if memory runs out, and no other: the folder's path is put before it.
     pub fn decide(&mut self, path: &[u8], is_folder: bool) -> Result<Decision, Error>
         ensures decision { IfOk result
             (λ d. d ≡ decision_below (stack_files self.old) (self.old.here.path ++ path.now)
@@ -175,7 +173,6 @@ impl IgnoreStack {
         let start = self.folder.len();
         self.folder.extend_from_slice(path)?;
         let decision = decide_below(
-            self.alloc,
             &mut self.files,
             &self.folder,
             start,
@@ -183,7 +180,7 @@ impl IgnoreStack {
             &mut self.scratch,
         );
         self.folder.truncate(start);
-        decision
+        Ok(decision)
     }
 
     /// Goes down into a folder of this name, which is ignored or not. Returns an error if memory runs out; nothing changed then.

@@ -1,10 +1,8 @@
 //! Which line of several ignore files decides about a path.
 
 use super::ignore_file::{DecidingLine, IgnoreFile};
-use super::walk::has_few_folders;
 use crate::output::Output;
 use crate::paths::Paths;
-use git_ignore::Decision;
 use std::alloc::{AllocError, Global};
 
 /// A line, and the index of its file.
@@ -26,7 +24,7 @@ pub fn push_deciding(
     let end = if ends_in_nul { b'\0' } else { b'\n' };
     for given in paths.ended_by(end) {
         let path = given.strip_suffix(b"/").unwrap_or(given);
-        let found = deciding_below(alloc, files, path, path.len() < given.len())?;
+        let found = deciding_below(files, path, path.len() < given.len());
         push_found(alloc, files, found, ends_in_nul, output)?;
         output.push(&[given, &[end]])?;
     }
@@ -85,47 +83,16 @@ fn push_fields(
 }
 
 /// Returns the line that decides about a path: the one that ignores the highest folder above it that is ignored, if there is one.
-/// Returns an error if memory runs out.
-fn deciding_below(
-    alloc: Global,
-    files: &mut [IgnoreFile],
-    path: &[u8],
-    is_folder: bool,
-) -> Result<Option<Found>, AllocError> {
-    match ignored_folder(alloc, files, path)? {
-        Some(end) => Ok(deciding(files, path.get(..end).unwrap_or(path), true)),
-        None => Ok(deciding(files, path, is_folder)),
-    }
-}
-
-/// Returns how long the path of the highest folder above a path is that is ignored, if one is. Returns an error if memory runs
-/// out.
-fn ignored_folder(
-    alloc: Global,
-    files: &mut [IgnoreFile],
-    path: &[u8],
-) -> Result<Option<usize>, AllocError> {
-    if has_few_folders(path) {
-        return Ok(ignored_one_by_one(files, path));
-    }
-    let mut decisions = vec![in alloc; Decision::Undecided; path.len()]?;
-    for file in files.iter_mut().rev() {
-        file.decide_folders(path, &mut decisions);
-    }
-    Ok(decisions.iter().position(|decision| decision.is_ignored()))
-}
-
-/// The same as [`ignored_folder`], by a pass over the path of each folder.
-fn ignored_one_by_one(files: &mut [IgnoreFile], path: &[u8]) -> Option<usize> {
+fn deciding_below(files: &mut [IgnoreFile], path: &[u8], is_folder: bool) -> Option<Found> {
     for (end, byte) in path.iter().enumerate() {
         if *byte == b'/' {
             let found = deciding(files, path.get(..end).unwrap_or(path), true);
             if matches!(found, Some(found) if found.line.ignores) {
-                return Some(end);
+                return found;
             }
         }
     }
-    None
+    deciding(files, path, is_folder)
 }
 
 /// Returns the line that decides about a path alone: that of the last file that has such a line.

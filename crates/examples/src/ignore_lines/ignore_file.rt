@@ -63,15 +63,6 @@ impl IgnoreFile {
         })
     }
 
-    /// Decides about the folders above a path, as [`RulesSearcher::decide_folders`] does.
-    pub fn decide_folders(&mut self, path: &[u8], decisions: &mut [Decision]) {
-        let folder = self.folder();
-        if path.starts_with(folder) {
-            let start = folder.len();
-            self.searcher.decide_folders(path, start, decisions);
-        }
-    }
-
     /// Returns the text of the line with this number, counted from 1, up to the first NUL.
     pub fn line(&self, number: usize) -> &[u8] {
         let mut lines = self.text.text().split(|byte| *byte == b'\n').take(number);

@@ -5,10 +5,6 @@ use globset::Error;
 use memchr::memrchr;
 use std::alloc::Global;
 
-/// Up to how many folders are asked for each by a pass over its own path. Up to there that is faster than one pass for all of
-/// them.
-const FEW_FOLDERS: usize = 256;
-
 /// The folder of the last path, with the rules of the ignore file of the top folder.
 ///
 /// What is said of a folder is kept while paths are below it. So paths that come as a walk finds them ask for each folder once.
@@ -36,7 +32,9 @@ impl Walk {
         let below = self.go_up(path);
         let name = match memrchr(b'/', below) {
             Some(end) => {
-                self.enter_all(&below[..end])?;
+                for name in below[..end].split(|byte| *byte == b'/') {
+                    self.stack.enter(name)?;
+                }
                 &below[end + 1..]
             }
             None => below,
@@ -51,30 +49,9 @@ impl Walk {
         let kept = memrchr(b'/', &folder[..same]).map_or(0, |at| at + 1);
         let levels = folder[kept..].iter().filter(|byte| **byte == b'/').count();
         for _ in 0..levels {
-            if self.stack.folder().len() <= kept {
-                break;
-            }
             self.stack.leave();
         }
         // What is left is a folder above the path.
         path.strip_prefix(self.stack.folder()).unwrap_or(path)
     }
-
-    /// Goes down into folders, each in the one before. Returns an error if memory runs out.
-    ///
-    /// To enter a folder takes a pass over its whole path. So many folders are entered at once, which takes one pass.
-    fn enter_all(&mut self, folders: &[u8]) -> Result<(), Error> {
-        if !has_few_folders(folders) {
-            return self.stack.enter(folders);
-        }
-        for name in folders.split(|byte| *byte == b'/') {
-            self.stack.enter(name)?;
-        }
-        Ok(())
-    }
-}
-
-/// Returns whether the folders above a path are few.
-pub fn has_few_folders(path: &[u8]) -> bool {
-    path.iter().filter(|byte| **byte == b'/').count() <= FEW_FOLDERS
 }

@@ -1,9 +1,8 @@
 -- What is stored of the rules of a file.
-use Rattle.std.proofs.Common.{◌≡◌, ℕ, zero, suc, ◌+◌, ◌<◌, List, [], ◌∷◌, ◌++◌, length, Bool, true, false, cond, refl, ap, sym, ◌∙◌, arith, length-append, append-nil, drop, drop-cons, get_or}
-use Rattle.std.specs.Prelude.{◌&&◌, ◌||◌, not, OnOk, Result, Ok, Err, Option, Some, None, if◌then◌else◌, filter, slice_get, All}
+use Rattle.std.proofs.Common.{◌≡◌, ℕ, suc, ◌+◌, ◌<◌, List, [], ◌∷◌, ◌++◌, length, Bool, true, false, cond, refl, ap, sym, ◌∙◌, arith, length-append, append-nil, drop, drop-cons, get_or}
+use Rattle.std.specs.Prelude.{◌&&◌, ◌||◌, not, OnOk, Result, Ok, Err, Option, Some, None, if◌then◌else◌, filter, slice_get}
 use Rattle.std.specs.List.{range_with_len}
 use Rattle.std.specs.Option.{option_map_or}
-use Rattle.std.proofs.lemmas.List.Elements.{All-append}
 use Rattle.globset.specs.GlobMatches.{GlobValue, glob_matches}
 use Rattle.globset.specs.Excluded.{excluded, is_reported}
 use Rattle.globset.specs.Answer.{matching_indexes}
@@ -73,18 +72,12 @@ entry_of_if : (b : Bool) (r : Rule) (o : Option Rule) → (if b then Some (entry
 entry_of_if true r o = refl
 entry_of_if false r o = refl
 
-one_listed : (p : Pattern) (g : GlobValue) → HasMeaningOf (pattern_matches p) g → All (λ (x : GlobValue). excluded x ≡ false) (g ∷ [])
-unfolding excluded
-one_listed p g m zero d within = m.listed
-one_listed p g m (suc k) d within = absurd (omega (arith, within))
-
 rule_added : (done : List Rule) (gs : List GlobValue) (es : List RuleEntry) (n : ℕ) (p : Pattern) (g : GlobValue) → HasMeaningOf (pattern_matches p) g
     → AreEntriesOf done gs es → AreEntriesOf (done ++ record { line = n; pattern = p } ∷ []) (gs ++ g ∷ []) (es ++ entry_of (record { line = n; pattern = p }) ∷ [])
 rule_added done gs es n p g m h =
     let r : Rule = record { line = n; pattern = p } in
     record {
       count = simp length-append (omega (arith, h.count));
-      listed = All-append (λ (x : GlobValue). excluded x ≡ false) gs (g ∷ []) h.listed (one_listed p g m);
       last = λ path f.
           last_entry_more path f gs g es (entry_of r) h.count
           ∙ (λ i. if (is_for f (entry_of r) && found_if_matched p g path m i) then Some (entry_of r) else h.last path f i)
@@ -102,7 +95,6 @@ rule_left_out done gs es n p m h =
     let r : Rule = record { line = n; pattern = p } in
     record {
       count = h.count;
-      listed = h.listed;
       last = λ path f.
           h.last path f
           ∙ ap entry_of_rule (sym (last_rule_more path f done r
@@ -219,10 +211,6 @@ chosen_next entries f before after indexes i all h e so =
 pub on_ok : {X E P : Type 0} (r : Result X E) → P → OnOk r P
 on_ok (Ok x) p = p
 on_ok (Err e) p = tt
-
-pub on_ok_then : {X E P Q : Type 0} (r : Result X E) → (P → Q) → OnOk r P → OnOk r Q
-on_ok_then (Ok x) f h = f h
-on_ok_then (Err e) f h = h
 
 pub on_ok_both : {X E P Q R : Type 0} (r : Result X E) → (P → Q → R) → OnOk r P → OnOk r Q → OnOk r R
 on_ok_both (Ok x) f p q = f p q

@@ -107,13 +107,9 @@ met_ignored files path i h here = sym (
     or_true true = refl
     or_true false = refl
 
--- the folders above the beginning of a path are above the path, too
-pub ignored_early : (files : List IgnoreFile) (path : List ℕ) (i : ℕ) → is_below_ignored files (take i path) ≡ true → true ≡ is_below_ignored files path
-ignored_early files path i h = sym (ap (is_below_ignored files) (sym (take-append-drop i path)) ∙ still_below files (take i path) (drop i path) h)
-
 -- ---- one file more
 
-pub or_else_nothing : (d : Decision) → or_else d Undecided ≡ d
+or_else_nothing : (d : Decision) → or_else d Undecided ≡ d
 or_else_nothing Undecided = refl
 or_else_nothing Ignored = refl
 or_else_nothing Kept = refl
@@ -123,13 +119,13 @@ or_else_grouped Undecided b c = refl
 or_else_grouped Ignored b c = refl
 or_else_grouped Kept b c = refl
 
-pub file_more : (files : List IgnoreFile) (f : IgnoreFile) (path : List ℕ) (is_folder : Bool)
+file_more : (files : List IgnoreFile) (f : IgnoreFile) (path : List ℕ) (is_folder : Bool)
     → files_decision (files ++ f ∷ []) path is_folder ≡ or_else (file_decision path is_folder f) (files_decision files path is_folder)
 file_more [] f path d = sym (or_else_nothing (file_decision path d f))
 file_more (g ∷ files) f path d = ap (λ (e : Decision). or_else e (file_decision path d g)) (file_more files f path d) ∙ or_else_grouped (file_decision path d f) (files_decision files path d) (file_decision path d g)
 
 -- the files up to an index, and the one there
-pub files_up_to : (files : List FolderRules) (i : ℕ) (f : FolderRules) (path : List ℕ) (is_folder : Bool) → i < length files → f ≡ get_or files i f
+files_up_to : (files : List FolderRules) (i : ℕ) (f : FolderRules) (path : List ℕ) (is_folder : Bool) → i < length files → f ≡ get_or files i f
     → files_decision (files_of (take (i + 1) files)) path is_folder ≡ or_else (file_decision path is_folder (file_of f)) (files_decision (files_of (take i files)) path is_folder)
 files_up_to files i f path d h e =
     ap (λ (fs : List FolderRules). files_decision (files_of fs) path d) (take_more files i f h ∙ ap (λ (x : FolderRules). take i files ++ x ∷ []) (sym e))
@@ -138,7 +134,7 @@ files_up_to files i f path d h e =
 
 -- ---- a file of a folder says nothing of the folders above it
 
-pub not_in : (folder path : List ℕ) → length path < length folder → is_in folder path ≡ false
+not_in : (folder path : List ℕ) → length path < length folder → is_in folder path ≡ false
 not_in folder path h = false_from_ne_true (bytes_eq (take (length folder) path) folder) (λ same. absurd (
     let e = ap length ((bytes_eq-Decides (take (length folder) path) folder).0 same) in
     omega (arith, h, e, length-take (length folder) path)))

@@ -1,9 +1,8 @@
 -- What is stored of the rules of a file: their globs, and an entry for each. No contract of the crate's public calls cites this.
-use Rattle.std.specs.Prelude.{◌≡◌, ℕ, Bool, false, not, ◌&&◌, ◌||◌, List, [], ◌∷◌, ◌++◌, Option, Some, None, if◌then◌else◌, length, slice_get, All}
+use Rattle.std.specs.Prelude.{◌≡◌, ℕ, Bool, not, ◌&&◌, ◌||◌, List, [], ◌∷◌, ◌++◌, Option, Some, None, if◌then◌else◌, length, slice_get}
 use Rattle.globset.specs.GlobMatches.{GlobValue}
-use Rattle.globset.specs.Excluded.{excluded, is_reported}
+use Rattle.globset.specs.Excluded.{is_reported}
 use Rattle.ignore_pattern.specs.Patterns.{Pattern}
-use Rattle.glob_prefixes.specs.Prefixes.{PrefixMatcherValue}
 use Rattle.git_ignore.specs.Rules.{Rule, last_rule}
 use Rattle.git_ignore.specs.declared.decision.Decision.{Decision}
 use Rattle.git_ignore.specs.declared.decision.Decision.TheVariants.{Ignored, Kept, Undecided}
@@ -39,10 +38,9 @@ last_entry path is_folder (g ∷ gs) [] = None
 last_entry path is_folder (g ∷ gs) (e ∷ es) = elim (last_entry path is_folder gs es)
     [ Some last ↦ Some last | None ↦ if is_for is_folder e && is_reported g path then Some e else None ]
 
--- The globs and entries are those of the rules that match something: the last one that applies is the same for each path. No glob is excluded.
+-- The globs and entries are those of the rules that match something: the last one that applies is the same for each path.
 pub record AreEntriesOf (rules : List Rule) (globs : List GlobValue) (entries : List RuleEntry) : Type 0 where
   pub count : length entries ≡ length globs
-  pub listed : All (λ (g : GlobValue). excluded g ≡ false) globs
   pub last : (path : List ℕ) (is_folder : Bool) → last_entry path is_folder globs entries ≡ entry_of_rule (last_rule path is_folder rules)
 
 -- These are the globs and entries of more rules than before.
@@ -63,11 +61,6 @@ chosen is_folder before (Some e) = if is_for is_folder e then Some e else before
 abbrev pub last_chosen : List RuleEntry → Bool → Option RuleEntry → List ℕ → Option RuleEntry
 last_chosen entries is_folder before [] = before
 last_chosen entries is_folder before (i ∷ is) = last_chosen entries is_folder (chosen is_folder before (slice_get entries i)) is
-
--- What is stored of the rules of a file: the globs twice, as a set and as a matcher of prefixes, and the entries.
-pub record AreStored (rules : List Rule) (globs : List GlobValue) (prefixes : PrefixMatcherValue) (entries : List RuleEntry) : Type 0 where
-  pub are : AreEntriesOf rules globs entries
-  pub matched : prefixes.globs ≡ globs
 
 -- The first rules of a file were read, and these are still to be read.
 pub record AreReadUpTo (all rest : List Rule) (globs : List GlobValue) (entries : List RuleEntry) : Type 0 where

@@ -1,14 +1,37 @@
-use Rattle.std.proofs.Common.{ap, sym, ◌∙◌}
-use Rattle.std.proofs.lemmas.List.{take-take}
-use Rattle.git_ignore.specs.Folders.{is_below_ignored}
+use Rattle.std.proofs.Common.{◌≡◌, List, get_or, take, true, ap, sym, ◌∙◌}
+use Rattle.std.specs.Prelude.{◌==◌, ◌&&◌}
+use Rattle.std.proofs.lemmas.List.{take_all}
+use Rattle.git_ignore.specs.Folders.{files_decision, ignores, is_below_ignored}
+use Rattle.git_ignore.specs.declared.folder_rules.FolderRules.{FolderRules}
 use Rattle.git_ignore.specs.inner.Stacks.{files_of}
-use Rattle.git_ignore.proofs.lemmas.Stacks.{ignored_early}
+use Rattle.git_ignore.proofs.lemmas.Stacks.{fit_still_there, met_ignored, passed_byte}
 use Rattle.git_ignore.proofs.folder_rules.ignores_above.Goals as goal
 
-pub ignores_above_one_by_one-requires-clause-above : goal.ignores_above_one_by_one-requires-clause-above
-ignores_above_one_by_one-requires-clause-above c =
-    ap (is_below_ignored (files_of c.args.files.now)) (take-take c.args.start c.end_of_few-few.result c.args.path.now c.end_of_few-few.ensures.low) ∙ c.requires.above
+pub ignores_folder-requires-clause-fits : goal.ignores_folder-requires-clause-fits
+ignores_folder-requires-clause-fits c = fit_still_there _ c.loop-end.scratch _ c.loop-end.files c.requires.fits c.loop-end.invariant.scratch c.loop-end.invariant.files
 
-pub returns-then-ignores_above_one_by_one-clause-ignored : goal.returns-then-ignores_above_one_by_one-clause-ignored
-returns-then-ignores_above_one_by_one-clause-ignored c =
-    ignored_early (files_of c.args.files.now) c.args.path.now c.end_of_few-few.result (sym c.ignores_above_one_by_one.ensures.ignored ∙ c.if-ignores_above_one_by_one.true)
+pub returns-then-ignores_folder-clause-ignored : goal.returns-then-ignores_folder-clause-ignored
+returns-then-ignores_folder-clause-ignored c =
+    let path = c.args.path.now in let i = c.loop-end.end in
+    met_ignored (files_of c.args.files.now) path i c.loop-end-test.true
+    (sym (ap (λ (fs : List FolderRules). get_or path i 0 == 47 && ignores (files_decision (files_of fs) (take i path) true)) c.loop-end.invariant.files)
+    ∙ sym c.ignores_folder.ensures.ignored ∙ c.if-ignores_folder.true)
+
+pub returns-then-ignores_folder-clause-files : goal.returns-then-ignores_folder-clause-files
+returns-then-ignores_folder-clause-files c = c.ignores_folder.ensures.files ∙ c.loop-end.invariant.files
+
+pub loop-end-preserved : goal.loop-end-preserved
+loop-end-preserved c =
+    let path = c.args.path.now in let i = c.loop-end.end in
+    record {
+      files = c.ignores_folder.ensures.files ∙ c.loop-end.invariant.files;
+      scratch = c.ignores_folder.ensures.scratch ∙ c.loop-end.invariant.scratch;
+      above = passed_byte (files_of c.args.files.now) path i c.loop-end-test.true c.loop-end.invariant.above
+          (sym (ap (λ (fs : List FolderRules). get_or path i 0 == 47 && ignores (files_decision (files_of fs) (take i path) true)) c.loop-end.invariant.files)
+          ∙ sym c.ignores_folder.ensures.ignored ∙ c.if-ignores_folder.false);
+    }
+
+pub returns-clause-ignored : goal.returns-clause-ignored
+returns-clause-ignored c =
+    let whole : take c.loop-end.end c.args.path.now ≡ c.args.path.now = take_all c.loop-end.end c.args.path.now c.loop-end-test.false in
+    sym (ap (is_below_ignored (files_of c.args.files.now)) (sym whole) ∙ c.loop-end.invariant.above)

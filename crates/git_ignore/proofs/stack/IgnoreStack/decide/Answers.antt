@@ -1,5 +1,4 @@
 use Rattle.std.proofs.Common.{◌++◌, sym, ◌∙◌}
-use Rattle.std.proofs.lemmas.Result.{IfOk-weaker}
 use Rattle.git_ignore.specs.Folders.{decision_below}
 use Rattle.git_ignore.specs.inner.Stacks.{files_of}
 use Rattle.git_ignore.proofs.lemmas.Stacks.{below_ignored}
@@ -18,6 +17,6 @@ returns-clause-decision c =
     let files = stored_files c.self.inside.folder.items c.self.inside.is_ignored c.self.inside.files.items c.self.inside.levels.items c.self.inside.scratch c.args.self.now c.self.invariant c.self.view_is in
     let path = stored_path c.self.inside.folder.items c.self.inside.files.items c.self.inside.levels.items c.args.self.now c.self.view_is in
     let whole = c.deref.ensures.value ∙ c.in_ok-extend_from_slice.ensures.items in
-    IfOk-weaker c.decide_below-decision.result _ _ (λ d is.
-    is ∙ (λ i. decision_below (files_of (c.deref_mut.ensures.value i)) (whole i) c.args.is_folder) ∙ (λ i. decision_below (files i) (path i ++ c.args.path.now) c.args.is_folder))
     c.decide_below-decision.ensures.decision
+    ∙ (λ i. decision_below (files_of (c.deref_mut.ensures.value i)) (whole i) c.args.is_folder)
+    ∙ (λ i. decision_below (files i) (path i ++ c.args.path.now) c.args.is_folder)

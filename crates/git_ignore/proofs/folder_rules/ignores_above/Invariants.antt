@@ -1,7 +1,7 @@
 use Rattle.std.proofs.Common.{◌≡◌, take, false}
 use Rattle.git_ignore.specs.Folders.{is_below_ignored}
 use Rattle.git_ignore.specs.inner.Stacks.{files_of}
-use Rattle.git_ignore.proofs.folder_rules.ignores_above_one_by_one.Given as goal
+use Rattle.git_ignore.proofs.folder_rules.ignores_above.Given as goal
 
 abbrev pub invariant-loop-end : goal.invariant-loop-end
 invariant-loop-end l = record {
