@@ -19,8 +19,7 @@ use std::sync::Arc;
 /// other call takes any, and none of them can fail.
 ///
 /// Searchers of the same rules share what paths are matched with, and outlive the rules. A program with several threads makes a
-/// searcher for each of them. A [`Searcher`] is in it, which keeps rows of automata from one path to the next where these have no
-/// table. Then it can be several times faster than rules with a [`crate::IgnoreScratch`].
+/// searcher for each of them. A [`Searcher`] is in it, which keeps rows of automata from one path to the next.
 ///
 /// Contracts see what they see of the rules. What else earlier calls left in it has no effect.
 ///

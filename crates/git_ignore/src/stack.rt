@@ -37,8 +37,8 @@ pub struct FolderLevel {
 /// above it. A path below folders that were not entered costs such passes over the path of each of these folders too, down to
 /// the first one that is ignored: so N of them take time that grows with the square of N.
 ///
-/// A file is asked by a [`crate::RulesSearcher`] if there is memory for it, and the searchers of all files take at most 8 MB together,
-/// as [`crate::RulesSearcher::bytes`] counts. Other files are asked with an [`IgnoreScratch`] that all of them share.
+/// A file is asked by a [`crate::RulesSearcher`] if there is memory for it, and the searchers of all files take at most 8 MiB
+/// together, as [`crate::RulesSearcher::bytes`] counts. Other files are asked with an [`IgnoreScratch`] that all of them share.
 pub struct IgnoreStack {
     alloc: Global,
     /// The path of the folder: empty for the top folder, and otherwise with `/` at its end.
@@ -111,7 +111,8 @@ impl IgnoreStack {
 
     /// Reads an ignore file of the folder that the walk is in, given by its bytes. It goes before the files that are there already.
     ///
-    /// A searcher of its rules is made first, mostly of up to 16 MB, and dropped if that is more than there is room for.
+    /// A searcher of its rules is made first, and dropped if it takes more than there is room for. With automata it takes
+    /// mostly more than 4 MiB, so one file of the stack has such a searcher at a time.
     ///
     /// Returns an error if memory runs out, and no other; nothing changed then.
     pub fn add_file(&mut self, file: &[u8]) -> Result<(), Error>

@@ -83,7 +83,7 @@ fn searcher_decides_about_folders_again(rt: HostRuntime) -> Result<(), Error> {
     Ok(())
 }
 
-/// Returns a file of 50 lines that a set makes no table of all for: line `n` is `*a` with `n + 9` behind it, and then `*b*`.
+/// Returns a file of 50 lines that need an automaton: line `n` is `*a` with `n + 9` behind it, and then `*b*`.
 fn odd_lines(alloc: Global) -> Result<Vec<u8>, Error> {
     let mut file = Vec::new(alloc);
     for number in 10..60 {

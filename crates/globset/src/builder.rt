@@ -7,7 +7,7 @@ use std::marker::Model;
 
 /// Collects the globs of a set, in the order in which they are added.
 ///
-/// Contracts see the list of the globs. How much memory the tables of the set may take, which
+/// Contracts see the list of the globs. How much memory the set may keep rows of automata in, which
 /// [`GlobSetBuilder::dfa_size_limit`] sets, changes no answer, and contracts do not see it.
 ///
 /// ```rust
@@ -52,19 +52,22 @@ impl GlobSetBuilder {
         }
     }
 
-    /// Sets how many bytes the tables of deterministic automata may take, those of all automata of a set together. The default is
+    /// Sets how many bytes the rows may take that a set keeps between calls, those of all its automata together. The default is
     /// [`DEFAULT_DFA_SIZE_LIMIT`], 16 MiB.
     ///
-    /// The limit is for memory and time, and changes no answer. The globs that need an automaton share a few, and each of these gets a
-    /// table, as far as the limit allows, and the time that it takes to make one. A run of a table reads one entry of it for each
-    /// byte of a path. For an automaton without a table, rows are made as paths need them, in caches that the set keeps between
-    /// calls. Those of the automaton for whole paths take at most what the limit leaves, and those of the others together as much. A
-    /// [`Searcher`](crate::Searcher) has caches of its own, of at most 8 MiB for either. Where there is none, a call steps the automaton: each byte of a path then takes as many steps as
-    /// the automaton is in states, and calls without a scratch take two bits of memory for each of its states.
+    /// The limit is for memory and time, and changes no answer. The globs that need an automaton share a few. Rows of an
+    /// automaton are made as paths need them: a run reads one entry of a row for each byte of a path, once the rows are there.
+    /// They are kept in at most four caches for each automaton, which take at most the part of the limit that its states are of
+    /// all states. A [`Searcher`](crate::Searcher) has one such cache for each automaton, so its rows take at most a quarter of
+    /// the limit. Where a cache would have less than 4 KiB there are no rows. There, and where a call finds no cache, it steps
+    /// the automaton: each byte of a path then takes as many steps as the automaton is in states, and calls without a scratch
+    /// take two bits of memory for each of its states.
     ///
-    /// With 0 there are no tables and no rows, and the set keeps no memory between calls. It takes the least time and memory to make,
-    /// which is best for few paths. Memory beside the tables and caches has no limit: that of keys and states is linear in the texts
-    /// of the globs.
+    /// The limit counts the entries of rows and their lists of states. A row takes 16 bytes beside these, and a cache has room
+    /// for four rows also where its part of the limit has not.
+    ///
+    /// With 0 there are no rows, and the set keeps no memory between calls. That is best for few paths. Memory beside the rows
+    /// has no limit: that of keys and states is linear in the texts of the globs.
     ///
     /// ```rust
     /// use globset::{Glob, GlobSetBuilder};
@@ -128,10 +131,8 @@ impl GlobSetBuilder {
     /// Returns the set of the globs that were added, in order. The builder is unchanged, and more globs can be added to it. The
     /// globs are not copied: the set keeps what it needs to match.
     ///
-    /// Keys, states and filters take time and memory linear in the texts of the globs, except that some of these are sorted. Tables
-    /// of deterministic automata come on top, and are not linear, but limited: they take at most the bytes of
-    /// [`GlobSetBuilder::dfa_size_limit`], at most 2^22 numbers are made for them, or one for each 4 bytes of that limit if this is
-    /// more, and to make one of them may take reading up to 2,048 states.
+    /// Keys and states take time and memory linear in the texts of the globs, except that some of these are sorted. Rows of
+    /// automata are made by calls that match.
     ///
     /// Returns an error if memory runs out, and no other.
     pub fn build(&self) -> Result<GlobSet, Error>

@@ -28,12 +28,13 @@ use std::marker::Model;
 /// Contracts see the list of the globs, and the number of states of the largest automaton that was made for them. The set itself
 /// keeps what it needs to match, and neither the texts nor the tokens of the globs.
 ///
-/// Its calls can be made by several threads at once, and none waits for another. So that they need not run automata state by state,
-/// a set keeps memory between calls, which its clones share: for each automaton without a table at most four caches of rows, the
-/// first of which is made by the third call that would use one. They are kept until the set is dropped; [`GlobSet::kept_bytes`]
-/// returns how many bytes they take, which are at most twice the limit of [`GlobSetBuilder::dfa_size_limit`]. With a limit of 0 none
-/// is kept. A call may run out of memory, which is an error. A [`Searcher`](crate::Searcher) takes all its memory when it is made: its calls
-/// never fail, and take none. Take a searcher for each thread where that matters, and the set itself elsewhere.
+/// Its calls can be made by several threads at once, and none waits for another. So that they need not run automata state by
+/// state, a set keeps memory between calls, which its clones share: for each automaton at most four caches of rows, the first
+/// of which is made by the third call that would use one, or for a [`Scratch`](crate::Scratch). They are kept until the set is
+/// dropped; [`GlobSet::kept_bytes`] returns for how many bytes of rows they have room, which is at most the limit of
+/// [`GlobSetBuilder::dfa_size_limit`]. With a limit of 0 none is kept. A call may run out of memory, which is an error. A
+/// [`Searcher`](crate::Searcher) takes all its memory when it is made: its calls never fail, and take none. Take a searcher for
+/// each thread where that matters, and the set itself elsewhere.
 ///
 /// [`GlobSet::matches`] returns the indexes of the globs that match a path. Excluded globs are left out: a glob is excluded
 /// if it is case-sensitive and is parsed like `**/..`. It counts in [`GlobSet::len`], so [`GlobSet::matches_all`] is
@@ -122,10 +123,9 @@ impl GlobSet {
     /// The iterator has to end, and its items have to be known to the prover: those of a slice, of a `Vec` and of
     /// iterators over either are.
     ///
-    /// Keys and states take time and memory linear in the texts of the globs, except that some of these are sorted. Tables of
-    /// deterministic automata come on top, and are not linear, but limited: they take at most 16 MiB
-    /// ([`DEFAULT_DFA_SIZE_LIMIT`](crate::DEFAULT_DFA_SIZE_LIMIT)), at most 2^22 numbers are made for them, and to make one of these
-    /// may take reading up to 2,048 states. [`GlobSetBuilder::dfa_size_limit`] sets another limit.
+    /// Keys and states take time and memory linear in the texts of the globs, except that some of these are sorted. Rows of
+    /// automata are made by calls that match, and those that the set keeps take at most 16 MiB
+    /// ([`DEFAULT_DFA_SIZE_LIMIT`](crate::DEFAULT_DFA_SIZE_LIMIT)). [`GlobSetBuilder::dfa_size_limit`] sets another limit.
     ///
     /// Returns an error if memory runs out, and no other.
     pub fn new<'g, I: IntoIterator<Item = &'g Glob>>(
@@ -162,8 +162,8 @@ impl GlobSet {
         })
     }
 
-    /// Returns how many bytes of memory the set keeps between calls, for rows of automata. It is 0 in a new set, and grows by calls:
-    /// at most to twice the limit that [`GlobSetBuilder::dfa_size_limit`] sets. Clones share this memory.
+    /// Returns for how many bytes of rows the set keeps memory between calls. It is 0 in a new set, and calls raise it, at most
+    /// to the limit that [`GlobSetBuilder::dfa_size_limit`] sets, which says what it counts. Clones share this memory.
     ///
     /// ```rust
     /// use globset::{Glob, GlobSet};
@@ -194,8 +194,8 @@ impl GlobSet {
         }
     }
 
-    /// Returns the set of these globs, in order. The tables of deterministic automata take at most `dfa_size_limit` bytes. Returns an
-    /// error if memory runs out, and no other.
+    /// Returns the set of these globs, in order. The rows that it keeps take at most `dfa_size_limit` bytes. Returns an error
+    /// if memory runs out, and no other.
     pub(crate) fn of_slice(
         alloc: Global,
         dfa_size_limit: usize,

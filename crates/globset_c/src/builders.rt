@@ -144,7 +144,7 @@ fn build(object: &mut Object) -> Result<GlobSet, Failure>
     }
 }
 
-/// Sets how many bytes the tables of the sets that a builder makes from then on may take.
+/// Sets how many bytes the rows may take that a set keeps between calls, for the sets that a builder makes from then on.
 #[unsafe(no_mangle)]
 pub extern "C" fn globset_raw_builder_set_dfa_size_limit(
     builder: &mut Owned,

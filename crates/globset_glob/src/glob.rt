@@ -146,8 +146,8 @@ impl Glob {
     /// Returns a matcher for an equal glob, or an error if memory runs out.
     ///
     /// If the glob's literals decide alone, it copies them. Otherwise it makes an automaton, in time and memory linear in the
-    /// glob's text. If that has at most 2,048 states, it makes a deterministic one too, and gives it up if its table and lists
-    /// would have more than 40,960 numbers, or 512 for each state. To find one of them may take reading each state.
+    /// glob's text. Rows of this are made by calls that match, and those that the matcher keeps take at most 16 MiB
+    /// ([`DEFAULT_DFA_SIZE_LIMIT`]).
     pub fn compile_matcher(&self) -> Result<GlobMatcher, Error>
         ensures ok { IfOk result (λ m. m ≡ self.now) }
         ensures err { IsOkUnless result out_of_memory }
@@ -155,15 +155,14 @@ impl Glob {
         self.compile_matcher_with_limit(DEFAULT_DFA_SIZE_LIMIT)
     }
 
-    /// Returns a matcher for an equal glob, as [`Glob::compile_matcher`] does, with a deterministic automaton of at most
-    /// `dfa_size_limit` bytes, or none. Returns an error if memory runs out.
+    /// Returns a matcher for an equal glob, as [`Glob::compile_matcher`] does, which keeps rows of at most `dfa_size_limit`
+    /// bytes between calls. Returns an error if memory runs out.
     ///
-    /// The limit is for memory and time, and changes no answer. With 0 no deterministic automaton is tried: the matcher takes
-    /// the least time and memory to make, and then for each byte of a path as many steps as its automaton is in states, and
-    /// memory for each path in the calls without a scratch. Where the deterministic automaton is given up, calls make parts of
-    /// it as they need them, and keep these, in at most as many bytes; a [`MatcherSearcher`](crate::MatcherSearcher) keeps its
-    /// own, beside the limit. A glob whose literals decide alone has no automaton, whatever the limit is. The limit of
-    /// [`Glob::compile_matcher`] is [`DEFAULT_DFA_SIZE_LIMIT`].
+    /// The limit is for memory and time, and changes no answer. It counts the entries of rows and their lists of states. A row
+    /// takes 16 bytes beside these, and a cache has room for four rows also where its quarter of the limit has not. Under a
+    /// limit of less than 16 KiB there are no rows: each byte of a path takes as many steps as the automaton is in states, and
+    /// the calls without a scratch take memory for each path. A glob whose literals decide alone has no automaton, whatever the
+    /// limit is. The limit of [`Glob::compile_matcher`] is [`DEFAULT_DFA_SIZE_LIMIT`].
     ///
     /// ```rust
     /// use globset::Glob;

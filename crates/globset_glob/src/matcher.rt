@@ -25,10 +25,9 @@ use strategy::Strategy;
 /// Tells whether a glob matches a path.
 ///
 /// Contracts see a matcher as its glob. If the glob's literals decide alone, as those of `*.rs` and `src/**` do, it compares
-/// them with the path or a part of it. Otherwise it has an automaton for the glob, which is made with it, and a deterministic
-/// one if that is not too large. If it is, calls make parts of it as they need them, in at most four caches that the matcher
-/// and its clones keep until they are dropped; [`GlobMatcher::kept_bytes`] returns how many bytes these take. A
-/// [`MatcherSearcher`] has one of its own.
+/// them with the path or a part of it. Otherwise it has an automaton for the glob, which is made with it. Calls make rows of
+/// this as paths need them, in at most four caches that the matcher and its clones keep until they are dropped;
+/// [`GlobMatcher::kept_bytes`] returns for how many bytes of rows these have room. A [`MatcherSearcher`] has one of its own.
 ///
 /// ```rust
 /// use globset::Glob;
@@ -84,8 +83,9 @@ impl GlobMatcher {
         &self.glob
     }
 
-    /// Returns how many bytes of memory the matcher keeps between calls, for rows of its automaton. It is 0 in a new matcher,
-    /// and where the automaton has a table or none is needed. Clones share this memory.
+    /// Returns for how many bytes of rows the matcher keeps memory between calls. It is 0 in a new matcher, and where no
+    /// automaton is needed, and calls raise it, at most to the limit of [`Glob::compile_matcher_with_limit`], which says what
+    /// it counts. Clones share this memory.
     pub fn kept_bytes(&self) -> usize {
         self.strategy.kept_bytes()
     }
@@ -119,9 +119,8 @@ impl GlobMatcher {
     /// Does what [`is_match_candidate`](GlobMatcher::is_match_candidate) does, and adds its visits to `visits`.
     ///
     /// These are at most `(path bytes + 1) * (4 * glob bytes + 4)` visits, with `16 * glob bytes + 4` in place of the second
-    /// factor under `whole_character`, also if memory runs out. The call allocates nothing if the matcher compares literals or
-    /// has a deterministic automaton, and otherwise, if there is no cache for it, one, or two sets of states, of one bit for
-    /// each state of the automaton.
+    /// factor under `whole_character`, also if memory runs out. The call allocates nothing if the matcher compares literals.
+    /// Otherwise it may make a cache of rows, and where it has none it takes two bits of memory for each state of the automaton.
     pub fn is_match_visits(&self, path: &Candidate<'_>, visits: &mut Visits) -> Result<bool, Error>
         ensures ok { IfOk result (λ yes. yes ≡ glob_matches self.now path.now) }
         ensures err { IsOkUnless result out_of_memory }
@@ -215,8 +214,8 @@ impl GlobMatcher {
     /// Does what [`can_match_below_candidate`](GlobMatcher::can_match_below_candidate) does, and adds its visits to `visits`.
     ///
     /// These are at most `(folder bytes + 2) * (4 * glob bytes + 4)` visits, with `16 * glob bytes + 4` in place of the second
-    /// factor under `whole_character`, also if memory runs out. The call allocates nothing if the matcher compares literals or
-    /// has a deterministic automaton, and otherwise two sets of states, of one bit for each state of the automaton.
+    /// factor under `whole_character`, also if memory runs out. The call allocates nothing if the matcher compares literals.
+    /// Otherwise it may make a cache of rows, and where it has none it takes two bits of memory for each state of the automaton.
     pub fn can_match_below_visits(
         &self,
         folder: &Candidate<'_>,

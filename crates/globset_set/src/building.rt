@@ -88,8 +88,8 @@ impl StoredBuilder {
         Ok(())
     }
 
-    /// Returns what a set of the globs that were added stores. The tables of deterministic automata take at most `dfa_size_limit`
-    /// bytes. Returns an error if memory runs out.
+    /// Returns what a set of the globs that were added stores. The rows that it keeps take at most `dfa_size_limit` bytes.
+    /// Returns an error if memory runs out.
     pub fn finish(self, dfa_size_limit: usize) -> Result<Stored, AllocError>
         requires { length self.given ≡ self.count }
         ensures { IfOk result (λ s. set_globs s.set ≡ self.given) }

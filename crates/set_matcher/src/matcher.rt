@@ -153,8 +153,8 @@ impl SetMatcherBuilder {
         Ok(())
     }
 
-    /// Returns the matcher of the globs that were added. The tables of deterministic automata take at most `dfa_size_limit` bytes.
-    /// Returns an error if memory runs out.
+    /// Returns the matcher of the globs that were added. The rows that it keeps take at most `dfa_size_limit` bytes. Returns an
+    /// error if memory runs out.
     pub fn finish(self, alloc: Global, dfa_size_limit: usize) -> Result<SetMatcher, AllocError>
         ensures { IfOk result (λ matcher. matcher ≡ self) }
     {

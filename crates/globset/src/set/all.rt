@@ -51,8 +51,8 @@ impl GlobSet {
     ///
     /// It adds at most `4 + 2 * (path bytes + 1)`, and `path bytes + 1` times `4 * glob bytes + 4` for each glob that needs an
     /// automaton for the path (`16 * glob bytes + 4` under `whole_character`), also if memory runs out; and none if the set has
-    /// no globs. It looks up the path and its parts in four tables and two tries, and runs at most three automata, each once. If
-    /// one of these has states, the call takes a bit of memory for each glob, and three for each state of one that is
+    /// no globs. It looks up the path and its parts in four tables and two tries, and runs at most three automata, each once.
+    /// If one of these has states, the call takes a bit of memory for each glob, and two for each state of one that is
     /// simulated.
     ///
     /// Returns an error if memory runs out, and no other. It needs no memory if no glob needs an automaton for the path: if

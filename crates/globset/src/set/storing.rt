@@ -19,8 +19,8 @@ pub fn add(builder: &mut StoredBuilder, glob: &Glob) -> Result<(), AllocError>
     builder.add(text_of(glob), options_of(glob), tokens_of(glob))
 }
 
-/// Returns what the set of these globs stores. They are not copied. The tables of deterministic automata take at most
-/// `dfa_size_limit` bytes. Returns an error if memory runs out, and no other.
+/// Returns what the set of these globs stores. They are not copied. The rows that it keeps take at most `dfa_size_limit` bytes.
+/// Returns an error if memory runs out, and no other.
 pub fn stored_of_slice(
     alloc: Global,
     dfa_size_limit: usize,

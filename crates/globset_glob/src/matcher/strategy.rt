@@ -27,8 +27,8 @@ pub enum Strategy {
 }
 
 impl Strategy {
-    /// Returns the key of a glob if one decides it, and otherwise an automaton, of which a table takes at most `dfa_size_limit`
-    /// bytes. Returns an error if memory runs out.
+    /// Returns the key of a glob if one decides it, and otherwise an automaton, of which rows of at most `dfa_size_limit` bytes
+    /// are kept between calls. Returns an error if memory runs out.
     pub fn of(glob: &Glob, dfa_size_limit: usize) -> Result<Strategy, AllocError>
         ensures { IfOk result (IsStrategyOfMatcher glob.now) }
     {
