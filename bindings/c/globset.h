@@ -150,8 +150,9 @@ void globset_set_free(globset_set *set);
 /* ---- Searchers ---- */
 
 /* Makes a searcher of a set. It takes all the memory that questions about one path need: eight bytes for each glob,
- * what the automata of the set need to run, and up to 16 MB more if one of them has no table, or more than that if
- * automata have hundreds of thousands of states. GLOBSET_ENOMEM. */
+ * what the automata of the set need to run, and for rows of them up to a quarter of the limit of
+ * globset_builder_set_dfa_size_limit, 4 MiB by default, with 16 bytes more for each row, or more than that if automata
+ * have hundreds of thousands of states. GLOBSET_ENOMEM. */
 GLOBSET_CHECKED int globset_searcher_new(const globset_set *set, globset_searcher **searcher);
 
 /* Returns whether some glob of the set matches the path. This takes no memory, and cannot fail but for null and for an
@@ -230,9 +231,9 @@ GLOBSET_CHECKED int globset_builder_new(globset_builder **builder);
 /* Adds a copy of a glob after those that the builder has. GLOBSET_ENOMEM. */
 GLOBSET_CHECKED int globset_builder_add(globset_builder *builder, const globset_glob *glob);
 
-/* Sets how many bytes the tables of a set may take, for the sets that the builder makes from then on. 16 MiB is the
- * default. No answer depends on it: with fewer bytes a set takes less time and memory to make, and a question may take
- * more time. With 0 there are no tables. */
+/* Sets how many bytes of rows of automata a set may keep, for the sets that the builder makes from then on. 16 MiB is
+ * the default. A searcher takes up to a quarter of that for rows. No answer depends on it: with fewer bytes a question
+ * may take more time. With 0 there are no rows. */
 GLOBSET_CHECKED int globset_builder_set_dfa_size_limit(globset_builder *builder, size_t bytes);
 
 /* Makes the set of the builder's globs, in the order in which they were added: the first has index 0. Then the builder

@@ -132,9 +132,9 @@ globset_status globset_raw_builder_new(globset_owned *out);
  * and then the builder has the globs that it had. */
 globset_status globset_raw_builder_add(globset_owned *builder, globset_lent *glob);
 
-/* Sets how many bytes the tables of a set may take, for the sets that the builder makes from then on. 16 MiB is the
- * default. No answer depends on it: with fewer bytes a set takes less time and memory to make, and a question may take
- * more time. With 0 there are no tables. GLOBSET_DONE, GLOBSET_WRONG_KIND. It takes no memory. */
+/* Sets how many bytes of rows of automata a set may keep, for the sets that the builder makes from then on. 16 MiB is
+ * the default. A searcher takes up to a quarter of that for rows. No answer depends on it: with fewer bytes a question
+ * may take more time. With 0 there are no rows. GLOBSET_DONE, GLOBSET_WRONG_KIND. It takes no memory. */
 globset_status globset_raw_builder_set_dfa_size_limit(globset_owned *builder, size_t bytes);
 
 /* Makes the set of the builder's globs, in the order in which they were added: the first has index 0. GLOBSET_DONE: the
@@ -144,7 +144,7 @@ globset_status globset_raw_builder_build(globset_owned *builder, globset_owned *
 
 /* Makes the set of globs that are lent, in their order: the first has index 0. Each element of the array is the handle
  * of one glob, and several may be of the same. The globs are read, and not copied: they may be freed, and the set has
- * what it needs to match. Its tables may take 16 MiB. GLOBSET_DONE: `out` owns the set. GLOBSET_WRONG_KIND: an object
+ * what it needs to match. It may keep 16 MiB of rows. GLOBSET_DONE: `out` owns the set. GLOBSET_WRONG_KIND: an object
  * is no glob. GLOBSET_OUT_OF_MEMORY. */
 globset_status globset_raw_set_of_globs(globset_lent *globs, size_t globs_len, globset_owned *out);
 
@@ -189,8 +189,9 @@ globset_status globset_raw_set_is_match_many(globset_lent *set, globset_owned *w
                                              size_t answers_len);
 
 /* Makes a searcher of a set. It shares what the set matches with, so the set may be freed. It takes the memory that
- * questions about one path need: eight bytes for each glob, as much as a work that fits the set, and up to 16 MB more
- * if an automaton of the set has no table, or more than that if automata have hundreds of thousands of states.
+ * questions about one path need: eight bytes for each glob, as much as a work that fits the set, and for rows of
+ * automata up to a quarter of the limit of globset_raw_builder_set_dfa_size_limit, 4 MiB by default, with 16 bytes more
+ * for each row, or more than that if automata have hundreds of thousands of states.
  * GLOBSET_DONE, GLOBSET_WRONG_KIND, GLOBSET_OUT_OF_MEMORY. */
 globset_status globset_raw_searcher_new(globset_lent *set, globset_owned *out);
 

@@ -93,7 +93,7 @@ class GlobBase:
 
 
 class GlobSetBase:
-    """A set of the globs of a tuple, and how many bytes its tables may take, or -1."""
+    """A set of the globs of a tuple, and how many bytes of rows it may keep, or -1."""
 
     __slots__ = ("_set", "_at", "_searchers")
 

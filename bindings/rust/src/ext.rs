@@ -21,11 +21,12 @@ pub fn offset(error: &Error) -> usize {
     error.offset()
 }
 
-/// Makes the set of a builder's globs, as [`GlobSetBuilder::build`] does, with tables that take at most `dfa_size_limit` bytes.
-/// It is an addition to the crate globset.
+/// Makes the set of a builder's globs, as [`GlobSetBuilder::build`] does, of which at most `dfa_size_limit` bytes of rows of
+/// automata are kept. A thread that asks the set takes up to a quarter of that for rows. It is an addition to the crate
+/// globset.
 ///
-/// No answer depends on the limit. With fewer bytes a set takes less time and memory to make, and a question may take more time.
-/// With 0 there are no tables. [`GlobSetBuilder::build`] allows 16 MiB.
+/// No answer depends on the limit. With fewer bytes a question may take more time. With 0 there are no rows.
+/// [`GlobSetBuilder::build`] allows 16 MiB.
 ///
 /// # Examples
 ///

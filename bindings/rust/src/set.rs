@@ -9,10 +9,10 @@ use crate::{ffi, Candidate, Error, Glob};
 /// A set answers what its globs say one by one, with one exception: a case-sensitive glob that is read as `**/..` matches no
 /// path in a set.
 ///
-/// Any number of threads may share a set, and a clone shares what was made for matching. A set keeps memory for each thread that
-/// asks it, which it takes at the thread's first call: eight bytes for each glob and some for automata, and up to 16 MB for
-/// rows if an automaton has no table, or more if its globs are very many. After a thread has ended, another one
-/// uses its memory. The last clone of the set frees all of it.
+/// Any number of threads may share a set, and a clone shares what was made for matching. A set keeps memory for each thread
+/// that asks it, which it takes at the thread's first call: eight bytes for each glob and some for automata, up to 4 MiB for
+/// their rows and 16 bytes more for each row, or more if its globs are very many. After a thread has ended, another one uses
+/// its memory. The last clone of the set frees all of it.
 ///
 /// # Examples
 ///
@@ -260,7 +260,7 @@ impl GlobSet {
         Ok(GlobSet { len: globs.len(), raw: Some(Arc::new(raw)) })
     }
 
-    /// The set of globs, whose tables take at most so many bytes.
+    /// The set of globs, of which at most so many bytes of rows are kept.
     fn with_limit(globs: &[Glob], dfa_size_limit: usize) -> GlobSet {
         if globs.is_empty() {
             return GlobSet::empty();
