@@ -230,7 +230,7 @@ def numbered_globs():
         "groups": lambda n: f"{{a,b{n},{{c,}}d}}/{{**/x{n},*}}",
         "two stars": lambda n: f"**/f{n}/**/g*",
         "many stars": lambda n: f"*a{n}*b{n % 13}*",
-        # Too many states for a deterministic automaton.
+        # Paths lead to very many sets of states.
         "many bytes": lambda n: f"*a{'?' * (12 + n % 9)}{n}*b",
         "dots": lambda n: "**/" + "." * (1 + n % 4) + ("" if n < 4 else f"/{n}"),
     }

@@ -12,11 +12,10 @@ use serde_json::Value;
 use std::alloc::Global;
 use std::hash::{DefaultHasher, Hash, Hasher};
 
-/// A limit on the bytes of tables under which no table is made: all automata are simulated, with a filter where they have many
-/// globs.
+/// A limit on the bytes of rows that leaves room for none: all automata are simulated.
 const FILTERED: usize = 1;
 
-/// The limit under which no filter is made, either.
+/// The limit that asks for no rows: all automata are simulated, too.
 const SIMULATED: usize = 0;
 
 /// The globs that the rows of a case so far added, and sets of them: one under the default limit, and one under each other limit.
