@@ -209,7 +209,7 @@ static void builders(void) {
     globset_set_free(third);
 }
 
-/* Under each limit of the tables a set answers the same. A builder keeps its limit after a set was made. */
+/* Under each limit of the rows a set answers the same. A builder keeps its limit after a set was made. */
 static void limits(void) {
     static const size_t limits[] = {0, 1, 4096, SIZE_MAX};
     globset_glob *glob = glob_of("src/**/*a?[bc]", 0);

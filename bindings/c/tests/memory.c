@@ -95,7 +95,7 @@ static void try_searcher(const globset_set *set) {
     globset_searcher_free(searcher);
 }
 
-/* How many bytes were asked for while a set with tables of at most so many bytes was made. */
+/* How many bytes were asked for while a set was made that keeps at most so many bytes of rows. */
 static size_t bytes_of_set(size_t limit) {
     globset_builder *builder;
     globset_set *set;

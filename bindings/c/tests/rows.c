@@ -1,4 +1,4 @@
-/* Eight threads ask one set whose automaton has no table, and so keeps caches of rows that its callers use in turn. Thread
+/* Eight threads ask one set that needs an automaton, and so keeps caches of rows that its callers use in turn. Thread
  * sanitizers do not see the locked steps by which a call takes a cache, as they are in the library: this is run without. */
 #include "objects.h"
 

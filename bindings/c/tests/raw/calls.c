@@ -281,7 +281,7 @@ static void builders(void) {
     raw_set_free(second);
 }
 
-/* Under each limit of the tables a set answers the same. A builder keeps its limit after a set was made. */
+/* Under each limit of the rows a set answers the same. A builder keeps its limit after a set was made. */
 static void limits(void) {
     static const size_t limits[] = {0, 1, 4096, SIZE_MAX};
     for (size_t i = 0; i < sizeof limits / sizeof *limits; i++) {

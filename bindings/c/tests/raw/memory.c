@@ -121,7 +121,7 @@ static void try_searcher(raw_set set) {
     raw_searcher_free(searcher);
 }
 
-/* How many bytes were asked for while a set with tables of at most so many bytes was made. */
+/* How many bytes were asked for while a set was made that keeps at most so many bytes of rows. */
 static size_t bytes_of_set(size_t limit) {
     raw_builder builder;
     raw_set set;
