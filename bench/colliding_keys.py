@@ -1,8 +1,7 @@
 """Keys that std's `FoldHasher` makes collide, and ordinary ones of the same lengths.
 
-Its seed and its multiplier are fixed. The seed that a table takes for such keys is that of another hasher, and is not known here.
-All keys begin with `.` and go on with letters, digits, `_` and `-`, so that a key is a path, a last component and an extension,
-and a glob of literals.
+Its seed and its multiplier are fixed. All keys begin with `.` and go on with letters, digits, `_` and `-`, so that a key is a
+path, a last component and an extension, and a glob of literals.
 """
 
 import functools

@@ -1,4 +1,3 @@
-pub mod Arranged
 pub mod Bytes
 pub mod Ends
 pub mod Entries

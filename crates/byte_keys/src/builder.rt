@@ -3,11 +3,12 @@
 ghost use Rattle.std.specs.Prelude.{◌≡◌, ◌↔◌, ℕ, IsTrue, List, ◌++◌, ◌∷◌, [], OnOk, OnErr, IfOk};
 ghost use Rattle.byte_keys.specs.Entries.{entry};
 
-use crate::arranged::{Arranged, arrange};
+use crate::directory::directory_of;
 use crate::ends::ends_of;
 use crate::keys::hash;
 use crate::one_key::contents_of_one;
-use crate::pairs::{Pair, indexes_of};
+use crate::pairs::{Pair, indexes_of, sort};
+use crate::rows::rows_of;
 use crate::table::{Contents, Table};
 use std::alloc::{AllocError, Global};
 use std::marker::Model;
@@ -36,7 +37,7 @@ impl Model for TableBuilder {
 
     ghost view = { λ b. entries_of b.bytes.items b.pairs.items };
 
-    ghost invariant = { λ b. All (IsKept 0 b.bytes.items) b.pairs.items };
+    ghost invariant = { λ b. All (IsKept b.bytes.items) b.pairs.items };
 }
 
 impl TableBuilder {
@@ -77,7 +78,7 @@ impl TableBuilder {
         let start = self.bytes.len();
         self.bytes.extend_from_slice(key)?;
         self.pairs.push(Pair {
-            hash: hash(0, key),
+            hash: hash(key),
             start,
             end: self.bytes.len(),
             index,
@@ -93,7 +94,7 @@ impl TableBuilder {
     {
         if self.bytes.is_empty() {
             self.pairs.push(Pair {
-                hash: hash(0, &key),
+                hash: hash(&key),
                 start: 0,
                 end: key.len(),
                 index,
@@ -111,7 +112,10 @@ impl TableBuilder {
         ensures { IfOk result (λ table. table ≡ self) }
     {
         let entries = Snapshot::of(&self);
-        let TableBuilder { mut bytes, pairs } = self;
+        let TableBuilder {
+            mut bytes,
+            mut pairs,
+        } = self;
         let alloc = *bytes.allocator();
         if pairs.is_empty() {
             return Ok(Table::nothing(entries));
@@ -121,11 +125,9 @@ impl TableBuilder {
             let contents = contents_of_one(alloc, bytes, &pairs)?;
             return Table::of(alloc, contents, entries);
         }
-        let Arranged {
-            pairs,
-            rows,
-            directory,
-        } = arrange(alloc, &bytes, pairs)?;
+        sort(&bytes, &mut pairs)?;
+        let rows = rows_of(alloc, &bytes, &pairs)?;
+        let directory = directory_of(alloc, &rows)?;
         let indexes = indexes_of(alloc, &pairs)?;
         let ends = ends_of(&bytes, &rows);
         let contents = Contents {

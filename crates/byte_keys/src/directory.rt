@@ -8,12 +8,11 @@ use crate::parts::part;
 use crate::rows::{FEW, Row};
 use std::alloc::{AllocError, Global};
 
-/// The seed of the rows' hashes, and for each bucket how many rows are in lower buckets.
+/// For each bucket how many rows are in lower buckets.
 ///
 /// With no such numbers each row may be in each bucket.
 #[derive(Drop)]
 pub(crate) struct Directory {
-    pub(crate) seed: u64,
     pub(crate) shift: u32,
     pub(crate) starts: Vec<u32>,
     ghost in_range: { shift < 32 },
@@ -21,12 +20,10 @@ pub(crate) struct Directory {
 
 impl Directory {
     /// Returns a directory that knows no buckets, which takes no memory.
-    pub(crate) fn new(alloc: Global, seed: u64) -> Directory
-        ensures seed { result.seed ≡ seed }
-        ensures starts { result.starts.items ≡ [] }
+    pub(crate) fn new(alloc: Global) -> Directory
+        ensures { result.starts.items ≡ [] }
     {
         Directory {
-            seed,
             shift: 0,
             starts: Vec::new(alloc),
         }
@@ -46,40 +43,26 @@ impl Directory {
         let to = self.starts[bucket + 1] as usize;
         part(rows, from, to)
     }
-
-    /// Returns whether a bucket has more rows than are compared in turn.
-    pub(crate) fn is_crowded(&self) -> bool {
-        for next in 1..self.starts.len() {
-            if self.starts[next].saturating_sub(self.starts[next - 1]) as usize > FEW {
-                return true;
-            }
-        }
-        false
-    }
 }
 
-/// Makes the directory of rows that are sorted by their hashes, which have a seed: two to four buckets for each row.
+/// Makes the directory of rows that are sorted by their hashes: two to four buckets for each row.
 ///
 /// Returns an error if memory runs out.
-pub(crate) fn directory_of(alloc: Global, seed: u64, rows: &[Row]) -> Result<Directory, AllocError>
+pub(crate) fn directory_of(alloc: Global, rows: &[Row]) -> Result<Directory, AllocError>
     requires { IsNonDecreasing (hashes_of rows.now) }
-    ensures { IfOk result (λ d. (d.seed ≡ seed) × HasStarts rows.now d.shift d.starts.items) }
+    ensures { IfOk result (λ d. HasStarts rows.now d.shift d.starts.items) }
 {
     // Few rows are compared without a hash. Rows that 32 bits cannot count are searched by halves.
     if rows.len() <= FEW {
-        return Ok(Directory::new(alloc, seed));
+        return Ok(Directory::new(alloc));
     }
     let Ok(count) = u32::try_from(rows.len()) else {
-        return Ok(Directory::new(alloc, seed));
+        return Ok(Directory::new(alloc));
     };
     let shift = count.saturating_mul(2).leading_zeros();
     let buckets = buckets_of(alloc, rows, shift)?;
     let starts = starts_of(alloc, &buckets, (u32::MAX >> shift) as usize + 2)?;
-    Ok(Directory {
-        seed,
-        shift,
-        starts,
-    })
+    Ok(Directory { shift, starts })
 }
 
 /// Returns each row's bucket.

@@ -4,23 +4,14 @@ ghost use Rattle.std.specs.Prelude.{◌≡◌};
 ghost use Rattle.byte_keys.specs.inner.Pairs.{hash_of, hashed_order};
 
 use std::cmp::Ordering;
-use std::hash::{DefaultHasher, FoldHasher, Hasher};
+use std::hash::{FoldHasher, Hasher};
 
-/// Returns the upper half of a key's hash. The seed 0 is none.
-///
-/// Without a seed the hash takes little time. With a seed it is SipHash, since there are keys that collide in a `FoldHasher`
-/// in whatever state it is.
+/// Returns the upper half of a key's hash.
 #[tactic(auto, unfolding(crate::specs::inner::Pairs::hash_of))]
-pub(crate) fn hash(seed: u64, key: &[u8]) -> u32
-    ensures { result ≡ hash_of seed key.now }
+pub(crate) fn hash(key: &[u8]) -> u32
+    ensures { result ≡ hash_of key.now }
 {
-    if seed == 0 {
-        let mut hasher = FoldHasher::default();
-        hasher.write(key);
-        return (hasher.finish() >> 32) as u32;
-    }
-    let mut hasher = DefaultHasher::new();
-    hasher.write_u64(seed);
+    let mut hasher = FoldHasher::default();
     hasher.write(key);
     (hasher.finish() >> 32) as u32
 }

@@ -8,7 +8,6 @@
 #![tactic(auto)]
 
 mod anchor;
-mod arranged;
 mod builder;
 mod directory;
 mod ends;

@@ -12,14 +12,14 @@ use crate::rows::Row;
 use crate::table::Contents;
 use std::alloc::{AllocError, Global};
 
-/// Returns the contents of the table of one pair, which has its hash without a seed. Returns an error if memory runs out.
+/// Returns the contents of the table of one pair. Returns an error if memory runs out.
 pub(crate) fn contents_of_one(
     alloc: Global,
     bytes: Vec<u8>,
     pairs: &[Pair],
 ) -> Result<Contents, AllocError>
     requires one { length pairs.now ≡ 1 }
-    requires kept { All (IsKept 0 bytes.items) pairs.now }
+    requires kept { All (IsKept bytes.items) pairs.now }
     ensures { IfOk result (λ c. AreContents c (entries_of bytes.items pairs.now)) }
 {
     let pair = pairs[0];
@@ -38,7 +38,7 @@ pub(crate) fn contents_of_one(
         bytes,
         rows,
         ends,
-        directory: Directory::new(alloc, 0),
+        directory: Directory::new(alloc),
         indexes,
     })
 }

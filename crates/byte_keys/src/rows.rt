@@ -39,8 +39,8 @@ impl Row {
 }
 
 /// Returns whether the pair after one has another key, or there is none.
-fn ends_group(bytes: &[u8], seed: u64, pairs: &[Pair], at: usize) -> bool
-    requires kept { All (IsKept seed bytes.now) pairs.now }
+fn ends_group(bytes: &[u8], pairs: &[Pair], at: usize) -> bool
+    requires kept { All (IsKept bytes.now) pairs.now }
     requires at { at < length pairs.now }
     ensures { MatchBool result (IsOtherKey bytes.now pairs.now at)
         (IsSameKey bytes.now pairs.now at) }
@@ -56,23 +56,18 @@ fn ends_group(bytes: &[u8], seed: u64, pairs: &[Pair], at: usize) -> bool
     pairs[next].key(bytes) != pairs[at].key(bytes)
 }
 
-/// Makes the rows of sorted pairs, which have the hashes with a seed.
-pub(crate) fn rows_of(
-    alloc: Global,
-    bytes: &[u8],
-    seed: u64,
-    pairs: &[Pair],
-) -> Result<Vec<Row>, AllocError>
-    requires kept { All (IsKept seed bytes.now) pairs.now }
-    requires sorted { IsSortedBy (pair_below seed bytes.now) pairs.now }
+/// Makes the rows of sorted pairs.
+pub(crate) fn rows_of(alloc: Global, bytes: &[u8], pairs: &[Pair]) -> Result<Vec<Row>, AllocError>
+    requires kept { All (IsKept bytes.now) pairs.now }
+    requires sorted { IsSortedBy (pair_below bytes.now) pairs.now }
     ensures { IfOk result
-        (λ rows. HasRows seed bytes.now rows.items (map (λ p. p.index) pairs.now)
+        (λ rows. HasRows bytes.now rows.items (map (λ p. p.index) pairs.now)
         (entries_of bytes.now pairs.now)) }
 {
     let mut rows = Vec::with_capacity(alloc, pairs.len())?;
     let mut from = 0;
     for at in 0..pairs.len() {
-        if ends_group(bytes, seed, pairs, at) {
+        if ends_group(bytes, pairs, at) {
             let pair = pairs[at];
             let to = at + 1;
             rows.push(Row {
@@ -101,8 +96,8 @@ pub(crate) fn find(
     key: &[u8],
     compared: &mut Visits,
 ) -> Option<Row>
-    requires hashed { All (IsHashed directory.now.seed bytes.now) rows.now }
-    requires sorted { IsSortedBy (row_below directory.now.seed bytes.now) rows.now }
+    requires hashed { All (IsHashed bytes.now) rows.now }
+    requires sorted { IsSortedBy (row_below bytes.now) rows.now }
     requires ends { HasEnds bytes.now rows.now ends.now }
     requires starts { HasStarts rows.now directory.now.shift directory.now.starts.items }
     ensures row { MatchOption result (HasNoRow bytes.now rows.now key.now)
@@ -116,12 +111,12 @@ pub(crate) fn find(
     if rows.len() <= FEW {
         return scan(bytes, rows, key, compared);
     }
-    let hash = hash(directory.seed, key);
+    let hash = hash(key);
     let near = directory.near(rows, hash);
     if near.len() <= FEW {
         return scan(bytes, near, key, compared);
     }
-    search(bytes, directory.seed, near, hash, key, compared)
+    search(bytes, near, hash, key, compared)
 }
 
 /// Finds the row with a key by comparing each row.
@@ -140,18 +135,11 @@ fn scan(bytes: &[u8], rows: &[Row], key: &[u8], compared: &mut Visits) -> Option
     None
 }
 
-/// Finds the row with a key and its hash with the rows' seed among sorted rows by halves.
-fn search(
-    bytes: &[u8],
-    seed: u64,
-    rows: &[Row],
-    hash: u32,
-    key: &[u8],
-    compared: &mut Visits,
-) -> Option<Row>
-    requires hash { hash ≡ hash_of seed key.now }
-    requires hashed { All (IsHashed seed bytes.now) rows.now }
-    requires sorted { IsSortedBy (row_below seed bytes.now) rows.now }
+/// Finds the row with a key and its hash among sorted rows by halves.
+fn search(bytes: &[u8], rows: &[Row], hash: u32, key: &[u8], compared: &mut Visits) -> Option<Row>
+    requires hash { hash ≡ hash_of key.now }
+    requires hashed { All (IsHashed bytes.now) rows.now }
+    requires sorted { IsSortedBy (row_below bytes.now) rows.now }
     ensures row { MatchOption result (HasNoRow bytes.now rows.now key.now)
         (λ r. Contains rows.now r × (row_key bytes.now r ≡ key.now)) }
     ensures compared { (k : ℕ) → length rows.now < 2 ^ k → compared.new ≤ compared.old + k }

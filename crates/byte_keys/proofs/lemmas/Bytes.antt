@@ -14,34 +14,34 @@ part_kept bytes more s e le =
     (λ within. ap (take (e - s)) (drop-append-le s bytes more within) ∙ take-append-le (e - s) (drop s bytes) more (omega (arith, length-drop s bytes)))
     (cases_lt (length bytes) s)
 
-pub entries_kept : (seed : ℕ) (bytes more : List ℕ) (ps : List Pair) → All (IsKept seed bytes) ps → entries_of (bytes ++ more) ps ≡ entries_of bytes ps
-entries_kept seed bytes more [] h = refl
-entries_kept seed bytes more (p ∷ ps) h =
-    ap (λ k. entry k p.index ∷ entries_of (bytes ++ more) ps) (part_kept bytes more p.start p.end (All-head (IsKept seed bytes) p ps h).0)
-    ∙ ap (λ l. pair_entry bytes p ∷ l) (entries_kept seed bytes more ps (All-tail (IsKept seed bytes) p ps h))
+pub entries_kept : (bytes more : List ℕ) (ps : List Pair) → All (IsKept bytes) ps → entries_of (bytes ++ more) ps ≡ entries_of bytes ps
+entries_kept bytes more [] h = refl
+entries_kept bytes more (p ∷ ps) h =
+    ap (λ k. entry k p.index ∷ entries_of (bytes ++ more) ps) (part_kept bytes more p.start p.end (All-head (IsKept bytes) p ps h).0)
+    ∙ ap (λ l. pair_entry bytes p ∷ l) (entries_kept bytes more ps (All-tail (IsKept bytes) p ps h))
 
 part_added : (bytes key : List ℕ) (s e : ℕ) → s ≡ length bytes → e ≡ s + length key → slice_range (bytes ++ key) s e ≡ key
 part_added bytes key s e at long =
     ap (take (e - s)) (drop_at bytes key s (sym at)) ∙ take_all (e - s) key (omega arith)
 
-pub entries_added : (seed : ℕ) (bytes key : List ℕ) (ps : List Pair) (p : Pair) → All (IsKept seed bytes) ps →
+pub entries_added : (bytes key : List ℕ) (ps : List Pair) (p : Pair) → All (IsKept bytes) ps →
     p.start ≡ length bytes → p.end ≡ p.start + length key → entries_of (bytes ++ key) (ps ++ p ∷ []) ≡ entries_of bytes ps ++ entry key p.index ∷ []
-entries_added seed bytes key ps p h at long =
+entries_added bytes key ps p h at long =
     map_push (pair_entry (bytes ++ key)) ps p
-    ∙ ap (λ l. l ++ pair_entry (bytes ++ key) p ∷ []) (entries_kept seed bytes key ps h)
+    ∙ ap (λ l. l ++ pair_entry (bytes ++ key) p ∷ []) (entries_kept bytes key ps h)
     ∙ ap (λ k. entries_of bytes ps ++ entry k p.index ∷ []) (part_added bytes key p.start p.end at long)
 
-pub kept_more : (seed : ℕ) (bytes more : List ℕ) (p : Pair) → IsKept seed bytes p → IsKept seed (bytes ++ more) p
-kept_more seed bytes more p h = (omega (arith, h.0, length-append bytes more), h.1 ∙ ap (hash_of seed) (sym (part_kept bytes more p.start p.end h.0)))
+pub kept_more : (bytes more : List ℕ) (p : Pair) → IsKept bytes p → IsKept (bytes ++ more) p
+kept_more bytes more p h = (omega (arith, h.0, length-append bytes more), h.1 ∙ ap hash_of (sym (part_kept bytes more p.start p.end h.0)))
 
-pub kept_added : (seed : ℕ) (bytes key : List ℕ) (ps : List Pair) (p : Pair) → All (IsKept seed bytes) ps →
-    p.start ≡ length bytes → p.end ≡ p.start + length key → p.hash ≡ hash_of seed key → All (IsKept seed (bytes ++ key)) (ps ++ p ∷ [])
-kept_added seed bytes key ps p h at long e =
-    All-push (IsKept seed (bytes ++ key)) ps p (All-weaker (IsKept seed bytes) (IsKept seed (bytes ++ key)) (kept_more seed bytes key) ps h)
-    (omega (arith, length-append bytes key), e ∙ ap (hash_of seed) (sym (part_added bytes key p.start p.end at long)))
+pub kept_added : (bytes key : List ℕ) (ps : List Pair) (p : Pair) → All (IsKept bytes) ps →
+    p.start ≡ length bytes → p.end ≡ p.start + length key → p.hash ≡ hash_of key → All (IsKept (bytes ++ key)) (ps ++ p ∷ [])
+kept_added bytes key ps p h at long e =
+    All-push (IsKept (bytes ++ key)) ps p (All-weaker (IsKept bytes) (IsKept (bytes ++ key)) (kept_more bytes key) ps h)
+    (omega (arith, length-append bytes key), e ∙ ap hash_of (sym (part_added bytes key p.start p.end at long)))
 
 -- the first key, once it is the bytes
-pub first_added : (seed : ℕ) (bytes key : List ℕ) (ps : List Pair) (p : Pair) → All (IsKept seed bytes) ps → length bytes ≡ 0 →
+pub first_added : (bytes key : List ℕ) (ps : List Pair) (p : Pair) → All (IsKept bytes) ps → length bytes ≡ 0 →
     p.start ≡ 0 → p.end ≡ length key → entries_of key (ps ++ p ∷ []) ≡ entries_of bytes ps ++ entry key p.index ∷ []
-first_added seed [] key ps p h none at long = entries_added seed [] key ps p h at (omega (arith, at, long))
-first_added seed (b ∷ bytes) key ps p h none at long = absurd (omega (arith, none))
+first_added [] key ps p h none at long = entries_added [] key ps p h at (omega (arith, at, long))
+first_added (b ∷ bytes) key ps p h none at long = absurd (omega (arith, none))

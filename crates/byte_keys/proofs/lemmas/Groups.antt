@@ -21,14 +21,14 @@ abbrev pub no_pair : Pair
 no_pair = record { hash = 0; start = 0; end = 0; index = 0 }
 
 -- a key is not below another
-abbrev NotBelow : ℕ → List ℕ → List ℕ → Type 0
-NotBelow seed x y = is_lt (key_order seed x y) ≡ false
+abbrev NotBelow : List ℕ → List ℕ → Type 0
+NotBelow x y = is_lt (key_order x y) ≡ false
 
-not_below_chain : (seed : ℕ) (x y z : List ℕ) → NotBelow seed x y → NotBelow seed y z → NotBelow seed x z
-not_below_chain seed x y z = (ranks_by (keys_ordered seed).total (λ (l : List ℕ). l)).chain x y z
+not_below_chain : (x y z : List ℕ) → NotBelow x y → NotBelow y z → NotBelow x z
+not_below_chain x y z = (ranks_by keys_ordered.total (λ (l : List ℕ). l)).chain x y z
 
 -- the first `from` pairs have their rows, and those from there up to `at`, and the one at `at`, have one key
-pub record Grouped (seed : ℕ) (bytes : List ℕ) (ps : List Pair) (rows : List Row) (from at : ℕ) : Type 0 where
+pub record Grouped (bytes : List ℕ) (ps : List Pair) (rows : List Row) (from at : ℕ) : Type 0 where
   pub behind : from ≤ at
   pub few : length rows ≤ from
   pub ended : at ≡ length ps → from ≡ at
@@ -36,14 +36,14 @@ pub record Grouped (seed : ℕ) (bytes : List ℕ) (ps : List Pair) (rows : List
   pub apart : 0 < from → from < length ps → ¬ (key_at bytes ps (from - 1) ≡ key_at bytes ps from)
   pub listed : All (IsListed bytes (map (λ p. p.index) ps) (entries_of bytes ps)) rows
   pub covered : (q : List ℕ) → HasNoRow bytes rows q → (k : ℕ) → k < from → bytes_eq (key_at bytes ps k) q ≡ false
-  pub hashed : All (IsHashed seed bytes) rows
-  pub sorted : IsSortedBy (row_below seed bytes) rows
-  pub below : from < length ps → All (λ r. NotBelow seed (key_at bytes ps from) (row_key bytes r)) rows
+  pub hashed : All (IsHashed bytes) rows
+  pub sorted : IsSortedBy (row_below bytes) rows
+  pub below : from < length ps → All (λ r. NotBelow (key_at bytes ps from) (row_key bytes r)) rows
 
 -- the next pair has the same key
-pub grouped_more : (seed : ℕ) (bytes : List ℕ) (ps : List Pair) (rows : List Row) (from at : ℕ) → Grouped seed bytes ps rows from at → at < length ps →
-    IsSameKey bytes ps at → Grouped seed bytes ps rows from (at + 1)
-grouped_more seed bytes ps rows from at g lt next = record {
+pub grouped_more : (bytes : List ℕ) (ps : List Pair) (rows : List Row) (from at : ℕ) → Grouped bytes ps rows from at → at < length ps →
+    IsSameKey bytes ps at → Grouped bytes ps rows from (at + 1)
+grouped_more bytes ps rows from at g lt next = record {
   behind = omega (arith, g.behind);
   few = g.few;
   ended = λ e. absurd (omega (arith, next.0));
@@ -57,8 +57,8 @@ grouped_more seed bytes ps rows from at g lt next = record {
 }
 
 -- pairs that are not next to each other
-far : (seed : ℕ) (bytes : List ℕ) (ps : List Pair) → IsSortedBy (pair_below seed bytes) ps → (i j : ℕ) → i ≤ j → j < length ps → NotBelow seed (key_at bytes ps j) (key_at bytes ps i)
-far seed bytes ps up i j le lt = sorted_far (pair_below seed bytes) (ranks_by (keys_ordered seed).total (pair_key bytes)) ps up i j no_pair le lt
+far : (bytes : List ℕ) (ps : List Pair) → IsSortedBy (pair_below bytes) ps → (i j : ℕ) → i ≤ j → j < length ps → NotBelow (key_at bytes ps j) (key_at bytes ps i)
+far bytes ps up i j le lt = sorted_far (pair_below bytes) (ranks_by keys_ordered.total (pair_key bytes)) ps up i j no_pair le lt
 
 -- a key that differs, as a test
 differs : (x y : List ℕ) → ¬ (x ≡ y) → bytes_eq x y ≡ false
@@ -71,13 +71,13 @@ unpush P (y ∷ xs) x h =
     let rest = unpush P xs x (All-tail P y (xs ++ x ∷ []) h) in
     (All-cons P y xs (All-head P y (xs ++ x ∷ []) h) rest.0, rest.1)
 
-module _ (seed : ℕ) (bytes : List ℕ) (ps : List Pair) (rows : List Row) (from at : ℕ) (g : Grouped seed bytes ps rows from at) (lt : at < length ps) (up : IsSortedBy (pair_below seed bytes) ps) (other : IsOtherKey bytes ps at) where
+module _ (bytes : List ℕ) (ps : List Pair) (rows : List Row) (from at : ℕ) (g : Grouped bytes ps rows from at) (lt : at < length ps) (up : IsSortedBy (pair_below bytes) ps) (other : IsOtherKey bytes ps at) where
   -- all of the group have the key of its last pair
   key_is : (k : ℕ) → from ≤ k → k < at + 1 → key_at bytes ps k ≡ key_at bytes ps at
   key_is k a b = ⊎_elim (λ low. g.same k a low) (λ high. let e : k ≡ at = omega arith in ap (key_at bytes ps) e) (cases_lt k at)
 
   between : (i j k : ℕ) → i ≤ j → j ≤ k → k < length ps → key_at bytes ps i ≡ key_at bytes ps k → key_at bytes ps j ≡ key_at bytes ps i
-  between i j k ij jk kn e = same_between (keys_ordered seed) (pair_key bytes) ps i j k no_pair up ij jk kn e
+  between i j k ij jk kn e = same_between keys_ordered (pair_key bytes) ps i j k no_pair up ij jk kn e
 
   before : (k : ℕ) → k < from → ¬ (key_at bytes ps k ≡ key_at bytes ps at)
   before k low e =
@@ -99,10 +99,10 @@ module _ (seed : ℕ) (bytes : List ℕ) (ps : List Pair) (rows : List Row) (fro
       ∙ ap (indexes_under (entries_of bytes ps)) (sym key)
 
   -- the row of the group
-  pub grouped_row : (r : Row) → row_key bytes r ≡ key_at bytes ps at → r.from ≡ from → r.to ≡ at + 1 → IsHashed seed bytes r → Grouped seed bytes ps (rows ++ r ∷ []) (at + 1) (at + 1)
+  pub grouped_row : (r : Row) → row_key bytes r ≡ key_at bytes ps at → r.from ≡ from → r.to ≡ at + 1 → IsHashed bytes r → Grouped bytes ps (rows ++ r ∷ []) (at + 1) (at + 1)
   grouped_row r key f t hash =
       let group : key_at bytes ps from ≡ row_key bytes r = key_is from (omega arith) (omega (arith, g.behind)) ∙ sym key in
-      let P : List ℕ → Row → Type 0 = λ x s. NotBelow seed x (row_key bytes s) in
+      let P : List ℕ → Row → Type 0 = λ x s. NotBelow x (row_key bytes s) in
       let lower : from < length ps = omega (arith, g.behind) in
       record {
         behind = omega arith;
@@ -116,19 +116,19 @@ module _ (seed : ℕ) (bytes : List ℕ) (ps : List Pair) (rows : List Row) (fro
             ⊎_elim (λ a. g.covered q parts.0 k a)
             (λ a. subst (λ l. bytes_eq l q ≡ false) (key ∙ sym (key_is k a low)) parts.1)
             (cases_lt k from);
-        hashed = All-push (IsHashed seed bytes) rows r g.hashed hash;
-        sorted = IsSortedBy-push (row_below seed bytes) rows r g.sorted (λ d some.
-            subst (λ l. NotBelow seed l (row_key bytes (get_or rows (length rows - 1) d))) group (g.below lower (length rows - 1) d (omega arith)));
+        hashed = All-push (IsHashed bytes) rows r g.hashed hash;
+        sorted = IsSortedBy-push (row_below bytes) rows r g.sorted (λ d some.
+            subst (λ l. NotBelow l (row_key bytes (get_or rows (length rows - 1) d))) group (g.below lower (length rows - 1) d (omega arith)));
         below = λ a. All-push (P (key_at bytes ps (at + 1))) rows r
             (All-weaker (P (key_at bytes ps from)) (P (key_at bytes ps (at + 1)))
-            (λ s h. not_below_chain seed (key_at bytes ps (at + 1)) (key_at bytes ps from) (row_key bytes s) (far seed bytes ps up from (at + 1) (omega (arith, g.behind)) a) h) rows (g.below lower))
-            (subst (λ l. NotBelow seed (key_at bytes ps (at + 1)) l) (sym key) (far seed bytes ps up at (at + 1) (omega arith) a));
+            (λ s h. not_below_chain (key_at bytes ps (at + 1)) (key_at bytes ps from) (row_key bytes s) (far bytes ps up from (at + 1) (omega (arith, g.behind)) a) h) rows (g.below lower))
+            (subst (λ l. NotBelow (key_at bytes ps (at + 1)) l) (sym key) (far bytes ps up at (at + 1) (omega arith) a));
       }
 
 -- all pairs have their rows
-pub grouped_all : (seed : ℕ) (bytes : List ℕ) (ps : List Pair) (rows : List Row) (from at : ℕ) → Grouped seed bytes ps rows from at → at ≡ length ps →
-    HasRows seed bytes rows (map (λ p. p.index) ps) (entries_of bytes ps)
-grouped_all seed bytes ps rows from at g e = record {
+pub grouped_all : (bytes : List ℕ) (ps : List Pair) (rows : List Row) (from at : ℕ) → Grouped bytes ps rows from at → at ≡ length ps →
+    HasRows bytes rows (map (λ p. p.index) ps) (entries_of bytes ps)
+grouped_all bytes ps rows from at g e = record {
   listed = g.listed;
   missing = λ q h. under_none bytes ps q (All-from_get_or (λ p. has_key bytes q p ≡ false) ps no_pair (λ k lt. g.covered q h k (omega (arith, g.ended e))));
   hashed = g.hashed;
@@ -138,8 +138,8 @@ grouped_all seed bytes ps rows from at g e = record {
 
 -- ---- one pair
 
-sorted_alone : (seed : ℕ) (bytes : List ℕ) (ps : List Pair) → length ps ≡ 1 → IsSortedBy (pair_below seed bytes) ps
-sorted_alone seed bytes ps one = λ k d low lt. absurd (omega arith)
+sorted_alone : (bytes : List ℕ) (ps : List Pair) → length ps ≡ 1 → IsSortedBy (pair_below bytes) ps
+sorted_alone bytes ps one = λ k d low lt. absurd (omega arith)
 
 abbrev pub row_alone : Pair → Row
 row_alone p = record { hash = p.hash; start = p.start; end = p.end; from = 0; to = 1 }
@@ -150,11 +150,11 @@ index_alone (p ∷ []) one = refl
 index_alone (p ∷ q ∷ ps) one = absurd (omega arith)
 
 -- one pair has one row
-pub grouped_alone : (bytes : List ℕ) (ps : List Pair) → length ps ≡ 1 → All (IsKept 0 bytes) ps
-    → HasRows 0 bytes (row_alone (get_or ps 0 no_pair) ∷ []) (map (λ p. p.index) ps) (entries_of bytes ps)
+pub grouped_alone : (bytes : List ℕ) (ps : List Pair) → length ps ≡ 1 → All (IsKept bytes) ps
+    → HasRows bytes (row_alone (get_or ps 0 no_pair) ∷ []) (map (λ p. p.index) ps) (entries_of bytes ps)
 grouped_alone bytes ps one kept =
     let r : Row = row_alone (get_or ps 0 no_pair) in
-    let none : Grouped 0 bytes ps [] 0 0 = record {
+    let none : Grouped bytes ps [] 0 0 = record {
       behind = omega arith;
       few = omega arith;
       ended = λ e. refl;
@@ -166,4 +166,4 @@ grouped_alone bytes ps one kept =
       sorted = λ k d low lt. absurd (omega arith);
       below = λ a k d lt. absurd (omega arith);
     } in
-    grouped_all 0 bytes ps (r ∷ []) 1 1 (grouped_row 0 bytes ps [] 0 0 none (omega arith) (sorted_alone 0 bytes ps one) (λ more. absurd (omega arith)) r refl refl refl (kept 0 no_pair (omega arith)).1) (sym one)
+    grouped_all bytes ps (r ∷ []) 1 1 (grouped_row bytes ps [] 0 0 none (omega arith) (sorted_alone bytes ps one) (λ more. absurd (omega arith)) r refl refl refl (kept 0 no_pair (omega arith)).1) (sym one)

@@ -33,15 +33,15 @@ first_rises a b o h =
     (cases_lt a b)
 
 -- sorted rows have rising hashes
-pub hashes_rise : (seed : ℕ) (bytes : List ℕ) (rows : List Row) → All (IsHashed seed bytes) rows → IsSortedBy (row_below seed bytes) rows → IsNonDecreasing (hashes_of rows)
-hashes_rise seed bytes rows hashed up = λ i j d le lt.
+pub hashes_rise : (bytes : List ℕ) (rows : List Row) → All (IsHashed bytes) rows → IsSortedBy (row_below bytes) rows → IsNonDecreasing (hashes_of rows)
+hashes_rise bytes rows hashed up = λ i j d le lt.
     let n : j < length rows = omega (arith, lt, length-map rows (λ (r : Row). r.hash)) in
     let m : i < length rows = omega arith in
     let x = row_key bytes (get_or rows i no_row) in
     let y = row_key bytes (get_or rows j no_row) in
-    let h : hash_of seed x ≤ hash_of seed y = first_rises (hash_of seed y) (hash_of seed x) (slice_cmp nat_cmp y x) (sorted_far (row_below seed bytes) (ranks_by (keys_ordered seed).total (row_key bytes)) rows up i j no_row le n) in
-    let first : get_or (hashes_of rows) i d ≡ hash_of seed x = get_or-map (λ (r : Row). r.hash) rows i no_row d m ∙ hashed i no_row m in
-    let second : get_or (hashes_of rows) j d ≡ hash_of seed y = get_or-map (λ (r : Row). r.hash) rows j no_row d n ∙ hashed j no_row n in
+    let h : hash_of x ≤ hash_of y = first_rises (hash_of y) (hash_of x) (slice_cmp nat_cmp y x) (sorted_far (row_below bytes) (ranks_by keys_ordered.total (row_key bytes)) rows up i j no_row le n) in
+    let first : get_or (hashes_of rows) i d ≡ hash_of x = get_or-map (λ (r : Row). r.hash) rows i no_row d m ∙ hashed i no_row m in
+    let second : get_or (hashes_of rows) j d ≡ hash_of y = get_or-map (λ (r : Row). r.hash) rows j no_row d n ∙ hashed j no_row n in
     omega (arith, h, first, second)
 
 pub buckets_rise : (rows : List Row) (shift : ℕ) → IsNonDecreasing (hashes_of rows) → IsNonDecreasing (buckets_of shift rows)
@@ -93,8 +93,8 @@ near_is rows starts b =
     (λ f. inl (cond-false (ltb (b + 1) (length starts)) part rows f))
     (cases_Bool (ltb (b + 1) (length starts)))
 
-part_sorted : (seed : ℕ) (bytes : List ℕ) (rows : List Row) (i j : ℕ) → IsSortedBy (row_below seed bytes) rows → IsSortedBy (row_below seed bytes) (slice_range rows i j)
-part_sorted seed bytes rows i j up = λ k d a b.
+part_sorted : (bytes : List ℕ) (rows : List Row) (i j : ℕ) → IsSortedBy (row_below bytes) rows → IsSortedBy (row_below bytes) (slice_range rows i j)
+part_sorted bytes rows i j up = λ k d a b.
     let small : k + 1 < j - i = omega (arith, b, length-take (j - i) (drop i rows)) in
     let within : i + k + 1 < length rows = omega (arith, b, length-take (j - i) (drop i rows), length-drop i rows) in
     let first : get_or (slice_range rows i j) k d ≡ get_or rows (i + k) d = at_part rows i j k d (omega arith) in
@@ -111,11 +111,11 @@ part_contains rows i j r h =
     let small : h.0 < j - i = omega (arith, h.1, length-take (j - i) (drop i rows)) in
     (i + h.0, omega (arith, h.1, length-take (j - i) (drop i rows), length-drop i rows), sym (at_part rows i j h.0 r small) ∙ h.2)
 
-pub near_sorted : (seed : ℕ) (bytes : List ℕ) (rows : List Row) (starts : List ℕ) (b : ℕ) → IsSortedBy (row_below seed bytes) rows → IsSortedBy (row_below seed bytes) (rows_near rows starts b)
-near_sorted seed bytes rows starts b up =
+pub near_sorted : (bytes : List ℕ) (rows : List Row) (starts : List ℕ) (b : ℕ) → IsSortedBy (row_below bytes) rows → IsSortedBy (row_below bytes) (rows_near rows starts b)
+near_sorted bytes rows starts b up =
     ⊎_elim
-    (λ e. subst (λ l. IsSortedBy (row_below seed bytes) l) (sym e) up)
-    (λ h. subst (λ l. IsSortedBy (row_below seed bytes) l) (sym h.1) (part_sorted seed bytes rows _ _ up))
+    (λ e. subst (λ l. IsSortedBy (row_below bytes) l) (sym e) up)
+    (λ h. subst (λ l. IsSortedBy (row_below bytes) l) (sym h.1) (part_sorted bytes rows _ _ up))
     (near_is rows starts b)
 
 pub near_all : (P : Row → Type 0) (rows : List Row) (starts : List ℕ) (b : ℕ) → All P rows → All P (rows_near rows starts b)
@@ -142,13 +142,13 @@ near_length rows starts b =
     (near_is rows starts b)
 
 -- a row with the key is in the bucket of the key's hash
-pub near_none : (seed : ℕ) (bytes : List ℕ) (rows : List Row) (shift : ℕ) (starts q : List ℕ) → All (IsHashed seed bytes) rows → HasStarts rows shift starts →
-    HasNoRow bytes (rows_near rows starts (hash_of seed q / 2 ^ shift)) q → HasNoRow bytes rows q
-near_none seed bytes rows shift starts q hashed s h =
+pub near_none : (bytes : List ℕ) (rows : List Row) (shift : ℕ) (starts q : List ℕ) → All (IsHashed bytes) rows → HasStarts rows shift starts →
+    HasNoRow bytes (rows_near rows starts (hash_of q / 2 ^ shift)) q → HasNoRow bytes rows q
+near_none bytes rows shift starts q hashed s h =
     ⊎_elim
     (λ e. subst (λ l. HasNoRow bytes l q) e h)
     (λ n.
-    let b = hash_of seed q / 2 ^ shift in
+    let b = hash_of q / 2 ^ shift in
     let from = slice_index starts b in
     let to = slice_index starts (b + 1) in
     let none : HasNoRow bytes (slice_range rows from to) q = subst (λ l. HasNoRow bytes l q) n.1 h in
@@ -156,7 +156,7 @@ near_none seed bytes rows shift starts q hashed s h =
     let r = get_or rows k d in
     let in' : k < length (buckets_of shift rows) = omega (arith, lt, length-map rows (λ (x : Row). x.hash / 2 ^ shift)) in
     let own : slice_index (buckets_of shift rows) k ≡ r.hash / 2 ^ shift = get_or-map (λ (x : Row). x.hash / 2 ^ shift) rows k d 0 lt in
-    let same : bytes_eq (row_key bytes r) q ≡ true → slice_index (buckets_of shift rows) k ≡ b = λ t. own ∙ ap (λ g. g / 2 ^ shift) (hashed k d lt ∙ ap (hash_of seed) ((bytes_decides (row_key bytes r) q).0 t)) in
+    let same : bytes_eq (row_key bytes r) q ≡ true → slice_index (buckets_of shift rows) k ≡ b = λ t. own ∙ ap (λ g. g / 2 ^ shift) (hashed k d lt ∙ ap hash_of ((bytes_decides (row_key bytes r) q).0 t)) in
     ⊎_elim
     (λ low. false_from_ne_true (bytes_eq (row_key bytes r) q) (λ t. omega (arith, (s.at b (omega arith)).0 k low in', same t)))
     (λ high.
@@ -167,7 +167,7 @@ near_none seed bytes rows shift starts q hashed s h =
     (λ past. false_from_ne_true (bytes_eq (row_key bytes r) q) (λ t. omega (arith, (s.at (b + 1) n.0).1 k past in', same t)))
     (cases_lt k to))
     (cases_lt k from))
-    (near_is rows starts (hash_of seed q / 2 ^ shift))
+    (near_is rows starts (hash_of q / 2 ^ shift))
 
 pub match_weaker : {T : Type 0} {P Q : Type 0} {R S : T → Type 0} (o : Option T) → (P → Q) → ((x : T) → R x → S x) → MatchOption o P R → MatchOption o Q S
 match_weaker None f g h = f h

@@ -29,10 +29,10 @@ second_equal Less s e = cc
 second_equal Equal s e = e
 second_equal Greater s e = cc
 
-pub keys_ordered : (seed : ℕ) → IsKeyOrder (key_order seed)
-keys_ordered seed = record {
-  total = on_total (λ x. (hash_of seed x, x)) hashes_ordered;
-  exact = λ x y e. exact_bytes x y (second_equal (nat_cmp (hash_of seed x) (hash_of seed y)) (slice_cmp nat_cmp x y) e);
+pub keys_ordered : IsKeyOrder key_order
+keys_ordered = record {
+  total = on_total (λ x. (hash_of x, x)) hashes_ordered;
+  exact = λ x y e. exact_bytes x y (second_equal (nat_cmp (hash_of x) (hash_of y)) (slice_cmp nat_cmp x y) e);
 }
 
 -- whether a pair has this key
@@ -49,44 +49,44 @@ under_filter bytes (p ∷ ps) q =
     ap (λ l. cond (has_key bytes q p) (p.index ∷ l) l) (under_filter bytes ps q) ∙ choose_index (has_key bytes q p) p (filter (has_key bytes q) ps)
 
 -- by the hashes that the pairs hold, and by those of their keys
-before_is : (seed : ℕ) (bytes : List ℕ) (p q : Pair) → IsKept seed bytes p → IsKept seed bytes q → pair_before bytes p q ≡ pair_below seed bytes p q
-before_is seed bytes p q a b =
+before_is : (bytes : List ℕ) (p q : Pair) → IsKept bytes p → IsKept bytes q → pair_before bytes p q ≡ pair_below bytes p q
+before_is bytes p q a b =
     ap (λ h. is_lt (hashed_order h (pair_key bytes p) q.hash (pair_key bytes q))) a.1
-    ∙ ap (λ h. is_lt (hashed_order (hash_of seed (pair_key bytes p)) (pair_key bytes p) h (pair_key bytes q))) b.1
+    ∙ ap (λ h. is_lt (hashed_order (hash_of (pair_key bytes p)) (pair_key bytes p) h (pair_key bytes q))) b.1
 
-pub sorted_below : (seed : ℕ) (bytes : List ℕ) (qs : List Pair) → All (IsKept seed bytes) qs → IsSortedBy (pair_before bytes) qs → IsSortedBy (pair_below seed bytes) qs
-sorted_below seed bytes qs kept up = λ k d a b.
-    sym (before_is seed bytes (get_or qs (k + 1) d) (get_or qs k d) (kept (k + 1) d b) (kept k d (omega arith))) ∙ up k d a b
+pub sorted_below : (bytes : List ℕ) (qs : List Pair) → All (IsKept bytes) qs → IsSortedBy (pair_before bytes) qs → IsSortedBy (pair_below bytes) qs
+sorted_below bytes qs kept up = λ k d a b.
+    sym (before_is bytes (get_or qs (k + 1) d) (get_or qs k d) (kept (k + 1) d b) (kept k d (omega arith))) ∙ up k d a b
 
-ties_are : (seed : ℕ) (bytes : List ℕ) (q : List ℕ) (x p : Pair) → pair_key bytes x ≡ q → IsKept seed bytes x → IsKept seed bytes p → ties (pair_before bytes) x p ≡ has_key bytes q p
-ties_are seed bytes q x p e a b =
-    ap (λ t. not t && not (pair_before bytes p x)) (before_is seed bytes x p a b)
-    ∙ ap (λ t. not (pair_below seed bytes x p) && not t) (before_is seed bytes p x b a)
-    ∙ ties_is (keys_ordered seed) (pair_key bytes) x p
+ties_are : (bytes : List ℕ) (q : List ℕ) (x p : Pair) → pair_key bytes x ≡ q → IsKept bytes x → IsKept bytes p → ties (pair_before bytes) x p ≡ has_key bytes q p
+ties_are bytes q x p e a b =
+    ap (λ t. not t && not (pair_before bytes p x)) (before_is bytes x p a b)
+    ∙ ap (λ t. not (pair_below bytes x p) && not t) (before_is bytes p x b a)
+    ∙ ties_is keys_ordered (pair_key bytes) x p
     ∙ ap (bytes_eq (pair_key bytes p)) e
 
-sorted_filter : (seed : ℕ) (bytes : List ℕ) (ps qs : List Pair) → All (IsKept seed bytes) ps → IsPermutation ps qs → IsStableBy (pair_before bytes) ps qs → (q : List ℕ) →
+sorted_filter : (bytes : List ℕ) (ps qs : List Pair) → All (IsKept bytes) ps → IsPermutation ps qs → IsStableBy (pair_before bytes) ps qs → (q : List ℕ) →
     filter (has_key bytes q) qs ≡ filter (has_key bytes q) ps
-sorted_filter seed bytes ps qs kept moved stable q =
+sorted_filter bytes ps qs kept moved stable q =
     ⊎_elim
     (λ y. let some = Any-from_list_any (has_key bytes q) ps y in
     let x = some.1 in
     let e : pair_key bytes x ≡ q = (bytes_decides (pair_key bytes x) q).0 some.4 in
-    let own : IsKept seed bytes x = subst (IsKept seed bytes) some.3 (kept some.0 x some.2) in
-    let agree : (p : Pair) → IsKept seed bytes p → ties (pair_before bytes) x p ≡ has_key bytes q p = λ p b. ties_are seed bytes q x p e own b in
+    let own : IsKept bytes x = subst (IsKept bytes) some.3 (kept some.0 x some.2) in
+    let agree : (p : Pair) → IsKept bytes p → ties (pair_before bytes) x p ≡ has_key bytes q p = λ p b. ties_are bytes q x p e own b in
     let P : Pair → Type 0 = λ p. ties (pair_before bytes) x p ≡ has_key bytes q p in
-    let same : (l : List Pair) → All (IsKept seed bytes) l → filter (ties (pair_before bytes) x) l ≡ filter (has_key bytes q) l =
-    λ l h. filter_same (ties (pair_before bytes) x) (has_key bytes q) l (All-weaker (IsKept seed bytes) P agree l h) in
-    sym (same qs (All-permutation (IsKept seed bytes) ps qs moved kept)) ∙ stable x ∙ same ps kept)
+    let same : (l : List Pair) → All (IsKept bytes) l → filter (ties (pair_before bytes) x) l ≡ filter (has_key bytes q) l =
+    λ l h. filter_same (ties (pair_before bytes) x) (has_key bytes q) l (All-weaker (IsKept bytes) P agree l h) in
+    sym (same qs (All-permutation (IsKept bytes) ps qs moved kept)) ∙ stable x ∙ same ps kept)
     (λ n. filter_none_any (has_key bytes q) qs (sym (list_any-IsPermutation (has_key bytes q) ps qs moved) ∙ n)
     ∙ sym (filter_none_any (has_key bytes q) ps n))
     (cases_Bool (list_any (has_key bytes q) ps))
 
 -- a stable sort leaves the indexes under each key
-pub sorted_under : (seed : ℕ) (bytes : List ℕ) (ps qs : List Pair) → All (IsKept seed bytes) ps → IsPermutation ps qs → IsStableBy (pair_before bytes) ps qs → (q : List ℕ) →
+pub sorted_under : (bytes : List ℕ) (ps qs : List Pair) → All (IsKept bytes) ps → IsPermutation ps qs → IsStableBy (pair_before bytes) ps qs → (q : List ℕ) →
     indexes_under (entries_of bytes qs) q ≡ indexes_under (entries_of bytes ps) q
-sorted_under seed bytes ps qs kept moved stable q =
-    under_filter bytes qs q ∙ ap (map (λ p. p.index)) (sorted_filter seed bytes ps qs kept moved stable q) ∙ sym (under_filter bytes ps q)
+sorted_under bytes ps qs kept moved stable q =
+    under_filter bytes qs q ∙ ap (map (λ p. p.index)) (sorted_filter bytes ps qs kept moved stable q) ∙ sym (under_filter bytes ps q)
 
 pub under_none : (bytes : List ℕ) (ps : List Pair) (q : List ℕ) → All (λ p. has_key bytes q p ≡ false) ps → indexes_under (entries_of bytes ps) q ≡ []
 under_none bytes ps q h = under_filter bytes ps q ∙ ap (map (λ p. p.index)) (filter_none (has_key bytes q) ps h)

@@ -1,9 +1,7 @@
 -- Keys as parts of one list of bytes, and the entries that pairs of such a key and an index stand for.
-use Rattle.std.specs.Prelude.{ℕ, ◌≡◌, ◌≤◌, ◌/◌, ◌^◌, Bool, List, cond, nat_eq, length, map, slice_range}
+use Rattle.std.specs.Prelude.{ℕ, ◌≡◌, ◌≤◌, ◌/◌, ◌^◌, Bool, List, length, map, slice_range}
 use Rattle.std.specs.declared.cmp.Ordering.{Ordering}
 use Rattle.std.specs.Cmp.Lexicographic.{slice_cmp}
-use Rattle.std.specs.Hash.{le_bytes}
-use Rattle.std.specs.Hash.DefaultHasher as sip
 use Rattle.std.specs.Hash.FoldHasher as folding
 use Rattle.std.specs.Ordering.{nat_cmp, ordering_then, is_lt}
 use Rattle.byte_keys.specs.Entries.{Entry, entry}
@@ -20,37 +18,26 @@ pair_entry bytes p = entry (pair_key bytes p) p.index
 abbrev pub entries_of : List ℕ → List Pair → List Entry
 entries_of bytes ps = map (pair_entry bytes) ps
 
--- the hash of a key with no seed, and with one
-abbrev pub plain_hash : List ℕ → ℕ
-plain_hash key = folding.finish (folding.write folding.initial key)
-
-abbrev pub seeded_hash : ℕ → List ℕ → ℕ
-seeded_hash seed key = sip.finish (sip.write (sip.write sip.initial (le_bytes 8 seed)) key)
-
--- the upper half of a key's hash; 0 is no seed
-unfoldable pub hash_of : ℕ → List ℕ → ℕ
-hash_of seed key = cond (nat_eq seed 0) (plain_hash key) (seeded_hash seed key) / 2 ^ 32
+-- the upper half of a key's hash
+unfoldable pub hash_of : List ℕ → ℕ
+hash_of key = folding.finish (folding.write folding.initial key) / 2 ^ 32
 
 -- the order of hashes, and of keys under one hash
 abbrev pub hashed_order : ℕ → List ℕ → ℕ → List ℕ → Ordering
 hashed_order g x h y = ordering_then (nat_cmp g h) (slice_cmp nat_cmp x y)
 
 -- the order of keys
-abbrev pub key_order : ℕ → List ℕ → List ℕ → Ordering
-key_order seed x y = hashed_order (hash_of seed x) x (hash_of seed y) y
+abbrev pub key_order : List ℕ → List ℕ → Ordering
+key_order x y = hashed_order (hash_of x) x (hash_of y) y
 
 -- the pair's key lies within the bytes, and its hash is that of its key
-abbrev pub IsKept : ℕ → List ℕ → Pair → Type 0
-IsKept seed bytes p = (p.end ≤ length bytes) × (p.hash ≡ hash_of seed (pair_key bytes p))
-
--- the pair with the hash that its key has with a seed
-abbrev pub with_hash : ℕ → List ℕ → Pair → Pair
-with_hash seed bytes p = record { hash = hash_of seed (pair_key bytes p); start = p.start; end = p.end; index = p.index }
+abbrev pub IsKept : List ℕ → Pair → Type 0
+IsKept bytes p = (p.end ≤ length bytes) × (p.hash ≡ hash_of (pair_key bytes p))
 
 -- whether a pair comes before another by the hashes that they hold
 abbrev pub pair_before : List ℕ → Pair → Pair → Bool
 pair_before bytes p q = is_lt (hashed_order p.hash (pair_key bytes p) q.hash (pair_key bytes q))
 
 -- whether a pair comes before another
-abbrev pub pair_below : ℕ → List ℕ → Pair → Pair → Bool
-pair_below seed bytes p q = is_lt (key_order seed (pair_key bytes p) (pair_key bytes q))
+abbrev pub pair_below : List ℕ → Pair → Pair → Bool
+pair_below bytes p q = is_lt (key_order (pair_key bytes p) (pair_key bytes q))

@@ -14,12 +14,12 @@ abbrev pub row_key : List ℕ → Row → List ℕ
 row_key bytes r = slice_range bytes r.start r.end
 
 -- the row keeps the hash of its key
-abbrev pub IsHashed : ℕ → List ℕ → Row → Type 0
-IsHashed seed bytes r = r.hash ≡ hash_of seed (row_key bytes r)
+abbrev pub IsHashed : List ℕ → Row → Type 0
+IsHashed bytes r = r.hash ≡ hash_of (row_key bytes r)
 
 -- whether a row comes before another
-abbrev pub row_below : ℕ → List ℕ → Row → Row → Bool
-row_below seed bytes r s = is_lt (key_order seed (row_key bytes r) (row_key bytes s))
+abbrev pub row_below : List ℕ → Row → Row → Bool
+row_below bytes r s = is_lt (key_order (row_key bytes r) (row_key bytes s))
 
 -- the row has the indexes that the entries have under its key
 abbrev pub IsListed : List ℕ → List ℕ → List Entry → Row → Type 0
@@ -30,11 +30,11 @@ abbrev pub HasNoRow : List ℕ → List Row → List ℕ → Type 0
 HasNoRow bytes rows q = All (λ r. bytes_eq (row_key bytes r) q ≡ false) rows
 
 -- the rows have the entries' keys, each with its indexes, and are in order
-pub record HasRows (seed : ℕ) (bytes : List ℕ) (rows : List Row) (indexes : List ℕ) (entries : List Entry) : Type 0 where
+pub record HasRows (bytes : List ℕ) (rows : List Row) (indexes : List ℕ) (entries : List Entry) : Type 0 where
   pub listed : All (IsListed bytes indexes entries) rows
   pub missing : (q : List ℕ) → HasNoRow bytes rows q → indexes_under entries q ≡ []
-  pub hashed : All (IsHashed seed bytes) rows
-  pub sorted : IsSortedBy (row_below seed bytes) rows
+  pub hashed : All (IsHashed bytes) rows
+  pub sorted : IsSortedBy (row_below bytes) rows
   pub few : length rows ≤ length indexes
 
 -- the key of the pair at an index

@@ -1,4 +1,3 @@
-use Rattle.std.proofs.Common.{refl}
 use Rattle.byte_keys.proofs.lemmas.Starts.{buckets_rise}
 use Rattle.byte_keys.proofs.directory.directory_of.Goals as goal
 
@@ -8,4 +7,4 @@ starts_of-requires-clause-sorted c = rw (c.deref.ensures.value, c.in_ok-buckets.
 pub returns : goal.returns
 returns c =
     let made = rw (c.deref.ensures.value, c.in_ok-buckets.ensures) at c.in_ok-starts.ensures in
-    (refl, record { at = made })
+    record { at = made }

@@ -12,9 +12,9 @@ returns c =
     let indexes : c.push-2.new.self.items ≡ map (λ p. p.index) pairs = rw c.in_ok-indexes.ensures.items at c.in_ok-push-2.ensures.items ∙ sym (index_alone pairs c.requires.one) in
     let counted : length (entries_of bytes pairs) ≡ 1 = length-map pairs (pair_entry bytes) ∙ c.requires.one in
     record {
-      has_rows = rw (items, c.new.ensures.seed, indexes) (grouped_alone bytes pairs c.requires.one c.requires.kept);
+      has_rows = rw (items, indexes) (grouped_alone bytes pairs c.requires.one c.requires.kept);
       has_ends = rw (c.deref.ensures.value, c.deref-2.ensures.value) at c.ends_of-ends.ensures;
-      has_starts = record { at = λ b lt. absurd (omega (arith, ap length c.new.ensures.starts)) };
+      has_starts = record { at = λ b lt. absurd (omega (arith, ap length c.new.ensures)) };
       counted = rw indexes (simp length-map);
       some = λ e. absurd (omega (arith, ap length e));
     }

@@ -12,14 +12,14 @@ loop-at-preserved c =
     elim c.if-ends_group.branch [
       | then-ends_group+in_ok-push w ↦
           rw (w.rows-is, w.from-is, w.in_ok-push.ensures.items)
-          (grouped_row c.args.seed bytes pairs c.loop-at.rows.items c.loop-at.from c.loop-at.at c.loop-at.invariant (omega (arith, c.loop-at-test.true)) c.requires.sorted
+          (grouped_row bytes pairs c.loop-at.rows.items c.loop-at.from c.loop-at.at c.loop-at.invariant (omega (arith, c.loop-at-test.true)) c.requires.sorted
           (MatchBool-at_true (IsOtherKey bytes pairs c.loop-at.at) (IsSameKey bytes pairs c.loop-at.at) w.if-ends_group.true c.ends_group.ensures) _ refl refl refl
           (c.requires.kept c.loop-at.at _ (omega (arith, c.loop-at-test.true))).1)
       | else-ends_group w ↦
           rw (w.rows-is, w.from-is)
-          (grouped_more c.args.seed bytes pairs c.loop-at.rows.items c.loop-at.from c.loop-at.at c.loop-at.invariant (omega (arith, c.loop-at-test.true))
+          (grouped_more bytes pairs c.loop-at.rows.items c.loop-at.from c.loop-at.at c.loop-at.invariant (omega (arith, c.loop-at-test.true))
           (MatchBool-at_false (IsOtherKey bytes pairs c.loop-at.at) (IsSameKey bytes pairs c.loop-at.at) w.if-ends_group.false c.ends_group.ensures))
     ]
 
 pub returns : goal.returns
-returns c = rw c.shrink_to_fit.ensures.items (grouped_all _ _ _ _ _ _ c.loop-at.invariant (omega (arith, c.loop-at-test.false)))
+returns c = rw c.shrink_to_fit.ensures.items (grouped_all _ _ _ _ _ c.loop-at.invariant (omega (arith, c.loop-at-test.false)))

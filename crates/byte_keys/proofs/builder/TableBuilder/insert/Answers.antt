@@ -11,7 +11,7 @@ on_err_always (Err e) p = p
 pub returns-in_err-push-clause-err : goal.returns-in_err-push-clause-err
 returns-in_err-push-clause-err c =
     rw (c.in_err-push.ensures.items, c.in_ok-extend_from_slice.ensures.items)
-    (on_err_always c.from_residual-in_err-push.result (entries_kept 0 _ c.args.key.now _ c.self.invariant ∙ c.self.view_is))
+    (on_err_always c.from_residual-in_err-push.result (entries_kept _ c.args.key.now _ c.self.invariant ∙ c.self.view_is))
 
 pub returns-clause-ok : goal.returns-clause-ok
 returns-clause-ok c =
@@ -19,7 +19,7 @@ returns-clause-ok c =
     let more = ap length c.in_ok-extend_from_slice.ensures.items ∙ length-append c.self.inside.bytes.items c.args.key.now in
     let long : c.len.result ≡ c.len-start.result + length c.args.key.now = omega (arith, c.len.ensures, more, at) in
     rw (c.in_ok-push.ensures.items, c.in_ok-extend_from_slice.ensures.items)
-    (entries_added 0 c.self.inside.bytes.items c.args.key.now c.self.inside.pairs.items _ c.self.invariant at long ∙ ap (λ l. l ++ entry c.args.key.now c.args.index ∷ []) c.self.view_is)
+    (entries_added c.self.inside.bytes.items c.args.key.now c.self.inside.pairs.items _ c.self.invariant at long ∙ ap (λ l. l ++ entry c.args.key.now c.args.index ∷ []) c.self.view_is)
 
 pub invariant_of-self-2 : goal.invariant_of-self-2
 invariant_of-self-2 c =
@@ -27,4 +27,4 @@ invariant_of-self-2 c =
     let more = ap length c.in_ok-extend_from_slice.ensures.items ∙ length-append c.self.inside.bytes.items c.args.key.now in
     let long : c.len.result ≡ c.len-start.result + length c.args.key.now = omega (arith, c.len.ensures, more, at) in
     rw (c.in_ok-push.ensures.items, c.in_ok-extend_from_slice.ensures.items)
-    (kept_added 0 c.self.inside.bytes.items c.args.key.now c.self.inside.pairs.items _ c.self.invariant at long c.hash.ensures)
+    (kept_added c.self.inside.bytes.items c.args.key.now c.self.inside.pairs.items _ c.self.invariant at long c.hash.ensures)
