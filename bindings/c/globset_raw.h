@@ -18,6 +18,9 @@
  *    a call as `globset_owned`: it is not freed, for instance.
  *  - A work is the memory that one thread matches with. It serves any number of sets and matchers, and grows with them.
  *    It belongs to one thread at a time.
+ *  - A set and a matcher keep a cache of rows for each automaton that has no table, until they are freed. A call that
+ *    grows a work for them makes it, if there is none and as far as there is memory. Calls with a work use it, and
+ *    make no more. A searcher has rows of its own.
  *  - A searcher is a set with all the memory that one thread matches with. It shares what the set matches with, and so
  *    may be used after the set was freed. It belongs to one thread at a time, and several threads make a searcher each.
  *    A question about one path takes no memory and cannot fail. A program that asks a set about many paths asks a
@@ -155,7 +158,8 @@ globset_status globset_raw_set_len(globset_lent *set, size_t *len);
 globset_status globset_raw_work_new(globset_owned *out);
 
 /* Grows a work, if need be, so that it fits this set or matcher, and all that it fitted before. GLOBSET_DONE;
- * GLOBSET_WRONG_KIND and GLOBSET_OUT_OF_MEMORY, and then the work fits what it fitted before. With a work that fits, no
+ * GLOBSET_WRONG_KIND and GLOBSET_OUT_OF_MEMORY, and then the work fits what it fitted before. If it is grown, the set
+ * or the matcher keeps caches, as said above; one for which there is no memory is left out. With a work that fits, no
  * question about one path takes memory or can end in GLOBSET_OUT_OF_MEMORY. */
 globset_status globset_raw_work_fit(globset_owned *work, globset_lent *set_or_matcher);
 
