@@ -311,15 +311,9 @@ size_t globset_set_length(const globset_set *set) {
 
 int globset_set_is_match(const globset_set *set, const char *path, size_t length) {
     globset_lent lent = lend(set);
-    globset_owned work = own(NULL);
     struct bytes bytes;
-    globset_status status;
     if (set == NULL || !find_bytes(path, length, &bytes)) return GLOBSET_ENULL;
-    status = globset_raw_work_new(&work);
-    if (status != GLOBSET_DONE) return result_of(status);
-    status = globset_raw_set_is_match(&lent, &work, bytes.at, bytes.length);
-    globset_raw_free(work);
-    return result_of(status);
+    return result_of(globset_raw_set_is_match_plain(&lent, bytes.at, bytes.length));
 }
 
 void globset_set_free(globset_set *set) { free_object(set); }

@@ -17,10 +17,12 @@
  *    struct, not the object). While an object is lent, from before the call until it has returned, nobody passes it to
  *    a call as `globset_owned`: it is not freed, for instance.
  *  - A work is the memory that one thread matches with. It serves any number of sets and matchers, and grows with them.
- *    It belongs to one thread at a time.
- *  - A set and a matcher keep a cache of rows for each automaton that has no table, until they are freed. A call that
- *    grows a work for them makes it, if there is none and as far as there is memory. Calls with a work use it, and
- *    make no more. A searcher has rows of its own.
+ *    It belongs to one thread at a time. A *plain* call, whose name ends in `_plain`, is passed no work: it takes what
+ *    memory it needs, and gives it back.
+ *  - A set and a matcher keep caches of rows between calls, until they are freed, for automata that have no table: at
+ *    most four for each. Plain calls make them, but for the first two that would use one. A call that grows a work
+ *    makes one for each automaton that has none, as far as there is memory. A call with a work that fits makes none,
+ *    and uses those that are there. A searcher has rows of its own.
  *  - A searcher is a set with all the memory that one thread matches with. It shares what the set matches with, and so
  *    may be used after the set was freed. It belongs to one thread at a time, and several threads make a searcher each.
  *    A question about one path takes no memory and cannot fail. A program that asks a set about many paths asks a
@@ -128,6 +130,10 @@ globset_status globset_raw_matcher_new(globset_lent *glob, globset_owned *out);
 globset_status globset_raw_matcher_is_match(globset_lent *matcher, globset_owned *work, const uint8_t *path,
                                             size_t path_len);
 
+/* Whether the matcher's glob matches the path, without a work: GLOBSET_YES or GLOBSET_NO. GLOBSET_WRONG_KIND,
+ * GLOBSET_OUT_OF_MEMORY. */
+globset_status globset_raw_matcher_is_match_plain(globset_lent *matcher, const uint8_t *path, size_t path_len);
+
 /* Makes a builder without globs. GLOBSET_DONE, GLOBSET_OUT_OF_MEMORY. */
 globset_status globset_raw_builder_new(globset_owned *out);
 
@@ -153,6 +159,23 @@ globset_status globset_raw_set_of_globs(globset_lent *globs, size_t globs_len, g
 
 /* The number of globs of a set. GLOBSET_DONE: it is in `len`. GLOBSET_WRONG_KIND. It takes no memory. */
 globset_status globset_raw_set_len(globset_lent *set, size_t *len);
+
+/* Whether some glob of the set matches the path: GLOBSET_YES or GLOBSET_NO. A glob that is read as `**` followed by
+ * `/..` matches no path in a set. GLOBSET_WRONG_KIND, GLOBSET_OUT_OF_MEMORY. */
+globset_status globset_raw_set_is_match_plain(globset_lent *set, const uint8_t *path, size_t path_len);
+
+/* Whether all globs of the set match the path, as globset_raw_set_is_match_plain. */
+globset_status globset_raw_set_matches_all_plain(globset_lent *set, const uint8_t *path, size_t path_len);
+
+/* Writes the indexes of the globs of the set that match the path, ascending. GLOBSET_DONE: the first `*needed` numbers
+ * of `room` are the indexes, and the others are as they were. GLOBSET_TOO_SMALL: `*needed` is how many indexes there
+ * are, and `room` is as it was. GLOBSET_WRONG_KIND, GLOBSET_OUT_OF_MEMORY. */
+globset_status globset_raw_set_matches_plain(globset_lent *set, const uint8_t *path, size_t path_len, size_t *room,
+                                             size_t room_len, size_t *needed);
+
+/* Whether some glob of the set matches some path below the folder, as globset_raw_searcher_can_match_below. It ends in
+ * the statuses of globset_raw_set_is_match_plain. */
+globset_status globset_raw_set_can_match_below_plain(globset_lent *set, const uint8_t *folder, size_t folder_len);
 
 /* Makes a work. It fits a set without globs, and is grown as it is used. GLOBSET_DONE, GLOBSET_OUT_OF_MEMORY. */
 globset_status globset_raw_work_new(globset_owned *out);

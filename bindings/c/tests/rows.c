@@ -1,5 +1,6 @@
-/* Eight threads ask one set that needs an automaton, and so keeps caches of rows that its callers use in turn. Thread
- * sanitizers do not see the locked steps by which a call takes a cache, as they are in the library: this is run without. */
+/* Eight threads ask one set that needs an automaton, and so keeps caches of rows that its callers use in turn, until they have
+ * used one so often that it is published. Thread sanitizers do not see the locked steps by which a call takes a cache, as they
+ * are in the library: this is run without, and under memcheck. */
 #include "objects.h"
 
 #include <pthread.h>

@@ -20,6 +20,7 @@ mod object;
 mod options;
 mod owned;
 mod paths;
+mod plain;
 mod read_glob;
 mod searcher_indexes;
 mod searcher_many;
