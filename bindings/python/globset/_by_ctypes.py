@@ -11,7 +11,7 @@ from typing import Deque, Iterable, List, Tuple, Type, TypeVar, Union
 
 from . import _library
 from ._errors import glob_error
-from ._library import Lent, Object, Searcher, put_back, take_work
+from ._library import Lent, Object, Searcher
 
 Path = Union[str, bytes, "os.PathLike[str]", "os.PathLike[bytes]"]
 
@@ -62,11 +62,7 @@ class GlobBase:
         matcher = self._matcher
         if not matcher.at:
             matcher = self._make_matcher()
-        work = take_work()
-        work.lent.at = matcher.at
-        status = _library.matcher_is_match(work.lent_at, work.at, data, len(data))
-        put_back(work)
-        return _library.answer(status)
+        return _library.answer(_library.matcher_is_match(ctypes.byref(Lent(matcher.at)), data, len(data)))
 
     def match_many(self, paths: Iterable[Path], /) -> List[bool]:
         """Returns for each path whether the glob matches it, in less time than a call for each takes.
@@ -99,7 +95,10 @@ class GlobSetBase:
 
     _set: Object
     _at: int
-    # The searchers that no call uses.
+    # The searchers that no call uses. A call takes one, and puts it back. So there are as many as there were calls at a time, and
+    # each is in one call, whichever thread makes it: also if a signal's handler or a finalizer makes a call while another of the
+    # same thread is not over. `pop` and `append` of a deque need no lock. One that an exception keeps from being put back is
+    # freed.
     _searchers: Deque[Searcher]
 
     def __new__(cls: Type[_AnySet], globs: Tuple[GlobBase, ...], limit: int, /) -> _AnySet:

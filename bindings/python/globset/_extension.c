@@ -1,9 +1,9 @@
 /* globset._extension: what globset/_by_ctypes.py has, as an extension module over the limited API of Python 3.10. It is linked
  * with the static library, and calls the proved functions (`globset_raw_..`).
  *
- * Threads. The interpreter's lock is held in every function here, but where it says that it is released. A call takes a work or
- * a searcher that no other call uses out of a pool, and puts it back. Where other code of Python can run, nothing of an object
- * is half made: a path's `__fspath__`, an iterator, a finalizer or another thread may call anything. */
+ * Threads. The interpreter's lock is held in every function here, but where it says that it is released. A call on a set takes a
+ * searcher that no other call uses out of the set's pool, and puts it back. Where other code of Python can run, nothing of an
+ * object is half made: a path's `__fspath__`, an iterator, a finalizer or another thread may call anything. */
 #define Py_LIMITED_API 0x030A0000
 #define PY_SSIZE_T_CLEAN
 #include <Python.h>
@@ -82,16 +82,14 @@ static int read_path(PyObject *object, struct path *path) {
 
 /* ---- Pools ---- */
 
-/* Works, or searchers of one set, that no call uses. There is room for all that were made, so putting one back cannot fail. */
+/* Searchers of one set that no call uses. There is room for all that were made, so putting one back cannot fail. */
 struct pool {
     globset_owned *unused;
     size_t count;
     size_t made;
 };
 
-static struct pool works;
-
-/* Takes a searcher of the set or, without a set, a work. */
+/* Takes a searcher of the set. */
 static int take(struct pool *pool, const globset_owned *set, globset_owned *out) {
     if (pool->count > 0) {
         *out = pool->unused[--pool->count];
@@ -103,8 +101,8 @@ static int take(struct pool *pool, const globset_owned *set, globset_owned *out)
         return -1;
     }
     pool->unused = unused;
-    globset_lent lent = {set ? set->at : NULL};
-    globset_status status = set ? globset_raw_searcher_new(&lent, out) : globset_raw_work_new(out);
+    globset_lent lent = {set->at};
+    globset_status status = globset_raw_searcher_new(&lent, out);
     if (status != GLOBSET_DONE) {
         raise_status(status);
         return -1;
@@ -113,7 +111,7 @@ static int take(struct pool *pool, const globset_owned *set, globset_owned *out)
     return 0;
 }
 
-static void put_back(struct pool *pool, globset_owned object) { pool->unused[pool->count++] = object; }
+static void put_back(struct pool *pool, globset_owned searcher) { pool->unused[pool->count++] = searcher; }
 
 static void free_pool(struct pool *pool) {
     while (pool->count > 0) globset_raw_free(pool->unused[--pool->count]);
@@ -341,32 +339,28 @@ static void glob_dealloc(PyObject *object) {
     end_object(object);
 }
 
-/* Takes a work, and makes the matcher if there is none. */
-static int take_work(struct glob *self, globset_owned *work) {
-    if (!self->matcher.at) {
-        globset_lent lent = {self->glob.at};
-        globset_owned matcher;
-        globset_status status = globset_raw_matcher_new(&lent, &matcher);
-        if (status != GLOBSET_DONE) {
-            raise_status(status);
-            return -1;
-        }
-        self->matcher = matcher;
+/* Makes the matcher if there is none. */
+static int make_matcher(struct glob *self) {
+    if (self->matcher.at) return 0;
+    globset_lent lent = {self->glob.at};
+    globset_owned matcher;
+    globset_status status = globset_raw_matcher_new(&lent, &matcher);
+    if (status != GLOBSET_DONE) {
+        raise_status(status);
+        return -1;
     }
-    return take(&works, NULL, work);
+    self->matcher = matcher;
+    return 0;
 }
 
 static PyObject *glob_match(PyObject *object, PyObject *asked) {
     struct glob *self = (struct glob *)object;
     struct path path;
-    globset_owned work;
     if (read_path(asked, &path) < 0) return NULL;
     PyObject *result = NULL;
-    if (take_work(self, &work) == 0) {
+    if (make_matcher(self) == 0) {
         globset_lent matcher = {self->matcher.at};
-        globset_status status = globset_raw_matcher_is_match(&matcher, &work, path.at, path.length);
-        put_back(&works, work);
-        result = answer(status);
+        result = answer(globset_raw_matcher_is_match_plain(&matcher, path.at, path.length));
     }
     Py_DECREF(path.holder);
     return result;
@@ -375,17 +369,15 @@ static PyObject *glob_match(PyObject *object, PyObject *asked) {
 /* Releases the lock. The caller has a reference to the glob, whose matcher does not change once it is there. */
 static int glob_ask(PyObject *object, struct block *block) {
     struct glob *self = (struct glob *)object;
-    globset_owned work;
-    if (take_work(self, &work) < 0) return -1;
+    if (make_matcher(self) < 0) return -1;
     globset_lent matcher = {self->matcher.at};
     globset_status status = GLOBSET_NO;
     Py_BEGIN_ALLOW_THREADS
     for (size_t i = 0; i < block->count && (status == GLOBSET_NO || status == GLOBSET_YES); i++) {
-        status = globset_raw_matcher_is_match(&matcher, &work, block->paths[i].at, block->paths[i].length);
+        status = globset_raw_matcher_is_match_plain(&matcher, block->paths[i].at, block->paths[i].length);
         block->yes[i] = status == GLOBSET_YES;
     }
     Py_END_ALLOW_THREADS
-    put_back(&works, work);
     if (status == GLOBSET_NO || status == GLOBSET_YES) return 0;
     raise_status(status);
     return -1;

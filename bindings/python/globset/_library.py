@@ -4,8 +4,7 @@ from __future__ import annotations
 
 import ctypes
 import os
-from collections import deque
-from typing import Any, Callable, Deque, List
+from typing import Any, Callable, List
 
 # What a call returns.
 DONE, NO, YES, OUT_OF_MEMORY, REJECTED = range(5)
@@ -70,7 +69,7 @@ glob_new = _declare("raw_glob_new", _BYTES, _SIZE, ctypes.c_uint32, _ERROR, _OWN
 error_text = _declare("raw_error_text", _ERROR, _BYTES, _SIZE, *_ROOM)
 glob_regex = _declare("raw_glob_regex", _LENT, *_ROOM)
 matcher_new = _declare("raw_matcher_new", _LENT, _OWNED)
-matcher_is_match = _declare("raw_matcher_is_match", _LENT, _OWNED, _BYTES, _SIZE)
+matcher_is_match = _declare("raw_matcher_is_match_plain", _LENT, _BYTES, _SIZE)
 builder_new = _declare("raw_builder_new", _OWNED)
 builder_add = _declare("raw_builder_add", _OWNED, _LENT)
 builder_set_dfa_size_limit = _declare("raw_builder_set_dfa_size_limit", _OWNED, _SIZE)
@@ -86,7 +85,6 @@ searcher_is_match_many = _declare(
 searcher_can_match_below = _declare("raw_searcher_can_match_below", _OWNED, _BYTES, _SIZE)
 escape = _declare("raw_escape", _BYTES, _SIZE, *_ROOM)
 version = _declare("version")
-_work_new = _declare("raw_work_new", _OWNED)
 _free = _declare("raw_free", Owned, result=None)
 
 
@@ -97,19 +95,6 @@ class Object(Owned):
     def __del__(self, free: Callable[[Owned], None] = _free) -> None:
         if self.at:
             free(self)
-
-
-class Work:
-    """What one call uses at a time: a work of the library, and a place for an argument."""
-
-    __slots__ = ("_object", "lent", "lent_at", "at")
-
-    def __init__(self) -> None:
-        self._object = Object()
-        self.at = ctypes.addressof(self._object)
-        raise_unless_done(_work_new(self.at))
-        self.lent = Lent()
-        self.lent_at = ctypes.addressof(self.lent)
 
 
 class Searcher:
@@ -141,22 +126,6 @@ class Searcher:
         indexes.at, indexes.count = self._NONE_AT, 0
         raise_unless_done(searcher_found(self.at, self._indexes_at))
         return self._found[: indexes.count]
-
-
-# The works that no call uses. A call takes one, and puts it back. So there are as many works as there were calls at a time, and
-# each is in one call, whichever thread makes it: also if a signal's handler or a finalizer makes a call while another of the
-# same thread is not over. `pop` and `append` of a deque need no lock. A work that an exception keeps from being put back is
-# freed. A set keeps its searchers in the same way.
-_works: Deque[Work] = deque()
-put_back = _works.append
-
-
-def take_work(pop: Callable[[], Work] = _works.pop) -> Work:
-    """Returns a work that no other call uses."""
-    try:
-        return pop()
-    except IndexError:
-        return Work()
 
 
 def failure(status: int) -> Exception:

@@ -80,23 +80,22 @@ extern "C" {
     ) -> Status;
     fn globset_raw_glob_regex(glob: *mut Lent, room: *mut u8, room_len: usize, needed: *mut usize) -> Status;
     fn globset_raw_matcher_new(glob: *mut Lent, out: *mut Owned) -> Status;
-    fn globset_raw_matcher_is_match(matcher: *mut Lent, work: *mut Owned, path: *const u8, path_len: usize) -> Status;
+    fn globset_raw_matcher_is_match_plain(matcher: *mut Lent, path: *const u8, path_len: usize) -> Status;
     fn globset_raw_builder_new(out: *mut Owned) -> Status;
     fn globset_raw_builder_add(builder: *mut Owned, glob: *mut Lent) -> Status;
     fn globset_raw_builder_set_dfa_size_limit(builder: *mut Owned, bytes: usize) -> Status;
     fn globset_raw_builder_build(builder: *mut Owned, out: *mut Owned) -> Status;
-    fn globset_raw_work_new(out: *mut Owned) -> Status;
-    fn globset_raw_set_is_match(set: *mut Lent, work: *mut Owned, path: *const u8, path_len: usize) -> Status;
-    fn globset_raw_set_matches_all(set: *mut Lent, work: *mut Owned, path: *const u8, path_len: usize) -> Status;
+    fn globset_raw_set_is_match_plain(set: *mut Lent, path: *const u8, path_len: usize) -> Status;
+    fn globset_raw_set_matches_all_plain(set: *mut Lent, path: *const u8, path_len: usize) -> Status;
     fn globset_raw_set_of_globs(globs: *mut Lent, globs_len: usize, out: *mut Owned) -> Status;
-    fn globset_raw_set_find(
+    fn globset_raw_set_matches_plain(
         set: *mut Lent,
-        work: *mut Owned,
         path: *const u8,
         path_len: usize,
-        count: *mut usize,
+        room: *mut usize,
+        room_len: usize,
+        needed: *mut usize,
     ) -> Status;
-    fn globset_raw_work_found(work: *mut Owned, indexes: *mut Indexes) -> Status;
     fn globset_raw_searcher_new(set: *mut Lent, out: *mut Owned) -> Status;
     fn globset_raw_searcher_is_match(searcher: *mut Owned, path: *const u8, path_len: usize) -> Status;
     fn globset_raw_searcher_matches_all(searcher: *mut Owned, path: *const u8, path_len: usize) -> Status;
@@ -267,11 +266,8 @@ impl Matcher {
 
     #[inline]
     pub(crate) fn is_match(&self, path: &[u8]) -> bool {
-        with_work(|work| {
-            // SAFETY: "Whether the matcher's glob matches the path". The work is this thread's: "It belongs to one thread at
-            // a time."
-            answer(unsafe { globset_raw_matcher_is_match(&mut self.0.lend(), &mut work.0, path.as_ptr(), path.len()) })
-        })
+        // SAFETY: "Whether the matcher's glob matches the path, without a work".
+        answer(unsafe { globset_raw_matcher_is_match_plain(&mut self.0.lend(), path.as_ptr(), path.len()) })
     }
 }
 
@@ -325,57 +321,46 @@ impl Set {
 
     #[inline]
     pub(crate) fn is_match(&self, path: &[u8]) -> bool {
-        self.with_searcher(|searcher| searcher.is_match(path)).unwrap_or_else(|| self.is_match_by_work(path))
+        self.with_searcher(|searcher| searcher.is_match(path)).unwrap_or_else(|| self.plainly_is_match(path))
     }
 
     #[inline]
     pub(crate) fn matches_all(&self, path: &[u8]) -> bool {
-        self.with_searcher(|searcher| searcher.matches_all(path)).unwrap_or_else(|| self.matches_all_by_work(path))
+        self.with_searcher(|searcher| searcher.matches_all(path)).unwrap_or_else(|| self.plainly_matches_all(path))
     }
 
     /// Adds the indexes of the globs that match, ascending, to the end of `into`.
     #[inline]
     pub(crate) fn matches(&self, path: &[u8], into: &mut Vec<usize>) {
         let found = self.with_searcher(|searcher| into.extend_from_slice(searcher.matches(path)));
-        found.unwrap_or_else(|| self.matches_by_work(path, into))
+        found.unwrap_or_else(|| self.plainly_matches(path, into))
     }
 
     #[cold]
-    fn is_match_by_work(&self, path: &[u8]) -> bool {
-        with_work(|work| {
-            // SAFETY: "Whether some glob of the set matches the path". The work is this thread's.
-            answer(unsafe { globset_raw_set_is_match(&mut self.shared.lend(), &mut work.0, path.as_ptr(), path.len()) })
-        })
+    fn plainly_is_match(&self, path: &[u8]) -> bool {
+        // SAFETY: "Whether some glob of the set matches the path".
+        answer(unsafe { globset_raw_set_is_match_plain(&mut self.shared.lend(), path.as_ptr(), path.len()) })
     }
 
     #[cold]
-    fn matches_all_by_work(&self, path: &[u8]) -> bool {
-        with_work(|work| {
-            // SAFETY: "Whether all globs of the set match the path". The work is this thread's.
-            answer(unsafe {
-                globset_raw_set_matches_all(&mut self.shared.lend(), &mut work.0, path.as_ptr(), path.len())
-            })
-        })
+    fn plainly_matches_all(&self, path: &[u8]) -> bool {
+        // SAFETY: "Whether all globs of the set match the path".
+        answer(unsafe { globset_raw_set_matches_all_plain(&mut self.shared.lend(), path.as_ptr(), path.len()) })
     }
 
     #[cold]
-    fn matches_by_work(&self, path: &[u8], into: &mut Vec<usize>) {
-        with_work(|work| {
-            let mut count = 0;
-            // SAFETY: "Finds the indexes of the globs of the set that match the path, ascending." The work is this thread's.
-            done(unsafe {
-                globset_raw_set_find(&mut self.shared.lend(), &mut work.0, path.as_ptr(), path.len(), &mut count)
-            });
-            if count > 0 {
-                let mut indexes = Indexes::none();
-                // SAFETY: "Lends the indexes that the last globset_raw_set_find with this work found". The indexes handed in
-                // are valid, since there are none.
-                done(unsafe { globset_raw_work_found(&mut work.0, &mut indexes) });
-                // SAFETY: "they may be read until the next call that the work is passed to". The work is borrowed until the
-                // indexes have been copied. They are as many as the call before told, which is not 0.
-                into.extend_from_slice(unsafe { slice::from_raw_parts(indexes.at, indexes.count) });
+    fn plainly_matches(&self, path: &[u8], into: &mut Vec<usize>) {
+        let mut room = vec![0; 64];
+        loop {
+            let (lent, mut needed) = (&mut self.shared.lend(), 0);
+            let (at, len) = (room.as_mut_ptr(), room.len());
+            // SAFETY: "Writes the indexes of the globs of the set that match the path, ascending."
+            match unsafe { globset_raw_set_matches_plain(lent, path.as_ptr(), path.len(), at, len, &mut needed) } {
+                DONE => return into.extend_from_slice(&room[..needed]),
+                TOO_SMALL => room = vec![0; needed],
+                status => unexpected(status),
             }
-        })
+        }
     }
 }
 
@@ -506,44 +491,6 @@ impl Drop for Builder {
     }
 }
 
-/// The memory that one thread matches with. "It serves any number of sets and matchers, and grows with them."
-struct Work(Owned);
-
-impl Work {
-    fn new() -> Work {
-        // SAFETY: "Makes a work. It fits a set without globs, and is grown as it is used."
-        Work(Owned::made(|out| unsafe { globset_raw_work_new(out) }))
-    }
-}
-
-impl Drop for Work {
-    fn drop(&mut self) {
-        let object = Owned { at: self.0.at };
-        // SAFETY: "Frees an object of any kind. The caller owns it, it is lent to nobody, and what it lends is not read any
-        // more." Indexes are copied while the work is borrowed, and this is the only `free` of it.
-        unsafe { globset_raw_free(object) }
-    }
-}
-
-thread_local! {
-    static WORK: Cell<Option<Work>> = const { Cell::new(None) };
-}
-
-/// Calls with this thread's work, which is made at the thread's first call and freed when the thread ends.
-///
-/// The work is taken out of its place during the call. So a call within the call, as from a global allocator that matches
-/// paths, makes a work of its own, and so does one after the thread's place was destroyed.
-#[inline]
-fn with_work<T>(mut call: impl FnMut(&mut Work) -> T) -> T {
-    let called = WORK.try_with(|kept| {
-        let mut work = kept.take().unwrap_or_else(Work::new);
-        let returned = call(&mut work);
-        kept.set(Some(work));
-        returned
-    });
-    called.unwrap_or_else(|_| call(&mut Work::new()))
-}
-
 /// The text that a call writes into the room that it gets, which is `guess` bytes long at first, and the length that the call
 /// says it needs the next time.
 fn written(guess: usize, mut write: impl FnMut(*mut u8, usize, *mut usize) -> Status) -> String {
@@ -596,18 +543,6 @@ mod tests {
     }
 
     #[test]
-    fn a_call_within_a_call_has_a_work_of_its_own() {
-        let set = set_of("*.c");
-        let (outer, inner) = with_work(|work| {
-            let inner = set.is_match_by_work(b"a.c");
-            // SAFETY: as in `Set::is_match_by_work`.
-            let status = unsafe { globset_raw_set_is_match(&mut set.shared.lend(), &mut work.0, b"a.h".as_ptr(), 3) };
-            (answer(status), inner)
-        });
-        assert_eq!((outer, inner), (false, true));
-    }
-
-    #[test]
     fn a_call_within_a_call_has_a_searcher_of_its_own() {
         let set = set_of("*.c");
         let within = set.with_searcher(|searcher| {
@@ -619,16 +554,26 @@ mod tests {
     }
 
     #[test]
-    fn a_work_answers_as_a_searcher_does() {
+    fn plain_calls_answer_as_a_searcher_does() {
         let set = set_of("*.c");
         for (path, answer) in [(&b"a.c"[..], true), (b"a.h", false)] {
-            let (mut by_searcher, mut by_work) = (vec![], vec![]);
+            let (mut by_searcher, mut plainly) = (vec![], vec![]);
             set.matches(path, &mut by_searcher);
-            set.matches_by_work(path, &mut by_work);
-            assert_eq!((by_searcher.len(), by_work.len()), (usize::from(answer), usize::from(answer)));
-            assert_eq!((set.is_match(path), set.is_match_by_work(path)), (answer, answer));
-            assert_eq!((set.matches_all(path), set.matches_all_by_work(path)), (answer, answer));
+            set.plainly_matches(path, &mut plainly);
+            assert_eq!((by_searcher.len(), plainly.len()), (usize::from(answer), usize::from(answer)));
+            assert_eq!((set.is_match(path), set.plainly_is_match(path)), (answer, answer));
+            assert_eq!((set.matches_all(path), set.plainly_matches_all(path)), (answer, answer));
         }
+    }
+
+    #[test]
+    fn more_indexes_than_the_first_room_has_are_asked_for_again() {
+        let mut builder = Builder::new();
+        let glob = Glob::new("*.c", 0).ok().expect("a glob");
+        (0..100).for_each(|_| builder.add(&glob));
+        let mut into = vec![];
+        builder.build().plainly_matches(b"a.c", &mut into);
+        assert_eq!(into, (0..100).collect::<Vec<_>>());
     }
 
     #[test]
