@@ -46,9 +46,9 @@
 //! # Memory and threads
 //!
 //! Globs, matchers and sets can be sent to other threads and shared between them. A clone is one more reference. Matching takes
-//! little memory beside what is kept for it: a set keeps some for each thread, as [`GlobSet`] says, and a matcher whose automaton
-//! has no table keeps up to 8 MB for all threads, until its last clone is dropped. Running out of memory ends the program, as
-//! it does in Rust's own containers.
+//! little memory beside what is kept for it: a set keeps some for each thread, as [`GlobSet`] says, and a matcher that needs an
+//! automaton keeps up to 16 MiB of rows for all threads, until its last clone is dropped. Running out of memory ends the program,
+//! as it does in Rust's own containers.
 //!
 //! # Additions
 //!
