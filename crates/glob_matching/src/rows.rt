@@ -77,7 +77,8 @@ impl RowSource {
             dfa_size_limit / MOST_KEPT,
             automaton.state_count(),
             all_states,
-        );
+        )
+        .min(MOST_BYTES);
         if cache_bytes < FEWEST_BYTES {
             return Ok(None);
         }
@@ -235,6 +236,10 @@ impl RowSource {
         Some(can_match)
     }
 }
+
+/// A cache has no more bytes, whatever the limit is, so that a searcher can be made under any limit. More than 8 MB hardly changed
+/// what a path took.
+const MOST_BYTES: usize = 1 << 23;
 
 /// With fewer bytes for a cache there is none: so many automata share the room that few globs are run for a text.
 const FEWEST_BYTES: usize = 1 << 12;
