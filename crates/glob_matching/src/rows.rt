@@ -74,11 +74,10 @@ impl RowSource {
         ensures { IfOk result (λ made. IfSome made (λ rows. rows ≡ automaton.now)) }
     {
         let cache_bytes = share_of(
-            dfa_size_limit / MOST_KEPT,
+            (dfa_size_limit / MOST_KEPT).min(MOST_BYTES),
             automaton.state_count(),
             all_states,
-        )
-        .min(MOST_BYTES);
+        );
         if cache_bytes < FEWEST_BYTES {
             return Ok(None);
         }
@@ -237,8 +236,8 @@ impl RowSource {
     }
 }
 
-/// A cache has no more bytes, whatever the limit is, so that a searcher can be made under any limit. More than 8 MB hardly changed
-/// what a path took.
+/// The most bytes of a searcher's caches, whatever the limit is, so that one can be made under any limit. More than 8 MB hardly
+/// changed what a path took.
 const MOST_BYTES: usize = 1 << 23;
 
 /// With fewer bytes for a cache there is none: so many automata share the room that few globs are run for a text.

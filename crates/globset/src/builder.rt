@@ -64,7 +64,8 @@ impl GlobSetBuilder {
     /// take two bits of memory for each of its states.
     ///
     /// The limit counts the entries of rows and their lists of states. A row takes 16 bytes beside these, and a cache has room
-    /// for four rows also where its part of the limit has not. No cache takes more than 8 MiB of what is counted.
+    /// for four rows also where its part of the limit has not. The caches of a searcher take together at most 8 MiB of what is
+    /// counted, whatever the limit is.
     ///
     /// With 0 there are no rows, and the set keeps no memory between calls. That is best for few paths. Memory beside the rows
     /// has no limit: that of keys and states is linear in the texts of the globs.
