@@ -93,12 +93,12 @@ static void try_questions(raw_set set, raw_matcher matcher) {
     }
 }
 
-/* Plain calls give back what they take, where all automata have tables. */
+/* A plain call that fails gives back what it took. Others may leave rows, which the set and the matcher keep until they
+ * are freed. */
 static void try_plain(raw_set set, raw_matcher matcher) {
     globset_lent lent_set = raw_lend(set.object), lent_matcher = raw_lend(matcher.object);
     const uint8_t *path = raw_bytes("src/a/b.c");
     size_t room[2] = {7, 7}, needed = 7;
-    long before_all = blocks;
     TRY(globset_raw_set_is_match_plain(&lent_set, path, 9), GLOBSET_YES, CHECK(blocks == before));
     TRY(globset_raw_set_matches_all_plain(&lent_set, path, 9), GLOBSET_NO, CHECK(blocks == before));
     TRY(globset_raw_set_can_match_below_plain(&lent_set, path, 3), GLOBSET_YES, CHECK(blocks == before));
@@ -106,7 +106,6 @@ static void try_plain(raw_set set, raw_matcher matcher) {
         CHECK(blocks == before && room[0] == 7 && needed == 7));
     CHECK(needed == 2 && room[0] == 2 && room[1] == 3);
     TRY(globset_raw_matcher_is_match_plain(&lent_matcher, raw_bytes("abc"), 3), GLOBSET_YES, CHECK(blocks == before));
-    CHECK(blocks == before_all);
 }
 
 /* Once a searcher is made, no question about one path takes memory. */
