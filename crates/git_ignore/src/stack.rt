@@ -160,7 +160,7 @@ impl IgnoreStack {
     ///
     /// A folder that the path names above its last component counts, too: below one that is ignored, the path is ignored.
     ///
-    /// Returns an error if memory runs out, and no other: the folder's path is put before it.
+    /// Returns an error only if memory runs out, which it takes to put the folder's path in front of this one.
     pub fn decide(&mut self, path: &[u8], is_folder: bool) -> Result<Decision, Error>
         ensures decision { IfOk result
             (λ d. d ≡ decision_below (stack_files self.old) (self.old.here.path ++ path.now)

@@ -195,7 +195,7 @@ impl GlobSet {
     }
 
     /// Returns the set of these globs, in order. The rows that it keeps take at most `dfa_size_limit` bytes. Returns an error
-    /// if memory runs out, and no other.
+    /// only if memory runs out.
     pub(crate) fn of_slice(
         alloc: Global,
         dfa_size_limit: usize,

@@ -20,7 +20,7 @@ pub fn add(builder: &mut StoredBuilder, glob: &Glob) -> Result<(), AllocError>
 }
 
 /// Returns what the set of these globs stores. They are not copied. The rows that it keeps take at most `dfa_size_limit` bytes.
-/// Returns an error if memory runs out, and no other.
+/// Returns an error only if memory runs out.
 pub fn stored_of_slice(
     alloc: Global,
     dfa_size_limit: usize,
