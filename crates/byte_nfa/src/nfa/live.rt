@@ -31,47 +31,24 @@ impl Nfa {
     }
 
     /// Returns whether some bytes lead from the states of a set to an end. `live` has the states from which some do. It reads
-    /// each state of the set at most once.
-    pub fn has_live(&self, from: &StateSet, live: &StateSet) -> bool
+    /// each state of the set at most once, which is one visit.
+    pub fn has_live(&self, from: &StateSet, live: &StateSet, visits: &mut Visits) -> bool
         requires from_capacity { size self.now ≤ state_capacity from.now }
         requires live_capacity { size self.now ≤ state_capacity live.now }
         requires live { AreLive self.now live.now }
-        ensures { IsTrue result
-            ↔ ((y : List ℕ) × (k : ℕ) × AllBytes y × AcceptsFrom self.now from.now y k) }
-    {
-        let mut limit = self.state_count();
-        while limit > 0 {
-            let seen = from.read_below(limit, &mut Visits::new());
-            let s = seen.at;
-            if seen.is_set && is_in(live, s) {
-                return true;
-            }
-            limit = s;
-        }
-        false
-    }
-
-    /// Returns whether some bytes lead from the states of a set to an end. It reads the states from the lowest on, until it
-    /// comes to such a state of the set, and puts those from which some bytes lead to an end into `live`. What `live` held has
-    /// no effect. It is at most one visit for each state.
-    pub fn any_live(&self, from: &StateSet, live: &mut StateSet, visits: &mut Visits) -> bool
-        requires from_capacity { size self.now ≤ state_capacity from.now }
-        requires live_capacity { size self.now ≤ state_capacity live.old }
-        ensures room { state_capacity live.new ≡ state_capacity live.old }
         ensures some { IsTrue result
             ↔ ((y : List ℕ) × (k : ℕ) × AllBytes y × AcceptsFrom self.now from.now y k) }
         ensures visits { visits.new ≤ visits.old + size self.now }
         ensures counted { visits.old ≤ visits.new }
     {
-        live.clear();
-        for s in 0..self.state_count() {
-            visits.tick();
-            if self.is_leading(s, live) {
-                if is_in(from, s) {
-                    return true;
-                }
-                live.put(s);
+        let mut limit = self.state_count();
+        while limit > 0 {
+            let seen = from.read_below(limit, visits);
+            let s = seen.at;
+            if seen.is_set && is_in(live, s) {
+                return true;
             }
+            limit = s;
         }
         false
     }

@@ -63,5 +63,5 @@ pub fn has_text(alloc: Global, automaton: &Nfa) -> Result<bool, AllocError>
     let mut live = StateSet::new(alloc, automaton.state_count())?;
     automaton.start(&mut starts);
     automaton.live(&mut live);
-    Ok(automaton.has_live(&starts, &live))
+    Ok(automaton.has_live(&starts, &live, &mut Visits::new()))
 }

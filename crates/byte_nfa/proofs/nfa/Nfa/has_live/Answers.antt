@@ -32,10 +32,12 @@ loop-limit-preserved c =
     record {
       within = omega (arith, last.below, inv.within);
       none = none_lower (size c.args.self.now) c.loop-limit.limit s from live last.between here inv.none;
+      visits = omega (arith, last.below, inv.visits);
+      counted = omega (arith, inv.counted);
     }
 
-pub returns : goal.returns
-returns c = (
+pub returns-clause-some : goal.returns-clause-some
+returns-clause-some c = (
   λ no. absurd (true≢false (sym no)),
   λ (y, k, bytes, (t, lt, at, accepts)). absurd (true≢false (sym ((c.requires.live t lt).1 (k, y, bytes, accepts)) ∙ c.loop-limit.invariant.none t (omega arith) lt at)),
 )
