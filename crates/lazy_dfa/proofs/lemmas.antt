@@ -7,3 +7,4 @@ pub mod After
 pub mod Ends
 pub mod Reading
 pub mod Listing
+pub mod Stepping

@@ -3,3 +3,4 @@ pub mod Lists
 pub mod Sources
 pub mod Rows
 pub mod Reached
+pub mod Stepping

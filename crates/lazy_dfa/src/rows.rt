@@ -7,7 +7,7 @@ ghost use Rattle.bit_sets.specs.Numbers.{has_number, AreBelow};
 ghost use Rattle.bit_sets.specs.Texts.{AllBytes};
 ghost use Rattle.byte_nfa.specs.Live.{AreLive};
 ghost use Rattle.byte_nfa.specs.Steps.{IsReached};
-ghost use Rattle.byte_nfa.specs.Runs.{size};
+ghost use Rattle.byte_nfa.specs.Runs.{size, AcceptsFrom};
 ghost use Rattle.lazy_dfa.specs.inner.Classes.{AreEquivalenceClasses};
 ghost use Rattle.lazy_dfa.specs.inner.Sources.{half};
 ghost use Rattle.lazy_dfa.specs.inner.Rows.{AcceptsIn, AcceptsRow, HasEnds, HasMarks, GoesTo, IsDeadBy, IsNext, IsEnd, IsEntry, IsFirst, IsSound, AreListed, KeepsRows, HasSpace, states_of, place_of, max_entries, marked, BeginsAt, IsAt, IsStep};
@@ -87,13 +87,15 @@ pub struct Rows {
     table: Vec<u32>,
     /// What is hashed before each list. It is another number each time that rows are forgotten, so that lists which had one place
     /// have others then.
-    seed: usize,
+    pub seed: usize,
     /// The place of the row that a run begins in, if it is made.
     begin: Option<usize>,
     /// The states that a run begins in.
     first: Vec<usize>,
     /// The states that a pass takes.
-    from: StateSet,
+    pub from: StateSet,
+    /// Those of the next pass, while a text is read without rows.
+    pub next: StateSet,
     /// The indexes of the ends that are found without a byte.
     pub ends: IndexSet,
     /// The states that a byte leads to, as the pass over those before them met them.
@@ -116,6 +118,7 @@ impl Drop for Rows {
             begin: _,
             first: _,
             from: _,
+            next: _,
             ends: _,
             list: _,
             told: _,
@@ -157,6 +160,7 @@ impl Rows {
             begin: None,
             first: first_of(alloc, automaton)?,
             from: StateSet::new(alloc, states)?,
+            next: StateSet::new(alloc, states)?,
             ends: IndexSet::new(alloc, automaton.index_count())?,
             list: Vec::with_capacity(alloc, states)?,
             told: Vec::with_capacity(alloc, automaton.index_count())?,
@@ -183,6 +187,27 @@ impl Rows {
     /// Returns whether rows were forgotten since it was made.
     pub fn has_forgotten(&self) -> bool {
         self.seed != 0
+    }
+
+    /// Returns whether rows were forgotten twice since as many times as this. Then each row is made for few bytes, which is slower than
+    /// to step over states.
+    pub fn gives_up_since(&self, seed: usize) -> bool {
+        self.seed.wrapping_sub(seed) >= 2
+    }
+
+    /// Makes `from` the states of the row at a place.
+    pub fn take_states(&mut self, automaton: &Nfa, place: usize)
+        requires sound { IsSound automaton.now self.old }
+        requires row { (i : ℕ) × IsAt self.old i place }
+        ensures sound { IsSound automaton.now self.new }
+        ensures states { (i : ℕ) → IsAt self.old i place
+            → (y : List ℕ) (k : ℕ) → AcceptsFrom automaton.now self.new.from y k
+            ↔ AcceptsRow automaton.now self.old i y k }
+    {
+        let row = self.row_at(place);
+        self.from.clear();
+        self.from
+            .put_all(states_at(&self.starts, &self.lists, row));
     }
 
     /// Returns the place of the row that a run begins in. If it is not made, it is looked up, which is one visit.

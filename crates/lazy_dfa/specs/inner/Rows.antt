@@ -126,6 +126,7 @@ pub record IsFirst (m : NfaValue) (list : List ℕ) : Type 0 where
 -- there is room for one row, whatever its states are, and for one pass, and it is told which states a run begins in
 pub record HasRoomFor (m : NfaValue) (rows : Rows) : Type 0 where
   pub from : size m ≤ state_capacity rows.from
+  pub next : size m ≤ state_capacity rows.next
   pub first : IsFirst m rows.first.items
   pub ends : m.index_count ≤ index_capacity rows.ends
   pub list : size m ≤ vec_capacity rows.list

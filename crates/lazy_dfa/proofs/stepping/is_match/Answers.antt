@@ -1,0 +1,43 @@
+use Rattle.std.proofs.Common.{◌≡◌, ℕ, ◌+◌, ◌*◌, ◌-◌, ◌<◌, ◌≤◌, ◌==◌, [], ◌∷◌, ◌++◌, ◌⊎◌, inl, inr, Some, None, IsTrue, Bool, List, length, get_or, drop, min, false, true≢false, arith, sym, ◌∙◌, refl, ap, subst, append-nil}
+use Rattle.std.specs.Prelude.{◌↔◌, ◌||◌}
+use Rattle.std.proofs.Math.Logic.{⊎_elim}
+use Rattle.std.proofs.lemmas.Bool.{cases_lt}
+use Rattle.std.proofs.lemmas.List.{drop_more, drop_all}
+use Rattle.std.proofs.lemmas.Nat.{mul-le}
+use Rattle.bit_sets.specs.Indexes.{has_index}
+use Rattle.bit_sets.specs.StateSets.{has_state, state_capacity}
+use Rattle.byte_nfa.specs.Runs.{size, AcceptsFrom}
+use Rattle.byte_nfa.specs.Steps.{state, Accepts}
+use Rattle.byte_nfa.proofs.lemmas.Pass.{iff_trans}
+use Rattle.lazy_dfa.proofs.lemmas.After.{index_below, live_finds, some_after}
+use Rattle.lazy_dfa.proofs.lemmas.Finding.{iff_beside, at_quiet, at_dead, told_found, some_last, some_same, visits_more, visits_within, visits_before}
+use Rattle.lazy_dfa.proofs.lemmas.Lists.{iff_sym}
+use Rattle.lazy_dfa.proofs.lemmas.Stepping.{room_swapped}
+use Rattle.lazy_dfa.specs.inner.Sources.{half}
+use Rattle.lazy_dfa.specs.inner.Rows.{FindsBy}
+use Rattle.lazy_dfa.proofs.stepping.is_match.Goals as goal
+
+pub returns-in-Decided-clause-some : goal.returns-in-Decided-clause-some
+returns-in-Decided-clause-some c =
+    let m = c.args.automaton.now in
+    let (k, finds) = (rw c.in-Decided.is at c.read.ensures.led) [] in
+    (λ _. (k, subst (λ y. FindsBy (half m) (AcceptsFrom m c.args.from.now) y k) (append-nil c.args.text.now) finds), λ _. refl)
+
+pub returns-in-NoState-clause-some : goal.returns-in-NoState-clause-some
+returns-in-NoState-clause-some c =
+    let m = c.args.automaton.now in
+    let none = rw c.in-NoState.is at c.read.ensures.led in (
+      λ off. absurd (true≢false (sym off)),
+      λ (k, finds). absurd (none [] k (subst (λ y. FindsBy (half m) (AcceptsFrom m c.args.from.now) y k) (sym (append-nil c.args.text.now)) finds)),
+    )
+
+pub returns-in-States-clause-some : goal.returns-in-States-clause-some
+returns-in-States-clause-some c =
+    let m = c.args.automaton.now in
+    let now = AcceptsFrom m c.read.new.from in
+    let (source, early) = c.requires.early in
+    let finds = rw c.in-States.is at c.read.ensures.led in
+    let ends : ((k : ℕ) × now [] k) ↔ ((k : ℕ) × (k < half m + half m) × now [] k) =
+    (λ (k, (t, lt, at, a)). (k, index_below source m early k t [] a, (t, lt, at, a)), λ (k, low, h). (k, h)) in
+    iff_trans c.has_end.ensures.some (iff_trans ends (iff_trans (some_last (half m) now)
+    (some_same (λ k. subst (λ y. FindsBy (half m) now [] k ↔ FindsBy (half m) (AcceptsFrom m c.args.from.now) y k) (append-nil c.args.text.now) (finds [] k)))))

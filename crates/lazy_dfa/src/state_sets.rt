@@ -1,0 +1,60 @@
+//! The sets that a run needs.
+
+ghost use Rattle.std.specs.Prelude.{◌≡◌, ◌≤◌, OnOk, IsOk};
+ghost use Rattle.lazy_dfa.specs.Sets.{sets_capacity};
+
+use bit_sets::StateSet;
+use std::alloc::{AllocError, Global};
+
+/// The two sets of states that a run changes between: those that the text so far leads to, and those that one more byte leads to.
+///
+/// They serve runs of any automata, one after another. A run clears each set before it uses it, so what runs before left in them
+/// has no effect.
+pub struct StateSets {
+    pub(crate) current: StateSet,
+    pub(crate) next: StateSet,
+    /// The most states that room was made for.
+    reserved: usize,
+}
+
+impl Drop for StateSets {
+    // One call wherever a value is dropped, which keeps proofs short.
+    fn drop(self) {
+        let StateSets {
+            current: _,
+            next: _,
+            reserved: _,
+        } = self;
+    }
+}
+
+impl StateSets {
+    /// Returns sets with room for no state. It allocates nothing.
+    pub fn new(alloc: Global) -> StateSets
+        ensures { sets_capacity result ≡ 0 }
+    {
+        StateSets {
+            current: StateSet::empty(alloc),
+            next: StateSet::empty(alloc),
+            reserved: 0,
+        }
+    }
+
+    /// Returns whether room for so many states was made before.
+    pub fn has_capacity_for(&self, states: usize) -> bool {
+        states <= self.reserved
+    }
+
+    /// Makes room for so many states, if there is less. It takes two bits of memory for each. Returns an error if memory runs
+    /// out.
+    pub fn reserve(&mut self, states: usize) -> Result<(), AllocError>
+        ensures ok { OnOk result (states ≤ sets_capacity self.new) }
+        ensures kept { sets_capacity self.old ≤ sets_capacity self.new }
+        ensures memory { states ≤ sets_capacity self.old → IsOk result }
+    {
+        self.current.reserve(states)?;
+        self.next.reserve(states)?;
+        self.reserved = self.reserved.max(states);
+        Ok(())
+    }
+}
