@@ -1,12 +1,18 @@
 //! What the caches of all threads are made for.
 
-ghost use Rattle.std.specs.Prelude.{◌≡◌, IfOk, IfSome};
-ghost use Rattle.byte_nfa.specs.Steps.{NfaValue};
+ghost use Rattle.std.specs.Prelude.{◌≡◌, ℕ, ◌+◌, ◌*◌, ◌≤◌, ◌⊎◌, ◌↔◌, ◌++◌, ◌∷◌, [], length, IsTrue, IsOk, OnOk, IfOk};
+ghost use Rattle.bit_sets.specs.Indexes.{has_index, index_capacity};
+ghost use Rattle.byte_nfa.specs.Live.{MatchesAfter};
+ghost use Rattle.byte_nfa.specs.Runs.{size};
+ghost use Rattle.byte_nfa.specs.Steps.{NfaValue, IsReached};
+ghost use Rattle.lazy_dfa.specs.Sets.{sets_capacity};
 ghost use Rattle.lazy_dfa.specs.inner.Sources.{IsMadeOf, ListsEnds};
 
 use crate::classes::ByteClasses;
 use crate::lists::put_lowered;
-use bit_sets::{IndexSet, StateSet};
+use crate::state_sets::StateSets;
+use crate::stepping;
+use bit_sets::{IndexSet, StateSet, Visits};
 use byte_nfa::Nfa;
 use std::alloc::{AllocError, Global};
 use std::marker::Model;
@@ -49,25 +55,120 @@ impl Model for LazyDfa {
 impl LazyDfa {
     /// Makes a deterministic automaton that finds what an automaton finds.
     ///
-    /// It reads each state, and takes about as much memory as the automaton. Returns `None` if twice as many indexes are too many
-    /// for a `usize`, and an error if memory runs out.
-    pub fn new(alloc: Global, automaton: &Nfa) -> Result<Option<LazyDfa>, AllocError>
-        ensures { IfOk result (λ made. IfSome made (λ dfa. dfa ≡ automaton.now)) }
+    /// It reads each state, and takes about as much memory as the automaton. Returns an error if memory runs out, or if twice as many
+    /// indexes are too many for a `usize`, for which there is no memory either.
+    pub fn new(alloc: Global, automaton: &Nfa) -> Result<LazyDfa, AllocError>
+        ensures { IfOk result (λ dfa. dfa ≡ automaton.now) }
     {
         let Some(early_match) = automaton.with_early_matches()? else {
-            return Ok(None);
+            return Err(AllocError);
         };
         let classes = ByteClasses::new(&early_match);
         let mut live = StateSet::new(alloc, early_match.state_count())?;
         early_match.live(&mut live);
         let indexes = indexes_of(alloc, &early_match)?;
-        Ok(Some(LazyDfa {
+        Ok(LazyDfa {
             automaton: early_match,
             classes,
             live,
             indexes,
             source: Snapshot::of(automaton),
-        }))
+        })
+    }
+
+    /// Returns the number of states.
+    pub fn state_count(&self) -> usize
+        ensures { result ≡ size self.now }
+    {
+        self.automaton.state_count()
+    }
+
+    /// Returns the number of starts.
+    pub fn start_count(&self) -> usize
+        ensures { result ≡ length self.now.starts }
+    {
+        self.automaton.starts().len()
+    }
+
+    /// Puts the index of each end that a text leads to into a set, beside what it holds. It steps from one set of states to the next,
+    /// and makes no rows.
+    ///
+    /// What the sets of states held has no effect; their room grows to the states. It is at most `(text bytes + 1) * states` visits.
+    /// Returns an error if memory runs out, and so none if they have room for all states.
+    pub fn find(
+        &self,
+        text: &[u8],
+        sets: &mut StateSets,
+        found: &mut IndexSet,
+        visits: &mut Visits,
+    ) -> Result<(), AllocError>
+        requires { self.now.index_count ≤ index_capacity found.old }
+        ensures room { index_capacity found.new ≡ index_capacity found.old }
+        ensures found { OnOk result
+            ((k : ℕ) → IsTrue (has_index found.new k)
+            ↔ (IsReached self.now text.now k ⊎ IsTrue (has_index found.old k))) }
+        ensures kept { sets_capacity sets.old ≤ sets_capacity sets.new }
+        ensures memory { size self.now ≤ sets_capacity sets.old → IsOk result }
+        ensures visits { visits.new ≤ visits.old + (length text.now + 1) * size self.now }
+        ensures counted { visits.old ≤ visits.new }
+    {
+        sets.reserve(self.automaton.state_count())?;
+        let StateSets { current, next, .. } = sets;
+        self.automaton.start(current);
+        stepping::find(&self.automaton, text, current, next, found, visits);
+        Ok(())
+    }
+
+    /// Returns whether a text leads to some end. It stops at the first that is found whatever follows.
+    ///
+    /// What is said of [`LazyDfa::find`] holds for it.
+    pub fn is_match(
+        &self,
+        text: &[u8],
+        sets: &mut StateSets,
+        visits: &mut Visits,
+    ) -> Result<bool, AllocError>
+        ensures some { IfOk result (λ yes. IsTrue yes ↔ ((k : ℕ) × IsReached self.now text.now k)) }
+        ensures kept { sets_capacity sets.old ≤ sets_capacity sets.new }
+        ensures memory { size self.now ≤ sets_capacity sets.old → IsOk result }
+        ensures visits { visits.new ≤ visits.old + (length text.now + 1) * size self.now }
+        ensures counted { visits.old ≤ visits.new }
+    {
+        sets.reserve(self.automaton.state_count())?;
+        let StateSets { current, next, .. } = sets;
+        self.automaton.start(current);
+        Ok(stepping::is_match(&self.automaton, text, current, next, visits))
+    }
+
+    /// Returns whether some text that begins with `text` and then `byte` leads to some end.
+    ///
+    /// It is at most `(text bytes + 2) * states` visits. What else is said of [`LazyDfa::find`] holds for it.
+    pub fn can_match_after(
+        &self,
+        text: &[u8],
+        byte: u8,
+        sets: &mut StateSets,
+        visits: &mut Visits,
+    ) -> Result<bool, AllocError>
+        ensures some { IfOk result
+            (λ yes. IsTrue yes ↔ MatchesAfter self.now (text.now ++ byte ∷ [])) }
+        ensures kept { sets_capacity sets.old ≤ sets_capacity sets.new }
+        ensures memory { size self.now ≤ sets_capacity sets.old → IsOk result }
+        ensures visits { visits.new ≤ visits.old + (length text.now + 2) * size self.now }
+        ensures counted { visits.old ≤ visits.new }
+    {
+        sets.reserve(self.automaton.state_count())?;
+        let StateSets { current, next, .. } = sets;
+        self.automaton.start(current);
+        Ok(stepping::can_match_after(
+            &self.automaton,
+            &self.live,
+            text,
+            byte,
+            current,
+            next,
+            visits,
+        ))
     }
 }
 

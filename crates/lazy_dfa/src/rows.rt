@@ -206,8 +206,7 @@ impl Rows {
     {
         let row = self.row_at(place);
         self.from.clear();
-        self.from
-            .put_all(states_at(&self.starts, &self.lists, row));
+        self.from.put_all(states_at(&self.starts, &self.lists, row));
     }
 
     /// Returns the place of the row that a run begins in. If it is not made, it is looked up, which is one visit.

@@ -31,7 +31,7 @@ enum Taken {
 
 /// Where a text leads.
 #[derive(Clone, Copy)]
-enum Led {
+pub enum Led {
     /// A beginning of it decides an index.
     Decided,
     /// To no state.
@@ -130,6 +130,31 @@ pub fn can_match_after(
         Led::NoState => return false,
         Led::States => {}
     }
+    can_match_after_byte(automaton, live, byte, from, to, visits)
+}
+
+/// Returns whether some text that begins with `byte` leads to some end from the states of a set, or to an index that is decided. It is
+/// at most two visits for each state. What else is said of [`can_match_after`] holds for it.
+pub fn can_match_after_byte(
+    automaton: &Nfa,
+    live: &StateSet,
+    byte: u8,
+    from: &mut StateSet,
+    to: &mut StateSet,
+    visits: &mut Visits,
+) -> bool
+    requires early { (source : NfaValue) × EndsAtEarlyMatches source automaton.now }
+    requires sets { size automaton.now ≤ min (state_capacity from.old) (state_capacity to.old) }
+    requires live { AreLive automaton.now live.now }
+    requires live_room { size automaton.now ≤ state_capacity live.now }
+    ensures from_capacity { state_capacity from.new ≡ state_capacity from.old }
+    ensures to_capacity { state_capacity to.new ≡ state_capacity to.old }
+    ensures some { IsTrue result
+        ↔ ((k : ℕ) × (y : List ℕ) × AllBytes y
+        × FindsBy (half automaton.now) (AcceptsFrom automaton.now from.old) (byte ∷ y) k) }
+    ensures visits { visits.new ≤ visits.old + (size automaton.now + size automaton.now) }
+    ensures counted { visits.old ≤ visits.new }
+{
     let Some(some) = step_undecided(automaton, byte, from, to, visits) else {
         return true;
     };
@@ -140,7 +165,7 @@ pub fn can_match_after(
 }
 
 /// Reads a text from the states of a set, up to the first index that is decided. The states that it leads to are in `from` then.
-fn read(
+pub fn read(
     automaton: &Nfa,
     text: &[u8],
     from: &mut StateSet,
@@ -314,7 +339,7 @@ fn tell_ends(automaton: &Nfa, from: &mut StateSet, found: &mut IndexSet, visits:
 }
 
 /// Returns whether the states of a set lead to some end without a byte. It is at most one visit for each state.
-fn has_end(automaton: &Nfa, from: &mut StateSet, visits: &mut Visits) -> bool
+pub fn has_end(automaton: &Nfa, from: &mut StateSet, visits: &mut Visits) -> bool
     requires from_capacity { size automaton.now ≤ state_capacity from.old }
     ensures from_capacity { state_capacity from.new ≡ state_capacity from.old }
     ensures some { IsTrue result ↔ ((k : ℕ) × AcceptsFrom automaton.now from.old [] k) }

@@ -40,8 +40,8 @@ ends_it st h i e k q is (inl (lt, same)) low =
 ends_it st h i e k q is (inr (le, more)) low =
     let apart : (k == i) ≡ false = different k i (λ at. omega arith) in
     let both : ((h + k) == i) ≡ (k == e) = same_truth ((h + k) == i) (k == e)
-        (λ yes. let at : h + k ≡ i = eqb-true (h + k) i yes in eq-eqb k e (omega arith))
-        (λ yes. let at : k ≡ e = eqb-true k e yes in eq-eqb (h + k) i (omega arith)) in
+    (λ yes. let at : h + k ≡ i = eqb-true (h + k) i yes in eq-eqb k e (omega arith))
+    (λ yes. let at : k ≡ e = eqb-true k e yes in eq-eqb (h + k) i (omega arith)) in
     rw is (rw apart (rw both refl))
 
 -- and no index from h on
@@ -120,3 +120,7 @@ module _ (a : List State) where
 -- two sets are swapped, each with as much room as before
 pub room_swapped : (x y a b m : ℕ) → x ≡ b → y ≡ a → min a b ≡ m → min x y ≡ m
 room_swapped x y a b m first second same = omega arith
+
+-- some index, of those below twice n
+pub below_all : (n : ℕ) (P : List ℕ → ℕ → Type 0) → ((k : ℕ) → P [] k → k < n + n) → ((k : ℕ) × P [] k) ↔ ((k : ℕ) × (k < n + n) × P [] k)
+below_all n P below = (λ (k, h). (k, below k h, h), λ (k, low, h). (k, h))

@@ -1,8 +1,9 @@
 -- Where a text leads, by the rows of a cache.
-use Rattle.std.specs.Prelude.{ℕ, ◌≤◌, ◌⊎◌, ◌↔◌, List, ◌++◌, drop, length, IsTrue}
+use Rattle.std.specs.Prelude.{ℕ, ◌≤◌, ◌⊎◌, ◌↔◌, List, ◌++◌, drop, length, IsTrue, Option, MatchOption}
 use Rattle.bit_sets.specs.Indexes.{has_index}
 use Rattle.bit_sets.specs.declared.index_set.IndexSet.{IndexSet}
 use Rattle.byte_nfa.specs.Steps.{NfaValue, IsReached}
+use Rattle.byte_nfa.specs.Runs.{AcceptsFrom}
 use Rattle.lazy_dfa.specs.inner.Sources.{half}
 use Rattle.lazy_dfa.specs.declared.rows.Rows.{Rows}
 use Rattle.lazy_dfa.specs.declared.run.Left.{Left}
@@ -39,3 +40,7 @@ pub record IsLeft (m : NfaValue) (rows : Rows) (i : ℕ) (text : List ℕ) (old 
 pub record MayHold (m : NfaValue) (text : List ℕ) (old new : IndexSet) : Type 0 where
   pub kept : (k : ℕ) → IsTrue (has_index old k) → IsTrue (has_index new k)
   pub sound : (k : ℕ) → IsTrue (has_index new k) → FindsBy (half m) (IsReached m) text k ⊎ IsTrue (has_index old k)
+
+-- the same of a text after which states may be left that are in `from`
+abbrev pub IsReadBy : NfaValue → Rows → (List ℕ → ℕ → Type 0) → List ℕ → Option Reached → Type 0
+IsReadBy m rows P text result = MatchOption result ((z : List ℕ) (k : ℕ) → FindsBy (half m) (AcceptsFrom m rows.from) z k ↔ FindsBy (half m) P (text ++ z) k) (IsWhereBy m rows P text)

@@ -12,7 +12,7 @@ use Rattle.byte_nfa.proofs.lemmas.Pass.{iff_trans}
 use Rattle.lazy_dfa.proofs.lemmas.After.{index_below, live_finds, some_after}
 use Rattle.lazy_dfa.proofs.lemmas.Finding.{iff_beside, at_quiet, at_dead, told_found, some_last, some_same, visits_more, visits_within, visits_before}
 use Rattle.lazy_dfa.proofs.lemmas.Lists.{iff_sym}
-use Rattle.lazy_dfa.proofs.lemmas.Stepping.{room_swapped}
+use Rattle.lazy_dfa.proofs.lemmas.Stepping.{below_all}
 use Rattle.lazy_dfa.specs.inner.Sources.{half}
 use Rattle.lazy_dfa.specs.inner.Rows.{FindsBy}
 use Rattle.lazy_dfa.proofs.stepping.is_match.Goals as goal
@@ -37,7 +37,5 @@ returns-in-States-clause-some c =
     let now = AcceptsFrom m c.read.new.from in
     let (source, early) = c.requires.early in
     let finds = rw c.in-States.is at c.read.ensures.led in
-    let ends : ((k : ℕ) × now [] k) ↔ ((k : ℕ) × (k < half m + half m) × now [] k) =
-    (λ (k, (t, lt, at, a)). (k, index_below source m early k t [] a, (t, lt, at, a)), λ (k, low, h). (k, h)) in
-    iff_trans c.has_end.ensures.some (iff_trans ends (iff_trans (some_last (half m) now)
+    iff_trans c.has_end.ensures.some (iff_trans (below_all (half m) now (λ k (t, lt, at, a). index_below source m early k t [] a)) (iff_trans (some_last (half m) now)
     (some_same (λ k. subst (λ y. FindsBy (half m) now [] k ↔ FindsBy (half m) (AcceptsFrom m c.args.from.now) y k) (append-nil c.args.text.now) (finds [] k)))))

@@ -20,3 +20,6 @@ returns-clause-found c = λ k.
     let bytes = all_bytes text (λ j. (c.type_inv.text j).fits) in
     let is : c.dfa.inside.source.value ≡ c.args.self.now = cc in
     rw (sym is) (iff_trans (c.find.ensures.found k) (iff_beside (found_is c.dfa.inside.source.value c.dfa.inside.automaton c.dfa.invariant.early text bytes k)))
+
+pub find-requires-clause-early : goal.find-requires-clause-early
+find-requires-clause-early c = (c.dfa.inside.source.value, c.dfa.invariant.early)

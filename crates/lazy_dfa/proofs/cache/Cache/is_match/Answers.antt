@@ -7,8 +7,8 @@ use Rattle.lazy_dfa.proofs.lemmas.Finding.{some_same, found_is}
 use Rattle.lazy_dfa.proofs.lemmas.Unique.{one_automaton}
 use Rattle.lazy_dfa.proofs.cache.Cache.is_match.Goals as goal
 
-pub is_match-requires : goal.is_match-requires
-is_match-requires c =
+pub is_match-requires-clause-sound : goal.is_match-requires-clause-sound
+is_match-requires-clause-sound c =
     let (m, early, sound) = c.self.invariant in
     let source : c.self.inside.made_for.value ≡ c.dfa.inside.source.value = cc in
     let same : m ≡ c.dfa.inside.automaton = one_automaton c.dfa.inside.source.value m c.dfa.inside.automaton (subst (λ s. EndsAtEarlyMatches s m) source early) c.dfa.invariant.early in
@@ -20,3 +20,6 @@ returns-clause-some c =
     let bytes = all_bytes text (λ j. (c.type_inv.text j).fits) in
     let is : c.dfa.inside.source.value ≡ c.args.self.now = cc in
     rw (sym is) (iff_trans c.is_match.ensures.some (some_same (found_is c.dfa.inside.source.value c.dfa.inside.automaton c.dfa.invariant.early text bytes)))
+
+pub is_match-requires-clause-early : goal.is_match-requires-clause-early
+is_match-requires-clause-early c = (c.dfa.inside.source.value, c.dfa.invariant.early)

@@ -35,6 +35,7 @@ returns-clause-sound c =
       begin = refl;
     } c.requires.sound c.requires.below c.requires.few c.requires.space.few c.requires.space.small record {
       from = room.from;
+      next = room.next;
       first = room.first;
       ends = room.ends;
       list = room.list;

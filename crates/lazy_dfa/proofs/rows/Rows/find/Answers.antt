@@ -124,3 +124,57 @@ loop-left-preserved c =
           visits_left (length after) n w c.loop-left.visits c.find_from.new.visits c.step-step.new.visits _ (omega arith) c.in-Some.ensures.visits (omega (arith, c.step-step.ensures.visits)) (rw whole at inv.visits);
       counted = omega (arith, inv.counted, c.find_from.ensures.counted, c.step-step.ensures.counted);
     }
+
+pub loop-left-smaller : goal.loop-left-smaller
+loop-left-smaller c =
+    let rest = c.loop-left.rest.now in
+    let (j, at, runs) = c.loop-left.invariant.runs in
+    let left = rw c.in-Some.is at c.find_from.ensures.found j at in
+    let n = c.in-Some.left.at in
+    let lt : n < length rest = omega (arith, left.within) in
+    rw (take_rest rest (n + 1)) (omega (arith, length-drop (n + 1) rest, lt))
+
+pub find_stepped-requires-clause-row : goal.find_stepped-requires-clause-row
+find_stepped-requires-clause-row c =
+    let (j, at, runs) = c.loop-left.invariant.runs in
+    let left = rw c.in-Some.is at c.find_from.ensures.found j at in
+    let (j', at', finds) = left.row in
+    let (next, there, goes) = rw c.in-Some-next.is at (c.step-step.ensures.step j' at').next in
+    (next, there)
+
+pub returns-then-gives_up_since-clause-found : goal.returns-then-gives_up_since-clause-found
+returns-then-gives_up_since-clause-found c = λ k.
+    let m = c.args.automaton.now in
+    let rows = c.loop-left.self in
+    let rest = c.loop-left.rest.now in
+    let (j, at, runs) = c.loop-left.invariant.runs in
+    let left = rw c.in-Some.is at c.find_from.ensures.found j at in
+    let n = c.in-Some.left.at in
+    let lt : n < length rest = omega (arith, left.within) in
+    let b : ℕ = get_or rest n 0 in
+    let after = drop (n + 1) rest in
+    let more : drop n rest ≡ b ∷ after = drop_more rest n 0 lt in
+    let (j', at', finds) = left.row in
+    let step = c.step-step.ensures.step j' at' in
+    let (next, there, goes) = rw c.in-Some-next.is at step.next in
+    let told = rw c.index_count-half.ensures at c.tell.ensures.has in
+    let found = rw (take_rest rest (n + 1)) at c.find_stepped.ensures.found next there k in
+    iff_trans found (iff_trans (next_found (half m) (AcceptsRow m rows j') c.step-step.result.has_marks (has_index c.step-step.new.self.ends) step.marks step.ends
+    (AcceptsRow m c.step-step.new.self next) b goes after k (has_index c.find_from.new.found k) (has_index c.tell.new.found k) _ (told k) (rw more at finds k)) (runs k))
+
+pub returns-then-gives_up_since-clause-visits : goal.returns-then-gives_up_since-clause-visits
+returns-then-gives_up_since-clause-visits c =
+    let m = c.args.automaton.now in
+    let inv = c.loop-left.invariant in
+    let rest = c.loop-left.rest.now in
+    let (j, at, runs) = inv.runs in
+    let left = rw c.in-Some.is at c.find_from.ensures.found j at in
+    let n = c.in-Some.left.at in
+    let lt : n < length rest = omega (arith, left.within) in
+    let after = drop (n + 1) rest in
+    let w = size m + 1 in
+    let len : length after ≡ length rest - (n + 1) = length-drop (n + 1) rest in
+    let whole : length rest ≡ length after + n + 1 = omega (arith, len, lt) in
+    let before = visits_left (length after) n w c.loop-left.visits c.find_from.new.visits c.step-step.new.visits _ (omega arith) c.in-Some.ensures.visits (omega (arith, c.step-step.ensures.visits)) (rw whole at inv.visits) in
+    let stepped = rw (take_rest rest (n + 1)) at c.find_stepped.ensures.visits in
+    omega (arith, before, stepped)

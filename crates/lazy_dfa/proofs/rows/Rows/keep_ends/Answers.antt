@@ -43,6 +43,7 @@ returns-clause-sound c =
       λ (lt, a). (listed k).1 (lt, (c.requires.ends k lt).1 a),
     )) c.requires.some record {
       from = room.from;
+      next = room.next;
       first = room.first;
       ends = room.ends;
       list = room.list;
@@ -58,6 +59,7 @@ returns-then-capacity-place-clause-sound c =
     let room = c.requires.sound.room in
     same_sound c.args.automaton.now c.args.self.now _ record { starts = refl; lists = refl; class_of = refl; class_count = refl } refl refl record {
       from = room.from;
+      next = room.next;
       first = room.first;
       ends = room.ends;
       list = room.list;

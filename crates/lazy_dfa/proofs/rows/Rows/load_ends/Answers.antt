@@ -30,6 +30,7 @@ returns-clause-sound c =
     let room = c.requires.sound.room in
     same_sound c.args.automaton.now c.args.self.now _ record { starts = refl; lists = refl; class_of = refl; class_count = refl } refl refl record {
       from = room.from;
+      next = room.next;
       first = room.first;
       ends = omega (arith, room.ends, c.clear.ensures.room, c.put_listed.ensures.room);
       list = room.list;

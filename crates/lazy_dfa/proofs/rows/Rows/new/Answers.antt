@@ -12,8 +12,9 @@ returns c =
     record {
       room = record {
         from = omega (arith, c.state_count-states.ensures, c.in_ok-new.ensures.room);
+        next = omega (arith, c.state_count-states.ensures, c.in_ok-new-2.ensures.room);
         first = c.in_ok-first_of.ensures;
-        ends = omega (arith, c.index_count.ensures, c.in_ok-new-2.ensures.room);
+        ends = omega (arith, c.index_count.ensures, c.in_ok-new-3.ensures.room);
         list = omega (arith, c.state_count-states.ensures, c.in_ok-with_capacity-4.ensures.capacity);
         told = omega (arith, c.index_count-2.ensures, c.in_ok-with_capacity-5.ensures.capacity);
         lists = omega (arith, c.state_count-states.ensures, c.in_ok-with_capacity-2.ensures.capacity, c.in-Some.ensures, c.max-listed.ensures, c.saturating_mul.ensures);

@@ -19,6 +19,7 @@ returns-clause-sound c =
     let room = c.requires.sound.room in
     same_sound c.args.automaton.now c.args.self.now _ record { starts = refl; lists = refl; class_of = refl; class_count = refl } refl refl record {
       from = omega (arith, room.from, c.clear.ensures.room, c.put_all.ensures.room, c.read.ensures.from_capacity);
+      next = room.next;
       first = room.first;
       ends = omega (arith, room.ends, c.read.ensures.ends_capacity);
       list = omega (arith, room.list, c.read.ensures.to_capacity);

@@ -12,6 +12,7 @@ seek-found-requires-clause-sound c =
     let room = c.requires.room in
     same_sound c.args.automaton.now c.args.self.now _ record { starts = refl; lists = refl; class_of = refl; class_count = refl } refl refl record {
       from = room.from;
+      next = room.next;
       first = room.first;
       ends = room.ends;
       list = omega (arith, room.list, c.clear.ensures.capacity, c.extend_within.ensures.capacity);
@@ -34,6 +35,7 @@ returns-clause-sound c =
     let room = sound.room in
     begun_sound c.args.automaton.now c.seek-found.new.self _ record { starts = refl; lists = refl; class_of = refl; class_count = refl } refl record {
       from = room.from;
+      next = room.next;
       first = room.first;
       ends = room.ends;
       list = room.list;

@@ -7,6 +7,7 @@ returns-clause-sound c =
     let room = c.requires.sound.room in
     written_sound c.args.automaton.now c.args.self.now _ c.args.row c.args.column c.args.entry record { starts = refl; lists = refl; class_of = refl; class_count = refl } refl refl record {
       from = room.from;
+      next = room.next;
       first = room.first;
       ends = room.ends;
       list = room.list;

@@ -1,0 +1,52 @@
+use Rattle.std.proofs.Common.{◌≡◌, ℕ, ◌+◌, ◌*◌, ◌-◌, ◌<◌, ◌≤◌, ◌==◌, [], ◌∷◌, ◌++◌, ◌⊎◌, inl, inr, Some, None, IsTrue, Bool, List, length, get_or, drop, min, false, true≢false, arith, sym, ◌∙◌, refl, ap, subst, append-nil}
+use Rattle.std.specs.Prelude.{◌↔◌, ◌||◌}
+use Rattle.std.proofs.Math.Logic.{⊎_elim}
+use Rattle.std.proofs.lemmas.Bool.{cases_lt}
+use Rattle.std.proofs.lemmas.List.{drop_more, drop_all}
+use Rattle.std.proofs.lemmas.Nat.{mul-le}
+use Rattle.bit_sets.specs.Indexes.{has_index}
+use Rattle.bit_sets.specs.Texts.{AllBytes}
+use Rattle.bit_sets.specs.StateSets.{has_state, state_capacity}
+use Rattle.byte_nfa.specs.Runs.{size, AcceptsFrom}
+use Rattle.byte_nfa.specs.Steps.{state, Accepts}
+use Rattle.byte_nfa.proofs.lemmas.Pass.{iff_trans}
+use Rattle.lazy_dfa.proofs.lemmas.After.{index_below, live_finds, some_after}
+use Rattle.lazy_dfa.proofs.lemmas.Finding.{iff_beside, at_quiet, at_dead, told_found, some_last, some_same, visits_more, visits_within, visits_before}
+use Rattle.lazy_dfa.proofs.lemmas.Lists.{iff_sym}
+use Rattle.lazy_dfa.proofs.lemmas.Stepping.{room_swapped}
+use Rattle.lazy_dfa.specs.inner.Sources.{half}
+use Rattle.lazy_dfa.specs.inner.Rows.{FindsBy}
+use Rattle.lazy_dfa.proofs.stepping.can_match_after_byte.Goals as goal
+
+pub returns-in_default-clause-some : goal.returns-in_default-clause-some
+returns-in_default-clause-some c =
+    let (k, low, a) = rw c.in_default.is at c.step_undecided.ensures.step in
+    (λ _. (k, [], tt, (low, inr ([], c.args.byte ∷ [], refl, a))), λ _. refl)
+
+pub returns-then-not-some-clause-some : goal.returns-then-not-some-clause-some
+returns-then-not-some-clause-some c =
+    let m = c.args.automaton.now in
+    let before = AcceptsFrom m c.args.from.now in
+    let step = rw c.in-Some.is at c.step_undecided.ensures.step in
+    let dead : (y : List ℕ) (j : ℕ) → before (c.args.byte ∷ y) j → ⊥ =
+    λ y j h. let (t, within, at, leads) = (step.steps y j).0 h in true≢false (sym (step.some.1 (t, within, at)) ∙ c.if-not-some.true) in (
+      λ off. absurd (true≢false (sym off)),
+      λ (k, y, all, found). let (low, a) = (at_dead (half m) before c.args.byte dead y k).0 found in absurd (step.undecided (k, low, a)),
+    )
+
+pub returns-clause-some : goal.returns-clause-some
+returns-clause-some c =
+    let m = c.args.automaton.now in
+    let n = half m in
+    let b = c.args.byte in
+    let (source, early) = c.requires.early in
+    let before = AcceptsFrom m c.args.from.now in
+    let after = AcceptsFrom m c.step_undecided.new.to in
+    let step = rw c.in-Some.is at c.step_undecided.ensures.step in
+    let quiet = at_quiet n before after b step.steps (λ k low h. step.undecided (k, low, h)) in
+    let live = c.has_live.ensures.some in
+    let turned : IsTrue c.has_live.result ↔ ((k : ℕ) × (y : List ℕ) × AllBytes y × after y k) =
+    (λ h. let (y, k, all, a) = live.0 h in (k, y, all, a), λ (k, y, all, a). live.1 (y, k, all, a)) in
+    iff_trans turned
+    (iff_trans (live_finds n after (λ y k (t, lt, at, a). index_below source m early k t y a))
+    (some_after (λ y k. quiet y k)))
