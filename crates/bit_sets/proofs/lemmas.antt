@@ -1,8 +1,6 @@
 pub mod Bits
 pub mod Texts
-pub mod Combining
 pub mod Clearing
-pub mod Disjoint
 pub mod Lowered
 pub mod Changes
 pub mod Summaries

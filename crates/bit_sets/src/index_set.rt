@@ -27,7 +27,7 @@ impl Drop for IndexSet {
 }
 
 impl IndexSet {
-    ghost use Rattle.std.specs.Prelude.{◌≡◌, ℕ, ◌<◌, ◌≤◌, ◌||◌, ◌==◌, ◌↔◌, [], true, false, IfOk, OnOk, IsOk, IsTrue, filter, vec_capacity};
+    ghost use Rattle.std.specs.Prelude.{◌≡◌, ℕ, ◌<◌, ◌≤◌, ◌||◌, ◌==◌, ◌↔◌, [], false, IfOk, OnOk, IsOk, IsTrue, filter, vec_capacity};
     ghost use Rattle.std.specs.List.{range_with_len};
     ghost use Rattle.bit_sets.specs.Bits.{TellsFirst, TellsFirstBelow};
     ghost use Rattle.bit_sets.specs.Indexes.{has_index, index_capacity, HasAlso};

@@ -1,12 +1,11 @@
 //! Sets of numbers, as the bits of machine words.
 
-ghost use Rattle.std.specs.Prelude.{◌≡◌, ℕ, ◌+◌, ◌-◌, ◌*◌, ◌/◌, ◌%◌, ◌^◌, ◌<◌, ◌≤◌, ◌&&◌, ◌||◌, ◌==◌, max, ◌↔◌, not, true, false, length, OnOk, IsOk, IsTrue};
+ghost use Rattle.std.specs.Prelude.{◌≡◌, ℕ, ◌+◌, ◌-◌, ◌*◌, ◌/◌, ◌%◌, ◌^◌, ◌<◌, ◌≤◌, ◌&&◌, ◌||◌, ◌==◌, max, not, true, false, length, OnOk, IsOk};
 ghost use Rattle.std.specs.Int.{bit_at};
 ghost use Rattle.bit_sets.specs.Bits.{bit_of, is_in_word, TellsFirst, TellsFirstInWord};
 ghost use Rattle.bit_sets.specs.Seen.{IsLastBelow};
 
 use std::alloc::AllocError;
-use std::hash::{FoldHasher, Hasher};
 
 /// A bit that was read, and whether it is set.
 #[derive(Clone, Copy)]
@@ -86,72 +85,6 @@ pub fn clear_between(words: &mut [u64], first: usize, last: usize)
     ensures others { (k : ℕ) → bit_of words.new k ≡ true → bit_of words.old k ≡ true }
 {
     words[first / 64..last / 64 + 1].fill(0);
-}
-
-/// Hashes the words of the bits between these two.
-pub fn hash_between(words: &[u64], first: usize, last: usize, hasher: &mut FoldHasher)
-    requires order { first ≤ last }
-    requires within { last < 64 * length words.now }
-{
-    for word in &words[first / 64..last / 64 + 1] {
-        hasher.write_u64(*word);
-    }
-}
-
-/// Sets each bit that is set in other words.
-pub fn add_bits(words: &mut [u64], other: &[u64])
-    requires { length other.now ≡ length words.old }
-    ensures { (k : ℕ) → bit_of words.new k ≡ (bit_of other.now k || bit_of words.old k) }
-{
-    for i in 0..words.len() {
-        words[i] = words[i] | other[i];
-    }
-}
-
-/// Clears each bit that is not set in other words.
-pub fn keep_bits(words: &mut [u64], other: &[u64])
-    requires { length other.now ≡ length words.old }
-    ensures { (k : ℕ) → bit_of words.new k ≡ (bit_of other.now k && bit_of words.old k) }
-{
-    for i in 0..words.len() {
-        words[i] = words[i] & other[i];
-    }
-}
-
-/// Clears each bit that is set in other words.
-pub fn remove_bits(words: &mut [u64], other: &[u64])
-    requires { length other.now ≡ length words.old }
-    ensures { (k : ℕ) → bit_of words.new k ≡ (not (bit_of other.now k) && bit_of words.old k) }
-{
-    for i in 0..words.len() {
-        words[i] = words[i] & !other[i];
-    }
-}
-
-/// Returns whether each bit that is set is also set in other words.
-pub fn are_within(words: &[u64], other: &[u64]) -> bool
-    requires { length other.now ≡ length words.now }
-    ensures { IsTrue result → (k : ℕ) → IsTrue (bit_of words.now k) → IsTrue (bit_of other.now k) }
-{
-    for i in 0..words.len() {
-        if words[i] & !other[i] != 0 {
-            return false;
-        }
-    }
-    true
-}
-
-/// Returns whether no bit is set both in these and in other words.
-pub fn are_disjoint(words: &[u64], other: &[u64]) -> bool
-    ensures { IsTrue result ↔ ((k : ℕ) → IsTrue (bit_of words.now k) → bit_of other.now k ≡ false) }
-{
-    let count = words.len().min(other.len());
-    for i in 0..count {
-        if words[i] & other[i] != 0 {
-            return false;
-        }
-    }
-    true
 }
 
 /// Sets the bit below each bit of a word that stands at a place. The bit below its lowest one is the highest of the word

@@ -4,7 +4,6 @@ pub mod Reading
 pub mod EarlyMatches
 pub mod Deciding
 pub mod Equivalent
-pub mod StepLists
 pub mod Accepting
 pub mod Live
 pub mod LastBytes

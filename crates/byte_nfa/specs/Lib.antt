@@ -6,4 +6,3 @@ pub mod Live
 pub mod Equivalent
 pub mod EarlyMatches
 pub mod inner
-pub mod ByteSteps

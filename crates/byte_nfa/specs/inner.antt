@@ -1,4 +1,3 @@
 pub mod Views
 pub mod Pass
 pub mod Exits
-pub mod StepCapacity

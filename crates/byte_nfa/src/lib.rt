@@ -6,10 +6,8 @@
 #![tactic(auto)]
 
 mod builder;
-mod byte_steps;
 mod nfa;
 mod state;
 
 pub use builder::Builder;
-pub use byte_steps::ByteSteps;
 pub use nfa::{Nfa, StateRef};

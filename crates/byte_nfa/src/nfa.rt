@@ -1,16 +1,14 @@
 //! Automata over bytes that can be in several states at once.
 
-ghost use Rattle.std.specs.Prelude.{◌≡◌, ℕ, ◌+◌, ◌<◌, ◌≤◌, ◌||◌, ◌⊎◌, ◌↔◌, [], List, Some, IsTrue, IsFalse, OnOk};
+ghost use Rattle.std.specs.Prelude.{◌≡◌, ℕ, ◌+◌, ◌<◌, ◌≤◌, ◌⊎◌, ◌↔◌, [], List, IsTrue, IsFalse};
 ghost use Rattle.bit_sets.specs.Bytes.{has_byte};
 ghost use Rattle.bit_sets.specs.Indexes.{has_index, index_capacity};
 ghost use Rattle.bit_sets.specs.Numbers.{AreBelow};
-ghost use Rattle.bit_sets.specs.StateSets.{has_state, state_capacity};
+ghost use Rattle.bit_sets.specs.StateSets.{state_capacity};
 ghost use Rattle.byte_nfa.specs.Steps.{NfaValue, IsReached, state};
 ghost use Rattle.byte_nfa.specs.Equivalent.{AreEquivalent};
-ghost use Rattle.byte_nfa.specs.ByteSteps.{leads_to, step_capacity};
 ghost use Rattle.byte_nfa.specs.Runs.{size, AcceptsFrom};
-ghost use Rattle.byte_nfa.specs.inner.Views.{AreSound, GoesBelow, nfa};
-ghost use Rattle.byte_nfa.specs.inner.Pass.{goes_now, goes_next};
+ghost use Rattle.byte_nfa.specs.inner.Views.{AreSound, nfa};
 
 mod accepting;
 mod early_matches;
@@ -18,11 +16,10 @@ mod live;
 mod reading;
 mod steps;
 
-use crate::byte_steps::ByteSteps;
 use crate::state::State;
 use bit_sets::{ByteSet, IndexSet, StateSet, Visits};
 pub use reading::StateRef;
-use std::alloc::{AllocError, Global};
+use std::alloc::Global;
 use std::marker::Model;
 
 /// A nondeterministic automaton: states over bytes, and those of them that a run begins in.
@@ -181,30 +178,5 @@ impl Nfa {
             bit = bit.rotate_left(1);
         }
         kind
-    }
-
-    /// Puts what a state of `from` goes on to without a byte into `from`, and its step by a byte into `into`. Returns an error
-    /// if memory runs out.
-    pub(crate) fn put_steps(
-        &self,
-        s: usize,
-        from: &mut StateSet,
-        into: &mut ByteSteps,
-    ) -> Result<(), AllocError>
-        requires exists { s < size self.now }
-        requires from_capacity { size self.now ≤ state_capacity from.old }
-        requires into_capacity { size self.now ≤ step_capacity into.old }
-        ensures from_capacity { state_capacity from.new ≡ state_capacity from.old }
-        ensures into_capacity { step_capacity into.new ≡ step_capacity into.old }
-        ensures below { GoesBelow s (state self.now.states s) }
-        ensures from { (t : ℕ)
-            → has_state from.new t
-            ≡ (goes_now (state self.now.states s) t || has_state from.old t) }
-        ensures into { OnOk result
-            ((b t : ℕ) → b < 256
-            → leads_to into.new b t
-            ≡ (goes_next (state self.now.states s) s (Some b) t || leads_to into.old b t)) }
-    {
-        self.states[s].put_steps(s, &self.sets, &self.targets, from, into)
     }
 }

@@ -1,19 +1,16 @@
 //! States, as an automaton keeps them.
 
-ghost use Rattle.std.specs.Prelude.{◌≡◌, ℕ, ◌+◌, ◌<◌, ◌≤◌, ◌||◌, ◌↔◌, ◌==◌, List, length, slice_index, true, false, Some, None, IsTrue, IsFalse, OnOk, IfSome, MatchOption};
+ghost use Rattle.std.specs.Prelude.{◌≡◌, ℕ, ◌+◌, ◌<◌, ◌≤◌, ◌||◌, ◌↔◌, ◌==◌, List, length, slice_index, false, Some, IsTrue, IsFalse, IfSome, MatchOption};
 ghost use Rattle.bit_sets.specs.Bytes.{has_byte};
 ghost use Rattle.bit_sets.specs.StateSets.{has_state, state_capacity};
 ghost use Rattle.bit_sets.specs.declared.byte_set.ByteSet.{ByteSet};
 ghost use Rattle.byte_nfa.specs.Equivalent.{HasAlsoBoundaries};
 ghost use Rattle.bit_sets.specs.Numbers.{AreBelow, has_number};
-ghost use Rattle.byte_nfa.specs.ByteSteps.{leads_to, step_capacity};
 ghost use Rattle.byte_nfa.specs.inner.Exits.{TellsExit};
 ghost use Rattle.byte_nfa.specs.inner.Views.{set_at, exits_at, of_state, IsHeld, GoesBelow};
 ghost use Rattle.byte_nfa.specs.inner.Pass.{goes_now, goes_next, TellsEnd, EndsBy, LeadsBy};
 
-use crate::byte_steps::ByteSteps;
 use bit_sets::{ByteSet, StateSet, Visits};
-use std::alloc::AllocError;
 
 /// A state, in 16 bytes. Its set of bytes is kept as the number of one of the automaton's sets, and several states that it
 /// goes on to as the place in the automaton's list of next states at which their count stands, and then each.
@@ -102,45 +99,6 @@ impl State {
             State::Bytes(set, next) if set_of(sets, *set).has(byte) => Some(*next),
             State::Loop(set, _) if set_of(sets, *set).has(byte) => Some(s),
             _ => None,
-        }
-    }
-
-    /// Puts what a state goes on to without a byte into `from`, and its step by a byte into `into`. Returns an error if memory
-    /// runs out.
-    pub fn put_steps(
-        &self,
-        s: usize,
-        sets: &[ByteSet],
-        targets: &[usize],
-        from: &mut StateSet,
-        into: &mut ByteSteps,
-    ) -> Result<(), AllocError>
-        requires held { IsHeld sets.now targets.now self.now }
-        requires below { GoesBelow s (of_state sets.now targets.now self.now) }
-        requires from_capacity { s < state_capacity from.old }
-        requires into_capacity { s < step_capacity into.old }
-        ensures from_capacity { state_capacity from.new ≡ state_capacity from.old }
-        ensures into_capacity { step_capacity into.new ≡ step_capacity into.old }
-        ensures from { (t : ℕ)
-            → has_state from.new t
-            ≡ (goes_now (of_state sets.now targets.now self.now) t || has_state from.old t) }
-        ensures into { OnOk result
-            ((b t : ℕ) → b < 256
-            → leads_to into.new b t
-            ≡ (goes_next (of_state sets.now targets.now self.now) s (Some b) t
-            || leads_to into.old b t)) }
-    {
-        match self {
-            State::Bytes(set, next) => into.put(set_of(sets, *set), *next),
-            State::Union(at) => {
-                from.put_all(exits_of(targets, *at));
-                Ok(())
-            }
-            State::Loop(set, exit) => {
-                from.put(*exit);
-                into.put(set_of(sets, *set), s)
-            }
-            State::Match(_) => Ok(()),
         }
     }
 

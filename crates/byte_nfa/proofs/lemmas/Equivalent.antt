@@ -2,10 +2,8 @@
 use Rattle.std.proofs.Common.{◌≡◌, ℕ, zero, suc, get_or, length, [], ◌+◌, ◌<◌, Bool, true, false, true≢false, ◌||◌, List, ◌∷◌, IsTrue, arith, refl, ap, sym, subst, ◌∙◌, below_more}
 use Rattle.std.specs.Prelude.{◌↔◌, IsFalse}
 use Rattle.bit_sets.specs.declared.byte_set.ByteSet.{ByteSet}
-use Rattle.bit_sets.specs.declared.state_set.StateSet.{StateSet}
 use Rattle.bit_sets.specs.Bytes.{has_byte, differ}
-use Rattle.byte_nfa.specs.Steps.{State, bytes_state, loop_state, state, NfaValue, Accepts, ends, by_byte, by_skip, by_out, by_stay}
-use Rattle.byte_nfa.specs.Runs.{AcceptsFrom}
+use Rattle.byte_nfa.specs.Steps.{State, bytes_state, loop_state, state, Accepts, ends, by_byte, by_skip, by_out, by_stay}
 use Rattle.byte_nfa.specs.Equivalent.{reads_byte, AreEquivalent}
 use Rattle.byte_nfa.specs.inner.Views.{set_at, of_state, of_states, IsHeld, AreHeld}
 use Rattle.byte_nfa.specs.declared.state.State as declared
@@ -54,12 +52,6 @@ module _ (a : List State) (k b c : ℕ) (z : List ℕ) (equivalent : AreEquivale
   accepts_equivalent s y (by_stay s' d x w ts e has rest) is =
       let same : d ≡ b = cc in let others : x ≡ z = cc in
       by_stay s' c z w ts e (has_equivalent s' (loop_state w ts) w e (λ u. refl) (subst (λ u. IsTrue (has_byte w u)) same has)) (subst (Accepts a k s') others rest)
-
-pub from_equivalent : (m : NfaValue) (set : StateSet) (b c : ℕ) (z : List ℕ) (k : ℕ) → AreEquivalent m.states b c → AcceptsFrom m set (b ∷ z) k ↔ AcceptsFrom m set (c ∷ z) k
-from_equivalent m set b c z k equivalent = (
-  λ (t, lt, at, h). (t, lt, at, accepts_equivalent m.states k b c z equivalent t (b ∷ z) h refl),
-  λ (t, lt, at, h). (t, lt, at, accepts_equivalent m.states k c b z (λ s. sym (equivalent s)) t (c ∷ z) h refl),
-)
 
 -- where each set has both bytes or neither, each state reads both or neither
 

@@ -1,6 +1,6 @@
 //! Ends in place of the states that decide an index.
 
-ghost use Rattle.std.specs.Prelude.{◌≡◌, ℕ, ◌*◌, ◌<◌, ◌≤◌, ◌^◌, length, IfOk, MatchOption};
+ghost use Rattle.std.specs.Prelude.{ℕ, ◌*◌, ◌<◌, ◌≤◌, ◌^◌, length, IfOk, MatchOption};
 ghost use Rattle.byte_nfa.specs.EarlyMatches.{Decides, EndsAtEarlyMatches};
 ghost use Rattle.byte_nfa.specs.Runs.{size};
 ghost use Rattle.byte_nfa.specs.inner.Exits.{TellDecisions};

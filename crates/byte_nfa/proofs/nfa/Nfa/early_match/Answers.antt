@@ -1,10 +1,9 @@
 use Rattle.std.proofs.Common.{◌≡◌, [], ◌<◌, ◌-◌, ◌∙◌, length, arith, ap, sym, subst}
-use Rattle.std.specs.Prelude.{slice_index_or}
 use Rattle.std.proofs.lemmas.List.{length-map}
 use Rattle.byte_nfa.specs.Runs.{size}
 use Rattle.byte_nfa.specs.Steps.{NfaValue}
 use Rattle.byte_nfa.specs.declared.state.State.TheVariants.{Match}
-use Rattle.byte_nfa.specs.inner.Exits.{TellsDecision, IsNoEnd}
+use Rattle.byte_nfa.specs.inner.Exits.{TellsDecision}
 use Rattle.byte_nfa.specs.inner.Views.{GoesBelow, of_state}
 use Rattle.byte_nfa.proofs.lemmas.Reading.{held_at, state_at, read_state}
 use Rattle.byte_nfa.proofs.lemmas.EarlyMatches.{always_matches_none, decides_end, decides_other, decides_none, tells_none}
