@@ -1,9 +1,7 @@
 pub mod Bits
 pub mod Texts
 pub mod Clearing
-pub mod Lowered
 pub mod Changes
 pub mod Summaries
 pub mod IndexSets
-pub mod Bounds
 pub mod Filters

@@ -2,8 +2,6 @@
 
 ghost use Rattle.bit_sets.specs.inner.Bounds.{AreBounds};
 
-mod word_steps;
-
 use crate::visits::Visits;
 use crate::words::{Seen, clear_between, grow, has_bit, last_below, set_bit, words_for};
 use std::alloc::{AllocError, Global};

@@ -2,7 +2,7 @@
 
 ghost use Rattle.std.specs.Prelude.{◌≡◌, ℕ, ◌+◌, ◌-◌, ◌*◌, ◌/◌, ◌%◌, ◌^◌, ◌<◌, ◌≤◌, ◌&&◌, ◌||◌, ◌==◌, max, not, true, false, length, OnOk, IsOk};
 ghost use Rattle.std.specs.Int.{bit_at};
-ghost use Rattle.bit_sets.specs.Bits.{bit_of, is_in_word, TellsFirst, TellsFirstInWord};
+ghost use Rattle.bit_sets.specs.Bits.{bit_of, TellsFirst, TellsFirstInWord};
 ghost use Rattle.bit_sets.specs.Seen.{IsLastBelow};
 
 use std::alloc::AllocError;
@@ -85,21 +85,6 @@ pub fn clear_between(words: &mut [u64], first: usize, last: usize)
     ensures others { (k : ℕ) → bit_of words.new k ≡ true → bit_of words.old k ≡ true }
 {
     words[first / 64..last / 64 + 1].fill(0);
-}
-
-/// Sets the bit below each bit of a word that stands at a place. The bit below its lowest one is the highest of the word
-/// before.
-pub fn set_lowered(words: &mut [u64], at: usize, word: u64)
-    requires within { at < length words.old }
-    requires fits { at * 64 < 2 ^ 64 }
-    requires before { bit_at word 0 ≡ 1 → 0 < at }
-    ensures { (k : ℕ) → bit_of words.new k ≡ (is_in_word at word (k + 1) || bit_of words.old k) }
-{
-    let old = words[at];
-    words[at] = old | (word >> 1);
-    if word & 1 == 1 {
-        set_bit(words, at * 64 - 1);
-    }
 }
 
 /// Clears all bits.

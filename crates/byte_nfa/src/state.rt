@@ -1,6 +1,6 @@
 //! States, as an automaton keeps them.
 
-ghost use Rattle.std.specs.Prelude.{◌≡◌, ℕ, ◌+◌, ◌<◌, ◌≤◌, ◌||◌, ◌↔◌, ◌==◌, List, length, slice_index, false, Some, IsTrue, IsFalse, IfSome, MatchOption};
+ghost use Rattle.std.specs.Prelude.{◌≡◌, ℕ, ◌+◌, ◌<◌, ◌≤◌, ◌||◌, ◌↔◌, ◌==◌, List, length, slice_index, false, Some, IsTrue, IfSome, MatchOption};
 ghost use Rattle.bit_sets.specs.Bytes.{has_byte};
 ghost use Rattle.bit_sets.specs.StateSets.{has_state, state_capacity};
 ghost use Rattle.bit_sets.specs.declared.byte_set.ByteSet.{ByteSet};
@@ -30,60 +30,6 @@ pub enum State {
 }
 
 impl State {
-    /// Takes the steps of a state: puts into `from` what it goes on to without a byte, and into `to` what it goes on to by the
-    /// byte. Returns whether it put a state into `to`.
-    pub fn take_steps(
-        &self,
-        s: usize,
-        sets: &[ByteSet],
-        targets: &[usize],
-        byte: u8,
-        from: &mut StateSet,
-        to: &mut StateSet,
-    ) -> bool
-        requires held { IsHeld sets.now targets.now self.now }
-        requires below { GoesBelow s (of_state sets.now targets.now self.now) }
-        requires from_capacity { s < state_capacity from.old }
-        requires to_capacity { s < state_capacity to.old }
-        ensures from_capacity { state_capacity from.new ≡ state_capacity from.old }
-        ensures to_capacity { state_capacity to.new ≡ state_capacity to.old }
-        ensures from { (t : ℕ)
-            → has_state from.new t
-            ≡ (goes_now (of_state sets.now targets.now self.now) t || has_state from.old t) }
-        ensures to { (t : ℕ)
-            → has_state to.new t
-            ≡ (goes_next (of_state sets.now targets.now self.now) s (Some byte) t
-            || has_state to.old t) }
-        ensures some { IsTrue result
-            → (t : ℕ) × (t ≤ s)
-            × IsTrue (goes_next (of_state sets.now targets.now self.now) s (Some byte) t) }
-        ensures none { IsFalse result → (t : ℕ)
-            → goes_next (of_state sets.now targets.now self.now) s (Some byte) t ≡ false }
-    {
-        match self {
-            State::Bytes(set, next) => {
-                if set_of(sets, *set).has(byte) {
-                    to.put(*next);
-                    return true;
-                }
-                false
-            }
-            State::Union(at) => {
-                from.put_all(exits_of(targets, *at));
-                false
-            }
-            State::Loop(set, exit) => {
-                from.put(*exit);
-                if set_of(sets, *set).has(byte) {
-                    to.put(s);
-                    return true;
-                }
-                false
-            }
-            State::Match(_) => false,
-        }
-    }
-
     /// Returns the state that a state goes on to by a byte, or `None` if there is none.
     pub fn next_by(&self, s: usize, sets: &[ByteSet], targets: &[usize], byte: u8) -> Option<usize>
         requires held { IsHeld sets.now targets.now self.now }

@@ -1,13 +1,12 @@
 -- Bits of machine words.
-use Rattle.std.proofs.Common.{zero, suc, max, min, ◌++◌, ◌+◌, ◌-◌, ◌≡◌, ◌≢◌, ℕ, ◌*◌, ◌/◌, ◌%◌, ◌^◌, ◌<◌, ◌≤◌, ◌⊎◌, [], ◌∷◌, Bool, true, false, true≢false, not, eqb, ltb, List, length, replicate, get_or, set, refl, sym, subst, ◌∙◌, ap, inl, inr, arith, get_or-set_same, get_or-set_other, eq-eqb, ne_eqb, w64, rules}
+use Rattle.std.proofs.Common.{zero, suc, max, min, ◌++◌, ◌+◌, ◌-◌, ◌≡◌, ◌≢◌, ℕ, ◌*◌, ◌/◌, ◌%◌, ◌^◌, ◌<◌, ◌≤◌, ◌⊎◌, Bool, true, false, true≢false, not, eqb, ltb, List, length, replicate, get_or, set, refl, sym, subst, ◌∙◌, ap, inl, inr, arith, get_or-set_same, get_or-set_other, eq-eqb, ne_eqb, w64, rules}
 use borrow.Rule.Slice.PartMut.{put_mid}
 use Rattle.std.proofs.lemmas.List.{places, get_or_append_left, get_or-replicate, get_or_past, length-replicate}
 use Rattle.std.proofs.lemmas.Bool.{cases_eq, cases_lt}
-use Rattle.std.proofs.lemmas.Nat.{leading_top, and_le_l, and_le_r, ones-le, pow_pos}
+use Rattle.std.proofs.lemmas.Nat.{leading_top, and_le_l}
 use Rattle.std.proofs.Math.Nat.{div-eq_of_lt-le, pow-suc}
 use Rattle.std.proofs.lemmas.Nat.Bits.{bit_at_set_same, bit_at_set_other, bit_at_clear_same, bit_at_clear_other, bit_at-zero, bit_at-lt, bit_at_and, bit_at_or, bit_at_ones, bit_at_ones_above, bit_at_above, shr_and_one, ones_shr, ones_shl, bit_at_mask_inside, bit_at_mask_below, bit_at-trailing_zeros}
-use Rattle.std.specs.Prelude.{bit_and, bit_or, count_ones, ◌||◌, ◌&&◌}
-use Rattle.std.proofs.Math.Pow.{shr_lt}
+use Rattle.std.specs.Prelude.{bit_and, bit_or, ◌||◌, ◌&&◌}
 use Rattle.std.specs.Int.{bit_at, bit_not, leading_zeros, trailing_zeros}
 use Rattle.bit_sets.specs.Bits.{bit_of}
 
@@ -130,14 +129,6 @@ module _ (word r : ℕ) (low : r < 64) where
   pub cut_bit : (i : ℕ) → r < i → bit_at masked i ≡ 0
   unfolding masked
   cut_bit i lt = rw mask_is (bit_at_and word (2 ^ (r + 1) - 1) i ∙ (let none = bit_at_ones_above (r + 1) i (omega arith) in omega arith))
-
-  masked_lt : masked < 2 ^ (r + 1)
-  unfolding masked
-  masked_lt = rw mask_is (let le = and_le_r word (2 ^ (r + 1) - 1) in let some = pow_pos (r + 1) in omega arith)
-
-  -- there are no more of them than bits from l to r
-  pub few_set : (l : ℕ) → l ≤ r → count_ones (masked / 2 ^ l) ≤ r + 1 - l
-  few_set l le = ones-le (r + 1 - l) (masked / 2 ^ l) (shr_lt (r + 1 - l) l (let e : r + 1 - l + l ≡ r + 1 = omega arith in rw e masked_lt))
 
 -- nothing is set in the mask
 pub none_below : (words : List ℕ) (limit word : ℕ) → 0 < limit → word ≡ get_or words ((limit - 1) / 64) 0
@@ -317,9 +308,3 @@ bit_grown words n k =
           ] in
           ap (λ x. eqb (bit_at x (k % 64)) 1) (there ∙ zero)
     ]
-
--- a word that was read
-pub word_read : (xs : List ℕ) (i x d : ℕ) → i < length xs → x ≡ get_or xs i x → x ≡ get_or xs i d
-word_read [] i x d lt e = absurd (omega arith)
-word_read (y ∷ ys) zero x d lt e = e
-word_read (y ∷ ys) (suc i) x d lt e = word_read ys i x d (omega arith) e

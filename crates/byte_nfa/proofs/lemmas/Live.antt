@@ -96,11 +96,3 @@ module _ (a : List State) where
         (cases_lt u s);
     high = λ u le. are.high u (omega arith);
   }
-
--- the state s is not in the set, or not live
-pub none_more : (a : List State) (s : ℕ) (from : ℕ → Bool) → ((t : ℕ) → t < s → IsTrue (from t) → IsLive a t → ⊥) → (IsTrue (from s) → IsLive a s → ⊥)
-    → (t : ℕ) → t < s + 1 → IsTrue (from t) → IsLive a t → ⊥
-none_more a s from none this t lt at live = ⊎_elim {C = ⊥}
-    (λ before. none t before at live)
-    (λ past. let is : t ≡ s = omega arith in this (subst (λ v. IsTrue (from v)) is at) (subst (λ v. IsLive a v) is live))
-    (cases_lt t s)
