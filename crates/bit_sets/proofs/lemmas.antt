@@ -3,5 +3,6 @@ pub mod Texts
 pub mod Clearing
 pub mod Changes
 pub mod Summaries
+pub mod FirstWord
 pub mod IndexSets
 pub mod Filters

@@ -1,15 +1,19 @@
 -- Sets of indexes.
-use Rattle.std.specs.Prelude.{ℕ, ◌*◌, ◌<◌, ◌⊎◌, ◌↔◌, Bool, List, length, IsTrue, Contains}
+use Rattle.std.specs.Prelude.{ℕ, ◌*◌, ◌<◌, ◌⊎◌, ◌++◌, ◌↔◌, Bool, List, length, IsTrue, Contains}
 use Rattle.bit_sets.specs.Bits.{bit_of}
 use Rattle.bit_sets.specs.declared.index_set.IndexSet.{IndexSet}
 
+-- the words of a set: the first, and then the rest
+abbrev pub words_of : IndexSet → List ℕ
+words_of set = set.first ++ set.rest.items
+
 -- the set has the index k
 abbrev pub has_index : IndexSet → ℕ → Bool
-has_index set k = bit_of set.words.items k
+has_index set k = bit_of (words_of set) k
 
 -- a set has room for the indexes below this
 abbrev pub index_capacity : IndexSet → ℕ
-index_capacity set = 64 * length set.words.items
+index_capacity set = 64 * length (words_of set)
 
 -- the new set has what the old one has, and those of the indexes that the old one has room for
 abbrev pub HasAlso : IndexSet → IndexSet → List ℕ → Type 0

@@ -1,5 +1,6 @@
 //! Sets of indexes.
 
+ghost use Rattle.std.specs.Prelude.{◌≡◌, length};
 ghost use Rattle.bit_sets.specs.inner.Summary.{IsSummary};
 
 use crate::words::{
@@ -9,42 +10,48 @@ use std::alloc::{AllocError, Global};
 
 /// A set of indexes, as a bit for each.
 pub struct IndexSet {
-    words: Vec<u64>,
-    /// A bit for each word, which is set if the word has a bit that is. So 64 words without one are passed over at once, and
-    /// only words that have one are cleared.
+    /// The word of the indexes below 64, which takes no memory of its own: many sets have no others.
+    first: [u64; 1],
+    /// The words of the other indexes.
+    rest: Vec<u64>,
+    /// A bit for each word of the rest, which is set if the word has a bit that is. So 64 words without one are passed over at
+    /// once, and only words that have one are cleared.
     summary: Vec<u64>,
-    ghost summed: { IsSummary words.items summary.items },
+    ghost one: { length first ≡ 1 },
+    ghost summed: { IsSummary rest.items summary.items },
 }
 
 impl Drop for IndexSet {
     // One call wherever a value is dropped, which keeps proofs short.
     fn drop(self) {
         let IndexSet {
-            words: _,
+            first: _,
+            rest: _,
             summary: _,
         } = self;
     }
 }
 
 impl IndexSet {
-    ghost use Rattle.std.specs.Prelude.{◌≡◌, ℕ, ◌<◌, ◌≤◌, ◌||◌, ◌==◌, ◌↔◌, [], false, IfOk, OnOk, IsOk, IsTrue, filter, vec_capacity};
+    ghost use Rattle.std.specs.Prelude.{◌≡◌, ℕ, ◌*◌, ◌<◌, ◌≤◌, ◌||◌, ◌==◌, ◌↔◌, [], false, IfOk, OnOk, IsOk, IsTrue, filter, length, vec_capacity};
     ghost use Rattle.std.specs.List.{range_with_len};
-    ghost use Rattle.bit_sets.specs.Bits.{TellsFirst, TellsFirstBelow};
+    ghost use Rattle.bit_sets.specs.Bits.{bit_of, TellsFirst, TellsFirstBelow};
     ghost use Rattle.bit_sets.specs.Indexes.{has_index, index_capacity, HasAlso};
 
-    /// Returns an empty set with room for no index. It allocates nothing.
+    /// Returns an empty set with room for the indexes below 64. It allocates nothing.
     pub fn empty(alloc: Global) -> IndexSet
-        ensures room { index_capacity result ≡ 0 }
+        ensures room { index_capacity result ≡ 64 }
         ensures none { (k : ℕ) → has_index result k ≡ false }
     {
         IndexSet {
-            words: Vec::new(alloc),
+            first: [0],
+            rest: Vec::new(alloc),
             summary: Vec::new(alloc),
         }
     }
 
-    /// Returns an empty set with room for so many indexes. It takes a bit of memory for each, and one more for each 64. Returns
-    /// an error if memory runs out.
+    /// Returns an empty set with room for so many indexes. It takes a bit of memory for each above the first 64, and one more for
+    /// each 64 of these. Returns an error if memory runs out.
     pub fn new(alloc: Global, indexes: usize) -> Result<IndexSet, AllocError>
         ensures room { IfOk result (λ set. indexes ≤ index_capacity set) }
         ensures none { IfOk result (λ set. (k : ℕ) → has_index set k ≡ false) }
@@ -54,17 +61,17 @@ impl IndexSet {
         Ok(set)
     }
 
-    /// Makes room for so many indexes, if there is less. It takes a bit of memory for each, and one more for each 64. Returns an
-    /// error if memory runs out. The set has the same indexes in each case.
+    /// Makes room for so many indexes, if there is less. It takes a bit of memory for each above the first 64, and one more for
+    /// each 64 of these. Returns an error if memory runs out. The set has the same indexes in each case.
     pub fn reserve(&mut self, indexes: usize) -> Result<(), AllocError>
         ensures ok { OnOk result (indexes ≤ index_capacity self.new) }
         ensures kept { index_capacity self.old ≤ index_capacity self.new }
         ensures has { (k : ℕ) → has_index self.new k ≡ has_index self.old k }
         ensures memory { indexes ≤ index_capacity self.old → IsOk result }
     {
-        let words = words_for(indexes);
-        grow(&mut self.summary, words_for(words))?;
-        grow(&mut self.words, words)
+        let rest = words_for(indexes).saturating_sub(1);
+        grow(&mut self.summary, words_for(rest))?;
+        grow(&mut self.rest, rest)
     }
 
     /// Takes every index out. The time follows how many were put in; beside that, a word is written for each 4,096 indexes that
@@ -73,7 +80,8 @@ impl IndexSet {
         ensures room { index_capacity self.new ≡ index_capacity self.old }
         ensures none { (k : ℕ) → has_index self.new k ≡ false }
     {
-        clear_words(&mut self.words, &self.summary);
+        clear_all(&mut self.first);
+        clear_words(&mut self.rest, &self.summary);
         clear_all(&mut self.summary);
     }
 
@@ -81,15 +89,18 @@ impl IndexSet {
     pub fn has_capacity_for(&self, index: usize) -> bool
         ensures { IsTrue result ↔ (index < index_capacity self.now) }
     {
-        index / 64 < self.words.len()
+        index / 64 <= self.rest.len()
     }
 
     /// Returns whether an index is in the set.
     pub fn has(&self, index: usize) -> bool
         ensures { result ≡ has_index self.now index }
     {
+        if index < 64 {
+            return has_bit(&self.first, index);
+        }
         if self.has_capacity_for(index) {
-            return has_bit(&self.words, index);
+            return has_bit(&self.rest, index - 64);
         }
         false
     }
@@ -100,8 +111,23 @@ impl IndexSet {
         ensures room { index_capacity self.new ≡ index_capacity self.old }
         ensures has { (k : ℕ) → has_index self.new k ≡ ((k == index) || has_index self.old k) }
     {
-        set_bit(&mut self.words, index);
-        set_bit(&mut self.summary, index / 64);
+        if index < 64 {
+            set_bit(&mut self.first, index);
+        } else {
+            self.put_in_rest(index - 64);
+        }
+    }
+
+    /// Sets a bit of the rest.
+    fn put_in_rest(&mut self, at: usize)
+        requires { at < 64 * length self.old.rest.items }
+        ensures first { self.new.first ≡ self.old.first }
+        ensures room { length self.new.rest.items ≡ length self.old.rest.items }
+        ensures bits { (k : ℕ) → bit_of self.new.rest.items k
+            ≡ ((k == at) || bit_of self.old.rest.items k) }
+    {
+        set_bit(&mut self.rest, at);
+        set_bit(&mut self.summary, at / 64);
     }
 
     /// Puts those of some indexes in that there is room for.
@@ -158,10 +184,23 @@ impl IndexSet {
     fn first_from(&self, from: usize) -> Option<usize>
         ensures { TellsFirst (has_index self.now) from result }
     {
-        if let Some(index) = first_in_word(&self.words, from) {
-            return Some(index);
+        if from < 64 {
+            if let Some(index) = first_in_word(&self.first, from) {
+                return Some(index);
+            }
+        }
+        let at = self.first_in_rest(from.saturating_sub(64))?;
+        Some(at + 64)
+    }
+
+    /// Returns the lowest bit of the rest that is set from a bit on, or `None` if there is none.
+    fn first_in_rest(&self, from: usize) -> Option<usize>
+        ensures { TellsFirst (bit_of self.now.rest.items) from result }
+    {
+        if let Some(at) = first_in_word(&self.rest, from) {
+            return Some(at);
         }
         let word = first_from(&self.summary, from / 64 + 1)?;
-        first_in_word(&self.words, word * 64)
+        first_in_word(&self.rest, word * 64)
     }
 }
