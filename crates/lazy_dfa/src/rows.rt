@@ -52,6 +52,9 @@ const FEWEST_PLACES: usize = 1 << 8;
 /// There is room for at least so many rows, and so many lists of all states.
 const LEAST_ROWS: usize = 4;
 
+/// A run remembers of so many rows that their marks were told.
+pub const REMEMBERED: usize = 16;
+
 /// Where a byte leads from a row.
 #[derive(Clone, Copy)]
 pub struct Step {

@@ -14,7 +14,7 @@ ghost use Rattle.lazy_dfa.specs.inner.Reached.{HasRead, IsLeft, IsReadBy, IsWher
 ghost use Rattle.lazy_dfa.specs.inner.Sources.{ListsEnds};
 
 use crate::lists::{found_count, put_lowered};
-use crate::rows::Rows;
+use crate::rows::{REMEMBERED, Rows};
 use crate::stepping::{self, Led};
 use bit_sets::{IndexSet, StateSet, Visits};
 use byte_nfa::Nfa;
@@ -164,7 +164,8 @@ impl Rows {
     /// Puts what is found in a text from the row at a place into a set, beside what it holds, as far as entries are known. Returns
     /// where one is not.
     ///
-    /// What a row has marks of is told when the row is left, and once while a run stays in it.
+    /// What a row has marks of is told when the row is left. A run remembers some rows whose marks were told, and does not tell these
+    /// again when it comes back to them.
     fn find_from(
         &self,
         automaton: &Nfa,
@@ -188,27 +189,33 @@ impl Rows {
         ensures counted { visits.old ≤ visits.new }
     {
         let mut place = place;
-        let mut told = None;
+        // One more than the places of the rows whose marks were told.
+        let mut told = [0; REMEMBERED];
         let mut count = 0;
         let mut at = 0;
         for byte in text {
             if let Some(next) = self.plain_next(automaton, place, *byte, visits) {
                 place = next;
-            } else if let Some(next) = self.marked_next(
-                automaton, place, *byte, told, found, visits,
-            ) {
-                if told != Some(place) {
-                    count = found_count(indexes, count, found);
-                    if count >= indexes.len() {
-                        return None;
-                    }
-                }
-                told = Some(place);
-                place = next;
-            } else if self.is_known_dead(automaton, place, *byte, found, visits) {
-                return None;
             } else {
-                return Some(Left { at, place });
+                let slot = self.slot_of(place);
+                let mark = place as u32 + 1;
+                let is_told = told[slot] == mark;
+                if let Some(next) = self.marked_next(
+                    automaton, place, *byte, is_told, found, visits,
+                ) {
+                    if !is_told {
+                        count = found_count(indexes, count, found);
+                        if count >= indexes.len() {
+                            return None;
+                        }
+                        told[slot] = mark;
+                    }
+                    place = next;
+                } else if self.is_known_dead(automaton, place, *byte, found, visits) {
+                    return None;
+                } else {
+                    return Some(Left { at, place });
+                }
             }
             at += 1;
         }

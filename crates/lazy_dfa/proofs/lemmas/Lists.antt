@@ -2,7 +2,7 @@
 use Rattle.std.proofs.Common.{◌≡◌, ℕ, suc, ◌+◌, ◌-◌, ◌<◌, ◌≤◌, ◌||◌, Bool, true, false, true≢false, List, [], ◌∷◌, ◌++◌, length, slice_index, take, drop, IsTrue, refl, ap, sym, ◌∙◌, subst, arith, length-append}
 use Rattle.std.specs.Prelude.{◌↔◌, ◌==◌}
 use Rattle.std.proofs.lemmas.Bool.{cases_lt, eq-eqb, eqb-true, or_cases}
-use Rattle.std.proofs.lemmas.List.{get_or_append_left, take-append-le, length-take-le, length-drop, drop-append-le, take_all, take_more}
+use Rattle.std.proofs.lemmas.List.{get_or_append_left, take-append-le, length-drop, drop-append-le, take_all, take_more}
 use Rattle.std.proofs.Math.Logic.{⊎_elim}
 use Rattle.std.proofs.Math.Seq.{get_or-append_seam}
 use Rattle.bit_sets.specs.Numbers.{has_number}

@@ -1,9 +1,7 @@
 -- Rows that are added, written and found again.
 use Rattle.std.proofs.Common.{◌≡◌, ◌≢◌, ℕ, ◌+◌, ◌-◌, ◌*◌, ◌<◌, ◌≤◌, ◌⊎◌, ◌||◌, inl, inr, Bool, true, false, true≢false, List, [], ◌∷◌, ◌++◌, Some, None, length, take, drop, replicate, slice_index, slice_set, IsTrue, refl, ap, sym, ◌∙◌, subst, arith, length-append}
-use Rattle.std.specs.Prelude.{◌↔◌, ◌==◌, IsFalse, Option, MatchOption, is_some}
-use Rattle.std.specs.Option.{option_eq}
-use Rattle.std.proofs.Math.Bool.{not}
-use Rattle.std.proofs.lemmas.Bool.{cases_lt, eqb-true, or_cases}
+use Rattle.std.specs.Prelude.{◌↔◌, IsFalse, Option, MatchOption, is_some}
+use Rattle.std.proofs.lemmas.Bool.{cases_lt, or_cases}
 use Rattle.std.proofs.lemmas.Nat.{mul-le}
 use Rattle.std.proofs.lemmas.List.{get_or_append_left, get_or-append_right, get_or-replicate, get_or-set_same, get_or-set_other, take_all, length-set, length-replicate}
 use Rattle.std.proofs.Math.Seq.{get_or-append_seam, drop-append-add}
@@ -481,11 +479,21 @@ none_reached m none y k (s, begins, h) = let lt = accepts_within m.states k s y 
 pub one_row : (rows : Rows) (i j p : ℕ) → IsAt rows i p → IsAt rows j p → i ≡ j
 one_row rows i j p (lt, is) (lt', is') = (same_place i 0 j 0 rows.class_count (omega arith) (omega arith) (omega (arith, is, is'))).0
 
--- an option that is told to be no other than some number
-pub same_told : (o : Option ℕ) (p : ℕ) (r : Bool) → r ≡ not (option_eq (λ a b. a == b) o (Some p)) → r ≡ false → o ≡ Some p
-same_told None p r is off = absurd (true≢false (sym is ∙ off))
-same_told (Some q) p r is off = ap Some (eqb-true q p (by_test (q == p) is))
+-- the places of a row are below the bound of entries
+pub place_below : (m : NfaValue) (rows : Rows) (i p : ℕ) → IsSound m rows → IsAt rows i p → p < max_entries
+place_below m rows i p sound (lt, is) =
+    let within = place_within i 0 (length rows.starts.items) rows.class_count lt (omega arith) in
+    omega (arith, within, is, sound.len, sound.small)
+
+-- a number that stands in a list where one was written is that one, or stood there before
+pub one_written : (list : List ℕ) (at value s x : ℕ) → at < length list → slice_index (slice_set list at value) s ≡ x → (value ≡ x) ⊎ (slice_index list s ≡ x)
+one_written list at value s x room is = ⊎_elim {C = (value ≡ x) ⊎ (slice_index list s ≡ x)}
+    (λ low. other (omega arith))
+    (λ ge. ⊎_elim {C = (value ≡ x) ⊎ (slice_index list s ≡ x)} (λ high. other (omega arith)) (λ le. this (omega arith)) (cases_lt at s))
+    (cases_lt s at)
   where
-    by_test : (b : Bool) → r ≡ not b → IsTrue b
-    by_test true e = refl
-    by_test false e = absurd (true≢false (sym e ∙ off))
+    other : s ≢ at → (value ≡ x) ⊎ (slice_index list s ≡ x)
+    other ne = inr (sym (get_or-set_other list at s value 0 ne) ∙ is)
+
+    this : s ≡ at → (value ≡ x) ⊎ (slice_index list s ≡ x)
+    this same = inl (sym (ap (slice_index (slice_set list at value)) same ∙ get_or-set_same list at value 0 room) ∙ is)

@@ -1,11 +1,11 @@
 //! Entries that are known. What they say is read through a shared reference.
 
-ghost use Rattle.std.specs.Prelude.{◌≡◌, ℕ, ◌+◌, ◌*◌, ◌<◌, ◌≤◌, ◌⊎◌, ◌↔◌, [], Some, IsTrue, IsFalse, IfSome, MatchOption, length};
+ghost use Rattle.std.specs.Prelude.{◌≡◌, ℕ, ◌+◌, ◌*◌, ◌<◌, ◌≤◌, ◌⊎◌, ◌↔◌, [], IsTrue, IsFalse, IfSome, MatchOption, length};
 ghost use Rattle.bit_sets.specs.Indexes.{has_index, index_capacity};
 ghost use Rattle.lazy_dfa.specs.inner.Sources.{half};
-ghost use Rattle.lazy_dfa.specs.inner.Rows.{AcceptsRow, AddsFound, AddsMarks, HasTold, IsDeadBy, IsSound, BeginsAt, IsAt, IsKnownStep, IsPlainStep, IsMarkedStep};
+ghost use Rattle.lazy_dfa.specs.inner.Rows.{AcceptsRow, AddsFound, AddsMarks, HasTold, IsDeadBy, IsSound, BeginsAt, IsAt, IsKnownStep, IsPlainStep, IsMarkedStep, max_entries};
 
-use super::{DEAD, FIRST, MARKED, Rows, Step, UNKNOWN, entry_at, next_of};
+use super::{DEAD, FIRST, MARKED, REMEMBERED, Rows, Step, UNKNOWN, entry_at, next_of};
 use crate::lists::{put_found, put_marks};
 use bit_sets::{IndexSet, Visits};
 use byte_nfa::Nfa;
@@ -48,22 +48,32 @@ impl Rows {
         }
     }
 
+    /// Returns where a run remembers that the marks of the row at a place were told. 16 rows that were made one after another have
+    /// one each.
+    pub fn slot_of(&self, place: usize) -> usize
+        requires { self.now.class_count < max_entries }
+        ensures { result < 16 }
+    {
+        // What is left of the place is the row's number times an odd number.
+        let width = self.class_count + 1;
+        (place >> (width.trailing_zeros() % 64)) % REMEMBERED
+    }
+
     /// Returns the place of the row that a byte leads to from the row at a place, if the row has marks, and these and the place are
-    /// known, which is one visit. Its marks are in the set then: they are put into it, unless the row is the one whose marks were told
-    /// last.
+    /// known, which is one visit. Its marks are in the set then: they are put into it, unless they were told before.
     pub fn marked_next(
         &self,
         automaton: &Nfa,
         place: usize,
         byte: u8,
-        told: Option<usize>,
+        is_told: bool,
         found: &mut IndexSet,
         visits: &mut Visits,
     ) -> Option<usize>
         requires sound { IsSound automaton.now self.now }
         requires row { (i : ℕ) × IsAt self.now i place }
         requires room { half automaton.now ≤ index_capacity found.old }
-        requires told { told ≡ Some place
+        requires told { IsTrue is_told
             → (i : ℕ) → IsAt self.now i place → HasTold automaton.now self.now i found.old }
         ensures room { index_capacity found.new ≡ index_capacity found.old }
         ensures next { (i : ℕ) → IsAt self.now i place
@@ -76,7 +86,7 @@ impl Rows {
         if entry < MARKED + FIRST {
             return None;
         }
-        if told != Some(place) && !self.tell_marks(automaton, place, found) {
+        if !is_told && !self.tell_marks(automaton, place, found) {
             return None;
         }
         visits.tick();

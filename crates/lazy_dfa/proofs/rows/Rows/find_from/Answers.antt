@@ -1,6 +1,7 @@
-use Rattle.std.proofs.Common.{◌≡◌, ℕ, ◌+◌, ◌<◌, ◌⊎◌, ◌∷◌, [], inl, inr, IsTrue, drop, length, get_or, refl, subst, arith, ◌∙◌}
+use Rattle.std.proofs.Common.{◌≡◌, ℕ, ◌+◌, ◌<◌, ◌⊎◌, ◌∷◌, [], inl, inr, IsTrue, drop, length, slice_index, replicate, length-set, get_or, refl, subst, arith, ◌∙◌}
+use Rattle.std.proofs.lemmas.Bool.{cases_lt, eqb-true}
 use Rattle.std.specs.Prelude.{◌↔◌}
-use Rattle.std.proofs.lemmas.List.{drop_more, drop_all}
+use Rattle.std.proofs.lemmas.List.{drop_more, drop_all, get_or-replicate, get_or_past}
 use Rattle.std.proofs.Math.Logic.{⊎_elim}
 use Rattle.bit_sets.specs.Indexes.{has_index}
 use Rattle.byte_nfa.proofs.lemmas.Pass.{iff_trans}
@@ -9,9 +10,16 @@ use Rattle.lazy_dfa.proofs.lemmas.Lists.{iff_sym}
 use Rattle.lazy_dfa.specs.inner.Rows.{AcceptsRow, FindsBy, IsAt}
 use Rattle.lazy_dfa.proofs.lemmas.Ends.{all_found, found_listed}
 use Rattle.lazy_dfa.proofs.lemmas.Finding.{iff_beside, at_quiet, at_dead, told_found}
-use Rattle.lazy_dfa.proofs.lemmas.Rows.{one_row}
+use Rattle.lazy_dfa.proofs.lemmas.Rows.{one_row, one_written}
 use Rattle.lazy_dfa.proofs.rows.Rows.find_from.Goals as goal
-use Rattle.lazy_dfa.proofs.rows.Rows.find_from.Goals.{in-Some, in_default+in-Some-marked_next+then-ne+else-count-indexes, in_default+in-Some-marked_next+else-ne}
+use Rattle.lazy_dfa.proofs.rows.Rows.find_from.Goals.{in-Some, in_default+in-Some-marked_next+then-not-is_told+else-count-indexes, in_default+in-Some-marked_next+else-not-is_told}
+
+-- no place is remembered in zeros
+none_told : (s p : ℕ) → slice_index (replicate 16 0) s ≡ p + 1 → ⊥
+none_told s p is = ⊎_elim {C = ⊥}
+    (λ low. absurd (omega (arith, get_or-replicate {A = ℕ} 16 s 0 0 low, is)))
+    (λ high. absurd (omega (arith, get_or_past {X = ℕ} (replicate 16 0) s 0 (omega (arith, high)), is)))
+    (cases_lt s 16)
 
 pub loop-byte-init : goal.loop-byte-init
 loop-byte-init c =
@@ -28,14 +36,15 @@ loop-byte-init c =
         λ i at' k. subst (λ r. (FindsBy (half m) (AcceptsRow m rows j) c.args.text.now k ⊎ IsTrue (has_index c.args.found.now k)) ↔ (FindsBy (half m) (AcceptsRow m rows r) c.args.text.now k ⊎ IsTrue (has_index c.args.found.now k)))
             (one_row rows j i c.args.place at at') (λ h. h, λ h. h),
       );
-      told = λ p is. absurd cc;
+      slots = refl;
+      told = λ s p is. absurd (none_told s p is);
       count = λ j' lt lt'. absurd (omega (arith, lt));
       visits = omega arith;
       counted = omega arith;
     }
 
 pub marked_next-requires-clause-told : goal.marked_next-requires-clause-told
-marked_next-requires-clause-told c = λ is i at. c.loop-byte.invariant.told c.loop-byte.place is i at
+marked_next-requires-clause-told c = λ on i at. c.loop-byte.invariant.told c.slot_of-slot.result c.loop-byte.place (eqb-true _ _ on) i at
 
 pub returns-then-count-indexes-clause-found : goal.returns-then-count-indexes-clause-found
 returns-then-count-indexes-clause-found c = λ i at k.
@@ -107,12 +116,13 @@ loop-byte-preserved c =
             room = inv.room;
             kept = inv.kept;
             runs = (next, there', λ i at k. iff_trans (iff_beside (at_quiet (half m) (AcceptsRow m rows j) (AcceptsRow m rows next) b goes (λ d low a. quiet (d, low, a)) rest k)) (rw more at runs i at k));
+            slots = inv.slots;
             told = inv.told;
             count = inv.count;
             visits = omega (arith, w.in-Some.ensures.visits, inv.visits);
             counted = omega (arith, w.in-Some.ensures.visits, inv.counted);
           }
-      | in_default+in-Some-marked_next+then-ne+else-count-indexes w ↦
+      | in_default+in-Some-marked_next+then-not-is_told+else-count-indexes w ↦
           let marked = rw w.in-Some-marked_next.is at w.marked_next.ensures.next j there in
           let (next, there', goes) = marked.next in
           rw (w.found-is, w.place-is, w.told-is, w.count-is, w.visits-is) record {
@@ -124,14 +134,17 @@ loop-byte-preserved c =
               there',
               λ i at k. told_found (half m) (AcceptsRow m rows j) (AcceptsRow m rows next) b goes rest k (has_index l.found k) (has_index w.marked_next.new.found k) _ (marked.told k) (rw more at runs i at k),
             );
-            told = λ p is j' at' k low a.
-                let same : p ≡ l.place = cc in
-                ((rw w.in-Some-marked_next.is at w.marked_next.ensures.next j' (subst (IsAt rows j') same at')).told k).1 (inl (low, a));
+            slots = length-set l.told w.slot_of-slot.result (l.place + 1) ∙ inv.slots;
+            told = λ s p is j' at' k low a. ⊎_elim {C = IsTrue (has_index w.marked_next.new.found k)}
+                (λ here. let same : p ≡ l.place = omega (arith, here) in
+                ((rw w.in-Some-marked_next.is at w.marked_next.ensures.next j' (subst (IsAt rows j') same at')).told k).1 (inl (low, a)))
+                (λ before. (marked.told k).1 (inr (inv.told s p before j' at' k low a)))
+                (one_written l.told w.slot_of-slot.result (l.place + 1) s (p + 1) (omega (arith, inv.slots, w.slot_of-slot.ensures)) is);
             count = w.found_count-count.ensures;
             visits = omega (arith, w.in-Some-marked_next.ensures.visits, w.in_default.ensures.visits, inv.visits);
             counted = omega (arith, w.in-Some-marked_next.ensures.visits, w.in_default.ensures.visits, inv.counted);
           }
-      | in_default+in-Some-marked_next+else-ne w ↦
+      | in_default+in-Some-marked_next+else-not-is_told w ↦
           let marked = rw w.in-Some-marked_next.is at w.marked_next.ensures.next j there in
           let (next, there', goes) = marked.next in
           rw (w.found-is, w.place-is, w.told-is, w.count-is, w.visits-is) record {
@@ -143,9 +156,8 @@ loop-byte-preserved c =
               there',
               λ i at k. told_found (half m) (AcceptsRow m rows j) (AcceptsRow m rows next) b goes rest k (has_index l.found k) (has_index w.marked_next.new.found k) _ (marked.told k) (rw more at runs i at k),
             );
-            told = λ p is j' at' k low a.
-                let same : p ≡ l.place = cc in
-                ((rw w.in-Some-marked_next.is at w.marked_next.ensures.next j' (subst (IsAt rows j') same at')).told k).1 (inl (low, a));
+            slots = inv.slots;
+            told = λ s p is j' at' k low a. (marked.told k).1 (inr (inv.told s p is j' at' k low a));
             count = λ d lt' lt''. (marked.told _).1 (inr (inv.count d lt' lt''));
             visits = omega (arith, w.in-Some-marked_next.ensures.visits, w.in_default.ensures.visits, inv.visits);
             counted = omega (arith, w.in-Some-marked_next.ensures.visits, w.in_default.ensures.visits, inv.counted);
