@@ -153,8 +153,8 @@ void globset_set_free(globset_set *set);
 
 /* Makes a searcher of a set. It takes all the memory that questions about one path need: eight bytes for each glob,
  * what the automata of the set need to run, and for rows of them up to a quarter of the limit of
- * globset_builder_set_dfa_size_limit, 4 MiB by default, with 16 bytes more for each row, or more than that if automata
- * have hundreds of thousands of states. GLOBSET_ENOMEM. */
+ * globset_builder_set_dfa_size_limit, 4 MiB by default, or more than that if automata have hundreds of thousands of
+ * states. GLOBSET_ENOMEM. */
 GLOBSET_CHECKED int globset_searcher_new(const globset_set *set, globset_searcher **searcher);
 
 /* Returns whether some glob of the set matches the path. This takes no memory, and cannot fail but for null and for an

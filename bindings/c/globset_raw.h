@@ -217,8 +217,8 @@ globset_status globset_raw_set_is_match_many(globset_lent *set, globset_owned *w
 
 /* Makes a searcher of a set. It shares what the set matches with, so the set may be freed. It takes the memory that
  * questions about one path need: eight bytes for each glob, as much as a work that fits the set, and for rows of
- * automata up to a quarter of the limit of globset_raw_builder_set_dfa_size_limit, 4 MiB by default, with 16 bytes more
- * for each row, or more than that if automata have hundreds of thousands of states.
+ * automata up to a quarter of the limit of globset_raw_builder_set_dfa_size_limit, 4 MiB by default, or more than that
+ * if automata have hundreds of thousands of states.
  * GLOBSET_DONE, GLOBSET_WRONG_KIND, GLOBSET_OUT_OF_MEMORY. */
 globset_status globset_raw_searcher_new(globset_lent *set, globset_owned *out);
 

@@ -10,9 +10,9 @@ use crate::{ffi, Candidate, Error, Glob};
 /// path in a set.
 ///
 /// Any number of threads may share a set, and a clone shares what was made for matching. A set keeps memory for each thread
-/// that asks it, which it takes at the thread's first call: eight bytes for each glob and some for automata, up to 4 MiB for
-/// their rows and 16 bytes more for each row, or more if its globs are very many. After a thread has ended, another one uses
-/// its memory. The last clone of the set frees all of it.
+/// that asks it, which it takes at the thread's first call: eight bytes for each glob and some for automata, and up to 4 MiB
+/// for their rows, or more if its globs are very many. After a thread has ended, another one uses its memory. The last clone of
+/// the set frees all of it.
 ///
 /// # Examples
 ///

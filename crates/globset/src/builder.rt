@@ -63,9 +63,9 @@ impl GlobSetBuilder {
     /// the automaton: each byte of a path then takes as many steps as the automaton is in states, and calls without a scratch
     /// take two bits of memory for each of its states.
     ///
-    /// The limit counts the entries of rows and their lists of states. A row takes 16 bytes beside these, and a cache has room
-    /// for four rows also where its part of the limit has not. The caches of a searcher take together at most 8 MiB of what is
-    /// counted, whatever the limit is.
+    /// The limit counts all that rows take: their entries, their lists of states, and the table by which they are found. A cache
+    /// has room for four rows also where its part of the limit has not. But for such caches, those of a searcher take together at
+    /// most 8 MiB, whatever the limit is.
     ///
     /// With 0 there are no rows, and the set keeps no memory between calls. That is best for few paths. Memory beside the rows
     /// has no limit: that of keys and states is linear in the texts of the globs.

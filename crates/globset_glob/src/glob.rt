@@ -158,11 +158,11 @@ impl Glob {
     /// Returns a matcher for an equal glob, as [`Glob::compile_matcher`] does, which keeps rows of at most `dfa_size_limit`
     /// bytes between calls. Returns an error if memory runs out.
     ///
-    /// The limit is for memory and time, and changes no answer. It counts the entries of rows and their lists of states. A row
-    /// takes 16 bytes beside these, and a cache has room for four rows also where its quarter of the limit has not. Under a
-    /// limit of less than 16 KiB there are no rows: each byte of a path takes as many steps as the automaton is in states, and
-    /// the calls without a scratch take memory for each path. A glob whose literals decide alone has no automaton, whatever the
-    /// limit is. The limit of [`Glob::compile_matcher`] is [`DEFAULT_DFA_SIZE_LIMIT`].
+    /// The limit is for memory and time, and changes no answer. It counts all that rows take: their entries, their lists of
+    /// states, and the table by which they are found. A cache has room for four rows also where its quarter of the limit has
+    /// not. Under a limit of less than 16 KiB there are no rows: each byte of a path takes as many steps as the automaton is in
+    /// states, and the calls without a scratch take memory for each path. A glob whose literals decide alone has no automaton,
+    /// whatever the limit is. The limit of [`Glob::compile_matcher`] is [`DEFAULT_DFA_SIZE_LIMIT`].
     ///
     /// ```rust
     /// use globset::Glob;

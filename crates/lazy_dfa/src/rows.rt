@@ -64,6 +64,14 @@ pub struct Step {
     pub has_marks: bool,
 }
 
+/// For how much there is room.
+#[derive(Clone, Copy)]
+struct Room {
+    rows: usize,
+    /// How many numbers the lists of rows are, with their lengths.
+    listed: usize,
+}
+
 /// The row of some states, by its number.
 #[derive(Clone, Copy)]
 struct Found {
@@ -130,7 +138,7 @@ impl Drop for Rows {
 }
 
 impl Rows {
-    /// Returns no rows, with room for as many as fit so many bytes, and for a few in each case.
+    /// Returns no rows, with room for as many as fit so many bytes, and for a few in each case. Returns an error if memory runs out.
     pub fn new(
         alloc: Global,
         automaton: &Nfa,
@@ -143,34 +151,34 @@ impl Rows {
         ensures { IfOk result (λ rows. IsSound automaton.now rows) }
     {
         let states = automaton.state_count();
+        let indexes = automaton.index_count();
+        let first = first_of(alloc, automaton)?;
         let width = classes.count + 1;
-        // One half is for entries, the other for lists.
-        let rows = (bytes / (8 * width)).max(LEAST_ROWS);
-        let Some(longest) = states.checked_add(1) else {
+        let taken = states.saturating_add(indexes).saturating_add(first.len());
+        let Some(room) = room_within(bytes, width, states, taken) else {
             return Err(AllocError);
         };
-        let listed = (bytes / 16).max(longest.saturating_mul(LEAST_ROWS));
-        let mut table = Vec::with_capacity(alloc, rows.saturating_mul(2))?;
-        zeros_within(&mut table, FEWEST_PLACES.min(rows));
+        let mut table = Vec::with_capacity(alloc, room.rows.saturating_mul(2))?;
+        zeros_within(&mut table, FEWEST_PLACES.min(room.rows));
         Ok(Rows {
             class_of: classes.class_of,
             class_count: classes.count,
-            starts: Vec::with_capacity(alloc, rows)?,
-            lists: Vec::with_capacity(alloc, listed)?,
-            entries: Vec::with_capacity(alloc, rows.saturating_mul(width))?,
+            starts: Vec::with_capacity(alloc, room.rows)?,
+            lists: Vec::with_capacity(alloc, room.listed)?,
+            entries: Vec::with_capacity(alloc, room.rows.saturating_mul(width))?,
             table,
             seed: 0,
             begin: None,
-            first: first_of(alloc, automaton)?,
+            first,
             from: StateSet::new(alloc, states)?,
             next: StateSet::new(alloc, states)?,
-            ends: IndexSet::new(alloc, automaton.index_count())?,
+            ends: IndexSet::new(alloc, indexes)?,
             list: Vec::with_capacity(alloc, states)?,
-            told: Vec::with_capacity(alloc, automaton.index_count())?,
+            told: Vec::with_capacity(alloc, indexes)?,
         })
     }
 
-    /// Returns how many bytes the rows may take, their lists of states, and the table by which they are found.
+    /// Returns how many bytes the rows may take, with the lists of states and indexes, and the table by which rows are found.
     pub fn bytes(&self) -> usize {
         let entries = self
             .entries
@@ -180,6 +188,7 @@ impl Rows {
             .starts
             .capacity()
             .saturating_add(self.lists.capacity())
+            .saturating_add(self.first.capacity())
             .saturating_add(self.list.capacity())
             .saturating_add(self.told.capacity());
         entries
@@ -662,6 +671,25 @@ impl Rows {
         remember(&mut self.table, hash, row);
         row
     }
+}
+
+/// Returns for how much there is room within so many bytes, where some numbers are taken for lists beside those of rows. Returns
+/// `None` if a list of all states is too long for a `usize`.
+fn room_within(bytes: usize, width: usize, states: usize, taken: usize) -> Option<Room>
+    requires { width ≤ 257 }
+    ensures { IfSome result (λ room. (0 < room.rows) × (states < room.listed)) }
+{
+    let number = mem::size_of::<usize>();
+    let least = states.checked_add(1)?.saturating_mul(LEAST_ROWS);
+    // At most one half is for lists, unless that is too small for the least room. The rest is for rows.
+    let listed = (bytes / 2 / number).saturating_sub(taken).max(least);
+    let rest = bytes.saturating_sub(listed.saturating_add(taken).saturating_mul(number));
+    // Each row takes its entries, a number of `starts` and two places of the table.
+    let each = (width + 2) * mem::size_of::<u32>() + number;
+    Some(Room {
+        rows: (rest / each).max(LEAST_ROWS),
+        listed,
+    })
 }
 
 /// Returns the states that a run begins in. Returns an error if memory runs out.
