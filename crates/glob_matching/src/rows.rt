@@ -62,7 +62,7 @@ impl RowSource {
     ///
     /// At most four caches are kept between calls, which take at most the share of `dfa_size_limit` bytes that the states have in
     /// `all_states`. It takes time and memory linear in the states. Returns `None` if the share is too small or there are too many
-    /// indexes, and an error if memory runs out.
+    /// states or indexes, and an error if memory runs out.
     pub fn new(
         alloc: Global,
         dfa_size_limit: usize,

@@ -6,7 +6,7 @@ ghost use Rattle.byte_nfa.specs.Live.{MatchesAfter};
 ghost use Rattle.byte_nfa.specs.Runs.{size};
 ghost use Rattle.byte_nfa.specs.Steps.{NfaValue, IsReached};
 ghost use Rattle.lazy_dfa.specs.Sets.{sets_capacity};
-ghost use Rattle.lazy_dfa.specs.inner.Sources.{IsMadeOf, ListsEnds};
+ghost use Rattle.lazy_dfa.specs.inner.Sources.{FitsU32, IsMadeOf, ListsEnds};
 
 use crate::classes::ByteClasses;
 use crate::lists::put_lowered;
@@ -74,6 +74,12 @@ impl LazyDfa {
             indexes,
             source: Snapshot::of(automaton),
         })
+    }
+
+    /// Returns whether a [`Cache`](crate::Cache) can be made for it: whether a `u32` holds how many states it has, and twice how many
+    /// indexes.
+    pub fn may_have_rows(&self) -> bool {
+        fits_u32(&self.automaton)
     }
 
     /// Returns the number of states.
@@ -170,6 +176,14 @@ impl LazyDfa {
             visits,
         ))
     }
+}
+
+/// Returns whether a `u32` holds how many states an automaton has, and how many indexes.
+pub fn fits_u32(automaton: &Nfa) -> bool
+    ensures { IsTrue result → FitsU32 automaton.now }
+{
+    let most = u32::MAX as usize;
+    automaton.state_count() <= most && automaton.index_count() <= most
 }
 
 /// Returns the indexes that states of an automaton with early matches are the ends of, or say are decided. Returns an error if memory

@@ -7,7 +7,7 @@ ghost use Rattle.byte_nfa.specs.Runs.{size};
 ghost use Rattle.byte_nfa.specs.Steps.{NfaValue, IsReached};
 ghost use Rattle.lazy_dfa.specs.inner.Rows.{IsCacheOf};
 
-use crate::automaton::LazyDfa;
+use crate::automaton::{LazyDfa, fits_u32};
 use crate::rows::Rows;
 use bit_sets::{IndexSet, Visits};
 use std::alloc::{AllocError, Global};
@@ -46,10 +46,13 @@ impl Cache {
     /// Returns a cache with no rows.
     ///
     /// It takes so many bytes, and more only where few states would fit: there is always room for some rows. All memory is taken
-    /// here, and none by later calls. Returns an error if memory runs out.
+    /// here, and none by later calls. Returns an error if memory runs out, or if [`LazyDfa::may_have_rows`] returns `false`.
     pub fn new(alloc: Global, dfa: &LazyDfa, bytes: usize) -> Result<Cache, AllocError>
         ensures { IfOk result (λ cache. cache ≡ dfa.now) }
     {
+        if !fits_u32(&dfa.automaton) {
+            return Err(AllocError);
+        }
         let rows = Rows::new(alloc, &dfa.automaton, &dfa.classes, bytes)?;
         Ok(Cache {
             rows: Box::new(alloc, rows)?,

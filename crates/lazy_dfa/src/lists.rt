@@ -10,19 +10,20 @@ ghost use Rattle.lazy_dfa.specs.inner.Sources.{AreFound};
 use bit_sets::{IndexSet, StateSet, Visits};
 
 /// Returns the list of states of a row, by the places where the lists of rows stand.
-pub fn states_at<'a>(starts: &[usize], lists: &'a [usize], row: usize) -> &'a [usize]
+pub fn states_at<'a>(starts: &[u32], lists: &'a [u32], row: usize) -> &'a [u32]
     requires row { row < length starts.now }
     requires list { slice_index starts.now row + 1
         + slice_index lists.now (slice_index starts.now row) ≤ length lists.now }
     ensures { result.now ≡ list_at lists.now (slice_index starts.now row) }
 {
-    let start = starts[row];
-    let count = lists[start];
+    let start = starts[row] as usize;
+    let count = lists[start] as usize;
     &lists[start + 1..start + 1 + count]
 }
 
 /// Makes `list` that of the states below a bound that a set has. It takes no memory if there is room for so many.
-pub fn list_of(set: &StateSet, limit: usize, list: &mut Vec<usize>)
+pub fn list_of(set: &StateSet, limit: usize, list: &mut Vec<u32>)
+    requires fits { limit ≤ 4294967296 }
     requires within { limit ≤ state_capacity set.now }
     requires room { limit ≤ vec_capacity list.old }
     ensures below { AreBelow limit list.new.items }
@@ -44,8 +45,9 @@ pub fn list_of(set: &StateSet, limit: usize, list: &mut Vec<usize>)
 }
 
 /// Makes `list` that of the indexes below a bound that a set has. It takes no memory if there is room for so many.
-pub fn list_indexes(set: &IndexSet, limit: usize, list: &mut Vec<usize>)
-    requires { limit ≤ vec_capacity list.old }
+pub fn list_indexes(set: &IndexSet, limit: usize, list: &mut Vec<u32>)
+    requires fits { limit ≤ 4294967296 }
+    requires room { limit ≤ vec_capacity list.old }
     ensures below { AreBelow limit list.new.items }
     ensures few { length list.new.items ≤ limit }
     ensures has { (k : ℕ)
@@ -61,16 +63,17 @@ pub fn list_indexes(set: &IndexSet, limit: usize, list: &mut Vec<usize>)
 }
 
 /// Appends a number to a vector that has room for it. It takes no memory.
-pub fn push_within(numbers: &mut Vec<usize>, number: usize)
-    requires { length numbers.old.items < vec_capacity numbers.old }
+pub fn push_within(numbers: &mut Vec<u32>, number: usize)
+    requires fits { number < 4294967296 }
+    requires room { length numbers.old.items < vec_capacity numbers.old }
     ensures items { numbers.new.items ≡ numbers.old.items ++ number ∷ [] }
     ensures capacity { vec_capacity numbers.old ≤ vec_capacity numbers.new }
 {
-    let _ = numbers.push(number);
+    let _ = numbers.push(number as u32);
 }
 
 /// Appends numbers to a vector that has room for them. It takes no memory.
-pub fn extend_within(numbers: &mut Vec<usize>, more: &[usize])
+pub fn extend_within(numbers: &mut Vec<u32>, more: &[u32])
     requires { length numbers.old.items + length more.now ≤ vec_capacity numbers.old }
     ensures items { numbers.new.items ≡ numbers.old.items ++ more.now }
     ensures capacity { vec_capacity numbers.old ≤ vec_capacity numbers.new }
@@ -103,22 +106,34 @@ pub fn put_lowered(set: &IndexSet, from: usize, count: usize, into: &mut IndexSe
     }
 }
 
+/// Puts the states of a list into a set, beside what it holds.
+pub fn put_states(states: &[u32], into: &mut StateSet)
+    requires { AreBelow (state_capacity into.old) states.now }
+    ensures room { state_capacity into.new ≡ state_capacity into.old }
+    ensures has { (t : ℕ)
+        → has_state into.new t ≡ (has_number t states.now || has_state into.old t) }
+{
+    for state in states {
+        into.put(*state as usize);
+    }
+}
+
 /// Puts the numbers of the list at a place into a set, beside what it holds.
-pub fn put_listed(numbers: &[usize], place: usize, into: &mut IndexSet)
+pub fn put_listed(numbers: &[u32], place: usize, into: &mut IndexSet)
     requires { IsList numbers.now (index_capacity into.old) place }
     ensures room { index_capacity into.new ≡ index_capacity into.old }
     ensures has { (k : ℕ)
         → has_index into.new k
         ≡ (has_number k (list_at numbers.now place) || has_index into.old k) }
 {
-    let count = numbers[place];
+    let count = numbers[place] as usize;
     for index in &numbers[place + 1..place + 1 + count] {
-        into.put(*index);
+        into.put(*index as usize);
     }
 }
 
 /// Puts the numbers of the list at a place from `half` on, each less `half`, into a set, beside what it holds.
-pub fn put_marks(numbers: &[usize], place: usize, half: usize, into: &mut IndexSet)
+pub fn put_marks(numbers: &[u32], place: usize, half: usize, into: &mut IndexSet)
     requires list { IsList numbers.now (half + half) place }
     requires room { half ≤ index_capacity into.old }
     ensures room { index_capacity into.new ≡ index_capacity into.old }
@@ -127,16 +142,17 @@ pub fn put_marks(numbers: &[usize], place: usize, half: usize, into: &mut IndexS
         ↔ (IsTrue (has_number (half + k) (list_at numbers.now place))
         ⊎ IsTrue (has_index into.old k)) }
 {
-    let count = numbers[place];
+    let count = numbers[place] as usize;
     for index in &numbers[place + 1..place + 1 + count] {
-        if *index >= half {
-            into.put(*index - half);
+        let index = *index as usize;
+        if index >= half {
+            into.put(index - half);
         }
     }
 }
 
 /// Puts the numbers of the list at a place that are below `half`, and the others less `half`, into a set, beside what it holds.
-pub fn put_found(numbers: &[usize], place: usize, half: usize, into: &mut IndexSet)
+pub fn put_found(numbers: &[u32], place: usize, half: usize, into: &mut IndexSet)
     requires list { IsList numbers.now (half + half) place }
     requires room { half ≤ index_capacity into.old }
     ensures room { index_capacity into.new ≡ index_capacity into.old }
@@ -146,12 +162,13 @@ pub fn put_found(numbers: &[usize], place: usize, half: usize, into: &mut IndexS
         ⊎ IsTrue (has_number (half + k) (list_at numbers.now place))))
         ⊎ IsTrue (has_index into.old k)) }
 {
-    let count = numbers[place];
+    let count = numbers[place] as usize;
     for index in &numbers[place + 1..place + 1 + count] {
-        if *index < half {
-            into.put(*index);
+        let index = *index as usize;
+        if index < half {
+            into.put(index);
         } else {
-            into.put(*index - half);
+            into.put(index - half);
         }
     }
 }

@@ -23,10 +23,11 @@ pub fn read(
     automaton: &Nfa,
     byte: u8,
     from: &mut StateSet,
-    to: &mut Vec<usize>,
+    to: &mut Vec<u32>,
     ends: &mut IndexSet,
     visits: &mut Visits,
 )
+    requires fits { size automaton.now < 4294967296 }
     requires from_capacity { size automaton.now ≤ state_capacity from.old }
     requires to_capacity { size automaton.now ≤ vec_capacity to.old }
     requires ends_capacity { automaton.now.index_count ≤ index_capacity ends.old }
@@ -63,10 +64,11 @@ fn take(
     s: usize,
     byte: u8,
     from: &mut StateSet,
-    to: &mut Vec<usize>,
+    to: &mut Vec<u32>,
     ends: &mut IndexSet,
 )
     requires exists { s < size automaton.now }
+    requires fits { size automaton.now < 4294967296 }
     requires from_capacity { size automaton.now ≤ state_capacity from.old }
     requires to_capacity { length to.old.items < vec_capacity to.old }
     requires ends_capacity { automaton.now.index_count ≤ index_capacity ends.old }
@@ -99,8 +101,9 @@ fn take(
 }
 
 /// Appends a number to a list that has room for it, unless it is the last one there.
-fn push_unless_last(list: &mut Vec<usize>, number: usize)
-    requires { length list.old.items < vec_capacity list.old }
+fn push_unless_last(list: &mut Vec<u32>, number: usize)
+    requires fits { number < 4294967296 }
+    requires room { length list.old.items < vec_capacity list.old }
     ensures capacity { vec_capacity list.old ≤ vec_capacity list.new }
     ensures few { length list.new.items ≤ length list.old.items + 1 }
     ensures has { (t : ℕ)
@@ -109,7 +112,7 @@ fn push_unless_last(list: &mut Vec<usize>, number: usize)
         → AreBelow bound list.new.items }
 {
     if let Some(last) = list.last() {
-        if *last == number {
+        if *last as usize == number {
             return;
         }
     }

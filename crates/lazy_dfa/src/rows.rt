@@ -9,14 +9,15 @@ ghost use Rattle.byte_nfa.specs.Live.{AreLive};
 ghost use Rattle.byte_nfa.specs.Steps.{IsReached};
 ghost use Rattle.byte_nfa.specs.Runs.{size, AcceptsFrom};
 ghost use Rattle.lazy_dfa.specs.inner.Classes.{AreEquivalenceClasses};
-ghost use Rattle.lazy_dfa.specs.inner.Sources.{half};
+ghost use Rattle.lazy_dfa.specs.inner.Sources.{half, FitsU32};
 ghost use Rattle.lazy_dfa.specs.inner.Rows.{AcceptsIn, AcceptsRow, HasEnds, HasMarks, GoesTo, IsDeadBy, IsNext, IsEnd, IsEntry, IsFirst, IsSound, AreListed, KeepsRows, HasSpace, states_of, place_of, max_entries, marked, BeginsAt, IsAt, IsStep};
 
 mod known;
 
 use crate::classes::ByteClasses;
 use crate::lists::{
-    extend_within, list_indexes, list_of, push_within, put_listed, states_at, zeros_within,
+    extend_within, list_indexes, list_of, push_within, put_listed, put_states, states_at,
+    zeros_within,
 };
 use crate::pass::read;
 use bit_sets::{IndexSet, StateSet, Visits};
@@ -40,7 +41,7 @@ const MARKED: u32 = 1 << 31;
 /// There are at most so many entries, so that an entry has room for the place of each, and at most so many rows.
 const MAX_ENTRIES: usize = (MARKED - FIRST) as usize;
 
-/// The lists of ends have places below this, so that entries have room for them.
+/// Lists have places below this, so that entries have room for those of ends.
 const MAX_PLACES: usize = (u32::MAX - FIRST) as usize;
 
 /// In how many places of the table of rows a list is looked for.
@@ -88,9 +89,9 @@ pub struct Rows {
     class_of: [u8; 256],
     class_count: usize,
     /// For each row, where its list of states stands.
-    starts: Vec<usize>,
+    starts: Vec<u32>,
     /// The lists of states, and of the indexes of ends, one after another: for each how many these are, and then these.
-    lists: Vec<usize>,
+    lists: Vec<u32>,
     /// For each row an entry for each class of bytes, and one for the end of the text: where the list of the indexes stands that
     /// are found without a byte.
     entries: Vec<u32>,
@@ -102,7 +103,7 @@ pub struct Rows {
     /// The place of the row that a run begins in, if it is made.
     begin: Option<usize>,
     /// The states that a run begins in.
-    first: Vec<usize>,
+    first: Vec<u32>,
     /// The states that a pass takes.
     pub from: StateSet,
     /// Those of the next pass, while a text is read without rows.
@@ -110,9 +111,9 @@ pub struct Rows {
     /// The indexes of the ends that are found without a byte.
     pub ends: IndexSet,
     /// The states that a byte leads to, as the pass over those before them met them.
-    list: Vec<usize>,
+    list: Vec<u32>,
     /// The list of the indexes in `ends`.
-    told: Vec<usize>,
+    told: Vec<u32>,
 }
 
 impl Drop for Rows {
@@ -145,6 +146,7 @@ impl Rows {
         classes: &ByteClasses,
         bytes: usize,
     ) -> Result<Rows, AllocError>
+        requires fits { FitsU32 automaton.now }
         requires few { classes.now.count ≤ 256 }
         requires equivalence { AreEquivalenceClasses automaton.now.states classes.now.class_of
             classes.now.representatives classes.now.count }
@@ -155,9 +157,7 @@ impl Rows {
         let first = first_of(alloc, automaton)?;
         let width = classes.count + 1;
         let taken = states.saturating_add(indexes).saturating_add(first.len());
-        let Some(room) = room_within(bytes, width, states, taken) else {
-            return Err(AllocError);
-        };
+        let room = room_within(bytes, width, states, taken);
         let mut table = Vec::with_capacity(alloc, room.rows.saturating_mul(2))?;
         zeros_within(&mut table, FEWEST_PLACES.min(room.rows));
         Ok(Rows {
@@ -180,20 +180,15 @@ impl Rows {
 
     /// Returns how many bytes the rows may take, with the lists of states and indexes, and the table by which rows are found.
     pub fn bytes(&self) -> usize {
-        let entries = self
-            .entries
+        self.entries
             .capacity()
-            .saturating_add(self.table.capacity());
-        let numbers = self
-            .starts
-            .capacity()
+            .saturating_add(self.table.capacity())
+            .saturating_add(self.starts.capacity())
             .saturating_add(self.lists.capacity())
             .saturating_add(self.first.capacity())
             .saturating_add(self.list.capacity())
-            .saturating_add(self.told.capacity());
-        entries
+            .saturating_add(self.told.capacity())
             .saturating_mul(mem::size_of::<u32>())
-            .saturating_add(numbers.saturating_mul(mem::size_of::<usize>()))
     }
 
     /// Returns whether rows were forgotten since it was made.
@@ -218,7 +213,8 @@ impl Rows {
     {
         let row = self.row_at(place);
         self.from.clear();
-        self.from.put_all(states_at(&self.starts, &self.lists, row));
+        let states = states_at(&self.starts, &self.lists, row);
+        put_states(states, &mut self.from);
     }
 
     /// Returns the place of the row that a run begins in. If it is not made, it is looked up, which is one visit.
@@ -345,7 +341,7 @@ impl Rows {
     {
         let _automaton = automaton;
         for state in states_at(&self.starts, &self.lists, self.row_at(place)) {
-            if live.has(*state, visits) {
+            if live.has(*state as usize, visits) {
                 return true;
             }
         }
@@ -517,7 +513,7 @@ impl Rows {
     {
         let states = states_at(&self.starts, &self.lists, row);
         self.from.clear();
-        self.from.put_all(states);
+        put_states(states, &mut self.from);
         read(
             automaton,
             byte,
@@ -633,7 +629,8 @@ impl Rows {
         ensures ends { self.new.ends ≡ self.old.ends }
     {
         let states = automaton.state_count();
-        if self.lists.capacity() - self.lists.len() > states
+        let places = self.lists.capacity().min(MAX_PLACES);
+        if places.saturating_sub(self.lists.len()) > states
             && self.starts.len() < self.starts.capacity().min(MAX_ENTRIES)
             && self.entries.capacity().min(MAX_ENTRIES) - self.entries.len() > self.class_count
         {
@@ -673,27 +670,29 @@ impl Rows {
     }
 }
 
-/// Returns for how much there is room within so many bytes, where some numbers are taken for lists beside those of rows. Returns
-/// `None` if a list of all states is too long for a `usize`.
-fn room_within(bytes: usize, width: usize, states: usize, taken: usize) -> Option<Room>
-    requires { width ≤ 257 }
-    ensures { IfSome result (λ room. (0 < room.rows) × (states < room.listed)) }
+/// Returns for how much there is room within so many bytes, where some numbers are taken for lists beside those of rows.
+fn room_within(bytes: usize, width: usize, states: usize, taken: usize) -> Room
+    requires width { width ≤ 257 }
+    requires fits { states < 4294967296 }
+    ensures rows { 0 < result.rows }
+    ensures listed { states < result.listed }
 {
-    let number = mem::size_of::<usize>();
-    let least = states.checked_add(1)?.saturating_mul(LEAST_ROWS);
+    let number = mem::size_of::<u32>();
     // At most one half is for lists, unless that is too small for the least room. The rest is for rows.
-    let listed = (bytes / 2 / number).saturating_sub(taken).max(least);
+    let listed = (bytes / 2 / number)
+        .saturating_sub(taken)
+        .max((states + 1) * LEAST_ROWS);
     let rest = bytes.saturating_sub(listed.saturating_add(taken).saturating_mul(number));
-    // Each row takes its entries, a number of `starts` and two places of the table.
-    let each = (width + 2) * mem::size_of::<u32>() + number;
-    Some(Room {
-        rows: (rest / each).max(LEAST_ROWS),
+    // A row takes its entries, a number of `starts` and two places of the table.
+    Room {
+        rows: (rest / ((width + 3) * number)).max(LEAST_ROWS),
         listed,
-    })
+    }
 }
 
 /// Returns the states that a run begins in. Returns an error if memory runs out.
-fn first_of(alloc: Global, automaton: &Nfa) -> Result<Vec<usize>, AllocError>
+fn first_of(alloc: Global, automaton: &Nfa) -> Result<Vec<u32>, AllocError>
+    requires { FitsU32 automaton.now }
     ensures { IfOk result (λ list. IsFirst automaton.now list.items) }
 {
     let states = automaton.state_count();
@@ -709,7 +708,7 @@ fn first_of(alloc: Global, automaton: &Nfa) -> Result<Vec<usize>, AllocError>
 
 /// Makes the table of rows twice as large, as far as there is room for that, and puts each row in again, if every other place of it
 /// may be taken.
-fn widen_if_full(table: &mut Vec<u32>, seed: usize, starts: &[usize], lists: &[usize])
+fn widen_if_full(table: &mut Vec<u32>, seed: usize, starts: &[u32], lists: &[u32])
     requires few { length starts.now ≤ max_entries }
     requires lists { (i : ℕ) → i < length starts.now
         → slice_index starts.now i + 1
@@ -782,11 +781,11 @@ fn place_of(hash: u64, probe: usize, count: usize) -> usize {
 }
 
 /// Returns the hash of a seed and a list of states.
-fn hash_of(seed: usize, list: &[usize]) -> u64 {
+fn hash_of(seed: usize, list: &[u32]) -> u64 {
     let mut hasher = FoldHasher::default();
     hasher.write_usize(seed);
     for state in list {
-        hasher.write_usize(*state);
+        hasher.write_u32(*state);
     }
     hasher.finish()
 }

@@ -143,6 +143,7 @@ begins_kept m old new is begin before p at = begins_at_kept m old new p (same_ke
 
 pub begun_sound : (m : NfaValue) (old new : Rows) → HasSameRows old new → new.entries.items ≡ old.entries.items → HasRoomFor m new → Begins m new → IsSound m old → IsSound m new
 begun_sound m old new is entries room begins sound = record {
+  fits = sound.fits;
   room = room;
   representatives = sound.representatives;
   classes = rw (is.class_of, is.class_count) sound.classes;
@@ -254,6 +255,7 @@ module _ (m : NfaValue) (old new : Rows) (list : List ℕ) (is : HasAdded old ne
 
   pub added_sound : AreBelow (size m) list → length list ≤ size m → length old.starts.items < max_entries → length old.entries.items + old.class_count < max_entries → HasRoomFor m new → IsSound m new
   added_sound below short few small room = record {
+    fits = sound.fits;
     room = room;
     representatives = sound.representatives;
     classes = rw (is.class_of, is.class_count) sound.classes;
@@ -302,6 +304,7 @@ in_range from end set (Some k) r is (low, high, at, before) = (λ _. (k, low, hi
 pub written_sound : (m : NfaValue) (old new : Rows) (row column e : ℕ) → HasSameRows old new → new.entries.items ≡ slice_set old.entries.items (place_of old row column) e → new.begin ≡ old.begin → HasRoomFor m new
     → row < length old.starts.items → column ≤ old.class_count → IsEntry m old row column e → IsSound m old → IsSound m new
 written_sound m old new row column e is entries begin room here short entry sound = record {
+  fits = sound.fits;
   room = room;
   representatives = sound.representatives;
   classes = rw (is.class_of, is.class_count) sound.classes;
@@ -433,6 +436,7 @@ module _ (m : NfaValue) (old new : Rows) (row : ℕ) (list : List ℕ) (is : Has
   pub listed_sound : AreBelow (half m + half m) list → ((k : ℕ) → IsTrue (has_number k list) ↔ ((k < half m + half m) × AcceptsRow m old row [] k))
       → ((k : ℕ) × (k < half m + half m) × AcceptsRow m old row [] k) → HasRoomFor m new → IsSound m new
   listed_sound below has some room = record {
+    fits = sound.fits;
     room = room;
     representatives = sound.representatives;
     classes = rw (is.class_of, is.class_count) sound.classes;

@@ -7,7 +7,7 @@ use Rattle.bit_sets.specs.Numbers.{has_number, AreBelow}
 use Rattle.byte_nfa.specs.Steps.{Accepts, NfaValue, IsReached}
 use Rattle.byte_nfa.specs.EarlyMatches.{EndsAtEarlyMatches}
 use Rattle.byte_nfa.specs.Runs.{size}
-use Rattle.lazy_dfa.specs.inner.Sources.{half}
+use Rattle.lazy_dfa.specs.inner.Sources.{half, FitsU32}
 use Rattle.lazy_dfa.specs.inner.Classes.{AreEquivalenceClasses}
 use Rattle.lazy_dfa.specs.inner.Lists.{list_at, IsList, IsListOf, KeepsLists}
 use Rattle.lazy_dfa.specs.declared.rows.Rows.{Rows}
@@ -142,6 +142,7 @@ place_of rows i c = i * (rows.class_count + 1) + c
 
 -- the rows are right, as far as they are known
 pub record IsSound (m : NfaValue) (rows : Rows) : Type 0 where
+  pub fits : FitsU32 m
   pub room : HasRoomFor m rows
   pub representatives : List ℕ
   pub classes : AreEquivalenceClasses m.states rows.class_of representatives rows.class_count
@@ -165,6 +166,7 @@ pub record KeepsRows (old new : Rows) : Type 0 where
 -- there is room for a row more, whatever its states are
 pub record HasSpace (m : NfaValue) (rows : Rows) : Type 0 where
   pub lists : length rows.lists.items + size m < vec_capacity rows.lists
+  pub places : length rows.lists.items < 4294967296
   pub starts : length rows.starts.items < vec_capacity rows.starts
   pub few : length rows.starts.items < max_entries
   pub small : length rows.entries.items + rows.class_count < max_entries

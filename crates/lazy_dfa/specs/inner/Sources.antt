@@ -16,6 +16,11 @@ use Rattle.lazy_dfa.specs.inner.Classes.{AreEquivalenceClasses}
 abbrev pub half : NfaValue → ℕ
 half m = m.index_count / 2
 
+-- there are fewer than 2^32 states and indexes, so that a u32 holds each, and how many they are
+pub record FitsU32 (m : NfaValue) : Type 0 where
+  pub states : size m < 4294967296
+  pub indexes : m.index_count < 4294967296
+
 -- the list has each index that a state is the end of, or says is decided
 abbrev pub ListsEnds : NfaValue → List ℕ → Type 0
 ListsEnds m list = (s k : ℕ) → s < size m → k < half m → (state m.states s ≡ match_state k) ⊎ (state m.states s ≡ match_state (half m + k)) → IsTrue (has_number k list)

@@ -8,8 +8,9 @@ returns c =
     let starts = ap length c.in_ok-with_capacity.ensures.items in
     let entries = ap length c.in_ok-with_capacity-3.ensures.items in
     let w : ℕ = c.args.classes.now.count + 1 in
-    let one = mul-le 1 w c.in-Some.room.rows w (omega (arith, c.in-Some.ensures)) (omega arith) in
+    let one = mul-le 1 w c.room_within-room.result.rows w (omega (arith, c.room_within-room.ensures.rows)) (omega arith) in
     record {
+      fits = c.requires.fits;
       room = record {
         from = omega (arith, c.state_count-states.ensures, c.in_ok-new.ensures.room);
         next = omega (arith, c.state_count-states.ensures, c.in_ok-new-2.ensures.room);
@@ -17,8 +18,8 @@ returns c =
         ends = omega (arith, c.index_count-indexes.ensures, c.in_ok-new-3.ensures.room);
         list = omega (arith, c.state_count-states.ensures, c.in_ok-with_capacity-4.ensures.capacity);
         told = omega (arith, c.index_count-indexes.ensures, c.in_ok-with_capacity-5.ensures.capacity);
-        lists = omega (arith, c.state_count-states.ensures, c.in_ok-with_capacity-2.ensures.capacity, c.in-Some.ensures);
-        starts = omega (arith, c.in_ok-with_capacity.ensures.capacity, c.in-Some.ensures);
+        lists = omega (arith, c.state_count-states.ensures, c.in_ok-with_capacity-2.ensures.capacity, c.room_within-room.ensures.listed);
+        starts = omega (arith, c.in_ok-with_capacity.ensures.capacity, c.room_within-room.ensures.rows);
         entries = omega (arith, one, c.in_ok-with_capacity-3.ensures.capacity, c.saturating_mul-2.ensures);
         width = omega (arith, c.requires.few);
       };

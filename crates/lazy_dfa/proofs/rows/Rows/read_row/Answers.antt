@@ -7,8 +7,8 @@ use Rattle.lazy_dfa.specs.inner.Rows.{states_of}
 use Rattle.lazy_dfa.proofs.lemmas.Rows.{accepts_loaded, same_sound}
 use Rattle.lazy_dfa.proofs.rows.Rows.read_row.Goals as goal
 
-pub put_all-requires : goal.put_all-requires
-put_all-requires c =
+pub put_states-requires : goal.put_states-requires
+put_states-requires c =
     let rows = c.args.self.now in
     let same : c.states_at-states.result.now ≡ states_of rows c.args.row = rw (c.deref.ensures.value, c.deref-2.ensures.value) at c.states_at-states.ensures in
     subst (AreBelow (state_capacity c.clear.new.self)) (sym same)
@@ -18,7 +18,7 @@ pub returns-clause-sound : goal.returns-clause-sound
 returns-clause-sound c =
     let room = c.requires.sound.room in
     same_sound c.args.automaton.now c.args.self.now _ record { starts = refl; lists = refl; class_of = refl; class_count = refl } refl refl record {
-      from = omega (arith, room.from, c.clear.ensures.room, c.put_all.ensures.room, c.read.ensures.from_capacity);
+      from = omega (arith, room.from, c.clear.ensures.room, c.put_states.ensures.room, c.read.ensures.from_capacity);
       next = room.next;
       first = room.first;
       ends = omega (arith, room.ends, c.read.ensures.ends_capacity);
@@ -34,7 +34,7 @@ pub returns-clause-steps : goal.returns-clause-steps
 returns-clause-steps c = λ y k.
     let rows = c.args.self.now in
     let same : c.states_at-states.result.now ≡ states_of rows c.args.row = rw (c.deref.ensures.value, c.deref-2.ensures.value) at c.states_at-states.ensures in
-    iff_trans (accepts_loaded c.args.automaton.now c.clear.new.self c.put_all.new.self (states_of rows c.args.row) c.clear.ensures.none (rw same at c.put_all.ensures.has) (c.args.byte ∷ y) k)
+    iff_trans (accepts_loaded c.args.automaton.now c.clear.new.self c.put_states.new.into (states_of rows c.args.row) c.clear.ensures.none (rw same at c.put_states.ensures.has) (c.args.byte ∷ y) k)
     (c.read.ensures.steps y k)
 
 pub returns-clause-ends : goal.returns-clause-ends
@@ -42,4 +42,4 @@ returns-clause-ends c = λ k _.
     let rows = c.args.self.now in
     let same : c.states_at-states.result.now ≡ states_of rows c.args.row = rw (c.deref.ensures.value, c.deref-2.ensures.value) at c.states_at-states.ensures in
     iff_trans (c.read.ensures.ends k)
-    (iff_sym (accepts_loaded c.args.automaton.now c.clear.new.self c.put_all.new.self (states_of rows c.args.row) c.clear.ensures.none (rw same at c.put_all.ensures.has) [] k))
+    (iff_sym (accepts_loaded c.args.automaton.now c.clear.new.self c.put_states.new.into (states_of rows c.args.row) c.clear.ensures.none (rw same at c.put_states.ensures.has) [] k))

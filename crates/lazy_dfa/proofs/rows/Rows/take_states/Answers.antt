@@ -6,12 +6,12 @@ use Rattle.lazy_dfa.specs.inner.Rows.{states_of}
 use Rattle.lazy_dfa.proofs.lemmas.Rows.{accepts_loaded, same_sound}
 use Rattle.lazy_dfa.proofs.rows.Rows.take_states.Goals as goal
 
-pub put_all-requires : goal.put_all-requires
-put_all-requires c =
+pub put_states-requires : goal.put_states-requires
+put_states-requires c =
     let rows = c.args.self.now in
     let (i, at) = c.requires.row in
     let is = c.row_at-row.ensures i at.1 in
-    let same : c.states_at.result.now ≡ states_of rows c.row_at-row.result = rw (c.deref.ensures.value, c.deref-2.ensures.value) at c.states_at.ensures in
+    let same : c.states_at-states.result.now ≡ states_of rows c.row_at-row.result = rw (c.deref.ensures.value, c.deref-2.ensures.value) at c.states_at-states.ensures in
     subst (AreBelow (state_capacity c.clear.new.self)) (sym same)
     (λ j lt. let below = (c.requires.sound.lists c.row_at-row.result (rw (sym is) at at.0)).below j lt in omega (arith, below, c.requires.sound.room.from, c.clear.ensures.room))
 
@@ -19,7 +19,7 @@ pub returns-clause-sound : goal.returns-clause-sound
 returns-clause-sound c =
     let room = c.requires.sound.room in
     same_sound c.args.automaton.now c.args.self.now _ record { starts = refl; lists = refl; class_of = refl; class_count = refl } refl refl record {
-      from = omega (arith, room.from, c.clear.ensures.room, c.put_all.ensures.room);
+      from = omega (arith, room.from, c.clear.ensures.room, c.put_states.ensures.room);
       next = room.next;
       first = room.first;
       ends = room.ends;
@@ -35,5 +35,5 @@ pub returns-clause-states : goal.returns-clause-states
 returns-clause-states c = λ i (here, at) y k.
     let rows = c.args.self.now in
     let is = c.row_at-row.ensures i at in
-    let same : c.states_at.result.now ≡ states_of rows i = rw is at (rw (c.deref.ensures.value, c.deref-2.ensures.value) at c.states_at.ensures) in
-    iff_sym (accepts_loaded c.args.automaton.now c.clear.new.self c.put_all.new.self (states_of rows i) c.clear.ensures.none (rw same at c.put_all.ensures.has) y k)
+    let same : c.states_at-states.result.now ≡ states_of rows i = rw is at (rw (c.deref.ensures.value, c.deref-2.ensures.value) at c.states_at-states.ensures) in
+    iff_sym (accepts_loaded c.args.automaton.now c.clear.new.self c.put_states.new.into (states_of rows i) c.clear.ensures.none (rw same at c.put_states.ensures.has) y k)
