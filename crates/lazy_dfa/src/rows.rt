@@ -784,7 +784,13 @@ fn place_of(hash: u64, probe: usize, count: usize) -> usize {
 fn hash_of(seed: usize, list: &[u32]) -> u64 {
     let mut hasher = FoldHasher::default();
     hasher.write_usize(seed);
-    for state in list {
+    // Two states are hashed by one multiplication.
+    let (pairs, rest) = list.as_chunks::<2>();
+    for pair in pairs {
+        let [first, second] = *pair;
+        hasher.write_u64(first as u64 | (second as u64) << 32);
+    }
+    for state in rest {
         hasher.write_u32(*state);
     }
     hasher.finish()
