@@ -5,20 +5,20 @@ ghost use Rattle.byte_nfa.specs.Runs.{size, max_reads};
 ghost use Rattle.byte_nfa.specs.Steps.{IsReached};
 ghost use Rattle.bit_sets.specs.Indexes.{index_capacity};
 ghost use Rattle.nfa_sharing.specs.Sharing.{Shares};
-ghost use Rattle.nfa_simulation.specs.Sets.{sets_capacity};
+ghost use Rattle.lazy_dfa.specs.Sets.{sets_capacity};
 ghost use Rattle.glob_nfa.specs.IndexedTokens.{IndexedTokens, IsFor, SomeMeanAfter};
 ghost use Rattle.glob_matching.specs.Matching.{AddsMatches, TellsMatch};
 
 use crate::row_cache::RowCache;
 use crate::rows::RowSource;
-use crate::simulation;
 use crate::source::Source;
 use bit_sets::{IndexSet, Visits};
 use byte_nfa::Nfa;
+use lazy_dfa::{LazyDfa, StateSets};
 use nfa_sharing::shared;
-use nfa_simulation::{Simulation, StateSets};
 use std::alloc::{AllocError, Global};
 use std::marker::Model;
+use std::sync::Arc;
 
 /// The most bytes that rows are kept in between calls, unless another limit is set: 16 MiB.
 pub const DEFAULT_DFA_SIZE_LIMIT: usize = 1 << 24;
@@ -28,7 +28,7 @@ pub const DEFAULT_DFA_SIZE_LIMIT: usize = 1 << 24;
 pub struct Compiled {
     source: Source,
     /// It leads to the same ends. If there is more than one start, texts that begin alike share states in it.
-    automaton: Simulation,
+    dfa: Arc<LazyDfa>,
     rows: Option<RowSource>,
 }
 
@@ -37,13 +37,14 @@ impl Drop for Compiled {
     fn drop(self) {
         let Compiled {
             source: _,
-            automaton: _,
+            dfa: _,
             rows: _,
         } = self;
     }
 }
 
 impl Model for Compiled {
+    ghost use Rattle.std.specs.Arc.{arc_value};
     ghost use Rattle.std.specs.Prelude.{◌≡◌, IfSome};
     ghost use Rattle.byte_nfa.specs.Steps.{NfaValue};
     ghost use Rattle.nfa_sharing.specs.Sharing.{Shares};
@@ -52,7 +53,7 @@ impl Model for Compiled {
 
     ghost view = { λ c. c.source };
 
-    ghost invariant = { λ c. Shares c.source c.automaton × IfSome c.rows (λ r. r ≡ c.source) };
+    ghost invariant = { λ c. Shares c.source (arc_value c.dfa) × IfSome c.rows (λ r. r ≡ c.source) };
 }
 
 impl Compiled {
@@ -69,20 +70,9 @@ impl Compiled {
         ensures { IfOk result (λ c. c ≡ automaton) }
     {
         let source = Source::of(&automaton)?;
-        if let Some(sharing) = sharing_of(alloc, &automaton)? {
-            let rows = RowSource::new(alloc, dfa_size_limit, &automaton, &sharing, all_states)?;
-            return Ok(Compiled {
-                source,
-                automaton: Simulation::with_blocks(sharing)?,
-                rows,
-            });
-        }
-        let rows = RowSource::new(alloc, dfa_size_limit, &automaton, &automaton, all_states)?;
-        Ok(Compiled {
-            source,
-            automaton: Simulation::with_blocks(automaton)?,
-            rows,
-        })
+        let dfa = Arc::new(alloc, lazy_dfa_of(alloc, &automaton)?)?;
+        let rows = RowSource::new(alloc, dfa_size_limit, &automaton, &dfa, all_states)?;
+        Ok(Compiled { source, dfa, rows })
     }
 
     /// Returns whether there is room for rows.
@@ -132,7 +122,7 @@ impl Compiled {
         ensures none_without_starts { visits.new ≤ visits.old + length self.now.starts }
         ensures counted { visits.old ≤ visits.new }
     {
-        if self.automaton.start_count() == 0 {
+        if self.dfa.start_count() == 0 {
             return true;
         }
         self.source.rejects_last_byte(text, visits)
@@ -173,7 +163,7 @@ impl Compiled {
                 return Ok(());
             }
         }
-        simulation::find(&self.automaton, text, sets, found, visits)
+        self.dfa.find(text, sets, found, visits)
     }
 
     /// Returns whether tokens match a text.
@@ -201,7 +191,7 @@ impl Compiled {
                 return Ok(is_match);
             }
         }
-        simulation::is_match(&self.automaton, text, sets, visits)
+        self.dfa.is_match(text, sets, visits)
     }
 
     /// Returns whether some tokens match a text that begins with `text` and then `byte`.
@@ -224,7 +214,7 @@ impl Compiled {
         ensures visits { visits.new ≤ visits.old + (length text.now + 2) * max_reads self.now }
         ensures counted { visits.old ≤ visits.new }
     {
-        if self.automaton.start_count() == 0 {
+        if self.dfa.start_count() == 0 {
             return Ok(false);
         }
         if let Some(rows) = &self.rows {
@@ -237,7 +227,7 @@ impl Compiled {
                 return Ok(can_match);
             }
         }
-        simulation::can_match_after(&self.automaton, text, byte, sets, visits)
+        self.dfa.can_match_after(text, byte, sets, visits)
     }
 }
 
@@ -323,21 +313,23 @@ impl Compiled {
         let Some(rows) = cache else {
             return self.can_match_after(text, byte, sets, visits);
         };
-        if self.automaton.start_count() == 0 {
+        if self.dfa.start_count() == 0 {
             return Ok(false);
         }
         Ok(rows.can_match_after(text, byte, visits))
     }
 }
 
-/// Returns an automaton that leads to the same ends and in which texts that begin alike share states, if there is more than one
-/// start, and such an automaton has no more states. Returns an error if memory runs out.
-fn sharing_of(alloc: Global, automaton: &Nfa) -> Result<Option<Nfa>, AllocError>
-    ensures { IfOk result (λ made. IfSome made (λ sharing. Shares automaton.now sharing)) }
+/// Returns what an automaton is run by. It leads to the same ends, and if there is more than one start, texts that begin alike share
+/// states in it, unless that would be more states. Returns an error if memory runs out.
+fn lazy_dfa_of(alloc: Global, automaton: &Nfa) -> Result<LazyDfa, AllocError>
+    ensures { IfOk result (λ dfa. Shares automaton.now dfa) }
 {
     // Only texts from two starts may begin alike.
-    if automaton.starts().len() <= 1 {
-        return Ok(None);
+    if automaton.starts().len() > 1 {
+        if let Some(sharing) = shared(alloc, automaton)? {
+            return LazyDfa::new(alloc, &sharing);
+        }
     }
-    shared(alloc, automaton)
+    LazyDfa::new(alloc, automaton)
 }

@@ -11,7 +11,6 @@ mod published;
 mod row_cache;
 mod rows;
 mod scratch;
-mod simulation;
 mod source;
 
 pub use compiled::{Compiled, DEFAULT_DFA_SIZE_LIMIT};

@@ -1,6 +1,7 @@
 //! What automata are run by that have rows.
 
 ghost use Rattle.std.specs.Prelude.{◌≡◌, ◌+◌, ◌*◌, ◌≤◌, ◌↔◌, ◌++◌, ◌∷◌, [], ℕ, None, false, length, IsTrue, IfOk, IfSome};
+ghost use Rattle.std.specs.Arc.{arc_value};
 ghost use Rattle.bit_sets.specs.Indexes.{index_capacity};
 ghost use Rattle.byte_nfa.specs.Live.{MatchesAfter};
 ghost use Rattle.byte_nfa.specs.Runs.{size};
@@ -67,10 +68,10 @@ impl RowSource {
         alloc: Global,
         dfa_size_limit: usize,
         automaton: &Nfa,
-        sharing: &Nfa,
+        dfa: &Arc<LazyDfa>,
         all_states: usize,
     ) -> Result<Option<RowSource>, AllocError>
-        requires { Shares automaton.now sharing.now }
+        requires { Shares automaton.now (arc_value dfa.now) }
         ensures { IfOk result (λ made. IfSome made (λ rows. rows ≡ automaton.now)) }
     {
         let cache_bytes = share_of(
@@ -78,15 +79,12 @@ impl RowSource {
             automaton.state_count(),
             all_states,
         );
-        if cache_bytes < FEWEST_BYTES {
+        if cache_bytes < FEWEST_BYTES || !dfa.may_have_rows() {
             return Ok(None);
         }
-        let Some(dfa) = LazyDfa::new(alloc, sharing)? else {
-            return Ok(None);
-        };
         Ok(Some(RowSource {
             alloc,
-            dfa: Arc::new(alloc, dfa)?,
+            dfa: Arc::try_clone(dfa)?,
             cache_bytes,
             kept: Box::new(alloc, KeptCaches::new(automaton, cache_bytes))?,
             source: Snapshot::of(automaton),

@@ -1,7 +1,7 @@
 //! Matchers of one glob.
 
 ghost use Rattle.std.specs.Prelude.{◌≡◌, ◌+◌, ◌≤◌, ◌↔◌, IfOk, IsOk, IsOkUnless, IsTrue};
-ghost use Rattle.nfa_simulation.specs.Sets.{sets_capacity};
+ghost use Rattle.lazy_dfa.specs.Sets.{sets_capacity};
 ghost use Rattle.glob_matching.specs.ScratchValue.{FitsMatcher};
 ghost use Rattle.glob_text.specs.Errors.{out_of_memory};
 ghost use Rattle.glob_text.specs.Cost.{cost, max_visits, max_visits_below};
@@ -15,7 +15,7 @@ use bit_sets::Visits;
 use glob_matching::{NeedsScratch, Scratch};
 use glob_path::{AsPath, Candidate};
 use glob_text::Error;
-use nfa_simulation::StateSets;
+use lazy_dfa::StateSets;
 pub use searcher::MatcherSearcher;
 use std::alloc::AllocError;
 use std::fmt;

@@ -4,7 +4,7 @@ ghost use Rattle.std.specs.Prelude.{◌≡◌, ◌+◌, ◌*◌, ◌<◌, ◌≤
 ghost use Rattle.byte_nfa.specs.Runs.{size, max_reads};
 ghost use Rattle.bit_sets.specs.Indexes.{has_index, index_capacity};
 ghost use Rattle.bit_sets.specs.Texts.{AllBytes};
-ghost use Rattle.nfa_simulation.specs.Sets.{sets_capacity};
+ghost use Rattle.lazy_dfa.specs.Sets.{sets_capacity};
 ghost use Rattle.glob_nfa.specs.IndexedTokens.{IndexedTokens, IsFor, indexed};
 ghost use Rattle.glob_path.specs.PathParts.{component_extension};
 ghost use Rattle.glob_syntax.specs.FlatTokens.{IsNested};
@@ -28,7 +28,7 @@ use glob_nfa::{add_tokens, new_builder};
 use glob_path::PathParts;
 use glob_syntax::{Options, Token};
 use matchers::{ExtensionMatchers, ExtensionMatchersBuilder};
-use nfa_simulation::StateSets;
+use lazy_dfa::StateSets;
 use std::alloc::{AllocError, Global};
 use std::marker::Model;
 

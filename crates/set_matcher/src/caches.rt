@@ -7,7 +7,7 @@ ghost use Rattle.byte_nfa.specs.Runs.{size, max_reads};
 ghost use Rattle.byte_nfa.specs.Steps.{NfaValue};
 ghost use Rattle.glob_matching.specs.Matching.{AddsMatches, TellsMatch};
 ghost use Rattle.glob_nfa.specs.IndexedTokens.{IndexedTokens, IsFor, SomeMeanAfter};
-ghost use Rattle.nfa_simulation.specs.Sets.{sets_capacity};
+ghost use Rattle.lazy_dfa.specs.Sets.{sets_capacity};
 ghost use Rattle.set_matcher.specs.inner.Automata.{AutomataParts, before_extension};
 ghost use Rattle.set_matcher.specs.inner.Caches.{AreCachesOf, IsCacheAt};
 
@@ -15,7 +15,7 @@ use crate::path_part::{Part, matches_part, run};
 use bit_sets::{IndexSet, Visits};
 use glob_matching::{Compiled, RowCache};
 use glob_path::PathParts;
-use nfa_simulation::StateSets;
+use lazy_dfa::StateSets;
 use std::alloc::AllocError;
 use std::marker::Model;
 

@@ -12,7 +12,7 @@ use bit_sets::Visits;
 use glob_matching::RowCache;
 use glob_path::Candidate;
 use glob_text::Error;
-use nfa_simulation::StateSets;
+use lazy_dfa::StateSets;
 use std::alloc::Global;
 use std::marker::Model;
 
@@ -55,7 +55,7 @@ impl Drop for MatcherSearcher {
 
 impl Model for MatcherSearcher {
     ghost use Rattle.std.specs.Prelude.{◌≤◌, IfSome};
-    ghost use Rattle.nfa_simulation.specs.Sets.{sets_capacity};
+    ghost use Rattle.lazy_dfa.specs.Sets.{sets_capacity};
     ghost use Rattle.glob_text.specs.GlobMatches.{GlobValue};
     ghost use Rattle.globset_glob.specs.inner.GlobNfa.{IsCacheOf, IsStrategyOfMatcher, form_states};
 

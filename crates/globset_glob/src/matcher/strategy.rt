@@ -1,7 +1,7 @@
 //! By what a matcher decides.
 
 ghost use Rattle.std.specs.Prelude.{◌≡◌, ◌+◌, ◌≤◌, ◌↔◌, IfOk, IfSome, IsOk, IsTrue};
-ghost use Rattle.nfa_simulation.specs.Sets.{sets_capacity};
+ghost use Rattle.lazy_dfa.specs.Sets.{sets_capacity};
 ghost use Rattle.glob_text.specs.Cost.{max_visits, max_visits_below};
 ghost use Rattle.globset_glob.specs.GlobBelow.{GlobMatchesBelow};
 ghost use Rattle.glob_text.specs.GlobMatches.{GlobValue, glob_matches};
@@ -13,7 +13,7 @@ use glob_matching::{Compiled, DEFAULT_DFA_SIZE_LIMIT, RowCache};
 use glob_nfa::{add_tokens, new_builder};
 use glob_path::{Candidate, Key};
 use glob_strategy::{MatchStrategy, strategy_of};
-use nfa_simulation::StateSets;
+use lazy_dfa::StateSets;
 use std::alloc::{AllocError, Global};
 use std::sync::Arc;
 

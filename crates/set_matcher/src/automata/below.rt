@@ -2,7 +2,7 @@
 
 ghost use Rattle.std.specs.Prelude.{◌≡◌, ◌+◌, ◌*◌, ◌≤◌, ◌↔◌, [], length, IfOk, IsOk, IsTrue};
 ghost use Rattle.byte_nfa.specs.Live.{MatchesAfter};
-ghost use Rattle.nfa_simulation.specs.Sets.{sets_capacity};
+ghost use Rattle.lazy_dfa.specs.Sets.{sets_capacity};
 ghost use Rattle.set_matcher.specs.inner.Automata.{AreForLists, AreFoundBelow, TokenLists, folder_reads, max_states};
 ghost use Rattle.set_matcher.specs.inner.Caches.{AreCachesOf};
 
@@ -10,7 +10,7 @@ use crate::automata::Automata;
 use crate::caches::Caches;
 use bit_sets::{StateSet, Visits};
 use byte_nfa::Nfa;
-use nfa_simulation::StateSets;
+use lazy_dfa::StateSets;
 use std::alloc::{AllocError, Global};
 
 impl Automata {

@@ -2,7 +2,7 @@
 
 ghost use Rattle.std.specs.Prelude.{◌≡◌, ◌+◌, ◌*◌, ◌<◌, ◌≤◌, ◌↔◌, ◌++◌, ◌∷◌, [], ℕ, List, length, IsTrue, IsOk, OnOk, IfOk, None, Some};
 ghost use Rattle.byte_nfa.specs.Runs.{size, max_reads};
-ghost use Rattle.nfa_simulation.specs.Sets.{sets_capacity};
+ghost use Rattle.lazy_dfa.specs.Sets.{sets_capacity};
 ghost use Rattle.std.specs.Option.{option_map_or};
 ghost use Rattle.glob_nfa.specs.IndexedTokens.{IndexedTokens, IsFor, indexed};
 ghost use Rattle.glob_syntax.specs.FlatTokens.{IsNested};
@@ -19,7 +19,7 @@ use byte_nfa::Builder;
 use glob_matching::Compiled;
 use glob_nfa::{add_tokens, new_builder};
 use glob_syntax::{Options, Token};
-use nfa_simulation::StateSets;
+use lazy_dfa::StateSets;
 use std::alloc::{AllocError, Global};
 use std::marker::Model;
 

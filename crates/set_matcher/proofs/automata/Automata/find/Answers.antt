@@ -1,7 +1,7 @@
 use Rattle.std.proofs.Common.{◌≡◌, ◌+◌, ◌*◌, ◌≤◌, length, ap, sym, subst, true≢false, arith, ◌∙◌}
 use Rattle.glob_nfa.specs.IndexedTokens.{IsFor}
 use Rattle.byte_nfa.specs.Runs.{size, max_reads}
-use Rattle.nfa_simulation.specs.Sets.{sets_capacity}
+use Rattle.lazy_dfa.specs.Sets.{sets_capacity}
 use Rattle.byte_nfa.specs.Steps.{NfaValue}
 use Rattle.std.proofs.Math.Logic.{⊎_elim}
 use Rattle.glob_path.specs.PathParts.{last_component, component_extension, last_position, is_separator}
