@@ -81,7 +81,7 @@ impl<X: Fits + Drop> Pool<X> {
     /// Puts a value in for later calls. Returns the value if there is no room that no other call is at.
     pub fn give(&self, value: X) -> Option<X>
         requires { X.fits self.now value }
-        ensures { IfSome result (X.fits self.now) }
+        ensures { IfSome result (λ x. x ≡ value) }
     {
         let value = given(&self.first, value)?;
         let value = given(&self.second, value)?;
@@ -107,9 +107,9 @@ fn taken<X: Fits>(slot: &Counted<Option<X>>) -> Option<X>
 }
 
 /// Puts a value into a slot that has none. Returns the value if the slot has one, or another call is at it.
-fn given<X: Fits>(slot: &Counted<Option<X>>, value: X) -> Option<X>
+fn given<X: Fits + Drop>(slot: &Counted<Option<X>>, value: X) -> Option<X>
     requires { X.fits slot.now value }
-    ensures { IfSome result (X.fits slot.now) }
+    ensures { IfSome result (λ x. x ≡ value) }
 {
     if slot.load() != FREE {
         return Some(value);
@@ -119,5 +119,7 @@ fn given<X: Fits>(slot: &Counted<Option<X>>, value: X) -> Option<X>
         claim.done();
         return Some(value);
     }
-    claim.put(Some(value), PRESENT)
+    // There was no value, as `found` says. No contract says so: if there was one, it would be dropped.
+    claim.put(Some(value), PRESENT);
+    None
 }
