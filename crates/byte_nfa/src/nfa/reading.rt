@@ -1,6 +1,6 @@
 //! States that are read one at a time.
 
-ghost use Rattle.std.specs.Prelude.{◌≡◌, ℕ, ◌<◌, ◌≤◌, MatchOption};
+ghost use Rattle.std.specs.Prelude.{◌≡◌, ℕ, ◌<◌, ◌≤◌, IfSome, MatchOption};
 ghost use Rattle.byte_nfa.specs.Reading.{is_read};
 ghost use Rattle.byte_nfa.specs.Runs.{size};
 ghost use Rattle.byte_nfa.specs.Steps.{state, match_state};
@@ -26,6 +26,7 @@ impl Nfa {
     /// Returns a state by its number, or `None` if there are no more states than that. The index of an end is below
     /// [`Nfa::index_count`].
     pub fn state(&self, s: usize) -> Option<StateRef<'_>>
+        ensures exists { IfSome result (λ _. s < size self.now) }
         ensures read { MatchOption result (size self.now ≤ s)
             (λ found. state self.now.states s ≡ is_read found) }
         ensures named { (k : ℕ) → state self.now.states s ≡ match_state k
