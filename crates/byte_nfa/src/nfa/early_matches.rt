@@ -39,10 +39,10 @@ impl Nfa {
     }
 
     /// Returns the index that a state decides, by what stands in the new automaton for the states below it.
-    fn early_match(&self, s: usize, below: &Vec<State>) -> Option<usize>
+    fn early_match(&self, s: usize, below: &[State]) -> Option<usize>
         requires exists { s < size self.now }
-        requires len { s ≤ length below.now.items }
-        requires below { TellDecisions self.now.states self.now.index_count s below.now.items }
+        requires len { s ≤ length below.now }
+        requires below { TellDecisions self.now.states self.now.index_count s below.now }
         ensures { MatchOption result ((k : ℕ) → Decides self.now.states s k → ⊥)
             (λ k. Decides self.now.states s k × (k < self.now.index_count)) }
     {

@@ -12,9 +12,9 @@ pub from_parts-requires : goal.from_parts-requires
 from_parts-requires c =
     let inside = c.self.inside in
     let inv = c.loop-s.invariant in
-    let same_sets : c.in_ok-sets.sets.items ≡ inside.sets.items = c.in_ok-sets.ensures.items ∙ c.deref.ensures.value in
-    let same_targets : c.in_ok-targets.targets.items ≡ inside.targets.items = c.in_ok-targets.ensures.items ∙ c.deref-2.ensures.value in
-    let same_starts : c.in_ok-starts.starts.items ≡ inside.starts.items = c.in_ok-starts.ensures.items ∙ c.deref-3.ensures.value in
+    let same_sets : c.in_ok-sets.sets.items ≡ inside.sets.items = c.in_ok-sets.ensures.items ∙ c.deref-2.ensures.value in
+    let same_targets : c.in_ok-targets.targets.items ≡ inside.targets.items = c.in_ok-targets.ensures.items ∙ c.deref-3.ensures.value in
+    let same_starts : c.in_ok-starts.starts.items ≡ inside.starts.items = c.in_ok-starts.ensures.items ∙ c.deref-4.ensures.value in
     let count : c.in-Some.index_count ≡ c.args.self.now.index_count * 2 = c.in-Some.ensures.1 ∙ ap (λ (m : NfaValue). m.index_count * 2) c.self.view_is in
     let begun : AreBelow (length c.loop-s.states.items) inside.starts.items = λ i lt. let below = c.self.invariant.begun i lt in omega (arith, inv.len) in
     rw (same_sets, same_targets, same_starts, count) record {
@@ -58,9 +58,9 @@ returns c =
     let inside = c.self.inside in
     let inv = c.loop-s.invariant in
     let m = c.args.self.now in
-    let same_sets : c.in_ok-sets.sets.items ≡ inside.sets.items = c.in_ok-sets.ensures.items ∙ c.deref.ensures.value in
-    let same_targets : c.in_ok-targets.targets.items ≡ inside.targets.items = c.in_ok-targets.ensures.items ∙ c.deref-2.ensures.value in
-    let same_starts : c.in_ok-starts.starts.items ≡ inside.starts.items = c.in_ok-starts.ensures.items ∙ c.deref-3.ensures.value in
+    let same_sets : c.in_ok-sets.sets.items ≡ inside.sets.items = c.in_ok-sets.ensures.items ∙ c.deref-2.ensures.value in
+    let same_targets : c.in_ok-targets.targets.items ≡ inside.targets.items = c.in_ok-targets.ensures.items ∙ c.deref-3.ensures.value in
+    let same_starts : c.in_ok-starts.starts.items ≡ inside.starts.items = c.in_ok-starts.ensures.items ∙ c.deref-4.ensures.value in
     let count : c.in-Some.index_count ≡ m.index_count * 2 = c.in-Some.ensures.1 ∙ ap (λ (o : NfaValue). o.index_count * 2) c.self.view_is in
     let value : nfa inside.sets.items inside.targets.items c.loop-s.states.items inside.starts.items (m.index_count * 2) ≡ c.from_parts.result =
     rw (sym same_sets, sym same_targets, sym same_starts, sym count) (sym c.from_parts.ensures) in
@@ -80,7 +80,7 @@ early_match-requires c =
     let sets = inside.sets.items in
     let targets = inside.targets.items in
     let so_far : AreEarlyMatches m sets targets c.loop-s.states.items c.loop-s.s = record { len = inv.len; sound = inv.sound; states = inv.states } in
-    record {
+    rw c.deref.ensures.value record {
       exists = omega (arith, c.loop-s-test.true, c.len-s-end.ensures, inside.states.ok.0, ap size c.self.view_is, length-map inside.states.items (of_state sets targets));
       len = omega (arith, inv.len);
       below = tell_decisions m sets targets inside.states.items inside.starts.items inside.index_count c.self.view_is c.self.invariant c.loop-s.states.items c.loop-s.s so_far;
