@@ -74,6 +74,13 @@ impl Trie {
         })
     }
 
+    /// Returns whether there are no texts.
+    pub fn is_empty(&self) -> bool
+        ensures { IsTrue result ↔ (self.now.entries ≡ []) }
+    {
+        self.tree.is_none()
+    }
+
     /// Puts the indexes of the texts that the path begins or ends with into a set, beside what it holds: those that it has room
     /// for. It takes no memory.
     ///

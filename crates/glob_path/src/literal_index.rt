@@ -72,6 +72,16 @@ impl LiteralIndex {
         !self.extensions.is_empty()
     }
 
+    /// Returns whether there are no keys: then no path finds an index.
+    pub fn is_empty(&self) -> bool
+        ensures { IsTrue result ↔ (self.now ≡ no_keys) }
+    {
+        if !self.paths.is_empty() || !self.components.is_empty() || !self.extensions.is_empty() {
+            return false;
+        }
+        self.prefixes.is_empty() && self.ends.is_empty()
+    }
+
     /// Puts the indexes that the path finds into a set, beside what it holds: those under it, under its last component and under
     /// the extension of that, and those of the texts that it begins or ends with. An index that the set has no room for is left
     /// out. A part of the path is only searched for if there are keys for it. It takes no memory.

@@ -94,6 +94,9 @@ impl SetMatcher {
             None => false,
         };
         if !are_run {
+            if self.keys.is_empty() {
+                return Ok(());
+            }
             marks.clear();
             marks.reserve(self.index_count)?;
         }

@@ -1,4 +1,4 @@
--- What is true of the tree of each trie. A trie of no texts has none.
+-- What is true of the tree of each trie. A trie of no texts, and no other, has none.
 use Rattle.std.specs.Prelude.{◌≡◌, ℕ, ◌<◌, ◌^◌, List, [], Option, Some, None, length, map}
 use Rattle.std.specs.Global.{Box}
 use Rattle.byte_keys.specs.Entries.{Entry, indexes_under}
@@ -11,6 +11,7 @@ pub record IsTrieOf (t : Tree) (anchor : Anchor) (entries : List Entry) : Type 0
   pub tree : IsTree t
   pub leads : (w : List ℕ) → under t 0 w ≡ indexes_under (map (entry_from_anchor anchor) entries) w
   pub small : length entries < 2 ^ 64
+  pub some : 0 < length entries
 
 abbrev pub HasTree : Option (Box Tree) → Anchor → List Entry → Type 0
 HasTree (Some tree) anchor entries = IsTrieOf tree.value anchor entries

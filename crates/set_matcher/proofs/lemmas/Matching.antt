@@ -82,6 +82,12 @@ pub none_from : (xs : List ℕ) → (xs ≢ [] → ⊥) → xs ≡ []
 none_from [] h = refl
 none_from (x ∷ xs) h = absurd (h (λ e. let n = ap length e in omega (arith, n)))
 
+-- no key is found, and no automaton is run
+pub nothing_listed : (globs : List TokenGlob) (g : SetMatcherParts) (path : List ℕ) → IsSetMatcherOf globs g → AreIdle g.automata path → keys_found g.keys path ≡ [] → reported_indexes globs path ≡ []
+nothing_listed globs g path are idle none =
+    none_from (reported_indexes globs path)
+    (λ some. let (k, in_all) = some_of (reported_indexes globs path) some in not_none (keys_found g.keys path) k ((keys_listed globs g path are idle k).1 in_all) none)
+
 -- some glob is reported
 pub some_listed : (globs : List TokenGlob) (path : List ℕ) → (reported_indexes globs path ≢ []) ↔ ((k : ℕ) × IsTrue (is_reported_at globs path k))
 some_listed globs path = (

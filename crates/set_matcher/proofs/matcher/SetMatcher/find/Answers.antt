@@ -1,16 +1,17 @@
 use Rattle.std.proofs.Common.{◌≡◌, ◌≤◌, ◌+◌, ◌*◌, ℕ, List, false, true, length, ap, sym, subst, true≢false, arith, ◌∙◌}
-use Rattle.std.specs.Prelude.{◌↔◌, IsTrue}
+use Rattle.std.specs.Prelude.{◌↔◌, IsTrue, []}
 use Rattle.bit_sets.specs.Indexes.{has_index, index_capacity}
 use Rattle.bit_sets.specs.declared.index_set.IndexSet.{IndexSet}
-use Rattle.set_matcher.specs.Globs.{TokenGlob, is_reported_at, token_globs}
+use Rattle.set_matcher.specs.Globs.{TokenGlob, is_reported_at, reported_indexes, token_globs}
 use Rattle.set_matcher.specs.SetMatcherValue.{matcher_globs}
 use Rattle.set_matcher.specs.inner.Automata.{AreFound, AreIdle, IsFoundSet, automata_or_none, reads_for}
 use Rattle.set_matcher.specs.inner.SetMatcher.{IsSetMatcherOf, SetMatcherParts, set_matcher_parts}
+use Rattle.glob_path.proofs.lemmas.LiteralIndex.{nothing_if}
 use Rattle.set_matcher.proofs.lemmas.Given.{globs_count, with_stored}
-use Rattle.set_matcher.proofs.lemmas.Matching.{marked_are, marked_listed}
+use Rattle.set_matcher.proofs.lemmas.Matching.{marked_are, marked_listed, nothing_listed}
 use Rattle.set_matcher.proofs.lemmas.NoAutomata.{kept_is, none_idle}
 use Rattle.set_matcher.proofs.matcher.SetMatcher.find.Goals as goal
-use Rattle.set_matcher.proofs.matcher.SetMatcher.find.Goals.{in-Some+in_ok-are_run-in-Some, in-None, then-not-are_run+in_ok-reserve, else-not-are_run}
+use Rattle.set_matcher.proofs.matcher.SetMatcher.find.Goals.{in-Some+in_ok-are_run-in-Some, in-None, then-not-are_run+else-is_empty+in_ok-reserve, else-not-are_run}
 
 -- the set has the indexes that the automata find, and room for every index
 abbrev IsMarked : (globs : List TokenGlob) (g : SetMatcherParts) → IsSetMatcherOf globs g → List ℕ → IndexSet → Type 0
@@ -36,7 +37,7 @@ returns-clause-ok c =
       | in-None w ↦ absurd (true≢false (sym on ∙ w.are_run-is))
     ]) in
     let ready : Ready c.if-not-are_run.marks = elim c.if-not-are_run.branch [
-      | then-not-are_run+in_ok-reserve w ↦ subst Ready (sym w.marks-is) (
+      | then-not-are_run+else-is_empty+in_ok-reserve w ↦ subst Ready (sym w.marks-is) (
         omega (arith, globs_count c.self.inside.globs, of_globs.counted, of_globs.indexed, c.self.invariant.count, w.in_ok-reserve.ensures.ok),
         λ k. (λ yes. absurd (true≢false (sym yes ∙ w.reserve.ensures.has k ∙ w.clear-then-not-are_run.ensures.none k)), λ found. absurd ((idle w.if-not-are_run.true).none matcher.tokens matcher.are_for k found)),
       )
@@ -52,6 +53,36 @@ returns-clause-ok c =
     (subst (λ (gs : List TokenGlob). (k : ℕ) → IsTrue (has_index c.find-2.new.found k) ↔ IsTrue (is_reported_at gs text k)) (ap matcher_globs c.self.view_is)
     (marked_listed globs g text (index_capacity c.if-not-are_run.marks) (has_index c.if-not-are_run.marks) (has_index c.find-2.new.found) matcher ready.0 ready.1 c.find-2.ensures.found)) in
     c.in_default.ensures.pushed ∙ marked_are (matcher_globs c.args.self.now) c.args.path.now c.len.result (has_index c.find-2.new.found) (sym c.len.ensures) marked
+
+pub returns-then-is_empty-clause-ok : goal.returns-then-is_empty-clause-ok
+returns-then-is_empty-clause-ok c =
+    let text = c.parts_of-parts.result in
+    let globs = token_globs c.self.inside.globs in
+    let n = c.self.inside.index_count in
+    let automata = automata_or_none n c.self.inside.automata in
+    let g = set_matcher_parts c.self.inside.keys automata in
+    let idle : AreIdle automata text = elim c.match-self.branch [
+      | in-Some+in_ok-are_run-in-Some w ↦ subst (λ a. AreIdle a text) (sym (kept_is n w.in-Some.is w.deref.ensures)) (w.in_ok-are_run-in-Some.ensures.idle (sym w.are_run-is ∙ c.if-not-are_run.true))
+      | in-None w ↦ none_idle n text w.in-None.is c.parts_of-parts.ensures.bytes
+    ] in
+    let none : reported_indexes (matcher_globs c.args.self.now) c.args.path.now ≡ [] =
+    subst (λ p. reported_indexes (matcher_globs c.args.self.now) p ≡ []) (c.parts_of-parts.ensures.path ∙ c.path.ensures)
+    (subst (λ (gs : List TokenGlob). reported_indexes gs text ≡ []) (ap matcher_globs c.self.view_is)
+    (nothing_listed globs g text c.self.invariant.of_globs.matcher idle (nothing_if c.self.inside.keys (c.is_empty.ensures.0 c.if-is_empty.true) text))) in
+    c.clear.ensures.items ∙ sym none
+
+pub returns-then-is_empty-clause-visits : goal.returns-then-is_empty-clause-visits
+returns-then-is_empty-clause-visits c =
+    let n = c.self.inside.index_count in
+    let automata = automata_or_none n c.self.inside.automata in
+    let text = c.parts_of-parts.result in
+    let run : c.match-self.visits ≤ c.args.visits.now + (1 + (length text + 1) * reads_for automata text) = elim c.match-self.branch [
+      | in-Some+in_ok-are_run-in-Some w ↦ subst (λ v. v ≤ c.args.visits.now + (1 + (length text + 1) * reads_for automata text)) (sym w.visits-is)
+          (subst (λ a. w.find.new.visits ≤ c.args.visits.now + (1 + (length text + 1) * reads_for a text)) (sym (kept_is n w.in-Some.is w.deref.ensures)) w.find.ensures.visits)
+      | in-None w ↦ omega (arith, w.visits-is)
+    ] in
+    with_stored (token_globs c.self.inside.globs) (matcher_globs c.args.self.now) (set_matcher_parts c.self.inside.keys automata) c.args.path.now text c.args.visits.now c.match-self.visits
+    (ap matcher_globs c.self.view_is) (c.parts_of-parts.ensures.path ∙ c.path.ensures) c.self.invariant.of_globs.matcher (omega (arith, run))
 
 pub returns-in_err-are_run-in-Some-clause-visits : goal.returns-in_err-are_run-in-Some-clause-visits
 returns-in_err-are_run-in-Some-clause-visits c =
