@@ -25,7 +25,7 @@ use std::marker::Model;
 /// A nondeterministic automaton: states over bytes, and those of them that a run begins in.
 ///
 /// Its calls are for what is made from it, such as a deterministic automaton. They read states, and do not count what
-/// they read. The `Simulation` of the crate `nfa_simulation`, whose calls count each read of a state, runs it.
+/// they read. The crate `lazy_dfa`, whose calls count each read of a state, runs it.
 pub struct Nfa {
     states: Vec<State>,
     sets: Vec<ByteSet>,

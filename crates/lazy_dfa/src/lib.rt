@@ -1,8 +1,10 @@
-//! Deterministic automata over bytes whose rows are made while texts are read, in a memory of fixed size.
+//! Runs of automata over texts: by rows of a deterministic automaton that are made while texts are read, in a memory of fixed size,
+//! or by sets of states.
 //!
-//! A [`LazyDfa`] is made from an [`byte_nfa::Nfa`], and finds exactly what that finds. It can be shared by threads. Each thread has
-//! a [`Cache`], which holds the rows that its texts needed so far. All rows of an automaton may be very
-//! many more than texts ever lead to.
+//! A [`LazyDfa`] is made from an [`byte_nfa::Nfa`], and finds exactly what that finds. It can be shared by threads. A [`Cache`] holds
+//! the rows that its texts needed so far: all rows of an automaton may be very many more than texts ever lead to. A text for which
+//! rows are forgotten twice is read on by sets of states, and so is each text by the calls of a [`LazyDfa`], which need no cache but
+//! [`StateSets`].
 #![tactic(auto)]
 
 mod automaton;
