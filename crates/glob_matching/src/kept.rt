@@ -4,6 +4,7 @@ ghost use Rattle.std.specs.Prelude.{◌≡◌, IfSome};
 
 use crate::published::Published;
 use crate::row_cache::RowCache;
+use crate::rows::FEWEST_BYTES;
 use byte_nfa::Nfa;
 use cache_pool::Pool;
 use counted_slot::Fits;
@@ -91,8 +92,8 @@ impl Kept {
 /// The most caches that are made, with those that are published, and so the most calls at once that run by rows of their own.
 pub const MOST_KEPT: usize = 4;
 
-/// The bytes of the first cache. Where rows do not fit, the next one takes four times as many.
-const FIRST_BYTES: usize = 1 << 14;
+/// The bytes of the first cache. Where rows do not fit, the next one takes four times as many, too.
+const FIRST_BYTES: usize = 4 * FEWEST_BYTES;
 
 /// So many calls that find no cache make none, so that a set which is asked about few paths takes no memory for them.
 const FIRST_CALLS: usize = 2;

@@ -239,7 +239,7 @@ impl RowSource {
 const MOST_BYTES: usize = 1 << 23;
 
 /// With fewer bytes for a cache there is none: so many automata share the room that few globs are run for a text.
-const FEWEST_BYTES: usize = 1 << 12;
+pub const FEWEST_BYTES: usize = 1 << 12;
 
 /// Returns how many of some bytes an automaton of so many states has, which automata of `all_states` share.
 fn share_of(bytes: usize, states: usize, all_states: usize) -> usize {

@@ -45,7 +45,7 @@ impl Model for Cache {
 impl Cache {
     /// Returns a cache with no rows.
     ///
-    /// It takes so many bytes, and more only where few states would fit: there is always room for some rows. All memory is taken
+    /// It takes so many bytes, and more only where few states would fit: there is always room for a row. All memory is taken
     /// here, and none by later calls. Returns an error if memory runs out, or if [`LazyDfa::may_have_rows`] returns `false`.
     pub fn new(alloc: Global, dfa: &LazyDfa, bytes: usize) -> Result<Cache, AllocError>
         ensures { IfOk result (λ cache. cache ≡ dfa.now) }

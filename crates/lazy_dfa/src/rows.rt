@@ -50,9 +50,6 @@ const PROBES: usize = 8;
 /// The places of the table while there are few rows: it takes time to fill more.
 const FEWEST_PLACES: usize = 1 << 8;
 
-/// There is room for at least so many rows, and so many lists of all states.
-const LEAST_ROWS: usize = 4;
-
 /// A run remembers of so many rows that their marks were told.
 pub const REMEMBERED: usize = 16;
 
@@ -139,7 +136,7 @@ impl Drop for Rows {
 }
 
 impl Rows {
-    /// Returns no rows, with room for as many as fit so many bytes, and for a few in each case. Returns an error if memory runs out.
+    /// Returns no rows, with room for as many as fit so many bytes, and for one in each case. Returns an error if memory runs out.
     pub fn new(
         alloc: Global,
         automaton: &Nfa,
@@ -679,13 +676,11 @@ fn room_within(bytes: usize, width: usize, states: usize, taken: usize) -> Room
 {
     let number = mem::size_of::<u32>();
     // At most one half is for lists, unless that is too small for the least room. The rest is for rows.
-    let listed = (bytes / 2 / number)
-        .saturating_sub(taken)
-        .max((states + 1) * LEAST_ROWS);
+    let listed = (bytes / 2 / number).saturating_sub(taken).max(states + 1);
     let rest = bytes.saturating_sub(listed.saturating_add(taken).saturating_mul(number));
     // A row takes its entries, a number of `starts` and two places of the table.
     Room {
-        rows: (rest / ((width + 3) * number)).max(LEAST_ROWS),
+        rows: (rest / ((width + 3) * number)).max(1),
         listed,
     }
 }
