@@ -1,17 +1,9 @@
-use Rattle.std.proofs.Common.{◌≡◌, ℕ, ◌+◌, ◌*◌, ◌-◌, ◌<◌, ◌≤◌, ◌==◌, [], ◌∷◌, ◌++◌, ◌⊎◌, inl, inr, Some, None, IsTrue, Bool, List, length, get_or, drop, min, false, true≢false, arith, sym, ◌∙◌, refl, ap, subst, append-nil}
-use Rattle.std.specs.Prelude.{◌↔◌, ◌||◌}
-use Rattle.std.proofs.Math.Logic.{⊎_elim}
-use Rattle.std.proofs.lemmas.Bool.{cases_lt}
-use Rattle.std.proofs.lemmas.List.{drop_more, drop_all}
-use Rattle.std.proofs.lemmas.Nat.{mul-le}
-use Rattle.bit_sets.specs.Indexes.{has_index}
-use Rattle.bit_sets.specs.StateSets.{has_state, state_capacity}
-use Rattle.byte_nfa.specs.Runs.{size, AcceptsFrom}
-use Rattle.byte_nfa.specs.Steps.{state, Accepts}
+use Rattle.std.proofs.Common.{[], true≢false, sym, refl, subst, append-nil}
+use Rattle.std.specs.Prelude.{◌↔◌}
+use Rattle.byte_nfa.specs.Runs.{AcceptsFrom}
 use Rattle.byte_nfa.proofs.lemmas.Pass.{iff_trans}
-use Rattle.lazy_dfa.proofs.lemmas.After.{index_below, live_finds, some_after}
-use Rattle.lazy_dfa.proofs.lemmas.Finding.{iff_beside, at_quiet, at_dead, told_found, some_last, some_same, visits_more, visits_within, visits_before}
-use Rattle.lazy_dfa.proofs.lemmas.Lists.{iff_sym}
+use Rattle.lazy_dfa.proofs.lemmas.After.{index_below}
+use Rattle.lazy_dfa.proofs.lemmas.Finding.{some_last, some_same}
 use Rattle.lazy_dfa.proofs.lemmas.Stepping.{below_all}
 use Rattle.lazy_dfa.specs.inner.Sources.{half}
 use Rattle.lazy_dfa.specs.inner.Rows.{FindsBy}

@@ -1,14 +1,13 @@
-use Rattle.std.proofs.Common.{◌≡◌, ℕ, ◌+◌, ◌<◌, ◌≤◌, [], ◌∷◌, ◌⊎◌, inl, inr, Some, IsTrue, false, true≢false, arith, sym, ◌∙◌, refl, ap}
-use Rattle.std.specs.Prelude.{◌↔◌, ◌||◌}
+use Rattle.std.proofs.Common.{◌≡◌, ◌+◌, ◌<◌, ◌≤◌, [], ◌∷◌, ◌⊎◌, inl, inr, Some, IsTrue, false, true≢false, arith, sym, ◌∙◌}
 use Rattle.std.proofs.Math.Logic.{⊎_elim}
 use Rattle.bit_sets.specs.Indexes.{has_index}
 use Rattle.bit_sets.specs.StateSets.{has_state}
-use Rattle.byte_nfa.specs.Runs.{size, AcceptsFrom}
-use Rattle.byte_nfa.specs.Steps.{state, Accepts}
-use Rattle.byte_nfa.specs.inner.Pass.{goes_next, AcceptsNow}
-use Rattle.byte_nfa.proofs.lemmas.Pass.{iff_trans, or_first, or_second, or_none, none_swept, some_found, read_passed, read_taken, quiet_step, stays_at_end, names_none, next_position, last_position}
+use Rattle.byte_nfa.specs.Runs.{AcceptsFrom}
+use Rattle.byte_nfa.specs.Steps.{state}
+use Rattle.byte_nfa.specs.inner.Pass.{goes_next}
+use Rattle.byte_nfa.proofs.lemmas.Pass.{iff_trans, or_first, or_second, or_none, read_passed, read_taken, quiet_step, stays_at_end, names_none, next_position, last_position}
 use Rattle.lazy_dfa.proofs.lemmas.After.{index_below}
-use Rattle.lazy_dfa.proofs.lemmas.Stepping.{marks_it, marks_none, end_stays, taken_at, both_taken}
+use Rattle.lazy_dfa.proofs.lemmas.Stepping.{marks_it, marks_none, end_stays, taken_at}
 use Rattle.lazy_dfa.specs.inner.Sources.{half}
 use Rattle.lazy_dfa.proofs.stepping.step.Goals as goal
 

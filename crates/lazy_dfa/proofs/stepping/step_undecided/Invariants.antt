@@ -1,4 +1,4 @@
-use Rattle.std.proofs.Common.{◌≡◌, ℕ, ◌+◌, ◌<◌, ◌≤◌, [], ◌∷◌, List, false, IsTrue, IsFalse}
+use Rattle.std.proofs.Common.{◌≡◌, ℕ, ◌+◌, ◌≤◌, [], ◌∷◌, List, false, IsTrue, IsFalse}
 use Rattle.std.specs.Prelude.{◌↔◌}
 use Rattle.bit_sets.specs.StateSets.{has_state, state_capacity}
 use Rattle.byte_nfa.specs.Runs.{size, HasSome}

@@ -1,19 +1,15 @@
-use Rattle.std.proofs.Common.{◌≡◌, ℕ, ◌+◌, ◌-◌, ◌<◌, ◌≤◌, ◌==◌, [], ◌∷◌, ◌++◌, ◌⊎◌, inl, inr, Some, None, IsTrue, Bool, List, length, get_or, drop, false, true≢false, arith, sym, ◌∙◌, refl, ap, subst, append-nil}
+use Rattle.std.proofs.Common.{◌≡◌, ℕ, ◌+◌, ◌<◌, [], ◌⊎◌, inl, inr, None, IsTrue, false, arith, sym, ◌∙◌}
 use Rattle.std.specs.Prelude.{◌↔◌, ◌||◌}
 use Rattle.std.proofs.Math.Logic.{⊎_elim}
 use Rattle.std.proofs.lemmas.Bool.{cases_lt}
-use Rattle.std.proofs.lemmas.List.{drop_more, drop_all}
-use Rattle.std.proofs.lemmas.Nat.{mul-le}
 use Rattle.bit_sets.specs.Indexes.{has_index}
 use Rattle.bit_sets.specs.StateSets.{has_state}
-use Rattle.byte_nfa.specs.Runs.{size, AcceptsFrom}
-use Rattle.byte_nfa.specs.Steps.{state, Accepts}
-use Rattle.byte_nfa.specs.inner.Pass.{goes_next, names, AcceptsNow}
-use Rattle.byte_nfa.proofs.lemmas.Pass.{iff_trans, or_first, or_second, or_none, none_swept, some_found, read_passed, read_taken, quiet_step, stays_at_end, names_none, next_position, last_position}
-use Rattle.lazy_dfa.proofs.lemmas.After.{index_below, live_finds, some_after}
-use Rattle.lazy_dfa.proofs.lemmas.Finding.{iff_beside, at_no_byte, at_quiet, at_dead, told_found, some_last, some_same}
-use Rattle.lazy_dfa.proofs.lemmas.Lists.{iff_sym}
-use Rattle.lazy_dfa.proofs.lemmas.Stepping.{iff_both, marks_it, marks_none, ends_it, ends_below, end_stays, taken_at, both_taken}
+use Rattle.byte_nfa.specs.Runs.{AcceptsFrom}
+use Rattle.byte_nfa.specs.Steps.{state}
+use Rattle.byte_nfa.specs.inner.Pass.{names}
+use Rattle.byte_nfa.proofs.lemmas.Pass.{iff_trans, read_passed, stays_at_end, names_none, last_position}
+use Rattle.lazy_dfa.proofs.lemmas.Finding.{at_no_byte}
+use Rattle.lazy_dfa.proofs.lemmas.Stepping.{iff_both, ends_it, ends_below, both_taken}
 use Rattle.lazy_dfa.specs.inner.Sources.{half}
 use Rattle.lazy_dfa.specs.inner.Rows.{FindsBy}
 use Rattle.lazy_dfa.proofs.stepping.tell_ends.Goals as goal

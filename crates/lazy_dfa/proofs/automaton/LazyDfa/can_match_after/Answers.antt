@@ -4,7 +4,7 @@ use Rattle.byte_nfa.specs.Runs.{AcceptsFrom}
 use Rattle.byte_nfa.specs.Steps.{IsReached}
 use Rattle.byte_nfa.proofs.lemmas.Pass.{iff_trans}
 use Rattle.lazy_dfa.specs.inner.Sources.{half}
-use Rattle.lazy_dfa.proofs.lemmas.Finding.{iff_beside, finds_same, some_same, found_is}
+use Rattle.lazy_dfa.proofs.lemmas.Finding.{finds_same}
 use Rattle.lazy_dfa.proofs.lemmas.After.{after_is, some_after}
 use Rattle.lazy_dfa.proofs.automaton.LazyDfa.can_match_after.Goals as goal
 

@@ -1,11 +1,10 @@
-use Rattle.std.proofs.Common.{◌≡◌, ◌∷◌, ◌++◌, sym}
+use Rattle.std.proofs.Common.{◌≡◌, sym}
 use Rattle.bit_sets.proofs.lemmas.Texts.{all_bytes}
 use Rattle.byte_nfa.specs.Runs.{AcceptsFrom}
 use Rattle.byte_nfa.specs.Steps.{IsReached}
 use Rattle.byte_nfa.proofs.lemmas.Pass.{iff_trans}
 use Rattle.lazy_dfa.specs.inner.Sources.{half}
-use Rattle.lazy_dfa.proofs.lemmas.Finding.{iff_beside, finds_same, some_same, found_is}
-use Rattle.lazy_dfa.proofs.lemmas.After.{after_is, some_after}
+use Rattle.lazy_dfa.proofs.lemmas.Finding.{finds_same, some_same, found_is}
 use Rattle.lazy_dfa.proofs.automaton.LazyDfa.is_match.Goals as goal
 
 pub returns-clause-some : goal.returns-clause-some

@@ -1,9 +1,9 @@
-use Rattle.std.proofs.Common.{◌≡◌, ℕ, ◌+◌, ◌≤◌, ◌∷◌, ◌++◌, [], refl, arith}
+use Rattle.std.proofs.Common.{◌++◌, refl, arith}
 use Rattle.byte_nfa.proofs.lemmas.Pass.{iff_trans}
 use Rattle.byte_nfa.specs.Runs.{AcceptsFrom}
 use Rattle.lazy_dfa.specs.inner.Sources.{half}
 use Rattle.lazy_dfa.specs.inner.Rows.{AcceptsRow}
-use Rattle.lazy_dfa.proofs.lemmas.Finding.{iff_beside, finds_same}
+use Rattle.lazy_dfa.proofs.lemmas.Finding.{finds_same}
 use Rattle.lazy_dfa.proofs.lemmas.Rows.{same_sound}
 use Rattle.lazy_dfa.proofs.rows.Rows.read_stepped.Goals as goal
 
