@@ -127,6 +127,8 @@ impl Stored {
     /// Replaces the vector's items by the indexes, ascending, of the globs that are not excluded and match the path.
     ///
     /// Returns an error if memory runs out, and no other. The vector is then empty.
+    // It only forwards, and its caller then writes the error once.
+    #[inline(always)]
     pub fn find(
         &self,
         path: &Candidate<'_>,
@@ -157,6 +159,7 @@ impl Stored {
     /// Returns whether some glob that is not excluded matches the path.
     ///
     /// Returns an error if memory runs out, and no other.
+    #[inline(always)]
     pub fn is_match(
         &self,
         path: &Candidate<'_>,

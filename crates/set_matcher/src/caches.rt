@@ -30,7 +30,8 @@ pub struct Caches {
 }
 
 impl Drop for Caches {
-    // One call wherever a value is dropped, which keeps proofs short.
+    // One call wherever a value is dropped, which keeps proofs short. A plain call has no caches: nothing is left of it there.
+    #[inline(always)]
     fn drop(self) {
         let Caches {
             by_path: _,
@@ -76,6 +77,7 @@ pub(crate) struct SlotCaches {
 
 impl Drop for SlotCaches {
     // One call wherever a value is dropped, which keeps proofs short.
+    #[inline(always)]
     fn drop(self) {
         let SlotCaches { caches: _ } = self;
     }
