@@ -6,25 +6,27 @@ ghost use Rattle.globset.specs.GlobMatches.{glob_matches};
 use crate::column::{Columns, Escaped, Indexes, unescaped, unescaped_text, yes_or_no};
 use crate::fault::Fault;
 use globset::{
-    Candidate, Error, Glob, GlobBuilder, GlobMatcher, GlobSet, GlobSetBuilder, ValueError, escape,
+    Candidate, Error, Glob, GlobBuilder, GlobMatcher, GlobSet, GlobSetBuilder, MatcherSearcher,
+    ValueError, escape,
 };
 use serde_json::Value;
 use std::alloc::Global;
 use std::hash::{DefaultHasher, Hash, Hasher};
 
-/// A limit on the bytes of rows that leaves room for none: all automata are simulated.
-const FILTERED: usize = 1;
+/// The least limit on the bytes of rows under which an automaton has some. They are so few that runs forget them and make them
+/// again.
+const FEW_ROWS: usize = 1 << 14;
 
-/// The limit that asks for no rows: all automata are simulated, too.
-const SIMULATED: usize = 0;
+/// The limit under which no automaton has rows: texts are read by sets of states.
+const NO_ROWS: usize = 0;
 
 /// The globs that the rows of a case so far added, and sets of them: one under the default limit, and one under each other limit.
 pub struct Globs {
     alloc: Global,
     globs: Vec<Glob>,
     set: GlobSet,
-    filtered: GlobSet,
-    simulated: GlobSet,
+    few_rows: GlobSet,
+    no_rows: GlobSet,
 }
 
 impl Drop for Globs {
@@ -34,8 +36,8 @@ impl Drop for Globs {
             alloc: _,
             globs: _,
             set: _,
-            filtered: _,
-            simulated: _,
+            few_rows: _,
+            no_rows: _,
         } = self;
     }
 }
@@ -56,8 +58,8 @@ impl Globs {
             alloc,
             globs: Vec::new(alloc),
             set: GlobSet::empty(),
-            filtered: GlobSet::empty(),
-            simulated: GlobSet::empty(),
+            few_rows: GlobSet::empty(),
+            no_rows: GlobSet::empty(),
         }
     }
 
@@ -115,8 +117,8 @@ impl Globs {
 
     /// Makes the sets of the globs under the limits that are not the default.
     fn push_limited(&mut self) -> Result<(), Error> {
-        self.filtered = limited_set(self.alloc, &self.globs, FILTERED)?;
-        self.simulated = limited_set(self.alloc, &self.globs, SIMULATED)?;
+        self.few_rows = limited_set(self.alloc, &self.globs, FEW_ROWS)?;
+        self.no_rows = limited_set(self.alloc, &self.globs, NO_ROWS)?;
         Ok(())
     }
 
@@ -140,12 +142,12 @@ impl Globs {
 
     fn answers(&self, path: &Candidate<'_>, asked: Asked) -> Result<String, Fault> {
         let first = self.answer(&self.set, None, path, asked)?;
-        let filtered = self.answer(&self.filtered, Some(FILTERED), path, asked)?;
-        let simulated = self.answer(&self.simulated, Some(SIMULATED), path, asked)?;
-        if filtered == first && simulated == first {
+        let few_rows = self.answer(&self.few_rows, Some(FEW_ROWS), path, asked)?;
+        let no_rows = self.answer(&self.no_rows, Some(NO_ROWS), path, asked)?;
+        if few_rows == first && no_rows == first {
             return Ok(first);
         }
-        Ok(format!(in self.alloc; "{first}\t{filtered}\t{simulated}")?)
+        Ok(format!(in self.alloc; "{first}\t{few_rows}\t{no_rows}")?)
     }
 
     /// Returns what a set and matchers under a limit answer.
@@ -170,7 +172,7 @@ impl Globs {
     ) -> Result<Vec<usize>, Error> {
         let mut indexes = Vec::new(self.alloc);
         for (i, glob) in self.globs.iter().enumerate() {
-            if ask_under(limit, glob, path, asked)? {
+            if ask_under(self.alloc, limit, glob, path, asked)? {
                 indexes.push(i)?;
             }
         }
@@ -273,6 +275,7 @@ fn answer_of_set(
 
 /// Returns what a matcher of a glob under the default limit or another says about a path.
 fn ask_under(
+    alloc: Global,
     limit: Option<usize>,
     glob: &Glob,
     path: &Candidate<'_>,
@@ -281,7 +284,8 @@ fn ask_under(
     ensures path { asked ≡ Asked.Path → IfOk result (λ yes. yes ≡ glob_matches glob.now path.now) }
 {
     match limit {
-        Some(limit) => ask(&glob.compile_matcher_with_limit(limit)?, path, asked),
+        Some(NO_ROWS) => ask(&glob.compile_matcher_with_limit(NO_ROWS)?, path, asked),
+        Some(limit) => search(alloc, &glob.compile_matcher_with_limit(limit)?, path, asked),
         None => ask(&glob.compile_matcher()?, path, asked),
     }
 }
@@ -294,6 +298,24 @@ fn ask(matcher: &GlobMatcher, path: &Candidate<'_>, asked: Asked) -> Result<bool
         Asked::Path => matcher.is_match_candidate(path),
         Asked::Below => matcher.can_match_below_candidate(path),
     }
+}
+
+/// Returns what a searcher of a matcher says about a path. It has rows from its first path on, where the first calls on a matcher
+/// make none.
+fn search(
+    alloc: Global,
+    matcher: &GlobMatcher,
+    path: &Candidate<'_>,
+    asked: Asked,
+) -> Result<bool, Error>
+    ensures path { asked ≡ Asked.Path
+        → IfOk result (λ yes. yes ≡ glob_matches matcher.now path.now) }
+{
+    let mut searcher = MatcherSearcher::new(alloc, matcher)?;
+    Ok(match asked {
+        Asked::Path => searcher.is_match(path),
+        Asked::Below => searcher.can_match_below(path),
+    })
 }
 
 /// Returns the set of these globs under a limit.
