@@ -48,7 +48,7 @@ impl RulesBuilder {
         }
     }
 
-    /// Adds the rules of some lines, the first of which has the number 1. Returns an error if memory runs out, and no other.
+    /// Adds the rules of some lines, the first of which has the number 1. Returns an error only if memory runs out.
     pub fn push_lines(&mut self, alloc: Global, bytes: &[u8]) -> Result<(), Error>
         requires { AreEntriesOf [] self.old.globs.items self.old.entries.items }
         ensures rules { OnOk result
@@ -66,7 +66,7 @@ impl RulesBuilder {
         self.push_line(alloc, number, rest)
     }
 
-    /// Adds the rule of a line, if it has one. Returns an error if memory runs out, and no other.
+    /// Adds the rule of a line, if it has one. Returns an error only if memory runs out.
     fn push_line(&mut self, alloc: Global, number: usize, line: &[u8]) -> Result<(), Error>
         ensures rule { OnOk result
             (AddsRules (rule_at number (read_pattern line.now)) self.old.globs.items
@@ -79,7 +79,7 @@ impl RulesBuilder {
         }
     }
 
-    /// Adds a rule. Returns an error if memory runs out, and no other.
+    /// Adds a rule. Returns an error only if memory runs out.
     fn push_rule(&mut self, line: usize, pattern: IgnorePattern) -> Result<(), Error>
         ensures glob { OnOk result
             (self.new.globs.items ≡ self.old.globs.items ++ pattern.glob ∷ []) }
@@ -133,7 +133,7 @@ impl RulesBuilder {
     }
 }
 
-/// Returns the set of globs. Returns an error if memory runs out, and no other.
+/// Returns the set of globs. Returns an error only if memory runs out.
 pub fn set_of(alloc: Global, globs: Vec<Glob>) -> Result<GlobSet, Error>
     ensures globs { IfOk result (λ set. set_globs set ≡ globs.items) }
     ensures err { IsOkUnless result out_of_memory }

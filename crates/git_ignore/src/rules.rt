@@ -52,7 +52,7 @@ impl Rules {
     /// Reads an ignore file, given by its bytes. Each line has at most one rule. A line that git cannot read has none, nor has one
     /// that no glob can stand for, as one that is not UTF-8. That is no error: [`Rules::unread_lines`] returns its number.
     ///
-    /// Returns an error if memory runs out, and no other.
+    /// Returns an error only if memory runs out.
     pub fn new(alloc: Global, file: &[u8]) -> Result<Rules, Error>
         ensures file { IfOk result (λ r. r.file ≡ file.now) }
         ensures err { IsOkUnless result out_of_memory }
@@ -90,7 +90,7 @@ impl Rules {
         line_by(self.last_entry(path, is_folder, scratch))
     }
 
-    /// The same as [`Rules::decide`], with a scratch of its own. Returns an error if memory runs out, and no other.
+    /// The same as [`Rules::decide`], with a scratch of its own. Returns an error only if memory runs out.
     pub fn decide_once(&self, path: &[u8], is_folder: bool) -> Result<Decision, Error>
         ensures decision { IfOk result (λ d. d ≡ decision self.now.file path.now is_folder) }
         ensures err { IsOkUnless result out_of_memory }
@@ -99,7 +99,7 @@ impl Rules {
         Ok(self.decide(path, is_folder, &mut scratch))
     }
 
-    /// The same as [`Rules::deciding_line`], with a scratch of its own. Returns an error if memory runs out, and no other.
+    /// The same as [`Rules::deciding_line`], with a scratch of its own. Returns an error only if memory runs out.
     pub fn deciding_line_once(&self, path: &[u8], is_folder: bool) -> Result<Option<usize>, Error>
         ensures line { IfOk result (λ n. n ≡ deciding_line self.now.file path.now is_folder) }
         ensures err { IsOkUnless result out_of_memory }

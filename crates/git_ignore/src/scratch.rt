@@ -42,7 +42,7 @@ impl Model for IgnoreScratch {
 }
 
 impl IgnoreScratch {
-    /// Returns a scratch that fits the rules. Returns an error if memory runs out, and no other.
+    /// Returns a scratch that fits the rules. Returns an error only if memory runs out.
     pub fn new(alloc: Global, rules: &Rules) -> Result<IgnoreScratch, Error>
         ensures fits { IfOk result (λ s. FitsRules s rules.now) }
         ensures err { IsOkUnless result out_of_memory }
@@ -81,7 +81,7 @@ impl IgnoreScratch {
 
     /// Makes the scratch fit more rules. It takes no memory if it fits them already.
     ///
-    /// Returns an error if memory runs out, and no other; the scratch then fits what it fitted before.
+    /// Returns an error only if memory runs out; the scratch then fits what it fitted before.
     pub fn fit(&mut self, rules: &Rules) -> Result<(), Error>
         ensures fits { OnOk result (FitsRules self.new rules.now) }
         ensures others { FitsAsBefore self.old self.new }

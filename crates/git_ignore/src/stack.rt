@@ -79,7 +79,7 @@ impl Model for IgnoreStack {
 }
 
 impl IgnoreStack {
-    /// Returns a walk in its top folder, which has no ignore files yet. Returns an error if memory runs out, and no other.
+    /// Returns a walk in its top folder, which has no ignore files yet. Returns an error only if memory runs out.
     pub fn new(alloc: Global) -> Result<IgnoreStack, Error>
         ensures top { IfOk result (λ s. s ≡ at_top) }
         ensures err { IsOkUnless result out_of_memory }
@@ -114,7 +114,7 @@ impl IgnoreStack {
     /// A searcher of its rules is made first, and dropped if it takes more than there is room for. With automata it takes
     /// mostly more than 4 MiB, so one file of the stack has such a searcher at a time.
     ///
-    /// Returns an error if memory runs out, and no other; nothing changed then.
+    /// Returns an error only if memory runs out; nothing changed then.
     pub fn add_file(&mut self, file: &[u8]) -> Result<(), Error>
         ensures added { OnOk result (self.new ≡ with_file self.old file.now) }
         ensures kept { OnErr result (self.new ≡ self.old) }
@@ -134,7 +134,7 @@ impl IgnoreStack {
 
     /// Goes down into a folder of this name. If it is ignored, its ignore files need not be added.
     ///
-    /// Returns an error if memory runs out, and no other; nothing changed then.
+    /// Returns an error only if memory runs out; nothing changed then.
     pub fn enter(&mut self, name: &[u8]) -> Result<(), Error>
         ensures entered { OnOk result (self.new ≡ entered self.old name.now) }
         ensures kept { OnErr result (self.new ≡ self.old) }

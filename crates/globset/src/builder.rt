@@ -89,7 +89,7 @@ impl GlobSetBuilder {
 
     /// Adds a glob after the others, and returns the builder, so that calls can be chained.
     ///
-    /// Returns an error if memory runs out, and no other. The builder then has the globs that it had before the call,
+    /// Returns an error only if memory runs out. The builder then has the globs that it had before the call,
     /// and the new glob is dropped. [`GlobSetBuilder::push`] does the same, for code that goes on after an error.
     pub fn add(&mut self, glob: Glob) -> Result<&mut GlobSetBuilder, Error>
         ensures* lends { sem 𝓛 (LendsItself self.entry result) }
@@ -105,7 +105,7 @@ impl GlobSetBuilder {
 
     /// Adds a glob after the others, as [`GlobSetBuilder::add`] does, which calls it, and returns no reference to the builder.
     ///
-    /// Returns an error if memory runs out, and no other. The builder then has the globs that it had before the call, and more
+    /// Returns an error only if memory runs out. The builder then has the globs that it had before the call, and more
     /// globs can be added to it; the new glob is dropped.
     ///
     /// ```rust
@@ -135,7 +135,7 @@ impl GlobSetBuilder {
     /// Keys and states take time and memory linear in the texts of the globs, except that some of these are sorted. Rows of
     /// automata are made by calls that match.
     ///
-    /// Returns an error if memory runs out, and no other.
+    /// Returns an error only if memory runs out.
     pub fn build(&self) -> Result<GlobSet, Error>
         ensures ok { IfOk result (λ s. set_globs s ≡ builder_globs self.now) }
         ensures err { IsOkUnless result out_of_memory }
@@ -148,7 +148,7 @@ impl GlobSetBuilder {
     ///
     /// It takes time and memory as [`GlobSetBuilder::build`] does, and gives the memory of the globs back.
     ///
-    /// Returns an error if memory runs out, and no other. The builder then has the globs that it had before the call.
+    /// Returns an error only if memory runs out. The builder then has the globs that it had before the call.
     ///
     /// ```rust
     /// use globset::{Glob, GlobSetBuilder};
@@ -175,7 +175,7 @@ impl GlobSetBuilder {
     /// Returns the set of the globs that were added, in order, and drops each glob once the set has what it needs of it. It
     /// takes less memory than [`GlobSetBuilder::build`], which needs all of the globs beside the set, and as much time.
     ///
-    /// Returns an error if memory runs out, and no other. The globs are dropped then, too.
+    /// Returns an error only if memory runs out. The globs are dropped then, too.
     ///
     /// ```rust
     /// use globset::{Glob, GlobSetBuilder};
@@ -196,7 +196,7 @@ impl GlobSetBuilder {
         GlobSet::of_globs(*pats.allocator(), dfa_size_limit, pats)
     }
 
-    /// Returns a builder of equal globs and the same limit, with memory of its own. Returns an error if memory runs out, and no other.
+    /// Returns a builder of equal globs and the same limit, with memory of its own. Returns an error only if memory runs out.
     pub fn clone(&self) -> Result<GlobSetBuilder, Error>
         ensures ok { IfOk result (λ b. b ≡ self.now) }
         ensures err { IsOkUnless result out_of_memory }

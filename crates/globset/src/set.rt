@@ -127,7 +127,7 @@ impl GlobSet {
     /// automata are made by calls that match, and those that the set keeps take at most 16 MiB
     /// ([`DEFAULT_DFA_SIZE_LIMIT`](crate::DEFAULT_DFA_SIZE_LIMIT)). [`GlobSetBuilder::dfa_size_limit`] sets another limit.
     ///
-    /// Returns an error if memory runs out, and no other.
+    /// Returns an error only if memory runs out.
     pub fn new<'g, I: IntoIterator<Item = &'g Glob>>(
         alloc: Global,
         globs: I,

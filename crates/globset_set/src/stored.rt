@@ -126,7 +126,7 @@ impl Stored {
 
     /// Replaces the vector's items by the indexes, ascending, of the globs that are not excluded and match the path.
     ///
-    /// Returns an error if memory runs out, and no other. The vector is then empty.
+    /// Returns an error only if memory runs out. The vector is then empty.
     // It only forwards, and its caller then writes the error once.
     #[inline(always)]
     pub fn find(
@@ -158,7 +158,7 @@ impl Stored {
 
     /// Returns whether some glob that is not excluded matches the path.
     ///
-    /// Returns an error if memory runs out, and no other.
+    /// Returns an error only if memory runs out.
     #[inline(always)]
     pub fn is_match(
         &self,
@@ -186,7 +186,7 @@ impl Stored {
 
     /// Returns whether some glob that is not excluded matches some path below a folder.
     ///
-    /// Returns an error if memory runs out, and no other.
+    /// Returns an error only if memory runs out.
     pub fn can_match_below(
         &self,
         folder: &Candidate<'_>,
@@ -215,7 +215,7 @@ impl Stored {
 
     /// Returns whether every glob matches the path and none is excluded.
     ///
-    /// Returns an error if memory runs out, and no other.
+    /// Returns an error only if memory runs out.
     pub fn matches_all(
         &self,
         path: &Candidate<'_>,

@@ -15,7 +15,7 @@ impl GlobSet {
     /// Returns whether every glob matches the path and none is excluded: whether [`GlobSet::matches`] would return every
     /// index below [`GlobSet::len`]. It is true if the set has no globs.
     ///
-    /// Returns an error if memory runs out, and no other. It needs no memory if no glob needs an automaton for
+    /// Returns an error only if memory runs out. It needs no memory if no glob needs an automaton for
     /// the path: if each of them is direct, or requires an extension that the path lacks.
     pub fn matches_all<P: AsPath>(&self, path: P) -> Result<bool, Error>
         ensures ok { IfOk result
@@ -32,7 +32,7 @@ impl GlobSet {
 
     /// Returns whether every glob matches the candidate's path and none is excluded, as [`GlobSet::matches_all`] does.
     ///
-    /// Returns an error if memory runs out, and no other. It needs no memory if no glob needs an automaton for
+    /// Returns an error only if memory runs out. It needs no memory if no glob needs an automaton for
     /// the path: if each of them is direct, or requires an extension that the path lacks.
     pub fn matches_all_candidate(&self, path: &Candidate<'_>) -> Result<bool, Error>
         ensures ok { IfOk result
@@ -55,7 +55,7 @@ impl GlobSet {
     /// If one of these has states, the call takes a bit of memory for each glob, and two for each state of one that is
     /// simulated.
     ///
-    /// Returns an error if memory runs out, and no other. It needs no memory if no glob needs an automaton for the path: if
+    /// Returns an error only if memory runs out. It needs no memory if no glob needs an automaton for the path: if
     /// each of them is direct, or requires an extension that the path lacks.
     pub fn matches_all_visits(
         &self,

@@ -17,7 +17,7 @@ impl GlobSet {
     /// To match several sets against one path, or against bytes that are not UTF-8, create a [`Candidate`] and call
     /// [`GlobSet::is_match_candidate`].
     ///
-    /// Returns an error if memory runs out, and no other. It needs no memory if no glob needs an automaton for
+    /// Returns an error only if memory runs out. It needs no memory if no glob needs an automaton for
     /// the path: if each of them is direct, or requires an extension that the path lacks.
     pub fn is_match<P: AsPath>(&self, path: P) -> Result<bool, Error>
         ensures ok { IfOk result
@@ -32,7 +32,7 @@ impl GlobSet {
 
     /// Returns whether some glob that is not excluded matches the candidate's path, as [`GlobSet::is_match`] does.
     ///
-    /// Returns an error if memory runs out, and no other. It needs no memory if no glob needs an automaton for
+    /// Returns an error only if memory runs out. It needs no memory if no glob needs an automaton for
     /// the path: if each of them is direct, or requires an extension that the path lacks.
     pub fn is_match_candidate(&self, path: &Candidate<'_>) -> Result<bool, Error>
         ensures ok { IfOk result
@@ -52,7 +52,7 @@ impl GlobSet {
     /// no globs. It looks up the path and its parts in four tables and two tries, and runs at most three automata, each once.
     /// Those that are simulated take two bits of memory for each state.
     ///
-    /// Returns an error if memory runs out, and no other. It needs no memory if no glob needs an automaton for the path: if
+    /// Returns an error only if memory runs out. It needs no memory if no glob needs an automaton for the path: if
     /// each of them is direct, or requires an extension that the path lacks.
     pub fn is_match_visits(&self, path: &Candidate<'_>, visits: &mut Visits) -> Result<bool, Error>
         ensures ok { IfOk result

@@ -21,7 +21,7 @@ impl GlobSet {
     /// To ask several sets, or about bytes that are not UTF-8, create a [`Candidate`] and call
     /// [`GlobSet::can_match_below_candidate`]. A walk makes a [`Scratch`] once and calls [`GlobSet::can_match_below_with`].
     ///
-    /// Returns an error if memory runs out, and no other. It needs no memory if each glob is direct.
+    /// Returns an error only if memory runs out. It needs no memory if each glob is direct.
     ///
     /// ```rust
     /// use globset::{Glob, GlobSet};
@@ -44,7 +44,7 @@ impl GlobSet {
     /// Returns whether some glob that is not excluded matches some path below the candidate's path, as
     /// [`GlobSet::can_match_below`] does.
     ///
-    /// Returns an error if memory runs out, and no other. It needs no memory if each glob is direct.
+    /// Returns an error only if memory runs out. It needs no memory if each glob is direct.
     pub fn can_match_below_candidate(&self, folder: &Candidate<'_>) -> Result<bool, Error>
         ensures ok { IfOk result
             (λ yes. IsTrue yes ↔ MatchesBelow (set_globs self.now) folder.now) }
@@ -62,7 +62,7 @@ impl GlobSet {
     /// direct (`16 * glob bytes + 4` under `whole_character`), also if memory runs out; and none if the set has no globs. The
     /// automata of all extensions may be run, each once. Those that are simulated take two bits of memory for each state.
     ///
-    /// Returns an error if memory runs out, and no other. It needs no memory if each glob is direct.
+    /// Returns an error only if memory runs out. It needs no memory if each glob is direct.
     pub fn can_match_below_visits(
         &self,
         folder: &Candidate<'_>,

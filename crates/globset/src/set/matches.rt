@@ -14,7 +14,7 @@ use std::alloc::Global;
 impl GlobSet {
     /// Returns the indexes, ascending, of the globs that match the path. Excluded globs are left out.
     ///
-    /// Returns an error if memory runs out, and no other. It needs no memory if the set has no globs.
+    /// Returns an error only if memory runs out. It needs no memory if the set has no globs.
     pub fn matches<P: AsPath>(&self, alloc: Global, path: P) -> Result<Vec<usize>, Error>
         ensures ok { IfOk result
             (λ v. v.items ≡ matching_indexes (set_globs self.now) (P.text path)) }
@@ -26,7 +26,7 @@ impl GlobSet {
 
     /// Returns the indexes, ascending, of the globs that match the candidate's path. Excluded globs are left out.
     ///
-    /// Returns an error if memory runs out, and no other. It needs no memory if the set has no globs.
+    /// Returns an error only if memory runs out. It needs no memory if the set has no globs.
     pub fn matches_candidate(
         &self,
         alloc: Global,
@@ -55,7 +55,7 @@ impl GlobSet {
     /// assert!(rt; indexes.is_empty());
     /// ```
     ///
-    /// Returns an error if memory runs out, and no other; the vector is then empty. It needs no memory if the set has no globs.
+    /// Returns an error only if memory runs out; the vector is then empty. It needs no memory if the set has no globs.
     pub fn matches_into<P: AsPath>(&self, path: P, into: &mut Vec<usize>) -> Result<(), Error>
         ensures ok { OnOk result
             (into.new.items ≡ matching_indexes (set_globs self.now) (P.text path)) }
@@ -69,7 +69,7 @@ impl GlobSet {
     /// Replaces the vector's items by the indexes that [`GlobSet::matches_candidate`] returns. The vector's capacity is
     /// reused.
     ///
-    /// Returns an error if memory runs out, and no other; the vector is then empty. It needs no memory if the set has no globs.
+    /// Returns an error only if memory runs out; the vector is then empty. It needs no memory if the set has no globs.
     pub fn matches_candidate_into(
         &self,
         path: &Candidate<'_>,
@@ -92,7 +92,7 @@ impl GlobSet {
     /// The call takes a bit of memory for each glob, and two for each state of an automaton that is simulated. The vector grows
     /// for the indexes.
     ///
-    /// Returns an error if memory runs out, and no other; the vector is then empty. It needs no memory if the set has no globs.
+    /// Returns an error only if memory runs out; the vector is then empty. It needs no memory if the set has no globs.
     pub fn matches_visits(
         &self,
         path: &Candidate<'_>,

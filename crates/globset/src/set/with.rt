@@ -92,7 +92,7 @@ impl GlobSet {
     /// The scratch has to fit the set. It then fits each set that it fitted before, after an error too. The bound on the visits is
     /// that of [`GlobSet::matches_visits`].
     ///
-    /// Returns an error if memory runs out, and no other; the vector is then empty. It needs no memory if the vector has a capacity
+    /// Returns an error only if memory runs out; the vector is then empty. It needs no memory if the vector has a capacity
     /// of [`GlobSet::len`]. The capacity never shrinks, so that later calls need none either.
     pub fn matches_into_with(
         &self,
