@@ -64,7 +64,7 @@ pub trait NeedsScratch {
 pub struct Scratch {
     states: usize,
     indexes: usize,
-    /// The states that a simulated automaton is in, for the calls that match.
+    /// The states that an automaton is in that is stepped, for the calls that match.
     pub sets: StateSets,
     /// The indexes that are found, which are marked here, for the calls that match.
     pub marks: IndexSet,

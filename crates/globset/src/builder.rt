@@ -64,7 +64,7 @@ impl GlobSetBuilder {
     /// take two bits of memory for each of its states.
     ///
     /// The limit counts all that rows take: their entries, their lists of states, and the table by which they are found. A cache
-    /// has room for four rows also where its part of the limit has not. But for such caches, those of a searcher take together at
+    /// has room for one row also where its part of the limit has not. But for such caches, those of a searcher take together at
     /// most 8 MiB, whatever the limit is.
     ///
     /// With 0 there are no rows, and the set keeps no memory between calls. That is best for few paths. Memory beside the rows

@@ -74,7 +74,7 @@ impl Searcher {
     /// Returns a searcher of the set, which shares what the set matches with. It takes eight bytes of memory for each glob, and
     /// as much as a [`Scratch`] for the set. If the set has automata, it takes memory for rows that it keeps from one path to
     /// the next: up to a quarter of the limit that [`GlobSetBuilder::dfa_size_limit`](crate::GlobSetBuilder::dfa_size_limit)
-    /// sets, 4 MiB by default and 8 MiB at most, and more where automata have so many states that four rows do not fit.
+    /// sets, 4 MiB by default and 8 MiB at most, and more where automata have so many states that one row does not fit.
     ///
     /// Returns an error if memory runs out or 2^63 sets share it, and in no other case.
     pub fn new(alloc: Global, set: &GlobSet) -> Result<Searcher, Error>

@@ -159,7 +159,7 @@ impl Glob {
     /// bytes between calls. Returns an error if memory runs out.
     ///
     /// The limit is for memory and time, and changes no answer. It counts all that rows take: their entries, their lists of
-    /// states, and the table by which they are found. A cache has room for four rows also where its quarter of the limit has
+    /// states, and the table by which they are found. A cache has room for one row also where its quarter of the limit has
     /// not. Under a limit of less than 16 KiB there are no rows: each byte of a path takes as many steps as the automaton is in
     /// states, and the calls without a scratch take memory for each path. A glob whose literals decide alone has no automaton,
     /// whatever the limit is. The limit of [`Glob::compile_matcher`] is [`DEFAULT_DFA_SIZE_LIMIT`].

@@ -18,7 +18,7 @@ use std::alloc::Global;
 use std::marker::Model;
 
 /// What a set stores, with all the memory that one thread needs to match with it: its calls take none, and cannot fail. Automata keep
-/// rows from one path to the next, so that few have to be simulated. Contracts see what they see of the set.
+/// rows from one path to the next, so that few have to be made. Contracts see what they see of the set.
 pub struct StoredSearcher {
     stored: Stored,
     scratch: Scratch,

@@ -18,10 +18,10 @@ use std::alloc::{AllocError, Global};
 use std::marker::Model;
 use std::snapshot::Snapshot;
 
-/// A deterministic automaton without its rows, which a [`Cache`](crate::Cache) makes.
+/// An automaton as it is run. A [`Cache`](crate::Cache) makes its rows.
 pub struct LazyDfa {
-    /// The automaton with an end in place of each state that decides an index. So an index that is decided is found once, and then
-    /// takes no state any more.
+    /// The automaton with an end in place of each state that decides an index. So an index that is decided takes no state any more,
+    /// but for those from which it is decided again.
     pub(crate) automaton: Nfa,
     pub(crate) classes: ByteClasses,
     /// The states from which some bytes lead to an end.

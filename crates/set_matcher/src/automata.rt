@@ -27,8 +27,8 @@ use glob_matching::Compiled;
 use glob_nfa::{add_tokens, new_builder};
 use glob_path::PathParts;
 use glob_syntax::{Options, Token};
-use matchers::{ExtensionMatchers, ExtensionMatchersBuilder};
 use lazy_dfa::StateSets;
+use matchers::{ExtensionMatchers, ExtensionMatchersBuilder};
 use std::alloc::{AllocError, Global};
 use std::marker::Model;
 
@@ -116,7 +116,7 @@ impl Automata {
     /// Returns whether an automaton has to be run, and if so, marks the indexes of the globs that match the path, and no others. If
     /// not, no glob matches, and the sets stay as they are.
     ///
-    /// The sets get room for each index, and for each state of an automaton that is simulated. Returns an error if memory runs out.
+    /// The sets get room for each index, and for each state of an automaton that is stepped. Returns an error if memory runs out.
     pub fn find(
         &self,
         path: &PathParts<'_>,
@@ -171,7 +171,7 @@ impl Automata {
 
     /// Returns whether some glob matches the path.
     ///
-    /// The sets get room for each state of an automaton that is simulated. Returns an error if memory runs out.
+    /// The sets get room for each state of an automaton that is stepped. Returns an error if memory runs out.
     pub fn is_match(
         &self,
         path: &PathParts<'_>,

@@ -15,7 +15,7 @@ use std::alloc::AllocError;
 impl SetMatcher {
     /// Returns whether some glob that is not excluded matches some path below a folder: the folder, a `/`, and any bytes, perhaps none.
     ///
-    /// The scratch gets room for each state of an automaton that is simulated. Returns an error if memory runs out, and so none if it
+    /// The scratch gets room for each state of an automaton that is stepped. Returns an error if memory runs out, and so none if it
     /// has that room, or if each glob is direct.
     pub fn can_match_below(
         &self,

@@ -62,7 +62,7 @@ impl SetMatcher {
 
     /// Replaces the vector's items by the indexes, ascending, of the globs that are not excluded and match the path.
     ///
-    /// The scratch gets room for each index, and for each state of an automaton that is simulated; the vector grows for the indexes.
+    /// The scratch gets room for each index, and for each state of an automaton that is stepped; the vector grows for the indexes.
     /// Returns an error if memory runs out, and so none if it has that room and the vector a capacity for all indexes. After an
     /// error the vector is empty.
     pub fn find(
@@ -110,7 +110,7 @@ impl SetMatcher {
 
     /// Returns whether some glob that is not excluded matches the path.
     ///
-    /// The scratch gets room for each state of an automaton that is simulated. Returns an error if memory runs out, and so none if it
+    /// The scratch gets room for each state of an automaton that is stepped. Returns an error if memory runs out, and so none if it
     /// has that room, or if no glob needs an automaton for the path.
     pub fn is_match(
         &self,
@@ -141,7 +141,7 @@ impl SetMatcher {
 
     /// Returns whether every glob matches the path and none is excluded.
     ///
-    /// If an automaton has to be run, the scratch gets room for each index, and for each state of an automaton that is simulated.
+    /// If an automaton has to be run, the scratch gets room for each index, and for each state of an automaton that is stepped.
     /// Returns an error if memory runs out, and so none if it has that room, or if no glob needs an automaton for the path.
     pub fn matches_all(
         &self,

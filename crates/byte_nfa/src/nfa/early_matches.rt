@@ -12,8 +12,8 @@ use std::alloc::AllocError;
 impl Nfa {
     /// Returns the automaton in which each state that decides an index `k` is an end, of the index `index_count + k`.
     ///
-    /// A state decides an index if it stays on every byte and goes on to an end of that index alone, or to a state that decides it. A text leads to an end
-    /// of the index exactly if in the new automaton it does, or some beginning of it leads to an end of the index
+    /// A state decides an index if it stays on every byte and goes on to an end of that index alone, or to a state that decides it. A
+    /// text leads to an end of the index exactly if in the new automaton it does, or some beginning of it leads to an end of the index
     /// `index_count + k`. Returns `None` if twice as many indexes are too many for a `usize`, and an error if memory runs out.
     pub fn with_early_matches(&self) -> Result<Option<Nfa>, AllocError>
         ensures { IfOk result

@@ -60,7 +60,7 @@ impl GlobSet {
     ///
     /// It adds at most `4 + 2 * (folder bytes + 2)`, and `folder bytes + 2` times `4 * glob bytes + 4` for each glob that is not
     /// direct (`16 * glob bytes + 4` under `whole_character`), also if memory runs out; and none if the set has no globs. The
-    /// automata of all extensions may be run, each once. Those that are simulated take two bits of memory for each state.
+    /// automata of all extensions may be run, each once. Those that are stepped take two bits of memory for each state.
     ///
     /// Returns an error only if memory runs out. It needs no memory if each glob is direct.
     pub fn can_match_below_visits(

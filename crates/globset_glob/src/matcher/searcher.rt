@@ -72,7 +72,7 @@ impl MatcherSearcher {
     /// bits of memory for each state of this: at most 8 bits for each byte of the glob's text and 8 more, or four times as much
     /// under `whole_character`. For rows that it keeps from one path to the next it takes a quarter of the matcher's limit
     /// ([`Glob::compile_matcher_with_limit`](crate::Glob::compile_matcher_with_limit)), so 4 MiB by default, and at most 8 MiB,
-    /// and more where the automaton has so many states that four rows do not fit.
+    /// and more where the automaton has so many states that one row does not fit.
     ///
     /// Returns an error if memory runs out or 2^63 matchers share the automaton, and in no other case.
     pub fn new(alloc: Global, matcher: &GlobMatcher) -> Result<MatcherSearcher, Error>

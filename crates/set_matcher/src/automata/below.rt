@@ -18,7 +18,7 @@ impl Automata {
     ///
     /// A path below the folder may have any last component, so no automaton is run for that. It may have any extension, so the
     /// automata of all extensions are run over the folder. Each is run by the rows of its cache if there is one. The
-    /// sets get room for each state of an automaton that is simulated. Returns an error if memory runs out.
+    /// sets get room for each state of an automaton that is stepped. Returns an error if memory runs out.
     pub fn can_match_below(
         &self,
         folder: &[u8],
