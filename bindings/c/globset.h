@@ -141,10 +141,11 @@ GLOBSET_CHECKED int globset_set_new(const char *const *texts, const size_t *leng
 size_t globset_set_length(const globset_set *set);
 
 /* Returns whether some glob of the set matches the path. A glob that is read as `**` followed by `/..` matches no path
- * in a set. Any number of threads may ask one set. The call takes memory if it runs an automaton that has no table, so
- * it may end in GLOBSET_ENOMEM. It gives the memory back, but for rows of these automata, which the set keeps for
- * later calls until it is freed: at most four caches of each, and of all at most twice the bytes of the limit of its
- * tables. A program whose questions must not fail, or which asks which globs match, makes a searcher. */
+ * in a set. Any number of threads may ask one set. The call allocates memory if it needs an automaton, so it may end in
+ * GLOBSET_ENOMEM. It frees that memory, except for rows of its automata, which the set keeps for later calls until it
+ * is freed: at most four caches for each automaton, and for all of them at most the bytes of
+ * globset_builder_set_dfa_size_limit. A program whose calls must not fail, or which needs to know which globs match,
+ * makes a searcher. */
 GLOBSET_CHECKED int globset_set_is_match(const globset_set *set, const char *path, size_t length);
 
 void globset_set_free(globset_set *set);

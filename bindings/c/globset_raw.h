@@ -19,10 +19,10 @@
  *  - A work is the memory that one thread matches with. It serves any number of sets and matchers, and grows with them.
  *    It belongs to one thread at a time. A *plain* call, whose name ends in `_plain`, is passed no work: it takes what
  *    memory it needs, and gives it back.
- *  - A set and a matcher keep caches of rows between calls, until they are freed, for automata that have no table: at
- *    most four for each. Plain calls make them, but for the first two that would use one. A call that grows a work
- *    makes one for each automaton that has none, as far as there is memory. A call with a work that fits makes none,
- *    and uses those that are there. A searcher has rows of its own.
+ *  - A set and a matcher keep caches of rows between calls, until they are freed: at most four for each automaton.
+ *    Plain calls make them, except the first two that would use one. A call that grows a work makes one for each
+ *    automaton that has none, as far as there is memory. A call with a work that fits makes none, and uses those that
+ *    are there. A searcher has rows of its own.
  *  - A searcher is a set with all the memory that one thread matches with. It shares what the set matches with, and so
  *    may be used after the set was freed. It belongs to one thread at a time, and several threads make a searcher each.
  *    A question about one path takes no memory and cannot fail. A program that asks a set about many paths asks a

@@ -1,4 +1,4 @@
-/* Plain calls: what each answers, and eight threads that ask one set whose automaton has no table. Each
+/* Plain calls: what each answers, and eight threads that ask one set, which needs an automaton. Each
  * thread compares with a searcher of its own. They make so many calls that caches of rows are published. It is run
  * without thread sanitizers, as rows.c. */
 #include "raw.h"
