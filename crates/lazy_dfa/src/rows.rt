@@ -193,8 +193,8 @@ impl Rows {
         self.seed != 0
     }
 
-    /// Returns whether rows were forgotten twice since as many times as this. Then each row is made for few bytes, which is slower than
-    /// to step over states.
+    /// Returns whether rows were forgotten at least twice since the seed was this one. Where most bytes need a new row, to make it takes
+    /// longer than to step over states.
     pub fn gives_up_since(&self, seed: usize) -> bool {
         self.seed.wrapping_sub(seed) >= 2
     }
