@@ -7,7 +7,7 @@ import subprocess
 import sys
 
 HERE = os.path.dirname(os.path.abspath(__file__))
-TOP = os.path.dirname(HERE)
+TOP = os.path.dirname(os.path.dirname(HERE))
 OUT = os.path.join(HERE, "out")
 INSTALLED_CRATES = "/usr/share/cargo/registry"
 
