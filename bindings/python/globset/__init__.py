@@ -19,14 +19,14 @@ Pattern    Matches
 ========== ====================================================================
 ``?``      any one byte; under ``whole_character`` any one character in UTF-8
 ``*``      any bytes, or none; ``/`` too, unless ``literal_separator`` is set
-``**/``    at the start: any folders, or none
-``/**``    at the end: everything in a folder
-``/**/``   a ``/``, and any folders after it
+``**/``    at the start: any directories, or none
+``/**``    at the end: everything in a directory
+``/**/``   a ``/``, and any directories after it
 ``**``     alone: every path
-``{a,b}``  ``a`` or ``b``, which are patterns themselves; braces nest
-``[ab]``   one byte of the class, as does ``[a-z]``
-``[!ab]``  one byte that is not in the class, as does ``[^ab]``
-``\\*``     the character after ``\\``, taken literally
+``{a,b}``  ``a`` or ``b``, which are globs; braces nest
+``[ab]``   one byte of the class; so does ``[a-z]``
+``[!ab]``  one byte that is not in the class; so does ``[^ab]``
+``\\``      the character after it
 ========== ====================================================================
 
 All objects may be used by several threads at the same time. Calls about many paths release the interpreter's lock while they

@@ -2,7 +2,7 @@
 //!
 //! This is the crate globset 0.4.21 in names, traits and errors. What it does is done by a C library whose code is written in
 //! Rattle, Rust with contracts, and proved: for every set of globs and every path, a set answers what its globs say one by one,
-//! with the one exception that [`GlobSet`] names. A program that uses globset takes this crate by three lines in its
+//! with the one exception that [`GlobSet`] names. A program that uses globset takes this crate by two lines in its
 //! `Cargo.toml`, as `README.md` says.
 //!
 //! ```
@@ -23,14 +23,16 @@
 //!
 //! | In a glob | Matches |
 //! |---|---|
-//! | `?` | one byte |
-//! | `*` | any bytes, also none |
-//! | `**/` at the start | any folders, also none |
-//! | `/**/` | one `/`, or folders between two `/` |
-//! | `/**` at the end | a `/` and all that follows it |
-//! | `{a,b}` | what `a` or `b` matches; both are globs, which may have braces in them |
-//! | `[ab]`, `[a-z]` | one byte of the class; `[!ab]` and `[^ab]` one byte of the rest |
-//! | `\` and a character | that character |
+//! | `?` | any one byte |
+//! | `*` | any bytes, or none; also `/` |
+//! | `**/` at the start | any directories, or none |
+//! | `/**` at the end | everything in a directory |
+//! | `/**/` | a `/`, and any directories after it |
+//! | `**` alone | every path |
+//! | `{a,b}` | `a` or `b`, which are globs; braces nest |
+//! | `[ab]`, `[a-z]` | one byte of the class |
+//! | `[!ab]`, `[^ab]` | one byte that is not in the class |
+//! | `\` | the character after it |
 //!
 //! [`GlobBuilder`] has options that change this: whether letters match in both cases, whether `?` and `*` match `/`, and more.
 //! To match a special character as it is, put it into brackets, as [`escape`] does.

@@ -56,11 +56,11 @@
 //! |---|---|---|
 //! | `?` | any one byte | `a?c` matches `abc` and `a/c`, and not `ac` |
 //! | `*` | any bytes, or none | `*.c` matches `a.c`, `.c` and `src/a.c`, and not `a.c.orig` |
-//! | `**/` at the start | nothing, or bytes that end with `/` | `**/a` matches `a`, `x/y/a` and `/a`, and not `xa` |
-//! | `/**` at the end | bytes that begin with `/` | `a/**` matches `a/x/y` and `a/`, and not `a` |
-//! | `/**/` | `/`, or bytes that begin and end with `/` | `a/**/b` matches `a/b` and `a/x/y/b`, and not `a/xb` |
+//! | `**/` at the start | any directories, or none: nothing, or bytes that end with `/` | `**/a` matches `a`, `x/y/a` and `/a`, and not `xa` |
+//! | `/**` at the end | everything in a directory: bytes that begin with `/` | `a/**` matches `a/x/y` and `a/`, and not `a` |
+//! | `/**/` | a `/`, and any directories after it: `/`, or bytes that begin and end with `/` | `a/**/b` matches `a/b` and `a/x/y/b`, and not `a/xb` |
 //! | `**` or `**/` alone | every path | `**` matches `a`, `x/y` and `/` |
-//! | `{a,b}` | what `a` or `b` matches, which are globs | `*.{c,h}` matches `a.c` and `a.h`, and not `a.{c,h}` |
+//! | `{a,b}` | `a` or `b`, which are globs | `*.{c,h}` matches `a.c` and `a.h`, and not `a.{c,h}` |
 //! | `[ab]`, `[a-z]` | one byte of the class | `[a-c]x` matches `ax` and `bx`, and not `dx` |
 //! | `[!ab]`, `[^ab]` | one byte that is not in the class | `[!a-c]x` matches `dx` and `/x`, and not `ax` |
 //! | `\` | the character after it | `\*` matches `*`, and not `a` |
