@@ -70,6 +70,15 @@ impl Cache {
         self.rows.bytes()
     }
 
+    /// Takes over the rows that another cache has, if there is room for all of them. It takes no memory.
+    pub fn take_over(&mut self, dfa: &LazyDfa, other: &Cache)
+        requires same { dfa.now ≡ self.old }
+        requires other { other.now ≡ self.old }
+        ensures { self.new ≡ self.old }
+    {
+        self.rows.take_over(&dfa.automaton, &other.rows);
+    }
+
     /// Puts the index of each end that a text leads to into a set, beside what it holds.
     ///
     /// An entry that is there is one visit. Where there is none yet, each state of the automaton is read at most once, which is one

@@ -21,8 +21,9 @@ pub fn states_at<'a>(starts: &[u32], lists: &'a [u32], row: usize) -> &'a [u32]
     &lists[start + 1..start + 1 + count]
 }
 
-/// Makes `list` that of the states below a bound that a set has. It takes no memory if there is room for so many.
-pub fn list_of(set: &StateSet, limit: usize, list: &mut Vec<u32>)
+/// Makes `list` that of the states below a bound that a set has. It takes no memory if there is room for so many, and is at most as
+/// many visits.
+pub fn list_of(set: &StateSet, limit: usize, list: &mut Vec<u32>, visits: &mut Visits)
     requires fits { limit ≤ 4294967296 }
     requires within { limit ≤ state_capacity set.now }
     requires room { limit ≤ vec_capacity list.old }
@@ -31,12 +32,13 @@ pub fn list_of(set: &StateSet, limit: usize, list: &mut Vec<u32>)
     ensures has { (t : ℕ)
         → IsTrue (has_number t list.new.items) ↔ ((t < limit) × IsTrue (has_state set.now t)) }
     ensures capacity { vec_capacity list.old ≤ vec_capacity list.new }
+    ensures visits { visits.new ≤ visits.old + limit }
+    ensures counted { visits.old ≤ visits.new }
 {
     list.clear();
     let mut high = limit;
     while high > 0 {
-        // The states were read before: this counts no visit.
-        let seen = set.read_below(high, &mut Visits::new());
+        let seen = set.read_below(high, visits);
         if seen.is_set {
             push_within(list, seen.at);
         }
@@ -79,6 +81,16 @@ pub fn extend_within(numbers: &mut Vec<u32>, more: &[u32])
     ensures capacity { vec_capacity numbers.old ≤ vec_capacity numbers.new }
 {
     let _ = numbers.extend_from_slice(more);
+}
+
+/// Makes a vector that has room for some numbers hold these, and no others. It takes no memory.
+pub fn copy_within(numbers: &mut Vec<u32>, others: &[u32])
+    requires { length others.now ≤ vec_capacity numbers.old }
+    ensures items { numbers.new.items ≡ others.now }
+    ensures capacity { vec_capacity numbers.old ≤ vec_capacity numbers.new }
+{
+    numbers.clear();
+    extend_within(numbers, others);
 }
 
 /// Appends so many zeros to a vector that has room for them. It takes no memory.

@@ -12,12 +12,14 @@ ghost use Rattle.lazy_dfa.specs.inner.Classes.{AreEquivalenceClasses};
 ghost use Rattle.lazy_dfa.specs.inner.Sources.{half, FitsU32};
 ghost use Rattle.lazy_dfa.specs.inner.Rows.{AcceptsIn, AcceptsRow, HasEnds, HasMarks, GoesTo, IsDeadBy, IsNext, IsEnd, IsEntry, IsFirst, IsSound, AreListed, KeepsRows, HasSpace, states_of, place_of, max_entries, marked, BeginsAt, IsAt, IsStep};
 
+mod copied;
 mod known;
+mod stepped;
 
 use crate::classes::ByteClasses;
 use crate::lists::{
-    extend_within, list_indexes, list_of, push_within, put_listed, put_states, states_at,
-    zeros_within,
+    copy_within, extend_within, list_indexes, list_of, push_within, put_listed, put_states,
+    states_at, zeros_within,
 };
 use crate::pass::read;
 use bit_sets::{IndexSet, StateSet, Visits};
@@ -25,6 +27,7 @@ use byte_nfa::Nfa;
 use std::alloc::{AllocError, Global};
 use std::hash::{FoldHasher, Hasher};
 use std::mem;
+pub use stepped::GivenUp;
 
 /// An entry that is not known.
 const UNKNOWN: u32 = 0;
@@ -193,27 +196,6 @@ impl Rows {
         self.seed != 0
     }
 
-    /// Returns whether rows were forgotten at least twice since the seed was this one. Where most bytes need a new row, to make it takes
-    /// longer than to step over states.
-    pub fn gives_up_since(&self, seed: usize) -> bool {
-        self.seed.wrapping_sub(seed) >= 2
-    }
-
-    /// Makes `from` the states of the row at a place.
-    pub fn take_states(&mut self, automaton: &Nfa, place: usize)
-        requires sound { IsSound automaton.now self.old }
-        requires row { (i : ℕ) × IsAt self.old i place }
-        ensures sound { IsSound automaton.now self.new }
-        ensures states { (i : ℕ) → IsAt self.old i place
-            → (y : List ℕ) (k : ℕ) → AcceptsFrom automaton.now self.new.from y k
-            ↔ AcceptsRow automaton.now self.old i y k }
-    {
-        let row = self.row_at(place);
-        self.from.clear();
-        let states = states_at(&self.starts, &self.lists, row);
-        put_states(states, &mut self.from);
-    }
-
     /// Returns the place of the row that a run begins in. If it is not made, it is looked up, which is one visit.
     pub fn start(&mut self, automaton: &Nfa, visits: &mut Visits) -> usize
         requires { IsSound automaton.now self.old }
@@ -225,8 +207,7 @@ impl Rows {
         if let Some(place) = self.begin {
             return place;
         }
-        self.list.clear();
-        extend_within(&mut self.list, &self.first);
+        copy_within(&mut self.list, &self.first);
         let found = self.seek(automaton, visits);
         let place = self.place_of_row(found.row);
         self.begin = Some(place);
@@ -694,7 +675,7 @@ fn first_of(alloc: Global, automaton: &Nfa) -> Result<Vec<u32>, AllocError>
     let mut set = StateSet::new(alloc, states)?;
     automaton.start(&mut set);
     let mut list = Vec::with_capacity(alloc, states)?;
-    list_of(&set, states, &mut list);
+    list_of(&set, states, &mut list, &mut Visits::new());
     // The copy has no more room than it needs.
     let mut first = Vec::with_capacity(alloc, list.len())?;
     extend_within(&mut first, &list);

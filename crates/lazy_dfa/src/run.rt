@@ -10,12 +10,11 @@ ghost use Rattle.byte_nfa.specs.Steps.{NfaValue, IsReached};
 ghost use Rattle.byte_nfa.specs.Runs.{size};
 ghost use Rattle.lazy_dfa.specs.inner.Sources.{half};
 ghost use Rattle.lazy_dfa.specs.inner.Rows.{AcceptsRow, AddsFound, IsAt, IsSound, FindsBy};
-ghost use Rattle.lazy_dfa.specs.inner.Reached.{HasRead, IsLeft, IsReadBy, IsWhere, IsWhereFrom, MayHold};
+ghost use Rattle.lazy_dfa.specs.inner.Reached.{HasRead, IsLeft, IsWhere, IsWhereFrom, MayHold};
 ghost use Rattle.lazy_dfa.specs.inner.Sources.{ListsEnds};
 
 use crate::lists::{found_count, put_lowered};
-use crate::rows::{REMEMBERED, Rows};
-use crate::stepping::{self, Led};
+use crate::rows::{GivenUp, REMEMBERED, Rows};
 use bit_sets::{IndexSet, StateSet, Visits};
 use byte_nfa::Nfa;
 
@@ -43,7 +42,7 @@ impl Rows {
     /// Puts the index of each end that a text leads to, and each index that is decided in it, into a set, beside what it holds.
     ///
     /// The automaton is one with early matches, and its indexes are listed: a run ends where all of them are found. Where rows are
-    /// forgotten twice, the rest of the text is read without rows.
+    /// forgotten twice, a part of the text is read by sets of states.
     pub fn find(
         &mut self,
         automaton: &Nfa,
@@ -70,7 +69,7 @@ impl Rows {
             return;
         }
         let half = automaton.index_count() / 2;
-        let seed = self.seed;
+        let mut given_up = GivenUp::new(self);
         let mut place = self.start(automaton, visits);
         let mut rest = text;
         loop {
@@ -89,44 +88,14 @@ impl Rows {
             let Some(next) = step.next else {
                 return;
             };
-            place = next;
             rest = &rest[left.at + 1..];
-            if self.gives_up_since(seed) {
-                self.find_stepped(automaton, place, rest, found, visits);
+            let Some(left) = self.find_stepped(automaton, next, rest, &mut given_up, found, visits)
+            else {
                 return;
-            }
+            };
+            place = left.place;
+            rest = &rest[left.at..];
         }
-    }
-
-    /// Puts what is found in a text from the row at a place into a set, beside what it holds, by sets of states.
-    fn find_stepped(
-        &mut self,
-        automaton: &Nfa,
-        place: usize,
-        text: &[u8],
-        found: &mut IndexSet,
-        visits: &mut Visits,
-    )
-        requires sound { IsSound automaton.now self.old }
-        requires row { (i : ℕ) × IsAt self.old i place }
-        requires room { half automaton.now ≤ index_capacity found.old }
-        requires early { (source : NfaValue) × EndsAtEarlyMatches source automaton.now }
-        ensures sound { IsSound automaton.now self.new }
-        ensures room { index_capacity found.new ≡ index_capacity found.old }
-        ensures found { (i : ℕ) → IsAt self.old i place
-            → AddsFound automaton.now self.old i text.now found.old found.new }
-        ensures visits { visits.new ≤ visits.old + (length text.now + 1) * size automaton.now }
-        ensures counted { visits.old ≤ visits.new }
-    {
-        self.take_states(automaton, place);
-        stepping::find(
-            automaton,
-            text,
-            &mut self.from,
-            &mut self.next,
-            found,
-            visits,
-        );
     }
 
     /// The same as [`Rows::find`] by entries that are known, from where a run begins. Returns whether all that it needs are known; if
@@ -183,7 +152,7 @@ impl Rows {
         ensures kept { (k : ℕ) → IsTrue (has_index found.old k) → IsTrue (has_index found.new k) }
         ensures found { (i : ℕ) → IsAt self.now i place
             → MatchOption result (AddsFound automaton.now self.now i text.now found.old found.new)
-            (IsLeft automaton.now self.now i text.now found.old found.new) }
+            (IsLeft automaton.now self.now i text.now found.old self.now found.new) }
         ensures visits { MatchOption result (visits.new ≤ visits.old + (length text.now + 1))
             (λ left. visits.new ≤ visits.old + left.at) }
         ensures counted { visits.old ≤ visits.new }
@@ -239,10 +208,7 @@ impl Rows {
         if automaton.state_count() == 0 {
             return false;
         }
-        let Some(reached) = self.read(automaton, text, visits) else {
-            return stepping::has_end(automaton, &mut self.from, visits);
-        };
-        match reached {
+        match self.read(automaton, text, visits) {
             Reached::Decided => true,
             Reached::Nothing => false,
             Reached::Row(place) => self.finish(automaton, place, visits),
@@ -292,17 +258,7 @@ impl Rows {
         if automaton.state_count() == 0 {
             return false;
         }
-        let Some(reached) = self.read(automaton, text, visits) else {
-            return stepping::can_match_after_byte(
-                automaton,
-                live,
-                byte,
-                &mut self.from,
-                &mut self.next,
-                visits,
-            );
-        };
-        let place = match reached {
+        let place = match self.read(automaton, text, visits) {
             Reached::Decided => return true,
             Reached::Nothing => return false,
             Reached::Row(place) => place,
@@ -356,69 +312,42 @@ impl Rows {
         }
     }
 
-    /// Reads a text from its beginning, up to the first index that is decided. Where rows are forgotten twice, the rest of the text is
-    /// read without rows: if states are left after it, it returns `None`, and these are in `from`.
-    fn read(&mut self, automaton: &Nfa, text: &[u8], visits: &mut Visits) -> Option<Reached>
+    /// Reads a text from its beginning, up to the first index that is decided. Where rows are forgotten twice, a part of the text is
+    /// read by sets of states.
+    fn read(&mut self, automaton: &Nfa, text: &[u8], visits: &mut Visits) -> Reached
         requires sound { IsSound automaton.now self.old }
         requires some { 0 < size automaton.now }
         requires early { (source : NfaValue) × EndsAtEarlyMatches source automaton.now }
         ensures sound { IsSound automaton.now self.new }
-        ensures reached { IsReadBy automaton.now self.new (IsReached automaton.now) text.now
-            result }
+        ensures reached { IsWhere automaton.now self.new text.now result }
         ensures visits { visits.new
             ≤ visits.old + (length text.now * (size automaton.now + 1) + 1) }
         ensures counted { visits.old ≤ visits.new }
     {
-        let seed = self.seed;
+        let mut given_up = GivenUp::new(self);
         let mut place = self.start(automaton, visits);
         let mut rest = text;
         loop {
             let left = match self.read_from(automaton, place, rest, visits) {
-                Ok(reached) => return Some(reached),
+                Ok(reached) => return reached,
                 Err(left) => left,
             };
             let Some((byte, after)) = rest[left.at..].split_first() else {
-                return Some(Reached::Row(left.place));
+                return Reached::Row(left.place);
             };
             let step = self.step(automaton, left.place, *byte, visits);
             if step.has_marks {
-                return Some(Reached::Decided);
+                return Reached::Decided;
             }
             let Some(next) = step.next else {
-                return Some(Reached::Nothing);
+                return Reached::Nothing;
             };
-            place = next;
-            rest = after;
-            if self.gives_up_since(seed) {
-                return self.read_stepped(automaton, place, rest, visits);
-            }
-        }
-    }
-
-    /// Reads a text from the row at a place by sets of states, up to the first index that is decided. Returns `None` if states are
-    /// left after it, which are in `from` then.
-    fn read_stepped(
-        &mut self,
-        automaton: &Nfa,
-        place: usize,
-        text: &[u8],
-        visits: &mut Visits,
-    ) -> Option<Reached>
-        requires sound { IsSound automaton.now self.old }
-        requires row { (i : ℕ) × IsAt self.old i place }
-        requires early { (source : NfaValue) × EndsAtEarlyMatches source automaton.now }
-        ensures sound { IsSound automaton.now self.new }
-        ensures reached { (i : ℕ) → IsAt self.old i place
-            → IsReadBy automaton.now self.new (AcceptsRow automaton.now self.old i) text.now
-            result }
-        ensures visits { visits.new ≤ visits.old + length text.now * size automaton.now }
-        ensures counted { visits.old ≤ visits.new }
-    {
-        self.take_states(automaton, place);
-        match stepping::read(automaton, text, &mut self.from, &mut self.next, visits) {
-            Led::Decided => Some(Reached::Decided),
-            Led::NoState => Some(Reached::Nothing),
-            Led::States => None,
+            let left = match self.read_stepped(automaton, next, after, &mut given_up, visits) {
+                Ok(reached) => return reached,
+                Err(left) => left,
+            };
+            place = left.place;
+            rest = &after[left.at..];
         }
     }
 
@@ -456,7 +385,7 @@ impl Rows {
         requires row { (i : ℕ) × IsAt self.now i place }
         ensures reached { (i : ℕ) → IsAt self.now i place
             → MatchResult result (IsWhereFrom automaton.now self.now i text.now)
-            (HasRead automaton.now self.now i text.now) }
+            (HasRead automaton.now self.now i text.now self.now) }
         ensures visits { MatchResult result (λ _. visits.new ≤ visits.old + length text.now)
             (λ left. visits.new ≤ visits.old + left.at) }
         ensures counted { visits.old ≤ visits.new }

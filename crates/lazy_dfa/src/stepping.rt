@@ -1,6 +1,6 @@
 //! Texts that are read by sets of states, without rows.
 
-ghost use Rattle.std.specs.Prelude.{◌≡◌, ℕ, ◌+◌, ◌*◌, ◌<◌, ◌≤◌, ◌||◌, ◌⊎◌, ◌↔◌, ◌++◌, ◌∷◌, [], List, length, min, Some, IsTrue, MatchOption};
+ghost use Rattle.std.specs.Prelude.{◌≡◌, ℕ, ◌+◌, ◌*◌, ◌<◌, ◌≤◌, ◌||◌, ◌⊎◌, ◌↔◌, ◌++◌, ◌∷◌, [], List, length, min, Some, IsTrue, IsFalse, MatchOption};
 ghost use Rattle.bit_sets.specs.Indexes.{index_capacity};
 ghost use Rattle.bit_sets.specs.StateSets.{has_state, state_capacity};
 ghost use Rattle.bit_sets.specs.Texts.{AllBytes};
@@ -12,7 +12,7 @@ ghost use Rattle.byte_nfa.specs.inner.Pass.{goes_now, goes_next};
 ghost use Rattle.byte_nfa.specs.inner.Views.{GoesBelow};
 ghost use Rattle.lazy_dfa.specs.inner.Rows.{FindsBy};
 ghost use Rattle.lazy_dfa.specs.inner.Sources.{half};
-ghost use Rattle.lazy_dfa.specs.inner.Stepping.{IsTaken, IsLed, IsUndecidedStep, DecidesSome, AddsDecided, AddsFoundFrom};
+ghost use Rattle.lazy_dfa.specs.inner.Stepping.{IsTaken, IsLed, IsRunOn, IsUndecidedStep, DecidesSome, AddsDecided, AddsFoundFrom};
 
 use bit_sets::{IndexSet, StateSet, Visits};
 use byte_nfa::Nfa;
@@ -63,14 +63,44 @@ pub fn find(
     ensures visits { visits.new ≤ visits.old + (length text.now + 1) * size automaton.now }
     ensures counted { visits.old ≤ visits.new }
 {
+    if run(automaton, text, from, to, found, visits) {
+        tell_ends(automaton, from, found, visits);
+    }
+}
+
+/// Puts each index that is decided in a text into `found`, beside what it holds. The states that the text leads to from those of the
+/// set are in `from` then. Returns whether there are any.
+///
+/// It is at most `text bytes * states` visits. What else is said of [`find`] holds for it.
+pub fn run(
+    automaton: &Nfa,
+    text: &[u8],
+    from: &mut StateSet,
+    to: &mut StateSet,
+    found: &mut IndexSet,
+    visits: &mut Visits,
+) -> bool
+    requires early { (source : NfaValue) × EndsAtEarlyMatches source automaton.now }
+    requires sets { size automaton.now ≤ min (state_capacity from.old) (state_capacity to.old) }
+    requires room { half automaton.now ≤ index_capacity found.old }
+    ensures sets { min (state_capacity from.new) (state_capacity to.new)
+        ≡ min (state_capacity from.old) (state_capacity to.old) }
+    ensures room { index_capacity found.new ≡ index_capacity found.old }
+    ensures found { IsTrue result
+        → IsRunOn automaton.now from.old text.now found.old from.new found.new }
+    ensures none { IsFalse result
+        → (z : List ℕ) → AddsFoundFrom automaton.now from.old (text.now ++ z) found.old found.new }
+    ensures visits { visits.new ≤ visits.old + length text.now * size automaton.now }
+    ensures counted { visits.old ≤ visits.new }
+{
     for byte in text {
         let some = step(automaton, *byte, from, to, found, visits);
         swap(from, to);
         if !some {
-            return;
+            return false;
         }
     }
-    tell_ends(automaton, from, found, visits);
+    true
 }
 
 /// Returns whether a text leads to some end from the states of a set, or some index is decided in it. It stops at the first that is.
@@ -130,31 +160,6 @@ pub fn can_match_after(
         Led::NoState => return false,
         Led::States => {}
     }
-    can_match_after_byte(automaton, live, byte, from, to, visits)
-}
-
-/// Returns whether some text that begins with `byte` leads to some end from the states of a set, or to an index that is decided. It is
-/// at most two visits for each state. What else is said of [`can_match_after`] holds for it.
-pub fn can_match_after_byte(
-    automaton: &Nfa,
-    live: &StateSet,
-    byte: u8,
-    from: &mut StateSet,
-    to: &mut StateSet,
-    visits: &mut Visits,
-) -> bool
-    requires early { (source : NfaValue) × EndsAtEarlyMatches source automaton.now }
-    requires sets { size automaton.now ≤ min (state_capacity from.old) (state_capacity to.old) }
-    requires live { AreLive automaton.now live.now }
-    requires live_room { size automaton.now ≤ state_capacity live.now }
-    ensures from_capacity { state_capacity from.new ≡ state_capacity from.old }
-    ensures to_capacity { state_capacity to.new ≡ state_capacity to.old }
-    ensures some { IsTrue result
-        ↔ ((k : ℕ) × (y : List ℕ) × AllBytes y
-        × FindsBy (half automaton.now) (AcceptsFrom automaton.now from.old) (byte ∷ y) k) }
-    ensures visits { visits.new ≤ visits.old + (size automaton.now + size automaton.now) }
-    ensures counted { visits.old ≤ visits.new }
-{
     let Some(some) = step_undecided(automaton, byte, from, to, visits) else {
         return true;
     };
@@ -339,7 +344,7 @@ fn tell_ends(automaton: &Nfa, from: &mut StateSet, found: &mut IndexSet, visits:
 }
 
 /// Returns whether the states of a set lead to some end without a byte. It is at most one visit for each state.
-pub fn has_end(automaton: &Nfa, from: &mut StateSet, visits: &mut Visits) -> bool
+fn has_end(automaton: &Nfa, from: &mut StateSet, visits: &mut Visits) -> bool
     requires from_capacity { size automaton.now ≤ state_capacity from.old }
     ensures from_capacity { state_capacity from.new ≡ state_capacity from.old }
     ensures some { IsTrue result ↔ ((k : ℕ) × AcceptsFrom automaton.now from.old [] k) }

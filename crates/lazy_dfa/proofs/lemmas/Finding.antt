@@ -162,3 +162,7 @@ visits_before first old new i n size lt before more = let h = mul-le (i + 1) siz
 -- what is left after a run came to a byte, where each byte more costs at most so much
 pub visits_left : (m at w old mid new total : ℕ) → 0 < w → mid ≤ old + at → new ≤ mid + w → old + (m + at + 1) * w ≤ total → new + m * w ≤ total
 visits_left m at w old mid new total some read step le = let h = mul-le at 1 at w (omega arith) (omega (arith, some)) in omega (arith, h, read, step, le)
+
+-- and after a part of it was stepped
+pub visits_stepped : (rest at w old new total : ℕ) → old + (rest + at) * w ≤ total → new ≤ old + at * w → new + rest * w ≤ total
+visits_stepped rest at w old new total before step = omega arith

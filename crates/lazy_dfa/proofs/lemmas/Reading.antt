@@ -11,7 +11,7 @@ use Rattle.lazy_dfa.specs.declared.rows.Rows.{Rows}
 use Rattle.lazy_dfa.specs.declared.run.Left.{Left}
 use Rattle.lazy_dfa.specs.declared.run.Reached.{Reached}
 use Rattle.lazy_dfa.specs.declared.run.Reached.TheVariants.{Decided, Nothing, Row}
-use Rattle.lazy_dfa.specs.inner.Reached.{IsLeft, IsReadBy, IsWhereBy, MayHold}
+use Rattle.lazy_dfa.specs.inner.Reached.{IsLeft, IsWhereBy, MayHold}
 use Rattle.lazy_dfa.specs.inner.Rows.{AcceptsRow, AddsFound, FindsBy}
 use Rattle.lazy_dfa.proofs.lemmas.Finding.{iff_beside, finds_same}
 
@@ -22,21 +22,15 @@ read_on m rows P Q rest text Decided same is = λ z. let (k, f) = is z in (k, (s
 read_on m rows P Q rest text Nothing same is = λ z k f. is z k ((same z k).1 f)
 read_on m rows P Q rest text (Row p) same (i, at, finds) = (i, at, λ z k. iff_trans (finds z k) (same z k))
 
--- the same, if states may be left after it
-pub read_by : (m : NfaValue) (rows : Rows) (P Q : List ℕ → ℕ → Type 0) (rest text : List ℕ) (r : Option Reached)
-    → ((z : List ℕ) (k : ℕ) → FindsBy (half m) P (rest ++ z) k ↔ FindsBy (half m) Q (text ++ z) k) → IsReadBy m rows P rest r → IsReadBy m rows Q text r
-read_by m rows P Q rest text None same is = λ z k. iff_trans (is z k) (same z k)
-read_by m rows P Q rest text (Some r) same is = read_on m rows P Q rest text r same is
-
 module _ (m : NfaValue) (rows : Rows) (j : ℕ) (text : List ℕ) (old new : IndexSet) where
   -- nothing was left
-  pub finds_some : (left : Option Left) (none : Bool) → MatchOption left (AddsFound m rows j text old new) (IsLeft m rows j text old new) → is_some left ≡ not none → IsTrue none → AddsFound m rows j text old new
+  pub finds_some : (left : Option Left) (none : Bool) → MatchOption left (AddsFound m rows j text old new) (IsLeft m rows j text old rows new) → is_some left ≡ not none → IsTrue none → AddsFound m rows j text old new
   finds_some None none adds is on = adds
   finds_some (Some left) none is some on = absurd (true≢false (some ∙ ap not on))
 
   -- what was found before a run was left
   pub may_hold : (left : Option Left) → ((y : List ℕ) (k : ℕ) → AcceptsRow m rows j y k ↔ IsReached m y k) → ((k : ℕ) → IsTrue (has_index old k) → IsTrue (has_index new k))
-      → MatchOption left (AddsFound m rows j text old new) (IsLeft m rows j text old new) → MayHold m text old new
+      → MatchOption left (AddsFound m rows j text old new) (IsLeft m rows j text old rows new) → MayHold m text old new
   may_hold None begins kept adds = record {
     kept = kept;
     sound = λ k h. (iff_beside (finds_same (half m) (AcceptsRow m rows j) (IsReached m) begins text k)).0 ((adds k).0 h);

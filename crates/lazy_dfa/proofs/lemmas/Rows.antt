@@ -7,7 +7,7 @@ use Rattle.std.proofs.lemmas.List.{get_or_append_left, get_or-append_right, get_
 use Rattle.std.proofs.Math.Seq.{get_or-append_seam, drop-append-add}
 use Rattle.std.proofs.Math.Logic.{⊎_elim}
 use Rattle.bit_sets.specs.Numbers.{has_number, AreBelow}
-use Rattle.bit_sets.specs.StateSets.{has_state}
+use Rattle.bit_sets.specs.StateSets.{has_state, state_capacity}
 use Rattle.bit_sets.specs.declared.state_set.StateSet.{StateSet}
 use Rattle.byte_nfa.specs.Steps.{NfaValue, IsReached, state}
 use Rattle.byte_nfa.specs.Equivalent.{AreEquivalent, reads_byte}
@@ -162,6 +162,41 @@ begun_sound m old new is entries room begins sound = record {
 
 pub same_sound : (m : NfaValue) (old new : Rows) → HasSameRows old new → new.entries.items ≡ old.entries.items → new.begin ≡ old.begin → HasRoomFor m new → IsSound m old → IsSound m new
 same_sound m old new is entries begin room sound = begun_sound m old new is entries room (begins_kept m old new is begin sound.begins) sound
+
+-- rows with other sets of states
+abbrev pub with_sets : Rows → StateSet → StateSet → Rows
+with_sets rows from next = record {
+  class_of = rows.class_of;
+  class_count = rows.class_count;
+  starts = rows.starts;
+  lists = rows.lists;
+  entries = rows.entries;
+  table = rows.table;
+  seed = rows.seed;
+  begin = rows.begin;
+  first = rows.first;
+  from = from;
+  next = next;
+  ends = rows.ends;
+  list = rows.list;
+  told = rows.told;
+}
+
+pub sets_sound : (m : NfaValue) (rows : Rows) (from next : StateSet) → size m ≤ state_capacity from → size m ≤ state_capacity next → IsSound m rows → IsSound m (with_sets rows from next)
+sets_sound m rows from next in_from in_next sound =
+    let room = sound.room in
+    same_sound m rows (with_sets rows from next) record { starts = refl; lists = refl; class_of = refl; class_count = refl } refl refl record {
+      from = in_from;
+      next = in_next;
+      first = room.first;
+      ends = room.ends;
+      list = room.list;
+      told = room.told;
+      lists = room.lists;
+      starts = room.starts;
+      entries = room.entries;
+      width = room.width;
+    } sound
 
 -- an entry was written
 pub entry_written : (m : NfaValue) (rows : Rows) (entries : List ℕ) (w n row column e i c : ℕ) → length entries ≡ n * (w + 1) → row < n → column ≤ w → c ≤ w

@@ -1,9 +1,8 @@
 -- Where a text leads, by the rows of a cache.
-use Rattle.std.specs.Prelude.{ℕ, ◌≤◌, ◌⊎◌, ◌↔◌, List, ◌++◌, drop, length, IsTrue, Option, MatchOption}
+use Rattle.std.specs.Prelude.{ℕ, ◌≤◌, ◌⊎◌, ◌↔◌, List, ◌++◌, drop, length, IsTrue}
 use Rattle.bit_sets.specs.Indexes.{has_index}
 use Rattle.bit_sets.specs.declared.index_set.IndexSet.{IndexSet}
 use Rattle.byte_nfa.specs.Steps.{NfaValue, IsReached}
-use Rattle.byte_nfa.specs.Runs.{AcceptsFrom}
 use Rattle.lazy_dfa.specs.inner.Sources.{half}
 use Rattle.lazy_dfa.specs.declared.rows.Rows.{Rows}
 use Rattle.lazy_dfa.specs.declared.run.Left.{Left}
@@ -25,22 +24,18 @@ IsWhere m rows = IsWhereBy m rows (IsReached m)
 abbrev pub IsWhereFrom : NfaValue → Rows → ℕ → List ℕ → Reached → Type 0
 IsWhereFrom m rows i = IsWhereBy m rows (AcceptsRow m rows i)
 
--- the bytes that were read lead from the row of number i to the row at the place
-pub record HasRead (m : NfaValue) (rows : Rows) (i : ℕ) (text : List ℕ) (left : Left) : Type 0 where
+-- the bytes that were read lead from the row of number i of the old rows to the row at the place of the new ones
+pub record HasRead (m : NfaValue) (old : Rows) (i : ℕ) (text : List ℕ) (new : Rows) (left : Left) : Type 0 where
   pub within : left.at ≤ length text
-  pub row : (j : ℕ) × IsAt rows j left.place × ((z : List ℕ) (k : ℕ) → FindsBy (half m) (AcceptsRow m rows j) (drop left.at text ++ z) k ↔ FindsBy (half m) (AcceptsRow m rows i) (text ++ z) k)
+  pub row : (j : ℕ) × IsAt new j left.place × ((z : List ℕ) (k : ℕ) → FindsBy (half m) (AcceptsRow m new j) (drop left.at text ++ z) k ↔ FindsBy (half m) (AcceptsRow m old i) (text ++ z) k)
 
--- What is found in the text from the row of number i is what is found in the rest from the row at the place, and what the new set has,
--- beside what the old one has.
-pub record IsLeft (m : NfaValue) (rows : Rows) (i : ℕ) (text : List ℕ) (old new : IndexSet) (left : Left) : Type 0 where
+-- What is found in the text from the row of number i of the old rows is what is found in the rest from the row at the place of the new
+-- ones, and what the new set has, beside what the old one has.
+pub record IsLeft (m : NfaValue) (old : Rows) (i : ℕ) (text : List ℕ) (had : IndexSet) (new : Rows) (has : IndexSet) (left : Left) : Type 0 where
   pub within : left.at ≤ length text
-  pub row : (j : ℕ) × IsAt rows j left.place × ((k : ℕ) → (FindsBy (half m) (AcceptsRow m rows j) (drop left.at text) k ⊎ IsTrue (has_index new k)) ↔ (FindsBy (half m) (AcceptsRow m rows i) text k ⊎ IsTrue (has_index old k)))
+  pub row : (j : ℕ) × IsAt new j left.place × ((k : ℕ) → (FindsBy (half m) (AcceptsRow m new j) (drop left.at text) k ⊎ IsTrue (has_index has k)) ↔ (FindsBy (half m) (AcceptsRow m old i) text k ⊎ IsTrue (has_index had k)))
 
 -- the new set has what the old one has, and nothing else but what is found in the text
 pub record MayHold (m : NfaValue) (text : List ℕ) (old new : IndexSet) : Type 0 where
   pub kept : (k : ℕ) → IsTrue (has_index old k) → IsTrue (has_index new k)
   pub sound : (k : ℕ) → IsTrue (has_index new k) → FindsBy (half m) (IsReached m) text k ⊎ IsTrue (has_index old k)
-
--- the same of a text after which states may be left that are in `from`
-abbrev pub IsReadBy : NfaValue → Rows → (List ℕ → ℕ → Type 0) → List ℕ → Option Reached → Type 0
-IsReadBy m rows P text result = MatchOption result ((z : List ℕ) (k : ℕ) → FindsBy (half m) (AcceptsFrom m rows.from) z k ↔ FindsBy (half m) P (text ++ z) k) (IsWhereBy m rows P text)

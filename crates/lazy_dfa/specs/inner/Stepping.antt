@@ -43,3 +43,8 @@ abbrev pub IsLed : NfaValue → StateSet → StateSet → List ℕ → Led → T
 IsLed m old new text Decided = (z : List ℕ) → (k : ℕ) × FindsBy (half m) (AcceptsFrom m old) (text ++ z) k
 IsLed m old new text NoState = (z : List ℕ) (k : ℕ) → FindsBy (half m) (AcceptsFrom m old) (text ++ z) k → ⊥
 IsLed m old new text States = (z : List ℕ) (k : ℕ) → FindsBy (half m) (AcceptsFrom m new) z k ↔ FindsBy (half m) (AcceptsFrom m old) (text ++ z) k
+
+-- Whatever follows the text: what is found from the states of the old set is what is found in the rest from those of the new one, and what
+-- the new set of indexes has, beside what the old one has.
+abbrev pub IsRunOn : NfaValue → StateSet → List ℕ → IndexSet → StateSet → IndexSet → Type 0
+IsRunOn m old text had new has = (z : List ℕ) (k : ℕ) → (FindsBy (half m) (AcceptsFrom m new) z k ⊎ IsTrue (has_index has k)) ↔ (FindsBy (half m) (AcceptsFrom m old) (text ++ z) k ⊎ IsTrue (has_index had k))

@@ -53,6 +53,8 @@ loop-high-init c = rw c.clear.ensures.items record {
   few = omega arith;
   has = λ t. (λ h. absurd (true≢false (sym h)), λ (low, small, at). absurd (omega arith));
   capacity = omega arith;
+  visits = omega arith;
+  counted = omega arith;
 }
 
 pub loop-high-preserved-then-seen : goal.loop-high-preserved-then-seen
@@ -68,6 +70,8 @@ loop-high-preserved-then-seen c =
       few = omega (arith, last.below, length-append list (s ∷ []));
       has = listed_more n s c.loop-high.high (has_state c.args.set.now) list last.below inv.within last.between inv.has (sym last.marked ∙ c.if-seen.true);
       capacity = omega (arith, c.push_within.ensures.capacity);
+      visits = omega (arith, last.below, inv.visits, c.read_below-seen.ensures.visits);
+      counted = omega (arith, inv.counted, c.read_below-seen.ensures.visits);
     }
 
 pub loop-high-preserved : goal.loop-high-preserved
@@ -80,6 +84,8 @@ loop-high-preserved c =
       few = omega (arith, last.below);
       has = listed_same c.args.limit c.read_below-seen.result.at c.loop-high.high (has_state c.args.set.now) c.loop-high.list.items last.below inv.within last.between inv.has (sym last.marked ∙ c.if-seen.false);
       capacity = inv.capacity;
+      visits = omega (arith, last.below, inv.visits, c.read_below-seen.ensures.visits);
+      counted = omega (arith, inv.counted, c.read_below-seen.ensures.visits);
     }
 
 pub returns-clause-has : goal.returns-clause-has

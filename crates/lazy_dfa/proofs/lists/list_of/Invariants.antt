@@ -11,6 +11,8 @@ invariant-loop-high l = record {
   few : length l.list.items + l.high ≤ l.limit;
   has : (t : ℕ) → IsTrue (has_number t l.list.items) ↔ ((l.high ≤ t) × (t < l.limit) × IsTrue (has_state l.set t));
   capacity : vec_capacity l.fn.list ≤ vec_capacity l.list;
+  visits : l.visits + l.high ≤ l.fn.visits + l.limit;
+  counted : l.fn.visits ≤ l.visits;
 }
 
 abbrev pub decreases-loop-high : goal.decreases-loop-high

@@ -1,52 +1,15 @@
-use Rattle.std.proofs.Common.{◌≡◌, ℕ, ◌+◌, ◌<◌, [], ◌∷◌, List, length, get_or, drop, min, true≢false, arith, sym, ◌∙◌, ap}
-use Rattle.std.proofs.lemmas.List.{drop_more, drop_all}
-use Rattle.bit_sets.specs.Indexes.{has_index}
-use Rattle.bit_sets.specs.StateSets.{state_capacity}
-use Rattle.byte_nfa.specs.Runs.{AcceptsFrom}
+use Rattle.std.proofs.Common.{subst, append-nil, []}
 use Rattle.byte_nfa.proofs.lemmas.Pass.{iff_trans}
-use Rattle.lazy_dfa.proofs.lemmas.Finding.{iff_beside, at_dead, told_found}
-use Rattle.lazy_dfa.proofs.lemmas.Lists.{iff_sym}
-use Rattle.lazy_dfa.proofs.lemmas.Stepping.{room_swapped}
-use Rattle.lazy_dfa.specs.inner.Sources.{half}
+use Rattle.lazy_dfa.specs.inner.Stepping.{AddsFoundFrom}
 use Rattle.lazy_dfa.proofs.stepping.find.Goals as goal
 
-pub loop-byte-preserved : goal.loop-byte-preserved
-loop-byte-preserved c =
+pub returns-then-run-clause-found : goal.returns-then-run-clause-found
+returns-then-run-clause-found c =
     let m = c.args.automaton.now in
-    let inv = c.loop-byte.invariant in
-    let text = c.args.text.now in
-    let i = c.loop-byte.byte-index in
-    let lt : i < length text = omega arith in
-    let b : ℕ = get_or text i 0 in
-    let rest = drop (i + 1) text in
-    let more : drop i text ≡ b ∷ rest = drop_more text i 0 lt in
-    let took = c.step-some.ensures in
-    record {
-      sets = room_swapped (state_capacity c.swap.new.x) (state_capacity c.swap.new.y) (state_capacity c.loop-byte.from) (state_capacity c.loop-byte.to) (min (state_capacity c.args.from.now) (state_capacity c.args.to.now))
-          (ap state_capacity c.swap.ensures.x_after ∙ took.to_capacity) (ap state_capacity c.swap.ensures.y_after ∙ took.from_capacity) inv.sets;
-      room = took.room ∙ inv.room;
-      runs = λ k. rw c.swap.ensures.x_after (told_found (half m) (AcceptsFrom m c.loop-byte.from) (AcceptsFrom m c.step-some.new.to) b took.steps rest k
-          (has_index c.loop-byte.found k) (has_index c.step-some.new.found k) _ (took.decided k) (rw more at inv.runs k));
-      visits = omega (arith, inv.visits, took.visits);
-      counted = omega arith;
-    }
+    subst (λ y. AddsFoundFrom m c.args.from.now y c.args.found.now c.tell_ends.new.found) (append-nil c.args.text.now)
+    (λ k. iff_trans (c.tell_ends.ensures.found k) (c.run.ensures.found c.if-run.true [] k))
 
-pub returns-then-not-some-clause-found : goal.returns-then-not-some-clause-found
-returns-then-not-some-clause-found c = λ k.
+pub returns-else-run-clause-found : goal.returns-else-run-clause-found
+returns-else-run-clause-found c =
     let m = c.args.automaton.now in
-    let inv = c.loop-byte.invariant in
-    let text = c.args.text.now in
-    let i = c.loop-byte.byte-index in
-    let lt : i < length text = omega arith in
-    let b : ℕ = get_or text i 0 in
-    let rest = drop (i + 1) text in
-    let more : drop i text ≡ b ∷ rest = drop_more text i 0 lt in
-    let took = c.step-some.ensures in
-    let dead : (y : List ℕ) (j : ℕ) → AcceptsFrom m c.loop-byte.from (b ∷ y) j → ⊥ =
-    λ y j h. let (t, within, at, leads) = (took.steps y j).0 h in true≢false (sym (took.some.1 (t, within, at)) ∙ c.if-not-some.true) in
-    iff_trans (iff_trans (took.decided k) (iff_beside (iff_sym (at_dead (half m) (AcceptsFrom m c.loop-byte.from) b dead rest k)))) (rw more at inv.runs k)
-
-pub returns-clause-found : goal.returns-clause-found
-returns-clause-found c = λ k.
-    let past : drop c.loop-byte.byte-index c.args.text.now ≡ [] = drop_all c.loop-byte.byte-index c.args.text.now (omega arith) in
-    iff_trans (c.tell_ends.ensures.found k) (rw past at c.loop-byte.invariant.runs k)
+    subst (λ y. AddsFoundFrom m c.args.from.now y c.args.found.now c.run.new.found) (append-nil c.args.text.now) (c.run.ensures.none c.if-run.false [])

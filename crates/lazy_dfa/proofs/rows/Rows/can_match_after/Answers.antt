@@ -1,39 +1,38 @@
-use Rattle.std.proofs.Common.{arith, ◌∙◌, ◌∷◌, [], inr, refl, true≢false, sym}
+use Rattle.std.proofs.Common.{◌∙◌, ◌∷◌, [], inr, refl, true≢false, sym}
 use Rattle.byte_nfa.proofs.lemmas.Pass.{iff_trans}
 use Rattle.lazy_dfa.specs.inner.Sources.{half}
 use Rattle.lazy_dfa.specs.inner.Rows.{AcceptsRow}
 use Rattle.lazy_dfa.proofs.lemmas.After.{index_below, live_finds, some_after}
 use Rattle.lazy_dfa.proofs.lemmas.Finding.{at_quiet, at_dead}
-use Rattle.lazy_dfa.proofs.lemmas.Rows.{same_sound}
 use Rattle.lazy_dfa.proofs.rows.Rows.can_match_after.Goals as goal
 
 pub returns-in-Decided-clause-some : goal.returns-in-Decided-clause-some
 returns-in-Decided-clause-some c =
-    let found = rw c.in-Decided.is at (rw c.in-Some.is at c.read.ensures.reached) in
+    let found = rw c.in-Decided.is at c.read.ensures.reached in
     let (k, finds) = found (c.args.byte ∷ []) in
     (λ _. (k, [], tt, finds), λ _. refl)
 
 pub returns-in-Nothing-clause-some : goal.returns-in-Nothing-clause-some
 returns-in-Nothing-clause-some c =
-    let none = rw c.in-Nothing.is at (rw c.in-Some.is at c.read.ensures.reached) in
+    let none = rw c.in-Nothing.is at c.read.ensures.reached in
     (λ off. absurd (true≢false (sym off)), λ (k, y, all, finds). absurd (none (c.args.byte ∷ y) k finds))
 
 pub returns-then-step-clause-some : goal.returns-then-step-clause-some
 returns-then-step-clause-some c =
-    let (i, at, finds) = rw c.in-Row.is at (rw c.in-Some.is at c.read.ensures.reached) in
+    let (i, at, finds) = rw c.in-Row.is at c.read.ensures.reached in
     let step = c.step-step.ensures.step i at in
     let (k, low, a) = step.marks.0 c.if-step.true in
     (λ _. (k, [], tt, (finds (c.args.byte ∷ []) k).0 (low, inr ([], c.args.byte ∷ [], refl, a))), λ _. refl)
 
-pub returns-in-Some-next-clause-some : goal.returns-in-Some-next-clause-some
-returns-in-Some-next-clause-some c =
+pub returns-in-Some-clause-some : goal.returns-in-Some-clause-some
+returns-in-Some-clause-some c =
     let m = c.args.automaton.now in
     let n = half m in
     let b = c.args.byte in
     let (source, early) = c.requires.early in
-    let (i, at, finds) = rw c.in-Row.is at (rw c.in-Some.is at c.read.ensures.reached) in
+    let (i, at, finds) = rw c.in-Row.is at c.read.ensures.reached in
     let step = c.step-step.ensures.step i at in
-    let (j, there, goes) = rw c.in-Some-next.is at step.next in
+    let (j, there, goes) = rw c.in-Some.is at step.next in
     let before = AcceptsRow m c.read.new.self i in
     let after = AcceptsRow m c.step-step.new.self j in
     let quiet = at_quiet n before after b goes (λ k low a. true≢false (sym (step.marks.1 (k, low, a)) ∙ c.if-step.false)) in
@@ -44,7 +43,7 @@ returns-in-Some-next-clause-some c =
 pub returns-in-None-clause-some : goal.returns-in-None-clause-some
 returns-in-None-clause-some c =
     let m = c.args.automaton.now in
-    let (i, at, finds) = rw c.in-Row.is at (rw c.in-Some.is at c.read.ensures.reached) in
+    let (i, at, finds) = rw c.in-Row.is at c.read.ensures.reached in
     let step = c.step-step.ensures.step i at in
     let dead = rw c.in-None.is at step.next in (
       λ off. absurd (true≢false (sym off)),
@@ -52,25 +51,3 @@ returns-in-None-clause-some c =
           let (low, a) = (at_dead (half m) (AcceptsRow m c.read.new.self i) c.args.byte dead y k).0 ((finds (c.args.byte ∷ y) k).1 found) in
           absurd (true≢false (sym (step.marks.1 (k, low, a)) ∙ c.if-step.false)),
     )
-
-pub returns-in_default-clause-sound : goal.returns-in_default-clause-sound
-returns-in_default-clause-sound c =
-    let sound = c.read.ensures.sound in
-    let room = sound.room in
-    same_sound c.args.automaton.now c.read.new.self _ record { starts = refl; lists = refl; class_of = refl; class_count = refl } refl refl record {
-      from = omega (arith, room.from, c.can_match_after_byte.ensures.from_capacity);
-      next = omega (arith, room.next, c.can_match_after_byte.ensures.to_capacity);
-      first = room.first;
-      ends = room.ends;
-      list = room.list;
-      told = room.told;
-      lists = room.lists;
-      starts = room.starts;
-      entries = room.entries;
-      width = room.width;
-    } sound
-
-pub returns-in_default-clause-some : goal.returns-in_default-clause-some
-returns-in_default-clause-some c =
-    let finds = rw c.in_default.is at c.read.ensures.reached in
-    iff_trans c.can_match_after_byte.ensures.some (some_after (λ y k. finds (c.args.byte ∷ y) k))

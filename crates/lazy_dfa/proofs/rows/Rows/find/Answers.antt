@@ -7,7 +7,7 @@ use Rattle.byte_nfa.specs.Steps.{IsReached}
 use Rattle.byte_nfa.proofs.lemmas.Pass.{iff_trans}
 use Rattle.lazy_dfa.specs.inner.Sources.{half}
 use Rattle.lazy_dfa.specs.inner.Rows.{AcceptsRow}
-use Rattle.lazy_dfa.proofs.lemmas.Finding.{iff_beside, finds_same, next_found, dead_found, last_found, none_last, visits_left}
+use Rattle.lazy_dfa.proofs.lemmas.Finding.{iff_beside, finds_same, next_found, dead_found, last_found, none_last, visits_left, visits_stepped}
 use Rattle.lazy_dfa.proofs.lemmas.Rows.{none_reached}
 use Rattle.lazy_dfa.proofs.rows.Rows.find.Goals as goal
 
@@ -91,6 +91,79 @@ returns-in_default-next-clause-found c = λ k.
     iff_trans (dead_found (half m) (AcceptsRow m rows j') c.step-step.result.has_marks (has_index c.step-step.new.self.ends) step.marks step.ends
     b dead after k (has_index c.find_from.new.found k) (has_index c.tell.new.found k) _ (told k) (rw more at finds k)) (runs k)
 
+pub find_stepped-requires-clause-row : goal.find_stepped-requires-clause-row
+find_stepped-requires-clause-row c =
+    let (j, at, runs) = c.loop-left.invariant.runs in
+    let left = rw c.in-Some.is at c.find_from.ensures.found j at in
+    let (j', at', finds) = left.row in
+    let (next, there, goes) = rw c.in-Some-next.is at (c.step-step.ensures.step j' at').next in
+    (next, there)
+
+pub returns-in_default-find_stepped-clause-found : goal.returns-in_default-find_stepped-clause-found
+returns-in_default-find_stepped-clause-found c = λ k.
+    let m = c.args.automaton.now in
+    let rows = c.loop-left.self in
+    let inv = c.loop-left.invariant in
+    let rest = c.loop-left.rest.now in
+    let (j, at, runs) = inv.runs in
+    let left = rw c.in-Some.is at c.find_from.ensures.found j at in
+    let n = c.in-Some.left.at in
+    let lt : n < length rest = omega (arith, left.within) in
+    let b : ℕ = get_or rest n 0 in
+    let after = drop (n + 1) rest in
+    let more : drop n rest ≡ b ∷ after = drop_more rest n 0 lt in
+    let past = take_rest rest (n + 1) in
+    let (j', at', finds) = left.row in
+    let step = c.step-step.ensures.step j' at' in
+    let (next, there, goes) = rw c.in-Some-next.is at step.next in
+    let told = rw c.index_count-half.ensures at c.tell.ensures.has in
+    iff_trans ((rw (c.in_default-find_stepped.is, past) at c.find_stepped.ensures.found next there) k) (iff_trans (next_found (half m) (AcceptsRow m rows j') c.step-step.result.has_marks (has_index c.step-step.new.self.ends) step.marks step.ends
+    (AcceptsRow m c.step-step.new.self next) b goes after k (has_index c.find_from.new.found k) (has_index c.tell.new.found k) _ (told k) (rw more at finds k)) (runs k))
+
+pub returns-in_default-find_stepped-clause-visits : goal.returns-in_default-find_stepped-clause-visits
+returns-in_default-find_stepped-clause-visits c =
+    let m = c.args.automaton.now in
+    let inv = c.loop-left.invariant in
+    let rest = c.loop-left.rest.now in
+    let (j, at, runs) = inv.runs in
+    let left = rw c.in-Some.is at c.find_from.ensures.found j at in
+    let n = c.in-Some.left.at in
+    let lt : n < length rest = omega (arith, left.within) in
+    let after = drop (n + 1) rest in
+    let w = size m + 1 in
+    let len : length after ≡ length rest - (n + 1) = length-drop (n + 1) rest in
+    let whole : length rest ≡ length after + n + 1 = omega (arith, len, lt) in
+    let before = visits_left (length after) n w c.loop-left.visits c.find_from.new.visits c.step-step.new.visits _ (omega arith) c.in-Some.ensures.visits (omega (arith, c.step-step.ensures.visits)) (rw whole at inv.visits) in
+    let stepped = rw (c.in_default-find_stepped.is, take_rest rest (n + 1)) at c.find_stepped.ensures.visits in
+    omega (arith, before, stepped)
+
+pub slice_bounds-rest-count-in-loop-left : goal.slice_bounds-rest-count-in-loop-left
+slice_bounds-rest-count-in-loop-left c =
+    let (j, at, runs) = c.loop-left.invariant.runs in
+    let left = rw c.in-Some.is at c.find_from.ensures.found j at in
+    let (j', at', finds) = left.row in
+    let (next, there, goes) = rw c.in-Some-next.is at (c.step-step.ensures.step j' at').next in
+    (rw c.in-Some-find_stepped.is at c.find_stepped.ensures.found next there).within
+
+pub slice_bounds-rest-start-in-loop-left : goal.slice_bounds-rest-start-in-loop-left
+slice_bounds-rest-start-in-loop-left c =
+    let (j, at, runs) = c.loop-left.invariant.runs in
+    let left = rw c.in-Some.is at c.find_from.ensures.found j at in
+    let (j', at', finds) = left.row in
+    let (next, there, goes) = rw c.in-Some-next.is at (c.step-step.ensures.step j' at').next in
+    (rw c.in-Some-find_stepped.is at c.find_stepped.ensures.found next there).within
+
+pub loop-left-smaller : goal.loop-left-smaller
+loop-left-smaller c =
+    let rest = c.loop-left.rest.now in
+    let (j, at, runs) = c.loop-left.invariant.runs in
+    let left = rw c.in-Some.is at c.find_from.ensures.found j at in
+    let n = c.in-Some.left.at in
+    let p = c.in-Some-find_stepped.left.at in
+    let lt : n < length rest = omega (arith, left.within) in
+    let after = drop (n + 1) rest in
+    rw (take_rest rest (n + 1), take_rest after p) (omega (arith, length-drop p after, length-drop (n + 1) rest, lt))
+
 pub loop-left-preserved : goal.loop-left-preserved
 loop-left-preserved c =
     let m = c.args.automaton.now in
@@ -104,77 +177,28 @@ loop-left-preserved c =
     let b : ℕ = get_or rest n 0 in
     let after = drop (n + 1) rest in
     let more : drop n rest ≡ b ∷ after = drop_more rest n 0 lt in
+    let past = take_rest rest (n + 1) in
     let (j', at', finds) = left.row in
     let step = c.step-step.ensures.step j' at' in
     let (next, there, goes) = rw c.in-Some-next.is at step.next in
     let told = rw c.index_count-half.ensures at c.tell.ensures.has in
-    let w = size m + 1 in
-    let len : length after ≡ length rest - (n + 1) = length-drop (n + 1) rest in
-    rw (take_rest rest (n + 1)) record {
-      sound = c.step-step.ensures.sound;
-      room = c.tell.ensures.room ∙ c.find_from.ensures.room ∙ inv.room;
-      runs = (
-        next,
-        there,
-        λ k. iff_trans (next_found (half m) (AcceptsRow m rows j') c.step-step.result.has_marks (has_index c.step-step.new.self.ends) step.marks step.ends
-            (AcceptsRow m c.step-step.new.self next) b goes after k (has_index c.find_from.new.found k) (has_index c.tell.new.found k) _ (told k) (rw more at finds k)) (runs k),
-      );
-      visits =
-          let whole : length rest ≡ length after + n + 1 = omega (arith, len, lt) in
-          visits_left (length after) n w c.loop-left.visits c.find_from.new.visits c.step-step.new.visits _ (omega arith) c.in-Some.ensures.visits (omega (arith, c.step-step.ensures.visits)) (rw whole at inv.visits);
-      counted = omega (arith, inv.counted, c.find_from.ensures.counted, c.step-step.ensures.counted);
-    }
-
-pub loop-left-smaller : goal.loop-left-smaller
-loop-left-smaller c =
-    let rest = c.loop-left.rest.now in
-    let (j, at, runs) = c.loop-left.invariant.runs in
-    let left = rw c.in-Some.is at c.find_from.ensures.found j at in
-    let n = c.in-Some.left.at in
-    let lt : n < length rest = omega (arith, left.within) in
-    rw (take_rest rest (n + 1)) (omega (arith, length-drop (n + 1) rest, lt))
-
-pub find_stepped-requires-clause-row : goal.find_stepped-requires-clause-row
-find_stepped-requires-clause-row c =
-    let (j, at, runs) = c.loop-left.invariant.runs in
-    let left = rw c.in-Some.is at c.find_from.ensures.found j at in
-    let (j', at', finds) = left.row in
-    let (next, there, goes) = rw c.in-Some-next.is at (c.step-step.ensures.step j' at').next in
-    (next, there)
-
-pub returns-then-gives_up_since-clause-found : goal.returns-then-gives_up_since-clause-found
-returns-then-gives_up_since-clause-found c = λ k.
-    let m = c.args.automaton.now in
-    let rows = c.loop-left.self in
-    let rest = c.loop-left.rest.now in
-    let (j, at, runs) = c.loop-left.invariant.runs in
-    let left = rw c.in-Some.is at c.find_from.ensures.found j at in
-    let n = c.in-Some.left.at in
-    let lt : n < length rest = omega (arith, left.within) in
-    let b : ℕ = get_or rest n 0 in
-    let after = drop (n + 1) rest in
-    let more : drop n rest ≡ b ∷ after = drop_more rest n 0 lt in
-    let (j', at', finds) = left.row in
-    let step = c.step-step.ensures.step j' at' in
-    let (next, there, goes) = rw c.in-Some-next.is at step.next in
-    let told = rw c.index_count-half.ensures at c.tell.ensures.has in
-    let found = rw (take_rest rest (n + 1)) at c.find_stepped.ensures.found next there k in
-    iff_trans found (iff_trans (next_found (half m) (AcceptsRow m rows j') c.step-step.result.has_marks (has_index c.step-step.new.self.ends) step.marks step.ends
-    (AcceptsRow m c.step-step.new.self next) b goes after k (has_index c.find_from.new.found k) (has_index c.tell.new.found k) _ (told k) (rw more at finds k)) (runs k))
-
-pub returns-then-gives_up_since-clause-visits : goal.returns-then-gives_up_since-clause-visits
-returns-then-gives_up_since-clause-visits c =
-    let m = c.args.automaton.now in
-    let inv = c.loop-left.invariant in
-    let rest = c.loop-left.rest.now in
-    let (j, at, runs) = inv.runs in
-    let left = rw c.in-Some.is at c.find_from.ensures.found j at in
-    let n = c.in-Some.left.at in
-    let lt : n < length rest = omega (arith, left.within) in
-    let after = drop (n + 1) rest in
     let w = size m + 1 in
     let len : length after ≡ length rest - (n + 1) = length-drop (n + 1) rest in
     let whole : length rest ≡ length after + n + 1 = omega (arith, len, lt) in
     let before = visits_left (length after) n w c.loop-left.visits c.find_from.new.visits c.step-step.new.visits _ (omega arith) c.in-Some.ensures.visits (omega (arith, c.step-step.ensures.visits)) (rw whole at inv.visits) in
-    let stepped = rw (take_rest rest (n + 1)) at c.find_stepped.ensures.visits in
-    omega (arith, before, stepped)
+    let p = c.in-Some-find_stepped.left.at in
+    let stepped = rw (c.in-Some-find_stepped.is, past) at c.find_stepped.ensures.found next there in
+    let (last, here, finds') = stepped.row in
+    let parts : length after ≡ length (drop p after) + p = omega (arith, length-drop p after, stepped.within) in
+    rw (past, take_rest after p) record {
+      sound = c.find_stepped.ensures.sound;
+      room = c.find_stepped.ensures.room ∙ c.tell.ensures.room ∙ c.find_from.ensures.room ∙ inv.room;
+      runs = (
+        last,
+        here,
+        λ k. iff_trans (finds' k) (iff_trans (next_found (half m) (AcceptsRow m rows j') c.step-step.result.has_marks (has_index c.step-step.new.self.ends) step.marks step.ends
+            (AcceptsRow m c.step-step.new.self next) b goes after k (has_index c.find_from.new.found k) (has_index c.tell.new.found k) _ (told k) (rw more at finds k)) (runs k)),
+      );
+      visits = visits_stepped (length (drop p after)) p w c.step-step.new.visits c.find_stepped.new.visits _ (rw parts at before) c.in-Some-find_stepped.ensures.visits;
+      counted = omega (arith, inv.counted, c.find_from.ensures.counted, c.step-step.ensures.counted, c.find_stepped.ensures.counted);
+    }

@@ -1,31 +1,46 @@
-use Rattle.std.proofs.Common.{refl, arith}
+use Rattle.std.proofs.Common.{◌≡◌, ◌++◌, take, drop, arith, take-append-drop}
 use Rattle.byte_nfa.proofs.lemmas.Pass.{iff_trans}
 use Rattle.byte_nfa.specs.Runs.{AcceptsFrom}
 use Rattle.lazy_dfa.specs.inner.Sources.{half}
 use Rattle.lazy_dfa.specs.inner.Rows.{AcceptsRow}
 use Rattle.lazy_dfa.proofs.lemmas.Finding.{iff_beside, finds_same}
-use Rattle.lazy_dfa.proofs.lemmas.Rows.{same_sound}
+use Rattle.lazy_dfa.proofs.lemmas.Lists.{iff_sym}
+use Rattle.lazy_dfa.proofs.lemmas.Rows.{sets_sound}
 use Rattle.lazy_dfa.proofs.rows.Rows.find_stepped.Goals as goal
 
-pub returns-clause-sound : goal.returns-clause-sound
-returns-clause-sound c =
-    let sound = c.take_states.ensures.sound in
-    let room = sound.room in
-    same_sound c.args.automaton.now c.take_states.new.self _ record { starts = refl; lists = refl; class_of = refl; class_count = refl } refl refl record {
-      from = omega (arith, room.from, room.next, c.find.ensures.sets);
-      next = omega (arith, room.from, room.next, c.find.ensures.sets);
-      first = room.first;
-      ends = room.ends;
-      list = room.list;
-      told = room.told;
-      lists = room.lists;
-      starts = room.starts;
-      entries = room.entries;
-      width = room.width;
-    } sound
+pub returns-then-not-run-clause-sound : goal.returns-then-not-run-clause-sound
+returns-then-not-run-clause-sound c =
+    let room = c.take_states.ensures.sound.room in
+    sets_sound c.args.automaton.now c.take_states.new.self c.run.new.from c.run.new.to (omega (arith, room.from, room.next, c.run.ensures.sets)) (omega (arith, room.from, room.next, c.run.ensures.sets)) c.take_states.ensures.sound
+
+pub row_of_from-place-requires : goal.row_of_from-place-requires
+row_of_from-place-requires c =
+    let room = c.take_states.ensures.sound.room in
+    sets_sound c.args.automaton.now c.take_states.new.self c.run.new.from c.run.new.to (omega (arith, room.from, room.next, c.run.ensures.sets)) (omega (arith, room.from, room.next, c.run.ensures.sets)) c.take_states.ensures.sound
+
+pub returns-then-not-run-clause-found : goal.returns-then-not-run-clause-found
+returns-then-not-run-clause-found c = λ i at k.
+    let m = c.args.automaton.now in
+    let text = c.args.text.now in
+    let n = c.next-count.result in
+    let whole : take n text ++ drop n text ≡ text = take-append-drop n text in
+    iff_trans (rw whole at (c.run.ensures.none c.if-not-run.true (drop n text) k))
+    (iff_beside (finds_same (half m) (AcceptsFrom m c.take_states.new.self.from) (AcceptsRow m c.args.self.now i) (c.take_states.ensures.states i at) text k))
 
 pub returns-clause-found : goal.returns-clause-found
-returns-clause-found c = λ i at k.
+returns-clause-found c = λ i at.
     let m = c.args.automaton.now in
-    iff_trans (c.find.ensures.found k)
-    (iff_beside (finds_same (half m) (AcceptsFrom m c.take_states.new.self.from) (AcceptsRow m c.args.self.now i) (c.take_states.ensures.states i at) c.args.text.now k))
+    let text = c.args.text.now in
+    let n = c.next-count.result in
+    let whole : take n text ++ drop n text ≡ text = take-append-drop n text in
+    let (j, there, same) = c.row_of_from-place.ensures.row in
+    record {
+      within = c.next-count.ensures.within;
+      row = (
+        j,
+        there,
+        λ k. iff_trans (iff_trans (iff_beside (iff_sym (finds_same (half m) (AcceptsFrom m c.run.new.from) (AcceptsRow m c.row_of_from-place.new.self j) same (drop n text) k)))
+            (rw whole at (c.run.ensures.found c.if-not-run.false (drop n text) k)))
+            (iff_beside (finds_same (half m) (AcceptsFrom m c.take_states.new.self.from) (AcceptsRow m c.args.self.now i) (c.take_states.ensures.states i at) text k)),
+      );
+    }

@@ -5,8 +5,8 @@ use Rattle.byte_nfa.specs.Steps.{IsReached}
 use Rattle.byte_nfa.proofs.lemmas.Pass.{iff_trans}
 use Rattle.lazy_dfa.specs.inner.Sources.{half}
 use Rattle.lazy_dfa.specs.inner.Rows.{AcceptsRow}
-use Rattle.lazy_dfa.proofs.lemmas.Finding.{finds_same, at_quiet, at_dead, visits_left}
-use Rattle.lazy_dfa.proofs.lemmas.Reading.{read_on, read_by}
+use Rattle.lazy_dfa.proofs.lemmas.Finding.{finds_same, at_quiet, at_dead, visits_left, visits_stepped}
+use Rattle.lazy_dfa.proofs.lemmas.Reading.{read_on}
 use Rattle.lazy_dfa.proofs.rows.Rows.read.Goals as goal
 
 pub loop-reached-init : goal.loop-reached-init
@@ -101,6 +101,79 @@ returns-in_default-next-clause-visits c =
     let h = visits_left (length after) n (size m + 1) c.loop-reached.visits c.read_from.new.visits c.step-step.new.visits _ (omega arith) c.in-Err.ensures.visits (omega (arith, c.step-step.ensures.visits)) (rw whole at inv.visits) in
     omega (arith, h)
 
+pub read_stepped-requires-clause-row : goal.read_stepped-requires-clause-row
+read_stepped-requires-clause-row c =
+    let rest = c.loop-reached.rest.now in
+    let (j, at, runs) = c.loop-reached.invariant.runs in
+    let left = rw c.in-Err.is at c.read_from.ensures.reached j at in
+    let (j', at', finds) = left.row in
+    let (next, there, goes) = rw c.in-Some-next.is at (c.step-step.ensures.step j' at').next in
+    (next, there)
+
+pub returns-in-Ok-read_stepped-clause-reached : goal.returns-in-Ok-read_stepped-clause-reached
+returns-in-Ok-read_stepped-clause-reached c =
+    let m = c.args.automaton.now in
+    let rows = c.loop-reached.self in
+    let inv = c.loop-reached.invariant in
+    let rest = c.loop-reached.rest.now in
+    let (j, at, runs) = inv.runs in
+    let left = rw c.in-Err.is at c.read_from.ensures.reached j at in
+    let n = c.in-Err.left.at in
+    let b = c.in-Some.byte.now in
+    let after = c.in-Some.after.now in
+    let more : drop n rest ≡ b ∷ after = sym (take_rest rest n) ∙ (rw c.in-Some.is at c.split_first.ensures.cases).0 in
+    let (j', at', finds) = left.row in
+    let step = c.step-step.ensures.step j' at' in
+    let (next, there, goes) = rw c.in-Some-next.is at step.next in
+    read_on m c.read_stepped.new.self (AcceptsRow m c.step-step.new.self next) (IsReached m) after c.args.text.now c.in-Ok-read_stepped.reached
+    (λ z k. iff_trans (iff_trans (at_quiet (half m) (AcceptsRow m rows j') (AcceptsRow m c.step-step.new.self next) b goes
+    (λ d low a. true≢false (sym (step.marks.1 (d, low, a)) ∙ c.if-step.false)) (after ++ z) k) (rw more at finds z k)) (runs z k))
+    (rw c.in-Ok-read_stepped.is at c.read_stepped.ensures.reached next there)
+
+pub returns-in-Ok-read_stepped-clause-visits : goal.returns-in-Ok-read_stepped-clause-visits
+returns-in-Ok-read_stepped-clause-visits c =
+    let m = c.args.automaton.now in
+    let inv = c.loop-reached.invariant in
+    let rest = c.loop-reached.rest.now in
+    let (j, at, runs) = inv.runs in
+    let left = rw c.in-Err.is at c.read_from.ensures.reached j at in
+    let n = c.in-Err.left.at in
+    let after = c.in-Some.after.now in
+    let more = sym (take_rest rest n) ∙ (rw c.in-Some.is at c.split_first.ensures.cases).0 in
+    let w = size m + 1 in
+    let whole : length rest ≡ length after + n + 1 = omega (arith, length-drop n rest, ap length more, left.within) in
+    let before = visits_left (length after) n w c.loop-reached.visits c.read_from.new.visits c.step-step.new.visits _ (omega arith) c.in-Err.ensures.visits (omega (arith, c.step-step.ensures.visits)) (rw whole at inv.visits) in
+    omega (arith, before, rw c.in-Ok-read_stepped.is at c.read_stepped.ensures.visits)
+
+pub slice_bounds-rest-count : goal.slice_bounds-rest-count
+slice_bounds-rest-count c =
+    let rest = c.loop-reached.rest.now in
+    let (j, at, runs) = c.loop-reached.invariant.runs in
+    let left = rw c.in-Err.is at c.read_from.ensures.reached j at in
+    let (j', at', finds) = left.row in
+    let (next, there, goes) = rw c.in-Some-next.is at (c.step-step.ensures.step j' at').next in
+    (rw c.in-Err-read_stepped.is at c.read_stepped.ensures.reached next there).within
+
+pub slice_bounds-rest-start : goal.slice_bounds-rest-start
+slice_bounds-rest-start c =
+    let rest = c.loop-reached.rest.now in
+    let (j, at, runs) = c.loop-reached.invariant.runs in
+    let left = rw c.in-Err.is at c.read_from.ensures.reached j at in
+    let (j', at', finds) = left.row in
+    let (next, there, goes) = rw c.in-Some-next.is at (c.step-step.ensures.step j' at').next in
+    (rw c.in-Err-read_stepped.is at c.read_stepped.ensures.reached next there).within
+
+pub loop-reached-smaller : goal.loop-reached-smaller
+loop-reached-smaller c =
+    let rest = c.loop-reached.rest.now in
+    let (j, at, runs) = c.loop-reached.invariant.runs in
+    let left = rw c.in-Err.is at c.read_from.ensures.reached j at in
+    let n = c.in-Err.left.at in
+    let after = c.in-Some.after.now in
+    let p = c.in-Err-read_stepped.left.at in
+    let more = sym (take_rest rest n) ∙ (rw c.in-Some.is at c.split_first.ensures.cases).0 in
+    rw (take_rest after p) (omega (arith, length-drop p after, length-drop n rest, ap length more, left.within))
+
 pub loop-reached-preserved : goal.loop-reached-preserved
 loop-reached-preserved c =
     let m = c.args.automaton.now in
@@ -113,52 +186,24 @@ loop-reached-preserved c =
     let b = c.in-Some.byte.now in
     let after = c.in-Some.after.now in
     let more : drop n rest ≡ b ∷ after = sym (take_rest rest n) ∙ (rw c.in-Some.is at c.split_first.ensures.cases).0 in
-    let whole : length rest ≡ length after + n + 1 = omega (arith, length-drop n rest, ap length more, left.within) in
     let (j', at', finds) = left.row in
     let step = c.step-step.ensures.step j' at' in
     let (next, there, goes) = rw c.in-Some-next.is at step.next in
     let w = size m + 1 in
-    record {
-      sound = c.step-step.ensures.sound;
-      runs = (
-        next,
-        there,
-        λ z k. iff_trans (iff_trans (at_quiet (half m) (AcceptsRow m rows j') (AcceptsRow m c.step-step.new.self next) b goes
-            (λ d low a. true≢false (sym (step.marks.1 (d, low, a)) ∙ c.if-step.false)) (after ++ z) k) (rw more at finds z k)) (runs z k),
-      );
-      visits = visits_left (length after) n w c.loop-reached.visits c.read_from.new.visits c.step-step.new.visits _ (omega arith) c.in-Err.ensures.visits (omega (arith, c.step-step.ensures.visits)) (rw whole at inv.visits);
-      counted = omega (arith, inv.counted, c.read_from.ensures.counted, c.step-step.ensures.counted);
-    }
-
-pub returns-then-gives_up_since-clause-reached : goal.returns-then-gives_up_since-clause-reached
-returns-then-gives_up_since-clause-reached c =
-    let m = c.args.automaton.now in
-    let rows = c.loop-reached.self in
-    let rest = c.loop-reached.rest.now in
-    let (j, at, runs) = c.loop-reached.invariant.runs in
-    let left = rw c.in-Err.is at c.read_from.ensures.reached j at in
-    let n = c.in-Err.left.at in
-    let b = c.in-Some.byte.now in
-    let after = c.in-Some.after.now in
-    let more : drop n rest ≡ b ∷ after = sym (take_rest rest n) ∙ (rw c.in-Some.is at c.split_first.ensures.cases).0 in
-    let (j', at', finds) = left.row in
-    let step = c.step-step.ensures.step j' at' in
-    let (next, there, goes) = rw c.in-Some-next.is at step.next in
-    read_by m c.read_stepped.new.self (AcceptsRow m c.step-step.new.self next) (IsReached m) after c.args.text.now c.read_stepped.result
-    (λ z k. iff_trans (iff_trans (at_quiet (half m) (AcceptsRow m rows j') (AcceptsRow m c.step-step.new.self next) b goes
-    (λ d low a. true≢false (sym (step.marks.1 (d, low, a)) ∙ c.if-step.false)) (after ++ z) k) (rw more at finds z k)) (runs z k))
-    (c.read_stepped.ensures.reached next there)
-
-pub returns-then-gives_up_since-clause-visits : goal.returns-then-gives_up_since-clause-visits
-returns-then-gives_up_since-clause-visits c =
-    let m = c.args.automaton.now in
-    let inv = c.loop-reached.invariant in
-    let rest = c.loop-reached.rest.now in
-    let (j, at, runs) = inv.runs in
-    let left = rw c.in-Err.is at c.read_from.ensures.reached j at in
-    let n = c.in-Err.left.at in
-    let after = c.in-Some.after.now in
-    let more = sym (take_rest rest n) ∙ (rw c.in-Some.is at c.split_first.ensures.cases).0 in
     let whole : length rest ≡ length after + n + 1 = omega (arith, length-drop n rest, ap length more, left.within) in
-    let h = visits_left (length after) n (size m + 1) c.loop-reached.visits c.read_from.new.visits c.step-step.new.visits _ (omega arith) c.in-Err.ensures.visits (omega (arith, c.step-step.ensures.visits)) (rw whole at inv.visits) in
-    omega (arith, h, c.read_stepped.ensures.visits)
+    let before = visits_left (length after) n w c.loop-reached.visits c.read_from.new.visits c.step-step.new.visits _ (omega arith) c.in-Err.ensures.visits (omega (arith, c.step-step.ensures.visits)) (rw whole at inv.visits) in
+    let p = c.in-Err-read_stepped.left.at in
+    let stepped = rw c.in-Err-read_stepped.is at c.read_stepped.ensures.reached next there in
+    let (last, here, finds') = stepped.row in
+    let parts : length after ≡ length (drop p after) + p = omega (arith, length-drop p after, stepped.within) in
+    rw (take_rest after p) record {
+      sound = c.read_stepped.ensures.sound;
+      runs = (
+        last,
+        here,
+        λ z k. iff_trans (finds' z k) (iff_trans (iff_trans (at_quiet (half m) (AcceptsRow m rows j') (AcceptsRow m c.step-step.new.self next) b goes
+            (λ d low a. true≢false (sym (step.marks.1 (d, low, a)) ∙ c.if-step.false)) (after ++ z) k) (rw more at finds z k)) (runs z k)),
+      );
+      visits = visits_stepped (length (drop p after)) p w c.step-step.new.visits c.read_stepped.new.visits _ (rw parts at before) c.in-Err-read_stepped.ensures.visits;
+      counted = omega (arith, inv.counted, c.read_from.ensures.counted, c.step-step.ensures.counted, c.read_stepped.ensures.counted);
+    }

@@ -1,77 +1,65 @@
-use Rattle.std.proofs.Common.{◌++◌, refl, arith}
+use Rattle.std.proofs.Common.{◌≡◌, ◌++◌, take, drop, arith, subst, sym, append_assoc, take-append-drop, ◌∙◌, ap, List, ℕ}
 use Rattle.byte_nfa.proofs.lemmas.Pass.{iff_trans}
 use Rattle.byte_nfa.specs.Runs.{AcceptsFrom}
 use Rattle.lazy_dfa.specs.inner.Sources.{half}
-use Rattle.lazy_dfa.specs.inner.Rows.{AcceptsRow}
+use Rattle.lazy_dfa.specs.inner.Rows.{AcceptsRow, FindsBy}
 use Rattle.lazy_dfa.proofs.lemmas.Finding.{finds_same}
-use Rattle.lazy_dfa.proofs.lemmas.Rows.{same_sound}
+use Rattle.lazy_dfa.proofs.lemmas.Lists.{iff_sym}
+use Rattle.lazy_dfa.proofs.lemmas.Rows.{sets_sound}
 use Rattle.lazy_dfa.proofs.rows.Rows.read_stepped.Goals as goal
+
+-- a text in two parts, and what follows it
+in_parts : (n : ℕ) (text z : List ℕ) → take n text ++ (drop n text ++ z) ≡ text ++ z
+in_parts n text z = sym (append_assoc (take n text) (drop n text) z) ∙ ap (λ y. y ++ z) (take-append-drop n text)
 
 pub returns-in-Decided-clause-sound : goal.returns-in-Decided-clause-sound
 returns-in-Decided-clause-sound c =
-    let sound = c.take_states.ensures.sound in
-    let room = sound.room in
-    same_sound c.args.automaton.now c.take_states.new.self _ record { starts = refl; lists = refl; class_of = refl; class_count = refl } refl refl record {
-      from = omega (arith, room.from, room.next, c.read.ensures.sets);
-      next = omega (arith, room.from, room.next, c.read.ensures.sets);
-      first = room.first;
-      ends = room.ends;
-      list = room.list;
-      told = room.told;
-      lists = room.lists;
-      starts = room.starts;
-      entries = room.entries;
-      width = room.width;
-    } sound
+    let room = c.take_states.ensures.sound.room in
+    sets_sound c.args.automaton.now c.take_states.new.self c.read.new.from c.read.new.to (omega (arith, room.from, room.next, c.read.ensures.sets)) (omega (arith, room.from, room.next, c.read.ensures.sets)) c.take_states.ensures.sound
 
 pub returns-in-NoState-clause-sound : goal.returns-in-NoState-clause-sound
 returns-in-NoState-clause-sound c =
-    let sound = c.take_states.ensures.sound in
-    let room = sound.room in
-    same_sound c.args.automaton.now c.take_states.new.self _ record { starts = refl; lists = refl; class_of = refl; class_count = refl } refl refl record {
-      from = omega (arith, room.from, room.next, c.read.ensures.sets);
-      next = omega (arith, room.from, room.next, c.read.ensures.sets);
-      first = room.first;
-      ends = room.ends;
-      list = room.list;
-      told = room.told;
-      lists = room.lists;
-      starts = room.starts;
-      entries = room.entries;
-      width = room.width;
-    } sound
+    let room = c.take_states.ensures.sound.room in
+    sets_sound c.args.automaton.now c.take_states.new.self c.read.new.from c.read.new.to (omega (arith, room.from, room.next, c.read.ensures.sets)) (omega (arith, room.from, room.next, c.read.ensures.sets)) c.take_states.ensures.sound
 
-pub returns-in-States-clause-sound : goal.returns-in-States-clause-sound
-returns-in-States-clause-sound c =
-    let sound = c.take_states.ensures.sound in
-    let room = sound.room in
-    same_sound c.args.automaton.now c.take_states.new.self _ record { starts = refl; lists = refl; class_of = refl; class_count = refl } refl refl record {
-      from = omega (arith, room.from, room.next, c.read.ensures.sets);
-      next = omega (arith, room.from, room.next, c.read.ensures.sets);
-      first = room.first;
-      ends = room.ends;
-      list = room.list;
-      told = room.told;
-      lists = room.lists;
-      starts = room.starts;
-      entries = room.entries;
-      width = room.width;
-    } sound
+pub row_of_from-place-requires : goal.row_of_from-place-requires
+row_of_from-place-requires c =
+    let room = c.take_states.ensures.sound.room in
+    sets_sound c.args.automaton.now c.take_states.new.self c.read.new.from c.read.new.to (omega (arith, room.from, room.next, c.read.ensures.sets)) (omega (arith, room.from, room.next, c.read.ensures.sets)) c.take_states.ensures.sound
 
 pub returns-in-Decided-clause-reached : goal.returns-in-Decided-clause-reached
 returns-in-Decided-clause-reached c = λ i at z.
     let m = c.args.automaton.now in
-    let (k, finds) = (rw c.in-Decided.is at c.read.ensures.led) z in
-    (k, (finds_same (half m) (AcceptsFrom m c.take_states.new.self.from) (AcceptsRow m c.args.self.now i) (c.take_states.ensures.states i at) (c.args.text.now ++ z) k).0 finds)
+    let text = c.args.text.now in
+    let n = c.next-count.result in
+    let (k, finds) = (rw c.in-Decided.is at c.read.ensures.led) (drop n text ++ z) in (
+      k,
+      (finds_same (half m) (AcceptsFrom m c.take_states.new.self.from) (AcceptsRow m c.args.self.now i) (c.take_states.ensures.states i at) (text ++ z) k).0
+          (subst (λ y. FindsBy (half m) (AcceptsFrom m c.take_states.new.self.from) y k) (in_parts n text z) finds),
+    )
 
 pub returns-in-NoState-clause-reached : goal.returns-in-NoState-clause-reached
 returns-in-NoState-clause-reached c = λ i at z k found.
     let m = c.args.automaton.now in
-    (rw c.in-NoState.is at c.read.ensures.led) z k
-    ((finds_same (half m) (AcceptsFrom m c.take_states.new.self.from) (AcceptsRow m c.args.self.now i) (c.take_states.ensures.states i at) (c.args.text.now ++ z) k).1 found)
+    let text = c.args.text.now in
+    let n = c.next-count.result in
+    (rw c.in-NoState.is at c.read.ensures.led) (drop n text ++ z) k
+    (subst (λ y. FindsBy (half m) (AcceptsFrom m c.take_states.new.self.from) y k) (sym (in_parts n text z))
+    ((finds_same (half m) (AcceptsFrom m c.take_states.new.self.from) (AcceptsRow m c.args.self.now i) (c.take_states.ensures.states i at) (text ++ z) k).1 found))
 
 pub returns-in-States-clause-reached : goal.returns-in-States-clause-reached
-returns-in-States-clause-reached c = λ i at z k.
+returns-in-States-clause-reached c = λ i at.
     let m = c.args.automaton.now in
-    iff_trans ((rw c.in-States.is at c.read.ensures.led) z k)
-    (finds_same (half m) (AcceptsFrom m c.take_states.new.self.from) (AcceptsRow m c.args.self.now i) (c.take_states.ensures.states i at) (c.args.text.now ++ z) k)
+    let text = c.args.text.now in
+    let n = c.next-count.result in
+    let (j, there, same) = c.row_of_from-place.ensures.row in
+    record {
+      within = c.next-count.ensures.within;
+      row = (
+        j,
+        there,
+        λ z k. iff_trans (iff_trans (iff_sym (finds_same (half m) (AcceptsFrom m c.read.new.from) (AcceptsRow m c.row_of_from-place.new.self j) same (drop n text ++ z) k))
+            (rw (in_parts n text z) at ((rw c.in-States.is at c.read.ensures.led) (drop n text ++ z) k)))
+            (finds_same (half m) (AcceptsFrom m c.take_states.new.self.from) (AcceptsRow m c.args.self.now i) (c.take_states.ensures.states i at) (text ++ z) k),
+      );
+    }

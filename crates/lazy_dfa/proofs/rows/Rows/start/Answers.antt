@@ -1,4 +1,4 @@
-use Rattle.std.proofs.Common.{◌≡◌, ◌++◌, refl, ap, arith, sym, ◌∙◌}
+use Rattle.std.proofs.Common.{◌≡◌, refl, arith, sym, ◌∙◌}
 use Rattle.byte_nfa.proofs.lemmas.Pass.{iff_trans}
 use Rattle.lazy_dfa.proofs.lemmas.Lists.{iff_sym}
 use Rattle.lazy_dfa.proofs.lemmas.Rows.{same_sound, begun_sound}
@@ -15,7 +15,7 @@ seek-found-requires-clause-sound c =
       next = room.next;
       first = room.first;
       ends = room.ends;
-      list = omega (arith, room.list, c.clear.ensures.capacity, c.extend_within.ensures.capacity);
+      list = omega (arith, room.list, c.copy_within.ensures.capacity);
       told = room.told;
       lists = room.lists;
       starts = room.starts;
@@ -25,13 +25,13 @@ seek-found-requires-clause-sound c =
 
 pub returns-clause-begins : goal.returns-clause-begins
 returns-clause-begins c =
-    let loaded = c.extend_within.ensures.items ∙ ap (λ l. l ++ c.deref.result.now) c.clear.ensures.items ∙ c.deref.ensures.value in
+    let loaded = c.copy_within.ensures.items ∙ c.deref.ensures.value in
     (c.seek-found.result.row, (c.seek-found.ensures.row, c.place_of_row-place.ensures), λ y k. iff_trans (iff_sym (c.seek-found.ensures.states y k)) (rw loaded (c.requires.room.first.accepts y k)))
 
 pub returns-clause-sound : goal.returns-clause-sound
 returns-clause-sound c =
     let sound = c.seek-found.ensures.sound in
-    let loaded = c.extend_within.ensures.items ∙ ap (λ l. l ++ c.deref.result.now) c.clear.ensures.items ∙ c.deref.ensures.value in
+    let loaded = c.copy_within.ensures.items ∙ c.deref.ensures.value in
     let room = sound.room in
     begun_sound c.args.automaton.now c.seek-found.new.self _ record { starts = refl; lists = refl; class_of = refl; class_count = refl } refl record {
       from = room.from;

@@ -1,0 +1,28 @@
+use Rattle.std.proofs.Common.{refl, arith}
+use Rattle.byte_nfa.proofs.lemmas.Pass.{iff_trans}
+use Rattle.lazy_dfa.proofs.lemmas.Rows.{accepts_listed, same_sound}
+use Rattle.lazy_dfa.proofs.rows.Rows.row_of_from.Goals as goal
+
+pub seek-found-requires-clause-sound : goal.seek-found-requires-clause-sound
+seek-found-requires-clause-sound c =
+    let room = c.requires.room in
+    same_sound c.args.automaton.now c.args.self.now _ record { starts = refl; lists = refl; class_of = refl; class_count = refl } refl refl record {
+      from = room.from;
+      next = room.next;
+      first = room.first;
+      ends = room.ends;
+      list = omega (arith, room.list, c.list_of.ensures.capacity);
+      told = room.told;
+      lists = room.lists;
+      starts = room.starts;
+      entries = room.entries;
+      width = room.width;
+    } c.requires
+
+pub returns-clause-row : goal.returns-clause-row
+returns-clause-row c =
+    let m = c.args.automaton.now in (
+      c.seek-found.result.row,
+      (c.seek-found.ensures.row, c.place_of_row.ensures),
+      λ y k. iff_trans (accepts_listed m c.args.self.now.from c.list_of.new.list.items (rw c.state_count.ensures at c.list_of.ensures.has) y k) (c.seek-found.ensures.states y k),
+    )

@@ -1,0 +1,24 @@
+use Rattle.std.proofs.Common.{refl, arith, ◌∙◌}
+use Rattle.lazy_dfa.proofs.lemmas.Rows.{same_sound}
+use Rattle.lazy_dfa.proofs.rows.Rows.take_over.Goals as goal
+
+pub returns : goal.returns
+returns c =
+    let room = c.requires.sound.room in
+    same_sound c.args.automaton.now c.args.other.now _ record {
+      starts = c.copy_within.ensures.items ∙ c.deref.ensures.value;
+      lists = c.copy_within-2.ensures.items ∙ c.deref-2.ensures.value;
+      class_of = refl;
+      class_count = omega (arith, c.if-other-self.false);
+    } (c.copy_within-3.ensures.items ∙ c.deref-3.ensures.value) refl record {
+      from = room.from;
+      next = room.next;
+      first = room.first;
+      ends = room.ends;
+      list = room.list;
+      told = room.told;
+      lists = omega (arith, room.lists, c.copy_within-2.ensures.capacity);
+      starts = omega (arith, room.starts, c.copy_within.ensures.capacity);
+      entries = omega (arith, room.entries, c.copy_within-3.ensures.capacity);
+      width = room.width;
+    } c.requires.other

@@ -1,0 +1,173 @@
+//! Parts of a text that are read by sets of states, where rows do not fit.
+
+ghost use Rattle.std.specs.Prelude.{◌≡◌, ℕ, ◌+◌, ◌*◌, ◌<◌, ◌≤◌, ◌↔◌, List, length, MatchOption, MatchResult};
+ghost use Rattle.bit_sets.specs.Indexes.{index_capacity};
+ghost use Rattle.byte_nfa.specs.EarlyMatches.{EndsAtEarlyMatches};
+ghost use Rattle.byte_nfa.specs.Runs.{size, AcceptsFrom};
+ghost use Rattle.byte_nfa.specs.Steps.{NfaValue};
+ghost use Rattle.lazy_dfa.specs.inner.Reached.{HasRead, IsLeft, IsWhereBy};
+ghost use Rattle.lazy_dfa.specs.inner.Rows.{AcceptsRow, AddsFound, IsAt, IsSound};
+ghost use Rattle.lazy_dfa.specs.inner.Sources.{half};
+
+use super::Rows;
+use crate::lists::{list_of, put_states, states_at};
+use crate::run::{Left, Reached};
+use crate::stepping::{self, Led};
+use bit_sets::{IndexSet, Visits};
+use byte_nfa::Nfa;
+
+/// When a run gave up rows, or began, and for how many bytes it gives them up the next time.
+#[derive(Clone, Copy)]
+pub struct GivenUp {
+    /// The seed of the rows then.
+    seed: usize,
+    bytes: usize,
+}
+
+impl GivenUp {
+    /// Returns that a run begins by these rows.
+    pub fn new(rows: &Rows) -> GivenUp {
+        GivenUp {
+            seed: rows.seed,
+            bytes: 0,
+        }
+    }
+
+    /// Returns how many bytes a run reads by sets of states, of so many that are left of a text: none, unless rows were forgotten twice
+    /// since it gave them up. Where most bytes need a new row, to make it takes longer than to step over states.
+    ///
+    /// They are more bytes than there are states, and twice as many each time: so a text that never fits makes few rows, and one that
+    /// fits later is read by rows then.
+    fn next(&mut self, rows: &Rows, states: usize, rest: usize) -> usize
+        ensures within { result ≤ rest }
+        ensures long { 0 < result → states < result }
+    {
+        if rows.seed.wrapping_sub(self.seed) < 2 || rest <= states {
+            return 0;
+        }
+        let bytes = self.bytes.max(states + 1);
+        self.seed = rows.seed;
+        self.bytes = bytes.saturating_mul(2);
+        bytes.min(rest)
+    }
+}
+
+impl Rows {
+    /// Puts what is found in the next bytes of a text from the row at a place into a set, beside what it holds, by sets of states, if a
+    /// run gives up rows. Returns from where the run goes on, or `None` if nothing follows.
+    pub fn find_stepped(
+        &mut self,
+        automaton: &Nfa,
+        place: usize,
+        text: &[u8],
+        given_up: &mut GivenUp,
+        found: &mut IndexSet,
+        visits: &mut Visits,
+    ) -> Option<Left>
+        requires sound { IsSound automaton.now self.old }
+        requires row { (i : ℕ) × IsAt self.old i place }
+        requires room { half automaton.now ≤ index_capacity found.old }
+        requires early { (source : NfaValue) × EndsAtEarlyMatches source automaton.now }
+        ensures sound { IsSound automaton.now self.new }
+        ensures room { index_capacity found.new ≡ index_capacity found.old }
+        ensures found { (i : ℕ) → IsAt self.old i place
+            → MatchOption result (AddsFound automaton.now self.old i text.now found.old found.new)
+            (IsLeft automaton.now self.old i text.now found.old self.new found.new) }
+        ensures visits { MatchOption result
+            (visits.new ≤ visits.old + length text.now * (size automaton.now + 1))
+            (λ left. visits.new ≤ visits.old + left.at * (size automaton.now + 1)) }
+        ensures counted { visits.old ≤ visits.new }
+    {
+        let count = given_up.next(self, automaton.state_count(), text.len());
+        if count == 0 {
+            return Some(Left { at: 0, place });
+        }
+        self.take_states(automaton, place);
+        if !stepping::run(
+            automaton,
+            &text[..count],
+            &mut self.from,
+            &mut self.next,
+            found,
+            visits,
+        ) {
+            return None;
+        }
+        let place = self.row_of_from(automaton, visits);
+        Some(Left { at: count, place })
+    }
+
+    /// Reads the next bytes of a text from the row at a place by sets of states, up to the first index that is decided, if a run gives
+    /// up rows. Returns an error that says from where the run goes on.
+    pub fn read_stepped(
+        &mut self,
+        automaton: &Nfa,
+        place: usize,
+        text: &[u8],
+        given_up: &mut GivenUp,
+        visits: &mut Visits,
+    ) -> Result<Reached, Left>
+        requires sound { IsSound automaton.now self.old }
+        requires row { (i : ℕ) × IsAt self.old i place }
+        requires early { (source : NfaValue) × EndsAtEarlyMatches source automaton.now }
+        ensures sound { IsSound automaton.now self.new }
+        ensures reached { (i : ℕ) → IsAt self.old i place → MatchResult result
+            (IsWhereBy automaton.now self.new (AcceptsRow automaton.now self.old i) text.now)
+            (HasRead automaton.now self.old i text.now self.new) }
+        ensures visits { MatchResult result
+            (λ _. visits.new ≤ visits.old + length text.now * (size automaton.now + 1))
+            (λ left. visits.new ≤ visits.old + left.at * (size automaton.now + 1)) }
+        ensures counted { visits.old ≤ visits.new }
+    {
+        let count = given_up.next(self, automaton.state_count(), text.len());
+        if count == 0 {
+            return Err(Left { at: 0, place });
+        }
+        self.take_states(automaton, place);
+        match stepping::read(
+            automaton,
+            &text[..count],
+            &mut self.from,
+            &mut self.next,
+            visits,
+        ) {
+            Led::Decided => Ok(Reached::Decided),
+            Led::NoState => Ok(Reached::Nothing),
+            Led::States => {
+                let place = self.row_of_from(automaton, visits);
+                Err(Left { at: count, place })
+            }
+        }
+    }
+
+    /// Makes `from` the states of the row at a place.
+    fn take_states(&mut self, automaton: &Nfa, place: usize)
+        requires sound { IsSound automaton.now self.old }
+        requires row { (i : ℕ) × IsAt self.old i place }
+        ensures sound { IsSound automaton.now self.new }
+        ensures states { (i : ℕ) → IsAt self.old i place
+            → (y : List ℕ) (k : ℕ) → AcceptsFrom automaton.now self.new.from y k
+            ↔ AcceptsRow automaton.now self.old i y k }
+    {
+        let row = self.row_at(place);
+        self.from.clear();
+        let states = states_at(&self.starts, &self.lists, row);
+        put_states(states, &mut self.from);
+    }
+
+    /// Returns the place of the row of the states in `from`, and makes it if it is not there. It is at most a visit for each state, and
+    /// one.
+    fn row_of_from(&mut self, automaton: &Nfa, visits: &mut Visits) -> usize
+        requires { IsSound automaton.now self.old }
+        ensures sound { IsSound automaton.now self.new }
+        ensures row { (i : ℕ) × IsAt self.new i result
+            × ((y : List ℕ) (k : ℕ) → AcceptsFrom automaton.now self.old.from y k
+            ↔ AcceptsRow automaton.now self.new i y k) }
+        ensures visits { visits.new ≤ visits.old + (size automaton.now + 1) }
+        ensures counted { visits.old ≤ visits.new }
+    {
+        list_of(&self.from, automaton.state_count(), &mut self.list, visits);
+        let found = self.seek(automaton, visits);
+        self.place_of_row(found.row)
+    }
+}
