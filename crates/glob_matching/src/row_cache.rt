@@ -69,6 +69,26 @@ impl RowCache {
         })
     }
 
+    /// Returns a cache with the rows that another one has, if they fit into so many bytes, and none otherwise. `source` is the automaton
+    /// that the other one is for. All memory that it needs is taken here. Returns an error if memory runs out.
+    pub(crate) fn with_rows_of(
+        alloc: Global,
+        other: &RowCache,
+        bytes: usize,
+        source: &Snapshot<Nfa>,
+    ) -> Result<RowCache, AllocError>
+        requires { source.now.value ≡ other.now }
+        ensures { IfOk result (λ cache. cache ≡ source.now.value) }
+    {
+        let mut cache = Cache::new(alloc, &other.dfa, bytes)?;
+        cache.take_over(&other.dfa, &other.cache);
+        Ok(RowCache {
+            dfa: Arc::try_clone(&other.dfa)?,
+            cache,
+            made_for: Snapshot::of(source),
+        })
+    }
+
     /// Returns whether rows were forgotten, because there was no room for one more.
     pub(crate) fn has_forgotten(&self) -> bool {
         self.cache.has_forgotten()

@@ -127,7 +127,7 @@ impl RowSource {
         None
     }
 
-    /// Makes a cache of so many bytes with no rows, if fewer are kept than may be, and there is memory for it.
+    /// Makes a cache of so many bytes, if fewer are kept than may be, and there is memory for it.
     fn make(&self, bytes: usize) -> Option<Kept>
         ensures { IfSome result (λ kept. kept.cache.value ≡ self.now) }
     {
@@ -143,11 +143,15 @@ impl RowSource {
         }
     }
 
-    /// Returns a cache of so many bytes with no rows, in a box. Returns an error if memory runs out.
+    /// Returns a cache of so many bytes, in a box. It begins with the rows that were published last, since calls that find all they
+    /// need there never come to it. Returns an error if memory runs out.
     fn new_kept(&self, bytes: usize) -> Result<Kept, AllocError>
         ensures { IfOk result (λ kept. kept.cache.value ≡ self.now) }
     {
-        let cache = RowCache::new(self.alloc, &self.dfa, bytes, &self.source)?;
+        let cache = match self.kept.published() {
+            Some(known) => RowCache::with_rows_of(self.alloc, known, bytes, &self.source)?,
+            None => RowCache::new(self.alloc, &self.dfa, bytes, &self.source)?,
+        };
         Ok(Kept::new(Box::new(self.alloc, cache)?, bytes))
     }
 }
