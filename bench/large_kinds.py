@@ -137,9 +137,9 @@ def far_letter():
     return ["*a" + "?" * 2_000]
 
 
-def line_of_letters():
+def line_of_letters(letters="abcdefghijklmnopqrstuvwxyz"):
     rng = random.Random(21)
-    return "".join(rng.choices("abcdefghijklmnopqrstuvwxyz", k=1 << 20))
+    return "".join(rng.choices(letters, k=1 << 20))
 
 
 def numbered_parts():

@@ -5,11 +5,9 @@ ghost use Rattle.globset.specs.Errors.{out_of_memory};
 ghost use Rattle.globset.specs.SetValue.{FitsAsBefore};
 ghost use Rattle.git_ignore.specs.Folders.{file_decision, files_decision, ignores, is_below_ignored, decision_below};
 ghost use Rattle.git_ignore.specs.RulesValue.{FitsRules};
-ghost use Rattle.git_ignore.specs.inner.FileValue.{file_value};
 ghost use Rattle.git_ignore.specs.inner.Stacks.{FitAll, file_of, files_of};
 
 use crate::decision::Decision;
-use crate::file_rules::FileRules;
 use crate::rules::Rules;
 use crate::scratch::IgnoreScratch;
 use globset::Error;
@@ -19,7 +17,7 @@ use std::alloc::Global;
 pub struct FolderRules {
     /// The path of the folder: empty for the top folder, and otherwise with `/` at its end.
     folder: Vec<u8>,
-    rules: FileRules,
+    rules: Rules,
 }
 
 impl Drop for FolderRules {
@@ -33,35 +31,29 @@ impl Drop for FolderRules {
 }
 
 impl FolderRules {
-    /// Reads an ignore file of a folder, and makes the scratch fit its rules. A searcher of them is made if it takes at most
-    /// `most_bytes`. Returns an error only if memory runs out.
+    /// Reads an ignore file of a folder, and makes the scratch fit its rules. Returns an error only if memory runs out.
     pub fn new(
         alloc: Global,
         folder: &[u8],
         file: &[u8],
-        most_bytes: usize,
         scratch: &mut IgnoreScratch,
     ) -> Result<FolderRules, Error>
         ensures file { IfOk result
             (λ r. file_of r ≡ record { folder = folder.now; bytes = file.now }) }
-        ensures fits { IfOk result (λ r. FitsRules scratch.new (file_value r.rules)) }
+        ensures fits { IfOk result (λ r. FitsRules scratch.new r.rules) }
         ensures others { FitsAsBefore scratch.old scratch.new }
         ensures err { IsOkUnless result out_of_memory }
     {
         let rules = Rules::new(alloc, file)?;
         let folder = folder.to_vec(alloc)?;
         scratch.fit(&rules)?;
-        Ok(FolderRules {
-            folder,
-            rules: FileRules::new(alloc, rules, most_bytes),
-        })
+        Ok(FolderRules { folder, rules })
     }
 
     /// Returns what the file says of a path, which begins in the top folder.
-    fn decide(&mut self, path: &[u8], is_folder: bool, scratch: &mut IgnoreScratch) -> Decision
-        requires { FitsRules scratch.old (file_value self.old.rules) }
-        ensures decision { result ≡ file_decision path.now is_folder (file_of self.old) }
-        ensures kept { self.new ≡ self.old }
+    fn decide(&self, path: &[u8], is_folder: bool, scratch: &mut IgnoreScratch) -> Decision
+        requires { FitsRules scratch.old self.now.rules }
+        ensures decision { result ≡ file_decision path.now is_folder (file_of self.now) }
         ensures scratch { scratch.new ≡ scratch.old }
     {
         match path.strip_prefix(self.folder.as_slice()) {
@@ -73,14 +65,13 @@ impl FolderRules {
 
 /// Returns what files say of a path, which begins in the top folder; a later file goes before an earlier one.
 fn decide_alone(
-    files: &mut [FolderRules],
+    files: &[FolderRules],
     path: &[u8],
     is_folder: bool,
     scratch: &mut IgnoreScratch,
 ) -> Decision
-    requires { FitAll scratch.old files.old }
-    ensures decision { result ≡ files_decision (files_of files.old) path.now is_folder }
-    ensures files { files.new ≡ files.old }
+    requires { FitAll scratch.old files.now }
+    ensures decision { result ≡ files_decision (files_of files.now) path.now is_folder }
     ensures scratch { scratch.new ≡ scratch.old }
 {
     let mut count = files.len();
@@ -97,17 +88,16 @@ fn decide_alone(
 /// Returns what files say of a path, which begins in the top folder, and of the folders above it. None of the folders that end
 /// before `start` is ignored.
 pub fn decide_below(
-    files: &mut [FolderRules],
+    files: &[FolderRules],
     path: &[u8],
     start: usize,
     is_folder: bool,
     scratch: &mut IgnoreScratch,
 ) -> Decision
-    requires fits { FitAll scratch.old files.old }
+    requires fits { FitAll scratch.old files.now }
     requires within { start ≤ length path.now }
-    requires above { is_below_ignored (files_of files.old) (take start path.now) ≡ false }
-    ensures decision { result ≡ decision_below (files_of files.old) path.now is_folder }
-    ensures files { files.new ≡ files.old }
+    requires above { is_below_ignored (files_of files.now) (take start path.now) ≡ false }
+    ensures decision { result ≡ decision_below (files_of files.now) path.now is_folder }
     ensures scratch { scratch.new ≡ scratch.old }
 {
     if ignores_above(files, path, start, scratch) {
@@ -119,16 +109,15 @@ pub fn decide_below(
 /// Returns whether files ignore a folder above a path, which begins in the top folder. None of the folders that end before `start` is
 /// ignored.
 fn ignores_above(
-    files: &mut [FolderRules],
+    files: &[FolderRules],
     path: &[u8],
     start: usize,
     scratch: &mut IgnoreScratch,
 ) -> bool
-    requires fits { FitAll scratch.old files.old }
+    requires fits { FitAll scratch.old files.now }
     requires within { start ≤ length path.now }
-    requires above { is_below_ignored (files_of files.old) (take start path.now) ≡ false }
-    ensures ignored { result ≡ is_below_ignored (files_of files.old) path.now }
-    ensures files { files.new ≡ files.old }
+    requires above { is_below_ignored (files_of files.now) (take start path.now) ≡ false }
+    ensures ignored { result ≡ is_below_ignored (files_of files.now) path.now }
     ensures scratch { scratch.new ≡ scratch.old }
 {
     for end in start..path.len() {
@@ -141,27 +130,17 @@ fn ignores_above(
 
 /// Returns whether a `/` is at this place of a path, and files ignore the folder before it.
 fn ignores_folder(
-    files: &mut [FolderRules],
+    files: &[FolderRules],
     path: &[u8],
     end: usize,
     scratch: &mut IgnoreScratch,
 ) -> bool
-    requires fits { FitAll scratch.old files.old }
+    requires fits { FitAll scratch.old files.now }
     requires within { end < length path.now }
     ensures ignored { result
         ≡ (slice_index path.now end == 47
-        && ignores (files_decision (files_of files.old) (take end path.now) true)) }
-    ensures files { files.new ≡ files.old }
+        && ignores (files_decision (files_of files.now) (take end path.now) true)) }
     ensures scratch { scratch.new ≡ scratch.old }
 {
     path[end] == b'/' && decide_alone(files, &path[..end], true, scratch).is_ignored()
-}
-
-/// Returns how many bytes the searchers of files take together.
-pub fn searcher_bytes(files: &[FolderRules]) -> usize {
-    let mut bytes: usize = 0;
-    for file in files {
-        bytes = bytes.saturating_add(file.rules.searcher_bytes());
-    }
-    bytes
 }

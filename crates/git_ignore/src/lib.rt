@@ -73,7 +73,6 @@
 
 mod decision;
 mod entry;
-mod file_rules;
 mod folder_rules;
 mod reading;
 mod rules;

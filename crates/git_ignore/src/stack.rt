@@ -6,14 +6,11 @@ ghost use Rattle.git_ignore.specs.Folders.{decision_below, ignores, is_below_ign
 ghost use Rattle.git_ignore.specs.StackValue.{at_top, entered, left, stack_files, with_file};
 
 use crate::decision::Decision;
-use crate::folder_rules::{FolderRules, decide_below, searcher_bytes};
+use crate::folder_rules::{FolderRules, decide_below};
 use crate::scratch::IgnoreScratch;
 use globset::{Error, GlobSet};
 use std::alloc::{AllocError, Global};
 use std::marker::Model;
-
-/// How many bytes the searchers of a stack take together, at most.
-const MOST_SEARCHER_BYTES: usize = 1 << 23;
 
 /// A folder above the one that a walk is in.
 #[derive(Clone, Copy)]
@@ -37,8 +34,7 @@ pub struct FolderLevel {
 /// above it. A path below folders that were not entered costs such passes over the path of each of these folders too, down to
 /// the first one that is ignored: so N of them take time that grows with the square of N.
 ///
-/// A file is asked by a [`crate::RulesSearcher`] if there is memory for it, and the searchers of all files take at most 8 MiB
-/// together, as [`crate::RulesSearcher::bytes`] counts. Other files are asked with an [`IgnoreScratch`] that all of them share.
+/// All files share one [`IgnoreScratch`]. The rules of each keep rows between calls, as a [`GlobSet`] does.
 pub struct IgnoreStack {
     alloc: Global,
     /// The path of the folder: empty for the top folder, and otherwise with `/` at its end.
@@ -111,23 +107,13 @@ impl IgnoreStack {
 
     /// Reads an ignore file of the folder that the walk is in, given by its bytes. It goes before the files that are there already.
     ///
-    /// A searcher of its rules is made first, and dropped if it takes more than there is room for. With automata it takes
-    /// mostly more than 4 MiB, so one file of the stack has such a searcher at a time.
-    ///
     /// Returns an error only if memory runs out; nothing changed then.
     pub fn add_file(&mut self, file: &[u8]) -> Result<(), Error>
         ensures added { OnOk result (self.new ≡ with_file self.old file.now) }
         ensures kept { OnErr result (self.new ≡ self.old) }
         ensures err { IsOkUnless result out_of_memory }
     {
-        let most_bytes = MOST_SEARCHER_BYTES.saturating_sub(searcher_bytes(&self.files));
-        let rules = FolderRules::new(
-            self.alloc,
-            &self.folder,
-            file,
-            most_bytes,
-            &mut self.scratch,
-        )?;
+        let rules = FolderRules::new(self.alloc, &self.folder, file, &mut self.scratch)?;
         self.files.push(rules)?;
         Ok(())
     }
@@ -174,7 +160,7 @@ impl IgnoreStack {
         let start = self.folder.len();
         self.folder.extend_from_slice(path)?;
         let decision = decide_below(
-            &mut self.files,
+            &self.files,
             &self.folder,
             start,
             is_folder,

@@ -16,7 +16,6 @@ use Rattle.git_ignore.specs.declared.decision.Decision.{Decision}
 use Rattle.git_ignore.specs.declared.decision.Decision.TheVariants.{Ignored, Kept, Undecided}
 use Rattle.git_ignore.specs.declared.folder_rules.FolderRules.{FolderRules}
 use Rattle.git_ignore.specs.declared.stack.FolderLevel.{FolderLevel}
-use Rattle.git_ignore.specs.inner.FileValue.{file_value}
 use Rattle.git_ignore.specs.inner.Stacks.{file_of, files_of, FitAll, AreLevels}
 
 -- ---- folders above a path
@@ -201,18 +200,14 @@ level_pushed folder more files l ls e n i h =
 pub fit_still : (old new : ScratchValue) (files : List FolderRules) → FitsAsBefore old new → FitAll old files → FitAll new files
 fit_still old new files h all k d within = h _ _ (all k d within)
 
-pub fit_one : (scratch : ScratchValue) (f : FolderRules) → FitsRules scratch (file_value f.rules) → FitAll scratch (f ∷ [])
+pub fit_one : (scratch : ScratchValue) (f : FolderRules) → FitsRules scratch f.rules → FitAll scratch (f ∷ [])
 fit_one scratch f h zero d within = h
 fit_one scratch f h (suc k) d within = absurd (omega (arith, within))
 
-pub fit_still_there : (old scratch : ScratchValue) (files now : List FolderRules) → FitAll old files → scratch ≡ old → now ≡ files → FitAll scratch now
-fit_still_there old scratch files now all held same = subst (λ (fs : List FolderRules). FitAll scratch fs) (sym same) (subst (λ (s : ScratchValue). FitAll s files) (sym held) all)
+pub fit_still_there : (old scratch : ScratchValue) (files : List FolderRules) → FitAll old files → scratch ≡ old → FitAll scratch files
+fit_still_there old scratch files all held = subst (λ (s : ScratchValue). FitAll s files) (sym held) all
 
 -- ---- files from the last to the first
-
--- a file that was asked stays as it was, and so do the files
-pub asked : (files : List FolderRules) (i : ℕ) (f after : FolderRules) → after ≡ get_or files i f → slice_set files i after ≡ files
-asked files i f after kept = ap (slice_set files i) kept ∙ set-get_or files i f
 
 pub or_else_decided : (d e : Decision) → (d ≡ Undecided → ⊥) → or_else d e ≡ d
 or_else_decided Undecided e n = absurd (n refl)

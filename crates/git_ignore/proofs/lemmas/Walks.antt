@@ -10,7 +10,6 @@ use Rattle.git_ignore.specs.RulesValue.{FitsRules}
 use Rattle.git_ignore.specs.StackValue.{StackValue, entered, left, stack_files, with_file}
 use Rattle.git_ignore.specs.declared.folder_rules.FolderRules.{FolderRules}
 use Rattle.git_ignore.specs.declared.stack.FolderLevel.{FolderLevel}
-use Rattle.git_ignore.specs.inner.FileValue.{file_value}
 use Rattle.git_ignore.specs.inner.Stacks.{AreIn, AreInFolders, AreLevels, FitAll, above_of, bytes_of, file_of, files_of, here_of}
 use Rattle.git_ignore.specs.inner.StackParts.{IsStack, stack_value, walk_of}
 use Rattle.git_ignore.proofs.lemmas.Stacks.{added_kept, entered_ignored, fit_one, fit_still, level_pushed, levels_kept}
@@ -71,7 +70,7 @@ one_reversed ls l = reverse-append ls (l ∷ [])
 
 pub file_added : (folder shown bytes : List ℕ) (b : Bool) (files all : List FolderRules) (levels : List FolderLevel) (old new : ScratchValue) (r : FolderRules)
     → IsStack folder b files levels old → all ≡ files ++ r ∷ [] → file_of r ≡ record { folder = shown; bytes = bytes } → shown ≡ folder
-    → FitsAsBefore old new → FitsRules new (file_value r.rules) → IsStack folder b all levels new
+    → FitsAsBefore old new → FitsRules new r.rules → IsStack folder b all levels new
 file_added folder shown bytes b files all levels old new r h put is same before fits =
     let place : (file_of r).folder ≡ folder = ap (λ (f : IgnoreFile). f.folder) is ∙ same in
     let more : files_of all ≡ files_of files ++ file_of r ∷ [] = ap files_of put ∙ map-append file_of files (r ∷ []) in
@@ -82,7 +81,7 @@ file_added folder shown bytes b files all levels old new r h put is same before 
       above = subst (λ (fs : List IgnoreFile). AreLevels folder fs (reverse levels)) (sym more) (levels_kept folder (files_of files) (file_of r ∷ []) (reverse levels) h.above);
       placed = subst (λ (fs : List IgnoreFile). AreInFolders folder fs (reverse levels)) (sym more) (placed_more folder (files_of files) (file_of r) (reverse levels) h.above h.placed place);
       fits = subst (λ (fs : List FolderRules). FitAll new fs) (sym put)
-          (All-append (λ (f : FolderRules). FitsRules new (file_value f.rules)) files (r ∷ []) (fit_still old new files before h.fits) (fit_one new r fits));
+          (All-append (λ (f : FolderRules). FitsRules new f.rules) files (r ∷ []) (fit_still old new files before h.fits) (fit_one new r fits));
     }
 
 pub stack_added : (folder shown bytes : List ℕ) (b : Bool) (files all : List FolderRules) (levels : List FolderLevel) (old : ScratchValue) (r : FolderRules)
@@ -161,7 +160,7 @@ folder_left folder shorter_folder b files fewer levels rest scratch l h popped c
       ignored = all.0.ignored ∙ (λ k. is_below_ignored (sym few k) (sym cut k));
       above = subst (λ (fs : List IgnoreFile). AreLevels shorter_folder fs (reverse rest)) (sym few) (subst (λ (p : List ℕ). AreLevels p (take l.files (files_of files)) (reverse rest)) (sym cut) all.1);
       placed = subst (λ (fs : List IgnoreFile). AreInFolders shorter_folder fs (reverse rest)) (sym few) (subst (λ (p : List ℕ). AreInFolders p (take l.files (files_of files)) (reverse rest)) (sym cut) in_folders.1);
-      fits = subst (λ (fs : List FolderRules). FitAll scratch fs) (sym cut_files) (All-take (λ (f : FolderRules). FitsRules scratch (file_value f.rules)) l.files files h.fits);
+      fits = subst (λ (fs : List FolderRules). FitAll scratch fs) (sym cut_files) (All-take (λ (f : FolderRules). FitsRules scratch f.rules) l.files files h.fits);
     }
 
 pub stack_left : (folder shorter_folder : List ℕ) (files fewer : List FolderRules) (levels rest : List FolderLevel) (l : FolderLevel)

@@ -5,19 +5,18 @@ use Rattle.git_ignore.specs.Folders.{IgnoreFile, is_below_ignored}
 use Rattle.git_ignore.specs.RulesValue.{FitsRules}
 use Rattle.git_ignore.specs.StackValue.{OpenFolder}
 use Rattle.git_ignore.specs.declared.folder_rules.FolderRules.{FolderRules}
-use Rattle.git_ignore.specs.inner.FileValue.{file_value}
 use Rattle.git_ignore.specs.declared.stack.FolderLevel.{FolderLevel}
 
 -- the ignore file of rules, and its folder
 abbrev pub file_of : FolderRules → IgnoreFile
-file_of r = record { folder = r.folder.items; bytes = (file_value r.rules).file }
+file_of r = record { folder = r.folder.items; bytes = r.rules.file }
 
 abbrev pub files_of : List FolderRules → List IgnoreFile
 files_of files = map file_of files
 
 -- the scratch fits the rules of each file
 abbrev pub FitAll : ScratchValue → List FolderRules → Type 0
-FitAll scratch files = All (λ (f : FolderRules). FitsRules scratch (file_value f.rules)) files
+FitAll scratch files = All (λ (f : FolderRules). FitsRules scratch f.rules) files
 
 -- The level is of a folder above the one of this path, and it is right that it is ignored or not.
 pub record IsLevel (path : List ℕ) (known : List IgnoreFile) (l : FolderLevel) : Type 0 where

@@ -5,10 +5,9 @@ use Rattle.git_ignore.proofs.folder_rules.decide_alone.Given as goal
 
 abbrev pub invariant-loop-count : goal.invariant-loop-count
 invariant-loop-count l = record {
-  files : l.files ≡ l.initial.files;
   within : l.count ≤ length l.files;
   scratch : l.scratch ≡ l.initial.scratch;
-  later : files_decision (files_of l.initial.files) l.path l.is_folder ≡ files_decision (files_of (take l.count l.files)) l.path l.is_folder;
+  later : files_decision (files_of l.files) l.path l.is_folder ≡ files_decision (files_of (take l.count l.files)) l.path l.is_folder;
 }
 
 abbrev pub decreases-loop-count : goal.decreases-loop-count

@@ -12,5 +12,4 @@ returns-then-ignores_above-clause-decision c =
 pub returns-clause-decision : goal.returns-clause-decision
 returns-clause-decision c =
     c.decide_alone.ensures.decision
-    ∙ ap (λ (fs : List FolderRules). files_decision (files_of fs) c.args.path.now c.args.is_folder) c.ignores_above.ensures.files
     ∙ not_below_ignored (files_of c.args.files.now) c.args.path.now c.args.is_folder (sym c.ignores_above.ensures.ignored ∙ c.if-ignores_above.false)

@@ -8,27 +8,21 @@ use Rattle.git_ignore.proofs.lemmas.Stacks.{fit_still_there, met_ignored, passed
 use Rattle.git_ignore.proofs.folder_rules.ignores_above.Goals as goal
 
 pub ignores_folder-requires-clause-fits : goal.ignores_folder-requires-clause-fits
-ignores_folder-requires-clause-fits c = fit_still_there _ c.loop-end.scratch _ c.loop-end.files c.requires.fits c.loop-end.invariant.scratch c.loop-end.invariant.files
+ignores_folder-requires-clause-fits c = fit_still_there _ c.loop-end.scratch c.args.files.now c.requires.fits c.loop-end.invariant.scratch
 
 pub returns-then-ignores_folder-clause-ignored : goal.returns-then-ignores_folder-clause-ignored
 returns-then-ignores_folder-clause-ignored c =
     let path = c.args.path.now in let i = c.loop-end.end in
     met_ignored (files_of c.args.files.now) path i c.loop-end-test.true
-    (sym (ap (λ (fs : List FolderRules). get_or path i 0 == 47 && ignores (files_decision (files_of fs) (take i path) true)) c.loop-end.invariant.files)
-    ∙ sym c.ignores_folder.ensures.ignored ∙ c.if-ignores_folder.true)
-
-pub returns-then-ignores_folder-clause-files : goal.returns-then-ignores_folder-clause-files
-returns-then-ignores_folder-clause-files c = c.ignores_folder.ensures.files ∙ c.loop-end.invariant.files
+    (sym c.ignores_folder.ensures.ignored ∙ c.if-ignores_folder.true)
 
 pub loop-end-preserved : goal.loop-end-preserved
 loop-end-preserved c =
     let path = c.args.path.now in let i = c.loop-end.end in
     record {
-      files = c.ignores_folder.ensures.files ∙ c.loop-end.invariant.files;
       scratch = c.ignores_folder.ensures.scratch ∙ c.loop-end.invariant.scratch;
       above = passed_byte (files_of c.args.files.now) path i c.loop-end-test.true c.loop-end.invariant.above
-          (sym (ap (λ (fs : List FolderRules). get_or path i 0 == 47 && ignores (files_decision (files_of fs) (take i path) true)) c.loop-end.invariant.files)
-          ∙ sym c.ignores_folder.ensures.ignored ∙ c.if-ignores_folder.false);
+          (sym c.ignores_folder.ensures.ignored ∙ c.if-ignores_folder.false);
     }
 
 pub returns-clause-ignored : goal.returns-clause-ignored

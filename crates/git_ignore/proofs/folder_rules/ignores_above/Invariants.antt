@@ -5,7 +5,6 @@ use Rattle.git_ignore.proofs.folder_rules.ignores_above.Given as goal
 
 abbrev pub invariant-loop-end : goal.invariant-loop-end
 invariant-loop-end l = record {
-  files : l.files ≡ l.initial.files;
   scratch : l.scratch ≡ l.initial.scratch;
-  above : is_below_ignored (files_of l.initial.files) (take l.end l.path) ≡ false;
+  above : is_below_ignored (files_of l.files) (take l.end l.path) ≡ false;
 }

@@ -16,7 +16,7 @@ pub returns-clause-decision : goal.returns-clause-decision
 returns-clause-decision c =
     let files = stored_files c.self.inside.folder.items c.self.inside.is_ignored c.self.inside.files.items c.self.inside.levels.items c.self.inside.scratch c.args.self.now c.self.invariant c.self.view_is in
     let path = stored_path c.self.inside.folder.items c.self.inside.files.items c.self.inside.levels.items c.args.self.now c.self.view_is in
-    let whole = c.deref.ensures.value ∙ c.in_ok-extend_from_slice.ensures.items in
+    let whole = c.deref-2.ensures.value ∙ c.in_ok-extend_from_slice.ensures.items in
     c.decide_below-decision.ensures.decision
-    ∙ (λ i. decision_below (files_of (c.deref_mut.ensures.value i)) (whole i) c.args.is_folder)
+    ∙ (λ i. decision_below (files_of (c.deref.ensures.value i)) (whole i) c.args.is_folder)
     ∙ (λ i. decision_below (files i) (path i ++ c.args.path.now) c.args.is_folder)
