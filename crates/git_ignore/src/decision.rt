@@ -1,10 +1,10 @@
-//! What an ignore file says of a path.
+//! The decision of an ignore file about a path.
 
 ghost use Rattle.std.specs.Prelude.{◌≡◌, ◌↔◌, IsTrue};
 ghost use Rattle.git_ignore.specs.declared.decision.Decision.TheVariants.{Undecided};
 ghost use Rattle.git_ignore.specs.Folders.{ignores};
 
-/// What the rules of an ignore file say of a path.
+/// The decision of an ignore file about a path.
 #[derive(Clone, Copy, Debug, PartialEq, Eq)]
 pub enum Decision {
     /// The last rule that applies ignores it.

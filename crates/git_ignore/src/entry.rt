@@ -1,11 +1,11 @@
-//! What is kept of a rule beside its glob.
+//! The part of a rule that is not its glob.
 
 ghost use Rattle.std.specs.Prelude.{◌≡◌, ◌∷◌, None, Some, length, slice_get};
 ghost use Rattle.git_ignore.specs.inner.Entries.{chosen, decision_of, is_for, last_chosen, line_of_entry};
 
 use crate::decision::Decision;
 
-/// What is kept of a rule beside its glob.
+/// The part of a rule that is not its glob.
 #[derive(Clone, Copy, Debug)]
 pub struct RuleEntry {
     /// The number of its line, counted from 1.
@@ -22,7 +22,7 @@ impl RuleEntry {
         is_folder || !self.is_folders_only
     }
 
-    /// Returns what the rule says of a path to which it is the last one that applies.
+    /// Returns the decision about a path for which this is the last rule that applies.
     pub fn decision(self) -> Decision
         ensures { result ≡ decision_of (Some self) }
     {
@@ -34,7 +34,7 @@ impl RuleEntry {
     }
 }
 
-/// Returns what is said of a path by the last entry that applies to it, if one does.
+/// Returns the decision of the last entry that applies to a path, if there is one.
 pub fn decision_by(last: Option<RuleEntry>) -> Decision
     ensures { result ≡ decision_of last }
 {

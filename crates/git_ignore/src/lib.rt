@@ -1,7 +1,7 @@
 //! Ignore files, read as git reads them, except for lines that no glob can stand for. Those have no rule, and
 //! [`Rules::unread_lines`] returns their numbers.
 //!
-//! [`Rules`] are those of one file, which decide about paths below its folder:
+//! [`Rules`] are the rules of one file, which decide about paths below its folder:
 //!
 //! ```rust
 //! use git_ignore::{Decision, Rules};
@@ -24,7 +24,7 @@
 //! assert_eq!(rt; decisions[3], Decision::Ignored);
 //! ```
 //!
-//! [`RulesSearcher`] is rules with all the memory that one thread needs, to ask about many paths. Its calls cannot fail:
+//! A [`RulesSearcher`] has rules and all the memory that one thread needs, for many paths. Its calls cannot fail:
 //!
 //! ```rust
 //! use git_ignore::{Decision, Rules, RulesSearcher};
@@ -59,7 +59,7 @@
 //! assert_eq!(rt; stack.decide(b"b/a/a/a/a/a/a/a/a/a/a/a/a/a/a/a/a/a/f", false)?, Decision::Ignored);
 //! assert_eq!(rt; stack.decide(b"a/a/a/a/a/a/a/a/a/a/a/a/a/a/a/a/a/a/a.o", false)?, Decision::Kept);
 //!
-//! // What is below an ignored folder is not kept again.
+//! // No rule keeps a path below an ignored folder.
 //! stack.enter(b"out")?;
 //! stack.add_file(b"!*")?;
 //! assert!(rt; stack.is_ignored());

@@ -49,8 +49,9 @@ impl Model for Rules {
 }
 
 impl Rules {
-    /// Reads an ignore file, given by its bytes. Each line has at most one rule. A line that git cannot read has none, nor has one
-    /// that no glob can stand for, as one that is not UTF-8. That is no error: [`Rules::unread_lines`] returns its number.
+    /// Reads an ignore file, given by its bytes. Each line has at most one rule. Lines that git cannot read have none, and lines
+    /// that no glob can express, such as lines that are not UTF-8. That is no error: [`Rules::unread_lines`] returns their
+    /// numbers.
     ///
     /// Returns an error only if memory runs out.
     pub fn new(alloc: Global, file: &[u8]) -> Result<Rules, Error>
@@ -64,9 +65,9 @@ impl Rules {
         Ok(Rules { stored, unread })
     }
 
-    /// Returns what the file says of a path below its folder: what the last rule that applies says.
+    /// Returns the decision of the file about a path below its folder: the last rule that applies decides.
     ///
-    /// The path begins in the folder of the file. What is below a folder that is ignored is ignored too: see [`crate::IgnoreStack`].
+    /// The path begins in the folder of the file. Everything below an ignored folder is ignored, too: see [`crate::IgnoreStack`].
     /// The scratch has to fit the rules. It then fits what it fitted before.
     pub fn decide(&self, path: &[u8], is_folder: bool, scratch: &mut IgnoreScratch) -> Decision
         requires { FitsRules scratch.old self.now }
@@ -90,7 +91,7 @@ impl Rules {
         line_by(self.last_entry(path, is_folder, scratch))
     }
 
-    /// The same as [`Rules::decide`], with a scratch of its own. Returns an error only if memory runs out.
+    /// Like [`Rules::decide`], with a scratch of its own. Returns an error only if memory runs out.
     pub fn decide_once(&self, path: &[u8], is_folder: bool) -> Result<Decision, Error>
         ensures decision { IfOk result (λ d. d ≡ decision self.now.file path.now is_folder) }
         ensures err { IsOkUnless result out_of_memory }
@@ -99,7 +100,7 @@ impl Rules {
         Ok(self.decide(path, is_folder, &mut scratch))
     }
 
-    /// The same as [`Rules::deciding_line`], with a scratch of its own. Returns an error only if memory runs out.
+    /// Like [`Rules::deciding_line`], with a scratch of its own. Returns an error only if memory runs out.
     pub fn deciding_line_once(&self, path: &[u8], is_folder: bool) -> Result<Option<usize>, Error>
         ensures line { IfOk result (λ n. n ≡ deciding_line self.now.file path.now is_folder) }
         ensures err { IsOkUnless result out_of_memory }
@@ -110,13 +111,13 @@ impl Rules {
 
     /// Decides about each folder above a path, as [`Rules::decide`] does, from the highest one down.
     ///
-    /// The decision about a folder is put at the index of the `/` after it in the path, unless there is one already: an item that is
-    /// not [`Decision::Undecided`] stays as it is. So calls for several files, those of deeper folders first, find what the files
-    /// say together. The path below the folder of the file begins at `start`, and folders that end before are left out, as are those
-    /// for which `decisions` is too short. The items at other bytes and those beyond the path stay as they are.
+    /// The decision about a folder is put at the index of the `/` after it in the path, unless there is one already: an item that
+    /// is not [`Decision::Undecided`] stays as it is. So calls for several files, deeper folders first, find the decisions of all
+    /// the files. The path below the folder of the file begins at `start`. Folders that end before are left out, and folders for
+    /// which `decisions` is too short. All other items stay as they are.
     ///
-    /// Each folder takes a pass over its whole path, with a scratch of the call's own. Returns an error if memory runs out, and
-    /// no other; nothing is put then.
+    /// Each folder takes a pass over its whole path, with a scratch of the call's own. Returns an error only if memory runs out;
+    /// nothing is put then.
     pub fn decide_folders(
         &self,
         path: &[u8],
@@ -138,8 +139,8 @@ impl Rules {
         Ok(())
     }
 
-    /// Returns the numbers, counted from 1, of the lines that match nothing and are neither blank nor a comment: those that git cannot
-    /// read, and those that no glob can stand for.
+    /// Returns the numbers, counted from 1, of the lines that match nothing and are neither blank nor a comment: lines that git
+    /// cannot read, and lines that no glob can express.
     pub fn unread_lines(&self) -> &[usize] {
         &self.unread
     }
@@ -175,7 +176,7 @@ impl Rules {
         self.stored.set()
     }
 
-    /// Returns what searchers share with the rules. Returns an error if 2^63 values share it, and in no other case.
+    /// Returns what searchers share with the rules. Returns an error only if 2^63 values share it.
     pub(crate) fn share(&self) -> Result<Arc<StoredRules>, AllocError>
         ensures { IfOk result (λ stored. arc_value stored ≡ self.now) }
     {

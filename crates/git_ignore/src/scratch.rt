@@ -12,8 +12,8 @@ use std::marker::Model;
 
 /// All the memory that rules need to decide about a path: a [`Scratch`], and a number for each rule.
 ///
-/// With a scratch that fits the rules, [`Rules::decide`] cannot fail. What earlier calls left in it has no effect. It can be used
-/// with all rules that it fits, which [`IgnoreScratch::fits`] tells, and [`IgnoreScratch::fit`] makes it fit more of them.
+/// With a scratch that fits the rules, [`Rules::decide`] cannot fail. What earlier calls left in it has no effect. It serves all
+/// rules that it fits ([`IgnoreScratch::fits`]), and [`IgnoreScratch::fit`] makes it fit more rules.
 pub struct IgnoreScratch {
     pub(crate) scratch: Scratch,
     /// The indexes of the rules whose globs match a path.
@@ -79,7 +79,7 @@ impl IgnoreScratch {
         self.scratch.fits(rules.set())
     }
 
-    /// Makes the scratch fit more rules. It takes no memory if it fits them already.
+    /// Makes the scratch fit more rules. It does not allocate if it fits them already.
     ///
     /// Returns an error only if memory runs out; the scratch then fits what it fitted before.
     pub fn fit(&mut self, rules: &Rules) -> Result<(), Error>

@@ -15,13 +15,13 @@ use std::alloc::Global;
 use std::marker::Model;
 use std::sync::Arc;
 
-/// [`Rules`], with all the memory that one thread needs to decide about paths with them. That is taken when the searcher is made: no
-/// other call takes any, and none of them can fail.
+/// [`Rules`] with all the memory that one thread needs to decide about paths. [`RulesSearcher::new`] allocates it: no other call
+/// allocates, and none can fail.
 ///
-/// Searchers of the same rules share what paths are matched with, and outlive the rules. A program with several threads makes a
-/// searcher for each of them. A [`Searcher`] is in it, which keeps rows of automata from one path to the next.
+/// Searchers of the same rules share their globs and entries, and outlive the rules. A program with several threads makes a
+/// searcher for each thread. A [`Searcher`] in it keeps rows of automata from one path to the next.
 ///
-/// Contracts see what they see of the rules. What else earlier calls left in it has no effect.
+/// Contracts see a searcher as they see its rules. Nothing that earlier calls left in it has an effect.
 ///
 /// ```rust
 /// use git_ignore::{Decision, Rules, RulesSearcher};
@@ -64,10 +64,10 @@ impl Model for RulesSearcher {
 }
 
 impl RulesSearcher {
-    /// Returns a searcher of the rules, which shares what they match with. It takes as much memory as a [`Searcher`] of their
+    /// Returns a searcher of the rules, which shares their globs and entries. It takes as much memory as a [`Searcher`] of their
     /// globs.
     ///
-    /// Returns an error if memory runs out or 2^63 searchers share the rules, and in no other case.
+    /// Returns an error only if memory runs out or 2^63 searchers share the rules.
     pub fn new(alloc: Global, rules: &Rules) -> Result<RulesSearcher, Error>
         ensures rules { IfOk result (λ s. s ≡ rules.now) }
         ensures err { IsOkUnless result out_of_memory }
@@ -82,7 +82,7 @@ impl RulesSearcher {
         self.searcher.bytes()
     }
 
-    /// Returns what the file says of a path below its folder, as [`Rules::decide`] does.
+    /// Returns the decision of the file about a path below its folder, as [`Rules::decide`] does.
     pub fn decide(&mut self, path: &[u8], is_folder: bool) -> Decision
         ensures decision { result ≡ decision self.old.file path.now is_folder }
         ensures kept { self.new ≡ self.old }

@@ -26,13 +26,12 @@ pub struct FolderLevel {
 /// The folder that a walk is in, with the ignore files in it and in the folders above it.
 ///
 /// A walk begins in its top folder. [`IgnoreStack::enter`] goes down into a folder, [`IgnoreStack::leave`] goes up, and
-/// [`IgnoreStack::add_file`] reads an ignore file of the folder that the walk is in. A file of a deeper folder goes before those of
-/// the folders above it, and of the files of one folder the one that was added last. What is below an ignored folder is ignored,
-/// whatever matches it.
+/// [`IgnoreStack::add_file`] reads an ignore file of the folder that the walk is in. Files of deeper folders take precedence, and
+/// of the files of one folder the file that was added last. Everything below an ignored folder is ignored; no rule keeps it.
 ///
-/// Whether a folder is ignored is kept when it is entered. So the name of an entry costs one pass over its path for each ignore file
-/// above it. A path below folders that were not entered costs such passes over the path of each of these folders too, down to
-/// the first one that is ignored: so N of them take time that grows with the square of N.
+/// [`IgnoreStack::enter`] stores whether the folder is ignored. So the name of an entry costs one pass over its path for each
+/// ignore file above it. A path through folders that were not entered also costs such passes over the path of each of these
+/// folders, down to the first that is ignored, so the time grows with the square of their number.
 ///
 /// All files share one [`IgnoreScratch`]. The rules of each keep rows between calls, as a [`GlobSet`] does.
 pub struct IgnoreStack {
@@ -105,7 +104,8 @@ impl IgnoreStack {
         self.is_ignored
     }
 
-    /// Reads an ignore file of the folder that the walk is in, given by its bytes. It goes before the files that are there already.
+    /// Reads an ignore file of the folder that the walk is in, given by its bytes. It takes precedence over the files that are
+    /// there already.
     ///
     /// Returns an error only if memory runs out; nothing changed then.
     pub fn add_file(&mut self, file: &[u8]) -> Result<(), Error>
@@ -142,11 +142,11 @@ impl IgnoreStack {
         }
     }
 
-    /// Returns what the ignore files say of a path below the folder that the walk is in, such as the name of one of its entries.
+    /// Returns the decision of the ignore files about a path below the folder that the walk is in, such as the name of an entry.
     ///
-    /// A folder that the path names above its last component counts, too: below one that is ignored, the path is ignored.
+    /// The folders that the path names above its last component count, too: below an ignored folder, the path is ignored.
     ///
-    /// Returns an error only if memory runs out, which it takes to put the folder's path in front of this one.
+    /// Returns an error only if memory runs out: the call allocates to put the folder's path in front of this path.
     pub fn decide(&mut self, path: &[u8], is_folder: bool) -> Result<Decision, Error>
         ensures decision { IfOk result
             (λ d. d ≡ decision_below (stack_files self.old) (self.old.here.path ++ path.now)

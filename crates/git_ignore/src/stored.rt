@@ -1,4 +1,4 @@
-//! What the rules of a file share with their searchers.
+//! The part of rules that their searchers share.
 
 ghost use Rattle.std.specs.Prelude.{◌≡◌, ℕ, List, true, IfOk, IsOkUnless};
 ghost use Rattle.globset.specs.Answer.{matching_indexes};
@@ -13,7 +13,7 @@ use globset::{Error, Glob, GlobSet};
 use std::alloc::Global;
 use std::marker::Model;
 
-/// The rules of an ignore file, and what paths are matched with. A searcher of them has it too, beside memory of its own.
+/// The rules of an ignore file, and the set of their globs. A searcher of the rules has it, too, and memory of its own.
 pub struct StoredRules {
     /// The globs of the rules, without those that match nothing.
     set: GlobSet,

@@ -5,10 +5,9 @@ use globset_glob::{DEFAULT_DFA_SIZE_LIMIT, Error, Glob};
 use std::alloc::{AllocError, Global};
 use std::marker::Model;
 
-/// Collects the globs of a set, in the order in which they are added.
+/// Collects globs in order, and builds sets of them.
 ///
-/// Contracts see the list of the globs. How much memory the set may keep rows of automata in, which
-/// [`GlobSetBuilder::dfa_size_limit`] sets, changes no answer, and contracts do not see it.
+/// Contracts see the list of the globs. They do not see the limit of [`GlobSetBuilder::dfa_size_limit`], which changes no answer.
 ///
 /// ```rust
 /// use globset::{Glob, GlobSetBuilder};
@@ -52,23 +51,23 @@ impl GlobSetBuilder {
         }
     }
 
-    /// Sets how many bytes the rows may take that a set keeps between calls, those of all its automata together. The default is
+    /// Sets the limit on the bytes of rows that a set keeps between calls, for all its automata together. The default is
     /// [`DEFAULT_DFA_SIZE_LIMIT`], 16 MiB.
     ///
-    /// The limit is for memory and time, and changes no answer. The globs that need an automaton share a few. Rows of an
-    /// automaton are made as paths need them: a run reads one entry of a row for each byte of a path, once the rows are there.
-    /// They are kept in at most four caches for each automaton, which take at most the part of the limit that its states are of
-    /// all states. A [`Searcher`](crate::Searcher) has one such cache for each automaton, so its rows take at most a quarter of
-    /// the limit. Where a cache would have less than 4 KiB there are no rows. There, and where a call finds no cache, it steps
-    /// the automaton: each byte of a path then takes as many steps as the automaton is in states, and calls without a scratch
-    /// take two bits of memory for each of its states.
+    /// The limit trades memory for time, and changes no answer. The globs that need an automaton share a few. A row is a state of
+    /// a lazy DFA: calls make rows as paths need them, and then read one entry of a row for each byte of a path. The set keeps at
+    /// most four caches of rows for each automaton, and the automata share the limit by their numbers of states. A
+    /// [`Searcher`](crate::Searcher) has one such cache for each automaton, so its rows take at most a quarter of the limit. An
+    /// automaton whose cache would have less than 4 KiB has no rows. It is stepped instead, as in a call that finds no cache:
+    /// each byte of a path then takes as many steps as the automaton is in states, and calls without a scratch take two bits of
+    /// memory for each of its states.
     ///
-    /// The limit counts all that rows take: their entries, their lists of states, and the table by which they are found. A cache
-    /// has room for one row also where its part of the limit has not. But for such caches, those of a searcher take together at
-    /// most 8 MiB, whatever the limit is.
+    /// The limit counts all memory of rows: their entries, their lists of states, and the table that finds them. A cache always
+    /// has room for one row, even if that passes its part of the limit. Except for such caches, the caches of a searcher take at
+    /// most 8 MiB together, under any limit.
     ///
-    /// With 0 there are no rows, and the set keeps no memory between calls. That is best for few paths. Memory beside the rows
-    /// has no limit: that of keys and states is linear in the texts of the globs.
+    /// With 0 there are no rows, and the set keeps no memory between calls. That is best for few paths. Other memory has no
+    /// limit: keys and states take memory linear in the texts of the globs.
     ///
     /// ```rust
     /// use globset::{Glob, GlobSetBuilder};
@@ -103,7 +102,7 @@ impl GlobSetBuilder {
         }
     }
 
-    /// Adds a glob after the others, as [`GlobSetBuilder::add`] does, which calls it, and returns no reference to the builder.
+    /// Adds a glob after the others, like [`GlobSetBuilder::add`], but returns no reference to the builder.
     ///
     /// Returns an error only if memory runs out. The builder then has the globs that it had before the call, and more
     /// globs can be added to it; the new glob is dropped.
@@ -172,8 +171,8 @@ impl GlobSetBuilder {
         Ok(set)
     }
 
-    /// Returns the set of the globs that were added, in order, and drops each glob once the set has what it needs of it. It
-    /// takes less memory than [`GlobSetBuilder::build`], which needs all of the globs beside the set, and as much time.
+    /// Returns the set of the globs that were added, in order, and drops each glob once the set has what it needs of it. It takes
+    /// as much time as [`GlobSetBuilder::build`], and less memory, since it frees globs while it makes the set.
     ///
     /// Returns an error only if memory runs out. The globs are dropped then, too.
     ///
@@ -209,7 +208,7 @@ impl GlobSetBuilder {
     }
 }
 
-/// The same as the method [`GlobSetBuilder::clone`], for code that is generic over `Clone`.
+/// Calls the method [`GlobSetBuilder::clone`], for code that is generic over `Clone`.
 impl Clone for GlobSetBuilder {
     ghost use Rattle.std.specs.Prelude.{◌≡◌};
 

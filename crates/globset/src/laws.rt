@@ -29,8 +29,8 @@ pub fn one_glob_set()
     ensures { OneGlobSet }
 {}
 
-/// If a set matches some path below a folder, [`GlobSet::can_match_below`] returns true for the folder: a walk that leaves folders
-/// closed for which it returns false misses no path.
+/// If a set matches some path below a folder, [`GlobSet::can_match_below`] returns true for the folder. So a walk that skips all
+/// other folders misses no path.
 pub fn below_has_paths()
     ensures { BelowHasPaths }
 {}

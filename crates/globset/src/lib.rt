@@ -80,10 +80,11 @@
 //! left out: `a{,b}` matches `ab`, and not `a`. Under `empty_alternates` none is left out. Braces without a branch match
 //! nothing more: `a{}` matches `a`. A `,` outside braces matches itself.
 //!
-//! **Classes** match one byte. A range has both of its ends. The first character after `[`, `[!` or `[^` is in the class
-//! whatever it is: `[]]`, `[!]]` and `[-a]` are classes. So is a `-` at the end. A `\` in a class escapes nothing, and is in
-//! it. A `/` in a class is matched under `literal_separator`, too, and by `[!a]`. A character that is not ASCII stands for its
-//! bytes: `[é]` matches one byte, C3 or A9, and not `é`, which is both. `docs/DEFINITIONS.md` has the bytes of a range of them.
+//! **Classes** match one byte. A range has both of its ends. The first character after `[`, `[!` or `[^` is always in the
+//! class: `[]]`, `[!]]` and `[-a]` are classes. So is a `-` at the end. A `\` in a class escapes nothing, and is in it. A
+//! `/` in a class is matched under `literal_separator`, too, and by `[!a]`. A character that is not ASCII stands for its
+//! bytes: `[é]` matches one byte, C3 or A9, and not `é`, which is both. `docs/DEFINITIONS.md` has the bytes of a range of
+//! them.
 //!
 //! ## Options
 //!

@@ -15,13 +15,14 @@ use std::alloc::Global;
 use std::marker::Model;
 use std::mem;
 
-/// A [`GlobSet`], with all the memory that one thread needs to match paths with it. That is taken when the searcher is made: no
-/// other call takes any, and none of them can fail.
+/// A [`GlobSet`] with all the memory that one thread needs to match paths. [`Searcher::new`] allocates it: no other call
+/// allocates, and none can fail.
 ///
-/// Searchers of the same set share what it matches with. A program with several threads makes a searcher for each of them. The calls
-/// of a [`GlobSet`] take about as long once they have been made some times, but may take memory, and so may fail.
+/// Searchers of a set share its keys and automata. A program with several threads makes a searcher for each thread. The calls of
+/// a [`GlobSet`] are about as fast once a set has been used for a while, but they may allocate, and so may fail.
 ///
-/// Contracts see a searcher as its set, and as the indexes that it found last. What else earlier calls left in it has no effect.
+/// Contracts see a searcher as its set, and as the indexes that it found last. Nothing else that earlier calls left in it has an
+/// effect.
 ///
 /// ```rust
 /// use globset::{Candidate, Glob, GlobSet, Searcher};
@@ -71,12 +72,13 @@ impl Searcher {
     ghost use Rattle.std.specs.Borrow.{sem};
     ghost use Rattle.globset.specs.Lending.{LendsFound};
 
-    /// Returns a searcher of the set, which shares what the set matches with. It takes eight bytes of memory for each glob, and
-    /// as much as a [`Scratch`] for the set. If the set has automata, it takes memory for rows that it keeps from one path to
-    /// the next: up to a quarter of the limit that [`GlobSetBuilder::dfa_size_limit`](crate::GlobSetBuilder::dfa_size_limit)
-    /// sets, 4 MiB by default and 8 MiB at most, and more where automata have so many states that one row does not fit.
+    /// Returns a searcher of the set, which shares the keys and automata of the set. It takes eight bytes of memory for each
+    /// glob, and as much as a [`Scratch`] for the set. If the set has automata, it takes memory for rows that it keeps from one
+    /// path to the next: up to a quarter of the limit that
+    /// [`GlobSetBuilder::dfa_size_limit`](crate::GlobSetBuilder::dfa_size_limit) sets, 4 MiB by default and 8 MiB at most, and
+    /// more if automata have so many states that one row does not fit.
     ///
-    /// Returns an error if memory runs out or 2^63 sets share it, and in no other case.
+    /// Returns an error only if memory runs out or 2^63 sets share these.
     pub fn new(alloc: Global, set: &GlobSet) -> Result<Searcher, Error>
         ensures set { IfOk result (λ s. s.set ≡ set.now) }
         ensures found { IfOk result (λ s. s.found ≡ []) }
@@ -122,8 +124,7 @@ impl Searcher {
         self.is_match_visits(path, &mut visits)
     }
 
-    /// The same as [`Searcher::is_match`], which calls it, with a count of the visits: it adds at most as many as
-    /// [`GlobSet::is_match_visits`] may.
+    /// Like [`Searcher::is_match`], but also counts the visits: at most as many as [`GlobSet::is_match_visits`].
     pub fn is_match_visits(&mut self, path: &Candidate<'_>, visits: &mut Visits) -> bool
         ensures some { IsTrue result ↔ (matching_indexes (set_globs self.old.set) path.now ≢ []) }
         ensures kept { self.new ≡ self.old }
@@ -149,8 +150,7 @@ impl Searcher {
         self.matches_all_visits(path, &mut visits)
     }
 
-    /// The same as [`Searcher::matches_all`], which calls it, with a count of the visits: it adds at most as many as
-    /// [`GlobSet::matches_all_visits`] may.
+    /// Like [`Searcher::matches_all`], but also counts the visits: at most as many as [`GlobSet::matches_all_visits`].
     pub fn matches_all_visits(&mut self, path: &Candidate<'_>, visits: &mut Visits) -> bool
         ensures all { IsTrue result
             ↔ ContainsAllBelow (matching_indexes (set_globs self.old.set) path.now)
@@ -177,8 +177,7 @@ impl Searcher {
         self.find_visits(path, &mut visits);
     }
 
-    /// The same as [`Searcher::find`], which calls it, with a count of the visits: it adds at most as many as
-    /// [`GlobSet::matches_visits`] may.
+    /// Like [`Searcher::find`], but also counts the visits: at most as many as [`GlobSet::matches_visits`].
     pub fn find_visits(&mut self, path: &Candidate<'_>, visits: &mut Visits)
         ensures found { self.new.found ≡ matching_indexes (set_globs self.old.set) path.now }
         ensures set { self.new.set ≡ self.old.set }
@@ -244,8 +243,8 @@ impl Searcher {
         self.can_match_below_visits(folder, &mut visits)
     }
 
-    /// The same as [`Searcher::can_match_below`], which calls it, with a count of the visits: it adds at most as many as
-    /// [`GlobSet::can_match_below_visits`] may.
+    /// Like [`Searcher::can_match_below`], but also counts the visits: at most as many as
+    /// [`GlobSet::can_match_below_visits`].
     pub fn can_match_below_visits(&mut self, folder: &Candidate<'_>, visits: &mut Visits) -> bool
         ensures some { IsTrue result ↔ MatchesBelow (set_globs self.old.set) folder.now }
         ensures kept { self.new ≡ self.old }

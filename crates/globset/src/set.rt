@@ -23,18 +23,18 @@ use std::alloc::{AllocError, Global};
 use std::fmt;
 use std::marker::Model;
 
-/// Globs that are matched against a path together. Each has an index, from 0, in the order in which they were given.
+/// A list of globs that are matched against a path together. Each glob has an index, from 0 on, in the order of the list.
 ///
 /// Contracts see the list of the globs, and the number of states of the largest automaton that was made for them. The set itself
-/// keeps what it needs to match, and neither the texts nor the tokens of the globs.
+/// keeps keys and automata, and neither the texts nor the tokens of the globs.
 ///
-/// Its calls can be made by several threads at once, and none waits for another. So that they need not run automata state by
-/// state, a set keeps memory between calls, which its clones share: for each automaton at most four caches of rows, the first
-/// of which is made by the third call that would use one, or for a [`Scratch`](crate::Scratch). They are kept until the set is
-/// dropped; [`GlobSet::kept_bytes`] returns for how many bytes of rows they have room, which is at most the limit of
-/// [`GlobSetBuilder::dfa_size_limit`]. With a limit of 0 none is kept. A call may run out of memory, which is an error. A
-/// [`Searcher`](crate::Searcher) takes all its memory when it is made: its calls never fail, and take none. Take a searcher for
-/// each thread where that matters, and the set itself elsewhere.
+/// Several threads can call a set at once, and none waits for another. So that calls need not step automata state by state, a set
+/// keeps at most four caches of rows for each automaton, which its clones share. The third call that would use a cache makes the
+/// first, unless a [`Scratch`](crate::Scratch) was made for the set. The caches are kept until the set is dropped;
+/// [`GlobSet::kept_bytes`] returns for how many bytes of rows they have room: at most the limit of
+/// [`GlobSetBuilder::dfa_size_limit`]. With a limit of 0 none is kept. A call may run out of memory, which is an error. The calls
+/// of a [`Searcher`](crate::Searcher) neither fail nor allocate: use a searcher for each thread where that matters, and the set
+/// itself elsewhere.
 ///
 /// [`GlobSet::matches`] returns the indexes of the globs that match a path. Excluded globs are left out: a glob is excluded
 /// if it is case-sensitive and is parsed like `**/..`. It counts in [`GlobSet::len`], so [`GlobSet::matches_all`] is
@@ -120,8 +120,8 @@ impl GlobSet {
 
     /// Returns the set of these globs, in order, each with its own options. The globs are read, and not copied.
     ///
-    /// The iterator has to end, and its items have to be known to the prover: those of a slice, of a `Vec` and of
-    /// iterators over either are.
+    /// The iterator has to end, and the prover has to know its items, as it knows the items of a slice, of a `Vec` and of
+    /// iterators over either.
     ///
     /// Keys and states take time and memory linear in the texts of the globs, except that some of these are sorted. Rows of
     /// automata are made by calls that match, and those that the set keeps take at most 16 MiB
@@ -148,8 +148,8 @@ impl GlobSet {
         Ok(GlobSet::of_stored(stored_of_references(alloc, &references)?))
     }
 
-    /// Returns an equal set, which shares what it matches with. It takes no memory, and little time whatever the set's size. Returns an
-    /// error if 2^63 sets share it, and in no other case.
+    /// Returns an equal set, which shares the keys and automata. It does not allocate, and takes little time for sets of any
+    /// size. Returns an error only if 2^63 sets share them.
     pub fn clone(&self) -> Result<GlobSet, Error>
         ensures ok { IfOk result (λ s. s ≡ self.now) }
         ensures err { IsOkUnless result out_of_memory }
@@ -180,7 +180,7 @@ impl GlobSet {
         }
     }
 
-    /// Returns the set that stores this: for a crate that makes what a set stores glob by glob, as `globset_c` does.
+    /// Returns the set that stores this, for a crate that makes a [`Stored`] glob by glob, as `globset_c` does.
     pub fn of_stored(stored: Stored) -> GlobSet
         ensures globs { set_globs result ≡ set_globs stored.set }
         ensures stored { set_globs stored.set ≢ [] → result ≡ stored.set }
@@ -226,13 +226,13 @@ impl Default for GlobSet {
 
     ghost is_default = { λ s. (set_globs s ≡ []) × (set_states s ≡ 0) };
 
-    /// The same as [`GlobSet::empty`].
+    /// Returns a set without globs, as [`GlobSet::empty`] does.
     fn default() -> GlobSet {
         GlobSet::empty()
     }
 }
 
-/// The same as the method [`GlobSet::clone`], for code that is generic over `Clone`.
+/// Calls the method [`GlobSet::clone`], for code that is generic over `Clone`.
 impl Clone for GlobSet {
     ghost use Rattle.std.specs.Prelude.{◌≡◌};
 
@@ -246,8 +246,8 @@ impl Clone for GlobSet {
     }
 }
 
-/// `GlobSet { len: .., max_states: .., kept_bytes: .. }`: the number of globs, that of the states of the largest automaton, and what
-/// [`GlobSet::kept_bytes`] returns.
+/// `GlobSet { len: .., max_states: .., kept_bytes: .. }`: the number of globs, the number of states of the largest automaton, and
+/// the result of [`GlobSet::kept_bytes`].
 impl fmt::Debug for GlobSet {
     fn fmt<W: fmt::Write>(&self, f: &mut fmt::Formatter<W>) -> fmt::Result {
         match &self.stored {

@@ -148,8 +148,8 @@ impl<'a> GlobBuilder<'a> {
 
     /// Reads the glob under its options, in time linear in the length of its text. The builder does not change.
     ///
-    /// Returns an error if the text is not a glob, or if memory runs out. The error of a text holds the text, and its kind
-    /// and its offset are those of the first error in the text.
+    /// Returns an error if the text is not a glob, or if memory runs out. The error of a text holds the text, and has the kind
+    /// and the offset of the first error in it.
     pub fn build(&self, alloc: Global) -> Result<Glob, Error>
         ensures ok { IfOk result (λ g. g ≡ self.now) }
         ensures read { IfOk result IsRead }

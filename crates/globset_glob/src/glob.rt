@@ -87,8 +87,8 @@ impl Glob {
 
     /// Reads a glob under the default options: `\` escapes, and the other options are off.
     ///
-    /// Returns an error if the text is not a glob, or if memory runs out. The error of a text holds the text, and its kind
-    /// and its offset are those of the first error in the text.
+    /// Returns an error if the text is not a glob, or if memory runs out. The error of a text holds the text, and has the kind
+    /// and the offset of the first error in it.
     pub fn new(alloc: Global, glob: &str) -> Result<Glob, Error>
         ensures ok { IfOk result (λ g. g ≡ default_glob glob.now) }
         ensures read { IfOk result IsRead }
@@ -158,11 +158,11 @@ impl Glob {
     /// Returns a matcher for an equal glob, as [`Glob::compile_matcher`] does, which keeps rows of at most `dfa_size_limit`
     /// bytes between calls. Returns an error if memory runs out.
     ///
-    /// The limit is for memory and time, and changes no answer. It counts all that rows take: their entries, their lists of
-    /// states, and the table by which they are found. A cache has room for one row also where its quarter of the limit has
-    /// not. Under a limit of less than 16 KiB there are no rows: each byte of a path takes as many steps as the automaton is in
-    /// states, and the calls without a scratch take memory for each path. A glob whose literals decide alone has no automaton,
-    /// whatever the limit is. The limit of [`Glob::compile_matcher`] is [`DEFAULT_DFA_SIZE_LIMIT`].
+    /// The limit trades memory for time, and changes no answer. It counts all memory of rows: their entries, their lists of
+    /// states, and the table that finds them. A cache always has room for one row, even if that passes its quarter of the limit.
+    /// Under a limit of less than 16 KiB there are no rows: each byte of a path takes as many steps as the automaton is in
+    /// states, and the calls without a scratch take memory for each path. A glob whose literals decide alone has no automaton
+    /// under any limit. The limit of [`Glob::compile_matcher`] is [`DEFAULT_DFA_SIZE_LIMIT`].
     ///
     /// ```rust
     /// use globset::Glob;

@@ -22,12 +22,12 @@ use std::fmt;
 use std::marker::Model;
 use strategy::Strategy;
 
-/// Tells whether a glob matches a path.
+/// Matches one glob against paths.
 ///
-/// Contracts see a matcher as its glob. If the glob's literals decide alone, as those of `*.rs` and `src/**` do, it compares
-/// them with the path or a part of it. Otherwise it has an automaton for the glob, which is made with it. Calls make rows of
-/// this as paths need them, in at most four caches that the matcher and its clones keep until they are dropped;
-/// [`GlobMatcher::kept_bytes`] returns for how many bytes of rows these have room. A [`MatcherSearcher`] has one of its own.
+/// Contracts see a matcher as its glob. If the glob's literals decide alone, as in `*.rs` and `src/**`, the matcher compares them
+/// with the path or a part of it. Otherwise it has an automaton for the glob. Calls make rows of the automaton as paths need
+/// them, in at most four caches that the matcher and its clones keep until they are dropped; [`GlobMatcher::kept_bytes`] returns
+/// for how many bytes of rows these have room. A [`MatcherSearcher`] has a cache of its own.
 ///
 /// ```rust
 /// use globset::Glob;
@@ -118,9 +118,9 @@ impl GlobMatcher {
 
     /// Does what [`is_match_candidate`](GlobMatcher::is_match_candidate) does, and adds its visits to `visits`.
     ///
-    /// These are at most `(path bytes + 1) * (4 * glob bytes + 4)` visits, with `16 * glob bytes + 4` in place of the second
-    /// factor under `whole_character`, also if memory runs out. The call allocates nothing if the matcher compares literals.
-    /// Otherwise it may make a cache of rows, and where it has none it takes two bits of memory for each state of the automaton.
+    /// These are at most `(path bytes + 1) * (4 * glob bytes + 4)` visits, also if memory runs out; under `whole_character` the
+    /// second factor is `16 * glob bytes + 4`. The call allocates nothing if the matcher compares literals. Otherwise it may make
+    /// a cache of rows, and where it has none it takes two bits of memory for each state of the automaton.
     pub fn is_match_visits(&self, path: &Candidate<'_>, visits: &mut Visits) -> Result<bool, Error>
         ensures ok { IfOk result (λ yes. yes ≡ glob_matches self.now path.now) }
         ensures err { IsOkUnless result out_of_memory }
@@ -148,11 +148,10 @@ impl GlobMatcher {
         self.strategy.is_match(path, sets, &mut None, visits)
     }
 
-    /// Does what [`is_match_visits`](GlobMatcher::is_match_visits) does, in the caller's memory: it takes none, and cannot
-    /// fail.
+    /// Does what [`is_match_visits`](GlobMatcher::is_match_visits) does, with a scratch: it does not allocate, and cannot fail.
     ///
-    /// The scratch has to fit the matcher, as `Scratch::fits` tells. It then fits what it fitted before. The call adds
-    /// no more visits than `is_match_visits` may.
+    /// The scratch has to fit the matcher (`Scratch::fits`). It then fits each matcher and set that it fitted before. The bound
+    /// on the visits is the same.
     ///
     /// ```rust
     /// use globset::{Candidate, Glob, Scratch, Visits};
@@ -180,11 +179,11 @@ impl GlobMatcher {
 
     /// Returns whether the glob matches some path below a folder, or an error if memory runs out.
     ///
-    /// A path below a folder is the folder, a `/`, and any bytes, perhaps none. So a program that walks over a tree of folders
-    /// need not open one for which this returns false. The folder is taken as it is: below `a/` are the paths that begin with
-    /// `a//`, and below the empty folder those that begin with `/`.
+    /// A path below a folder is the folder, a `/`, and any bytes, perhaps none. So if this returns false, a walk can skip the
+    /// folder and everything below it. The folder is taken as it is: below `a/` are the paths that begin with `a//`, and below
+    /// the empty folder those that begin with `/`.
     ///
-    /// For a folder that is not UTF-8, or that several matchers are asked about, make a [`Candidate`].
+    /// For a folder that is not UTF-8, or for several matchers, make a [`Candidate`].
     ///
     /// ```rust
     /// use globset::Glob;
@@ -213,9 +212,9 @@ impl GlobMatcher {
 
     /// Does what [`can_match_below_candidate`](GlobMatcher::can_match_below_candidate) does, and adds its visits to `visits`.
     ///
-    /// These are at most `(folder bytes + 2) * (4 * glob bytes + 4)` visits, with `16 * glob bytes + 4` in place of the second
-    /// factor under `whole_character`, also if memory runs out. The call allocates nothing if the matcher compares literals.
-    /// Otherwise it may make a cache of rows, and where it has none it takes two bits of memory for each state of the automaton.
+    /// These are at most `(folder bytes + 2) * (4 * glob bytes + 4)` visits, also if memory runs out; under `whole_character` the
+    /// second factor is `16 * glob bytes + 4`. The call allocates nothing if the matcher compares literals. Otherwise it may make
+    /// a cache of rows, and where it has none it takes two bits of memory for each state of the automaton.
     pub fn can_match_below_visits(
         &self,
         folder: &Candidate<'_>,
@@ -231,8 +230,8 @@ impl GlobMatcher {
         Ok(strategy.can_match_below(folder, &mut sets, &mut None, visits)?)
     }
 
-    /// Returns a matcher for an equal glob. It copies the glob, and shares its automaton. Returns an error if memory runs out
-    /// or if 2^63 matchers share the automaton, and in no other case.
+    /// Returns a matcher for an equal glob. It copies the glob, and shares its automaton. Returns an error only if memory runs
+    /// out or 2^63 matchers share the automaton.
     pub fn clone(&self) -> Result<GlobMatcher, Error>
         ensures ok { IfOk result (λ m. m ≡ self.now) }
         ensures err { IsOkUnless result out_of_memory }
@@ -273,7 +272,7 @@ impl NeedsScratch for GlobMatcher {
     }
 }
 
-/// The same as the method [`GlobMatcher::clone`], for code that is generic over `Clone`.
+/// Calls the method [`GlobMatcher::clone`], for code that is generic over `Clone`.
 impl Clone for GlobMatcher {
     ghost is_clone = { λ m n. n ≡ m };
 

@@ -47,7 +47,7 @@ impl GlobSet {
         self.matches_all_visits(path, &mut visits)
     }
 
-    /// The same as [`GlobSet::matches_all_candidate`], which calls it, with a count of the visits.
+    /// Like [`GlobSet::matches_all_candidate`], but also counts the visits.
     ///
     /// It adds at most `4 + 2 * (path bytes + 1)`, and `path bytes + 1` times `4 * glob bytes + 4` for each glob that needs an
     /// automaton for the path (`16 * glob bytes + 4` under `whole_character`), also if memory runs out; and none if the set has

@@ -45,7 +45,7 @@ impl GlobSet {
         self.is_match_visits(path, &mut visits)
     }
 
-    /// The same as [`GlobSet::is_match_candidate`], which calls it, with a count of the visits.
+    /// Like [`GlobSet::is_match_candidate`], but also counts the visits.
     ///
     /// It adds at most `4 + 2 * (path bytes + 1)`, and `path bytes + 1` times `4 * glob bytes + 4` for each glob that needs an
     /// automaton for the path (`16 * glob bytes + 4` under `whole_character`), also if memory runs out; and none if the set has

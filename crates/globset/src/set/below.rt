@@ -11,15 +11,15 @@ use globset_glob::{AsPath, Candidate, Error, Scratch, Visits};
 use set_matcher::Caches;
 
 impl GlobSet {
-    /// Returns whether some glob that is not excluded matches some path below a folder. A program that walks over a tree of folders
-    /// need not open a folder for which this returns false, nor one below it.
+    /// Returns whether some glob that is not excluded matches some path below a folder. If this returns false, a walk can skip
+    /// the folder and everything below it.
     ///
-    /// A path below a folder is the folder, a `/`, and any bytes, perhaps none. So `a/**` and `a/` match a path below `a`, and `a`
-    /// does not. The folder is taken as it is: below `a/` are the paths that begin with `a//`. Below the empty folder are the paths
-    /// that begin with `/`, so a walk over relative paths opens the folder that it begins in without asking.
+    /// A path below a folder is the folder, a `/`, and any bytes, perhaps none. So `a/**` and `a/` match a path below `a`, and
+    /// `a` does not. The folder is taken as it is: below `a/` are the paths that begin with `a//`. Below the empty folder are the
+    /// paths that begin with `/`, so a walk over relative paths always opens the folder where it begins.
     ///
-    /// To ask several sets, or about bytes that are not UTF-8, create a [`Candidate`] and call
-    /// [`GlobSet::can_match_below_candidate`]. A walk makes a [`Scratch`] once and calls [`GlobSet::can_match_below_with`].
+    /// For several sets, or for bytes that are not UTF-8, create a [`Candidate`] and call [`GlobSet::can_match_below_candidate`].
+    /// A walk makes a [`Searcher`](crate::Searcher) once, whose calls neither allocate nor fail.
     ///
     /// Returns an error only if memory runs out. It needs no memory if each glob is direct.
     ///
@@ -56,7 +56,7 @@ impl GlobSet {
         self.can_match_below_visits(folder, &mut visits)
     }
 
-    /// The same as [`GlobSet::can_match_below_candidate`], which calls it, with a count of the visits.
+    /// Like [`GlobSet::can_match_below_candidate`], but also counts the visits.
     ///
     /// It adds at most `4 + 2 * (folder bytes + 2)`, and `folder bytes + 2` times `4 * glob bytes + 4` for each glob that is not
     /// direct (`16 * glob bytes + 4` under `whole_character`), also if memory runs out; and none if the set has no globs. The
@@ -89,10 +89,9 @@ impl GlobSet {
         )
     }
 
-    /// The same as [`GlobSet::can_match_below_visits`], with a scratch: it takes no memory, and cannot fail.
+    /// Like [`GlobSet::can_match_below_visits`], but with a scratch: it does not allocate, and cannot fail.
     ///
-    /// The scratch has to fit the set. It then fits each set that it fitted before. The bound on the visits is that of
-    /// [`GlobSet::can_match_below_visits`].
+    /// The scratch has to fit the set. It then fits each set that it fitted before. The bound on the visits is the same.
     ///
     /// ```rust
     /// use globset::{Candidate, Glob, GlobSet, Scratch, Visits};

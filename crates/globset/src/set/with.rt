@@ -1,4 +1,4 @@
-//! The calls on a set that take no memory, with a scratch that fits it.
+//! The calls on a set that do not allocate, with a scratch that fits it.
 
 ghost use Rattle.std.specs.Prelude.{◌≡◌, ◌≢◌, ◌+◌, ◌≤◌, ◌↔◌, [], IsOk, IsOkUnless, OnOk, OnErr, IsTrue, length, vec_capacity};
 ghost use Rattle.globset_glob.specs.Errors.{out_of_memory};
@@ -35,10 +35,9 @@ impl NeedsScratch for GlobSet {
 }
 
 impl GlobSet {
-    /// The same as [`GlobSet::is_match_visits`], with a scratch: it takes no memory, and cannot fail.
+    /// Like [`GlobSet::is_match_visits`], but with a scratch: it does not allocate, and cannot fail.
     ///
-    /// The scratch has to fit the set. It then fits each set that it fitted before. The bound on the visits is that of
-    /// [`GlobSet::is_match_visits`].
+    /// The scratch has to fit the set. It then fits each set that it fitted before. The bound on the visits is the same.
     pub fn is_match_with(
         &self,
         path: &Candidate<'_>,
@@ -60,10 +59,9 @@ impl GlobSet {
             .unwrap()
     }
 
-    /// The same as [`GlobSet::matches_all_visits`], with a scratch: it takes no memory, and cannot fail.
+    /// Like [`GlobSet::matches_all_visits`], but with a scratch: it does not allocate, and cannot fail.
     ///
-    /// The scratch has to fit the set. It then fits each set that it fitted before. The bound on the visits is that of
-    /// [`GlobSet::matches_all_visits`].
+    /// The scratch has to fit the set. It then fits each set that it fitted before. The bound on the visits is the same.
     pub fn matches_all_with(
         &self,
         path: &Candidate<'_>,
@@ -87,10 +85,10 @@ impl GlobSet {
             .unwrap()
     }
 
-    /// The same as [`GlobSet::matches_visits`], with a scratch: only the vector may take memory.
+    /// Like [`GlobSet::matches_visits`], but with a scratch: only the vector may grow.
     ///
-    /// The scratch has to fit the set. It then fits each set that it fitted before, after an error too. The bound on the visits is
-    /// that of [`GlobSet::matches_visits`].
+    /// The scratch has to fit the set. It then fits each set that it fitted before, after an error too. The bound on the visits
+    /// is the same.
     ///
     /// Returns an error only if memory runs out; the vector is then empty. It needs no memory if the vector has a capacity
     /// of [`GlobSet::len`]. The capacity never shrinks, so that later calls need none either.

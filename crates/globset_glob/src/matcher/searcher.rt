@@ -16,11 +16,11 @@ use lazy_dfa::StateSets;
 use std::alloc::Global;
 use std::marker::Model;
 
-/// A [`GlobMatcher`], with all the memory that one thread needs to match paths with it. That is taken when the searcher is
-/// made: no other call takes any, and none of them can fail.
+/// A [`GlobMatcher`] with all the memory that one thread needs to match paths. [`MatcherSearcher::new`] allocates it: no other
+/// call allocates, and none can fail.
 ///
-/// Searchers of a matcher share its automaton. If this is run by rows, each searcher has a cache of its own for them, and uses
-/// none of those that the matcher keeps. A program with several threads makes a searcher for each of them.
+/// Searchers of a matcher share its automaton. If this has rows, each searcher has a cache of its own for them, and uses no cache
+/// of the matcher. A program with several threads makes a searcher for each thread.
 ///
 /// Contracts see a searcher as its glob. What earlier calls left in it has no effect.
 ///
@@ -72,9 +72,9 @@ impl MatcherSearcher {
     /// bits of memory for each state of this: at most 8 bits for each byte of the glob's text and 8 more, or four times as much
     /// under `whole_character`. For rows that it keeps from one path to the next it takes a quarter of the matcher's limit
     /// ([`Glob::compile_matcher_with_limit`](crate::Glob::compile_matcher_with_limit)), so 4 MiB by default, and at most 8 MiB,
-    /// and more where the automaton has so many states that one row does not fit.
+    /// and more if the automaton has so many states that one row does not fit.
     ///
-    /// Returns an error if memory runs out or 2^63 matchers share the automaton, and in no other case.
+    /// Returns an error only if memory runs out or 2^63 matchers share the automaton.
     pub fn new(alloc: Global, matcher: &GlobMatcher) -> Result<MatcherSearcher, Error>
         ensures ok { IfOk result (λ s. s ≡ matcher.now) }
         ensures err { IsOkUnless result out_of_memory }
