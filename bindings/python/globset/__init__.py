@@ -11,7 +11,8 @@ True
 >>> sources.filter(["Makefile", "README.md"])
 ['Makefile']
 
-A path is ``str``, ``bytes`` or ``os.PathLike``, and is matched as its bytes: ``str`` is encoded by ``os.fsencode``. A glob
+A path is ``str``, ``bytes`` or ``os.PathLike``, and is matched as its bytes: ``str`` is encoded in UTF-8, as a glob is, and the
+bytes of names that are not UTF-8 are as ``os.fsencode`` has them. Another surrogate raises ``UnicodeEncodeError``. A glob
 matches whole paths, ``/`` is the only separator, and no path is changed before it is matched.
 
 ========== ====================================================================
@@ -40,7 +41,22 @@ from __future__ import annotations
 
 import os
 import sys
-from typing import TYPE_CHECKING, Any, AnyStr, Callable, Dict, Iterable, Iterator, List, Optional, Tuple, Type, TypeVar, Union
+from typing import (
+    TYPE_CHECKING,
+    Any,
+    AnyStr,
+    Callable,
+    Dict,
+    Iterable,
+    Iterator,
+    List,
+    Optional,
+    Tuple,
+    Type,
+    TypeVar,
+    Union,
+    overload,
+)
 
 from . import _walk
 from ._errors import ErrorKind, GlobError, surrogate_error
@@ -54,7 +70,7 @@ else:
     GlobBase, GlobSetBase, escape = _binding.GlobBase, _binding.GlobSetBase, _binding.escape
 
 __all__ = ["ErrorKind", "Glob", "GlobError", "GlobSet", "escape", "walk"]
-__version__ = "0.4.21"
+__version__ = "0.4.21.1"
 
 _AnyGlob = TypeVar("_AnyGlob", bound="Glob")
 _AnySet = TypeVar("_AnySet", bound="GlobSet")
@@ -134,6 +150,15 @@ class Glob(GlobBase):
         """
         return self._pattern
 
+    @property
+    def options(self) -> Dict[str, bool]:
+        """The options of the glob, by their names: ``Glob(glob.pattern, **glob.options)`` is equal to it.
+
+        >>> [name for name, value in Glob("*.c", case_insensitive=True).options.items() if value]
+        ['case_insensitive', 'backslash_escape']
+        """
+        return {name: (self._options & bit != 0) != default for name, bit, default in _OPTIONS}
+
     def _changed_options(self) -> Dict[str, bool]:
         """Returns the options that do not have their defaults."""
         return {name: not default for name, bit, default in _OPTIONS if self._options & bit}
@@ -164,8 +189,11 @@ class GlobSet(GlobSetBase):
     """A set of globs, which is asked about all of them at once.
 
     It is made from an iterable of ``str`` and ``Glob``, whose first glob has index 0. A ``str`` is read under the default
-    options; it raises the exceptions that ``Glob`` raises for it. A glob that reads as ``**/..``, and is not case-insensitive,
-    matches nothing in a set.
+    options; it raises the exceptions that ``Glob`` raises for it, with its ``index``. A glob that reads as ``**/..``, and is not
+    case-insensitive, matches nothing in a set.
+
+    The globs of a set can be iterated over, counted by ``len``, and be had by an index or as a slice, as those of a tuple.
+    ``glob in globs`` returns whether a ``Glob`` is one of them; a path is no glob, so with a path it raises ``TypeError``.
 
     A set does not change. Sets are equal if they have equal globs in the same order. They can be copied and pickled. A set
     keeps memory for as many calls as were made at the same time, which it takes at the first of them.
@@ -187,7 +215,7 @@ class GlobSet(GlobSetBase):
     ) -> _AnySet:
         if isinstance(globs, (str, bytes, Glob)):
             raise TypeError(f"the globs of a set are an iterable of them, not one {type(globs).__name__}")
-        read = tuple(glob if isinstance(glob, Glob) else Glob(glob) for glob in globs)
+        read = _read_globs(globs)
         if dfa_size_limit is not None and dfa_size_limit < 0:
             raise ValueError("a limit is not negative")
         self = super().__new__(cls, read, -1 if dfa_size_limit is None else min(dfa_size_limit, sys.maxsize))
@@ -206,6 +234,23 @@ class GlobSet(GlobSetBase):
 
     def __len__(self) -> int:
         return len(self._globs)
+
+    def __iter__(self) -> Iterator[Glob]:
+        return iter(self._globs)
+
+    @overload
+    def __getitem__(self, index: int) -> Glob: ...
+
+    @overload
+    def __getitem__(self, index: slice) -> Tuple[Glob, ...]: ...
+
+    def __getitem__(self, index: Union[int, slice]) -> Union[Glob, Tuple[Glob, ...]]:
+        return self._globs[index]
+
+    def __contains__(self, glob: object) -> bool:
+        if not isinstance(glob, Glob):
+            raise TypeError(f"a set has globs, not {type(glob).__name__}: `match` returns whether one of them matches a path")
+        return glob in self._globs
 
     def __eq__(self, other: object) -> bool:
         if not isinstance(other, GlobSet):
@@ -263,6 +308,18 @@ def walk(
 
 def _set_of(globs: _Globs) -> GlobSet:
     return globs if isinstance(globs, GlobSet) else GlobSet(globs)
+
+
+def _read_globs(globs: Iterable[Union[str, Glob]]) -> Tuple[Glob, ...]:
+    """Returns the globs of a set. An exception of a text has its index."""
+    read: List[Glob] = []
+    for glob in globs:
+        try:
+            read.append(glob if isinstance(glob, Glob) else Glob(glob))
+        except GlobError as error:
+            error.index = len(read)
+            raise
+    return tuple(read)
 
 
 def _make_set(kind: Type[_AnySet], globs: List[Glob], limit: Optional[int]) -> _AnySet:

@@ -30,7 +30,7 @@ class GlobBase:
 
     def __new__(cls: Type[_AnyGlob], pattern: str, options: int, /) -> _AnyGlob:
         self = object.__new__(cls)
-        data, error, glob = pattern.encode(), _library.Error(), Object()
+        data, error, glob = str.encode(pattern), _library.Error(), Object()
         status = _library.glob_new(data, len(data), options, ctypes.byref(error), ctypes.byref(glob))
         if status == _library.REJECTED:
             message = _library.text_of(_library.error_text, ctypes.byref(error), data, len(data))
@@ -45,7 +45,8 @@ class GlobBase:
         """A regular expression over bytes that matches the paths that the glob matches.
 
         It is in the syntax of the Rust crate ``regex``, where ``(?-u)`` turns Unicode off, and a ``.`` in it is any byte. The
-        module ``re`` reads what follows ``(?-u)``, with the flag ``re.DOTALL``.
+        module ``re`` reads what follows ``(?-u)``, and matches paths of ``bytes``:
+        ``re.compile(glob.regex[5:].encode(), re.DOTALL).fullmatch(path)``.
 
         >>> Glob("*.py").regex
         '(?-u)^.*\\\\.py$'
@@ -58,7 +59,7 @@ class GlobBase:
         >>> Glob("src/**/*.py").match("src/a/b.py")
         True
         """
-        data = os.fsencode(path)
+        data = _bytes_of(path)
         matcher = self._matcher
         if not matcher.at:
             matcher = self._make_matcher()
@@ -109,6 +110,8 @@ class GlobSetBase:
         if limit >= 0:
             _library.raise_unless_done(_library.builder_set_dfa_size_limit(builder_at, limit))
         for glob in globs:
+            if not issubclass(type(glob), GlobBase):
+                raise TypeError("a set is made of globs")
             lent.at = glob._glob.at
             _library.raise_unless_done(_library.builder_add(builder_at, lent_at))
         self._set = Object()
@@ -123,7 +126,7 @@ class GlobSetBase:
         >>> GlobSet(["*.py", "*.c"]).match("main.c")
         True
         """
-        data = os.fsencode(path)
+        data = _bytes_of(path)
         searcher = self._take_searcher()
         status = _library.searcher_is_match(searcher.at, data, len(data))
         self._searchers.append(searcher)
@@ -135,7 +138,7 @@ class GlobSetBase:
         >>> GlobSet(["*.py", "*.c", "main.*"]).matches("main.c")
         [1, 2]
         """
-        data = os.fsencode(path)
+        data = _bytes_of(path)
         searcher = self._take_searcher()
         indexes = searcher.matches(data)
         self._searchers.append(searcher)
@@ -147,7 +150,7 @@ class GlobSetBase:
         >>> GlobSet(["*.c", "main.*"]).matches_all("main.c")
         True
         """
-        data = os.fsencode(path)
+        data = _bytes_of(path)
         searcher = self._take_searcher()
         status = _library.searcher_matches_all(searcher.at, data, len(data))
         self._searchers.append(searcher)
@@ -159,7 +162,7 @@ class GlobSetBase:
         >>> GlobSet(["*.py", "*.c"]).match_many(["main.c", "README", "run.py"])
         [True, False, True]
         """
-        return [byte == 1 for byte in self._ask_many([os.fsencode(path) for path in _many(paths)])]
+        return [byte == 1 for byte in self._ask_many([_bytes_of(path) for path in _many(paths)])]
 
     def matches_many(self, paths: Iterable[Path], /) -> List[List[int]]:
         """Returns for each path the indexes of the globs that match it, in less time than a call for each takes.
@@ -167,7 +170,7 @@ class GlobSetBase:
         >>> GlobSet(["*.py", "*.c", "main.*"]).matches_many(["main.c", "README", "run.py"])
         [[1, 2], [], [0]]
         """
-        parts = [os.fsencode(path) for path in _many(paths)]
+        parts = [_bytes_of(path) for path in _many(paths)]
         searcher = self._take_searcher()
         indexes = [searcher.matches(data) for data in parts]
         self._searchers.append(searcher)
@@ -180,7 +183,7 @@ class GlobSetBase:
         ['main.c', 'run.py']
         """
         asked = list(_many(paths))
-        return list(compress(asked, self._ask_many([os.fsencode(path) for path in asked])))
+        return list(compress(asked, self._ask_many([_bytes_of(path) for path in asked])))
 
     def can_match_below(self, folder: Path, /) -> bool:
         """Returns whether some path below the folder can match: the folder, a ``/``, and any bytes, perhaps none.
@@ -189,7 +192,7 @@ class GlobSetBase:
         >>> sources.can_match_below("src/tool"), sources.can_match_below("docs")
         (True, False)
         """
-        data = os.fsencode(folder)
+        data = _bytes_of(folder)
         searcher = self._take_searcher()
         status = _library.searcher_can_match_below(searcher.at, data, len(data))
         self._searchers.append(searcher)
@@ -229,13 +232,27 @@ def escape(text: str, /) -> str:
     """
     if not isinstance(text, str):
         raise TypeError("a text is str")
-    data = text.encode()
+    data = str.encode(text)
     return _library.text_of(_library.escape, data, len(data))
 
 
 def version() -> int:
     """Returns the version of the library, as 1,000,000 times the first number, 1,000 times the second, and the third."""
     return int(_library.version())
+
+
+def _bytes_of(path: Path) -> bytes:
+    """Returns the bytes of a path. A text is encoded in UTF-8, as a glob is, and what `os.fsdecode` made of other bytes is they.
+
+    They are the object's own, and exactly ``bytes``: a class that is derived from ``bytes`` or ``str`` may have another ``len``
+    or ``encode``, and the library would read beyond the bytes.
+    """
+    if type(path) is str:
+        return path.encode("utf-8", "surrogateescape")
+    data = os.fspath(path)
+    if issubclass(type(data), str):
+        return str.encode(data, "utf-8", "surrogateescape")  # type: ignore[arg-type]
+    return bytes.__getitem__(data, slice(None))  # type: ignore[arg-type]
 
 
 def _many(paths: Iterable[_AnyPath]) -> Iterable[_AnyPath]:

@@ -35,7 +35,7 @@ class GlobError(ValueError):
     ``glob`` is the text, and ``kind`` why it is none. ``start`` and ``end`` are the characters of an invalid range, and
     ``None`` at other kinds. The error stands at ``glob[offset]``: at the ``[`` of an unclosed class or of one with an invalid
     range, at a ``}`` that closes nothing, at the last ``\\``, at the outermost ``{`` that is open at the end of the text, or at
-    the first surrogate.
+    the first surrogate. ``index`` is that of the text among those that a set is made of, and ``None`` if there is no set.
 
     >>> try:
     ...     Glob("[z-a]")
@@ -54,6 +54,7 @@ class GlobError(ValueError):
         start: Optional[str] = None,
         end: Optional[str] = None,
         offset: Optional[int] = None,
+        index: Optional[int] = None,
     ) -> None:
         super().__init__(message)
         self.glob = glob
@@ -61,15 +62,16 @@ class GlobError(ValueError):
         self.start = start
         self.end = end
         self.offset = offset
+        self.index = index
 
     def __reduce__(self) -> Tuple[Any, ...]:
-        return type(self), (str(self), self.glob, self.kind, self.start, self.end, self.offset)
+        return type(self), (str(self), self.glob, self.kind, self.start, self.end, self.offset, self.index)
 
 
 def glob_error(message: str, glob: str, number: int, start: int, end: int, offset: int) -> GlobError:
     """Returns the exception of what the library says of a text. It counts bytes, and an index of a ``str`` counts characters."""
     kind = ErrorKind(number)
-    at = len(glob.encode()[:offset].decode())
+    at = len(str.encode(glob)[:offset].decode())
     if kind is ErrorKind.INVALID_RANGE:
         return GlobError(message, glob, kind, chr(start), chr(end), at)
     return GlobError(message, glob, kind, offset=at)
@@ -77,5 +79,5 @@ def glob_error(message: str, glob: str, number: int, start: int, end: int, offse
 
 def surrogate_error(glob: str, offset: int) -> GlobError:
     """Returns the exception of a text that has a surrogate at an index, and so cannot be encoded."""
-    shown = glob.encode("utf-8", "backslashreplace").decode()
+    shown = str.encode(glob, "utf-8", "backslashreplace").decode()
     return GlobError(f"error parsing glob '{shown}': a surrogate is no character", glob, ErrorKind.SURROGATE, offset=offset)

@@ -17,9 +17,6 @@
 /* How many paths are asked about without the lock before it is taken again. */
 enum { BLOCK = 1024 };
 
-/* Whether Python encodes the names of files in UTF-8. It does not change while Python runs. */
-static int names_are_utf8;
-
 /* ---- Statuses ---- */
 
 static PyObject *raise_status(globset_status status) {
@@ -50,19 +47,17 @@ static int read_bytes(PyObject *bytes, struct path *path) {
     return 0;
 }
 
-/* Encodes as os.fsencode does. */
+/* Encodes in UTF-8, as globs are encoded. What os.fsdecode made of bytes that are not UTF-8 becomes these bytes. */
 static int read_text(PyObject *text, struct path *path) {
-    if (names_are_utf8) {
-        Py_ssize_t length;
-        const char *at = PyUnicode_AsUTF8AndSize(text, &length);
-        if (at) {
-            *path = (struct path){Py_NewRef(text), (const uint8_t *)at, (size_t)length};
-            return 0;
-        }
-        if (!PyErr_ExceptionMatches(PyExc_UnicodeEncodeError)) return -1;
-        PyErr_Clear();
+    Py_ssize_t length;
+    const char *at = PyUnicode_AsUTF8AndSize(text, &length);
+    if (at) {
+        *path = (struct path){Py_NewRef(text), (const uint8_t *)at, (size_t)length};
+        return 0;
     }
-    PyObject *bytes = PyUnicode_EncodeFSDefault(text);
+    if (!PyErr_ExceptionMatches(PyExc_UnicodeEncodeError)) return -1;
+    PyErr_Clear();
+    PyObject *bytes = PyUnicode_AsEncodedString(text, "utf-8", "surrogateescape");
     if (!bytes) return -1;
     int read = read_bytes(bytes, path);
     Py_DECREF(bytes);
@@ -672,11 +667,6 @@ static PyType_Spec set_spec = {
 /* The state of a module is its class GlobBase. */
 static int execute(PyObject *module) {
     PyTypeObject **glob_type = PyModule_GetState(module);
-    PyObject *encoding = PySys_GetObject("getfilesystemencoding");
-    PyObject *name = encoding ? PyObject_CallNoArgs(encoding) : NULL;
-    if (!name) return -1;
-    names_are_utf8 = PyUnicode_CompareWithASCIIString(name, "utf-8") == 0;
-    Py_DECREF(name);
     *glob_type = (PyTypeObject *)PyType_FromModuleAndSpec(module, &glob_spec, NULL);
     if (!*glob_type || PyModule_AddType(module, *glob_type) < 0) return -1;
     PyObject *set_type = PyType_FromModuleAndSpec(module, &set_spec, NULL);
@@ -699,7 +689,8 @@ static int clear_module(PyObject *module) {
 
 static void free_module(void *module) { clear_module((PyObject *)module); }
 
-static PyModuleDef_Slot module_slots[] = {{Py_mod_exec, execute}, {0, NULL}};
+/* The second place is for MULTIPLE_INTERPRETERS. */
+static PyModuleDef_Slot module_slots[] = {{Py_mod_exec, execute}, {0, NULL}, {0, NULL}};
 
 static struct PyModuleDef definition = {
     .m_base = PyModuleDef_HEAD_INIT,
@@ -713,4 +704,14 @@ static struct PyModuleDef definition = {
     .m_free = free_module,
 };
 
-PyMODINIT_FUNC PyInit__extension(void) { return PyModuleDef_Init(&definition); }
+/* Py_mod_multiple_interpreters and Py_MOD_PER_INTERPRETER_GIL_SUPPORTED of Python 3.12, which earlier ones refuse: interpreters
+ * with a lock of their own may import the module. They share no object, and nothing here but constants. */
+enum { MULTIPLE_INTERPRETERS = 3, EACH_WITH_ITS_LOCK = 2, SINCE = 0x030C0000 };
+
+PyMODINIT_FUNC PyInit__extension(void) {
+    PyObject *version = PySys_GetObject("hexversion");
+    unsigned long number = version ? PyLong_AsUnsignedLong(version) : 0;
+    if (PyErr_Occurred()) return NULL;
+    if (number >= SINCE) module_slots[1] = (PyModuleDef_Slot){MULTIPLE_INTERPRETERS, (void *)EACH_WITH_ITS_LOCK};
+    return PyModuleDef_Init(&definition);
+}

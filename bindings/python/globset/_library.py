@@ -46,7 +46,12 @@ class Indexes(ctypes.Structure):
 def _load() -> ctypes.CDLL:
     """Loads the library beside this file, or if there is none, the one that the system's loader finds."""
     beside = os.path.join(os.path.dirname(os.path.abspath(__file__)), "libglobset.so")
-    library = ctypes.CDLL(beside if os.path.exists(beside) else "libglobset.so.0")
+    try:
+        library = ctypes.CDLL(beside if os.path.exists(beside) else f"libglobset.so.{INTERFACE}")
+    except OSError as error:
+        raise ImportError(
+            f"the C library cannot be loaded ({error}). The wheel py3-none has it, and the one for Python 3.10 and later has not"
+        ) from error
     if library.globset_interface() != INTERFACE:
         raise ImportError(f"libglobset has the interface {library.globset_interface()}, and the module needs {INTERFACE}")
     return library

@@ -53,6 +53,8 @@ class Misuse:
                 lambda: Hostile(self),
                 lambda: Hostile(self),
                 lambda: Subclass("a.py"),
+                lambda: Long(b"a.py"),
+                lambda: Other("abc"),
                 lambda: bytearray(b"a"),
                 lambda: memoryview(b"a"),
                 lambda: self.rng.choice([None, 7, 2**80, 1.5, (), [], {}, object, Ellipsis, int, GlobSet, self.one()]),
@@ -184,6 +186,20 @@ class Subclass(str):
         raise LookupError
 
     __hash__ = str.__hash__
+
+
+class Long(bytes):
+    """Bytes that say that they are more than they are."""
+
+    def __len__(self):
+        return 10**9
+
+
+class Other(str):
+    """A text that says that it is another."""
+
+    def encode(self, *arguments):
+        return Long(b"z")
 
 
 def failing(paths):

@@ -113,6 +113,21 @@ class Globs(unittest.TestCase):
         with self.assertRaises(AttributeError):
             glob.pattern = "a"
 
+    def test_options_of_a_glob(self):
+        options = {
+            "case_insensitive": True,
+            "literal_separator": False,
+            "backslash_escape": False,
+            "empty_alternates": False,
+            "allow_unclosed_class": False,
+            "whole_character": False,
+        }
+        self.assertEqual(Glob("a", case_insensitive=True, backslash_escape=False).options, options)
+        for name, value in Glob("a").options.items():
+            glob = Glob("a", **{name: not value})
+            self.assertEqual(Glob(glob.pattern, **glob.options), glob)
+            self.assertEqual(glob.options, {**Glob("a").options, name: not value})
+
     def test_equality_and_hash(self):
         self.assertEqual(Glob("a"), Glob("a"))
         self.assertEqual(hash(Glob("a")), hash(Glob("a")))
@@ -164,16 +179,8 @@ class Globs(unittest.TestCase):
         self.assertEqual(glob.filter(path for path in paths), paths[::3])
 
     def test_version(self):
-        self.assertEqual(globset.__version__, "0.4.21")
+        self.assertRegex(globset.__version__, r"\A0\.4\.21\.[1-9][0-9]*\Z")
         self.assertEqual(globset._binding.version(), 4021)
-
-    def test_binding(self):
-        chosen = os.environ.get("GLOBSET_BINDING", "")
-        if chosen:
-            self.assertEqual(globset._binding.__name__, {"extension": "globset._extension", "ctypes": "globset._by_ctypes"}[chosen])
-        ran = run_python("import os; os.environ['GLOBSET_BINDING'] = 'c'; import globset")
-        self.assertEqual(ran.returncode, 1)
-        self.assertIn(b"ImportError: GLOBSET_BINDING is extension or ctypes, not 'c'", ran.stderr)
 
     @unittest.skipIf(IS_CTYPES, "they are written in Python")
     def test_bases(self):
@@ -211,6 +218,16 @@ class Errors(unittest.TestCase):
                 self.assertIsInstance(error, ValueError)
                 self.assertEqual(str(error), f"error parsing glob '{text}': {said}")
                 self.assertEqual((error.glob, error.kind, error.start, error.end), (text, kind, start, end))
+
+    def test_index(self):
+        for globs, index in [(["[a"], 0), (["a", Glob("b"), "[a", "{"], 2), (iter(["a", "\udc80"]), 1)]:
+            with self.assertRaises(GlobError) as raised:
+                GlobSet(globs)
+            self.assertEqual(raised.exception.index, index)
+            self.assertEqual(pickle.loads(pickle.dumps(raised.exception)).index, index)
+        with self.assertRaises(GlobError) as raised:
+            Glob("[a")
+        self.assertIsNone(raised.exception.index)
 
     def test_copies(self):
         with self.assertRaises(GlobError) as raised:
@@ -369,27 +386,6 @@ class Paths(unittest.TestCase):
         self.assertEqual({type(answer) for answer in answers}, {bool})
 
 
-    def test_another_encoding_of_names(self):
-        """Where names of files are not encoded in UTF-8, paths are as `os.fsencode` makes them."""
-        program = """
-import os, sys
-from globset import Glob, GlobSet
-assert Glob("a?b").match(os.fsdecode(b"a\\xffb")) and GlobSet(["a?b", "ab"]).matches("ab") == [1]
-try:
-    data = os.fsencode("\\xe9")
-except UnicodeEncodeError:
-    data = None
-try:
-    assert GlobSet(["?"]).match("\\xe9") == (len(data) == 1)
-except UnicodeEncodeError:
-    assert data is None
-print(sys.getfilesystemencoding())
-"""
-        for locale in ["C", "C.UTF-8"]:
-            ran = run_python(program, PYTHONUTF8="0", PYTHONCOERCECLOCALE="0", LC_ALL=locale)
-            self.assertEqual((ran.returncode, ran.stderr), (0, b""))
-
-
 class Sets(unittest.TestCase):
     def test_indexes(self):
         globs = GlobSet(["*.py", Glob("SRC/*", case_insensitive=True), "src/**/a.*", "nothing"])
@@ -437,6 +433,21 @@ class Sets(unittest.TestCase):
         self.assertNotEqual(one, GlobSet([Glob("b", whole_character=True), "a"]))
         self.assertNotEqual(one, ["a"])
         self.assertEqual(len({one, other, GlobSet([])}), 2)
+
+    def test_as_a_tuple(self):
+        first, second = Glob("*.py"), Glob("*.C", case_insensitive=True)
+        globs = GlobSet([first, second])
+        self.assertEqual([*globs], [first, second])
+        self.assertEqual((globs[0], globs[-1], globs[:1], globs[::-1]), (first, second, (first,), (second, first)))
+        self.assertTrue(Glob("*.py") in globs and second in globs)
+        self.assertFalse(Glob("*.C") in globs)
+        self.assertEqual(GlobSet(globs), globs)
+        self.assertEqual(list(reversed(globs)), [second, first])
+        for wrong in ["*.py", b"a.py", 7, pathlib.PurePosixPath("a.py")]:
+            with self.assertRaises(TypeError):
+                wrong in globs
+        with self.assertRaises(IndexError):
+            globs[2]
 
     def test_dfa_size_limit(self):
         globs = [f"*{one}*{other}*" for one in "abc" for other in "def"]
