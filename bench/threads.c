@@ -70,7 +70,7 @@ static int searcher_is_match(struct asker *asker, const char *path, size_t lengt
 static int searcher_matches(struct asker *asker, const char *path, size_t length) {
     const size_t *indexes;
     size_t count;
-    int status = globset_searcher_matches(asker->searcher, path, length, &indexes, &count);
+    int status = globset_searcher_find(asker->searcher, path, length, &indexes, &count);
     return status == GLOBSET_OK ? count > 0 : status;
 }
 
@@ -80,7 +80,7 @@ static const struct {
 } calls[CALLS] = {
     {"globset_set_is_match", set_is_match},
     {"globset_searcher_is_match", searcher_is_match},
-    {"globset_searcher_matches", searcher_matches},
+    {"globset_searcher_find", searcher_matches},
 };
 
 /* ---- Threads */

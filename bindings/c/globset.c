@@ -33,6 +33,7 @@ const char *globset_status_text(int status) {
         "the buffer is too small",
         "an object is of another kind than its pointer says",
         "the error is none, so it says nothing",
+        "a length or a count is larger than any array can be",
     };
     static const int count = sizeof errors / sizeof *errors;
     if (status == 1) return "the answer is yes";
@@ -54,6 +55,8 @@ static int result_of(globset_status status) {
     }
 }
 
+const char *globset_version_text(void) { return GLOBSET_VERSION_TEXT; }
+
 /* ---- Texts and objects ---- */
 
 /* The bytes that a caller passes. The address is never null. */
@@ -62,17 +65,21 @@ struct bytes {
     size_t length;
 };
 
-/* Finds the bytes that a pointer and a length stand for. Returns false if the pointer is null and must not be. */
-static bool find_bytes(const char *at, size_t length, struct bytes *bytes) {
+/* Finds the bytes that a pointer and a length stand for. Returns GLOBSET_OK, or GLOBSET_ENULL if the pointer is null and
+ * must not be, or GLOBSET_ELENGTH if no array has this length. */
+static int find_bytes(const char *at, size_t length, struct bytes *bytes) {
     if (at == NULL) {
         bytes->at = (const uint8_t *)no_items;
         bytes->length = 0;
-        return length == 0;
+        return length == 0 ? GLOBSET_OK : GLOBSET_ENULL;
     }
     bytes->at = (const uint8_t *)at;
     bytes->length = length == GLOBSET_ZERO_TERMINATED ? strlen(at) : length;
-    return true;
+    return bytes->length < GLOBSET_ZERO_TERMINATED ? GLOBSET_OK : GLOBSET_ELENGTH;
 }
+
+/* Whether no array has so many members of type size_t, or pointers. */
+static bool is_too_many(size_t count) { return count >= GLOBSET_ZERO_TERMINATED / sizeof(size_t); }
 
 static uint8_t *room_in(char *buffer) { return buffer != NULL ? (uint8_t *)buffer : no_room; }
 
@@ -89,10 +96,12 @@ static int end_text(globset_status status, char *buffer, size_t size, size_t nee
     return GLOBSET_OK;
 }
 
-/* Ends a call on a buffer before it began, since a pointer is null. */
-static int end_null(size_t *length) {
+/* Tests what a call is passed that writes a text into a buffer: whether an object is there, what find_bytes said of its
+ * bytes, and the buffer. Sets the length to 0. */
+static int begin_text(bool is_there, int found, const char *buffer, size_t size, size_t *length) {
     if (length != NULL) *length = 0;
-    return GLOBSET_ENULL;
+    if (!is_there || (buffer == NULL && size > 0)) return GLOBSET_ENULL;
+    return found == GLOBSET_OK && size >= GLOBSET_ZERO_TERMINATED ? GLOBSET_ELENGTH : found;
 }
 
 static globset_lent lend(const void *object) {
@@ -111,6 +120,11 @@ static void free_object(void *object) {
     if (object != NULL) globset_raw_free(own(object));
 }
 
+/* Frees an object if a call on it said so that it is of the kind that its `_free` is for. */
+static void free_if(globset_status status, void *object) {
+    if (status == GLOBSET_DONE) free_object(object);
+}
+
 /* ---- Errors of globs ---- */
 
 int globset_error_text(const globset_error *error, const char *text, size_t text_length, char *buffer, size_t size,
@@ -118,8 +132,8 @@ int globset_error_text(const globset_error *error, const char *text, size_t text
     struct bytes bytes;
     size_t needed = 0;
     globset_status status;
-    if (error == NULL || !find_bytes(text, text_length, &bytes) || (buffer == NULL && size > 0))
-        return end_null(length);
+    int begun = begin_text(error != NULL, find_bytes(text, text_length, &bytes), buffer, size, length);
+    if (begun != GLOBSET_OK) return begun;
     status = globset_raw_error_text(error, bytes.at, bytes.length, room_in(buffer), room_of(size), &needed);
     if (status != GLOBSET_NO) return end_text(status, buffer, size, needed, length);
     if (length != NULL) *length = 0;
@@ -130,7 +144,8 @@ int globset_escape(const char *text, size_t text_length, char *buffer, size_t si
     struct bytes bytes;
     size_t needed = 0;
     globset_status status;
-    if (!find_bytes(text, text_length, &bytes) || (buffer == NULL && size > 0)) return end_null(length);
+    int begun = begin_text(true, find_bytes(text, text_length, &bytes), buffer, size, length);
+    if (begun != GLOBSET_OK) return begun;
     status = globset_raw_escape(bytes.at, bytes.length, room_in(buffer), room_of(size), &needed);
     return end_text(status, buffer, size, needed, length);
 }
@@ -142,10 +157,12 @@ int globset_glob_new(const char *text, size_t length, uint32_t options, globset_
     globset_owned made = own(NULL);
     struct bytes bytes;
     globset_status status;
+    int result;
     if (error != NULL) *error = found;
     if (glob == NULL) return GLOBSET_ENULL;
     *glob = NULL;
-    if (!find_bytes(text, length, &bytes)) return GLOBSET_ENULL;
+    result = find_bytes(text, length, &bytes);
+    if (result != GLOBSET_OK) return result;
     status = globset_raw_glob_new(bytes.at, bytes.length, options, &found, &made);
     if (error != NULL) *error = found;
     *glob = made.at;
@@ -156,7 +173,8 @@ int globset_glob_text(const globset_glob *glob, char *buffer, size_t size, size_
     globset_lent lent = lend(glob);
     size_t needed = 0;
     globset_status status;
-    if (glob == NULL || (buffer == NULL && size > 0)) return end_null(length);
+    int begun = begin_text(glob != NULL, GLOBSET_OK, buffer, size, length);
+    if (begun != GLOBSET_OK) return begun;
     status = globset_raw_glob_text(&lent, room_in(buffer), room_of(size), &needed);
     return end_text(status, buffer, size, needed, length);
 }
@@ -172,12 +190,17 @@ int globset_glob_regex(const globset_glob *glob, char *buffer, size_t size, size
     globset_lent lent = lend(glob);
     size_t needed = 0;
     globset_status status;
-    if (glob == NULL || (buffer == NULL && size > 0)) return end_null(length);
+    int begun = begin_text(glob != NULL, GLOBSET_OK, buffer, size, length);
+    if (begun != GLOBSET_OK) return begun;
     status = globset_raw_glob_regex(&lent, room_in(buffer), room_of(size), &needed);
     return end_text(status, buffer, size, needed, length);
 }
 
-void globset_glob_free(globset_glob *glob) { free_object(glob); }
+void globset_glob_free(globset_glob *glob) {
+    globset_lent lent = lend(glob);
+    uint32_t options = 0;
+    if (glob != NULL) free_if(globset_raw_glob_options(&lent, &options), glob);
+}
 
 /* ---- Matchers ---- */
 
@@ -222,16 +245,19 @@ int globset_matcher_new(const globset_glob *glob, globset_matcher **matcher) {
 int globset_matcher_is_match(globset_matcher *matcher, const char *path, size_t length) {
     struct bytes bytes;
     globset_lent lent;
-    if (matcher == NULL || !find_bytes(path, length, &bytes)) return GLOBSET_ENULL;
+    int result = find_bytes(path, length, &bytes);
+    if (matcher == NULL) return GLOBSET_ENULL;
+    if (result != GLOBSET_OK) return result;
     if (matcher->kind != MATCHER_KIND) return GLOBSET_EKIND;
     lent = lend(matcher->matcher.at);
     return result_of(globset_raw_matcher_is_match(&lent, &matcher->work, bytes.at, bytes.length));
 }
 
 void globset_matcher_free(globset_matcher *matcher) {
-    if (matcher == NULL) return;
+    if (matcher == NULL || matcher->kind != MATCHER_KIND) return;
     free_object(matcher->matcher.at);
     free_object(matcher->work.at);
+    matcher->kind = 0;
     rattle_dealloc(matcher);
 }
 
@@ -270,7 +296,10 @@ int globset_builder_build(globset_builder *builder, globset_set **set) {
     return result_of(status);
 }
 
-void globset_builder_free(globset_builder *builder) { free_object(builder); }
+void globset_builder_free(globset_builder *builder) {
+    globset_owned owned = own(builder);
+    if (builder != NULL) free_if(globset_raw_builder_set_dfa_size_limit(&owned, 0), builder);
+}
 
 /* ---- Sets ---- */
 
@@ -290,6 +319,7 @@ int globset_set_new(const char *const *texts, const size_t *lengths, const uint3
     if (index != NULL) *index = 0;
     if (set == NULL) return GLOBSET_ENULL;
     *set = NULL;
+    if (is_too_many(count)) return GLOBSET_ELENGTH;
     if (texts == NULL && count > 0) return GLOBSET_ENULL;
     result = globset_builder_new(&builder);
     for (size_t i = 0; i < count && result == GLOBSET_OK; i++) {
@@ -312,11 +342,17 @@ size_t globset_set_length(const globset_set *set) {
 int globset_set_is_match(const globset_set *set, const char *path, size_t length) {
     globset_lent lent = lend(set);
     struct bytes bytes;
-    if (set == NULL || !find_bytes(path, length, &bytes)) return GLOBSET_ENULL;
+    int result = find_bytes(path, length, &bytes);
+    if (set == NULL) return GLOBSET_ENULL;
+    if (result != GLOBSET_OK) return result;
     return result_of(globset_raw_set_is_match_plain(&lent, bytes.at, bytes.length));
 }
 
-void globset_set_free(globset_set *set) { free_object(set); }
+void globset_set_free(globset_set *set) {
+    globset_lent lent = lend(set);
+    size_t length = 0;
+    if (set != NULL) free_if(globset_raw_set_len(&lent, &length), set);
+}
 
 /* ---- Searchers ---- */
 
@@ -335,28 +371,34 @@ int globset_searcher_new(const globset_set *set, globset_searcher **searcher) {
 int globset_searcher_is_match(globset_searcher *searcher, const char *path, size_t length) {
     globset_owned owned = own(searcher);
     struct bytes bytes;
-    if (searcher == NULL || !find_bytes(path, length, &bytes)) return GLOBSET_ENULL;
+    int result = find_bytes(path, length, &bytes);
+    if (searcher == NULL) return GLOBSET_ENULL;
+    if (result != GLOBSET_OK) return result;
     return result_of(globset_raw_searcher_is_match(&owned, bytes.at, bytes.length));
 }
 
 int globset_searcher_matches_all(globset_searcher *searcher, const char *path, size_t length) {
     globset_owned owned = own(searcher);
     struct bytes bytes;
-    if (searcher == NULL || !find_bytes(path, length, &bytes)) return GLOBSET_ENULL;
+    int result = find_bytes(path, length, &bytes);
+    if (searcher == NULL) return GLOBSET_ENULL;
+    if (result != GLOBSET_OK) return result;
     return result_of(globset_raw_searcher_matches_all(&owned, bytes.at, bytes.length));
 }
 
-int globset_searcher_matches(globset_searcher *searcher, const char *path, size_t length, const size_t **indexes,
-                             size_t *count) {
+int globset_searcher_find(globset_searcher *searcher, const char *path, size_t length, const size_t **indexes,
+                          size_t *count) {
     globset_owned owned = own(searcher);
     globset_indexes found = {no_items, 0};
     struct bytes bytes;
     globset_status status;
     size_t number = 0;
+    int result;
     if (indexes != NULL) *indexes = NULL;
     if (count != NULL) *count = 0;
     if (searcher == NULL || indexes == NULL || count == NULL) return GLOBSET_ENULL;
-    if (!find_bytes(path, length, &bytes)) return GLOBSET_ENULL;
+    result = find_bytes(path, length, &bytes);
+    if (result != GLOBSET_OK) return result;
     status = globset_raw_searcher_find(&owned, bytes.at, bytes.length, &number);
     if (status == GLOBSET_DONE) status = globset_raw_searcher_found(&owned, &found);
     if (status != GLOBSET_DONE) return result_of(status);
@@ -368,7 +410,9 @@ int globset_searcher_matches(globset_searcher *searcher, const char *path, size_
 int globset_searcher_can_match_below(globset_searcher *searcher, const char *folder, size_t length) {
     globset_owned owned = own(searcher);
     struct bytes bytes;
-    if (searcher == NULL || !find_bytes(folder, length, &bytes)) return GLOBSET_ENULL;
+    int result = find_bytes(folder, length, &bytes);
+    if (searcher == NULL) return GLOBSET_ENULL;
+    if (result != GLOBSET_OK) return result;
     return result_of(globset_raw_searcher_can_match_below(&owned, bytes.at, bytes.length));
 }
 
@@ -376,7 +420,10 @@ int globset_searcher_is_match_many(globset_searcher *searcher, const char *paths
                                    const size_t *end_offsets, size_t count, uint8_t *answers) {
     globset_owned owned = own(searcher);
     struct bytes bytes;
-    if (searcher == NULL || !find_bytes(paths, length, &bytes)) return GLOBSET_ENULL;
+    int result = find_bytes(paths, length, &bytes);
+    if (searcher == NULL) return GLOBSET_ENULL;
+    if (result != GLOBSET_OK) return result;
+    if (is_too_many(count)) return GLOBSET_ELENGTH;
     if (count > 0 && (end_offsets == NULL || answers == NULL)) return GLOBSET_ENULL;
     if (end_offsets == NULL) end_offsets = no_items;
     if (answers == NULL) answers = no_room;
@@ -384,15 +431,17 @@ int globset_searcher_is_match_many(globset_searcher *searcher, const char *paths
         globset_raw_searcher_is_match_many(&owned, bytes.at, bytes.length, end_offsets, count, answers, count));
 }
 
-int globset_searcher_matches_many(globset_searcher *searcher, const char *paths, size_t length,
-                                  const size_t *end_offsets, size_t count, size_t *index_ends, size_t *indexes,
-                                  size_t size, size_t *index_count) {
+int globset_searcher_find_many(globset_searcher *searcher, const char *paths, size_t length, const size_t *end_offsets,
+                               size_t count, size_t *index_ends, size_t *indexes, size_t size, size_t *index_count) {
     globset_owned owned = own(searcher);
     struct bytes bytes;
     globset_status status;
+    int result = find_bytes(paths, length, &bytes);
     if (index_count == NULL) return GLOBSET_ENULL;
     *index_count = 0;
-    if (searcher == NULL || !find_bytes(paths, length, &bytes)) return GLOBSET_ENULL;
+    if (searcher == NULL) return GLOBSET_ENULL;
+    if (result != GLOBSET_OK) return result;
+    if (is_too_many(count) || is_too_many(size)) return GLOBSET_ELENGTH;
     if ((count > 0 && (end_offsets == NULL || index_ends == NULL)) || (size > 0 && indexes == NULL))
         return GLOBSET_ENULL;
     if (end_offsets == NULL) end_offsets = no_items;
@@ -403,4 +452,8 @@ int globset_searcher_matches_many(globset_searcher *searcher, const char *paths,
     return result_of(status);
 }
 
-void globset_searcher_free(globset_searcher *searcher) { free_object(searcher); }
+void globset_searcher_free(globset_searcher *searcher) {
+    globset_owned owned = own(searcher);
+    globset_indexes found = {no_items, 0};
+    if (searcher != NULL) free_if(globset_raw_searcher_found(&owned, &found), searcher);
+}

@@ -2,23 +2,28 @@
  *
  * globset_set_new makes a set of many texts, globset_searcher_new makes a searcher of the set, and
  * globset_searcher_is_match asks it about a path. The file example.c, which comes with the library, is a whole program.
- * The functions are made of proved ones (globset_raw.h).
+ * The functions call those of globset_raw.h, which are proved. The file that makes the ones of the others, globset.c, is
+ * not proved, and neither is the bridge to malloc: both are tested.
  *
  * Objects. A glob is a text that was read, with its options. A set has many globs and is ready to match. A searcher is
  * a set with the memory that one thread needs to match, and a matcher is the same for one glob. A builder takes globs
  * one by one and makes a set of them. Each object is made by a function that writes a pointer to it, and freed once, by
- * the `_free` of its kind. An object keeps what it needs of those that it was made of: they may be freed before it.
+ * the `_free` of its kind, which does nothing with an object of another kind. An object keeps what it needs of those
+ * that it was made of: they may be freed before it.
  *
- * Results. A function that answers a question returns 1 for yes and 0 for no. One that does something returns
- * GLOBSET_OK, which is 0. An error is below 0, and globset_status_text says what it means. After an error no object was
- * made, and the pointer to it is null. Every object holds what it held before the call, and can still be used.
+ * Results. A function whose name has `is_match`, `matches_all` or `can_match` answers a question: it returns 1 for yes
+ * and 0 for no. Each other function with a result returns GLOBSET_OK, which is 0, if it did what it is for. An error is
+ * below 0, and globset_status_text says what it means. Compare an answer with 1, and any other result with GLOBSET_OK:
+ * `if (globset_set_is_match(..) == 1)`. An error alone would count as true. After an error no object was made, and the
+ * pointer to it is null. Every object holds what it held before the call, and can still be used.
  *
  * Null. Each `_free` accepts null and does nothing. Where `error`, `index` or `length` points to a result, it may be
  * null, and then the result is not written. Bytes and arrays may be null if they have no members. Any other null
  * pointer ends in GLOBSET_ENULL.
  *
  * Bytes. Texts and paths are bytes with a length, and may have NULs inside. The length GLOBSET_ZERO_TERMINATED stands
- * for a string that ends before its first NUL. A path is any bytes; the text of a glob has to be UTF-8.
+ * for a string that ends before its first NUL. A path is any bytes; the text of a glob has to be UTF-8. A length, a size
+ * or a count that no array can have, such as the -1 of a `read` that failed, ends in GLOBSET_ELENGTH.
  *
  * Buffers. A function that writes a text into a buffer of `size` bytes writes a NUL behind it, and the length of the
  * text without that NUL to `length`. If the buffer has no room for both, the result is GLOBSET_EBUFFER, the buffer is
@@ -35,7 +40,8 @@
  * call is made from a signal handler, nor in the child of a `fork` of a process with several threads.
  *
  * The library promises: it reads and writes nothing else, it returns, it never ends the process, and it keeps no
- * pointer to what it was passed. The stack that a call takes does not grow with texts, paths or the depth of braces.
+ * pointer to what it was passed. That the stack of a call does not grow with texts, paths or the depth of braces is
+ * tested, and not proved.
  */
 #ifndef GLOBSET_H
 #define GLOBSET_H
@@ -51,13 +57,23 @@ extern "C" {
  * second, and the third: 0.4.21. */
 #define GLOBSET_VERSION 4021
 
-/* The number of this interface. It grows when a function that is here changes or goes. */
+/* The number of this release of the library, from 1. It grows with each release of one GLOBSET_VERSION. */
+#define GLOBSET_BUILD 1
+
+/* Both as a text, which pkg-config, CMake and pip have, too. Cargo has it as 0.4.21+1. */
+#define GLOBSET_VERSION_TEXT "0.4.21.1"
+
+/* The number of the interface: of globset.h and of globset_raw.h. It grows when a function of one of them changes or
+ * goes, or when a type or the meaning of a number changes. A new function or a new error does not change it. With the
+ * number N the soname of the shared library is libglobset.so.N, and all its symbols have the version GLOBSET_N. So a
+ * program that was linked with a library of the same number runs with each later build of it. */
 #define GLOBSET_INTERFACE 1
 
-/* The length of a string that ends before its first NUL. */
-#define GLOBSET_ZERO_TERMINATED ((size_t)-1)
+/* The length of a string that ends before its first NUL. No array has it: the largest one has PTRDIFF_MAX bytes. */
+#define GLOBSET_ZERO_TERMINATED ((size_t)-1 / 2 + 1)
 
-/* Begins the declaration of a function whose result has to be used. Compilers that can do so warn if it is not. */
+/* Begins the declaration of a function whose result has to be used. Compilers that can do so warn if it is not. GCC
+ * warns after a cast to void, too; a program that needs no result assigns it to a variable. */
 #if defined(__GNUC__)
 #define GLOBSET_CHECKED __attribute__((warn_unused_result))
 #else
@@ -69,6 +85,25 @@ typedef struct globset_set globset_set;
 typedef struct globset_searcher globset_searcher;
 typedef struct globset_matcher globset_matcher;
 typedef struct globset_builder globset_builder;
+
+/* ---- Globs ---- */
+
+/* A glob matches whole paths: the glob `src` does not match the path `src/a`. A path is a list of bytes, in which `/` is
+ * the only separator; `.` and `..` are names like others. These parts of a glob do not match just themselves:
+ *
+ *     ?                             any one byte
+ *     *                             any bytes, or none; also `/`
+ *     ** and a / at the start       any folders, or none
+ *     a / and ** at the end         everything in a folder
+ *     a / and ** and a / within     a `/`, and any folders after it
+ *     ** alone                      every path
+ *     {a,b}                         `a` or `b`, which are globs; braces nest
+ *     [ab], [a-z]                   one byte of the class, also `/`
+ *     [!ab], [^ab]                  one byte that is not in the class
+ *     \ and a character             that character
+ *
+ * Other runs of stars mean as many single `*`. Each branch in braces has its own start and end. The options below change
+ * some of this. */
 
 /* ---- Results ---- */
 
@@ -82,7 +117,8 @@ enum {
     GLOBSET_EOFFSETS = -6, /* an end offset is below the one before it, or beyond the bytes */
     GLOBSET_EBUFFER = -7,  /* the buffer is too small */
     GLOBSET_EKIND = -8,    /* an object is of another kind than its pointer says, as after a cast */
-    GLOBSET_ENONE = -9     /* the error is none: its kind is none of those below */
+    GLOBSET_ENONE = -9,    /* the error is none: its kind is none of those below */
+    GLOBSET_ELENGTH = -10  /* a length, a size or a count is larger than any array can be, as -1 is */
 };
 
 /* Returns what a result means, for people: "memory ran out" and the like. The text is static and never null. */
@@ -113,7 +149,7 @@ enum {
  * `offset` is the byte of the text at which the error stands, from 0: that of the `[` of an unclosed class or of one
  * with an invalid range, of a `}` that closes nothing, of the last `\`, or of the outermost `{` that is open at the end
  * of the text. A function that can write an error writes all of it: where the result is not GLOBSET_EGLOB, each member
- * is 0. */
+ * is 0. No member is added in one interface. */
 typedef struct globset_error {
     uint32_t kind;
     uint32_t start;
@@ -165,11 +201,11 @@ GLOBSET_CHECKED int globset_searcher_is_match(globset_searcher *searcher, const 
 /* Returns whether all globs of the set match the path. It fails only as globset_searcher_is_match does. */
 GLOBSET_CHECKED int globset_searcher_matches_all(globset_searcher *searcher, const char *path, size_t length);
 
-/* Finds the globs of the set that match the path. `indexes` points to their indexes, ascending, and `count` says how
- * many they are. They may be read until the next call that the searcher is passed to. It fails only as
- * globset_searcher_is_match does; then `indexes` is null and `count` is 0. */
-GLOBSET_CHECKED int globset_searcher_matches(globset_searcher *searcher, const char *path, size_t length,
-                                             const size_t **indexes, size_t *count);
+/* Finds the globs of the set that match the path. GLOBSET_OK, also if none does: `indexes` points to their indexes,
+ * ascending, and `count` says how many they are. They may be read until the next call that the searcher is passed to. It
+ * fails only as globset_searcher_is_match does; then `indexes` is null and `count` is 0. */
+GLOBSET_CHECKED int globset_searcher_find(globset_searcher *searcher, const char *path, size_t length,
+                                          const size_t **indexes, size_t *count);
 
 /* Returns whether some glob of the set matches some path below the folder, which is the folder, a `/`, and any bytes,
  * perhaps none. A program that walks over folders need not open one for which the answer is 0. It fails only as
@@ -189,9 +225,9 @@ GLOBSET_CHECKED int globset_searcher_is_match_many(globset_searcher *searcher, c
  * without that one. GLOBSET_EBUFFER: there is no room for so many, and `indexes` and `index_ends` are as they were.
  * GLOBSET_EOFFSETS and GLOBSET_ENOMEM, and then `index_count` is 0: the call takes 8 bytes for each path and each
  * index, and gives them back. */
-GLOBSET_CHECKED int globset_searcher_matches_many(globset_searcher *searcher, const char *paths, size_t length,
-                                                  const size_t *end_offsets, size_t count, size_t *index_ends,
-                                                  size_t *indexes, size_t size, size_t *index_count);
+GLOBSET_CHECKED int globset_searcher_find_many(globset_searcher *searcher, const char *paths, size_t length,
+                                               const size_t *end_offsets, size_t count, size_t *index_ends,
+                                               size_t *indexes, size_t size, size_t *index_count);
 
 void globset_searcher_free(globset_searcher *searcher);
 
@@ -208,7 +244,10 @@ GLOBSET_CHECKED int globset_glob_text(const globset_glob *glob, char *buffer, si
 /* Returns the options that the glob was read under, and 0 for null. */
 uint32_t globset_glob_options(const globset_glob *glob);
 
-/* Writes a regular expression that matches the paths that the glob matches. GLOBSET_EBUFFER, GLOBSET_ENOMEM. */
+/* Writes a regular expression that matches the paths that the glob matches, in the syntax of the Rust crate regex, such
+ * as `(?-u)^.*\.c$`. It is over bytes, which `(?-u)` says there, and its `.` has to match a line feed, too. PCRE2 reads
+ * what follows `(?-u)`, with the options PCRE2_DOTALL and PCRE2_DOLLAR_ENDONLY and without PCRE2_UTF. GLOBSET_EBUFFER,
+ * GLOBSET_ENOMEM. */
 GLOBSET_CHECKED int globset_glob_regex(const globset_glob *glob, char *buffer, size_t size, size_t *length);
 
 void globset_glob_free(globset_glob *glob);
@@ -249,6 +288,9 @@ void globset_builder_free(globset_builder *builder);
 
 /* Returns GLOBSET_VERSION of the library, which may differ from that of the header. */
 uint32_t globset_version(void);
+
+/* Returns GLOBSET_VERSION_TEXT of the library. The text is static. */
+const char *globset_version_text(void);
 
 /* Returns GLOBSET_INTERFACE of the library. */
 uint32_t globset_interface(void);

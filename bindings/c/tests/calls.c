@@ -5,6 +5,9 @@
 static void versions(void) {
     CHECK(globset_version() == GLOBSET_VERSION && GLOBSET_VERSION == 4021);
     CHECK(globset_interface() == GLOBSET_INTERFACE && GLOBSET_INTERFACE == 1);
+    char text[20];
+    snprintf(text, sizeof text, "0.4.21.%d", GLOBSET_BUILD);
+    CHECK(strcmp(globset_version_text(), GLOBSET_VERSION_TEXT) == 0 && strcmp(text, GLOBSET_VERSION_TEXT) == 0);
 }
 
 /* Texts that are refused, with the kind, the characters and the place of the first error, and what it says. */
@@ -305,21 +308,19 @@ static void indexes_of_many(void) {
     static const size_t wanted[] = {0, 0, 1, 3, 1}, wanted_ends[] = {1, 4, 4, 4, 5};
     globset_searcher *searcher = searcher_of(globs, 4), *empty = searcher_of(globs, 0);
     size_t indexes[8] = {7, 7, 7, 7, 7, 7, 7, 7}, index_ends[5] = {7, 7, 7, 7, 7}, count = 1000;
-    CHECK(globset_searcher_matches_many(searcher, paths, 16, ends, 5, index_ends, indexes, 8, &count) ==
-          GLOBSET_EOFFSETS);
+    CHECK(globset_searcher_find_many(searcher, paths, 16, ends, 5, index_ends, indexes, 8, &count) == GLOBSET_EOFFSETS);
     CHECK(count == 0);
-    CHECK(globset_searcher_matches_many(searcher, paths, 17, descending, 2, index_ends, indexes, 8, &count) ==
+    CHECK(globset_searcher_find_many(searcher, paths, 17, descending, 2, index_ends, indexes, 8, &count) ==
           GLOBSET_EOFFSETS);
-    CHECK(globset_searcher_matches_many(searcher, paths, 17, ends, 5, index_ends, NULL, 0, &count) == GLOBSET_EBUFFER);
+    CHECK(globset_searcher_find_many(searcher, paths, 17, ends, 5, index_ends, NULL, 0, &count) == GLOBSET_EBUFFER);
     CHECK(count == 5);
-    CHECK(globset_searcher_matches_many(searcher, paths, 17, ends, 5, index_ends, indexes, 4, &count) ==
-          GLOBSET_EBUFFER);
+    CHECK(globset_searcher_find_many(searcher, paths, 17, ends, 5, index_ends, indexes, 4, &count) == GLOBSET_EBUFFER);
     CHECK(count == 5 && indexes[0] == 7 && indexes[3] == 7 && index_ends[0] == 7 && index_ends[4] == 7);
-    CHECK(globset_searcher_matches_many(searcher, paths, 17, ends, 5, index_ends, indexes, 8, &count) == GLOBSET_OK);
+    CHECK(globset_searcher_find_many(searcher, paths, 17, ends, 5, index_ends, indexes, 8, &count) == GLOBSET_OK);
     CHECK(count == 5 && memcmp(indexes, wanted, sizeof wanted) == 0 && indexes[5] == 7 && indexes[7] == 7);
     CHECK(memcmp(index_ends, wanted_ends, sizeof wanted_ends) == 0);
-    CHECK(globset_searcher_matches_many(searcher, NULL, 0, NULL, 0, NULL, NULL, 0, &count) == GLOBSET_OK && count == 0);
-    CHECK(globset_searcher_matches_many(empty, paths, 17, ends, 5, index_ends, NULL, 0, &count) == GLOBSET_OK);
+    CHECK(globset_searcher_find_many(searcher, NULL, 0, NULL, 0, NULL, NULL, 0, &count) == GLOBSET_OK && count == 0);
+    CHECK(globset_searcher_find_many(empty, paths, 17, ends, 5, index_ends, NULL, 0, &count) == GLOBSET_OK);
     CHECK(count == 0 && index_ends[0] == 0 && index_ends[4] == 0);
     globset_searcher_free(searcher);
     globset_searcher_free(empty);
@@ -343,7 +344,7 @@ static void many_globs(void) {
         const size_t *indexes;
         size_t length = (size_t)i % sizeof path, count;
         for (size_t k = 0; k < length; k++) path[k] = (char)('a' + (seed = seed * 1664525 + 1013904223) / 65536 % 26);
-        CHECK(globset_searcher_matches(searcher, path, length, &indexes, &count) == GLOBSET_OK);
+        CHECK(globset_searcher_find(searcher, path, length, &indexes, &count) == GLOBSET_OK);
         for (size_t k = 1; k < count; k++) CHECK(indexes[k - 1] < indexes[k]);
         CHECK(count == 0 || indexes[count - 1] < GLOBS);
         CHECK(globset_searcher_is_match(searcher, path, length) == (count > 0));

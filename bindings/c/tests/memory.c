@@ -81,7 +81,7 @@ static void try_searcher(const globset_set *set) {
     CHECK(globset_searcher_is_match(searcher, TEXT("src/a/b.c")) == 1);
     CHECK(globset_searcher_matches_all(searcher, TEXT("src/a/b.c")) == 0);
     CHECK(globset_searcher_can_match_below(searcher, TEXT("src/a")) == 1);
-    CHECK(globset_searcher_matches(searcher, TEXT("src/a/b.c"), &indexes, &count) == GLOBSET_OK);
+    CHECK(globset_searcher_find(searcher, TEXT("src/a/b.c"), &indexes, &count) == GLOBSET_OK);
     CHECK(count == 2 && indexes[0] == 2 && indexes[1] == 3);
     left = -1;
     TRY(globset_searcher_is_match_many(searcher, TEXT("src/a/b.c"), ends, 2, answers), GLOBSET_OK,
@@ -89,7 +89,7 @@ static void try_searcher(const globset_set *set) {
     CHECK(answers[0] == 0 && answers[1] == 1);
     const size_t both[] = {9, 9};
     size_t index_ends[2] = {7, 7}, found[2] = {7, 7};
-    TRY(globset_searcher_matches_many(searcher, TEXT("src/a/b.c"), both, 2, index_ends, found, 2, &count), GLOBSET_OK,
+    TRY(globset_searcher_find_many(searcher, TEXT("src/a/b.c"), both, 2, index_ends, found, 2, &count), GLOBSET_OK,
         CHECK(blocks == before && count == 0 && index_ends[0] == 7 && index_ends[1] == 7 && found[0] == 7));
     CHECK(count == 2 && index_ends[0] == 2 && index_ends[1] == 2 && found[0] == 2 && found[1] == 3);
     globset_searcher_free(searcher);

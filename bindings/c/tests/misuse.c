@@ -106,10 +106,10 @@ static void questions(void) {
     CHECK(globset_searcher_matches_all(searcher, NULL, 1) == GLOBSET_ENULL);
     CHECK(globset_searcher_can_match_below(NULL, "a", 1) == GLOBSET_ENULL);
     CHECK(globset_searcher_can_match_below(searcher, NULL, 1) == GLOBSET_ENULL);
-    CHECK(globset_searcher_matches(NULL, "a", 1, &indexes, &count) == GLOBSET_ENULL && indexes == NULL && count == 0);
-    CHECK(globset_searcher_matches(searcher, NULL, 1, &indexes, &count) == GLOBSET_ENULL);
-    CHECK(globset_searcher_matches(searcher, "a", 1, NULL, &count) == GLOBSET_ENULL);
-    CHECK(globset_searcher_matches(searcher, "a", 1, &indexes, NULL) == GLOBSET_ENULL);
+    CHECK(globset_searcher_find(NULL, "a", 1, &indexes, &count) == GLOBSET_ENULL && indexes == NULL && count == 0);
+    CHECK(globset_searcher_find(searcher, NULL, 1, &indexes, &count) == GLOBSET_ENULL);
+    CHECK(globset_searcher_find(searcher, "a", 1, NULL, &count) == GLOBSET_ENULL);
+    CHECK(globset_searcher_find(searcher, "a", 1, &indexes, NULL) == GLOBSET_ENULL);
     CHECK(globset_searcher_is_match_many(NULL, "a", 1, &end, 1, &answer) == GLOBSET_ENULL);
     CHECK(globset_searcher_is_match_many(searcher, NULL, 1, &end, 1, &answer) == GLOBSET_ENULL);
     CHECK(globset_searcher_is_match_many(searcher, "a", 1, NULL, 1, &answer) == GLOBSET_ENULL && answer == 7);
@@ -125,13 +125,13 @@ static void many(void) {
     static const size_t end = 1;
     globset_searcher *searcher = searcher_of(globs, 1);
     size_t index_end = 7, index = 7, count = 7;
-    CHECK(globset_searcher_matches_many(NULL, "a", 1, &end, 1, &index_end, &index, 1, &count) == GLOBSET_ENULL);
+    CHECK(globset_searcher_find_many(NULL, "a", 1, &end, 1, &index_end, &index, 1, &count) == GLOBSET_ENULL);
     CHECK(count == 0);
-    CHECK(globset_searcher_matches_many(searcher, NULL, 1, &end, 1, &index_end, &index, 1, &count) == GLOBSET_ENULL);
-    CHECK(globset_searcher_matches_many(searcher, "a", 1, NULL, 1, &index_end, &index, 1, &count) == GLOBSET_ENULL);
-    CHECK(globset_searcher_matches_many(searcher, "a", 1, &end, 1, NULL, &index, 1, &count) == GLOBSET_ENULL);
-    CHECK(globset_searcher_matches_many(searcher, "a", 1, &end, 1, &index_end, NULL, 1, &count) == GLOBSET_ENULL);
-    CHECK(globset_searcher_matches_many(searcher, "a", 1, &end, 1, &index_end, &index, 1, NULL) == GLOBSET_ENULL);
+    CHECK(globset_searcher_find_many(searcher, NULL, 1, &end, 1, &index_end, &index, 1, &count) == GLOBSET_ENULL);
+    CHECK(globset_searcher_find_many(searcher, "a", 1, NULL, 1, &index_end, &index, 1, &count) == GLOBSET_ENULL);
+    CHECK(globset_searcher_find_many(searcher, "a", 1, &end, 1, NULL, &index, 1, &count) == GLOBSET_ENULL);
+    CHECK(globset_searcher_find_many(searcher, "a", 1, &end, 1, &index_end, NULL, 1, &count) == GLOBSET_ENULL);
+    CHECK(globset_searcher_find_many(searcher, "a", 1, &end, 1, &index_end, &index, 1, NULL) == GLOBSET_ENULL);
     CHECK(index_end == 7 && index == 7);
     globset_searcher_free(searcher);
 }
@@ -146,11 +146,10 @@ static void no_searcher(void *object) {
     CHECK(globset_searcher_is_match(searcher, "a", 1) == GLOBSET_EKIND);
     CHECK(globset_searcher_matches_all(searcher, "a", 1) == GLOBSET_EKIND);
     CHECK(globset_searcher_can_match_below(searcher, "a", 1) == GLOBSET_EKIND);
-    CHECK(globset_searcher_matches(searcher, "a", 1, &indexes, &count) == GLOBSET_EKIND && indexes == NULL &&
-          count == 0);
+    CHECK(globset_searcher_find(searcher, "a", 1, &indexes, &count) == GLOBSET_EKIND && indexes == NULL && count == 0);
     CHECK(globset_searcher_is_match_many(searcher, "a", 1, &end, 1, &answer) == GLOBSET_EKIND && answer == 7);
     size_t index_end = 7, index = 7;
-    CHECK(globset_searcher_matches_many(searcher, "a", 1, &end, 1, &index_end, &index, 1, &count) == GLOBSET_EKIND);
+    CHECK(globset_searcher_find_many(searcher, "a", 1, &end, 1, &index_end, &index, 1, &count) == GLOBSET_EKIND);
     CHECK(index_end == 7 && index == 7 && count == 0);
 }
 
@@ -180,6 +179,15 @@ static void no_builder(void *object, const globset_glob *glob) {
     CHECK(globset_builder_build(builder, &set) == GLOBSET_EKIND && set == NULL);
 }
 
+/* Passes an object to the `_free` of each other kind. The objects are a glob, a set, a searcher, a builder and a matcher. */
+static void free_as_another(void *const *objects, int kind) {
+    if (kind != 0) globset_glob_free((globset_glob *)objects[kind]);
+    if (kind != 1) globset_set_free((globset_set *)objects[kind]);
+    if (kind != 2) globset_searcher_free((globset_searcher *)objects[kind]);
+    if (kind != 3) globset_builder_free((globset_builder *)objects[kind]);
+    if (kind != 4) globset_matcher_free((globset_matcher *)objects[kind]);
+}
+
 static void wrong_kinds(void) {
     static const char *const globs[] = {"a"};
     globset_glob *glob = glob_of("a", 0);
@@ -197,6 +205,10 @@ static void wrong_kinds(void) {
         CHECK(globset_matcher_is_match((globset_matcher *)objects[i], "a", 1) == (i == 4 ? 1 : GLOBSET_EKIND));
     }
     CHECK(globset_searcher_is_match(searcher, "a", 1) == 1 && globset_set_is_match(set, "a", 1) == 1);
+    for (int i = 0; i < 5; i++) free_as_another(objects, i);
+    CHECK(globset_searcher_is_match(searcher, "a", 1) == 1 && globset_set_is_match(set, "a", 1) == 1);
+    CHECK(globset_matcher_is_match(matcher, "a", 1) == 1 && globset_glob_options(glob) == 0);
+    CHECK(globset_builder_add(builder, glob) == GLOBSET_OK);
     globset_glob_free(glob);
     globset_set_free(set);
     globset_searcher_free(searcher);
@@ -204,16 +216,61 @@ static void wrong_kinds(void) {
     globset_matcher_free(matcher);
 }
 
+/* Lengths and counts that no array has: -1, as of a read that failed, and others. They are errors, and nothing is read. */
+static void impossible_lengths(void) {
+    static const size_t impossible[] = {(size_t)-1, (size_t)-2, GLOBSET_ZERO_TERMINATED + 1};
+    static const char *const globs[] = {"a"};
+    globset_set *set = set_of(globs, 1);
+    globset_searcher *searcher = searcher_of(globs, 1);
+    globset_glob *glob = glob_of("a", 0);
+    globset_matcher *matcher;
+    globset_error error = {GLOBSET_UNCLOSED_CLASS, 0, 0, 0};
+    CHECK(globset_matcher_new(glob, &matcher) == GLOBSET_OK);
+    for (int i = 0; i < 3; i++) {
+        size_t wrong = impossible[i], count = 7, index = 7, length = 7;
+        const size_t *indexes = &count;
+        const size_t end = 1;
+        uint8_t answer = 7;
+        char buffer[4] = "###";
+        globset_glob *none;
+        globset_set *no_set;
+        CHECK(globset_set_is_match(set, "a", wrong) == GLOBSET_ELENGTH);
+        CHECK(globset_matcher_is_match(matcher, "a", wrong) == GLOBSET_ELENGTH);
+        CHECK(globset_searcher_is_match(searcher, "a", wrong) == GLOBSET_ELENGTH);
+        CHECK(globset_searcher_matches_all(searcher, "a", wrong) == GLOBSET_ELENGTH);
+        CHECK(globset_searcher_can_match_below(searcher, "a", wrong) == GLOBSET_ELENGTH);
+        CHECK(globset_searcher_find(searcher, "a", wrong, &indexes, &count) == GLOBSET_ELENGTH && indexes == NULL);
+        CHECK(globset_searcher_is_match_many(searcher, "a", wrong, &end, 1, &answer) == GLOBSET_ELENGTH);
+        CHECK(globset_searcher_is_match_many(searcher, "a", 1, &end, wrong, &answer) == GLOBSET_ELENGTH && answer == 7);
+        CHECK(globset_searcher_find_many(searcher, "a", wrong, &end, 1, &index, &index, 1, &count) == GLOBSET_ELENGTH);
+        CHECK(globset_searcher_find_many(searcher, "a", 1, &end, wrong, &index, &index, 1, &count) == GLOBSET_ELENGTH);
+        CHECK(globset_searcher_find_many(searcher, "a", 1, &end, 1, &index, &index, wrong, &count) == GLOBSET_ELENGTH);
+        CHECK(index == 7 && count == 0);
+        CHECK(globset_glob_new("a", wrong, 0, NULL, &none) == GLOBSET_ELENGTH && none == NULL);
+        CHECK(globset_set_new(globs, &wrong, NULL, 1, NULL, NULL, &no_set) == GLOBSET_ELENGTH && no_set == NULL);
+        CHECK(globset_set_new(globs, NULL, NULL, wrong, NULL, NULL, &no_set) == GLOBSET_ELENGTH && no_set == NULL);
+        CHECK(globset_escape("a", wrong, buffer, 4, &length) == GLOBSET_ELENGTH && length == 0);
+        CHECK(globset_escape("a", 1, buffer, wrong, NULL) == GLOBSET_ELENGTH);
+        CHECK(globset_error_text(&error, "a", wrong, buffer, 4, NULL) == GLOBSET_ELENGTH);
+        CHECK(globset_glob_text(glob, buffer, wrong, NULL) == GLOBSET_ELENGTH);
+        CHECK(globset_glob_regex(glob, buffer, wrong, NULL) == GLOBSET_ELENGTH && strcmp(buffer, "###") == 0);
+    }
+    globset_matcher_free(matcher);
+    globset_glob_free(glob);
+    globset_searcher_free(searcher);
+    globset_set_free(set);
+}
+
 /* Each result has a text of its own, and a number that is none has one too. */
 static void status_texts(void) {
-    for (int status = 1; status >= GLOBSET_ENONE; status--)
+    for (int status = 1; status >= GLOBSET_ELENGTH; status--)
         for (int other = 1; other > status; other--)
             CHECK(strcmp(globset_status_text(status), globset_status_text(other)) != 0);
     CHECK(strcmp(globset_status_text(GLOBSET_ENOMEM), "memory ran out") == 0);
     CHECK(strcmp(globset_status_text(GLOBSET_ENULL), "a pointer is null that must not be") == 0);
     CHECK(strcmp(globset_status_text(GLOBSET_ENONE), "the error is none, so it says nothing") == 0);
-    CHECK(strcmp(globset_status_text(GLOBSET_ENONE - 1), "no result of this library") == 0);
-    CHECK(strcmp(globset_status_text(2), globset_status_text(GLOBSET_ENONE - 1)) == 0);
+    CHECK(strcmp(globset_status_text(GLOBSET_ELENGTH - 1), "no result of this library") == 0);
+    CHECK(strcmp(globset_status_text(2), globset_status_text(GLOBSET_ELENGTH - 1)) == 0);
     CHECK(globset_status_text(-2147483647 - 1) != NULL && globset_status_text(2147483647) != NULL);
 }
 
@@ -225,6 +282,7 @@ int main(void) {
     questions();
     many();
     wrong_kinds();
+    impossible_lengths();
     status_texts();
     puts("misuse: passed");
     return 0;

@@ -30,7 +30,7 @@ static inline globset_searcher *searcher_of(const char *const *texts, size_t cou
 static inline int finds(globset_searcher *searcher, const char *path, const size_t *wanted, size_t wanted_count) {
     const size_t *indexes;
     size_t count;
-    CHECK(globset_searcher_matches(searcher, TEXT(path), &indexes, &count) == GLOBSET_OK);
+    CHECK(globset_searcher_find(searcher, TEXT(path), &indexes, &count) == GLOBSET_OK);
     return count == wanted_count && (count == 0 || memcmp(indexes, wanted, count * sizeof *indexes) == 0);
 }
 

@@ -44,7 +44,7 @@ static void of_few_globs(void) {
     TIME("matcher, is_match", 200000, globset_matcher_is_match(matcher, path, 11), 0);
     TIME("searcher without globs, is_match", 200000, globset_searcher_is_match(empty, path, 11), 0);
     TIME("searcher of 3 globs, is_match", 200000, globset_searcher_is_match(searcher, path, 11), 0);
-    TIME("searcher of 3 globs, matches", 200000, globset_searcher_matches(searcher, path, 11, &indexes, &count), 0);
+    TIME("searcher of 3 globs, matches", 200000, globset_searcher_find(searcher, path, 11, &indexes, &count), 0);
     TIME("set of 3 globs, is_match", 20000, globset_set_is_match(set, path, 11), 0);
     TIME("set of 3 globs, a searcher made and freed", 2000, make_and_free(set), 0);
     globset_matcher_free(matcher);

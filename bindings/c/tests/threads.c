@@ -23,7 +23,7 @@ static void *ask(void *searcher_at) {
     CHECK(globset_searcher_new(set, &searcher) == GLOBSET_OK && globset_matcher_new(glob, &matcher) == GLOBSET_OK);
     for (int round = 0; round < ROUNDS; round++) {
         for (int i = 0; i < PATHS; i++) {
-            CHECK(globset_searcher_matches(searcher, TEXT(paths[i]), &indexes, &count) == GLOBSET_OK);
+            CHECK(globset_searcher_find(searcher, TEXT(paths[i]), &indexes, &count) == GLOBSET_OK);
             CHECK(count == counts[i] && globset_searcher_is_match(searcher, TEXT(paths[i])) == (counts[i] > 0));
             CHECK(globset_matcher_is_match(matcher, TEXT(paths[i])) == by_matcher[i]);
             if (round < 10) CHECK(globset_set_is_match(set, TEXT(paths[i])) == (counts[i] > 0));
