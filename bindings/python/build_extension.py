@@ -66,13 +66,9 @@ def macros(tree):
             yield f"{name}_{function.name}".lstrip("_").upper(), says + ast.get_docstring(function)
 
 
-def main():
+def build(library, folder):
+    """Builds the extension module into a folder."""
     headers = include()
-    if sys.argv[1:] == ["--check"]:
-        return
-    if len(sys.argv) != 3:
-        raise SystemExit("Usage: build_extension.py LIBRARY FOLDER | --check")
-    library, folder = sys.argv[1:]
     with open(f"{HERE}/globset/_by_ctypes.py", encoding="utf-8") as file:
         tree = ast.parse(file.read())
     with tempfile.TemporaryDirectory() as room:
@@ -86,10 +82,23 @@ def main():
         source, built = f"{HERE}/globset/_extension.c", f"{folder}/_extension.abi3.so"
         more = shlex.split(os.environ.get("CFLAGS", ""))
         command = [*compiler, *FLAGS, *more, *folders, source, *linked, "-o", built]
-        if subprocess.run(command).returncode:
+        try:
+            status = subprocess.run(command).returncode
+        except OSError as error:
+            raise SystemExit(f"build_extension.py: {compiler[0]}: {error.strerror}")
+        if status:
             raise SystemExit("build_extension.py: the extension module cannot be built")
     if os.path.realpath(library) != os.path.realpath(folder):
         shutil.copy(f"{library}/NOTICE", f"{folder}/NOTICE")
+
+
+def main():
+    if sys.argv[1:] == ["--check"]:
+        include()
+    elif len(sys.argv) == 3:
+        build(*sys.argv[1:])
+    else:
+        raise SystemExit("Usage: build_extension.py LIBRARY FOLDER | --check")
 
 
 if __name__ == "__main__":

@@ -28,14 +28,12 @@ LICENSES = ("COPYING", "LICENSE-MIT", "UNLICENSE")
 # The parts of the GNU C library, which every Linux that a tag `manylinux` names has.
 C_LIBRARY = {"libc.so.6", "libm.so.6", "libpthread.so.0", "libdl.so.2", "ld-linux-x86-64.so.2", "libgcc_s.so.1"}
 
-METADATA = """Metadata-Version: 2.1
+METADATA = """Metadata-Version: 2.4
 Name: globset
 Version: {version}
 Summary: Globs and sets of globs: which paths match patterns such as src/**/*.py
-License: MIT OR Unlicense
-{licenses}Keywords: glob,pattern,path,gitignore,match
-Classifier: License :: OSI Approved :: MIT License
-Classifier: License :: OSI Approved :: The Unlicense (Unlicense)
+License-Expression: MIT OR Unlicense
+{licenses}Keywords: glob,pattern,path,match
 Classifier: Operating System :: POSIX :: Linux
 Classifier: Programming Language :: Python :: 3
 Classifier: Typing :: Typed
@@ -53,6 +51,19 @@ Root-Is-Purelib: false
 def read(path):
     with open(path, "rb") as file:
         return file.read()
+
+
+def license_file(name):
+    """Returns the path of a licence: beside this file in a source distribution, and at the top of the repository."""
+    beside = f"{HERE}/{name}"
+    return beside if os.path.isfile(beside) else f"{TOP}/{name}"
+
+
+def metadata(least):
+    """Returns the metadata of a distribution for this Python and later ones."""
+    licenses = "".join(f"License-File: {name}\n" for name in (*LICENSES, "NOTICE"))
+    description = read(f"{HERE}/README.md").decode()
+    return METADATA.format(version=version(), least=least, licenses=licenses, description=description).encode()
 
 
 def version():
@@ -87,18 +98,12 @@ def platforms(library):
 def files(library, least, tags):
     """Returns the files of the wheel without RECORD, by name."""
     info = f"globset-{version()}.dist-info"
-    metadata = METADATA.format(
-        version=version(),
-        least=least,
-        licenses="".join(f"License-File: {name}\n" for name in (*LICENSES, "NOTICE")),
-        description=read(f"{HERE}/README.md").decode(),
-    )
     return {
         **{f"globset/{name}": read(f"{HERE}/globset/{name}") for name in MODULE},
         f"globset/{name_of(library)}": read(library),
-        **{f"{info}/licenses/{name}": read(f"{TOP}/{name}") for name in LICENSES},
+        **{f"{info}/licenses/{name}": read(license_file(name)) for name in LICENSES},
         f"{info}/licenses/NOTICE": read(f"{os.path.dirname(os.path.abspath(library))}/NOTICE"),
-        f"{info}/METADATA": metadata.encode(),
+        f"{info}/METADATA": metadata(least),
         f"{info}/WHEEL": WHEEL.format(tags="".join(f"Tag: {tag}\n" for tag in tags)).encode(),
     }
 
@@ -123,17 +128,21 @@ def write(path, contents):
             wheel.writestr(entry, content, zipfile.ZIP_DEFLATED)
 
 
-def main():
-    if len(sys.argv) != 3:
-        raise SystemExit("Usage: build_wheel.py LIBRARY FOLDER")
-    library, folder = sys.argv[1:]
+def make(library, folder):
+    """Makes the wheel of a library in a folder, and returns its name."""
     least, python = WITH_EXTENSION if name_of(library) == EXTENSION else WITHOUT
     systems = platforms(library)
     contents = files(library, least, [f"{python}-{system}" for system in systems])
     contents[f"globset-{version()}.dist-info/RECORD"] = record(contents).encode()
     name = f"globset-{version()}-{python}-{'.'.join(systems)}.whl"
     write(os.path.join(folder, name), contents)
-    print(name)
+    return name
+
+
+def main():
+    if len(sys.argv) != 3:
+        raise SystemExit("Usage: build_wheel.py LIBRARY FOLDER")
+    print(make(*sys.argv[1:]))
 
 
 if __name__ == "__main__":

@@ -7,7 +7,7 @@ import os
 from array import array
 from collections import deque
 from itertools import accumulate, compress
-from typing import Deque, Iterable, List, Tuple, Type, TypeVar, Union
+from typing import Deque, Iterable, List, Tuple, Type, TypeVar, Union, cast
 
 from . import _library
 from ._errors import glob_error
@@ -249,10 +249,12 @@ def _bytes_of(path: Path) -> bytes:
     """
     if type(path) is str:
         return path.encode("utf-8", "surrogateescape")
+    if type(path) is bytes:
+        return path
     data = os.fspath(path)
     if issubclass(type(data), str):
-        return str.encode(data, "utf-8", "surrogateescape")  # type: ignore[arg-type]
-    return bytes.__getitem__(data, slice(None))  # type: ignore[arg-type]
+        return str.encode(cast(str, data), "utf-8", "surrogateescape")
+    return bytes.__getitem__(cast(bytes, data), slice(None))
 
 
 def _many(paths: Iterable[_AnyPath]) -> Iterable[_AnyPath]:

@@ -15,6 +15,10 @@ paths: List[pathlib.Path] = GlobSet([one]).filter(pathlib.Path(".").iterdir())
 indexes: List[List[int]] = GlobSet([one]).matches_many(["a", b"b", pathlib.Path("c")])
 answers: List[bool] = GlobSet([one]).match_many({"a": 1})
 globs: Tuple[Glob, ...] = GlobSet([one]).globs
+first: Glob = GlobSet([one])[0]
+others: Tuple[Glob, ...] = GlobSet(GlobSet([one]))[1:]
+patterns: List[str] = [glob.pattern for glob in GlobSet([one]) if glob in GlobSet([one])]
+options: Dict[str, bool] = one.options
 counts: Dict[GlobSet, int] = {GlobSet([]): len(GlobSet([]))}
 texts: Iterator[str] = walk(".", ["*.py"], ignored=GlobSet(["build/**"]))
 raw: Iterator[bytes] = walk(b".", [one])
