@@ -1,7 +1,7 @@
 //! Finds the C library, and tells the linker.
 //!
 //! The library is `libglobset.a` in the folder that the environment variable `GLOBSET_LIB_DIR` names, or else in the folder
-//! `lib` beside `Cargo.toml`, where a release has it.
+//! `lib` beside `Cargo.toml`, where a release has it, or in `../out`, where `bindings/build` of the repository puts it.
 
 use std::{env, fs, path::Path, path::PathBuf, process};
 
@@ -17,8 +17,8 @@ fn main() {
     println!("cargo:rerun-if-changed={}", header.display());
     if !library.is_file() {
         fail(&format!(
-            "there is no file {}. Set GLOBSET_LIB_DIR to the folder that has libglobset.a, or put the library into the \
-             folder lib beside Cargo.toml.",
+            "there is no file {}. Run the command bindings/build in a clone of the repository, or set GLOBSET_LIB_DIR to the \
+             folder that has libglobset.a, or take the crate of a release, which has it.",
             library.display()
         ));
     }
@@ -27,12 +27,19 @@ fn main() {
     println!("cargo:rustc-link-lib=static=globset");
 }
 
-/// The folder that should have the library.
+/// The folder that should have the library. A folder that `GLOBSET_LIB_DIR` names by a relative path is one of this crate's.
 fn folder() -> PathBuf {
     let manifest = PathBuf::from(env::var_os("CARGO_MANIFEST_DIR").expect("cargo sets CARGO_MANIFEST_DIR"));
     match env::var_os("GLOBSET_LIB_DIR") {
         Some(folder) if !folder.is_empty() => manifest.join(folder),
-        _ => manifest.join("lib"),
+        _ => {
+            let (inside, built) = (manifest.join("lib"), manifest.join("../out"));
+            if !inside.join("libglobset.a").is_file() && built.join("libglobset.a").is_file() {
+                built
+            } else {
+                inside
+            }
+        }
     }
 }
 

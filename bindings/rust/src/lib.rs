@@ -1,9 +1,9 @@
 //! Globs, and sets of globs, which tell which paths match patterns such as `src/**/*.{rs,toml}`.
 //!
-//! This is the crate globset 0.4.21 in names, traits and errors. What it does is done by a C library whose code is written in
-//! Rattle, Rust with contracts, and proved: for every set of globs and every path, a set answers what its globs say one by one,
-//! with the one exception that [`GlobSet`] names. A program that uses globset takes this crate by two lines in its
-//! `Cargo.toml`, as `README.md` says.
+//! This is the crate globset 0.4.21 in names, traits and errors, over a C library whose functions are written in Rattle, Rust
+//! with contracts, and proved: for every set of globs and every path, a set answers what its globs say one by one, with the one
+//! exception that [`GlobSet`] names. This crate, which calls them, and the library's bridge to `malloc` are tested, and not
+//! proved. A program that uses globset takes this crate by two lines in its `Cargo.toml`, as `README.md` says.
 //!
 //! ```
 //! use globset::{Glob, GlobSetBuilder};
@@ -47,10 +47,12 @@
 //!
 //! # Memory and threads
 //!
-//! Globs, matchers and sets can be sent to other threads and shared between them. A clone is one more reference. Matching takes
-//! little memory beside what is kept for it: a set keeps some for each thread, as [`GlobSet`] says, and a matcher that needs an
-//! automaton keeps up to 16 MiB of rows for all threads, until its last clone is dropped. Running out of memory ends the program,
-//! as it does in Rust's own containers.
+//! Globs, matchers and sets can be sent to other threads and shared between them. A clone is one more reference.
+//!
+//! **Running out of memory ends the program, as it does in Rust's own containers.** Matching takes little memory beside what is
+//! kept for it: each question to a [`GlobSet`] keeps some for the thread that asks, as is said there, and a matcher that needs
+//! an automaton keeps up to 16 MiB of rows for all threads, until its last clone is dropped. A question to an
+//! [`ext::Searcher`] about one path takes none.
 //!
 //! # Additions
 //!
@@ -58,7 +60,7 @@
 
 #![deny(missing_docs, unsafe_code, unsafe_op_in_unsafe_fn, clippy::undocumented_unsafe_blocks)]
 
-#[cfg(not(all(target_os = "linux", target_arch = "x86_64")))]
+#[cfg(not(all(target_os = "linux", target_arch = "x86_64", target_pointer_width = "64")))]
 compile_error!("globset: the C library under this crate is for Linux on x86-64");
 
 mod candidate;
