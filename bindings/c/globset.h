@@ -2,8 +2,8 @@
  *
  * globset_set_new makes a set of many texts, globset_searcher_new makes a searcher of the set, and
  * globset_searcher_is_match asks it about a path. The file example.c, which comes with the library, is a whole program.
- * The functions call those of globset_raw.h, which are proved. The file that makes the ones of the others, globset.c, is
- * not proved, and neither is the bridge to malloc: both are tested.
+ * These functions are made by globset.c, which calls those of globset_raw.h. The latter are proved; globset.c and the
+ * bridge to malloc are tested.
  *
  * Objects. A glob is a text that was read, with its options. A set has many globs and is ready to match. A searcher is
  * a set with the memory that one thread needs to match, and a matcher is the same for one glob. A builder takes globs
@@ -13,9 +13,10 @@
  *
  * Results. A function whose name has `is_match`, `matches_all` or `can_match` answers a question: it returns 1 for yes
  * and 0 for no. Each other function with a result returns GLOBSET_OK, which is 0, if it did what it is for. An error is
- * below 0, and globset_status_text says what it means. Compare an answer with 1, and any other result with GLOBSET_OK:
- * `if (globset_set_is_match(..) == 1)`. An error alone would count as true. After an error no object was made, and the
- * pointer to it is null. Every object holds what it held before the call, and can still be used.
+ * below 0, and globset_status_text says what it means. A program compares an answer with 1, as in
+ * `if (globset_set_is_match(..) == 1)`, since an error alone counts as true, and any other result with GLOBSET_OK. After
+ * an error no object was made, and the pointer to it is null. Every object holds what it held before the call, and can
+ * still be used.
  *
  * Null. Each `_free` accepts null and does nothing. Where `error`, `index` or `length` points to a result, it may be
  * null, and then the result is not written. Bytes and arrays may be null if they have no members. Any other null
