@@ -16,7 +16,7 @@ pub struct TextError {
     pub offset: usize,
 }
 
-/// Returns what C is told of an error, or `None` if it is no error of a text.
+/// Returns the error as C sees it, or `None` if it is no error of a text.
 pub fn told(error: &Error) -> Option<TextError>
     ensures { result ≡ option_and_then (told error.now.kind) error.now.offset }
 {

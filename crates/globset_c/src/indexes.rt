@@ -22,7 +22,7 @@ pub struct Indexes<'a> {
     pub items: &'a [usize],
 }
 
-/// Finds the indexes of the globs of a set that match a path, keeps them in the work, and tells how many they are.
+/// Finds the indexes of the globs of a set that match a path, keeps them in the work, and writes their number.
 #[unsafe(no_mangle)]
 pub extern "C" fn globset_raw_set_find(
     set: &mut Lent,
@@ -124,7 +124,7 @@ fn find_in(set: &GlobSet, work: &mut Work, path: &[u8]) -> Result<usize, AllocEr
     }
 }
 
-/// Lends the indexes that a work has found: those of the last `globset_raw_set_find`, or none if there was no such call.
+/// Lends the indexes that the last `globset_raw_set_find` found, or none if there was no such call.
 #[unsafe(no_mangle)]
 pub extern "C" fn globset_raw_work_found<'a>(
     work: &'a mut Owned,

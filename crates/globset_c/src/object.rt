@@ -3,7 +3,7 @@
 use crate::read_glob::ReadGlob;
 use globset::{GlobMatcher, GlobSet, GlobSetBuilder, Scratch, Searcher};
 
-/// What a thread keeps between calls: memory to match with, and the indexes of the last call.
+/// The memory that a thread keeps between calls, and the indexes of the last call.
 #[derive(Drop)]
 pub struct Work {
     pub scratch: Scratch,
@@ -21,7 +21,7 @@ pub enum Object {
     Searcher(Searcher),
 }
 
-/// Why a call on objects did not do what it is for.
+/// Why a call on objects failed.
 #[derive(Clone, Copy)]
 pub enum Failure {
     OutOfMemory,

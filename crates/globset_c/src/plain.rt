@@ -1,4 +1,4 @@
-//! Plain calls: questions to a set or a matcher with nothing beside it. They take what memory they need.
+//! Plain calls: on a set or a matcher alone. They allocate the memory that they need.
 
 ghost use Rattle.std.specs.Prelude.{◌≡◌, ◌≢◌, Some, None, Err, [], ◌∷◌, IfOk, IfErr, true, false};
 ghost use Rattle.glob_text.specs.GlobMatches.{glob_matches};
@@ -144,7 +144,7 @@ fn matches_all_in(set: &GlobSet, path: &[u8]) -> Status
     if matches_all { YES } else { NO }
 }
 
-/// Writes the indexes of the globs of a set that match a path, and tells how many they are.
+/// Writes the indexes of the globs of a set that match a path, and their number.
 #[unsafe(no_mangle)]
 pub extern "C" fn globset_raw_set_matches_plain(
     alloc: Global,

@@ -18,7 +18,7 @@ use crate::status::{DONE, NO, OUT_OF_MEMORY, Status, WRONG_KIND, YES};
 use globset::{Candidate, Searcher};
 use std::alloc::Global;
 
-/// Makes a searcher of a set, which shares what the set matches with, and lets the caller own it.
+/// Makes a searcher of a set, which shares the keys and automata of the set, and lets the caller own it.
 #[unsafe(no_mangle)]
 pub extern "C" fn globset_raw_searcher_new(alloc: Global, set: &mut Lent, out: &mut Owned) -> Status
     ensures same_set { set.new ≡ set.old }
@@ -137,7 +137,7 @@ fn matches_all_in(searcher: &mut Searcher, path: &[u8]) -> Status
     }
 }
 
-/// Finds the indexes of the globs of a searcher's set that match a path, keeps them in the searcher, and tells how many they are.
+/// Finds the indexes of the globs of a searcher's set that match a path, keeps them in the searcher, and writes their number.
 #[unsafe(no_mangle)]
 pub extern "C" fn globset_raw_searcher_find(
     searcher: &mut Owned,

@@ -3,7 +3,7 @@
 /// A number that says how a call ended. It means the same in all calls.
 pub type Status = u32;
 
-/// The call did what it is for.
+/// The call succeeded.
 pub const DONE: Status = 0;
 
 /// The answer is no.
@@ -24,7 +24,7 @@ pub const NOT_UTF8: Status = 5;
 /// The options have a bit that stands for none.
 pub const UNKNOWN_OPTION: Status = 6;
 
-/// An object is not of the kind that the call asks for.
+/// An object is not of the kind that the call requires.
 pub const WRONG_KIND: Status = 7;
 
 /// The ends of paths are out of order, lie beyond the bytes, or are not one for each answer.
