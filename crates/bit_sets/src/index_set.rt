@@ -9,6 +9,7 @@ use crate::words::{
 use std::alloc::{AllocError, Global};
 
 /// A set of indexes, as a bit for each.
+#[derive(Drop)]
 pub struct IndexSet {
     /// The word of the indexes below 64, which takes no memory of its own: many sets have no others.
     first: [u64; 1],
@@ -19,17 +20,6 @@ pub struct IndexSet {
     summary: Vec<u64>,
     ghost one: { length first ≡ 1 },
     ghost summed: { IsSummary rest.items summary.items },
-}
-
-impl Drop for IndexSet {
-    // One call wherever a value is dropped, which keeps proofs short.
-    fn drop(self) {
-        let IndexSet {
-            first: _,
-            rest: _,
-            summary: _,
-        } = self;
-    }
 }
 
 impl IndexSet {

@@ -9,8 +9,6 @@ use std::snapshot::Snapshot;
 enum Ticks {
     Start,
     After(Snapshot<Ticks>),
-    /// So many more.
-    More(Snapshot<Ticks>, Snapshot<u32>),
 }
 
 /// How many visits a match has made.
@@ -61,12 +59,5 @@ impl Visits {
     {
         let before = mem::replace(&mut self.ticks, Snapshot::of(&Ticks::Start));
         self.ticks = Snapshot::of(&Ticks::After(before));
-    }
-    /// Counts so many more visits.
-    pub fn add(&mut self, count: u32)
-        ensures { self.new ≡ self.old + count }
-    {
-        let before = mem::replace(&mut self.ticks, Snapshot::of(&Ticks::Start));
-        self.ticks = Snapshot::of(&Ticks::More(before, Snapshot::of(&count)));
     }
 }

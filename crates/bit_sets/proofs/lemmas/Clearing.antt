@@ -1,13 +1,9 @@
 -- Words are cleared, from the first on, whose places are set in other words.
-use Rattle.std.proofs.Common.{◌≡◌, ℕ, ◌+◌, ◌/◌, ◌<◌, ◌≤◌, Bool, true, false, not, List, length, set, inl, inr, refl, sym, ap, ◌∙◌, arith}
+use Rattle.std.proofs.Common.{◌≡◌, ℕ, ◌+◌, ◌/◌, ◌<◌, ◌≤◌, true, false, not, List, length, set, inl, inr, refl, sym, ap, ◌∙◌, arith}
 use Rattle.std.specs.Prelude.{◌&&◌}
-use Rattle.std.proofs.lemmas.Bool.{cases_eq, cases_lt}
+use Rattle.std.proofs.lemmas.Bool.{and_right, cases_eq, cases_lt}
 use Rattle.bit_sets.specs.Bits.{bit_of}
 use Rattle.bit_sets.proofs.lemmas.Bits.{bit_past, zeroed_here, zeroed_other}
-
-and_false : (p : Bool) → (p && false) ≡ false
-and_false true = refl
-and_false false = refl
 
 module _ (old words places : List ℕ) (from : ℕ)
     (cleared : (k : ℕ) → k / 64 < from → bit_of words k ≡ (not (bit_of places (k / 64)) && bit_of old k))
@@ -23,7 +19,7 @@ module _ (old words places : List ℕ) (from : ℕ)
   pub cleared_past : (k : ℕ) → length words ≡ length old → length words ≤ k / 64 → bit_of words k ≡ (not (bit_of places (k / 64)) && bit_of old k)
   cleared_past k len past =
       bit_past words k past
-      ∙ sym (ap (λ q. not (bit_of places (k / 64)) && q) (bit_past old k (omega (arith, len))) ∙ and_false (not (bit_of places (k / 64))))
+      ∙ sym (ap (λ q. not (bit_of places (k / 64)) && q) (bit_past old k (omega (arith, len))) ∙ and_right (not (bit_of places (k / 64))) false refl)
 
   pub cleared_next : (at : ℕ) → at < length words → ((i : ℕ) → from ≤ i → i < at → bit_of places i ≡ false) → bit_of places at ≡ true
       → (k : ℕ) → k / 64 < at + 1 → bit_of (set words at 0) k ≡ (not (bit_of places (k / 64)) && bit_of old k)

@@ -1,8 +1,8 @@
 -- Indexes that are put into a set beside what it has.
-use Rattle.std.proofs.Common.{◌≡◌, ℕ, zero, suc, ◌<◌, ◌≤◌, ◌⊎◌, inl, inr, Bool, true, false, List, [], ◌∷◌, ◌++◌, IsTrue, refl, sym, ◌∙◌, arith}
+use Rattle.std.proofs.Common.{◌≡◌, ℕ, zero, suc, ◌<◌, ◌≤◌, ◌⊎◌, inl, inr, List, [], ◌∷◌, ◌++◌, IsTrue, sym, ◌∙◌, arith}
 use Rattle.std.specs.Prelude.{◌||◌, ◌==◌, Contains}
 use Rattle.std.proofs.Math.Logic.{⊎_elim}
-use Rattle.std.proofs.lemmas.Bool.{or_cases, eqb-true, eq-eqb}
+use Rattle.std.proofs.lemmas.Bool.{or_cases, eqb-true, eq-eqb, or_left, or_right}
 use Rattle.std.proofs.lemmas.List.Elements.{Contains-append_left, Contains-append_right, Contains-append_cases}
 use Rattle.bit_sets.specs.Indexes.{has_index, index_capacity, HasAlso}
 use Rattle.bit_sets.specs.declared.index_set.IndexSet.{IndexSet}
@@ -39,17 +39,9 @@ also_put a b x room has = λ k. (
       (λ is. let same : k ≡ x = eqb-true k x is in inl ((0, omega arith, sym same), omega (arith, same, room)))
       (λ old. inr old) (or_cases (k == x) (has_index a k) (sym (has k) ∙ h)),
   λ h. ⊎_elim {C = IsTrue (has_index b k)}
-      (λ new. has k ∙ true_left (k == x) (has_index a k) (eq-eqb k x (sym (in_one x k new.0))))
-      (λ old. has k ∙ true_right (k == x) (has_index a k) old) h,
+      (λ new. has k ∙ or_left (k == x) (has_index a k) (eq-eqb k x (sym (in_one x k new.0))))
+      (λ old. has k ∙ or_right (k == x) (has_index a k) old) h,
 )
-  where
-    true_left : (p q : Bool) → p ≡ true → (p || q) ≡ true
-    true_left true q e = refl
-    true_left false q e = absurd (cc)
-
-    true_right : (p q : Bool) → q ≡ true → (p || q) ≡ true
-    true_right true q e = refl
-    true_right false q e = e
 
 -- an index that there is no room for
 pub also_left : (a : IndexSet) (x : ℕ) → index_capacity a ≤ x → HasAlso a a (x ∷ [])

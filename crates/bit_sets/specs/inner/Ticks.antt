@@ -1,8 +1,7 @@
 -- The number of visits that a count's snapshots stand for.
 use Rattle.std.specs.Prelude.{ℕ, ◌+◌}
-use Rattle.bit_sets.specs.declared.visits.Ticks.{Ticks, Start, After', More'}
+use Rattle.bit_sets.specs.declared.visits.Ticks.{Ticks, Start, After'}
 
 abbrev pub count : Ticks → ℕ
 count Start = 0
 count (After' _ before) = count before + 1
-count (More' _ before more) = count before + more.value
