@@ -26,25 +26,13 @@ use std::marker::Model;
 ///
 /// Its calls are for what is made from it, such as a deterministic automaton. They read states, and do not count what
 /// they read. The crate `lazy_dfa`, whose calls count each read of a state, runs it.
+#[derive(Drop)]
 pub struct Nfa {
     states: Vec<State>,
     sets: Vec<ByteSet>,
     targets: Vec<usize>,
     starts: Vec<usize>,
     index_count: usize,
-}
-
-impl Drop for Nfa {
-    // One call wherever a value is dropped, which keeps proofs short.
-    fn drop(self) {
-        let Nfa {
-            states: _,
-            sets: _,
-            targets: _,
-            starts: _,
-            index_count: _,
-        } = self;
-    }
 }
 
 impl Model for Nfa {

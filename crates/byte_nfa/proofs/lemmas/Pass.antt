@@ -2,6 +2,7 @@
 use Rattle.std.proofs.Common.{◌≡◌, ℕ, suc, ◌+◌, ◌<◌, ◌⊎◌, inl, inr, Bool, true, false, true≢false, ◌||◌, ◌&&◌, List, [], ◌∷◌, Some, None, length, IsTrue, refl, ap, sym, ◌∙◌, subst, arith}
 use Rattle.std.specs.Prelude.{◌↔◌, ◌==◌, Option, MatchOption, is_some}
 use Rattle.std.proofs.lemmas.Bool.{eqb-true, eq-eqb, or_cases, cases_lt}
+pub use Rattle.std.proofs.lemmas.Bool.{or_left as or_first, or_right as or_second, or_from as or_none, and_from as and_both}
 use Rattle.std.proofs.lemmas.List.{get_or_past}
 use Rattle.std.proofs.Math.Logic.{⊎_elim}
 use Rattle.bit_sets.specs.Bytes.{has_byte}
@@ -14,22 +15,6 @@ use Rattle.byte_nfa.specs.inner.Pass.{head, goes_now, goes_next, names, AcceptsN
 
 pub iff_trans : {P Q R : Type 0} → P ↔ Q → Q ↔ R → P ↔ R
 iff_trans f g = (λ p. g.0 (f.0 p), λ r. f.1 (g.1 r))
-
-pub or_first : (p q : Bool) → p ≡ true → (p || q) ≡ true
-or_first true q h = refl
-or_first false q h = absurd (true≢false (sym h))
-
-pub or_second : (p q : Bool) → q ≡ true → (p || q) ≡ true
-or_second true q h = refl
-or_second false q h = h
-
-pub or_none : (p q : Bool) → p ≡ false → q ≡ false → (p || q) ≡ false
-or_none true q h e = absurd (true≢false h)
-or_none false q h e = e
-
-pub and_both : (p q : Bool) → p ≡ true → q ≡ true → (p && q) ≡ true
-and_both true q h e = e
-and_both false q h e = absurd (true≢false (sym h))
 
 pub and_first : (p q : Bool) → (p && q) ≡ true → p ≡ true
 and_first true q h = refl
@@ -265,7 +250,3 @@ some_end P Q (Some k) h e = (k, h)
 pub no_end : (P : Type 0) (Q : ℕ → Type 0) (o : Option ℕ) → MatchOption o P Q → is_some o ≡ false → P
 no_end P Q None h e = h
 no_end P Q (Some k) h e = absurd (true≢false e)
-
--- a fact beside the others
-pub or_left : {P Q R S : Type 0} → P ↔ Q → R ↔ (Q ⊎ S) → R ↔ (P ⊎ S)
-or_left {P = P} {Q = Q} {R = R} {S = S} f g = (λ r. ⊎_elim {C = P ⊎ S} (λ q. inl (f.1 q)) (λ s. inr s) (g.0 r), λ h. ⊎_elim {C = R} (λ p. g.1 (inl (f.0 p))) (λ s. g.1 (inr s)) h)
