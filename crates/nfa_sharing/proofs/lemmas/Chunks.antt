@@ -156,13 +156,6 @@ module _ (old new more : NfaValue) (entries : List Known) (l : List ℕ) (low hi
   chunked (match_state j) chunk pushes before =
       with_part (match_state j) pushes (λ a agrees y k. ends_chunk old.states a l low high nexts u 0 k j some chunk (pushes.adds a 0 (omega arith) agrees) y) before
 
--- no state is in a chunk yet
-pub chunk_none : (a : List State) (l : List ℕ) (low : ℕ) (st : State) → IsChunk a l low low st []
-chunk_none a l low st = record {
-  goes = λ i from below. absurd (omega arith);
-  comes = λ n none. absurd none;
-}
-
 -- one state more is in a chunk
 pub chunk_more : (a : List State) (l : List ℕ) (low high n : ℕ) (st : State) (nexts more : List ℕ) → low ≤ high → IsChunk a l low high st nexts
     → state a (slice_index l high) ≡ with_next st n → HasNumber n more → ((m : ℕ) → HasNumber m nexts → HasNumber m more) → ((m : ℕ) → HasNumber m more → HasNumber m nexts ⊎ (m ≡ n))
@@ -201,14 +194,6 @@ last_in xs n is = found xs (length xs - 1) n is
 pub chunk_again : (a : List State) (l : List ℕ) (low high n : ℕ) (st : State) (nexts : List ℕ) → low ≤ high → IsChunk a l low high st nexts
     → state a (slice_index l high) ≡ with_next st n → HasNumber n nexts → IsChunk a l low (high + 1) st nexts
 chunk_again a l low high n st nexts order chunk is at = chunk_more a l low high n st nexts nexts order chunk is at (λ m h. h) (λ m h. inl h)
-
--- no chunk was read yet
-pub chunked_none : (old new : NfaValue) (entries : List Known) (l : List ℕ) → IsSharing old new entries → AreChunked old new entries l 0 []
-chunked_none old new entries l sharing = record {
-  sharing = sharing;
-  below = λ i lt. absurd (omega arith);
-  stand = λ a agrees y k. (λ (s, at, h). absurd at, λ (i, lt, h). absurd (omega arith));
-}
 
 -- all chunks were, and there is one
 pub whole_one : (old new : NfaValue) (entries : List Known) (l parts : List ℕ) (n u : ℕ) → n ≡ length l → parts ≡ u ∷ [] → AreChunked old new entries l n parts → IsStateFor old new l u
