@@ -9,6 +9,7 @@ use std::marker::Model;
 type Apart = [u64; 14];
 
 /// Room for up to four values. Contracts see the tag that each of them fits.
+#[derive(Drop)]
 pub struct Pool<X: Fits> {
     first: Counted<Option<X>>,
     _after_first: Apart,
@@ -19,24 +20,7 @@ pub struct Pool<X: Fits> {
     fourth: Counted<Option<X>>,
 }
 
-impl<X: Fits + Drop> Drop for Pool<X> {
-    // One call wherever a value is dropped, which keeps proofs short.
-    fn drop(self) {
-        let Pool {
-            first: _,
-            _after_first: _,
-            second: _,
-            _after_second: _,
-            third: _,
-            _after_third: _,
-            fourth: _,
-        } = self;
-    }
-}
-
 impl<X: Fits> Model for Pool<X> {
-    ghost use Rattle.std.specs.Prelude.{◌≡◌};
-
     ghost Value = { X.Tag };
 
     ghost view = { λ p. p.first };
