@@ -1,7 +1,9 @@
 //! What a table is built from.
 
 ghost use Rattle.std.specs.Prelude.{◌≡◌, ◌↔◌, ℕ, IsTrue, List, ◌++◌, ◌∷◌, [], OnOk, OnErr, IfOk};
-ghost use Rattle.byte_keys.specs.Entries.{entry};
+ghost use Rattle.byte_keys.specs.Entries.{entry, Entry};
+ghost use Rattle.std.specs.List.{All};
+ghost use Rattle.byte_keys.specs.inner.Pairs.{entries_of, IsKept};
 
 use crate::directory::directory_of;
 use crate::ends::ends_of;
@@ -15,24 +17,13 @@ use std::marker::Model;
 use std::snapshot::Snapshot;
 
 /// Indexes under byte keys, from which a table is built.
+#[derive(Drop)]
 pub struct TableBuilder {
     bytes: Vec<u8>,
     pairs: Vec<Pair>,
 }
 
-impl Drop for TableBuilder {
-    // One call wherever a value is dropped, which keeps proofs short.
-    fn drop(self) {
-        let TableBuilder { bytes: _, pairs: _ } = self;
-    }
-}
-
 impl Model for TableBuilder {
-    ghost use Rattle.std.specs.Prelude.{List};
-    ghost use Rattle.std.specs.List.{All};
-    ghost use Rattle.byte_keys.specs.Entries.{Entry};
-    ghost use Rattle.byte_keys.specs.inner.Pairs.{entries_of, IsKept};
-
     ghost Value = { List Entry };
 
     ghost view = { λ b. entries_of b.bytes.items b.pairs.items };

@@ -2,7 +2,7 @@
 
 ghost use Rattle.std.specs.Prelude.{◌≡◌, ℕ, List, ◌+◌, ◌^◌, ◌<◌, ◌≤◌, max, [], ◌↔◌, IfOk, IsTrue, length};
 ghost use Rattle.byte_keys.specs.Entries.{Entry, indexes_under};
-ghost use Rattle.byte_keys.specs.inner.Tables.{AreContents};
+ghost use Rattle.byte_keys.specs.inner.Tables.{AreContents, HasContents};
 
 use crate::builder::TableBuilder;
 use crate::directory::Directory;
@@ -15,23 +15,15 @@ use std::marker::Model;
 use std::snapshot::Snapshot;
 
 /// Indexes under byte keys: under each key those that were added with it, in the order in which they were added.
+#[derive(Drop)]
 pub struct Table {
     /// It is `None` if there are no entries. It is in a box, so that little is moved with a table.
     contents: Option<Box<Contents>>,
     entries: Snapshot<TableBuilder>,
 }
 
-impl Drop for Table {
-    // One call wherever a value is dropped, which keeps proofs short.
-    fn drop(self) {
-        let Table {
-            contents: _,
-            entries: _,
-        } = self;
-    }
-}
-
 /// The keys of a table, each once, and the indexes under them.
+#[derive(Drop)]
 pub(crate) struct Contents {
     pub(crate) bytes: Vec<u8>,
     pub(crate) rows: Vec<Row>,
@@ -40,24 +32,7 @@ pub(crate) struct Contents {
     pub(crate) indexes: Vec<usize>,
 }
 
-impl Drop for Contents {
-    // One call wherever a value is dropped, which keeps proofs short.
-    fn drop(self) {
-        let Contents {
-            bytes: _,
-            rows: _,
-            ends: _,
-            directory: _,
-            indexes: _,
-        } = self;
-    }
-}
-
 impl Model for Table {
-    ghost use Rattle.std.specs.Prelude.{List};
-    ghost use Rattle.byte_keys.specs.Entries.{Entry};
-    ghost use Rattle.byte_keys.specs.inner.Tables.{HasContents};
-
     ghost Value = { List Entry };
 
     ghost view = { λ t. t.entries.value };

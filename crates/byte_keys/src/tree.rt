@@ -19,21 +19,11 @@ struct Node {
 /// Nodes, each for the texts that begin with the bytes on the way to it. The root is the node 0.
 ///
 /// Edges lie in order of node and byte. Each leads to a node of its own, whose number is one more than the edge's.
+#[derive(Drop)]
 pub struct Tree {
     nodes: Vec<Node>,
     bytes: Vec<u8>,
     indexes: Vec<usize>,
-}
-
-impl Drop for Tree {
-    // One call wherever a value is dropped, which keeps proofs short.
-    fn drop(self) {
-        let Tree {
-            nodes: _,
-            bytes: _,
-            indexes: _,
-        } = self;
-    }
 }
 
 /// What one reading of a node gives.

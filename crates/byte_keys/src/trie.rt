@@ -3,9 +3,10 @@
 ghost use Rattle.std.specs.Prelude.{◌≡◌, ◌≢◌, ℕ, ◌+◌, ◌≤◌, ◌↔◌, [], List, map, length, IsTrue, IfOk};
 ghost use Rattle.bit_sets.specs.Indexes.{index_capacity, HasAlso};
 ghost use Rattle.byte_keys.specs.Entries.{indexes_under};
-ghost use Rattle.byte_keys.specs.Texts.{found, entry_of};
+ghost use Rattle.byte_keys.specs.Texts.{found, entry_of, Texts};
 ghost use Rattle.byte_keys.specs.inner.Building.{IsOrdered};
 ghost use Rattle.byte_keys.specs.inner.Anchors.{entry_from_anchor};
+ghost use Rattle.byte_keys.specs.inner.IsTrieOf.{HasTree};
 
 use crate::anchor::Anchor;
 use crate::text::Text;
@@ -17,6 +18,7 @@ use std::marker::Model;
 use std::snapshot::Snapshot;
 
 /// Texts with indexes, which are looked for at one side of a path.
+#[derive(Drop)]
 pub struct Trie {
     /// It is `None` if there are no texts. It is in a box, so that little is moved with a trie.
     tree: Option<Box<Tree>>,
@@ -24,24 +26,8 @@ pub struct Trie {
     entries: Snapshot<Vec<Text>>,
 }
 
-impl Drop for Trie {
-    // One call wherever a value is dropped, which keeps proofs short.
-    fn drop(self) {
-        let Trie {
-            tree: _,
-            anchor: _,
-            entries: _,
-        } = self;
-    }
-}
-
 impl Model for Trie {
-    ghost use Rattle.std.specs.Prelude.{map};
-    ghost use Rattle.byte_keys.specs.Texts.{Texts, entry_of};
-
     ghost Value = { Texts };
-
-    ghost use Rattle.byte_keys.specs.inner.IsTrieOf.{HasTree};
 
     ghost view = { λ t. record { anchor = t.anchor; entries = map entry_of t.entries.value.items } };
 
