@@ -1,6 +1,7 @@
 //! Paths that are matched by globs.
 
-ghost use Rattle.std.specs.Prelude.{◌≡◌};
+ghost use Rattle.std.specs.Prelude.{◌≡◌, ℕ, List, ⊤};
+ghost use Rattle.glob_path.specs.PathParts.{basename_of, extension_of};
 
 use crate::parts;
 use bstr::ByteSlice;
@@ -29,16 +30,12 @@ pub struct Candidate<'a> {
 }
 
 impl<'a> Model for Candidate<'a> {
-    ghost use Rattle.std.specs.Prelude.{ℕ, List};
-
     ghost Value = { List ℕ };
 
     ghost view = { λ c. c.path.now };
 }
 
 impl<'a> Candidate<'a> {
-    ghost use Rattle.glob_path.specs.PathParts.{basename_of, extension_of};
-
     /// Returns a candidate for the path with this text. It reads none of the path and allocates nothing.
     pub fn new(path: &'a str) -> Candidate<'a>
         ensures { result ≡ path.now }
@@ -85,8 +82,6 @@ impl<'a> Candidate<'a> {
 
 /// A candidate for the same bytes. It allocates nothing, and cannot fail.
 impl<'a> Clone for Candidate<'a> {
-    ghost use Rattle.std.specs.Prelude.{◌≡◌, ⊤};
-
     ghost is_clone = { λ c d. d ≡ c };
 
     ghost is_infallible = { λ _. ⊤ };

@@ -1,6 +1,6 @@
 //! The folders of keys: below which folders some of many keys are.
 
-ghost use Rattle.std.specs.Prelude.{◌≡◌, ◌+◌, ◌++◌, ◌↔◌, map, IsTrue, IfOk, OnOk};
+ghost use Rattle.std.specs.Prelude.{◌≡◌, ◌+◌, ◌++◌, ◌↔◌, map, IsTrue, IfOk, OnOk, ℕ, List};
 ghost use Rattle.byte_keys.specs.Texts.{entry_of};
 ghost use Rattle.glob_path.specs.Below.{folder_start};
 ghost use Rattle.glob_path.specs.inner.Folders.{AreFolders, AreRising, SomeBelow, bytes_of, place_of, shown_of, start_of};
@@ -14,21 +14,12 @@ use std::marker::Model;
 
 /// The folders of keys, each once, in the order of their bytes. The folder of a key is the key up to its last `/`, or nothing if
 /// it has no `/`.
+#[derive(Drop)]
 pub struct Folders {
     texts: Vec<Vec<u8>>,
 }
 
-impl Drop for Folders {
-    // One call wherever a value is dropped, which keeps proofs short.
-    fn drop(self) {
-        let Folders { texts: _ } = self;
-    }
-}
-
 impl Model for Folders {
-    ghost use Rattle.std.specs.Prelude.{ℕ, List};
-    ghost use Rattle.glob_path.specs.inner.Folders.{AreRising, bytes_of};
-
     ghost Value = { List (List ℕ) };
 
     ghost view = { λ f. bytes_of f.texts.items };

@@ -7,8 +7,8 @@ ghost use Rattle.byte_keys.specs.Texts.{entry_of};
 ghost use Rattle.glob_path.specs.Key.{KeyMatches, KeyMayMatchBelow, key_seen};
 ghost use Rattle.glob_path.specs.PathParts.{component_extension, last_component};
 ghost use Rattle.glob_path.specs.KeysBelow.{BelowMore, MatchesBelow};
-ghost use Rattle.glob_path.specs.LiteralIndex.{FindsMore, keys_found, no_keys, with_beginning, with_components, with_end, with_key, with_path};
-ghost use Rattle.glob_path.specs.inner.Parts.{HasFolders, HasOthers, tables_count};
+ghost use Rattle.glob_path.specs.LiteralIndex.{FindsMore, keys_found, no_keys, with_beginning, with_components, with_end, with_key, with_path, KeyParts};
+ghost use Rattle.glob_path.specs.inner.Parts.{HasFolders, HasOthers, tables_count, AreParts};
 
 use crate::folders::Folders;
 use crate::key::Key;
@@ -19,6 +19,7 @@ use std::alloc::{AllocError, Global};
 use std::marker::Model;
 
 /// Indexes under keys, where a path finds those of the keys that match it.
+#[derive(Drop)]
 pub struct LiteralIndex {
     paths: Table,
     components: Table,
@@ -30,24 +31,7 @@ pub struct LiteralIndex {
     folders: Option<Folders>,
 }
 
-impl Drop for LiteralIndex {
-    // One call wherever a value is dropped, which keeps proofs short.
-    fn drop(self) {
-        let LiteralIndex {
-            paths: _,
-            components: _,
-            extensions: _,
-            prefixes: _,
-            ends: _,
-            folders: _,
-        } = self;
-    }
-}
-
 impl Model for LiteralIndex {
-    ghost use Rattle.glob_path.specs.LiteralIndex.{KeyParts};
-    ghost use Rattle.glob_path.specs.inner.Parts.{AreParts};
-
     ghost Value = { KeyParts };
 
     ghost view = { λ k. record {
@@ -208,6 +192,7 @@ impl LiteralIndex {
 }
 
 /// Makes [`LiteralIndex`].
+#[derive(Drop)]
 pub struct LiteralIndexBuilder {
     paths: Vec<Text>,
     components: TableBuilder,
@@ -216,24 +201,7 @@ pub struct LiteralIndexBuilder {
     ends: Vec<Text>,
 }
 
-impl Drop for LiteralIndexBuilder {
-    // One call wherever a value is dropped, which keeps proofs short.
-    fn drop(self) {
-        let LiteralIndexBuilder {
-            paths: _,
-            components: _,
-            extensions: _,
-            prefixes: _,
-            ends: _,
-        } = self;
-    }
-}
-
 impl Model for LiteralIndexBuilder {
-    ghost use Rattle.std.specs.Prelude.{map};
-    ghost use Rattle.byte_keys.specs.Texts.{entry_of};
-    ghost use Rattle.glob_path.specs.LiteralIndex.{KeyParts};
-
     ghost Value = { KeyParts };
 
     ghost view = { λ k. record {

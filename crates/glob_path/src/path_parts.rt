@@ -1,6 +1,6 @@
 //! A path with parts of it that were found.
 
-ghost use Rattle.std.specs.Prelude.{◌≡◌};
+ghost use Rattle.std.specs.Prelude.{◌≡◌, ℕ, List, IfSome};
 ghost use Rattle.bit_sets.specs.Texts.{AllBytes};
 ghost use Rattle.glob_path.specs.PathParts.{component_extension, last_component};
 
@@ -9,27 +9,14 @@ use std::marker::Model;
 
 /// A path, and those parts of it that were found: a call that needs a part in several places finds it once. Contracts see the
 /// path's bytes.
+#[derive(Drop)]
 pub struct PathParts<'p> {
     path: &'p [u8],
     component: Option<&'p [u8]>,
     extension: Option<&'p [u8]>,
 }
 
-impl<'p> Drop for PathParts<'p> {
-    // One call wherever a value is dropped, which keeps proofs short.
-    fn drop(self) {
-        let PathParts {
-            path: _,
-            component: _,
-            extension: _,
-        } = self;
-    }
-}
-
 impl<'p> Model for PathParts<'p> {
-    ghost use Rattle.std.specs.Prelude.{◌≡◌, ℕ, List, IfSome};
-    ghost use Rattle.glob_path.specs.PathParts.{component_extension, last_component};
-
     ghost Value = { List ℕ };
 
     ghost view = { λ p. p.path.now };

@@ -1,75 +1,53 @@
 -- Examples of basenames and extensions, and of last components and theirs. Each row computes.
-use Rattle.std.specs.Prelude.{◌≡◌, [], ◌∷◌, codes, refl}
+use Rattle.std.specs.Prelude.{◌≡◌, ℕ, List, [], ◌∷◌, map, codes, refl}
 use Prim.Native.String.{String}
 use Rattle.glob_path.specs.PathParts.{basename_of, extension_of, last_component, component_extension}
 
--- the path has this basename and this extension
-abbrev HasParts : String → String → String → Type 0
-HasParts path name extension = (basename_of (codes path) ≡ codes name) × (extension_of (codes path) ≡ codes extension)
+-- the bytes of two texts
+abbrev both : String × String → List ℕ × List ℕ
+both texts = (codes texts.0, codes texts.1)
 
-two_dots_inside : HasParts "a.tar.gz" "a.tar.gz" ".gz"
-two_dots_inside = (refl, refl)
+abbrev parts_of : String → List ℕ × List ℕ
+parts_of path = (basename_of (codes path), extension_of (codes path))
 
-hidden : HasParts "x/.hidden" ".hidden" ".hidden"
-hidden = (refl, refl)
+-- each path has this basename and this extension
+abbrev HaveParts : List (String × String × String) → Type 0
+HaveParts rows = map (λ row. parts_of row.0) rows ≡ map (λ row. both (row.1, row.2)) rows
 
-after_dots : HasParts "../a" "a" ""
-after_dots = (refl, refl)
-
-file : HasParts "a/b.rs" "b.rs" ".rs"
-file = (refl, refl)
-
-dots_in_front : HasParts "..rs" "..rs" ".rs"
-dots_in_front = (refl, refl)
-
-extension_alone : HasParts ".rs" ".rs" ".rs"
-extension_alone = (refl, refl)
-
-no_dot : HasParts "a/foo" "foo" ""
-no_dot = (refl, refl)
-
-last_dot : HasParts "a/." "." "."
-last_dot = (refl, refl)
-
-last_dots : HasParts "a/.." "" ""
-last_dots = (refl, refl)
-
-dots_alone : HasParts ".." "" ""
-dots_alone = (refl, refl)
-
-three_dots : HasParts "a/..." "..." "."
-three_dots = (refl, refl)
-
-last_slash : HasParts "a/" "" ""
-last_slash = (refl, refl)
-
-dot_before_slash : HasParts "a.b/c" "c" ""
-dot_before_slash = (refl, refl)
-
-empty : HasParts "" "" ""
-empty = (refl, refl)
+parts : HaveParts (
+    ("a.tar.gz", "a.tar.gz", ".gz") -- two dots inside
+  ∷ ("x/.hidden", ".hidden", ".hidden") -- hidden
+  ∷ ("../a", "a", "") -- after dots
+  ∷ ("a/b.rs", "b.rs", ".rs") -- file
+  ∷ ("..rs", "..rs", ".rs") -- dots in front
+  ∷ (".rs", ".rs", ".rs") -- extension alone
+  ∷ ("a/foo", "foo", "") -- no dot
+  ∷ ("a/.", ".", ".") -- last dot
+  ∷ ("a/..", "", "") -- last dots
+  ∷ ("..", "", "") -- dots alone
+  ∷ ("a/...", "...", ".") -- three dots
+  ∷ ("a/", "", "") -- last slash
+  ∷ ("a.b/c", "c", "") -- dot before slash
+  ∷ ("", "", "") -- empty
+  ∷ [])
+parts = refl
 
 -- the bytes FF and 2E, which are not UTF-8
 not_utf8 : (basename_of (255 ∷ 46 ∷ []) ≡ 255 ∷ 46 ∷ []) × (extension_of (255 ∷ 46 ∷ []) ≡ 46 ∷ [])
 not_utf8 = (refl, refl)
 
--- ---- last components
+abbrev component_of : String → List ℕ × List ℕ
+component_of path = (last_component (codes path), component_extension (codes path))
 
--- the path has this last component, and this is the extension of that
-abbrev HasComponent : String → String → String → Type 0
-HasComponent path component extension = (last_component (codes path) ≡ codes component) × (component_extension (codes path) ≡ codes extension)
+-- each path has this last component, and this is the extension of that
+abbrev HaveComponents : List (String × String × String) → Type 0
+HaveComponents rows = map (λ row. component_of row.0) rows ≡ map (λ row. both (row.1, row.2)) rows
 
-component_of_last_dots : HasComponent "a/.." ".." "."
-component_of_last_dots = (refl, refl)
-
-component_of_dots_alone : HasComponent ".." ".." "."
-component_of_dots_alone = (refl, refl)
-
-component_of_file : HasComponent "a.b/c.tar.gz" "c.tar.gz" ".gz"
-component_of_file = (refl, refl)
-
-component_of_no_dot : HasComponent "a.b/c" "c" ""
-component_of_no_dot = (refl, refl)
-
-component_of_last_slash : HasComponent "a.b/" "" ""
-component_of_last_slash = (refl, refl)
+components : HaveComponents (
+    ("a/..", "..", ".") -- component of last dots
+  ∷ ("..", "..", ".") -- component of dots alone
+  ∷ ("a.b/c.tar.gz", "c.tar.gz", ".gz") -- component of file
+  ∷ ("a.b/c", "c", "") -- component of no dot
+  ∷ ("a.b/", "", "") -- component of last slash
+  ∷ [])
+components = refl

@@ -1,7 +1,7 @@
 -- The folders of keys: the start of a key, the place of a text in the order, and what a list of them says.
 use Rattle.std.proofs.Common.{◌≡◌, ℕ, zero, suc, ◌+◌, ◌-◌, ◌≤◌, ◌<◌, ◌⊎◌, inl, inr, Option, Some, None, Bool, true, false, cond, List, [], ◌∷◌, ◌++◌, map, length, take, drop, get_or, length-drop, Vec, IsTrue, refl, ap, sym, subst, ◌∙◌, append_assoc, arith}
 use Rattle.std.specs.Prelude.{◌↔◌, Contains, is_ok}
-use Rattle.std.specs.List.{AllByRecursion, AllZip, dedup, dedup_from}
+use Rattle.std.specs.List.{AllByRecursion, dedup, dedup_from}
 use Rattle.std.specs.List.Sorted.{IsBinarySearchResult, IsNonDecreasingBy, IsPermutation, IsSearchInRange, IsSorted, IsStrictlySortedBy}
 use Rattle.std.specs.Str.{bytes_eq}
 use Rattle.std.specs.Cmp.Lexicographic.{slice_cmp, bytes_decides, nat_list_eq_equiv, on_texts, texts_ties}
@@ -324,11 +324,3 @@ search_tells {X} texts f (Err i) rising within found = (λ yes. absurd (cc), λ 
         let d = some_of texts k inside in
         let same : (get_or texts k d).items ≡ t = sym (at k d t inside) ∙ is in
         other k d inside (cases_lt k i) (subst (λ x. place_of x (folder_start f) ≡ Equal) (sym same) ((place_tells t (folder_start f)).1 below))
-
--- ---- copies
-
-pub bytes_cloned : {X : Type 0} (R : Vec ℕ X → Vec ℕ X → Type 0) (xs ys : List (Vec ℕ X)) → AllZip R xs ys → ((x y : Vec ℕ X) → R x y → y.items ≡ x.items) → bytes_of ys ≡ bytes_of xs
-bytes_cloned R [] [] h same = refl
-bytes_cloned R [] (y ∷ ys) h same = absurd h
-bytes_cloned R (x ∷ xs) [] h same = absurd h
-bytes_cloned R (x ∷ xs) (y ∷ ys) h same = λ i. same x y h.0 i ∷ bytes_cloned R xs ys h.1 same i
