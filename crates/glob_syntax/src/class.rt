@@ -79,6 +79,7 @@ pub fn ranges(alloc: Global, body: &[char]) -> Result<Vec<(char, char)>, AllocEr
 ///
 /// Contracts see whether it is negated, and its ranges in order. Its table of bytes is made once, when the class is read,
 /// and works under all options.
+#[derive(Drop)]
 pub struct Class {
     parts: Box<Parts>,
 }
@@ -90,13 +91,6 @@ struct Parts {
     ranges: Vec<(char, char)>,
     /// How the ranges contain each byte.
     table: [Membership; 256],
-}
-
-impl Drop for Class {
-    // One call wherever a value is dropped, which keeps proofs short.
-    fn drop(self) {
-        let Class { parts: _ } = self;
-    }
 }
 
 impl Model for Class {

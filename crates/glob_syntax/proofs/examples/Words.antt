@@ -1,11 +1,22 @@
 -- Definitions to write the examples with.
-use Rattle.std.specs.Prelude.{ℕ, zero, suc, ◌+◌, ◌-◌, true, false, List, [], ◌∷◌, map, get_or, filter, codes, Result, Ok, Err}
+use Rattle.std.specs.Prelude.{◌≡◌, ℕ, zero, suc, ◌+◌, ◌-◌, Bool, true, false, List, [], ◌∷◌, map, get_or, filter, codes, Result, Ok, Err}
+use Rattle.std.specs.List.{list_all}
 use Prim.Native.String.{String}
 use Rattle.glob_syntax.specs.declared.options.Options.{Options}
 use Rattle.glob_syntax.specs.declared.options.TheConstants.Options.{DEFAULT}
 use Rattle.glob_syntax.specs.Token.{Token, Literal, Class, Group, Tokens, end, and_then, Branches, none, branch, before}
 use Rattle.glob_syntax.specs.Reading.{reading}
 use Rattle.glob_syntax.specs.ClassBytes.{class_has}
+
+-- ---- tables
+
+-- each row is something that is computed, and what it is
+abbrev pub AreEqual : {A : Type 0} → List (A × A) → Type 0
+AreEqual rows = map (λ row. row.0) rows ≡ map (λ row. row.1) rows
+
+-- each row is computed and true
+abbrev pub AreTrue : List Bool → Type 0
+AreTrue rows = list_all (λ row. row) rows ≡ true
 
 -- ---- options: the default ones except one
 

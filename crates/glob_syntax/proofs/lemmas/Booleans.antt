@@ -1,9 +1,7 @@
 -- Facts about truth values.
 use Rattle.std.proofs.Common.{◌≡◌, ◌⊎◌, inl, inr, Bool, true, false, true≢false, ◌&&◌, ◌||◌, IsTrue, refl, sym}
 use Rattle.std.specs.Prelude.{◌↔◌}
-
-pub and_both : (x y : Bool) → x ≡ true → y ≡ true → (x && y) ≡ true
-and_both x y p q = rw (p, q) refl
+pub use Rattle.std.proofs.lemmas.Bool.{and_from as and_both, or_left as or_first, or_right as or_second}
 
 pub and_first : (x y : Bool) → (x && y) ≡ true → x ≡ true
 and_first true y e = refl
@@ -12,13 +10,6 @@ and_first false y e = e
 pub and_second : (x y : Bool) → (x && y) ≡ true → y ≡ true
 and_second true y e = e
 and_second false y e = absurd (true≢false (sym e))
-
-pub or_first : (x y : Bool) → x ≡ true → (x || y) ≡ true
-or_first x y p = rw p refl
-
-pub or_second : (x y : Bool) → y ≡ true → (x || y) ≡ true
-or_second true y p = refl
-or_second false y p = p
 
 pub or_either : (x y : Bool) → (x || y) ≡ true → (x ≡ true) ⊎ (y ≡ true)
 or_either true y e = inl refl
