@@ -1,10 +1,11 @@
 //! Errors of globs.
 
-ghost use Rattle.std.specs.Prelude.{◌≡◌, ◌⊎◌, ◌↔◌, IfOk, IsOkUnless, IsTrue};
+ghost use Rattle.std.specs.Prelude.{◌≡◌, ◌⊎◌, ◌↔◌, IfOk, IsOkUnless, IsTrue, Some};
 ghost use Rattle.std.specs.Cmp.{partial_equiv_from_equiv};
-ghost use Rattle.glob_text.specs.Errors.{out_of_memory};
+ghost use Rattle.glob_text.specs.Errors.{out_of_memory, parse_error, error_text};
 ghost use Rattle.glob_text.specs.Equality.{SameError};
 ghost use Rattle.glob_text.specs.inner.Equality.{same_error, same_error_laws};
+ghost use Rattle.std.specs.Option.{option_map};
 
 pub mod kind;
 
@@ -30,22 +31,11 @@ use std::marker::Model;
 /// let text = error.to_string(alloc)?;
 /// assert_eq!(rt; text.as_str(), "error parsing glob 'a[z-a]': invalid range; 'z' > 'a'");
 /// ```
-#[derive(Debug)]
+#[derive(Debug, Drop)]
 pub struct Error {
     glob: Option<String>,
     kind: ErrorKind,
     offset: Option<usize>,
-}
-
-impl Drop for Error {
-    // One call wherever a value is dropped, which keeps proofs short.
-    fn drop(self) {
-        let Error {
-            glob: _,
-            kind: _,
-            offset: _,
-        } = self;
-    }
 }
 
 impl Model for Error {
@@ -59,9 +49,6 @@ impl Model for Error {
 }
 
 impl Error {
-    ghost use Rattle.std.specs.Option.{option_map};
-    ghost use Rattle.glob_text.specs.Errors.{parse_error};
-
     /// Returns the error of a text whose first fault under these options is this one. This reads the text once more, for the
     /// place of the fault. If memory runs out, also for the copy of the text, the error says so.
     pub(crate) fn parse_error(
@@ -186,9 +173,6 @@ impl Eq for Error {
 
 /// `error parsing glob '<glob>': <kind>`, or only the kind's text if the error holds no glob text.
 impl fmt::Display for Error {
-    ghost use Rattle.std.specs.Prelude.{Some};
-    ghost use Rattle.glob_text.specs.Errors.{error_text};
-
     ghost output = { λ e. Some (error_text e) };
 
     fn fmt<W: fmt::Write>(&self, f: &mut fmt::Formatter<W>) -> fmt::Result {

@@ -1,10 +1,11 @@
 //! Errors of reading a JSON value.
 
-ghost use Rattle.std.specs.Prelude.{◌≡◌, ◌↔◌, IsTrue};
+ghost use Rattle.std.specs.Prelude.{◌≡◌, ◌↔◌, IsTrue, Some};
 ghost use Rattle.std.specs.Cmp.{partial_equiv_from_equiv};
 ghost use Rattle.glob_text.specs.Equality.{SameValueKind, SameValueError, offset_in};
-ghost use Rattle.glob_text.specs.ValueErrors.{of_element};
+ghost use Rattle.glob_text.specs.ValueErrors.{of_element, value_kind_text, is_memory, value_error_text, of_kind, value_out_of_memory};
 ghost use Rattle.glob_text.specs.inner.Equality.{same_value_kind, same_value_kind_laws, same_value_error, same_value_error_laws};
+ghost use Rattle.glob_text.specs.declared.value_error.ValueErrorKind.TheVariants.{Glob};
 
 use crate::error::Error;
 use crate::error::kind::ErrorKind;
@@ -88,9 +89,6 @@ impl Eq for ValueErrorKind {
 }
 
 impl fmt::Display for ValueErrorKind {
-    ghost use Rattle.std.specs.Prelude.{Some};
-    ghost use Rattle.glob_text.specs.ValueErrors.{value_kind_text};
-
     ghost output = { λ kind. Some (value_kind_text kind) };
 
     fn fmt<W: fmt::Write>(&self, f: &mut fmt::Formatter<W>) -> fmt::Result {
@@ -119,17 +117,10 @@ impl fmt::Display for ValueErrorKind {
 /// assert_eq!(rt; error.index(), Some(1));
 /// assert_eq!(rt; error.to_string(alloc)?.as_str(), "element 1: expected a glob pattern");
 /// ```
-#[derive(Debug)]
+#[derive(Debug, Drop)]
 pub struct ValueError {
     index: Option<usize>,
     kind: ValueErrorKind,
-}
-
-impl Drop for ValueError {
-    // One call wherever a value is dropped, which keeps proofs short.
-    fn drop(self) {
-        let ValueError { index: _, kind: _ } = self;
-    }
 }
 
 impl Model for ValueError {
@@ -173,9 +164,6 @@ impl Eq for ValueError {
 }
 
 impl ValueError {
-    ghost use Rattle.std.specs.Prelude.{◌≡◌};
-    ghost use Rattle.glob_text.specs.ValueErrors.{is_memory, of_element};
-
     /// Returns the index of the first rejected element, or `None` if the error is not about an element of an array.
     pub fn index(&self) -> Option<usize>
         ensures { result ≡ self.now.index }
@@ -225,9 +213,6 @@ pub fn error_of_element(index: usize, error: ValueError) -> ValueError
 
 /// `element <index>: <kind>`, or only the kind's text if the error holds no index.
 impl fmt::Display for ValueError {
-    ghost use Rattle.std.specs.Prelude.{Some};
-    ghost use Rattle.glob_text.specs.ValueErrors.{value_error_text};
-
     ghost output = { λ e. Some (value_error_text e) };
 
     fn fmt<W: fmt::Write>(&self, f: &mut fmt::Formatter<W>) -> fmt::Result {
@@ -245,9 +230,6 @@ impl std::error::Error for ValueError {}
 
 /// An error with no index.
 impl From<ValueErrorKind> for ValueError {
-    ghost use Rattle.std.specs.Prelude.{◌≡◌};
-    ghost use Rattle.glob_text.specs.ValueErrors.{of_kind};
-
     ghost from_gives = { λ kind e. e ≡ of_kind kind };
 
     fn from(kind: ValueErrorKind) -> ValueError {
@@ -257,10 +239,6 @@ impl From<ValueErrorKind> for ValueError {
 
 /// An error with no index, of the kind [`ValueErrorKind::Glob`].
 impl From<Error> for ValueError {
-    ghost use Rattle.std.specs.Prelude.{◌≡◌};
-    ghost use Rattle.glob_text.specs.ValueErrors.{of_kind};
-    ghost use Rattle.glob_text.specs.declared.value_error.ValueErrorKind.TheVariants.{Glob};
-
     ghost from_gives = { λ error e. e ≡ of_kind (Glob error) };
 
     fn from(error: Error) -> ValueError {
@@ -270,9 +248,6 @@ impl From<Error> for ValueError {
 
 /// The error that memory ran out, so that `?` converts std's.
 impl From<AllocError> for ValueError {
-    ghost use Rattle.std.specs.Prelude.{◌≡◌};
-    ghost use Rattle.glob_text.specs.ValueErrors.{value_out_of_memory};
-
     ghost from_gives = { λ _ e. e ≡ value_out_of_memory };
 
     fn from(error: AllocError) -> ValueError {
@@ -282,9 +257,6 @@ impl From<AllocError> for ValueError {
 
 /// The error that memory ran out, so that `?` converts the error of `Vec::push` and the like.
 impl<T: Drop> From<AllocFailed<T>> for ValueError {
-    ghost use Rattle.std.specs.Prelude.{◌≡◌};
-    ghost use Rattle.glob_text.specs.ValueErrors.{value_out_of_memory};
-
     ghost from_gives = { λ _ e. e ≡ value_out_of_memory };
 
     fn from(error: AllocFailed<T>) -> ValueError {

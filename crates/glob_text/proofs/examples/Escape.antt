@@ -1,70 +1,38 @@
 -- Examples of escaping, and of the paths that an escaped text with a backslash matches. Each row computes.
-use Rattle.std.specs.Prelude.{◌≡◌, [], ◌∷◌, true, refl, codes, encode_utf8_all}
+use Rattle.std.specs.Prelude.{ℕ, List, [], ◌∷◌, refl}
 use Prim.Native.String.{String}
 use Rattle.glob_syntax.specs.declared.options.TheConstants.Options.{DEFAULT}
 use Rattle.glob_text.specs.Escape.{escaped}
 use Rattle.glob_text.proofs.examples.Unfoldings.{glob_on_literals}
-use Rattle.glob_syntax.proofs.examples.Words.{unescaped}
-use Rattle.glob_text.proofs.examples.Words.{matches_each, matches_none}
+use Rattle.glob_syntax.proofs.examples.Words.{AreEqual, AreTrue, unescaped}
+use Rattle.glob_text.proofs.examples.Words.{utf8, matches_each, matches_none}
 
--- escaping the text gives the other text
-abbrev Escapes : String → String → Type 0
-Escapes text result = escaped (encode_utf8_all (codes text)) ≡ encode_utf8_all (codes result)
+-- what escaping the text gives
+abbrev escape : String → List ℕ
+escape text = escaped (utf8 text)
 
-braces : Escapes "{a,b}" "[{]a,b[}]"
+escape_rows : AreEqual (
+    (escape "{a,b}", utf8 "[{]a,b[}]") -- braces
+  ∷ (escape "src/**/*.rs", utf8 "src/[*][*]/[*].rs") -- stars
+  ∷ (escape "bar[!!]!baz", utf8 "bar[[]!![]]!baz") -- classes and exclamation marks
+  ∷ (escape "[]", utf8 "[[][]]") -- brackets
+  ∷ (escape "*?", utf8 "[*][?]") -- star and question mark
+  ∷ (escape "bar[ab]baz", utf8 "bar[[]ab[]]baz") -- class
+  ∷ (escape "", utf8 "") -- nothing
+  ∷ (escape "a\\b", utf8 "a\\b") -- backslash
+  ∷ (escape "a\\*", utf8 "a\\[*]") -- backslash before star
+  ∷ (escape "é*", utf8 "é[*]") -- two bytes
+  ∷ [])
 unfolding glob_on_literals
-braces = refl
+escape_rows = refl
 
-stars : Escapes "src/**/*.rs" "src/[*][*]/[*].rs"
+matches : AreTrue (
+    -- Under the default options the backslash of `a\[*]` escapes the bracket, so the text that was escaped is not matched.
+    matches_each DEFAULT "a\\[*]" ("a[*]" ∷ []) -- escapes a bracket
+  ∷ matches_none DEFAULT "a\\[*]" ("a\\*" ∷ [])
+    -- With `backslash_escape` off it is matched.
+  ∷ matches_each unescaped "a\\[*]" ("a\\*" ∷ []) -- plain backslash
+  ∷ matches_none unescaped "a\\[*]" ("a[*]" ∷ "a*" ∷ [])
+  ∷ [])
 unfolding glob_on_literals
-stars = refl
-
-classes_and_exclamation_marks : Escapes "bar[!!]!baz" "bar[[]!![]]!baz"
-unfolding glob_on_literals
-classes_and_exclamation_marks = refl
-
-brackets : Escapes "[]" "[[][]]"
-unfolding glob_on_literals
-brackets = refl
-
-star_and_question_mark : Escapes "*?" "[*][?]"
-unfolding glob_on_literals
-star_and_question_mark = refl
-
-class : Escapes "bar[ab]baz" "bar[[]ab[]]baz"
-unfolding glob_on_literals
-class = refl
-
-nothing : Escapes "" ""
-unfolding glob_on_literals
-nothing = refl
-
-backslash : Escapes "a\\b" "a\\b"
-unfolding glob_on_literals
-backslash = refl
-
-backslash_before_star : Escapes "a\\*" "a\\[*]"
-unfolding glob_on_literals
-backslash_before_star = refl
-
-two_bytes : Escapes "é*" "é[*]"
-unfolding glob_on_literals
-two_bytes = refl
-
--- Under the default options the backslash of `a\[*]` escapes the bracket, so the text that was escaped is not matched.
-escapes_a_bracket : matches_each DEFAULT "a\\[*]" ("a[*]" ∷ []) ≡ true
-unfolding glob_on_literals
-escapes_a_bracket = refl
-
-escapes_a_bracket_not : matches_none DEFAULT "a\\[*]" ("a\\*" ∷ []) ≡ true
-unfolding glob_on_literals
-escapes_a_bracket_not = refl
-
--- With `backslash_escape` off it is matched.
-plain_backslash : matches_each unescaped "a\\[*]" ("a\\*" ∷ []) ≡ true
-unfolding glob_on_literals
-plain_backslash = refl
-
-plain_backslash_not : matches_none unescaped "a\\[*]" ("a[*]" ∷ "a*" ∷ []) ≡ true
-unfolding glob_on_literals
-plain_backslash_not = refl
+matches = refl

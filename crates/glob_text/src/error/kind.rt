@@ -1,8 +1,8 @@
 //! Kinds of errors of globs.
 
-ghost use Rattle.std.specs.Prelude.{◌≡◌, ◌↔◌, IfOk, IsOkUnless, IsTrue};
+ghost use Rattle.std.specs.Prelude.{◌≡◌, ◌↔◌, IfOk, IsOkUnless, IsTrue, Some};
 ghost use Rattle.std.specs.Cmp.{partial_equiv_from_equiv};
-ghost use Rattle.glob_text.specs.Errors.{out_of_memory};
+ghost use Rattle.glob_text.specs.Errors.{out_of_memory, kind_of, kind_text};
 ghost use Rattle.glob_text.specs.Equality.{SameKind};
 ghost use Rattle.glob_text.specs.inner.Equality.{same_kind, same_kind_laws};
 
@@ -49,8 +49,6 @@ pub enum ErrorKind {
 }
 
 impl ErrorKind {
-    ghost use Rattle.glob_text.specs.Errors.{kind_of};
-
     /// Returns the kind of the error of a text with this fault.
     pub(crate) fn of(parse_error_kind: ParseErrorKind) -> ErrorKind
         ensures { result ≡ kind_of parse_error_kind }
@@ -132,9 +130,6 @@ impl Eq for ErrorKind {
 }
 
 impl fmt::Display for ErrorKind {
-    ghost use Rattle.std.specs.Prelude.{Some};
-    ghost use Rattle.glob_text.specs.Errors.{kind_text};
-
     ghost output = { λ kind. Some (kind_text kind) };
 
     fn fmt<W: fmt::Write>(&self, f: &mut fmt::Formatter<W>) -> fmt::Result {
