@@ -15,21 +15,21 @@ abbrev HaveParts : List (String × String × String) → Type 0
 HaveParts rows = map (λ row. parts_of row.0) rows ≡ map (λ row. both (row.1, row.2)) rows
 
 parts : HaveParts (
-    ("a.tar.gz", "a.tar.gz", ".gz") -- two dots inside
-  ∷ ("x/.hidden", ".hidden", ".hidden") -- hidden
-  ∷ ("../a", "a", "") -- after dots
-  ∷ ("a/b.rs", "b.rs", ".rs") -- file
-  ∷ ("..rs", "..rs", ".rs") -- dots in front
-  ∷ (".rs", ".rs", ".rs") -- extension alone
-  ∷ ("a/foo", "foo", "") -- no dot
-  ∷ ("a/.", ".", ".") -- last dot
-  ∷ ("a/..", "", "") -- last dots
-  ∷ ("..", "", "") -- dots alone
-  ∷ ("a/...", "...", ".") -- three dots
-  ∷ ("a/", "", "") -- last slash
-  ∷ ("a.b/c", "c", "") -- dot before slash
-  ∷ ("", "", "") -- empty
-  ∷ [])
+    ("a.tar.gz", "a.tar.gz", ".gz")  -- two dots inside
+    ∷ ("x/.hidden", ".hidden", ".hidden")  -- hidden
+    ∷ ("../a", "a", "")  -- after dots
+    ∷ ("a/b.rs", "b.rs", ".rs")  -- file
+    ∷ ("..rs", "..rs", ".rs")  -- dots in front
+    ∷ (".rs", ".rs", ".rs")  -- extension alone
+    ∷ ("a/foo", "foo", "")  -- no dot
+    ∷ ("a/.", ".", ".")  -- last dot
+    ∷ ("a/..", "", "")  -- last dots
+    ∷ ("..", "", "")  -- dots alone
+    ∷ ("a/...", "...", ".")  -- three dots
+    ∷ ("a/", "", "")  -- last slash
+    ∷ ("a.b/c", "c", "")  -- dot before slash
+    ∷ ("", "", "")  -- empty
+    ∷ [])
 parts = refl
 
 -- the bytes FF and 2E, which are not UTF-8
@@ -44,10 +44,10 @@ abbrev HaveComponents : List (String × String × String) → Type 0
 HaveComponents rows = map (λ row. component_of row.0) rows ≡ map (λ row. both (row.1, row.2)) rows
 
 components : HaveComponents (
-    ("a/..", "..", ".") -- component of last dots
-  ∷ ("..", "..", ".") -- component of dots alone
-  ∷ ("a.b/c.tar.gz", "c.tar.gz", ".gz") -- component of file
-  ∷ ("a.b/c", "c", "") -- component of no dot
-  ∷ ("a.b/", "", "") -- component of last slash
-  ∷ [])
+    ("a/..", "..", ".")  -- component of last dots
+    ∷ ("..", "..", ".")  -- component of dots alone
+    ∷ ("a.b/c.tar.gz", "c.tar.gz", ".gz")  -- component of file
+    ∷ ("a.b/c", "c", "")  -- component of no dot
+    ∷ ("a.b/", "", "")  -- component of last slash
+    ∷ [])
 components = refl

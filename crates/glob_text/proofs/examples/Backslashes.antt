@@ -7,11 +7,11 @@ use Rattle.glob_syntax.proofs.examples.Words.{AreTrue, unescaped}
 use Rattle.glob_text.proofs.examples.Words.{matches_each, matches_none}
 
 matches : AreTrue (
-    matches_each DEFAULT "\\a" ("a" ∷ []) -- letter escaped
-  ∷ matches_each unescaped "\\[a-z]" ("\\a" ∷ []) -- plain backslash then class
-  ∷ matches_each unescaped "\\*" ("\\\\" ∷ []) -- plain backslash then star
-  ∷ matches_each DEFAULT "foo\\*bar" ("foo*bar" ∷ []) -- escaped star
-  ∷ matches_none DEFAULT "foo\\*bar" ("é.py" ∷ "foo-bar" ∷ [])
-  ∷ [])
+    matches_each DEFAULT "\\a" ("a" ∷ [])  -- letter escaped
+    ∷ matches_each unescaped "\\[a-z]" ("\\a" ∷ [])  -- plain backslash then class
+    ∷ matches_each unescaped "\\*" ("\\\\" ∷ [])  -- plain backslash then star
+    ∷ matches_each DEFAULT "foo\\*bar" ("foo*bar" ∷ [])  -- escaped star
+    ∷ matches_none DEFAULT "foo\\*bar" ("é.py" ∷ "foo-bar" ∷ [])
+    ∷ [])
 unfolding glob_on_literals
 matches = refl
