@@ -1,27 +1,15 @@
 -- Examples of globs that are excluded, and of globs that are not. Each row computes.
-use Rattle.std.specs.Prelude.{◌≡◌, true, false, Some, refl}
+use Rattle.std.specs.Prelude.{[], ◌∷◌, true, false, Some, refl}
 use Rattle.glob_strategy.proofs.examples.Words.{globs_on_literals, glob, insensitive, excluded}
+use Rattle.glob_syntax.proofs.examples.Words.{AreEqual}
 
-dots_after_prefix : excluded (glob "**/..") ≡ Some true
+excluded_rows : AreEqual (
+    (excluded (glob "**/.."), Some true)  -- dots after prefix
+    ∷ (excluded (glob "**/**/.."), Some true)  -- dots after two prefixes
+    ∷ (excluded (glob "**/\\.."), Some true)  -- escaped dot
+    ∷ (excluded (glob "**/[.][.]"), Some false)  -- dots in classes
+    ∷ (excluded (insensitive "**/.."), Some false)  -- dots insensitive
+    ∷ (excluded (glob "**/a/.."), Some false)  -- letter before dots
+    ∷ [])
 unfolding globs_on_literals
-dots_after_prefix = refl
-
-dots_after_two_prefixes : excluded (glob "**/**/..") ≡ Some true
-unfolding globs_on_literals
-dots_after_two_prefixes = refl
-
-escaped_dot : excluded (glob "**/\\..") ≡ Some true
-unfolding globs_on_literals
-escaped_dot = refl
-
-dots_in_classes : excluded (glob "**/[.][.]") ≡ Some false
-unfolding globs_on_literals
-dots_in_classes = refl
-
-dots_insensitive : excluded (insensitive "**/..") ≡ Some false
-unfolding globs_on_literals
-dots_insensitive = refl
-
-letter_before_dots : excluded (glob "**/a/..") ≡ Some false
-unfolding globs_on_literals
-letter_before_dots = refl
+excluded_rows = refl
