@@ -178,20 +178,6 @@ impl ValueError {
         &self.kind
     }
 
-    /// Returns the error with this index. If it says that memory ran out, it is unchanged.
-    pub(crate) fn of_element(self, index: usize) -> ValueError
-        ensures { result ≡ of_element index self }
-    {
-        if self.is_memory() {
-            return self;
-        }
-        let ValueError { index: _, kind } = self;
-        ValueError {
-            index: Some(index),
-            kind,
-        }
-    }
-
     /// Returns whether memory ran out.
     fn is_memory(&self) -> bool
         ensures { result ≡ is_memory self.now.kind }
@@ -208,7 +194,14 @@ impl ValueError {
 pub fn error_of_element(index: usize, error: ValueError) -> ValueError
     ensures { result ≡ of_element index error }
 {
-    error.of_element(index)
+    if error.is_memory() {
+        return error;
+    }
+    let ValueError { index: _, kind } = error;
+    ValueError {
+        index: Some(index),
+        kind,
+    }
 }
 
 /// `element <index>: <kind>`, or only the kind's text if the error holds no index.

@@ -103,9 +103,7 @@ impl Sharing {
         self.known.add(list, state)?;
         Ok(builder.state_count() <= automaton.state_count())
     }
-}
 
-impl Sharing {
     /// Returns the states of a list with what a union goes on to in its place, in an order in which those that are alike stand
     /// together. `None` if that is too much work.
     fn in_order(
